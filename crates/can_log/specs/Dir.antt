@@ -1,0 +1,7 @@
+-- The two directions of a diagnostic session.
+use Rattle.can_log.specs.declared.frame.Dir.{Dir}
+use Rattle.can_log.specs.declared.frame.Dir.TheVariants as dir
+
+abbrev pub other_direction : Dir → Dir
+other_direction dir.Tester = dir.Unit
+other_direction dir.Unit = dir.Tester

@@ -1,0 +1,28 @@
+-- What a contract sees of a frame, and which frames there are (ISO 11898-1).
+use Rattle.std.specs.Prelude.{ℕ, ◌≤◌, List, length, ⊤}
+use Rattle.can_log.specs.declared.frame.Id.{Id}
+use Rattle.can_log.specs.declared.frame.Id.TheVariants as id
+use Rattle.can_log.specs.declared.frame.Kind.{Kind}
+use Rattle.can_log.specs.declared.frame.Kind.TheVariants as kind
+
+-- a frame, whatever holds its bytes
+pub record FrameValue : Type 0 where
+  pub id : Id
+  pub kind : Kind
+  pub bytes : List ℕ
+
+-- how many data bytes a frame of the kind carries at most
+abbrev pub most_bytes : Kind → ℕ
+most_bytes kind.Classic = 8
+most_bytes kind.Fd = 64
+most_bytes kind.Remote = 0
+
+-- a base identifier has 11 bits, and an extended one any value
+abbrev pub IsIdentifier : Id → Type 0
+IsIdentifier (id.Std number) = number ≤ 0x7FF
+IsIdentifier (id.Ext number) = ⊤
+
+-- there is a frame with these parts
+pub record IsFrame (id : Id) (kind : Kind) (bytes : List ℕ) : Type 0 where
+  pub identifier : IsIdentifier id
+  pub data_length : length bytes ≤ most_bytes kind

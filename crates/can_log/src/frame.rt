@@ -1,0 +1,151 @@
+//! A frame of a CAN log: its identifier, its kind and its data, and when it was recorded.
+
+use arrayvec::ArrayVec;
+use std::marker::Model;
+
+/// Which of the two sides of a diagnostic session sent a frame or a message.
+#[derive(Clone, Copy, Debug, PartialEq, Eq)]
+pub enum Dir {
+    /// From the tester to the control unit.
+    Tester,
+    /// From the control unit to the tester.
+    Unit,
+}
+
+impl Dir {
+    ghost use Rattle.std.specs.Prelude.{◌≡◌};
+    ghost use Rattle.can_log.specs.Dir.{other_direction};
+
+    /// The other direction.
+    pub fn other(self) -> Dir
+        ensures { result ≡ other_direction self }
+    {
+        match self {
+            Dir::Tester => Dir::Unit,
+            Dir::Unit => Dir::Tester,
+        }
+    }
+}
+
+/// A CAN identifier (ISO 11898-1): the base format of 11 bits, or the extended format.
+#[derive(Clone, Copy, Debug, PartialEq, Eq)]
+pub enum Id {
+    /// A base identifier. One above 7FF makes no [`Frame`].
+    Std(u16),
+    /// An extended identifier. A log may spell more than the 29 bits that a bus carries.
+    Ext(u32),
+}
+
+impl Id {
+    ghost use Rattle.std.specs.Prelude.{◌↔◌, IsTrue};
+    ghost use Rattle.can_log.specs.Frame.{IsIdentifier};
+
+    fn is_in_range(self) -> bool
+        ensures { IsTrue result ↔ IsIdentifier self }
+    {
+        match self {
+            Id::Std(id) => id <= 0x7FF,
+            Id::Ext(_) => true,
+        }
+    }
+}
+
+/// How a frame carries its data.
+#[derive(Clone, Copy, Debug, PartialEq, Eq)]
+pub enum Kind {
+    /// A classic data frame, of at most 8 bytes.
+    Classic,
+    /// A CAN FD data frame, of at most 64 bytes.
+    Fd,
+    /// A remote frame, which carries no data.
+    Remote,
+}
+
+impl Kind {
+    ghost use Rattle.std.specs.Prelude.{◌≡◌};
+    ghost use Rattle.can_log.specs.Frame.{most_bytes};
+
+    fn most_bytes(self) -> usize
+        ensures { result ≡ most_bytes self }
+    {
+        match self {
+            Kind::Classic => 8,
+            Kind::Fd => 64,
+            Kind::Remote => 0,
+        }
+    }
+}
+
+/// A frame of a CAN log. Its data lies in the frame itself: nothing is allocated.
+#[derive(Debug, Drop, PartialEq, Eq)]
+pub struct Frame {
+    id: Id,
+    kind: Kind,
+    data: ArrayVec<u8, 64>,
+}
+
+impl Model for Frame {
+    ghost use Rattle.can_log.specs.Frame.{FrameValue, IsFrame};
+
+    ghost Value = { FrameValue };
+
+    ghost view = { λ f. record { id = f.id; kind = f.kind; bytes = f.«data».items } };
+
+    ghost invariant = { λ f. IsFrame f.id f.kind f.«data».items };
+
+    ghost inverse = { λ v. record { id = v.id; kind = v.kind; «data» = record { items = v.bytes } } };
+}
+
+impl Frame {
+    ghost use Rattle.std.specs.Prelude.{◌≡◌, ◌↔◌, IsSome, IfSome};
+    ghost use Rattle.can_log.specs.Frame.{IsFrame};
+
+    /// The frame with these parts, or `None` where there is none: the identifier is no identifier,
+    /// or the kind carries fewer bytes.
+    pub fn new(id: Id, kind: Kind, data: &[u8]) -> Option<Frame>
+        ensures found { IsSome result ↔ IsFrame id kind «data».now }
+        ensures parts { IfSome result (λ f. f ≡ record { id = id; kind = kind; bytes = «data».now }) }
+    {
+        if !id.is_in_range() || data.len() > kind.most_bytes() {
+            return None;
+        }
+        let mut bytes = ArrayVec::new();
+        bytes.try_extend_from_slice(data).ok()?;
+        Some(Frame {
+            id,
+            kind,
+            data: bytes,
+        })
+    }
+
+    /// The identifier.
+    pub fn id(&self) -> Id
+        ensures { result ≡ self.now.id }
+    {
+        self.id
+    }
+
+    /// How the data is carried.
+    pub fn kind(&self) -> Kind
+        ensures { result ≡ self.now.kind }
+    {
+        self.kind
+    }
+
+    /// The data, in the frame.
+    pub fn data(&self) -> &[u8]
+        ensures value { result.now ≡ self.now.bytes }
+        ensures is_frame { IsFrame self.now.id self.now.kind self.now.bytes }
+    {
+        self.data.as_slice()
+    }
+}
+
+/// A frame and the time stamp of its line.
+#[derive(Debug, Drop, PartialEq, Eq)]
+pub struct Stamped {
+    /// Microseconds, from whatever instant the log counts from.
+    pub micros: u64,
+    /// The frame.
+    pub frame: Frame,
+}
