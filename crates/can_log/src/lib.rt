@@ -2,5 +2,7 @@
 #![tactic(auto)]
 
 mod frame;
+mod scanner;
 
 pub use frame::{Dir, Frame, Id, Kind, Stamped};
+pub use scanner::Scan;

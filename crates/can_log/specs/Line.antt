@@ -1,0 +1,137 @@
+-- A line of a candump log (can-utils, `candump -l` and `-L`): its parts as they are spelled, their bytes, which parts
+-- are legal, and what a line means.
+use Rattle.std.specs.Prelude.{◌≡◌, ℕ, ◌+◌, ◌*◌, ◌≤◌, ◌%◌, ◌⊎◌, ◌==◌, ◌||◌, ◌&&◌, Bool, nat_le, IsTrue, List, [], ◌∷◌, ◌++◌, length, Option, Some, None, ⊤, codes, if◌then◌else◌}
+use Rattle.std.specs.List.{AllByRecursion, concat}
+use Rattle.std.specs.Char.{is_ascii_digit, is_ascii_hexdigit, digit_value}
+use Rattle.std.specs.Int.{is_in_range}
+use Rattle.std.specs.Str.Parse.{digits_value}
+use Rattle.can_log.specs.declared.frame.Id.{Id}
+use Rattle.can_log.specs.declared.frame.Id.TheVariants as id
+use Rattle.can_log.specs.declared.frame.Kind.{Kind}
+use Rattle.can_log.specs.declared.frame.Kind.TheVariants as kind
+use Rattle.can_log.specs.declared.frame.Stamped.{Stamped}
+
+-- What stands behind the `#` of the identifier.
+pub data Body : Type 0 where
+  -- `112233`, or `1122334455667788_9`: the digits of the data, and the digit of a raw length code
+  classic : List ℕ → Option (List ℕ) → Body
+  -- `R`, `R5` or `R8_9`: the digit of the length, and the digit of a raw length code
+  remote : List ℕ → Option (List ℕ) → Body
+  -- `#3AABB`: the digit of the flags, and the digits of the data
+  fd : List ℕ → List ℕ → Body
+
+-- The parts of a line: `(seconds.micros) interface identifier#body`, and a mark `R` or `T` behind a gap, or none.
+pub record LineSpelling : Type 0 where
+  pub seconds : List ℕ
+  pub micros : List ℕ
+  pub gap : List ℕ
+  pub interface : List ℕ
+  pub second_gap : List ℕ
+  pub identifier : List ℕ
+  pub body : Body
+  pub mark : Option (List ℕ × List ℕ)
+
+abbrev pub spell_raw_dlc : Option (List ℕ) → List ℕ
+spell_raw_dlc None = []
+spell_raw_dlc (Some digit) = codes "_" ++ digit
+
+abbrev pub spell_body : Body → List ℕ
+spell_body (classic digits raw_dlc) = digits ++ spell_raw_dlc raw_dlc
+spell_body (remote digit raw_dlc) = codes "R" ++ (digit ++ spell_raw_dlc raw_dlc)
+spell_body (fd flags digits) = codes "#" ++ (flags ++ digits)
+
+abbrev pub spell_mark : Option (List ℕ × List ℕ) → List ℕ
+spell_mark None = []
+spell_mark (Some mark) = mark.0 ++ mark.1
+
+-- the bytes of a line with these parts
+abbrev pub spell_line : LineSpelling → List ℕ
+spell_line line =
+    codes "(" ++ (line.seconds ++ (codes "." ++ (line.micros ++ (codes ")" ++ (line.gap ++ (line.interface ++ (line.second_gap
+    ++ (line.identifier ++ (codes "#" ++ (spell_body line.body ++ spell_mark line.mark))))))))))
+
+-- from `least` to `most` bytes, each of which passes the test
+pub record IsRunOf (test : ℕ → Bool) (least most : ℕ) (bytes : List ℕ) : Type 0 where
+  pub each : AllByRecursion (λ b. IsTrue (test b)) bytes
+  pub enough : least ≤ length bytes
+  pub few : length bytes ≤ most
+
+-- 1 to 16 spaces
+abbrev pub IsGap : List ℕ → Type 0
+IsGap = IsRunOf (λ b. b == 32) 1 16
+
+-- three hexadecimal digits of value at most 7FF, or eight of any value
+abbrev pub IsIdentifierText : List ℕ → Type 0
+IsIdentifierText digits = IsRunOf is_ascii_hexdigit 3 8 digits × (((length digits ≡ 3) × (digits_value 16 digits ≤ 0x7FF)) ⊎ (length digits ≡ 8))
+
+-- at most so many hexadecimal digits, and an even number of them: two for each byte
+abbrev pub IsDataText : ℕ → List ℕ → Type 0
+IsDataText most digits = IsRunOf is_ascii_hexdigit 0 most digits × (length digits % 2 ≡ 0)
+
+-- a digit 9 to F
+abbrev pub is_raw_dlc : ℕ → Bool
+is_raw_dlc b = b == 57 || is_in_range 65 70 b || is_in_range 97 102 b
+
+-- A raw length code stands only behind 8 bytes of data, or behind the length 8 of a remote frame.
+abbrev pub IsBody : Body → Type 0
+IsBody (classic digits None) = IsDataText 16 digits
+IsBody (classic digits (Some raw_dlc)) = IsDataText 16 digits × (length digits ≡ 16) × IsRunOf is_raw_dlc 1 1 raw_dlc
+IsBody (remote digit None) = IsRunOf (is_in_range 48 56) 0 1 digit
+IsBody (remote digit (Some raw_dlc)) = (digit ≡ codes "8") × IsRunOf is_raw_dlc 1 1 raw_dlc
+IsBody (fd flags digits) = IsRunOf is_ascii_hexdigit 1 1 flags × IsDataText 128 digits
+
+-- a gap, and `R` for a received frame or `T` for a sent one
+abbrev pub IsMark : Option (List ℕ × List ℕ) → Type 0
+IsMark None = ⊤
+IsMark (Some mark) = IsGap mark.0 × IsRunOf (λ b. b == 82 || b == 84) 1 1 mark.1
+
+-- the parts are those of a line
+pub record IsLineSpelling (line : LineSpelling) : Type 0 where
+  pub seconds : IsRunOf is_ascii_digit 1 10 line.seconds
+  pub micros : IsRunOf is_ascii_digit 6 6 line.micros
+  pub gap : IsGap line.gap
+  pub interface : IsRunOf (λ b. nat_le 33 b && nat_le b 126) 1 15 line.interface
+  pub second_gap : IsGap line.second_gap
+  pub identifier : IsIdentifierText line.identifier
+  pub body : IsBody line.body
+  pub mark : IsMark line.mark
+
+-- eight digits make an extended identifier, three a base one
+abbrev pub identifier_of : List ℕ → Id
+identifier_of digits = if length digits == 8 then id.Ext (digits_value 16 digits) else id.Std (digits_value 16 digits)
+
+abbrev pub kind_of : Body → Kind
+kind_of (classic digits raw_dlc) = kind.Classic
+kind_of (remote digit raw_dlc) = kind.Remote
+kind_of (fd flags digits) = kind.Fd
+
+-- the bytes that pairs of hexadecimal digits spell
+abbrev pub bytes_spelled : List ℕ → List ℕ
+bytes_spelled [] = []
+bytes_spelled (high ∷ []) = []
+bytes_spelled (high ∷ low ∷ digits) = (16 * digit_value high + digit_value low) ∷ bytes_spelled digits
+
+abbrev pub data_of : Body → List ℕ
+data_of (classic digits raw_dlc) = bytes_spelled digits
+data_of (remote digit raw_dlc) = []
+data_of (fd flags digits) = bytes_spelled digits
+
+-- the frame that a line with these parts records, and its time in microseconds
+abbrev pub stamped_of : LineSpelling → Stamped
+stamped_of line = record {
+  micros = digits_value 10 line.seconds * 1000000 + digits_value 10 line.micros;
+  frame = record { id = identifier_of line.identifier; kind = kind_of line.body; bytes = data_of line.body };
+}
+
+-- the text, with one carriage return behind it or none
+abbrev pub IsLineText : List ℕ → List ℕ → Type 0
+IsLineText text bytes = (bytes ≡ text) ⊎ (bytes ≡ text ++ 13 ∷ [])
+
+-- What the bytes of a line mean: nothing where there are none, else the frame that their parts record.
+abbrev pub LineMeans : List ℕ → Option Stamped → Type 0
+LineMeans bytes None = IsLineText [] bytes
+LineMeans bytes (Some stamped) = (line : LineSpelling) × IsLineSpelling line × IsLineText (spell_line line) bytes × (stamped ≡ stamped_of line)
+
+-- it is no line
+abbrev pub MeansNothing : List ℕ → Type 0
+MeansNothing bytes = (what : Option Stamped) → ¬ LineMeans bytes what

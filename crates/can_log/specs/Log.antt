@@ -1,0 +1,36 @@
+-- A log is cut into lines at its line feeds; what they mean, and where a log is refused.
+use Rattle.std.specs.Prelude.{◌≡◌, ℕ, ◌+◌, ◌==◌, ◌⊎◌, List, [], ◌∷◌, ◌++◌, length, Option, ⊤, if◌then◌else◌}
+use Rattle.std.specs.List.{flat_map, onto_first}
+use Rattle.can_log.specs.declared.frame.Stamped.{Stamped}
+use Rattle.can_log.specs.Line.{LineMeans}
+use Rattle.can_log.specs.Refused.{NoLineFeed, IsRefusedPlace, IsUnfinishedAt}
+
+-- the lines without their line feeds; a last part without bytes is no line
+abbrev pub log_lines : List ℕ → List (List ℕ)
+log_lines [] = []
+log_lines (b ∷ bytes) = if b == 10 then [] ∷ log_lines bytes else onto_first b (log_lines bytes)
+
+-- what the lines mean, one after another
+abbrev pub LinesMean : List (List ℕ) → List (Option Stamped) → Type 0
+LinesMean [] [] = ⊤
+LinesMean [] (what ∷ whats) = ⊥
+LinesMean (line ∷ lines) [] = ⊥
+LinesMean (line ∷ lines) (what ∷ whats) = LineMeans line what × LinesMean lines whats
+
+-- a legal log, and what its lines mean
+abbrev pub LogMeans : List ℕ → List (Option Stamped) → Type 0
+LogMeans log whats = LinesMean (log_lines log) whats
+
+-- lines, each with its line feed
+abbrev pub ended_lines : List (List ℕ) → List ℕ
+ended_lines lines = flat_map (λ line. line ++ 10 ∷ []) lines
+
+-- The refused place of a log: legal lines stand before it, and the bytes behind them are refused at this column.
+pub record IsRefusedIn (log : List ℕ) (line column : ℕ) : Type 0 where
+  pub lines : List (List ℕ)
+  pub whats : List (Option Stamped)
+  pub rest : List ℕ
+  pub parts : log ≡ ended_lines lines ++ rest
+  pub legal : LinesMean lines whats
+  pub at : line ≡ length lines + 1
+  pub here : IsRefusedPlace rest column ⊎ IsUnfinishedAt rest column
