@@ -8,3 +8,4 @@ pub mod FieldReader
 pub mod LineReader
 pub mod Views
 pub mod Judging
+pub mod Laws
