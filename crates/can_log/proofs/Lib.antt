@@ -11,3 +11,4 @@ pub mod LineLength
 pub mod LineFeeds
 pub mod RefusedPlaces
 pub mod ScannerSteps
+pub mod LogReads

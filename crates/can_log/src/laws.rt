@@ -1,6 +1,6 @@
 //! What holds of lines and logs. A law is a call without a body: a proof that needs it calls it, and nothing runs.
 
-ghost use Rattle.can_log.specs.Laws.{LineMeansAtMostOne, LineHasNoLineFeed, LineIsShort, FrontHasCompletion, SixteenAreEnough, RefusedPlaceIsOne, RefusedLogMeansNothing};
+ghost use Rattle.can_log.specs.Laws.{LineMeansAtMostOne, LineHasNoLineFeed, LineIsShort, FrontHasCompletion, SixteenAreEnough, RefusedPlaceIsOne, RefusedLogMeansNothing, ScanReadsOn, FinishReadsEnd, ScanningReadsTheLog};
 
 /// A line means at most one thing.
 pub fn line_means_at_most_one()
@@ -35,4 +35,20 @@ pub fn refused_place_is_one()
 /// A log with a refused place has no meaning.
 pub fn refused_log_means_nothing()
     ensures { RefusedLogMeansNothing }
+{}
+
+/// Each answer of [`Scanner::scan`](crate::Scanner::scan) tells what follows the bytes of the log so far.
+pub fn scan_reads_on()
+    ensures { ScanReadsOn }
+{}
+
+/// The answer of [`Scanner::finish`](crate::Scanner::finish) tells what the whole log means, or where it is refused.
+pub fn finish_reads_end()
+    ensures { FinishReadsEnd }
+{}
+
+/// Over any pieces, with a last `finish`, a scanner answers the lines of the log that the pieces make, numbered from 1;
+/// or those before its refused place, and the place. How the log is cut plays no part.
+pub fn scanning_reads_the_log()
+    ensures { ScanningReadsTheLog }
 {}
