@@ -3,6 +3,8 @@
 ghost use Rattle.std.specs.Prelude.{◌≡◌, ◌≤◌, length};
 ghost use Rattle.can_log.specs.FieldReader.{Gives, trouble_of, stop_at, is_in, run_len, run_at, byte_at};
 
+use crate::hexadecimal::is_hex_digit;
+
 /// Why a field can't be read.
 #[derive(Clone, Copy)]
 pub(crate) enum Stop<'a> {
@@ -31,7 +33,7 @@ impl Class {
     {
         match self {
             Class::Digit => b.is_ascii_digit(),
-            Class::Hex => b.is_ascii_hexdigit(),
+            Class::Hex => is_hex_digit(b),
             Class::Space => b == b' ',
             Class::Visible => b >= 33 && b <= 126,
             Class::UpToEight => b >= b'0' && b <= b'8',
@@ -56,6 +58,7 @@ fn run_length(class: Class, most: usize, bytes: &[u8]) -> usize
 }
 
 /// Where a field needs a byte that `bytes` don't begin with.
+#[inline(always)]
 pub(crate) fn stop_of(bytes: &[u8]) -> Stop<'_>
     ensures { trouble_of result ≡ stop_at bytes.now }
 {

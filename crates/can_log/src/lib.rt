@@ -3,6 +3,7 @@
 
 mod field;
 mod frame;
+mod hexadecimal;
 pub mod laws;
 mod line;
 mod meaning;
