@@ -3,7 +3,7 @@
 ghost use Rattle.std.specs.Prelude.{◌≡◌, ◌≤◌, length};
 ghost use Rattle.can_log.specs.FieldReader.{Gives, trouble_of, stop_at, is_in, run_len, run_at, byte_at};
 
-use crate::hexadecimal::is_hex_digit;
+use crate::hexadecimal::{are_hex_digits, is_hex_digit};
 
 /// Why a field can't be read.
 #[derive(Clone, Copy)]
@@ -50,6 +50,10 @@ fn run_length(class: Class, most: usize, bytes: &[u8]) -> usize
     ensures value { result ≡ run_len class most bytes.now }
     ensures fits { result ≤ length bytes.now }
 {
+    // The data of a frame mostly ends its line.
+    if matches!(class, Class::Hex) && bytes.len() <= most && are_hex_digits(bytes) {
+        return bytes.len();
+    }
     let mut n = 0;
     while n < most && n < bytes.len() && class.contains(bytes[n]) {
         n += 1;

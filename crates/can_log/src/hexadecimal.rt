@@ -1,6 +1,7 @@
 //! Hexadecimal digits by table: a test of the digit's range is a branch that the processor can't foresee.
 
 ghost use Rattle.std.specs.Prelude.{◌≡◌, ◌<◌, IsTrue};
+ghost use Rattle.std.specs.List.{list_all};
 ghost use Rattle.std.specs.Char.{is_ascii_hexdigit, digit_value};
 
 // The value of each byte as a digit, in either case, or 255.
@@ -29,6 +30,18 @@ pub(crate) fn is_hex_digit(b: u8) -> bool
     ensures { result ≡ is_ascii_hexdigit b }
 {
     DIGIT_VALUES[b as usize] < 16
+}
+
+/// Whether all the bytes are digits. It leaves at no byte, so that the processor tests many at once.
+#[inline(always)]
+pub(crate) fn are_hex_digits(bytes: &[u8]) -> bool
+    ensures { result ≡ list_all is_ascii_hexdigit bytes.now }
+{
+    let mut all = true;
+    for b in bytes {
+        all = all & b.is_ascii_hexdigit();
+    }
+    all
 }
 
 #[inline(always)]
