@@ -9,7 +9,7 @@ ghost use Rattle.can_log.specs.Judging.{IsFirstRefused};
 ghost use Rattle.can_log.specs.declared.frame.Stamped.{Stamped};
 ghost use Rattle.can_log.specs.Views.{body_of, raw_dlc_of, mark_of, parts_of, line_parts_of, OnShort, OnRefused};
 
-use crate::field::{Class, Stop, byte_of, run_of, stop_of};
+use crate::field::{Class, Number, Stop, byte_of, number_of, run_of, stop_of};
 
 /// What stands behind the identifier and its `#`.
 #[derive(Clone, Copy)]
@@ -25,8 +25,8 @@ pub(crate) enum Body<'a> {
 /// The parts that the meaning of a line rests on.
 #[derive(Clone, Copy)]
 pub(crate) struct Parts<'a> {
-    pub(crate) seconds: &'a [u8],
-    pub(crate) micros: &'a [u8],
+    pub(crate) seconds: Number<'a>,
+    pub(crate) micros: Number<'a>,
     pub(crate) identifier: &'a [u8],
     pub(crate) body: Body<'a>,
 }
@@ -89,12 +89,12 @@ fn read_frame(bytes: &[u8]) -> Result<Parts<'_>, Stop<'_>>
 /// `seconds.micros)`.
 #[tactic(auto, unfolding(crate::specs::FieldReader::both))]
 #[inline(always)]
-fn read_stamp(bytes: &[u8]) -> Result<((&[u8], &[u8]), &[u8]), Stop<'_>>
-    ensures { Gives (λ x. ((x.0.0.now, (tt, (x.0.1.now, tt))), x.1.now)) result (stamp_at bytes.now) }
+fn read_stamp(bytes: &[u8]) -> Result<((Number<'_>, Number<'_>), &[u8]), Stop<'_>>
+    ensures { Gives (λ x. ((x.0.0.digits.now, (tt, (x.0.1.digits.now, tt))), x.1.now)) result (stamp_at bytes.now) }
 {
-    let (seconds, rest) = run_of(Class::Digit, 1, 10, bytes)?;
+    let (seconds, rest) = number_of(1, 10, bytes)?;
     let rest = byte_of(b'.', rest)?;
-    let (micros, rest) = run_of(Class::Digit, 6, 6, rest)?;
+    let (micros, rest) = number_of(6, 6, rest)?;
     let rest = byte_of(b')', rest)?;
     Ok(((seconds, micros), rest))
 }

@@ -25,7 +25,7 @@ pub(crate) fn stamped_of(parts: Parts<'_>) -> Stamped
         Body::Fd(_, digits) => (Kind::Fd, data_of(digits)),
     };
     Stamped {
-        micros: number(parts.seconds) * 1_000_000 + number(parts.micros),
+        micros: parts.seconds.value * 1_000_000 + parts.micros.value,
         frame: Frame::from_parts(id, kind, data),
     }
 }
@@ -41,19 +41,6 @@ fn identifier_of(digits: &[u8]) -> Id
     } else {
         Id::Std(number as u16)
     }
-}
-
-#[inline(always)]
-fn number(digits: &[u8]) -> u64
-    requires { IsRunOf is_ascii_digit 0 10 digits.now }
-    ensures value { result ≡ digits_value 10 digits.now }
-    ensures bound { result < 10 ^ 10 }
-{
-    let mut n = 0;
-    for d in digits {
-        n = n * 10 + (*d - b'0') as u64;
-    }
-    n
 }
 
 #[inline(always)]
