@@ -4,3 +4,7 @@ pub mod Line
 pub mod Refused
 pub mod Log
 pub mod Scanning
+pub mod Digits
+pub mod Canonical
+pub mod CanonicalLaws
+pub mod LogLaws

@@ -1,8 +1,11 @@
 //! Frames of a CAN log, and the lines that they stand in.
 #![tactic(auto)]
 
+mod canonical;
 mod frame;
+pub mod laws;
 mod scanner;
 
+pub use canonical::line_bytes;
 pub use frame::{Dir, Frame, Id, Kind, Stamped};
 pub use scanner::Scan;

@@ -1,0 +1,5 @@
+pub mod Replacing
+pub mod CanonicalDigits
+pub mod CanonicalData
+pub mod LogLines
+pub mod CanonicalLines
