@@ -3,8 +3,8 @@ pub mod Frame
 pub mod Line
 pub mod Refused
 pub mod Log
-pub mod Scanning
+pub mod LogLaws
 pub mod Digits
 pub mod Canonical
 pub mod CanonicalLaws
-pub mod LogLaws
+pub mod Scanning
