@@ -5,8 +5,9 @@ use Rattle.std.proofs.lemmas.Grind.{flat_map-append}
 use Rattle.std.proofs.lemmas.List.{take_more, length-take-le}
 use Rattle.can_log.specs.Digits.{digit, digits, hexadecimal}
 use Rattle.can_log.specs.Line.{bytes_spelled}
+use Rattle.can_log.proofs.AllElements.{AllByRecursion-append}
 use Rattle.can_log.proofs.Replacing.{replace_range-more}
-use Rattle.can_log.proofs.CanonicalDigits.{length-digits, digit_value-digit, AllByRecursion-append, each_digit}
+use Rattle.can_log.proofs.CanonicalDigits.{length-digits, digit_value-digit, each_digit}
 
 pub length-pairs : (bytes : List ℕ) → length (flat_map (hexadecimal 2) bytes) ≡ 2 * length bytes
 length-pairs [] = refl

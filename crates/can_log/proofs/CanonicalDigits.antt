@@ -9,6 +9,7 @@ use Rattle.std.proofs.lemmas.Nat.{div-add-mod'}
 use Rattle.std.proofs.lemmas.Bool.Decides.{nat_tests}
 use Rattle.std.proofs.lemmas.Int.Digits.{digits_value_push}
 use Rattle.can_log.specs.Digits.{digit, digits}
+use Rattle.can_log.proofs.AllElements.{AllByRecursion-append}
 use Rattle.can_log.proofs.Replacing.{replace_range-nothing, replace_range-set}
 
 pub length-digits : (radix width number : ℕ) → length (digits radix width number) ≡ width
@@ -34,10 +35,6 @@ none_left line whole at i radix rest done so_far =
     let none : i ≡ 0 = omega arith in
     let all : whole ≡ replace_range line at at (digits radix 0 rest) = rw (here, none) at so_far in
     sym (all ∙ replace_range-nothing line at)
-
-pub AllByRecursion-append : (P : ℕ → Type 0) (xs ys : List ℕ) → AllByRecursion P xs → AllByRecursion P ys → AllByRecursion P (xs ++ ys)
-AllByRecursion-append P [] ys front back = back
-AllByRecursion-append P (x ∷ xs) ys front back = (front.0, AllByRecursion-append P xs ys front.1 back)
 
 -- what holds of each digit of the base
 pub each_digit : (P : ℕ → Type 0) (radix : ℕ) → 0 < radix → ((d : ℕ) → d < radix → P (digit d))

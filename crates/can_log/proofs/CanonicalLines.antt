@@ -14,8 +14,9 @@ use Rattle.can_log.specs.Refused.{NoLineFeed}
 use Rattle.can_log.specs.Log.{LogMeans}
 use Rattle.can_log.specs.Canonical.{canonical_text, canonical_line, canonical_stamped}
 use Rattle.can_log.specs.CanonicalLaws.{CanonicalLineMeans, CanonicalTextIsOneLine, CanonicalLineLength}
+use Rattle.can_log.proofs.AllElements.{AllByRecursion-append, AllByRecursion-at_each}
 use Rattle.can_log.proofs.Replacing.{replace_range-between}
-use Rattle.can_log.proofs.CanonicalDigits.{length-digits, each_digit, digits_value-digits, AllByRecursion-append}
+use Rattle.can_log.proofs.CanonicalDigits.{length-digits, each_digit, digits_value-digits}
 use Rattle.can_log.proofs.CanonicalData.{length-pairs, each_pair, bytes_spelled-pairs}
 use Rattle.can_log.proofs.LogLines.{line_is_log}
 
@@ -187,13 +188,9 @@ written n number bytes one two three four eight first second third fourth =
     ∙ replace_range-between until_data (codes "0000000000000000") (10 ∷ []) (flat_map (hexadecimal 2) bytes) 29 45 (simp length-append (omega arith)) refl
     ∙ simp append_assoc
 
-are_bytes : (bytes : List ℕ) → ((i : ℕ) → get_or bytes i 0 < 256) → AllByRecursion (λ b. b < 256) bytes
-are_bytes [] each = tt
-are_bytes (b ∷ bytes) each = (each 0, are_bytes bytes (λ i. each (suc i)))
-
 -- the line is a log that means its frame
 pub means_its_frame : (n number : ℕ) (bytes line : List ℕ) → n < 10 ^ 13 → number ≤ 0x7FF → length bytes ≡ 8 → ((i : ℕ) → get_or bytes i 0 < 256)
     → line ≡ canonical_line n number bytes → LogMeans line (Some (canonical_stamped n number bytes) ∷ [])
 means_its_frame n number bytes line small base eight each is =
-    let means = canonical_line_means n number bytes small base eight (are_bytes bytes each) in
+    let means = canonical_line_means n number bytes small base eight (AllByRecursion-at_each (λ b. b < 256) bytes (λ i. each i)) in
     rw is (line_is_log (canonical_text n number bytes) (Some (canonical_stamped n number bytes)) (canonical_text_is_one_line n number bytes) means)

@@ -1,3 +1,4 @@
+pub mod AllElements
 pub mod Replacing
 pub mod CanonicalDigits
 pub mod CanonicalData
