@@ -5,13 +5,13 @@ use Rattle.std.proofs.lemmas.List.{append-nil, take_at, take-append-drop, length
 use Rattle.can_log.specs.declared.frame.Stamped.{Stamped}
 use Rattle.can_log.specs.declared.scanner.Scan.{Scan}
 use Rattle.can_log.specs.declared.scanner.Scan.TheVariants as scan
-use Rattle.can_log.specs.Line.{LineMeans}
 use Rattle.can_log.specs.Refused.{NoLineFeed}
 use Rattle.can_log.specs.Log.{log_lines, LinesMean, LogMeans, ended_lines}
 use Rattle.can_log.specs.Scanning.{Standing, Scans, ScansOn, ScansFrom, Finishes, FinishesOn, FinishesFrom}
 use Rattle.can_log.specs.WholeLog.{at_start, StandsAfter, IsRefusedBehind, ReadsOn, ReadsEnd, ScansAll, Told, line, refused, told, lines_from, TellsLog}
 use Rattle.can_log.proofs.LineFeeds.{line_clean}
-use Rattle.can_log.proofs.RefusedPlaces.{lines_first, last_line}
+use Rattle.can_log.proofs.LogLines.{log_lines-rest, mean_together}
+use Rattle.can_log.proofs.RefusedPlaces.{lines_first}
 use Rattle.can_log.proofs.ScannerSteps.{empty_legal, place_extends}
 
 -- ---- lines at the end of a list of lines
@@ -19,12 +19,6 @@ use Rattle.can_log.proofs.ScannerSteps.{empty_legal, place_extends}
 ended_more : (lines : List (List ℕ)) (last : List ℕ) → ended_lines (lines ++ last ∷ []) ≡ ended_lines lines ++ (last ++ 10 ∷ [])
 ended_more [] last = append-nil (last ++ 10 ∷ [])
 ended_more (first ∷ lines) last = ap (λ (z : List ℕ). (first ++ 10 ∷ []) ++ z) (ended_more lines last) ∙ sym (append_assoc (first ++ 10 ∷ []) (ended_lines lines) (last ++ 10 ∷ []))
-
-means_more : (lines : List (List ℕ)) (whats : List (Option Stamped)) (last : List ℕ) (what : Option Stamped) → LinesMean lines whats → LineMeans last what → LinesMean (lines ++ last ∷ []) (whats ++ what ∷ [])
-means_more [] [] last what m k = (k, tt)
-means_more [] (other ∷ whats) last what m k = absurd m
-means_more (first ∷ lines) [] last what m k = absurd m
-means_more (first ∷ lines) (other ∷ whats) last what m k = (m.0, means_more lines whats last what m.1 k)
 
 same_length : (lines : List (List ℕ)) (whats : List (Option Stamped)) → LinesMean lines whats → length lines ≡ length whats
 same_length [] [] m = refl
@@ -72,7 +66,7 @@ scan_reads_on bytes whats piece old new answer stands scans = by answer (scans_o
           subst (StandsAfter (bytes ++ take used piece) (whats ++ what ∷ [])) (sym is) (record {
             lines = stands.lines ++ (old.line ++ front) ∷ [];
             parts = ended;
-            means = means_more stands.lines whats (old.line ++ front) what stands.means means;
+            means = mean_together stands.lines ((old.line ++ front) ∷ []) whats (what ∷ []) stands.means (means, tt);
             legal = empty_legal;
             counted = n_is ∙ number ∙ sym (length-append whats (what ∷ []));
             taken = omega (arith, stands.taken, length-append bytes (take used piece), length-take-le used piece fits);
@@ -104,13 +98,13 @@ finish_reads_end log whats old new answer stands finishes = by answer (finishes_
 
     alone : (bytes : List ℕ) → NoLineFeed bytes → 0 < length bytes → log_lines bytes ≡ bytes ∷ []
     alone [] clean some = absurd (omega arith)
-    alone (b ∷ bytes) clean some = last_line b bytes clean
+    alone (b ∷ bytes) clean some = log_lines-rest (b ∷ bytes) clean
 
     by : (answer : Scan) → FinishesOn old answer new → ReadsEnd log whats answer
     by scan.NeedMore s = s
     by (scan.Line used n what) (some, none, n_is, means, is) = (
       n_is ∙ number,
-      subst (λ (z : List (List ℕ)). LinesMean z (whats ++ what ∷ [])) (sym (lines_are (old.line ∷ []) (alone old.line (line_clean old.line what means) some))) (means_more stands.lines whats old.line what stands.means means),
+      subst (λ (z : List (List ℕ)). LinesMean z (whats ++ what ∷ [])) (sym (lines_are (old.line ∷ []) (alone old.line (line_clean old.line what means) some))) (mean_together stands.lines (old.line ∷ []) whats (what ∷ []) stands.means (means, tt)),
     )
     by (scan.Bad n column) (some, n_is, unfinished, is) = (
       record { lines = stands.lines; whats = whats; rest = old.line; parts = stands.parts; legal = stands.means; at = n_is ∙ number ∙ ap (λ (n : ℕ). n + 1) (sym (same_length stands.lines whats stands.means)); here = inr unfinished },
