@@ -11,7 +11,8 @@ use Rattle.can_log.specs.Scanning.{Standing, Scans, ScansOn, ScansFrom, Finishes
 use Rattle.can_log.specs.WholeLog.{at_start, StandsAfter, IsRefusedBehind, ReadsOn, ReadsEnd, ScansAll, Told, line, refused, told, lines_from, TellsLog}
 use Rattle.can_log.proofs.LineFeeds.{line_clean}
 use Rattle.can_log.proofs.LogLines.{log_lines-rest, mean_together}
-use Rattle.can_log.proofs.RefusedPlaces.{lines_first}
+use Rattle.can_log.proofs.RefusedPlaces.{lines_first, lines_before_are_one, refused_place_is_one, refused_log_means_nothing}
+use Rattle.can_log.proofs.LineReads.{one_meaning}
 use Rattle.can_log.proofs.ScannerSteps.{empty_legal, place_extends}
 
 -- ---- lines at the end of a list of lines
@@ -175,3 +176,26 @@ scanning_reads_the_log pieces answers last between new scans finishes = elim (te
   | inl told_all ↦ inl told_all
   | inr (number, column, more, place, is) ↦ inr (number, column, place.0, is ∙ ap (λ (z : List (Option Stamped)). lines_from 1 z ++ refused number column ∷ []) (sym place.1))
 ]
+
+-- ---- how the log is cut plays no part
+
+lines_mean_one : (lines : List (List ℕ)) (whats others : List (Option Stamped)) → LinesMean lines whats → LinesMean lines others → whats ≡ others
+lines_mean_one [] [] [] m n = refl
+lines_mean_one [] [] (other ∷ others) m n = absurd n
+lines_mean_one [] (what ∷ whats) others m n = absurd m
+lines_mean_one (first ∷ lines) [] others m n = absurd m
+lines_mean_one (first ∷ lines) (what ∷ whats) [] m n = absurd n
+lines_mean_one (first ∷ lines) (what ∷ whats) (other ∷ others) m n =
+    ap (λ (z : Option Stamped). z ∷ whats) (one_meaning first what other m.0 n.0) ∙ ap (λ (z : List (Option Stamped)). other ∷ z) (lines_mean_one lines whats others m.1 n.1)
+
+pub log_tells_one : (log : List ℕ) (report other : List Told) → TellsLog log report → TellsLog log other → report ≡ other
+log_tells_one log report other (inl (whats, means, is)) (inl (whats2, means2, is2)) =
+    is ∙ ap (lines_from 1) (lines_mean_one (log_lines log) whats whats2 means means2) ∙ sym is2
+log_tells_one log report other (inl (whats, means, is)) (inr (n, column, place, is2)) = absurd (refused_log_means_nothing log n column whats place means)
+log_tells_one log report other (inr (n, column, place, is)) (inl (whats, means, is2)) = absurd (refused_log_means_nothing log n column whats place means)
+log_tells_one log report other (inr (n, column, place, is)) (inr (n2, column2, place2, is2)) =
+    let at = refused_place_is_one log n column n2 column2 place place2 in
+    let lines = lines_before_are_one log n column n2 column2 place place2 in
+    let whats = lines_mean_one place2.lines place.whats place2.whats (subst (λ (z : List (List ℕ)). LinesMean z place.whats) lines place.legal) place2.legal in
+    is ∙ ap (λ (z : List (Option Stamped)). lines_from 1 z ++ refused n column ∷ []) whats
+    ∙ ap (λ (z : ℕ). lines_from 1 place2.whats ++ refused z column ∷ []) at.0 ∙ ap (λ (z : ℕ). lines_from 1 place2.whats ++ refused n2 z ∷ []) at.1 ∙ sym is2

@@ -142,6 +142,10 @@ same_cut log (line ∷ lines) (line2 ∷ lines2) (what ∷ whats) (what2 ∷ wha
     let more = same_cut (ended_lines lines ++ rest) lines lines2 whats whats2 rest rest2 column column2 refl one.1 m.1 m2.1 r r2 in
     (ap (λ (z : List ℕ). z ∷ lines) one.0 ∙ ap (λ (z : List (List ℕ)). line2 ∷ z) more.0, more.1)
 
+-- the lines before it are the same
+pub lines_before_are_one : (log : List ℕ) (line column line2 column2 : ℕ) → (r : IsRefusedIn log line column) → (t : IsRefusedIn log line2 column2) → r.lines ≡ t.lines
+lines_before_are_one log line column line2 column2 r t = (same_cut log r.lines t.lines r.whats t.whats r.rest t.rest column column2 r.parts t.parts r.legal t.legal r.here t.here).0
+
 -- A log has at most one refused place.
 pub refused_place_is_one : (log : List ℕ) (line column line2 column2 : ℕ) → IsRefusedIn log line column → IsRefusedIn log line2 column2 → (line ≡ line2) × (column ≡ column2)
 refused_place_is_one log line column line2 column2 r t =

@@ -7,7 +7,7 @@ use Rattle.can_log.specs.Line.{LineMeans}
 use Rattle.can_log.specs.Refused.{NoLineFeed, HasCompletion, HasNoCompletion}
 use Rattle.can_log.specs.Log.{LogMeans, IsRefusedIn}
 use Rattle.can_log.specs.Scanning.{Standing, Scans, Finishes}
-use Rattle.can_log.specs.WholeLog.{at_start, StandsAfter, ReadsOn, ReadsEnd, ScansAll, told, TellsLog}
+use Rattle.can_log.specs.WholeLog.{at_start, StandsAfter, ReadsOn, ReadsEnd, ScansAll, Told, told, TellsLog}
 
 -- a line means at most one thing
 abbrev pub LineMeansAtMostOne : Type 0
@@ -52,3 +52,7 @@ FinishReadsEnd = (log : List ℕ) (whats : List (Option Stamped)) (old new : Sta
 abbrev pub ScanningReadsTheLog : Type 0
 ScanningReadsTheLog = (pieces : List (List ℕ)) (answers : List Scan) (last : Scan) (between new : Standing) → ScansAll at_start pieces answers between → Finishes between last new
     → TellsLog (concat pieces) (told (answers ++ last ∷ []))
+
+-- All that is to be told of a log is one thing: two runs over one log, cut in two ways, tell the same.
+abbrev pub LogTellsOne : Type 0
+LogTellsOne = (log : List ℕ) (report other : List Told) → TellsLog log report → TellsLog log other → report ≡ other

@@ -1,6 +1,6 @@
 //! What holds of lines and logs. A law is a call without a body: a proof that needs it calls it, and nothing runs.
 
-ghost use Rattle.can_log.specs.Laws.{LineMeansAtMostOne, LineHasNoLineFeed, LineIsShort, FrontHasCompletion, SixteenAreEnough, RefusedPlaceIsOne, RefusedLogMeansNothing, ScanReadsOn, FinishReadsEnd, ScanningReadsTheLog};
+ghost use Rattle.can_log.specs.Laws.{LineMeansAtMostOne, LineHasNoLineFeed, LineIsShort, FrontHasCompletion, SixteenAreEnough, RefusedPlaceIsOne, RefusedLogMeansNothing, ScanReadsOn, FinishReadsEnd, ScanningReadsTheLog, LogTellsOne};
 ghost use Rattle.can_log.specs.CanonicalLaws.{CanonicalLineMeans, CanonicalTextIsOneLine, CanonicalLineLength};
 ghost use Rattle.can_log.specs.LogLaws.{LogLinesOfParts, LinesMeanInParts, LineIsLog, LogsJoin};
 
@@ -53,6 +53,11 @@ pub fn finish_reads_end()
 /// or those before its refused place, and the place. How the log is cut plays no part.
 pub fn scanning_reads_the_log()
     ensures { ScanningReadsTheLog }
+{}
+
+/// All that is to be told of a log is one thing: two runs over one log, cut in two ways, tell the same.
+pub fn log_tells_one()
+    ensures { LogTellsOne }
 {}
 
 /// The text of a canonical line means the classic frame that it was made of, at its time.
