@@ -4,3 +4,7 @@ pub mod Line
 pub mod Refused
 pub mod Log
 pub mod Scanning
+pub mod FieldReader
+pub mod LineReader
+pub mod Views
+pub mod Judging

@@ -118,6 +118,14 @@ impl Frame {
         })
     }
 
+    /// The frame with these parts.
+    pub(crate) fn from_parts(id: Id, kind: Kind, data: ArrayVec<u8, 64>) -> Frame
+        requires { IsFrame id kind «data».items }
+        ensures { result ≡ record { id = id; kind = kind; bytes = «data».items } }
+    {
+        Frame { id, kind, data }
+    }
+
     /// The identifier.
     pub fn id(&self) -> Id
         ensures { result ≡ self.now.id }

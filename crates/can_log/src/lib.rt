@@ -3,6 +3,9 @@
 
 mod frame;
 mod scanner;
+mod line;
+mod meaning;
+mod field;
 
 pub use frame::{Dir, Frame, Id, Kind, Stamped};
-pub use scanner::Scan;
+pub use scanner::{Scan, Scanner};

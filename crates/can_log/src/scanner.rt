@@ -1,6 +1,19 @@
 //! Lines out of the pieces of a log.
 
+ghost use Rattle.std.specs.Prelude.{◌≡◌, ◌≤◌, ◌+◌, ◌^◌, ◌++◌, ◌∷◌, [], None, Some, ◌<◌, IfOk, IfErr, IfNone, IfSome, length, take};
+ghost use Rattle.can_log.specs.Line.{LineMeans};
+ghost use Rattle.can_log.specs.Refused.{NoLineFeed, HasCompletion, IsRefusedPlace};
+ghost use Rattle.can_log.specs.Judging.{Judged};
+ghost use Rattle.can_log.specs.Scanning.{Scans, Finishes};
+ghost use Rattle.can_log.specs.declared.scanner.Scan.TheVariants.{Bad};
+
+use crate::field::Stop;
 use crate::frame::Stamped;
+use crate::line::judge;
+use crate::meaning::stamped_of;
+use arrayvec::ArrayVec;
+use memchr::memchr;
+use std::marker::Model;
 
 /// What came of a piece of the log, or of its end.
 #[derive(Debug, Drop, PartialEq, Eq)]
@@ -18,4 +31,215 @@ pub enum Scan {
     Bad { line: u64, column: u32 },
     /// The log has ended, and no line is unfinished.
     End,
+}
+
+/// Reads the lines of a log out of its pieces, however it is cut. It allocates nothing: of a line that is cut it keeps the
+/// bytes so far.
+#[derive(Debug, Drop)]
+pub struct Scanner {
+    line: ArrayVec<u8, 223>,
+    lines: u64,
+    taken: u64,
+    refused: Option<Place>,
+}
+
+/// A line and a column of a log.
+#[derive(Clone, Copy, Debug)]
+struct Place {
+    line: u64,
+    column: u32,
+}
+
+impl Model for Scanner {
+    ghost use Rattle.std.specs.Prelude.{option_map};
+    ghost use Rattle.can_log.specs.Scanning.{Standing};
+    ghost use Rattle.can_log.specs.Judging.{StandsWell};
+
+    ghost Value = { Standing };
+
+    ghost view = { λ s. record { lines = s.lines; line = s.line.items; taken = s.taken; refused = option_map (λ p. record { line = p.line; column = p.column }) s.refused } };
+
+    ghost invariant = { λ s. StandsWell s.lines s.taken s.line.items };
+}
+
+impl Scanner {
+    /// A scanner at the start of a log.
+    pub fn new() -> Self
+        ensures { result ≡ record { lines = 0; line = []; taken = 0; refused = None } }
+    {
+        Scanner {
+            line: ArrayVec::new(),
+            lines: 0,
+            taken: 0,
+            refused: None,
+        }
+    }
+
+    /// How many bytes were taken so far.
+    pub fn taken(&self) -> u64
+        ensures { result ≡ self.now.taken }
+    {
+        self.taken
+    }
+
+    /// Takes the next line of a piece, or the whole piece where no line ends in it.
+    pub fn scan(&mut self, piece: &[u8]) -> Scan
+        requires { self.old.taken + length piece.now ≤ 2 ^ 62 }
+        ensures answer { Scans self.old piece.now result self.new }
+    {
+        if let Some(place) = self.refused {
+            return bad(place);
+        }
+        match memchr(b'\n', piece) {
+            Some(at) => match ended(self.line.as_slice(), &piece[..at]) {
+                Ok(what) => {
+                    self.line.clear();
+                    self.lines += 1;
+                    self.taken += at as u64 + 1;
+                    Scan::Line {
+                        used: at + 1,
+                        line: self.lines,
+                        what,
+                    }
+                }
+                Err(column) => self.refuse(column),
+            },
+            None => match refused(self.line.as_slice(), piece) {
+                None => {
+                    let _ = self.line.try_extend_from_slice(piece);
+                    self.taken += piece.len() as u64;
+                    Scan::NeedMore
+                }
+                Some(column) => self.refuse(column),
+            },
+        }
+    }
+
+    /// Takes the last line of the log, if it has no line feed.
+    pub fn finish(&mut self) -> Scan
+        ensures answer { Finishes self.old result self.new }
+    {
+        if let Some(place) = self.refused {
+            return bad(place);
+        }
+        if self.line.is_empty() {
+            return Scan::End;
+        }
+        match verdict_on(self.line.as_slice()) {
+            Verdict::Means(what) => {
+                self.line.clear();
+                self.lines += 1;
+                Scan::Line {
+                    used: 0,
+                    line: self.lines,
+                    what,
+                }
+            }
+            _ => {
+                let column = self.line.len() as u32 + 1;
+                self.refuse(column)
+            }
+        }
+    }
+
+    /// Stands at a refused place of the unfinished line.
+    fn refuse(&mut self, column: u32) -> Scan
+        requires { self.old.lines + 1 < 2 ^ 64 }
+        ensures result { result ≡ Bad (self.old.lines + 1) column }
+        ensures place { self.new ≡ record self.old { refused = Some (record { line = self.old.lines + 1; column = column }) } }
+    {
+        let place = Place {
+            line: self.lines + 1,
+            column,
+        };
+        self.refused = Some(place);
+        bad(place)
+    }
+}
+
+fn bad(place: Place) -> Scan
+    ensures { result ≡ Bad place.line place.column }
+{
+    Scan::Bad {
+        line: place.line,
+        column: place.column,
+    }
+}
+
+/// What the bytes of a line are, whole or so far.
+#[derive(Drop)]
+enum Verdict {
+    Means(Option<Stamped>),
+    /// They end too early, and can be completed.
+    Short,
+    /// The byte at this column, counted from 1, is refused.
+    Refused(u32),
+}
+
+/// What a line means that ends behind `bytes`, or the column that is refused.
+fn ended(line: &[u8], bytes: &[u8]) -> Result<Option<Stamped>, u32>
+    requires short { length line.now ≤ 223 }
+    requires clean { NoLineFeed (line.now ++ bytes.now) }
+    ensures ok { IfOk result (λ what. LineMeans (line.now ++ bytes.now) what) }
+    ensures err { IfErr result (λ column. IsRefusedPlace ((line.now ++ bytes.now) ++ 10 ∷ []) column) }
+{
+    match line_verdict(line, bytes) {
+        Verdict::Means(what) => Ok(what),
+        Verdict::Short => Err((line.len() + bytes.len() + 1) as u32),
+        Verdict::Refused(column) => Err(column),
+    }
+}
+
+/// The column that is refused, if one is.
+fn refused(line: &[u8], bytes: &[u8]) -> Option<u32>
+    requires short { length line.now ≤ 223 }
+    requires clean { NoLineFeed (line.now ++ bytes.now) }
+    ensures none { IfNone result (HasCompletion (line.now ++ bytes.now)) }
+    ensures some { IfSome result (λ column. IsRefusedPlace (line.now ++ bytes.now) column) }
+{
+    match joined_verdict(line, bytes) {
+        Verdict::Means(_) => None,
+        Verdict::Short => None,
+        Verdict::Refused(column) => Some(column),
+    }
+}
+
+/// The verdict on `line` and `bytes`, one behind the other, with no copy where nothing stands before `bytes`.
+fn line_verdict(line: &[u8], bytes: &[u8]) -> Verdict
+    requires { length line.now ≤ 223 }
+    ensures { Judged (line.now ++ bytes.now) result }
+{
+    if line.is_empty() {
+        verdict_on(bytes)
+    } else {
+        joined_verdict(line, bytes)
+    }
+}
+
+/// The verdict on a line that is cut. Of 224 bytes one is refused, so no more are looked at.
+fn joined_verdict(line: &[u8], bytes: &[u8]) -> Verdict
+    requires { length line.now ≤ 223 }
+    ensures { Judged (line.now ++ bytes.now) result }
+{
+    let mut joined: ArrayVec<u8, 224> = ArrayVec::new();
+    let _ = joined.try_extend_from_slice(line);
+    let _ = joined.try_extend_from_slice(front_of(bytes, 224 - line.len()));
+    verdict_on(joined.as_slice())
+}
+
+fn verdict_on(bytes: &[u8]) -> Verdict
+    ensures { Judged bytes.now result }
+{
+    match judge(bytes) {
+        Ok(None) => Verdict::Means(None),
+        Ok(Some(parts)) => Verdict::Means(Some(stamped_of(parts))),
+        Err(Stop::Short) => Verdict::Short,
+        Err(Stop::Refused(rest)) => Verdict::Refused((bytes.len() - rest.len() + 1) as u32),
+    }
+}
+
+fn front_of(bytes: &[u8], n: usize) -> &[u8]
+    ensures { result.now ≡ take n bytes.now }
+{
+    if n < bytes.len() { &bytes[..n] } else { bytes }
 }

@@ -1,0 +1,11 @@
+pub mod Runs
+pub mod FieldLaws
+pub mod RunLaws
+pub mod MoreFieldLaws
+pub mod LineFields
+pub mod Spelling
+pub mod LineReads
+pub mod Judging
+pub mod DigitValues
+pub mod LineLength
+pub mod ScannerSteps

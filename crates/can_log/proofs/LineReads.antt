@@ -1,0 +1,192 @@
+-- What is read of a line is what it means, and a byte is refused exactly where no line begins so.
+use Rattle.std.proofs.Common.{◌≡◌, ℕ, zero, suc, ◌+◌, ◌<◌, ◌≤◌, Bool, true, false, List, [], ◌∷◌, ◌++◌, length, drop, Option, Some, None, Result, Ok, Err, refl, sym, ap, subst, ◌∙◌, append_assoc, arith, inl, inr, ◌⊎◌, length-append}
+use Rattle.std.specs.Prelude.{◌==◌}
+use Rattle.std.proofs.lemmas.Bool.{eqb-true}
+use Rattle.std.proofs.lemmas.List.{append-nil}
+use Rattle.can_log.specs.Line.{Body, classic, remote, fd, IsBody, IsDataText, LineSpelling, spell_line, IsLineSpelling, IsLineText, LineMeans}
+use Rattle.can_log.specs.declared.frame.Stamped.{Stamped}
+use Rattle.can_log.specs.Refused.{HasCompletion, HasNoCompletion}
+use Rattle.can_log.specs.Judging.{IsFirstRefused}
+use Rattle.can_log.specs.FieldReader.{Trouble, short, refused, FieldRead, ◌>>=◌, byte_at, both, either, seen}
+use Rattle.can_log.specs.LineReader.{Parts, stamp_at, place_at, identifier_at, body_at, mark_at, end_at, frame_at, line_at, stamped_by, meaning_by, AreParts, AreLineParts, FitsBody}
+use Rattle.can_log.proofs.FieldLaws.{Follows, IsOpen, Takes, Refuses, CanEnd, Law, Both, both_law, Either, Starts, Misses, either_law, which, bind_ok, bind_err, both_is}
+use Rattle.can_log.proofs.RunLaws.{AnyByte, OneByte, byte_law, byte_is, rest_is, value_is}
+use Rattle.can_log.proofs.MoreFieldLaws.{Never, IsEnd, end_law, Seen, seen_law, seen_failed, end_done}
+use Rattle.can_log.proofs.LineFields.{Nested, FrameOn, parts_of, frame_law, any_follows, both_starts, end_begins, frame_on_begins}
+use Rattle.can_log.proofs.Spelling.{parts_in, tree_of, nested_of, to_tree, from_tree}
+
+abbrev Opened : Option Parts → List ℕ → Type 0
+Opened = Seen (λ p. Some p.1) (Both (OneByte 40) (λ _. Seen parts_of FrameOn))
+
+abbrev Empty : Option Parts → List ℕ → Type 0
+Empty = Seen (λ _. None) IsEnd
+
+abbrev LineForm : Option Parts → List ℕ → Type 0
+LineForm = Either Opened Empty
+
+opened_law : Law (seen (λ p. Some p.1) (both (byte_at 40) (λ _. frame_at))) Opened Never 17
+opened_law = seen_law (λ p. Some p.1) (both_law (byte_law 40) (λ _. frame_law) 16 17 (record { follows = λ v w text rest form after. any_follows (text ++ rest); begins = λ _. frame_on_begins }) (omega arith) (omega arith))
+
+line_law : Law line_at LineForm Never 17
+line_law = either_law (λ b. b == 40) opened_law (seen_law (λ _. None) end_law) 17 (record {
+  starts = λ v text (p, f, is). both_starts (λ b. b == 40) 40 refl text f;
+  misses = λ v text (p, f, is). elim f [ inl none ↦ subst (Misses (λ b. b == 40)) (sym none) tt | inr cr ↦ subst (Misses (λ b. b == 40)) (sym cr) refl ];
+  after = λ b h. absurd h;
+}) (omega arith) (omega arith)
+
+-- ---- nothing stands behind a line
+
+abbrev Whole : {V : Type 0} → (List ℕ → FieldRead V) → Type 0
+Whole {V} read = (bytes : List ℕ) (v : V) (rest : List ℕ) → read bytes ≡ Ok (v, rest) → rest ≡ []
+
+both_whole : {V W : Type 0} (read : List ℕ → FieldRead V) (next : V → List ℕ → FieldRead W) → ((v : V) → Whole (next v)) → Whole (both read next)
+unfolding both
+both_whole {V} {W} read next whole bytes p rest e =
+    let x = bind_ok (read bytes) (λ x. next x.0 x.1 >>= λ y. Ok ((x.0, y.0), y.1)) (p, rest) e in
+    let y = bind_ok (next x.0.0 x.0.1) (λ y. Ok ((x.0.0, y.0), y.1)) (p, rest) x.2 in
+    sym (rest_is (x.0.0, y.0.0) p y.0.1 rest y.2) ∙ whole x.0.0 x.0.1 y.0.0 y.0.1 y.1
+
+seen_whole : {V W : Type 0} (view : V → W) (read : List ℕ → FieldRead V) → Whole read → Whole (seen view read)
+unfolding seen
+seen_whole {V} {W} view read whole bytes w rest e =
+    let x = bind_ok (read bytes) (λ x. Ok (view x.0, x.1)) (w, rest) e in
+    sym (rest_is (view x.0.0) w x.0.1 rest x.2) ∙ whole bytes x.0.0 x.0.1 x.1
+
+either_whole : {V : Type 0} (test : ℕ → Bool) (one other : List ℕ → FieldRead V) → Whole one → Whole other → Whole (either test one other)
+either_whole test one other w1 w2 bytes v rest e = elim (which test one other bytes) [
+  | inl (h, is) ↦ w1 bytes v rest (sym is ∙ e)
+  | inr (h, is) ↦ w2 bytes v rest (sym is ∙ e)
+]
+
+end_whole : Whole end_at
+end_whole bytes v rest e = end_done bytes v rest e
+
+line_whole : Whole line_at
+line_whole = either_whole (λ b. b == 40) (seen (λ p. Some p.1) (both (byte_at 40) (λ _. frame_at))) (seen (λ _. None) end_at)
+    (seen_whole (λ p. Some p.1) (both (byte_at 40) (λ _. frame_at)) (both_whole (byte_at 40) (λ _. frame_at) (λ _. seen_whole parts_of _
+    (both_whole stamp_at _ (λ _. both_whole place_at _ (λ _. both_whole identifier_at _ (λ _. both_whole (byte_at 35) _ (λ _. both_whole body_at _ (λ _. both_whole mark_at _ (λ _. end_whole))))))))))
+    (seen_whole (λ _. None) end_at end_whole)
+
+-- ---- forms and meanings
+
+form_means : (o : Option Parts) (bytes : List ℕ) → LineForm o bytes → LineMeans bytes (meaning_by o)
+form_means o bytes (inl (p, f, is)) =
+    let n = f.second.0 in
+    let t = to_tree n f.back f.second.1 in
+    let whole : bytes ≡ 40 ∷ f.back = f.is ∙ ap (λ (z : List ℕ). z ++ f.back) f.first in
+    subst (λ (o : Option Parts). LineMeans bytes (meaning_by o)) is (tree_of n, t.0, subst (IsLineText (spell_line (tree_of n))) (sym whole) t.1, ap stamped_by (sym f.second.2))
+form_means o bytes (inr (p, e, is)) = subst (λ (o : Option Parts). LineMeans bytes (meaning_by o)) is e
+
+open_paren : (l : LineSpelling) (bytes : List ℕ) → IsLineText (spell_line l) bytes → bytes ≡ 40 ∷ drop 1 bytes
+open_paren l bytes (inl e) = e ∙ ap (λ (z : List ℕ). 40 ∷ drop 1 z) (sym e)
+open_paren l bytes (inr e) = e ∙ ap (λ (z : List ℕ). 40 ∷ drop 1 z) (sym e)
+
+means_form : (bytes : List ℕ) (s : Option Stamped) → LineMeans bytes s → (o : Option Parts) × LineForm o bytes × (meaning_by o ≡ s)
+means_form bytes None e = (None, inr (tt, e, refl), refl)
+means_form bytes (Some s) (l, is, ends, eq) =
+    let whole = open_paren l bytes ends in
+    let f = from_tree l (drop 1 bytes) is (subst (IsLineText (spell_line l)) whole ends) in
+    (Some (parts_in l), inl ((tt, parts_in l), record { front = 40 ∷ []; back = drop 1 bytes; first = refl; second = (nested_of l, f, refl); is = whole }, refl), ap (λ (z : Stamped). Some z) (sym eq))
+
+-- ---- what was read, and what was not
+
+-- What is read is what the line means.
+pub read_means : (bytes : List ℕ) (o : Option Parts) (rest : List ℕ) → line_at bytes ≡ Ok (o, rest) → LineMeans bytes (meaning_by o)
+read_means bytes o rest e =
+    let t = line_law.takes bytes o rest e in
+    let none = line_whole bytes o rest e in
+    subst (λ (z : List ℕ). LineMeans z (meaning_by o)) (sym (t.parts ∙ ap (λ (z : List ℕ). t.text ++ z) none ∙ append-nil t.text)) (form_means o t.text t.form)
+
+-- What a line means is read.
+pub means_read : (bytes : List ℕ) (s : Option Stamped) → LineMeans bytes s → (o : Option Parts) × (line_at bytes ≡ Ok (o, [])) × (meaning_by o ≡ s)
+means_read bytes s m =
+    let f = means_form bytes s m in
+    (f.0, ap line_at (sym (append-nil bytes)) ∙ line_law.again f.0 bytes [] f.1 tt, f.2)
+
+-- A line means at most one thing.
+pub one_meaning : (bytes : List ℕ) (s t : Option Stamped) → LineMeans bytes s → LineMeans bytes t → s ≡ t
+one_meaning bytes s t m n =
+    let a = means_read bytes s m in
+    let b = means_read bytes t n in
+    sym a.2 ∙ ap meaning_by (value_is a.0 b.0 [] [] (sym a.1 ∙ b.1)) ∙ b.2
+
+form_becomes : (bytes : List ℕ) → CanEnd LineForm 16 bytes → HasCompletion bytes
+form_becomes bytes c = (c.more, meaning_by c.value, c.few, form_means c.value (bytes ++ c.more) c.form)
+
+-- A line that falls short can be completed.
+pub short_becomes : (bytes : List ℕ) → line_at bytes ≡ Err short → HasCompletion bytes
+short_becomes bytes e = elim (which (λ b. b == 40) (seen (λ p. Some p.1) (both (byte_at 40) (λ _. frame_at))) (seen (λ _. None) end_at) bytes) [
+  | inl (h, is) ↦ opened bytes h (seen_failed (λ p. Some p.1) (both (byte_at 40) (λ _. frame_at)) bytes short (sym is ∙ e))
+  | inr (h, is) ↦ let c = (seen_law (λ _. None) end_law).shorts bytes (sym is ∙ e) in form_becomes bytes (record { more = c.more; value = c.value; few = omega (arith, c.few); form = inr c.form })
+]
+  where
+    opened : (bytes : List ℕ) → Starts (λ b. b == 40) bytes → both (byte_at 40) (λ _. frame_at) bytes ≡ Err short → HasCompletion bytes
+    opened [] h k = absurd h
+    opened (b ∷ rest) h k =
+        let is : b ≡ 40 = eqb-true b 40 h in
+        let c = frame_law.shorts rest (after_paren rest (ap (λ (z : ℕ). both (byte_at 40) (λ _. frame_at) (z ∷ rest)) (sym is) ∙ k)) in
+        form_becomes (b ∷ rest) (record {
+          more = c.more;
+          value = Some c.value;
+          few = c.few;
+          form = inl ((tt, c.value), record { front = 40 ∷ []; back = rest ++ c.more; first = refl; second = c.form; is = ap (λ (z : ℕ). z ∷ (rest ++ c.more)) is }, refl);
+        })
+      where
+        after_paren : (rest : List ℕ) → both (byte_at 40) (λ _. frame_at) (40 ∷ rest) ≡ Err short → frame_at rest ≡ Err short
+        after_paren rest k = elim (bind_err (frame_at rest) (λ y. Ok ((tt {0}, y.0), y.1)) short (sym (both_is (byte_at 40) (λ _. frame_at) (40 ∷ rest) tt rest (byte_is 40 rest)) ∙ k)) [ inl failed ↦ failed | inr worked ↦ absurd cc ]
+
+open_becomes : (bytes : List ℕ) (r : FieldRead (Option Parts)) → line_at bytes ≡ r → IsOpen r → HasCompletion bytes
+open_becomes bytes (Ok x) e h = ([], meaning_by x.0, omega arith, subst (λ (z : List ℕ). LineMeans z (meaning_by x.0)) (sym (append-nil bytes)) (read_means bytes x.0 x.1 e))
+open_becomes bytes (Err short) e h = short_becomes bytes e
+open_becomes bytes (Err (refused rest)) e h = absurd h
+
+-- A byte that is refused is the first that no line has there.
+pub refused_first : (bytes rest : List ℕ) → line_at bytes ≡ Err (refused rest) → IsFirstRefused bytes rest
+refused_first bytes rest e =
+    let r = line_law.refuses bytes rest e in
+    record {
+      text = r.text;
+      bad = r.bad;
+      after = r.after;
+      parts = r.parts;
+      at = r.at;
+      legal = open_becomes r.text (line_at r.text) refl r.so_far;
+      hopeless = λ more s m.
+          let read = means_read ((r.text ++ r.bad ∷ []) ++ more) s m in
+          let same : line_at ((r.text ++ r.bad ∷ []) ++ more) ≡ Err (refused (r.bad ∷ more)) = ap line_at (append_assoc r.text (r.bad ∷ []) more) ∙ r.for_good more in
+          cc (read.1, same);
+    }
+
+fits_body : (b : Body) → IsBody b → FitsBody b
+fits_body (classic ds None) h = h
+fits_body (classic ds (Some d)) h = h.0
+fits_body (remote ds d) h = tt
+fits_body (fd flag ds) h = h.1
+
+form_parts : (o : Option Parts) (bytes : List ℕ) → LineForm o bytes → AreLineParts o
+form_parts o bytes (inl (p, f, is)) =
+    let n = f.second.0 in
+    let t = to_tree n f.back f.second.1 in
+    subst AreLineParts is (subst AreParts f.second.2 (record {
+      seconds = record { each = t.0.seconds.each; enough = omega arith; few = t.0.seconds.few };
+      micros = record { each = t.0.micros.each; enough = omega arith; few = omega (arith, t.0.micros.few) };
+      identifier = t.0.identifier;
+      body = fits_body n.1.1.1.1.0 t.0.body;
+    }))
+form_parts o bytes (inr (p, e, is)) = subst AreLineParts is tt
+
+-- The parts of a line are of their lengths.
+pub read_parts : (bytes : List ℕ) (o : Option Parts) (rest : List ℕ) → line_at bytes ≡ Ok (o, rest) → AreLineParts o
+read_parts bytes o rest e = let t = line_law.takes bytes o rest e in form_parts o t.text t.form
+
+-- Each front of what can become a line can become one.
+pub front_legal : (a b : List ℕ) → HasCompletion (a ++ b) → HasCompletion a
+front_legal a b (more, s, few, m) = by (line_at a) refl
+  where
+    by : (r : FieldRead (Option Parts)) → line_at a ≡ r → HasCompletion a
+    by (Ok x) e = ([], meaning_by x.0, omega arith, subst (λ (z : List ℕ). LineMeans z (meaning_by x.0)) (sym (append-nil a)) (read_means a x.0 x.1 e))
+    by (Err short) e = short_becomes a e
+    by (Err (refused rest)) e =
+      let r = refused_first a rest e in
+      absurd (r.hopeless (r.after ++ (b ++ more)) s (subst (λ (z : List ℕ). LineMeans z s)
+        (append_assoc a b more ∙ ap (λ (z : List ℕ). z ++ (b ++ more)) r.parts ∙ append_assoc r.text (r.bad ∷ r.after) (b ++ more) ∙ sym (append_assoc r.text (r.bad ∷ []) (r.after ++ (b ++ more)))) m))

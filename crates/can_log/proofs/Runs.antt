@@ -1,0 +1,51 @@
+-- How a run of bytes goes on.
+use Rattle.std.proofs.Common.{◌≡◌, ℕ, zero, suc, ◌+◌, ◌-◌, ◌<◌, ◌≤◌, Bool, true, false, cond, List, [], ◌∷◌, ◌++◌, length, get_or, drop, refl, sym, ap, ◌∙◌, arith}
+use Rattle.std.proofs.Math.Seq.{drop-cons, drop-length}
+use Rattle.can_log.specs.declared.field.Class.{Class}
+use Rattle.can_log.specs.FieldReader.{is_in, run_len}
+
+pub run_len-done : (class : Class) (bytes : List ℕ) → run_len class 0 bytes ≡ 0
+unfolding run_len
+run_len-done class bytes = refl
+
+pub run_len-nil : (class : Class) (most : ℕ) → run_len class most [] ≡ 0
+unfolding run_len
+run_len-nil class zero = refl
+run_len-nil class (suc most) = refl
+
+pub run_len-in : (class : Class) (most b : ℕ) (bytes : List ℕ) → is_in class b ≡ true → run_len class (suc most) (b ∷ bytes) ≡ suc (run_len class most bytes)
+unfolding run_len
+run_len-in class most b bytes h = rw h refl
+
+pub run_len-out : (class : Class) (most b : ℕ) (bytes : List ℕ) → is_in class b ≡ false → run_len class most (b ∷ bytes) ≡ 0
+unfolding run_len
+run_len-out class zero b bytes h = refl
+run_len-out class (suc most) b bytes h = rw h refl
+
+-- one more byte of the class
+pub goes_on : (class : Class) (most n : ℕ) (bytes : List ℕ) (total : ℕ) → n < most → n < length bytes → is_in class (get_or bytes n 0) ≡ true
+    → n + run_len class (most - n) (drop n bytes) ≡ total → n + 1 + run_len class (most - (n + 1)) (drop (n + 1) bytes) ≡ total
+goes_on class most n bytes total below within h so_far =
+    let k : most - n ≡ suc (most - (n + 1)) = omega arith in
+    let s : n + 1 ≡ suc n = omega arith in
+    let one : run_len class (most - n) (drop n bytes) ≡ suc (run_len class (most - (n + 1)) (drop (n + 1) bytes)) = rw (k, drop-cons bytes n 0 within, s) (run_len-in class (most - suc n) (get_or bytes n 0) (drop (suc n) bytes) h) in
+    omega (arith, one)
+
+pub stops : (class : Class) (most n : ℕ) (bytes : List ℕ) (total : ℕ) → n < length bytes → is_in class (get_or bytes n 0) ≡ false
+    → n + run_len class (most - n) (drop n bytes) ≡ total → n ≡ total
+stops class most n bytes total within h so_far =
+    let one : run_len class (most - n) (drop n bytes) ≡ 0 = rw (drop-cons bytes n 0 within) (run_len-out class (most - n) (get_or bytes n 0) (drop (suc n) bytes) h) in
+    omega (arith, one)
+
+pub ends : (class : Class) (most n : ℕ) (bytes : List ℕ) (total : ℕ) → n ≡ length bytes
+    → n + run_len class (most - n) (drop n bytes) ≡ total → n ≡ total
+ends class most n bytes total at so_far =
+    let one : run_len class (most - n) (drop n bytes) ≡ 0 = rw (at, drop-length bytes) (run_len-nil class (most - length bytes)) in
+    omega (arith, one)
+
+pub is_full : (class : Class) (most n : ℕ) (bytes : List ℕ) (total : ℕ) → n ≡ most
+    → n + run_len class (most - n) (drop n bytes) ≡ total → n ≡ total
+is_full class most n bytes total at so_far =
+    let z : most - n ≡ 0 = omega arith in
+    let one : run_len class (most - n) (drop n bytes) ≡ 0 = rw z (run_len-done class (drop n bytes)) in
+    omega (arith, one)

@@ -1,0 +1,13 @@
+use Rattle.std.proofs.Common.{◌-◌, ◌≡◌, ◌≤◌, length, ℕ, ◌+◌, ◌*◌, ◌<◌, drop}
+use Rattle.can_log.specs.FieldReader.{run_len}
+use Rattle.can_log.proofs.field.run_length.Given as goal
+
+abbrev pub invariant-loop-n : goal.invariant-loop-n
+invariant-loop-n l = record {
+  within : l.n ≤ length l.bytes;
+  below : l.n ≤ l.most;
+  so_far : l.n + run_len l.class (l.most - l.n) (drop l.n l.bytes) ≡ run_len l.class l.most l.bytes;
+}
+
+abbrev pub decreases-loop-n : goal.decreases-loop-n
+decreases-loop-n l = l.most - l.n

@@ -1,0 +1,9 @@
+use Rattle.std.proofs.Common.{arith, rules}
+use Rattle.can_log.proofs.LineLength.{refused_column}
+use Rattle.can_log.proofs.scanner.verdict_on.Goals as goal
+
+pub overflow_cast-result : goal.overflow_cast-result
+overflow_cast-result c =
+    let e = rw c.in-Err-Refused.field-0-is at c.in-Err-Refused.ensures in
+    let r = (refused_column c.args.bytes.now c.in-Err-Refused.rest.now e.refused).0 in
+    omega (arith, r)

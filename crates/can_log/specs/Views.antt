@@ -1,0 +1,38 @@
+-- A device of proof: what the code's slices of a line are, seen as lists.
+use Rattle.std.specs.Prelude.{ℕ, List, Option, Some, None, ⊤}
+use Rattle.std.specs.Borrow.{Bor}
+use Rattle.can_log.specs.declared.line.Body.{Body}
+use Rattle.can_log.specs.declared.line.Body.TheVariants as code
+use Rattle.can_log.specs.declared.line.Parts.{Parts}
+use Rattle.can_log.specs.declared.field.Stop.{Stop}
+use Rattle.can_log.specs.declared.field.Stop.TheVariants as stop
+use Rattle.can_log.specs.LineReader as reader
+use Rattle.can_log.specs.Line as line
+
+abbrev pub raw_dlc_of : Option (Bor (List ℕ)) → Option (List ℕ)
+raw_dlc_of None = None
+raw_dlc_of (Some digit) = Some digit.now
+
+abbrev pub body_of : Body → line.Body
+body_of (code.Classic digits raw_dlc) = line.classic digits.now (raw_dlc_of raw_dlc)
+body_of (code.Remote digit raw_dlc) = line.remote digit.now (raw_dlc_of raw_dlc)
+body_of (code.Fd flags digits) = line.fd flags.now digits.now
+
+abbrev pub mark_of : Option (Bor (List ℕ) × Bor (List ℕ)) → Option (List ℕ × List ℕ)
+mark_of None = None
+mark_of (Some p) = Some (p.0.now, p.1.now)
+
+abbrev pub parts_of : Parts → reader.Parts
+parts_of p = record { seconds = p.seconds.now; micros = p.micros.now; identifier = p.identifier.now; body = body_of p.body }
+
+abbrev pub line_parts_of : Option Parts → Option reader.Parts
+line_parts_of None = None
+line_parts_of (Some p) = Some (parts_of p)
+
+abbrev pub OnShort : Stop → Type 0 → Type 0
+OnShort stop.Short P = P
+OnShort (stop.Refused rest) P = ⊤
+
+abbrev pub OnRefused : Stop → (List ℕ → Type 0) → Type 0
+OnRefused stop.Short P = ⊤
+OnRefused (stop.Refused rest) P = P rest.now

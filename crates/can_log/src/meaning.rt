@@ -1,0 +1,99 @@
+//! What the digits of a line mean: its time, and its frame.
+
+ghost use Rattle.std.specs.Prelude.{◌≡◌, ◌<◌, ◌^◌, ◌/◌, IsTrue, length};
+ghost use Rattle.std.specs.Char.{is_ascii_digit, is_ascii_hexdigit, digit_value};
+ghost use Rattle.std.specs.Str.Parse.{digits_value};
+ghost use Rattle.can_log.specs.Line.{IsRunOf, IsDataText, IsIdentifierText, identifier_of, bytes_spelled};
+ghost use Rattle.can_log.specs.LineReader.{stamped_by, AreParts};
+ghost use Rattle.can_log.specs.Views.{parts_of};
+
+use crate::frame::{Frame, Id, Kind, Stamped};
+use crate::line::{Body, Parts};
+use arrayvec::ArrayVec;
+
+/// The frame that a line of these parts records, and its time.
+pub(crate) fn stamped_of(parts: Parts<'_>) -> Stamped
+    requires { AreParts (parts_of parts) }
+    ensures { result ≡ stamped_by (parts_of parts.entry) }
+{
+    let id = identifier_of(parts.identifier);
+    let (kind, data) = match parts.body {
+        Body::Classic(digits, _) => (Kind::Classic, data_of(digits)),
+        Body::Remote(_, _) => (Kind::Remote, ArrayVec::new()),
+        Body::Fd(_, digits) => (Kind::Fd, data_of(digits)),
+    };
+    Stamped {
+        micros: number(parts.seconds) * 1_000_000 + number(parts.micros),
+        frame: Frame::from_parts(id, kind, data),
+    }
+}
+
+fn identifier_of(digits: &[u8]) -> Id
+    requires { IsIdentifierText digits.now }
+    ensures { result ≡ identifier_of digits.now }
+{
+    let number = hex_number(digits);
+    if digits.len() == 8 {
+        Id::Ext(number)
+    } else {
+        Id::Std(number as u16)
+    }
+}
+
+fn number(digits: &[u8]) -> u64
+    requires { IsRunOf is_ascii_digit 0 10 digits.now }
+    ensures value { result ≡ digits_value 10 digits.now }
+    ensures bound { result < 10 ^ 10 }
+{
+    let mut n = 0;
+    for d in digits {
+        n = n * 10 + (*d - b'0') as u64;
+    }
+    n
+}
+
+fn hex_number(digits: &[u8]) -> u32
+    requires { IsRunOf is_ascii_hexdigit 0 8 digits.now }
+    ensures { result ≡ digits_value 16 digits.now }
+{
+    let mut n = 0;
+    for d in digits {
+        n = n * 16 + nibble(*d);
+    }
+    n
+}
+
+fn nibble(b: u8) -> u32
+    requires { IsTrue (is_ascii_hexdigit b) }
+    ensures value { result ≡ digit_value b }
+    ensures bound { result < 16 }
+{
+    if b < b'A' {
+        (b - b'0') as u32
+    } else if b < b'a' {
+        (b - 55) as u32
+    } else {
+        (b - 87) as u32
+    }
+}
+
+fn data_of(digits: &[u8]) -> ArrayVec<u8, 64>
+    requires { IsDataText 128 digits.now }
+    ensures { result.items ≡ bytes_spelled digits.now }
+{
+    let mut buffer = [0u8; 64];
+    let mut bytes = ArrayVec::new();
+    let n = digits.len() / 2;
+    let target = &mut buffer[..n];
+    decode(digits, target);
+    let _ = bytes.try_extend_from_slice(target);
+    bytes
+}
+
+fn decode(digits: &[u8], out: &mut [u8])
+    requires digits { IsDataText 128 digits.now }
+    requires room { length out.old ≡ length digits.now / 2 }
+    ensures { out.new ≡ bytes_spelled digits.now }
+{
+    let _ = hex::decode_to_slice(digits, out);
+}

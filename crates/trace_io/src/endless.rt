@@ -1,0 +1,76 @@
+//! A source that never ends, for tests of what stands on it.
+ghost use Rattle.std.specs.Prelude.{◌≡◌, ◌+◌, ⊤, replicate};
+ghost use Rattle.std.proofs.Common.{sym};
+ghost use Rattle.std.proofs.lemmas.List.{take-replicate};
+ghost use Rattle.std.proofs.Math.Nat.{le-add_right};
+
+use crate::device::{DeviceFault, Source};
+use std::marker::Model;
+
+/// Gives one byte at each read, the same again and again, and never ends.
+///
+/// It is a source by itself, since std's readers can't tell bytes without end. Where a reader of std is wanted,
+/// a [`Short`](crate::Short) round [`repeat`](std::io::repeat) gives the same bytes and tells none.
+#[derive(Drop)]
+pub struct Endless {
+    byte: u8,
+    reads: u64,
+    given: u64,
+}
+
+impl Model for Endless {
+    ghost use Rattle.trace_io.specs.Counted.{EndlessBytes};
+
+    ghost Value = { EndlessBytes };
+
+    ghost view = { λ e. record { byte = e.byte; reads = e.reads; given = e.given } };
+}
+
+impl Endless {
+    /// This byte without end. The counts begin at 0.
+    pub fn new(byte: u8) -> Self
+        ensures { result ≡ record { byte = byte; reads = 0; given = 0 } }
+    {
+        Endless {
+            byte,
+            reads: 0,
+            given: 0,
+        }
+    }
+}
+
+impl Source for Endless {
+    ghost tells = { λ _. ⊤ };
+
+    ghost front = { λ e k. replicate k e.byte };
+
+    ghost reads = { λ e. e.reads };
+
+    ghost given = { λ e. e.given };
+
+    ghost failures = { λ _. 0 };
+
+    ghost coherent = { λ e _ j k. sym (take-replicate j (j + k) e.byte (le-add_right j k)) };
+
+    fn read(&mut self, buf: &mut [u8]) -> Result<usize, DeviceFault> {
+        self.reads += 1;
+        if buf.is_empty() {
+            return Ok(0);
+        }
+        buf[0] = self.byte;
+        self.given += 1;
+        Ok(1)
+    }
+
+    fn reads(&self) -> u64 {
+        self.reads
+    }
+
+    fn given(&self) -> u64 {
+        self.given
+    }
+
+    fn failures(&self) -> u64 {
+        0
+    }
+}

@@ -1,0 +1,27 @@
+//! Where a log is read from, and where text is written to: devices that count.
+//!
+//! An engine reads from a [`Source`] and writes to a [`Target`]. Both say in their contracts which bytes they gave or took,
+//! and count what an engine promises about: calls, bytes and failures. [`Reading`] and [`Writing`] make them of std's
+//! readers and writers; [`Short`], [`FailsAt`], [`FailsAfter`], [`FullAfter`] and [`Endless`] are for tests of an engine.
+//!
+//! ```
+//! let mut reader = Reading::new(b"(1.000000) can0 7E0#00".as_slice());
+//! let mut buffer = [0; 8];
+//! assert_eq!(rt; reader.read(&mut buffer), Ok(8));
+//! assert_eq!(rt; (reader.reads(), reader.given(), reader.failures()), (1, 8, 0));
+//! ```
+#![tactic(auto)]
+
+mod device;
+mod endless;
+mod faulty;
+mod reader;
+#[cfg(test)]
+mod tests;
+mod writer;
+
+pub use device::{DeviceFault, Source, Target};
+pub use endless::Endless;
+pub use faulty::{FailsAfter, FailsAt, FullAfter, Short};
+pub use reader::Reading;
+pub use writer::Writing;

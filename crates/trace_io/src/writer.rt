@@ -1,0 +1,73 @@
+//! A writer of std as a target.
+ghost use Rattle.std.specs.Prelude.{◌≡◌, IsSome};
+ghost use Rattle.trace_io.specs.Stream.{told};
+
+use crate::device::{DeviceFault, Target};
+use std::io::Write;
+use std::marker::Model;
+
+/// A writer of std that counts. Its bytes are those of the writer inside, where that one tells them.
+///
+/// Any error of the writer inside is a failure, and so is a write that takes nothing of a piece with bytes.
+#[derive(Drop)]
+pub struct Writing<W> {
+    inner: W,
+    failures: u64,
+}
+
+impl<W> Model for Writing<W> {
+    ghost use Rattle.trace_io.specs.Counted.{CountedWriter};
+
+    ghost Value = { CountedWriter W };
+
+    ghost view = { λ w. record { inner = w.inner; failures = w.failures } };
+}
+
+impl<W> Writing<W> {
+    /// A writer that was not yet written to through this device: the count begins at 0.
+    pub fn new(inner: W) -> Self
+        ensures { result ≡ record { inner = inner; failures = 0 } }
+    {
+        Writing { inner, failures: 0 }
+    }
+
+    /// The writer inside, as the writes have left it.
+    pub fn into_inner(self) -> W
+        ensures { result ≡ self.inner }
+    {
+        let Writing { inner, .. } = self;
+        inner
+    }
+}
+
+impl<W: Write> Target for Writing<W> {
+    ghost tells = { λ w. IsSome (W.contents w.inner) };
+
+    ghost written = { λ w. told (W.contents w.inner) };
+
+    ghost failures = { λ w. w.failures };
+
+    fn write(&mut self, piece: &[u8]) -> Result<usize, DeviceFault> {
+        match self.inner.write(piece) {
+            Ok(n) if n > 0 || piece.is_empty() => Ok(n),
+            _ => {
+                self.failures += 1;
+                Err(DeviceFault)
+            }
+        }
+    }
+
+    fn flush(&mut self) -> Result<(), DeviceFault> {
+        match self.inner.flush() {
+            Ok(()) => Ok(()),
+            Err(_) => {
+                self.failures += 1;
+                Err(DeviceFault)
+            }
+        }
+    }
+
+    fn failures(&self) -> u64 {
+        self.failures
+    }
+}
