@@ -1,5 +1,5 @@
 -- What a function that reads a line may promise.
-use Rattle.std.proofs.Common.{◌≡◌, ℕ, List, [], Option, Some, None, Result, Ok, Err, refl, sym, ap, ◌∙◌}
+use Rattle.std.proofs.Common.{◌≡◌, ℕ, List, [], Option, Result, Ok, Err, sym, ap, ◌∙◌}
 use Rattle.std.specs.Prelude.{IfOk, IfErr, IsOkAnd}
 use Rattle.can_log.specs.declared.field.Stop.{Stop}
 use Rattle.can_log.specs.declared.field.Stop.TheVariants as stops

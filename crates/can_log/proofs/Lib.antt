@@ -8,4 +8,7 @@ pub mod LineReads
 pub mod Judging
 pub mod DigitValues
 pub mod LineLength
+pub mod LineFeeds
+pub mod RefusedPlaces
 pub mod ScannerSteps
+pub mod LogReads

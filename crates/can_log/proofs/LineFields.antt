@@ -1,14 +1,14 @@
 -- The law of each field, and of a line.
-use Rattle.std.proofs.Common.{◌≡◌, ℕ, zero, suc, ◌+◌, ◌-◌, ◌*◌, ◌%◌, ◌/◌, ◌<◌, ◌≤◌, Bool, true, false, cond, eqb, ltb, List, [], ◌∷◌, ◌++◌, length, take, drop, Option, Some, None, Result, Ok, Err, refl, sym, ap, subst, ◌∙◌, append_assoc, arith, inl, inr, ◌⊎◌, length-append, rules}
+use Rattle.std.proofs.Common.{◌≡◌, ℕ, ◌+◌, ◌-◌, ◌%◌, ◌<◌, ◌≤◌, Bool, true, false, List, [], ◌∷◌, ◌++◌, length, Option, Some, None, Err, refl, sym, ap, subst, ◌∙◌, append_assoc, arith, inl, inr, ◌⊎◌, length-append}
 use Rattle.std.specs.Prelude.{◌==◌, replicate}
-use Rattle.std.proofs.lemmas.Bool.{eqb-true, eq-eqb}
+use Rattle.std.proofs.lemmas.Bool.{eqb-true}
 use Rattle.std.proofs.lemmas.List.{append-nil, length-replicate}
 use Rattle.can_log.specs.declared.field.Class.{Class}
 use Rattle.can_log.specs.declared.field.Class.TheVariants.{Digit, Hex, Space, Visible, UpToEight, AboveEight, Mark}
-use Rattle.can_log.specs.FieldReader.{Trouble, short, refused, FieldRead, is_in, run_at, byte_at, both, either, seen, only, nothing_at}
+use Rattle.can_log.specs.FieldReader.{short, is_in, run_at, byte_at, both, only}
 use Rattle.can_log.specs.Line.{Body, classic, remote, fd}
-use Rattle.can_log.specs.LineReader.{stamp_at, place_at, is_identifier, identifier_at, is_even, data_at, raw_dlc_at, is_eight, classic_at, remote_at, fd_at, body_at, mark_at, end_at, Parts, frame_at, line_at}
-use Rattle.can_log.proofs.FieldLaws.{Follows, Takes, IsOpen, Refuses, CanEnd, Law, Fits, Both, both_law, Either, Starts, Misses, Apart, either_law, ok_is}
+use Rattle.can_log.specs.LineReader.{stamp_at, place_at, is_identifier, identifier_at, is_even, data_at, raw_dlc_at, is_eight, classic_at, remote_at, fd_at, body_at, mark_at, end_at, Parts, frame_at}
+use Rattle.can_log.proofs.FieldLaws.{Follows, CanEnd, Law, Both, both_law, Either, Starts, Misses, either_law}
 use Rattle.can_log.proofs.RunLaws.{AnyByte, tells, OneByte, byte_law, IsRun, AllIn, NotIn, run_law, run_shorts, run_takes, all_more}
 use Rattle.can_log.proofs.MoreFieldLaws.{weaken, Seen, seen_law, Only, only_law, only_short, Nothing, nothing_law, Never, IsEnd, end_law, exact_law}
 

@@ -1,10 +1,10 @@
 -- How long a line is, and what that says of the bytes so far.
-use Rattle.std.proofs.Common.{◌≡◌, ℕ, zero, suc, ◌+◌, ◌-◌, ◌*◌, ◌<◌, ◌≤◌, Bool, true, false, List, [], ◌∷◌, ◌++◌, length, take, drop, Option, Some, None, refl, sym, ap, subst, ◌∙◌, append_assoc, arith, inl, inr, ◌⊎◌, length-append}
-use Rattle.std.proofs.lemmas.List.{append-nil, length-take, take-append-drop, take_all}
+use Rattle.std.proofs.Common.{◌≡◌, ℕ, ◌+◌, ◌-◌, ◌≤◌, List, [], ◌∷◌, ◌++◌, length, take, drop, Option, Some, None, sym, ap, subst, ◌∙◌, append_assoc, arith, inl, inr, length-append}
+use Rattle.std.proofs.lemmas.List.{length-take, take-append-drop, take_all}
 use Rattle.std.proofs.lemmas.Bool.{cases_lt}
 use Rattle.can_log.specs.declared.scanner.Verdict.{Verdict}
 use Rattle.can_log.specs.declared.scanner.Verdict.TheVariants as verdict
-use Rattle.can_log.specs.Line.{Body, classic, remote, fd, LineSpelling, spell_raw_dlc, spell_body, spell_mark, spell_line, IsBody, IsMark, IsLineSpelling, IsLineText, LineMeans}
+use Rattle.can_log.specs.Line.{Body, classic, remote, fd, LineSpelling, spell_body, spell_mark, spell_line, IsBody, IsMark, IsLineSpelling, LineMeans}
 use Rattle.can_log.specs.declared.frame.Stamped.{Stamped}
 use Rattle.can_log.specs.Refused.{HasCompletion}
 use Rattle.can_log.specs.Judging.{Judged, IsRefusedAt, IsFirstRefused}

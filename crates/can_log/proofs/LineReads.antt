@@ -1,18 +1,18 @@
 -- What is read of a line is what it means, and a byte is refused exactly where no line begins so.
-use Rattle.std.proofs.Common.{◌≡◌, ℕ, zero, suc, ◌+◌, ◌<◌, ◌≤◌, Bool, true, false, List, [], ◌∷◌, ◌++◌, length, drop, Option, Some, None, Result, Ok, Err, refl, sym, ap, subst, ◌∙◌, append_assoc, arith, inl, inr, ◌⊎◌, length-append}
+use Rattle.std.proofs.Common.{◌≡◌, ℕ, Bool, List, [], ◌∷◌, ◌++◌, drop, Option, Some, None, Ok, Err, refl, sym, ap, subst, ◌∙◌, append_assoc, arith, inl, inr}
 use Rattle.std.specs.Prelude.{◌==◌}
 use Rattle.std.proofs.lemmas.Bool.{eqb-true}
 use Rattle.std.proofs.lemmas.List.{append-nil}
-use Rattle.can_log.specs.Line.{Body, classic, remote, fd, IsBody, IsDataText, LineSpelling, spell_line, IsLineSpelling, IsLineText, LineMeans}
+use Rattle.can_log.specs.Line.{Body, classic, remote, fd, IsBody, LineSpelling, spell_line, IsLineText, LineMeans}
 use Rattle.can_log.specs.declared.frame.Stamped.{Stamped}
 use Rattle.can_log.specs.Refused.{HasCompletion, HasNoCompletion}
 use Rattle.can_log.specs.Judging.{IsFirstRefused}
-use Rattle.can_log.specs.FieldReader.{Trouble, short, refused, FieldRead, ◌>>=◌, byte_at, both, either, seen}
+use Rattle.can_log.specs.FieldReader.{short, refused, FieldRead, ◌>>=◌, byte_at, both, either, seen}
 use Rattle.can_log.specs.LineReader.{Parts, stamp_at, place_at, identifier_at, body_at, mark_at, end_at, frame_at, line_at, stamped_by, meaning_by, AreParts, AreLineParts, FitsBody}
-use Rattle.can_log.proofs.FieldLaws.{Follows, IsOpen, Takes, Refuses, CanEnd, Law, Both, both_law, Either, Starts, Misses, either_law, which, bind_ok, bind_err, both_is}
-use Rattle.can_log.proofs.RunLaws.{AnyByte, OneByte, byte_law, byte_is, rest_is, value_is}
+use Rattle.can_log.proofs.FieldLaws.{IsOpen, CanEnd, Law, Both, both_law, Either, Starts, Misses, either_law, which, bind_ok, bind_err, both_is}
+use Rattle.can_log.proofs.RunLaws.{OneByte, byte_law, byte_is, rest_is, value_is}
 use Rattle.can_log.proofs.MoreFieldLaws.{Never, IsEnd, end_law, Seen, seen_law, seen_failed, end_done}
-use Rattle.can_log.proofs.LineFields.{Nested, FrameOn, parts_of, frame_law, any_follows, both_starts, end_begins, frame_on_begins}
+use Rattle.can_log.proofs.LineFields.{FrameOn, parts_of, frame_law, any_follows, both_starts, frame_on_begins}
 use Rattle.can_log.proofs.Spelling.{parts_in, tree_of, nested_of, to_tree, from_tree}
 
 abbrev Opened : Option Parts → List ℕ → Type 0
@@ -187,6 +187,12 @@ front_legal a b (more, s, few, m) = by (line_at a) refl
     by (Ok x) e = ([], meaning_by x.0, omega arith, subst (λ (z : List ℕ). LineMeans z (meaning_by x.0)) (sym (append-nil a)) (read_means a x.0 x.1 e))
     by (Err short) e = short_becomes a e
     by (Err (refused rest)) e =
-      let r = refused_first a rest e in
-      absurd (r.hopeless (r.after ++ (b ++ more)) s (subst (λ (z : List ℕ). LineMeans z s)
+        let r = refused_first a rest e in
+        absurd (r.hopeless (r.after ++ (b ++ more)) s (subst (λ (z : List ℕ). LineMeans z s)
         (append_assoc a b more ∙ ap (λ (z : List ℕ). z ++ (b ++ more)) r.parts ∙ append_assoc r.text (r.bad ∷ r.after) (b ++ more) ∙ sym (append_assoc r.text (r.bad ∷ []) (r.after ++ (b ++ more)))) m))
+
+-- Bytes that no completion of at most 16 makes a line, no completion does.
+pub sixteen_enough : (bytes : List ℕ) → HasNoCompletion bytes → (more : List ℕ) (what : Option Stamped) → LineMeans (bytes ++ more) what → ⊥
+sixteen_enough bytes none more what m =
+    let c = front_legal bytes more ([], what, omega arith, subst (λ (z : List ℕ). LineMeans z what) (sym (append-nil (bytes ++ more))) m) in
+    none c.0 c.1 c.2 c.3

@@ -1,14 +1,14 @@
 -- The laws of the smaller readers, and of readers whose value is seen or tested.
-use Rattle.std.proofs.Common.{◌≡◌, ℕ, zero, suc, ◌+◌, ◌-◌, ◌<◌, ◌≤◌, Bool, true, false, cond, eqb, ltb, List, [], ◌∷◌, ◌++◌, length, take, drop, Result, Ok, Err, refl, sym, ap, subst, ◌∙◌, append_assoc, arith, inl, inr, ◌⊎◌, length-append, rules}
+use Rattle.std.proofs.Common.{◌≡◌, ℕ, zero, suc, ◌≤◌, Bool, true, false, cond, List, [], ◌∷◌, ◌++◌, length, Ok, Err, refl, sym, ap, subst, ◌∙◌, arith, inl, inr, ◌⊎◌}
 use Rattle.std.specs.Prelude.{◌==◌}
-use Rattle.std.proofs.lemmas.Bool.{eqb-true, ltb-true, ltb-false, le-ltb}
+use Rattle.std.proofs.lemmas.Bool.{eqb-true}
 use Rattle.std.proofs.lemmas.List.{append-nil}
 use Rattle.can_log.specs.declared.field.Class.{Class}
-use Rattle.can_log.specs.FieldReader.{Trouble, short, refused, FieldRead, ◌>>=◌, is_in, stop_at, run_len, run_at, byte_at, both, either, seen, only, nothing_at}
+use Rattle.can_log.specs.FieldReader.{Trouble, short, refused, FieldRead, is_in, stop_at, run_len, run_at, seen, only, nothing_at}
 use Rattle.can_log.specs.LineReader.{end_at}
-use Rattle.can_log.proofs.FieldLaws.{Follows, Takes, IsOpen, Refuses, CanEnd, Law, Both, bind_ok, bind_err, ok_is, open_at_end, reads_again}
-use Rattle.can_log.proofs.Runs.{run_len-done, run_len-nil, run_len-in, run_len-out}
-use Rattle.can_log.proofs.RunLaws.{AnyByte, tells, IsRun, AllIn, NotIn, run_law, run_ok, value_is, rest_is, refused_is, run_takes, run_refuses, run_shorts}
+use Rattle.can_log.proofs.FieldLaws.{Follows, Takes, IsOpen, Refuses, CanEnd, Law, bind_ok, bind_err, ok_is, reads_again}
+use Rattle.can_log.proofs.Runs.{run_len-done, run_len-in}
+use Rattle.can_log.proofs.RunLaws.{AnyByte, tells, IsRun, AllIn, run_ok, value_is, rest_is, refused_is, run_takes, run_refuses, run_shorts}
 
 -- fewer bytes may follow, and more may be wanted
 pub weaken : {V : Type 0} {read : List ℕ → FieldRead V} {Form : V → List ℕ → Type 0} {may_follow : ℕ → Type 0} {k : ℕ} → (fewer : ℕ → Type 0) (most : ℕ)

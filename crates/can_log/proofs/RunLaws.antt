@@ -1,12 +1,12 @@
 -- The law of one byte, and of a run of bytes.
-use Rattle.std.proofs.Common.{◌≡◌, ℕ, zero, suc, ◌+◌, ◌-◌, ◌<◌, ◌≤◌, Bool, true, false, cond, eqb, ltb, List, [], ◌∷◌, ◌++◌, length, take, drop, Result, Ok, Err, refl, sym, ap, subst, ◌∙◌, append_assoc, arith, inl, inr, ◌⊎◌, length-append, rules}
-use Rattle.std.specs.Prelude.{nat_lt, ◌==◌, replicate}
+use Rattle.std.proofs.Common.{◌≡◌, ℕ, zero, suc, ◌-◌, ◌<◌, ◌≤◌, Bool, true, false, cond, ltb, List, [], ◌∷◌, ◌++◌, length, Ok, Err, refl, sym, ap, subst, ◌∙◌, arith, inl, inr, ◌⊎◌, length-append, rules}
+use Rattle.std.specs.Prelude.{◌==◌, replicate}
 use Rattle.std.specs.List.{AllByRecursion}
 use Rattle.std.proofs.lemmas.Bool.{eqb-true, ltb-true, ltb-false, le-ltb}
 use Rattle.std.proofs.lemmas.List.{append-nil, take_at, drop_at, length-replicate}
 use Rattle.can_log.specs.declared.field.Class.{Class}
-use Rattle.can_log.specs.FieldReader.{Trouble, short, refused, FieldRead, is_in, stop_at, run_len, run_at, byte_at}
-use Rattle.can_log.proofs.FieldLaws.{Follows, Takes, IsOpen, Refuses, CanEnd, Law, ok_is}
+use Rattle.can_log.specs.FieldReader.{short, refused, FieldRead, is_in, stop_at, run_len, run_at, byte_at}
+use Rattle.can_log.proofs.FieldLaws.{Follows, Takes, Refuses, CanEnd, Law, ok_is}
 use Rattle.can_log.proofs.Runs.{run_len-done, run_len-nil, run_len-in, run_len-out}
 
 -- any byte may follow

@@ -1,5 +1,5 @@
 -- How a run of bytes goes on.
-use Rattle.std.proofs.Common.{◌≡◌, ℕ, zero, suc, ◌+◌, ◌-◌, ◌<◌, ◌≤◌, Bool, true, false, cond, List, [], ◌∷◌, ◌++◌, length, get_or, drop, refl, sym, ap, ◌∙◌, arith}
+use Rattle.std.proofs.Common.{◌≡◌, ℕ, zero, suc, ◌+◌, ◌-◌, ◌<◌, true, false, List, [], ◌∷◌, length, get_or, drop, refl, arith}
 use Rattle.std.proofs.Math.Seq.{drop-cons, drop-length}
 use Rattle.can_log.specs.declared.field.Class.{Class}
 use Rattle.can_log.specs.FieldReader.{is_in, run_len}

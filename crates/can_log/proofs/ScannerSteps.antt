@@ -1,5 +1,5 @@
 -- What a scanner's answers rest on: line feeds in a piece, refused places, and how it stands next.
-use Rattle.std.proofs.Common.{◌≡◌, ◌≢◌, ℕ, zero, suc, ◌+◌, ◌-◌, ◌<◌, ◌≤◌, Bool, true, false, List, [], ◌∷◌, ◌++◌, length, get_or, take, drop, Option, Some, None, refl, sym, ap, subst, ◌∙◌, append_assoc, arith, inl, length-append}
+use Rattle.std.proofs.Common.{◌≡◌, ℕ, zero, suc, ◌+◌, ◌<◌, Bool, true, false, List, [], ◌∷◌, ◌++◌, length, get_or, take, drop, Option, Some, None, refl, sym, ap, subst, ◌∙◌, append_assoc, arith, inl}
 use Rattle.std.specs.Prelude.{◌==◌, option_map}
 use Rattle.std.proofs.Math.Seq.{drop-cons}
 use Rattle.std.proofs.lemmas.Bool.{eq-eqb, eqb-true}
@@ -14,16 +14,9 @@ use Rattle.can_log.specs.Refused.{NoLineFeed, HasCompletion, IsRefusedPlace, IsU
 use Rattle.can_log.specs.Scanning.{Place, Standing, Scans, ScansFrom, Finishes, FinishesFrom}
 use Rattle.can_log.specs.Judging.{IsRefusedAt, Judged}
 use Rattle.can_log.proofs.LineReads.{front_legal}
+use Rattle.can_log.proofs.LineFeeds.{clean_at}
 
 -- ---- line feeds
-
-pub clean_append : (a b : List ℕ) → NoLineFeed a → NoLineFeed b → NoLineFeed (a ++ b)
-clean_append [] b h k = k
-clean_append (x ∷ a) b h k = (h.0, clean_append a b h.1 k)
-
-clean_at : (a : List ℕ) (x : ℕ) (b : List ℕ) → NoLineFeed (a ++ x ∷ b) → x ≢ 10
-clean_at [] x b h = h.0
-clean_at (y ∷ a) x b h = clean_at a x b h.1
 
 -- the bytes before the first line feed
 pub clean_before : (n : ℕ) (bytes : List ℕ) → ((k : ℕ) → k < n → (get_or bytes k 0 == 10) ≡ true → ⊥) → NoLineFeed (take n bytes)

@@ -1,20 +1,19 @@
 -- The bytes that a line is read from are those of a tree, and the other way round.
-use Rattle.std.proofs.Common.{◌≡◌, ℕ, zero, suc, ◌+◌, ◌-◌, ◌*◌, ◌%◌, ◌/◌, ◌<◌, ◌≤◌, Bool, true, false, cond, eqb, ltb, List, [], ◌∷◌, ◌++◌, length, take, drop, Option, Some, None, Result, Ok, Err, refl, sym, ap, subst, ◌∙◌, append_assoc, arith, inl, inr, ◌⊎◌, length-append, rules}
-use Rattle.std.specs.Prelude.{◌==◌, ◌&&◌, ◌||◌, nat_lt, slice_index}
-use Rattle.std.specs.Char.{is_ascii_digit, is_ascii_hexdigit, digit_value}
+use Rattle.std.proofs.Common.{◌≡◌, ℕ, ◌+◌, ◌*◌, ◌%◌, ◌<◌, ◌≤◌, Bool, true, false, List, [], ◌∷◌, ◌++◌, length, drop, Option, Some, None, refl, sym, ap, subst, ◌∙◌, append_assoc, arith, inl, inr, ◌⊎◌}
+use Rattle.std.specs.Prelude.{◌==◌, ◌&&◌, ◌||◌, nat_lt}
+use Rattle.std.specs.Char.{is_ascii_hexdigit, digit_value}
 use Rattle.std.specs.Str.Parse.{digits_value}
 use Rattle.std.proofs.lemmas.Bool.{eqb-true, eq-eqb, ltb-true, ltb-false}
 use Rattle.std.proofs.lemmas.Bool.Decides.{nat_tests}
-use Rattle.std.proofs.lemmas.List.{append-nil, length-replicate}
+use Rattle.std.proofs.lemmas.List.{append-nil}
 use Rattle.can_log.specs.declared.field.Class.{Class}
-use Rattle.can_log.specs.declared.field.Class.TheVariants.{Digit, Hex, Space, Visible, UpToEight, AboveEight, Mark}
-use Rattle.can_log.specs.Line.{Body, classic, remote, fd, LineSpelling, spell_raw_dlc, spell_body, spell_mark, spell_line, IsRunOf, is_raw_dlc, IsDataText, IsBody, IsIdentifierText, IsGap, IsMark, IsLineSpelling, IsLineText}
+use Rattle.can_log.specs.declared.field.Class.TheVariants.{Hex, UpToEight}
+use Rattle.can_log.specs.Line.{Body, classic, remote, fd, LineSpelling, spell_raw_dlc, spell_body, spell_mark, spell_line, IsRunOf, is_raw_dlc, IsDataText, IsBody, IsIdentifierText, IsMark, IsLineSpelling, IsLineText}
 use Rattle.can_log.specs.FieldReader.{is_in}
 use Rattle.can_log.specs.LineReader.{is_identifier, is_even, is_eight, Parts}
-use Rattle.can_log.proofs.FieldLaws.{Both, Either}
-use Rattle.can_log.proofs.RunLaws.{tells, OneByte, IsRun, AllIn}
-use Rattle.can_log.proofs.MoreFieldLaws.{Seen, Only, Nothing, IsEnd}
-use Rattle.can_log.proofs.LineFields.{Stamp, Place, IdForm, DataForm, RawDlc, Dlc, ClassicForm, RemoteForm, FdForm, BodyForm, TailForm, Nested, FrameOn, parts_of, eight_is_id}
+use Rattle.can_log.proofs.RunLaws.{tells, IsRun, AllIn}
+use Rattle.can_log.proofs.MoreFieldLaws.{IsEnd}
+use Rattle.can_log.proofs.LineFields.{Stamp, Place, IdForm, DataForm, Dlc, BodyForm, TailForm, Nested, FrameOn, eight_is_id}
 
 run_of : {class : Class} {least most : ℕ} {v text : List ℕ} → IsRun class least most v text → IsRunOf (is_in class) least most v
 run_of r = record { each = r.each; enough = r.enough; few = r.few }

@@ -4,7 +4,9 @@ pub mod Line
 pub mod Refused
 pub mod Log
 pub mod Scanning
+pub mod WholeLog
 pub mod FieldReader
 pub mod LineReader
 pub mod Views
 pub mod Judging
+pub mod Laws

@@ -1,7 +1,7 @@
 -- A line of a candump log (can-utils, `candump -l` and `-L`): its parts as they are spelled, their bytes, which parts
 -- are legal, and what a line means.
 use Rattle.std.specs.Prelude.{◌≡◌, ℕ, ◌+◌, ◌*◌, ◌≤◌, ◌%◌, ◌⊎◌, ◌==◌, ◌||◌, ◌&&◌, Bool, nat_le, IsTrue, List, [], ◌∷◌, ◌++◌, length, Option, Some, None, ⊤, codes, if◌then◌else◌}
-use Rattle.std.specs.List.{AllByRecursion, concat}
+use Rattle.std.specs.List.{AllByRecursion}
 use Rattle.std.specs.Char.{is_ascii_digit, is_ascii_hexdigit, digit_value}
 use Rattle.std.specs.Int.{is_in_range}
 use Rattle.std.specs.Str.Parse.{digits_value}

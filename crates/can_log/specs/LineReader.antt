@@ -1,6 +1,6 @@
 -- A device of proof: a line read field by field, from left to right. The code reads so; what a line means is said by its
 -- parts and their bytes, and the laws of the readers make the two one.
-use Rattle.std.specs.Prelude.{◌≡◌, ℕ, ◌%◌, ◌&&◌, ◌||◌, Bool, true, false, List, [], ◌∷◌, length, Option, Some, None, Ok, Err, nat_lt, slice_index, ⊤, ◌==◌, if◌then◌else◌, ◌+◌, ◌*◌}
+use Rattle.std.specs.Prelude.{ℕ, ◌%◌, ◌&&◌, ◌||◌, Bool, true, false, List, [], ◌∷◌, length, Option, Some, None, Ok, Err, nat_lt, slice_index, ⊤, ◌==◌, if◌then◌else◌, ◌+◌, ◌*◌}
 use Rattle.std.specs.Char.{is_ascii_digit}
 use Rattle.std.specs.Str.Parse.{digits_value}
 use Rattle.can_log.specs.declared.field.Class.TheVariants.{Digit, Hex, Space, Visible, UpToEight, AboveEight, Mark}

@@ -3,7 +3,7 @@ use Rattle.std.specs.Prelude.{◌≡◌, ℕ, ◌+◌, ◌==◌, ◌⊎◌, List
 use Rattle.std.specs.List.{flat_map, onto_first}
 use Rattle.can_log.specs.declared.frame.Stamped.{Stamped}
 use Rattle.can_log.specs.Line.{LineMeans}
-use Rattle.can_log.specs.Refused.{NoLineFeed, IsRefusedPlace, IsUnfinishedAt}
+use Rattle.can_log.specs.Refused.{IsRefusedPlace, IsUnfinishedAt}
 
 -- the lines without their line feeds; a last part without bytes is no line
 abbrev pub log_lines : List ℕ → List (List ℕ)

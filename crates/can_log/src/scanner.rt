@@ -28,7 +28,10 @@ pub enum Scan {
         what: Option<Stamped>,
     },
     /// The refused place of the log. Lines are counted from 1, and columns are bytes, counted from 1.
-    Bad { line: u64, column: u32 },
+    Bad {
+        line: u64,
+        column: u32,
+    },
     /// The log has ended, and no line is unfinished.
     End,
 }

@@ -1,4 +1,4 @@
-use Rattle.std.proofs.Common.{◌-◌, ◌≡◌, ◌≤◌, length, ℕ, ◌+◌, ◌*◌, ◌<◌, drop}
+use Rattle.std.proofs.Common.{◌-◌, ◌≡◌, ◌≤◌, length, ◌+◌, drop}
 use Rattle.can_log.specs.FieldReader.{run_len}
 use Rattle.can_log.proofs.field.run_length.Given as goal
 

@@ -1,4 +1,4 @@
-use Rattle.std.proofs.Common.{◌≡◌, ◌*◌, ◌∙◌, ◌++◌, ℕ, List, [], length, arith, rules, ap}
+use Rattle.std.proofs.Common.{◌≡◌, ◌*◌, ◌∙◌, length, arith}
 use Rattle.can_log.specs.Line.{bytes_spelled}
 use Rattle.can_log.proofs.DigitValues.{bytes_len, from_ok}
 use Rattle.can_log.proofs.meaning.data_of.Goals as goal

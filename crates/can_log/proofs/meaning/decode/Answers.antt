@@ -1,4 +1,4 @@
-use Rattle.std.proofs.Common.{◌≡◌, ℕ, List, length, Ok, Err, arith, rules}
+use Rattle.std.proofs.Common.{◌≡◌, length, Ok, Err}
 use Rattle.std.specs.Prelude.{MatchResult}
 use Rattle.hex.specs.Hex.{decode_sized}
 use Rattle.can_log.proofs.DigitValues.{decode_fits}

@@ -1,4 +1,4 @@
-use Rattle.std.proofs.Common.{arith, rules}
+use Rattle.std.proofs.Common.{arith}
 use Rattle.can_log.proofs.DigitValues.{next_hex, one_more}
 use Rattle.can_log.proofs.meaning.hex_number.Goals as goal
 

@@ -1,4 +1,4 @@
-use Rattle.std.proofs.Common.{arith, rules, ◌∙◌}
+use Rattle.std.proofs.Common.{arith}
 use Rattle.can_log.proofs.DigitValues.{next_digit, one_more, ten_taken}
 use Rattle.can_log.proofs.meaning.number.Goals as goal
 

@@ -1,4 +1,4 @@
-use Rattle.std.proofs.Common.{◌++◌, ◌∷◌, [], ◌+◌, length, List, ℕ, arith, rules, subst, length-append, sym}
+use Rattle.std.proofs.Common.{◌++◌, ◌∷◌, [], ℕ, arith, subst, length-append}
 use Rattle.can_log.specs.Refused.{IsRefusedPlace}
 use Rattle.can_log.proofs.LineLength.{becomes_length}
 use Rattle.can_log.proofs.ScannerSteps.{place_of, place_extends, place_end}

@@ -1,4 +1,4 @@
-use Rattle.std.proofs.Common.{◌≡◌, ◌∙◌, ◌++◌, ◌+◌, ◌-◌, ◌≤◌, ℕ, List, [], length, take, arith, rules, ap, subst, length-append, sym, refl}
+use Rattle.std.proofs.Common.{◌≡◌, ◌∙◌, ◌++◌, ◌-◌, ℕ, List, length, take, arith, ap, subst, refl}
 use Rattle.std.proofs.lemmas.List.{length-take}
 use Rattle.can_log.specs.Judging.{Judged}
 use Rattle.can_log.proofs.DigitValues.{from_ok}

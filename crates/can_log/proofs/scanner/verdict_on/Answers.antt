@@ -1,4 +1,4 @@
-use Rattle.std.proofs.Common.{arith, rules}
+use Rattle.std.proofs.Common.{arith}
 use Rattle.can_log.proofs.LineLength.{refused_column}
 use Rattle.can_log.proofs.scanner.verdict_on.Goals as goal
 

@@ -1,4 +1,4 @@
-use Rattle.std.proofs.Common.{◌≡◌, ◌+◌, List, ℕ, ◌<◌, length, subst, None, sym}
+use Rattle.std.proofs.Common.{◌+◌, List, ℕ, ◌<◌, length, subst}
 use Rattle.can_log.specs.Judging.{Judged}
 use Rattle.can_log.specs.Scanning.{Standing}
 use Rattle.can_log.proofs.ScannerSteps.{not_meant, nonempty, unfinished, finish_refuses, none_seen}
@@ -12,7 +12,7 @@ returns-in_default-verdict_on c =
     let at = unfinished line c.len.result c.len.ensures.value c.self.invariant.legal (not_meant line c.verdict_on.result j c.in_default-verdict_on.not-Means c.self.invariant.legal) in
     record {
       answer = finish_refuses c.args.self.now c.refuse.new.self c.refuse.result (c.len.result + 1)
-      (rw (← c.self.view_is) (none_seen _ c.self.inside.refused c.in_default.is)) c.refuse.ensures.result c.refuse.ensures.place
-      (subst (λ (s : Standing). 0 < length s.line) c.self.view_is (nonempty line c.is_empty.result c.is_empty.ensures c.if-is_empty.false))
-      (subst (λ (s : Standing). IsUnfinishedAt s.line (c.len.result + 1)) c.self.view_is at);
+          (rw (← c.self.view_is) (none_seen _ c.self.inside.refused c.in_default.is)) c.refuse.ensures.result c.refuse.ensures.place
+          (subst (λ (s : Standing). 0 < length s.line) c.self.view_is (nonempty line c.is_empty.result c.is_empty.ensures c.if-is_empty.false))
+          (subst (λ (s : Standing). IsUnfinishedAt s.line (c.len.result + 1)) c.self.view_is at);
     }

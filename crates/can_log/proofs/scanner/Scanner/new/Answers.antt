@@ -1,4 +1,4 @@
-use Rattle.std.proofs.Common.{arith, rules, subst, sym, List, ℕ}
+use Rattle.std.proofs.Common.{arith, subst, sym, List, ℕ}
 use Rattle.can_log.specs.Judging.{StandsWell}
 use Rattle.can_log.proofs.ScannerSteps.{empty_legal}
 use Rattle.can_log.proofs.scanner.Scanner.new.Goals as goal

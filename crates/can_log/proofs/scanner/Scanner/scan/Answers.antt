@@ -1,10 +1,11 @@
-use Rattle.std.proofs.Common.{◌≡◌, ◌++◌, ◌+◌, ◌≤◌, ◌<◌, length, take, List, ℕ, arith, rules, subst, length-append, sym, ap, ◌∙◌, None, Option}
+use Rattle.std.proofs.Common.{◌≡◌, ◌++◌, take, List, ℕ, arith, subst, length-append, sym}
 use Rattle.can_log.specs.Line.{LineMeans}
 use Rattle.can_log.specs.Refused.{NoLineFeed, HasCompletion, IsRefusedPlace}
 use Rattle.can_log.specs.Scanning.{Standing}
 use Rattle.can_log.proofs.DigitValues.{from_ok}
 use Rattle.can_log.proofs.LineLength.{becomes_length}
-use Rattle.can_log.proofs.ScannerSteps.{clean_append, clean_before, clean_all, scan_means, scan_refuses, scan_goes_on, place_in, none_seen}
+use Rattle.can_log.proofs.LineFeeds.{clean_append}
+use Rattle.can_log.proofs.ScannerSteps.{clean_before, clean_all, scan_means, scan_refuses, scan_goes_on, place_in, none_seen}
 use Rattle.can_log.proofs.scanner.Scanner.scan.Goals as goal
 
 pub ended-requires-clause-clean : goal.ended-requires-clause-clean
@@ -33,7 +34,7 @@ returns-in-Ok c =
     let means : LineMeans (c.self.inside.line.items ++ take c.in-Some-memchr.at c.args.piece.now) c.in-Ok.what = subst (λ (z : List ℕ). LineMeans (z ++ take c.in-Some-memchr.at c.args.piece.now) c.in-Ok.what) c.as_slice.ensures.value c.in-Ok.ensures.ok in
     record {
       answer = rw (← c.self.view_is) (scan_means c.self.inside.lines c.self.inside.taken c.self.inside.line.items c.clear.new.self.items _ c.args.piece.now c.in-Some-memchr.at c.in-Ok.what (none_seen _ c.self.inside.refused c.in_default.is) c.clear.ensures m.0.high m.1
-      (clean_before c.in-Some-memchr.at c.args.piece.now (λ k lt e. m.0.before k (omega arith) lt e)) means);
+          (clean_before c.in-Some-memchr.at c.args.piece.now (λ k lt e. m.0.before k (omega arith) lt e)) means);
     }
 
 pub returns-in-Err : goal.returns-in-Err
@@ -44,8 +45,8 @@ returns-in-Err c =
     (subst (λ (z : List ℕ). IsRefusedPlace ((z ++ take c.in-Some-memchr.at c.args.piece.now) ++ _) c.in-Err.column) c.as_slice.ensures.value c.in-Err.ensures.err) in
     record {
       answer = scan_refuses c.args.self.now c.refuse.new.self c.args.piece.now c.refuse.result c.in-Err.column
-      (rw (← c.self.view_is) (none_seen _ c.self.inside.refused c.in_default.is)) c.refuse.ensures.result c.refuse.ensures.place
-      (subst (λ (s : Standing). IsRefusedPlace (s.line ++ c.args.piece.now) c.in-Err.column) c.self.view_is place);
+          (rw (← c.self.view_is) (none_seen _ c.self.inside.refused c.in_default.is)) c.refuse.ensures.result c.refuse.ensures.place
+          (subst (λ (s : Standing). IsRefusedPlace (s.line ++ c.args.piece.now) c.in-Err.column) c.self.view_is place);
     }
 
 pub returns-in-None-refused : goal.returns-in-None-refused
@@ -55,5 +56,5 @@ returns-in-None-refused c =
     let is : c.try_extend_from_slice.new.self.items ≡ c.self.inside.line.items ++ c.args.piece.now = from_ok c.try_extend_from_slice.result c.try_extend_from_slice.ensures.ok room in
     record {
       answer = rw (← c.self.view_is) (scan_goes_on c.self.inside.lines c.self.inside.taken c.self.inside.line.items c.try_extend_from_slice.new.self.items _ c.args.piece.now (none_seen _ c.self.inside.refused c.in_default.is) is
-      (clean_all c.args.piece.now (λ k lt e. c.in-None.ensures k (omega arith) lt e)) legal);
+          (clean_all c.args.piece.now (λ k lt e. c.in-None.ensures k (omega arith) lt e)) legal);
     }

@@ -1,0 +1,5 @@
+use Rattle.can_log.proofs.LogReads.{finish_reads_end}
+use Rattle.can_log.proofs.laws.finish_reads_end.Goals as goal
+
+pub returns : goal.returns
+returns c = finish_reads_end

@@ -1,0 +1,5 @@
+use Rattle.can_log.proofs.RefusedPlaces.{refused_log_means_nothing}
+use Rattle.can_log.proofs.laws.refused_log_means_nothing.Goals as goal
+
+pub returns : goal.returns
+returns c = refused_log_means_nothing

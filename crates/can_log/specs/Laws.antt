@@ -1,0 +1,54 @@
+-- What holds of lines and logs, whoever reads them.
+use Rattle.std.specs.Prelude.{◌≡◌, ℕ, ◌≤◌, List, [], ◌∷◌, ◌++◌, Option, length}
+use Rattle.std.specs.List.{concat}
+use Rattle.can_log.specs.declared.scanner.Scan.{Scan}
+use Rattle.can_log.specs.declared.frame.Stamped.{Stamped}
+use Rattle.can_log.specs.Line.{LineMeans}
+use Rattle.can_log.specs.Refused.{NoLineFeed, HasCompletion, HasNoCompletion}
+use Rattle.can_log.specs.Log.{LogMeans, IsRefusedIn}
+use Rattle.can_log.specs.Scanning.{Standing, Scans, Finishes}
+use Rattle.can_log.specs.WholeLog.{at_start, StandsAfter, ReadsOn, ReadsEnd, ScansAll, told, TellsLog}
+
+-- a line means at most one thing
+abbrev pub LineMeansAtMostOne : Type 0
+LineMeansAtMostOne = (bytes : List ℕ) (what other : Option Stamped) → LineMeans bytes what → LineMeans bytes other → what ≡ other
+
+-- a line that means something holds no line feed
+abbrev pub LineHasNoLineFeed : Type 0
+LineHasNoLineFeed = (bytes : List ℕ) (what : Option Stamped) → LineMeans bytes what → NoLineFeed bytes
+
+-- a line, with its carriage return, has at most 223 bytes
+abbrev pub LineIsShort : Type 0
+LineIsShort = (bytes : List ℕ) (what : Option Stamped) → LineMeans bytes what → length bytes ≤ 223
+
+-- each front of bytes that have a completion has one
+abbrev pub FrontHasCompletion : Type 0
+FrontHasCompletion = (front more : List ℕ) → HasCompletion (front ++ more) → HasCompletion front
+
+-- sixteen bytes are enough: bytes that no completion of at most 16 makes a line, no completion does
+abbrev pub SixteenAreEnough : Type 0
+SixteenAreEnough = (bytes : List ℕ) → HasNoCompletion bytes → (more : List ℕ) (what : Option Stamped) → ¬ LineMeans (bytes ++ more) what
+
+-- a log has at most one refused place
+abbrev pub RefusedPlaceIsOne : Type 0
+RefusedPlaceIsOne = (log : List ℕ) (line column other_line other_column : ℕ) → IsRefusedIn log line column → IsRefusedIn log other_line other_column
+    → (line ≡ other_line) × (column ≡ other_column)
+
+-- a log with a refused place has no meaning
+abbrev pub RefusedLogMeansNothing : Type 0
+RefusedLogMeansNothing = (log : List ℕ) (line column : ℕ) (whats : List (Option Stamped)) → IsRefusedIn log line column → ¬ LogMeans log whats
+
+-- an answer on a piece tells what follows these bytes of a log
+abbrev pub ScanReadsOn : Type 0
+ScanReadsOn = (bytes : List ℕ) (whats : List (Option Stamped)) (piece : List ℕ) (old new : Standing) (answer : Scan) → StandsAfter bytes whats old → Scans old piece answer new
+    → ReadsOn bytes whats piece answer new
+
+-- the answer at the end tells what the whole log means, or where it is refused
+abbrev pub FinishReadsEnd : Type 0
+FinishReadsEnd = (log : List ℕ) (whats : List (Option Stamped)) (old new : Standing) (answer : Scan) → StandsAfter log whats old → Finishes old answer new
+    → ReadsEnd log whats answer
+
+-- Over any pieces, with a last `finish`, a scanner tells all of the log that they make, and nothing else.
+abbrev pub ScanningReadsTheLog : Type 0
+ScanningReadsTheLog = (pieces : List (List ℕ)) (answers : List Scan) (last : Scan) (between new : Standing) → ScansAll at_start pieces answers between → Finishes between last new
+    → TellsLog (concat pieces) (told (answers ++ last ∷ []))

@@ -1,0 +1,54 @@
+//! What holds of lines and logs. A law is a call without a body: a proof that needs it calls it, and nothing runs.
+
+ghost use Rattle.can_log.specs.Laws.{LineMeansAtMostOne, LineHasNoLineFeed, LineIsShort, FrontHasCompletion, SixteenAreEnough, RefusedPlaceIsOne, RefusedLogMeansNothing, ScanReadsOn, FinishReadsEnd, ScanningReadsTheLog};
+
+/// A line means at most one thing.
+pub fn line_means_at_most_one()
+    ensures { LineMeansAtMostOne }
+{}
+
+/// A line that means something holds no line feed.
+pub fn line_has_no_line_feed()
+    ensures { LineHasNoLineFeed }
+{}
+
+/// A line, with its carriage return, has at most 223 bytes.
+pub fn line_is_short()
+    ensures { LineIsShort }
+{}
+
+/// Each front of bytes that have a completion has one.
+pub fn front_has_completion()
+    ensures { FrontHasCompletion }
+{}
+
+/// Sixteen bytes are enough: bytes that no completion of at most 16 makes a line, no completion does.
+pub fn sixteen_are_enough()
+    ensures { SixteenAreEnough }
+{}
+
+/// A log has at most one refused place.
+pub fn refused_place_is_one()
+    ensures { RefusedPlaceIsOne }
+{}
+
+/// A log with a refused place has no meaning.
+pub fn refused_log_means_nothing()
+    ensures { RefusedLogMeansNothing }
+{}
+
+/// Each answer of [`Scanner::scan`](crate::Scanner::scan) tells what follows the bytes of the log so far.
+pub fn scan_reads_on()
+    ensures { ScanReadsOn }
+{}
+
+/// The answer of [`Scanner::finish`](crate::Scanner::finish) tells what the whole log means, or where it is refused.
+pub fn finish_reads_end()
+    ensures { FinishReadsEnd }
+{}
+
+/// Over any pieces, with a last `finish`, a scanner answers the lines of the log that the pieces make, numbered from 1;
+/// or those before its refused place, and the place. How the log is cut plays no part.
+pub fn scanning_reads_the_log()
+    ensures { ScanningReadsTheLog }
+{}
