@@ -12,3 +12,9 @@ pub mod LineFeeds
 pub mod RefusedPlaces
 pub mod ScannerSteps
 pub mod LogReads
+pub mod AllElements
+pub mod Replacing
+pub mod CanonicalDigits
+pub mod CanonicalData
+pub mod LogLines
+pub mod CanonicalLines

@@ -3,6 +3,10 @@ pub mod Frame
 pub mod Line
 pub mod Refused
 pub mod Log
+pub mod LogLaws
+pub mod Digits
+pub mod Canonical
+pub mod CanonicalLaws
 pub mod Scanning
 pub mod WholeLog
 pub mod FieldReader

@@ -1,0 +1,5 @@
+use Rattle.can_log.proofs.CanonicalLines.{canonical_line_length}
+use Rattle.can_log.proofs.laws.canonical_line_length.Goals as goal
+
+pub returns : goal.returns
+returns c = canonical_line_length

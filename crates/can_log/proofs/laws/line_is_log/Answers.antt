@@ -1,0 +1,5 @@
+use Rattle.can_log.proofs.LogLines.{line_is_log}
+use Rattle.can_log.proofs.laws.line_is_log.Goals as goal
+
+pub returns : goal.returns
+returns c = line_is_log

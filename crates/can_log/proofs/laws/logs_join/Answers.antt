@@ -1,0 +1,5 @@
+use Rattle.can_log.proofs.LogLines.{logs_join}
+use Rattle.can_log.proofs.laws.logs_join.Goals as goal
+
+pub returns : goal.returns
+returns c = logs_join
