@@ -12,12 +12,13 @@ use Rattle.can_log.specs.declared.frame.Dir.{Dir}
 use Rattle.can_log.specs.declared.frame.Id.{Id}
 use Rattle.can_log.specs.declared.frame.Stamped.{Stamped}
 use Rattle.can_log.specs.declared.frame.Kind.TheVariants as kind
+use Rattle.can_log.proofs.AllElements.{AllByRecursion-append}
 use Rattle.can_log.proofs.Spelling.{hex_value}
 use Rattle.trace_canon.specs.Settings.{Settings, direction_of}
 use Rattle.trace_canon.specs.Trace.{Entry, trace_from}
 use Rattle.trace_canon.specs.Messages.{Message, single_message, messages}
 use Rattle.trace_canon.specs.CanonicalLog.{padded_frame}
-use Rattle.trace_canon.proofs.EachElement.{each_front, each_append, each_copy}
+use Rattle.trace_canon.proofs.EachElement.{AllByRecursion-front, AllByRecursion-replicate}
 use Rattle.trace_canon.proofs.SingleFrames.{held, found}
 
 abbrev pub AreBytes : List ℕ → Type 0
@@ -59,7 +60,7 @@ held_is_short d frame bytes is small =
     let all = length-append bytes single.padding in
     let short = single.short in
     let each = subst AreBytes single.parts small in
-    record { some = single.some; few = omega arith; bytes = each_front (λ b. b < 256) bytes single.padding each.1 }
+    record { some = single.some; few = omega arith; bytes = AllByRecursion-front (λ b. b < 256) bytes single.padding each.1 }
 
 one_more_message : (entry : Entry) (rest : List Entry) → AreBytes entry.frame.bytes → AllByRecursion IsShort (messages rest)
     → AllByRecursion IsShort (messages (entry ∷ rest))
@@ -98,7 +99,7 @@ length_padded bytes few = simp (length-append, length-replicate) (omega arith)
 pub padded_are_bytes : (bytes : List ℕ) → length bytes ≤ 7 → AreBytes bytes → AreBytes (padded_frame bytes)
 unfolding padded_frame
 padded_are_bytes bytes few small =
-    (omega arith, each_append (λ b. b < 256) bytes (replicate (7 - length bytes) 204) small (each_copy (λ b. b < 256) (7 - length bytes) 204 (omega arith)))
+    (omega arith, AllByRecursion-append (λ b. b < 256) bytes (replicate (7 - length bytes) 204) small (AllByRecursion-replicate (λ b. b < 256) (7 - length bytes) 204 (omega arith)))
 
 -- the canonical frame of a message holds it
 pub padded_is_held : (i : Id) (message : Message) → IsShort message

@@ -26,6 +26,8 @@ mod gathering;
 pub mod laws;
 mod single;
 mod summary;
+#[cfg(test)]
+mod tests;
 
 pub use config::{Config, LARGEST_LIMIT};
 pub use engine::normalise;
