@@ -2,15 +2,15 @@
 ghost use Rattle.std.specs.Prelude.{◌≡◌, ℕ, ◌+◌, ◌^◌, ◌<◌, ◌≤◌, List, ◌++◌, length, take, IfOk, OnErr, MatchResult};
 ghost use Rattle.trace_io.specs.Stream.{IsCoherent, Continues, IsOver, SameFronts};
 
-/// A device failed at a call. Which way it failed is not told.
+/// A device failed at a call. The kind of the failure is not kept.
 #[derive(Clone, Copy, Debug, PartialEq, Eq)]
 pub struct DeviceFault;
 
 /// Gives bytes, and counts the calls, the bytes and the failures.
 ///
-/// Generic code knows a source by what its impl says of four words: `tells`, whether it says which bytes come; `front`, the
-/// first so many of the bytes still to come; and the three counts. A source that has no end is told by its fronts too.
-/// The counts are `u64`s: a caller keeps each of them below 2^63.
+/// A contract over any source names what the impl says of it: whether it `tells` its bytes; its `front`, the first so many of
+/// the bytes still to come, by which a source without end is told too; and its counts. They are `u64`s, and whoever reads
+/// keeps each of them below 2^63.
 pub trait Source {
     /// The source says which bytes come. It may not, as a socket does not.
     ghost tells: { Self → Type 0 };
@@ -65,8 +65,8 @@ pub trait Source {
 
 /// Takes bytes, and counts the failures.
 ///
-/// Generic code knows a target by what its impl says of three words: `tells`, whether it says which bytes it took; `written`,
-/// all bytes that it holds; and `failures`, a `u64` that a caller keeps below 2^63.
+/// A contract over any target names what the impl says of it: whether it `tells` its bytes; what it has `written`, all bytes
+/// that it holds; and its `failures`, a `u64` that whoever writes keeps below 2^63.
 pub trait Target {
     /// The target says which bytes it took. It may not, as a socket does not.
     ghost tells: { Self → Type 0 };

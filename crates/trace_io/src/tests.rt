@@ -2,6 +2,7 @@
 use crate::{
     DeviceFault, Endless, FailsAfter, FailsAt, FullAfter, Reading, Short, Source, Target, Writing,
 };
+use std::io;
 use std::io::ErrorKind;
 
 #[test]
@@ -120,4 +121,11 @@ fn gives_a_byte_without_end(rt: HostRuntime) {
         (source.reads(), source.given(), source.failures()),
         (3, 2, 0)
     );
+    let mut reader = Reading::new(Short {
+        inner: io::repeat(b'\n'),
+        most: 1,
+    });
+    assert_eq!(rt; reader.read(&mut buffer), Ok(1));
+    assert_eq!(rt; reader.read(&mut buffer), Ok(1));
+    assert_eq!(rt; (reader.reads(), reader.given()), (2, 2));
 }
