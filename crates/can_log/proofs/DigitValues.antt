@@ -68,7 +68,7 @@ all_take P zero xs each = tt
 all_take P (suc n) [] each = tt
 all_take P (suc n) (x ∷ xs) each = (each.0, all_take P n xs each.1)
 
-abbrev AreDigits : List ℕ → Type 0
+abbrev pub AreDigits : List ℕ → Type 0
 AreDigits = AllByRecursion (λ b. is_ascii_digit b ≡ true)
 
 abbrev AreHex : List ℕ → Type 0
@@ -83,15 +83,22 @@ nine_digits ds each few = below_ten 0 9 ds (all_map (λ b. is_ascii_digit b ≡ 
 pub seven_hex : (ds : List ℕ) → AreHex ds → length ds ≤ 7 → digits_value 16 ds < 0x10000000
 seven_hex ds each few = below_sixteen 0 7 ds (all_map (λ b. is_ascii_hexdigit b ≡ true) (λ b. digit_value b < 16) (λ b h. (hex_value b h).0) ds each) few
 
-digit_is : (b : ℕ) → is_ascii_digit b ≡ true → (b - 48 ≡ digit_value b) × (digit_value b < 10) × (48 ≤ b)
+pub digit_is : (b : ℕ) → is_ascii_digit b ≡ true → (b - 48 ≡ digit_value b) × (digit_value b < 10) × (48 ≤ b)
 digit_is b h = grind (arith, nat_tests)
 
--- what a loop over digits knows of the next one
-pub next_digit : (ds : List ℕ) (i n : ℕ) → AreDigits ds → length ds ≤ 10 → i < length ds → n ≡ digits_value 10 (take i ds)
-    → (n < 1000000000) × (get_or ds i 0 - 48 ≡ digit_value (get_or ds i 0)) × (digit_value (get_or ds i 0) < 10) × (48 ≤ get_or ds i 0)
-next_digit ds i n each few lt e =
-    let d = digit_is (get_or ds i 0) (all_at (λ b. is_ascii_digit b ≡ true) ds i each lt) in
-    (rw e (nine_digits (take i ds) (all_take (λ b. is_ascii_digit b ≡ true) i ds each) (omega (arith, length-take i ds))), d.0, d.1, d.2)
+-- the value of digits that are one fewer than ten
+pub digits_so_far : (bytes : List ℕ) (n value : ℕ) → AreDigits (take n bytes) → n < 10 → value ≡ digits_value 10 (take n bytes) → value < 1000000000
+digits_so_far bytes n value each few e = rw e (nine_digits (take n bytes) each (omega (arith, length-take n bytes)))
+
+pub digits_in_all : (bytes : List ℕ) (n value : ℕ) → AreDigits (take n bytes) → n ≤ 10 → value ≡ digits_value 10 (take n bytes) → value < 10000000000
+digits_in_all bytes n value each few e = rw e (ten_digits (take n bytes) each (omega (arith, length-take n bytes)))
+
+digits_push : (digits : List ℕ) (b : ℕ) → AreDigits digits → is_ascii_digit b ≡ true → AreDigits (digits ++ b ∷ [])
+digits_push [] b each h = (h, tt)
+digits_push (d ∷ digits) b each h = (each.0, digits_push digits b each.1 h)
+
+pub digits_more : (bytes : List ℕ) (n : ℕ) → n < length bytes → AreDigits (take n bytes) → is_ascii_digit (get_or bytes n 0) ≡ true → AreDigits (take (n + 1) bytes)
+digits_more bytes n lt each h = rw (take_more bytes n 0 lt) (digits_push (take n bytes) (get_or bytes n 0) each h)
 
 pub one_more : (r : ℕ) (ds : List ℕ) (i n d : ℕ) → i < length ds → n ≡ digits_value r (take i ds) → d ≡ digit_value (get_or ds i 0) → n * r + d ≡ digits_value r (take (i + 1) ds)
 one_more r ds i n d lt e k =
@@ -100,9 +107,6 @@ one_more r ds i n d lt e k =
 
 pub next_hex : (ds : List ℕ) (i n : ℕ) → AreHex ds → length ds ≤ 8 → i < length ds → n ≡ digits_value 16 (take i ds) → n < 0x10000000
 next_hex ds i n each few lt e = rw e (seven_hex (take i ds) (all_take (λ b. is_ascii_hexdigit b ≡ true) i ds each) (omega (arith, length-take i ds)))
-
-pub ten_taken : (i : ℕ) (ds : List ℕ) → AreDigits ds → length ds ≤ 10 → digits_value 10 (take i ds) < 10000000000
-ten_taken i ds each few = ten_digits (take i ds) (all_take (λ b. is_ascii_digit b ≡ true) i ds each) (omega (arith, length-take i ds))
 
 -- ---- pairs of digits
 

@@ -6,6 +6,7 @@ pub mod LineFields
 pub mod Spelling
 pub mod LineReads
 pub mod Judging
+pub mod HexTable
 pub mod DigitValues
 pub mod LineLength
 pub mod LineFeeds

@@ -23,7 +23,7 @@ mark_of None = None
 mark_of (Some p) = Some (p.0.now, p.1.now)
 
 abbrev pub parts_of : Parts → reader.Parts
-parts_of p = record { seconds = p.seconds.now; micros = p.micros.now; identifier = p.identifier.now; body = body_of p.body }
+parts_of p = record { seconds = p.seconds.digits.now; micros = p.micros.digits.now; identifier = p.identifier.now; body = body_of p.body }
 
 abbrev pub line_parts_of : Option Parts → Option reader.Parts
 line_parts_of None = None

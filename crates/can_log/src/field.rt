@@ -1,7 +1,11 @@
 //! What the fields of a line are made of: runs of bytes of one class, and single bytes.
 
-ghost use Rattle.std.specs.Prelude.{◌≡◌, ◌≤◌, length};
+ghost use Rattle.std.specs.Prelude.{◌≡◌, ◌<◌, ◌≤◌, ◌^◌, length, take};
+ghost use Rattle.std.specs.Str.Parse.{digits_value};
+ghost use Rattle.can_log.specs.declared.field.Class.TheVariants.{Digit};
 ghost use Rattle.can_log.specs.FieldReader.{Gives, trouble_of, stop_at, is_in, run_len, run_at, byte_at};
+
+use crate::hexadecimal::{are_hex_digits, is_hex_digit};
 
 /// Why a field can't be read.
 #[derive(Clone, Copy)]
@@ -31,7 +35,7 @@ impl Class {
     {
         match self {
             Class::Digit => b.is_ascii_digit(),
-            Class::Hex => b.is_ascii_hexdigit(),
+            Class::Hex => is_hex_digit(b),
             Class::Space => b == b' ',
             Class::Visible => b >= 33 && b <= 126,
             Class::UpToEight => b >= b'0' && b <= b'8',
@@ -48,6 +52,10 @@ fn run_length(class: Class, most: usize, bytes: &[u8]) -> usize
     ensures value { result ≡ run_len class most bytes.now }
     ensures fits { result ≤ length bytes.now }
 {
+    // The data of a frame mostly ends its line.
+    if matches!(class, Class::Hex) && bytes.len() <= most && are_hex_digits(bytes) {
+        return bytes.len();
+    }
     let mut n = 0;
     while n < most && n < bytes.len() && class.contains(bytes[n]) {
         n += 1;
@@ -56,6 +64,7 @@ fn run_length(class: Class, most: usize, bytes: &[u8]) -> usize
 }
 
 /// Where a field needs a byte that `bytes` don't begin with.
+#[inline(always)]
 pub(crate) fn stop_of(bytes: &[u8]) -> Stop<'_>
     ensures { trouble_of result ≡ stop_at bytes.now }
 {
@@ -83,6 +92,52 @@ pub(crate) fn run_of(
         return Err(stop_of(rest));
     }
     Ok((front, rest))
+}
+
+/// Decimal digits of a line, and their value.
+#[derive(Clone, Copy)]
+pub(crate) struct Number<'a> {
+    digits: &'a [u8],
+    pub(crate) value: u64,
+    ghost is: { value ≡ digits_value 10 digits.now },
+    ghost bound: { value < 10 ^ 10 },
+}
+
+/// How many digits stand at the front, at most so many, and their value.
+#[inline(always)]
+fn leading_digits(most: usize, bytes: &[u8]) -> (usize, u64)
+    requires { most ≤ 10 }
+    ensures length { result.0 ≡ run_len Digit most bytes.now }
+    ensures fits { result.0 ≤ length bytes.now }
+    ensures value { result.1 ≡ digits_value 10 (take result.0 bytes.now) }
+    ensures bound { result.1 < 10 ^ 10 }
+{
+    let mut n = 0;
+    let mut value = 0;
+    while n < most && n < bytes.len() && Class::Digit.contains(bytes[n]) {
+        value = value * 10 + (bytes[n] - b'0') as u64;
+        n += 1;
+    }
+    (n, value)
+}
+
+/// The decimal digits at the front, `least` to `most` of them, and the bytes behind them.
+#[tactic(auto, unfolding(crate::specs::FieldReader::run_at))]
+#[inline(always)]
+pub(crate) fn number_of(
+    least: usize,
+    most: usize,
+    bytes: &[u8],
+) -> Result<(Number<'_>, &[u8]), Stop<'_>>
+    requires { most ≤ 10 }
+    ensures { Gives (λ x. (x.0.digits.now, x.1.now)) result (run_at Digit least most bytes.now) }
+{
+    let (n, value) = leading_digits(most, bytes);
+    let (digits, rest) = bytes.split_at(n);
+    if n < least {
+        return Err(stop_of(rest));
+    }
+    Ok((Number { digits, value }, rest))
 }
 
 /// The bytes behind the byte `c`.

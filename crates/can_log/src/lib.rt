@@ -4,6 +4,7 @@
 mod canonical;
 mod field;
 mod frame;
+mod hexadecimal;
 pub mod laws;
 mod line;
 mod meaning;

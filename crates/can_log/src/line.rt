@@ -9,7 +9,7 @@ ghost use Rattle.can_log.specs.Judging.{IsFirstRefused};
 ghost use Rattle.can_log.specs.declared.frame.Stamped.{Stamped};
 ghost use Rattle.can_log.specs.Views.{body_of, raw_dlc_of, mark_of, parts_of, line_parts_of, OnShort, OnRefused};
 
-use crate::field::{Class, Stop, byte_of, run_of, stop_of};
+use crate::field::{Class, Number, Stop, byte_of, number_of, run_of, stop_of};
 
 /// What stands behind the identifier and its `#`.
 #[derive(Clone, Copy)]
@@ -25,13 +25,14 @@ pub(crate) enum Body<'a> {
 /// The parts that the meaning of a line rests on.
 #[derive(Clone, Copy)]
 pub(crate) struct Parts<'a> {
-    pub(crate) seconds: &'a [u8],
-    pub(crate) micros: &'a [u8],
+    pub(crate) seconds: Number<'a>,
+    pub(crate) micros: Number<'a>,
     pub(crate) identifier: &'a [u8],
     pub(crate) body: Body<'a>,
 }
 
 /// What the bytes of a line say, and why they say nothing.
+#[inline(always)]
 pub(crate) fn judge(bytes: &[u8]) -> Result<Option<Parts<'_>>, Stop<'_>>
     // What is answered is what the line means.
     ensures means { IfOk result (λ x. LineMeans bytes.now (meaning_by (line_parts_of x))) }
@@ -48,6 +49,7 @@ pub(crate) fn judge(bytes: &[u8]) -> Result<Option<Parts<'_>>, Stop<'_>>
 
 /// A whole line, and nothing where it is blank.
 #[tactic(auto, unfolding(crate::specs::FieldReader::both, crate::specs::FieldReader::either, crate::specs::FieldReader::seen))]
+#[inline(always)]
 fn read_line(bytes: &[u8]) -> Result<Option<Parts<'_>>, Stop<'_>>
     ensures { Gives (λ x. (line_parts_of x, [])) result (line_at bytes.now) }
 {
@@ -65,6 +67,7 @@ fn read_line(bytes: &[u8]) -> Result<Option<Parts<'_>>, Stop<'_>>
 
 /// A line behind its `(`.
 #[tactic(auto, unfolding(crate::specs::FieldReader::both, crate::specs::FieldReader::seen))]
+#[inline(always)]
 fn read_frame(bytes: &[u8]) -> Result<Parts<'_>, Stop<'_>>
     ensures { Gives (λ x. (parts_of x, [])) result (frame_at bytes.now) }
 {
@@ -85,18 +88,20 @@ fn read_frame(bytes: &[u8]) -> Result<Parts<'_>, Stop<'_>>
 
 /// `seconds.micros)`.
 #[tactic(auto, unfolding(crate::specs::FieldReader::both))]
-fn read_stamp(bytes: &[u8]) -> Result<((&[u8], &[u8]), &[u8]), Stop<'_>>
-    ensures { Gives (λ x. ((x.0.0.now, (tt, (x.0.1.now, tt))), x.1.now)) result (stamp_at bytes.now) }
+#[inline(always)]
+fn read_stamp(bytes: &[u8]) -> Result<((Number<'_>, Number<'_>), &[u8]), Stop<'_>>
+    ensures { Gives (λ x. ((x.0.0.digits.now, (tt, (x.0.1.digits.now, tt))), x.1.now)) result (stamp_at bytes.now) }
 {
-    let (seconds, rest) = run_of(Class::Digit, 1, 10, bytes)?;
+    let (seconds, rest) = number_of(1, 10, bytes)?;
     let rest = byte_of(b'.', rest)?;
-    let (micros, rest) = run_of(Class::Digit, 6, 6, rest)?;
+    let (micros, rest) = number_of(6, 6, rest)?;
     let rest = byte_of(b')', rest)?;
     Ok(((seconds, micros), rest))
 }
 
 /// The interface, between two gaps.
 #[tactic(auto, unfolding(crate::specs::FieldReader::both))]
+#[inline(always)]
 fn read_place(bytes: &[u8]) -> Result<((&[u8], &[u8], &[u8]), &[u8]), Stop<'_>>
     ensures { Gives (λ x. ((x.0.0.now, (x.0.1.now, x.0.2.now)), x.1.now)) result (place_at bytes.now) }
 {
@@ -108,6 +113,7 @@ fn read_place(bytes: &[u8]) -> Result<((&[u8], &[u8], &[u8]), &[u8]), Stop<'_>>
 
 /// The digits of an identifier.
 #[tactic(auto, unfolding(crate::specs::FieldReader::only))]
+#[inline(always)]
 fn read_identifier(bytes: &[u8]) -> Result<(&[u8], &[u8]), Stop<'_>>
     ensures { Gives (λ x. (x.0.now, x.1.now)) result (identifier_at bytes.now) }
 {
@@ -121,6 +127,7 @@ fn read_identifier(bytes: &[u8]) -> Result<(&[u8], &[u8]), Stop<'_>>
 
 /// What stands behind the `#` of the identifier.
 #[tactic(auto, unfolding(crate::specs::FieldReader::either))]
+#[inline(always)]
 fn read_body(bytes: &[u8]) -> Result<(Body<'_>, &[u8]), Stop<'_>>
     ensures { Gives (λ x. (body_of x.0, x.1.now)) result (body_at bytes.now) }
 {
@@ -132,6 +139,7 @@ fn read_body(bytes: &[u8]) -> Result<(Body<'_>, &[u8]), Stop<'_>>
 }
 
 #[tactic(auto, unfolding(crate::specs::FieldReader::both, crate::specs::FieldReader::seen))]
+#[inline(always)]
 fn read_classic(bytes: &[u8]) -> Result<(Body<'_>, &[u8]), Stop<'_>>
     ensures { Gives (λ x. (body_of x.0, x.1.now)) result (classic_at bytes.now) }
 {
@@ -141,6 +149,7 @@ fn read_classic(bytes: &[u8]) -> Result<(Body<'_>, &[u8]), Stop<'_>>
 }
 
 #[tactic(auto, unfolding(crate::specs::FieldReader::both, crate::specs::FieldReader::seen))]
+#[inline(always)]
 fn read_remote(bytes: &[u8]) -> Result<(Body<'_>, &[u8]), Stop<'_>>
     ensures { Gives (λ x. (body_of x.0, x.1.now)) result (remote_at bytes.now) }
 {
@@ -152,6 +161,7 @@ fn read_remote(bytes: &[u8]) -> Result<(Body<'_>, &[u8]), Stop<'_>>
 }
 
 #[tactic(auto, unfolding(crate::specs::FieldReader::both, crate::specs::FieldReader::seen))]
+#[inline(always)]
 fn read_fd(bytes: &[u8]) -> Result<(Body<'_>, &[u8]), Stop<'_>>
     ensures { Gives (λ x. (body_of x.0, x.1.now)) result (fd_at bytes.now) }
 {
@@ -163,6 +173,7 @@ fn read_fd(bytes: &[u8]) -> Result<(Body<'_>, &[u8]), Stop<'_>>
 
 /// At most so many digits, two for each byte.
 #[tactic(auto, unfolding(crate::specs::FieldReader::only))]
+#[inline(always)]
 fn read_data(most: usize, bytes: &[u8]) -> Result<(&[u8], &[u8]), Stop<'_>>
     ensures { Gives (λ x. (x.0.now, x.1.now)) result (data_at most bytes.now) }
 {
@@ -176,6 +187,7 @@ fn read_data(most: usize, bytes: &[u8]) -> Result<(&[u8], &[u8]), Stop<'_>>
 
 /// `_` and the digit of a raw length code, where they may stand.
 #[tactic(auto, unfolding(crate::specs::FieldReader::both, crate::specs::FieldReader::either, crate::specs::FieldReader::seen, crate::specs::FieldReader::nothing_at))]
+#[inline(always)]
 fn read_raw_dlc(may_stand: bool, bytes: &[u8]) -> Result<(Option<&[u8]>, &[u8]), Stop<'_>>
     ensures { Gives (λ x. (raw_dlc_of x.0, x.1.now)) result (raw_dlc_at may_stand bytes.now) }
 {
@@ -191,6 +203,7 @@ fn read_raw_dlc(may_stand: bool, bytes: &[u8]) -> Result<(Option<&[u8]>, &[u8]),
 
 /// A gap and `R` or `T`, or nothing.
 #[tactic(auto, unfolding(crate::specs::FieldReader::both, crate::specs::FieldReader::either, crate::specs::FieldReader::seen, crate::specs::FieldReader::nothing_at))]
+#[inline(always)]
 fn read_mark(bytes: &[u8]) -> Result<(Option<(&[u8], &[u8])>, &[u8]), Stop<'_>>
     ensures { Gives (λ x. (mark_of x.0, x.1.now)) result (mark_at bytes.now) }
 {
@@ -206,6 +219,7 @@ fn read_mark(bytes: &[u8]) -> Result<(Option<(&[u8], &[u8])>, &[u8]), Stop<'_>>
 
 /// The end of the line, with a carriage return before it or none.
 #[tactic(auto, unfolding(crate::specs::LineReader::end_at))]
+#[inline(always)]
 fn read_end(bytes: &[u8]) -> Result<(), Stop<'_>>
     ensures { Gives (λ x. (tt, [])) result (end_at bytes.now) }
 {

@@ -8,10 +8,12 @@ ghost use Rattle.can_log.specs.LineReader.{stamped_by, AreParts};
 ghost use Rattle.can_log.specs.Views.{parts_of};
 
 use crate::frame::{Frame, Id, Kind, Stamped};
+use crate::hexadecimal::hex_digit_value;
 use crate::line::{Body, Parts};
 use arrayvec::ArrayVec;
 
 /// The frame that a line of these parts records, and its time.
+#[inline(always)]
 pub(crate) fn stamped_of(parts: Parts<'_>) -> Stamped
     requires { AreParts (parts_of parts) }
     ensures { result ≡ stamped_by (parts_of parts.entry) }
@@ -23,11 +25,12 @@ pub(crate) fn stamped_of(parts: Parts<'_>) -> Stamped
         Body::Fd(_, digits) => (Kind::Fd, data_of(digits)),
     };
     Stamped {
-        micros: number(parts.seconds) * 1_000_000 + number(parts.micros),
+        micros: parts.seconds.value * 1_000_000 + parts.micros.value,
         frame: Frame::from_parts(id, kind, data),
     }
 }
 
+#[inline(always)]
 fn identifier_of(digits: &[u8]) -> Id
     requires { IsIdentifierText digits.now }
     ensures { result ≡ identifier_of digits.now }
@@ -40,43 +43,19 @@ fn identifier_of(digits: &[u8]) -> Id
     }
 }
 
-fn number(digits: &[u8]) -> u64
-    requires { IsRunOf is_ascii_digit 0 10 digits.now }
-    ensures value { result ≡ digits_value 10 digits.now }
-    ensures bound { result < 10 ^ 10 }
-{
-    let mut n = 0;
-    for d in digits {
-        n = n * 10 + (*d - b'0') as u64;
-    }
-    n
-}
-
+#[inline(always)]
 fn hex_number(digits: &[u8]) -> u32
     requires { IsRunOf is_ascii_hexdigit 0 8 digits.now }
     ensures { result ≡ digits_value 16 digits.now }
 {
     let mut n = 0;
     for d in digits {
-        n = n * 16 + nibble(*d);
+        n = n * 16 + hex_digit_value(*d) as u32;
     }
     n
 }
 
-fn nibble(b: u8) -> u32
-    requires { IsTrue (is_ascii_hexdigit b) }
-    ensures value { result ≡ digit_value b }
-    ensures bound { result < 16 }
-{
-    if b < b'A' {
-        (b - b'0') as u32
-    } else if b < b'a' {
-        (b - 55) as u32
-    } else {
-        (b - 87) as u32
-    }
-}
-
+#[inline(always)]
 fn data_of(digits: &[u8]) -> ArrayVec<u8, 64>
     requires { IsDataText 128 digits.now }
     ensures { result.items ≡ bytes_spelled digits.now }
@@ -90,6 +69,7 @@ fn data_of(digits: &[u8]) -> ArrayVec<u8, 64>
     bytes
 }
 
+#[inline(always)]
 fn decode(digits: &[u8], out: &mut [u8])
     requires digits { IsDataText 128 digits.now }
     requires room { length out.old ≡ length digits.now / 2 }

@@ -230,6 +230,7 @@ fn joined_verdict(line: &[u8], bytes: &[u8]) -> Verdict
     verdict_on(joined.as_slice())
 }
 
+#[inline(always)]
 fn verdict_on(bytes: &[u8]) -> Verdict
     ensures { Judged bytes.now result }
 {
