@@ -1,0 +1,13 @@
+pub mod ReadsAndWrites
+pub mod SingleFrames
+pub mod Directions
+pub mod Traces
+pub mod CanonicalLogs
+pub mod Gatherings
+pub mod LogLines
+pub mod Scanned
+pub mod Outcomes
+pub mod OneOutcome
+pub mod EachElement
+pub mod ShortMessages
+pub mod ReadAgain

@@ -1,0 +1,96 @@
+-- What a log comes to, and what is answered on it.
+use Rattle.std.specs.Prelude.{IsErrAnd}
+use Rattle.std.proofs.Common.{◌≡◌, ℕ, ◌+◌, ◌<◌, ◌≤◌, List, ◌++◌, length, take, arith, refl, ap, sym, subst, ◌∙◌, inl, inr, Option, Result, Ok, Err}
+use Rattle.std.proofs.lemmas.Bool.{cases_lt}
+use Rattle.std.proofs.lemmas.List.{take_all, length-take-le}
+use Rattle.can_log.specs.Log.{LogMeans}
+use Rattle.can_log.specs.declared.frame.Stamped.{Stamped}
+use Rattle.trace_canon.specs.declared.fault.Fault.{Fault}
+use Rattle.trace_canon.specs.declared.fault.Fault.TheVariants.{BadLine, LogLimit, OutputLimit, Read, Write, Memory}
+use Rattle.trace_canon.specs.declared.gathering.Canonical.{Canonical}
+use Rattle.trace_canon.specs.Settings.{Settings}
+use Rattle.trace_canon.specs.Trace.{trace}
+use Rattle.trace_canon.specs.Messages.{messages}
+use Rattle.trace_canon.specs.CanonicalLog.{canonical_log}
+use Rattle.trace_canon.specs.Outcome.{Accepted, Answers}
+use Rattle.trace_canon.specs.Gathering.{GivesCanonical, ComesTo, IsRefusedOrMemory}
+
+-- ---- the log that was taken
+
+-- the lines are not all read
+pub comes_to_refused : (settings : Settings) (log : List ℕ) (fault : Fault) → length log ≤ settings.max_bytes → IsRefusedOrMemory log fault
+    → ComesTo settings log (Err fault)
+comes_to_refused settings log (BadLine line column) within refused = (within, refused)
+comes_to_refused settings log LogLimit within refused = absurd refused
+comes_to_refused settings log OutputLimit within refused = absurd refused
+comes_to_refused settings log Read within refused = absurd refused
+comes_to_refused settings log Write within refused = absurd refused
+comes_to_refused settings log Memory within refused = tt
+
+-- the lines are all read
+pub comes_to_canonical : (settings : Settings) (log : List ℕ) (whats : List (Option Stamped)) (result : Result Canonical Fault)
+    → length log ≤ settings.max_bytes → LogMeans log whats → GivesCanonical settings whats result → ComesTo settings log result
+comes_to_canonical settings log whats (Ok canonical) within means gives = (within, (whats, record { means = means; spelled = gives.0 }, gives.1, gives.2))
+comes_to_canonical settings log whats (Err OutputLimit) within means gives =
+    (within, (whats, canonical_log settings (messages (trace settings whats)), record { means = means; spelled = refl }, gives))
+comes_to_canonical settings log whats (Err (BadLine line column)) within means gives = absurd gives
+comes_to_canonical settings log whats (Err LogLimit) within means gives = absurd gives
+comes_to_canonical settings log whats (Err Read) within means gives = absurd gives
+comes_to_canonical settings log whats (Err Write) within means gives = absurd gives
+comes_to_canonical settings log whats (Err Memory) within means gives = absurd gives
+
+-- ---- each log that begins so
+
+-- what is taken of a longer log is too long as well
+front_is_over : (settings : Settings) (log : List ℕ) (result : Result Canonical Fault) → settings.max_bytes < length log
+    → settings.max_bytes < length (take (settings.max_bytes + 1) log) → ComesTo settings (take (settings.max_bytes + 1) log) result → ComesTo settings log result
+front_is_over settings log (Ok canonical) over long comes = let short = comes.0 in absurd (omega arith)
+front_is_over settings log (Err (BadLine line column)) over long comes = let short = comes.0 in absurd (omega arith)
+front_is_over settings log (Err LogLimit) over long comes = over
+front_is_over settings log (Err OutputLimit) over long comes = let short = comes.0 in absurd (omega arith)
+front_is_over settings log (Err Read) over long comes = comes
+front_is_over settings log (Err Write) over long comes = comes
+front_is_over settings log (Err Memory) over long comes = tt
+
+-- what is taken is enough: as many bytes as the limit and one more
+comes_to_front : (settings : Settings) (log : List ℕ) (result : Result Canonical Fault) → ComesTo settings (take (settings.max_bytes + 1) log) result
+    → ComesTo settings log result
+comes_to_front settings log result comes = elim (cases_lt settings.max_bytes (length log)) [
+  | inl over ↦
+      let long = length-take-le (settings.max_bytes + 1) log (omega arith) in
+      front_is_over settings log result over (omega arith) comes
+  | inr within ↦ subst (λ x. ComesTo settings x result) (take_all (settings.max_bytes + 1) log (omega arith)) comes
+]
+
+pub comes_to : (settings : Settings) (taken front log : List ℕ) (result : Result Canonical Fault) → ComesTo settings taken result → taken ≡ front
+    → front ≡ take (settings.max_bytes + 1) log → ComesTo settings log result
+comes_to settings taken front log result comes is begins =
+    comes_to_front settings log result (subst (λ x. ComesTo settings x result) (is ∙ begins) comes)
+
+-- ---- what is answered
+
+pub answers_fault : (settings : Settings) (log : List ℕ) (fault : Fault) (old new : List ℕ) → ComesTo settings log (Err fault) → new ≡ old
+    → Answers settings log (Err fault) old new
+answers_fault settings log (BadLine line column) old new comes kept = (comes, kept)
+answers_fault settings log LogLimit old new comes kept = (comes, kept)
+answers_fault settings log OutputLimit old new comes kept = (comes, kept)
+answers_fault settings log Read old new comes kept = kept
+answers_fault settings log Write old new comes kept = absurd comes
+answers_fault settings log Memory old new comes kept = kept
+
+abbrev accepted_of : Canonical → Accepted
+accepted_of canonical = record { text = canonical.text.items; summary = canonical.summary }
+
+pub answers_ok : (settings : Settings) (log : List ℕ) (canonical : Canonical) (old new : List ℕ) → ComesTo settings log (Ok canonical)
+    → new ≡ old ++ canonical.text.items → Answers settings log (Ok canonical.summary) old new
+answers_ok settings log canonical old new comes wrote = (accepted_of canonical, comes, refl, wrote)
+
+pub answers_write : (settings : Settings) (log : List ℕ) (canonical : Canonical) (fault : Fault) (old new : List ℕ) → ComesTo settings log (Ok canonical)
+    → fault ≡ Write → (n : ℕ) × (n < length canonical.text.items) × (new ≡ old ++ take n canonical.text.items) → Answers settings log (Err fault) old new
+answers_write settings log canonical fault old new comes is wrote =
+    subst (λ f. Answers settings log (Err f) old new) (sym is) (accepted_of canonical, comes, wrote)
+
+-- the error that a `?` hands on
+pub handed_on : {A : Type 0} (result : Result A Fault) (fault : Fault) → IsErrAnd result (λ f. f ≡ fault) → result ≡ Err fault
+handed_on (Ok value) fault is = absurd is
+handed_on (Err other) fault is = ap Err is

@@ -1,0 +1,53 @@
+//! Why a log or a configuration is refused.
+
+ghost use Rattle.std.specs.Prelude.{◌≡◌};
+ghost use Rattle.trace_canon.specs.declared.fault.Fault.TheVariants.{Memory};
+
+use std::alloc::AllocError;
+use thiserror::Error;
+
+/// Why a run ended without a canonical log.
+#[derive(Clone, Copy, Debug, PartialEq, Eq, Error)]
+pub enum Fault {
+    /// The log is refused at this place: the first byte after which no legal log begins so. Both numbers count from 1,
+    /// the column in bytes.
+    #[error("line {line} column {column}: not a log line")]
+    BadLine { line: u64, column: u32 },
+    /// The log has more bytes than the limit.
+    #[error("log longer than the limit")]
+    LogLimit,
+    /// The canonical log has more bytes than the limit.
+    #[error("canonical log longer than the limit")]
+    OutputLimit,
+    /// The source failed.
+    #[error("read failed")]
+    Read,
+    /// The target failed.
+    #[error("write failed")]
+    Write,
+    /// Memory was refused.
+    #[error("out of memory")]
+    Memory,
+}
+
+impl From<AllocError> for Fault {
+    ghost from_gives = { λ _ fault. fault ≡ Memory };
+
+    fn from(_: AllocError) -> Fault {
+        Fault::Memory
+    }
+}
+
+/// Why there is no such configuration.
+#[derive(Clone, Copy, Debug, PartialEq, Eq, Error)]
+pub enum ConfigFault {
+    /// An identifier is above 7FF.
+    #[error("identifier out of range")]
+    IdRange,
+    /// The tester and the unit have one identifier.
+    #[error("tester and unit have the same identifier")]
+    SameId,
+    /// The limit is 0, or above [`LARGEST_LIMIT`](crate::LARGEST_LIMIT).
+    #[error("limit out of range")]
+    LimitRange,
+}

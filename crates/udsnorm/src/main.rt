@@ -1,0 +1,110 @@
+//! Reads a log from standard input, and writes its canonical log to standard output.
+//!
+//! ```text
+//! $ udsnorm < recorded.log > canonical.log
+//! ```
+//!
+//! The tester sends as 7E0 and the unit as 7E8, and neither log may be longer than a gibibyte. The exit status tells
+//! how it went: 0 done, 2 wrong words, 3 the log is refused, 4 a read or a write failed, 5 memory was refused.
+#![tactic(auto)]
+
+ghost use Rattle.std.specs.Prelude.{◌≡◌};
+ghost use Rattle.udsnorm.specs.Status.{status_of};
+
+use std::env::Env;
+use std::io::{BufWriter, ErrorKind, Input, Print};
+use std::process::ExitCode;
+use std::{env, io};
+use trace_canon::{Config, Fault, Summary, normalise};
+use trace_io::{Reading, Target, Writing};
+
+/// The identifiers of the two sides.
+const TESTER: u16 = 0x7E0;
+
+const UNIT: u16 = 0x7E8;
+
+/// The most bytes of the log, and of the canonical log.
+const LIMIT: u64 = 1 << 30;
+
+fn main(rt: HostRuntime) -> ExitCode {
+    ExitCode::from(status(&run(&rt)))
+}
+
+/// Why there is no canonical log, or not the whole of it.
+#[derive(Clone, Copy, Debug, PartialEq, Eq)]
+enum Failure {
+    /// The words of the command line ask for nothing that the program does.
+    Words,
+    /// Memory was refused before the engine ran.
+    Memory,
+    /// The engine's fault.
+    Engine(Fault),
+}
+
+/// The exit status of a run.
+fn status(outcome: &Result<Summary, Failure>) -> u8
+    ensures { result ≡ status_of outcome.now }
+{
+    match outcome {
+        Ok(_) => 0,
+        Err(Failure::Words) => 2,
+        Err(Failure::Engine(Fault::BadLine { .. } | Fault::LogLimit | Fault::OutputLimit)) => 3,
+        Err(Failure::Engine(Fault::Read | Fault::Write)) => 4,
+        Err(Failure::Engine(Fault::Memory) | Failure::Memory) => 5,
+    }
+}
+
+fn run<R: AllocGlobal + Env + Input + Print>(rt: &R) -> Result<Summary, Failure> {
+    check_words(rt)?;
+    let config = Config::new(TESTER, UNIT, LIMIT).unwrap();
+    let out = BufWriter::new(rt.alloc(), io::writer(rt)).map_err(|_| Failure::Memory)?;
+    let mut reader = Reading::new(rt.reader());
+    let mut writer = Writing::new(out);
+    let outcome = normalise(rt.alloc(), &config, &mut reader, &mut writer);
+    // What the engine wrote leaves the program, also where the engine ended with a fault; that fault is then the answer.
+    let flushed = writer.flush();
+    let summary = outcome.map_err(Failure::Engine)?;
+    match flushed {
+        Ok(()) => Ok(summary),
+        Err(_) => Err(Failure::Engine(Fault::Write)),
+    }
+}
+
+/// The words ask for a canonical log where there are none, or the one word `normalise`.
+fn check_words<R: Alloc + Env>(rt: &R) -> Result<(), Failure> {
+    let mut words = env::args(rt).map_err(|error| match error.kind() {
+        ErrorKind::OutOfMemory => Failure::Memory,
+        _ => Failure::Words,
+    })?;
+    let _ = words.next();
+    let Some(word) = words.next() else {
+        return Ok(());
+    };
+    if word.as_str() == "normalise" && words.next().is_none() {
+        Ok(())
+    } else {
+        Err(Failure::Words)
+    }
+}
+
+#[cfg(test)]
+mod tests {
+    use super::*;
+
+    #[test]
+    fn each_fault_has_its_status(rt: HostRuntime) {
+        let bad_line = Fault::BadLine { line: 1, column: 2 };
+        for (failure, want) in [
+            (Failure::Words, 2),
+            (Failure::Engine(bad_line), 3),
+            (Failure::Engine(Fault::LogLimit), 3),
+            (Failure::Engine(Fault::OutputLimit), 3),
+            (Failure::Engine(Fault::Read), 4),
+            (Failure::Engine(Fault::Write), 4),
+            (Failure::Engine(Fault::Memory), 5),
+            (Failure::Memory, 5),
+        ] {
+            assert_eq!(rt; status(&Err(failure)), want);
+        }
+    }
+}
