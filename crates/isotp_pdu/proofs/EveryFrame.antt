@@ -7,7 +7,7 @@ use Rattle.isotp_pdu.specs.Layout.{Layout, layout_of, HasLayout, IsSoundLayout}
 use Rattle.isotp_pdu.specs.Fault.{IsFault}
 use Rattle.isotp_pdu.specs.Laws.{LayoutIsRead, FaultIsRead, AtMostOneLayout, AtMostOneFault, LayoutOrFault, LayoutHasNoFault}
 use Rattle.isotp_pdu.proofs.Unique.{at_most_one}
-use Rattle.isotp_pdu.proofs.Sound.{sound}
+pub use Rattle.isotp_pdu.proofs.Sound.{sound, layout_is_sound}
 use Rattle.isotp_pdu.proofs.Precedence.{at_most_one_fault, has_no_fault}
 use Rattle.isotp_pdu.proofs.Read.{Reads, read}
 
