@@ -1,0 +1,12 @@
+pub mod OneMore
+pub mod Next
+pub mod Judgement
+pub mod OpenLaws
+pub mod SaysHeard
+pub mod Places
+pub mod References
+pub mod Carried
+pub mod Delivered
+pub mod Clean
+pub mod Certified
+pub mod Fits

@@ -1,0 +1,15 @@
+pub mod Trace
+pub mod Places
+pub mod OnTime
+pub mod Standing
+pub mod OpenReception
+pub mod Verdict
+pub mod Recording
+pub mod Laws
+pub mod RecordingLaws
+pub mod EventSeen
+pub mod Heard
+pub mod Machine
+pub mod Kept
+pub mod ReceptionLending
+pub mod PairLending

@@ -1,0 +1,3 @@
+pub mod Cut
+pub mod Rest
+pub mod Paced
