@@ -8,6 +8,7 @@ pub mod Recording
 pub mod Laws
 pub mod RecordingLaws
 pub mod EventSeen
+pub mod Recorded
 pub mod Heard
 pub mod Machine
 pub mod Kept
