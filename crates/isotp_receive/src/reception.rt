@@ -165,7 +165,14 @@ impl Reception {
     }
 
     #[tactic(auto, using(crate::proofs::Next::take_over))]
-    pub fn next<'a>(&'a mut self, dir: Dir, micros: u64, sn: u8, can_dl: u8, bytes: &[u8]) -> Event<'a>
+    pub fn next<'a>(
+        &'a mut self,
+        dir: Dir,
+        micros: u64,
+        sn: u8,
+        can_dl: u8,
+        bytes: &[u8],
+    ) -> Event<'a>
         requires { IsSoundLayout (consecutive sn can_dl bytes.now) }
         ensures* after { sem 𝓛 (TakesConsecutive self.entry micros sn can_dl bytes.now) }
         ensures event { seen_event result ≡ on_consecutive dir self.old micros sn can_dl bytes.now }
@@ -199,7 +206,14 @@ impl Reception {
             Judged::Sequence => {
                 self.head = None;
                 let expected = head.expected();
-                head.refuse(Cause::Sequence, dir, Reason::NextSequence { expected, found: sn })
+                head.refuse(
+                    Cause::Sequence,
+                    dir,
+                    Reason::NextSequence {
+                        expected,
+                        found: sn,
+                    },
+                )
             }
             Judged::Length => {
                 self.head = None;
