@@ -32,11 +32,11 @@ fn told(verdict: Verdict<'_>) -> Event<'_> {
     Event::of(verdict)
 }
 
-fn dropped(reason: Reason) -> Event<'static> {
+fn dropped<'a>(reason: Reason) -> Event<'a> {
     Event::of(Verdict::Dropped(reason))
 }
 
-fn unread(fault: PduFault) -> Event<'static> {
+fn unread<'a>(fault: PduFault) -> Event<'a> {
     dropped(Reason::Pdu(fault))
 }
 
@@ -53,7 +53,7 @@ fn ends(cause: Cause, dir: Dir, len: u32, verdict: Verdict<'_>) -> Event<'_> {
     }
 }
 
-fn refuses(cause: Cause, len: u32, reason: Reason) -> Event<'static> {
+fn refuses<'a>(cause: Cause, len: u32, reason: Reason) -> Event<'a> {
     ends(cause, Unit, len, Verdict::Dropped(reason))
 }
 
@@ -70,9 +70,8 @@ fn frame(data: &[u8]) -> Result<Frame, Fail> {
 /// A pair that has taken the frames, line after line, each as it has to be.
 fn follow(rt: &impl Abort, alloc: Global, case: &str, steps: &[Step<'_>]) -> Result<Pair, Fail> {
     let mut pair = Pair::new(alloc)?;
-    let mut line = 0;
-    for Step(micros, dir, data, wanted) in steps {
-        line += 1;
+    for (i, Step(micros, dir, data, wanted)) in steps.iter().enumerate() {
+        let line = i as u64 + 1;
         let frame = frame(data)?;
         let event = pair.accept(line, *micros, *dir, &frame);
         assert_eq!(rt; event, *wanted, "{case}, line {line}");
@@ -83,10 +82,8 @@ fn follow(rt: &impl Abort, alloc: Global, case: &str, steps: &[Step<'_>]) -> Res
 /// A frame that begins with these bytes, and has bytes of a message from `from` on.
 fn part(alloc: Global, head: &[u8], from: usize, can_dl: usize) -> Result<Vec<u8>, AllocError> {
     let mut data = head.to_vec(alloc)?;
-    let mut byte = from;
-    while data.len() < can_dl {
-        data.push((byte % 251) as u8)?;
-        byte += 1;
+    for i in 0..can_dl.saturating_sub(head.len()) {
+        data.push((from.wrapping_add(i) % 251) as u8)?;
     }
     Ok(data)
 }
@@ -161,19 +158,20 @@ fn sequence_error_ends_the_reception(rt: HostRuntime) -> Result<(), Fail> {
         Step(0, Unit, &first, told(Verdict::Began)),
         Step(0, Tester, CONTINUE, told(Verdict::Flow)),
     ];
+    let whole = told(Verdict::Message(&message));
     let wrong = Reason::NextSequence {
         expected: 0,
         found: 15,
     };
     for repeats in [false, true] {
         let mut pair = follow(&rt, alloc, "begun", &begun)?;
-        let mut line = 3;
         for number in 1..19_usize {
             let data = part(alloc, &[(0x20 + number % 16) as u8], 7 * number - 1, 8)?;
             let frame = frame(&data)?;
+            let line = number as u64 + 2;
             let wanted = match number {
                 16.. if repeats => dropped(Reason::NextUnexpected),
-                18 => told(Verdict::Message(&message)),
+                18 => whole,
                 _ => told(Verdict::Stored),
             };
             assert_eq!(rt;
@@ -182,11 +180,9 @@ fn sequence_error_ends_the_reception(rt: HostRuntime) -> Result<(), Fail> {
                 "number {number}"
             );
             if repeats && number == 15 {
-                line += 1;
                 let wanted = refuses(Cause::Sequence, 130, wrong);
-                assert_eq!(rt; pair.accept(line, 0, Unit, &frame), wanted, "repeated");
+                assert_eq!(rt; pair.accept(18, 0, Unit, &frame), wanted, "repeated");
             }
-            line += 1;
         }
     }
     Ok(())
@@ -228,22 +224,18 @@ fn overflow_counts_before_the_first_consecutive_frame(rt: HostRuntime) -> Result
 fn directions_are_received_apart(rt: HostRuntime) -> Result<(), Fail> {
     let alloc = rt.alloc();
     let unit = part(alloc, &[], 0, 100)?;
-    let first = part(alloc, &[0x10, 100], 0, 64)?;
-    let last = part(alloc, &[0x21], 62, 48)?;
-    let tester = &[0x2E, 0xF1, 0x90, 0x41, 0x42, 0x43, 0x44, 0x45, 0x46, 0x47];
-    let begun = &[0x10, 0x0A, 0x2E, 0xF1, 0x90, 0x41, 0x42, 0x43];
+    let tester = part(alloc, &[], 0, 10)?;
+    let unit_first = part(alloc, &[0x10, 100], 0, 64)?;
+    let unit_last = part(alloc, &[0x21], 62, 48)?;
+    let tester_first = part(alloc, &[0x10, 10], 0, 8)?;
+    let tester_last = part(alloc, &[0x21], 6, 5)?;
     let steps = [
-        Step(0, Tester, begun, told(Verdict::Began)),
-        Step(0, Unit, &first, told(Verdict::Began)),
+        Step(0, Tester, &tester_first, told(Verdict::Began)),
+        Step(0, Unit, &unit_first, told(Verdict::Began)),
         Step(0, Unit, CONTINUE, told(Verdict::Flow)),
         Step(0, Tester, CONTINUE, told(Verdict::Flow)),
-        Step(0, Unit, &last, told(Verdict::Message(&unit))),
-        Step(
-            0,
-            Tester,
-            &[0x21, 0x44, 0x45, 0x46, 0x47],
-            told(Verdict::Message(tester)),
-        ),
+        Step(0, Unit, &unit_last, told(Verdict::Message(&unit))),
+        Step(0, Tester, &tester_last, told(Verdict::Message(&tester))),
     ];
     follow(&rt, alloc, "both at once", &steps)?;
     Ok(())
