@@ -3,6 +3,7 @@ pub mod Next
 pub mod Judgement
 pub mod OpenLaws
 pub mod OpenPositions
+pub mod BytesAtPlaces
 pub mod SaysHeard
 pub mod Places
 pub mod ListPositions

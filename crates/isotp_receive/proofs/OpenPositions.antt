@@ -86,7 +86,7 @@ module _ (d : Dir) (before : List Entry) (e0 : Entry) (s : FirstFrame) (begins :
     keeps-from overflow below h = lt-ltb 0 (consecutive_count d b) h
     keeps-from no_part below h = refl
 
-at-of : (T before after : List Entry) (c : ℕ) (x : Entry) → T ≡ before ++ x ∷ after → c ≡ length before → At T c x
+pub at-of : (T before after : List Entry) (c : ℕ) (x : Entry) → T ≡ before ++ x ∷ after → c ≡ length before → At T c x
 at-of T before after c x split size = rw (split, size) (at_here before after x)
 
 -- the same said of the same frame in another spelling of the trace

@@ -153,18 +153,17 @@ fn times_at_both_ends(rt: HostRuntime) -> Result<(), Fail> {
 fn sequence_error_ends_the_reception(rt: HostRuntime) -> Result<(), Fail> {
     let alloc = rt.alloc();
     let message = part(alloc, &[], 0, 130)?;
-    let first = part(alloc, &[0x10, 130], 0, 8)?;
-    let begun = [
-        Step(0, Unit, &first, told(Verdict::Began)),
-        Step(0, Tester, CONTINUE, told(Verdict::Flow)),
-    ];
+    let first = frame(&part(alloc, &[0x10, 130], 0, 8)?)?;
+    let flow = frame(CONTINUE)?;
     let whole = told(Verdict::Message(&message));
     let wrong = Reason::NextSequence {
         expected: 0,
         found: 15,
     };
     for repeats in [false, true] {
-        let mut pair = follow(&rt, alloc, "begun", &begun)?;
+        let mut pair = Pair::new(alloc)?;
+        assert_eq!(rt; pair.accept(1, 0, Unit, &first), told(Verdict::Began));
+        assert_eq!(rt; pair.accept(2, 0, Tester, &flow), told(Verdict::Flow));
         for number in 1..19_usize {
             let data = part(alloc, &[(0x20 + number % 16) as u8], 7 * number - 1, 8)?;
             let frame = frame(&data)?;
@@ -229,13 +228,15 @@ fn directions_are_received_apart(rt: HostRuntime) -> Result<(), Fail> {
     let unit_last = part(alloc, &[0x21], 62, 48)?;
     let tester_first = part(alloc, &[0x10, 10], 0, 8)?;
     let tester_last = part(alloc, &[0x21], 6, 5)?;
+    let unit_told = told(Verdict::Message(&unit));
+    let tester_told = told(Verdict::Message(&tester));
     let steps = [
         Step(0, Tester, &tester_first, told(Verdict::Began)),
         Step(0, Unit, &unit_first, told(Verdict::Began)),
         Step(0, Unit, CONTINUE, told(Verdict::Flow)),
         Step(0, Tester, CONTINUE, told(Verdict::Flow)),
-        Step(0, Unit, &unit_last, told(Verdict::Message(&unit))),
-        Step(0, Tester, &tester_last, told(Verdict::Message(&tester))),
+        Step(0, Unit, &unit_last, unit_told),
+        Step(0, Tester, &tester_last, tester_told),
     ];
     follow(&rt, alloc, "both at once", &steps)?;
     Ok(())
