@@ -5,6 +5,7 @@ pub mod Standing
 pub mod OpenReception
 pub mod Verdict
 pub mod Recording
+pub mod CleanTrace
 pub mod Laws
 pub mod RecordingLaws
 pub mod EventSeen

@@ -1,3 +1,2 @@
-pub mod Cut
-pub mod Rest
-pub mod Paced
+pub mod CanonicalFrames
+pub mod FramesLeft
