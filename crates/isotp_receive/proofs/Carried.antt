@@ -483,13 +483,13 @@ run limit before T d n past (e ∷ es) at split o cs out bs state now goods risi
     let s = step limit T d n e here o cs out bs state goods rising cover in
     let grown : (before ++ past) ++ e ∷ [] ≡ before ++ (past ++ e ∷ []) = append_assoc before past (e ∷ []) in
     let next : stands limit d (before ++ (past ++ e ∷ [])) ≡ after limit o e.micros (role d e) =
-      ap (stands limit d) (sym grown) ∙ one_more limit d (before ++ past) e ∙ ap (λ x. after limit x e.micros (role d e)) now in
+    ap (stands limit d) (sym grown) ∙ one_more limit d (before ++ past) e ∙ ap (λ x. after limit x e.micros (role d e)) now in
     let at_next : suc n ≡ length (past ++ e ∷ []) = omega (arith, length-append past (e ∷ [])) in
     let split_next : T ≡ (past ++ e ∷ []) ++ es = split ∙ sym (append_assoc past (e ∷ []) es) in
     ap (λ l. l ++ heard limit d (suc n) ((before ++ past) ++ e ∷ []) es) (told-by-role limit d n (before ++ past) e ∙ ap (λ x. at_place n (completed x e.micros (role d e))) now)
     ∙ ap (λ l. at_place n (completed o e.micros (role d e)) ++ heard limit d (suc n) l es) grown
     ∙ ap (λ l. at_place n (completed o e.micros (role d e)) ++ l)
-      (run limit before T d (suc n) (past ++ e ∷ []) es at_next split_next (after limit o e.micros (role d e)) s.cs s.out' s.bs' s.state next s.goods s.rising s.cover)
+    (run limit before T d (suc n) (past ++ e ∷ []) es at_next split_next (after limit o e.micros (role d e)) s.cs s.out' s.bs' s.state next s.goods s.rising s.cover)
     ∙ s.tells
 
 -- behind any trace a direction delivers the messages that its positions carry

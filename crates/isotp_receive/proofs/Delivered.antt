@@ -339,10 +339,10 @@ pub recording-delivers-behind : (limit : ℕ) (before T : List Entry) (M : List 
 recording-delivers-behind limit before T M r =
     messages-append limit [] before T
     ∙ ap (λ l. messages limit before ++ l) (
-      messages-told limit 0 before T
-      ∙ ap (map pair) (told-recording limit before T M r)
-      ∙ transfer-pairs r.transfers
-      ∙ r.messages)
+    messages-told limit 0 before T
+    ∙ ap (map pair) (told-recording limit before T M r)
+    ∙ transfer-pairs r.transfers
+    ∙ r.messages)
 
 pub recording-delivers : (limit : ℕ) (T : List Entry) (M : List (Dir × List ℕ)) → IsRecording limit T M → messages limit T ≡ M
 recording-delivers limit T M r = recording-delivers-behind limit [] T M r
@@ -366,9 +366,9 @@ told_within k (x ∷ xs) = cond (nat_lt x.place k) (x ∷ told_within k xs) (tol
 within-append : (k : ℕ) (xs ys : List Placed) → told_within k (xs ++ ys) ≡ told_within k xs ++ told_within k ys
 within-append k [] ys = refl
 within-append k (x ∷ xs) ys = elim (cases_Bool (nat_lt x.place k)) [
-    | inl t ↦ rw t (ap (λ l. x ∷ l) (within-append k xs ys))
-    | inr t ↦ rw t (within-append k xs ys)
-  ]
+  | inl t ↦ rw t (ap (λ l. x ∷ l) (within-append k xs ys))
+  | inr t ↦ rw t (within-append k xs ys)
+]
 
 within-later : (k n : ℕ) (xs : List Placed) → k ≤ n → Rise n xs → told_within k xs ≡ []
 within-later k n [] le h = refl
@@ -402,24 +402,24 @@ told-take limit k before T = sym (
     ∙ ap (λ l. l ++ told_within k (all_told limit (0 + length (take k T)) (before ++ take k T) (drop k T))) (within-all limit k 0 before (take k T) (omega (arith, length-take k T)))
     ∙ ap (λ l. all_told limit 0 before (take k T) ++ l) (rest-within limit k (before ++ take k T) (drop k T) (0 + length (take k T)) whole)
     ∙ append-nil (all_told limit 0 before (take k T))) where
-  whole : (drop k T ≡ []) ⊎ (k ≤ 0 + length (take k T))
-  whole = elim (cases_Bool (nat_lt (length T) k)) [
-      | inl t ↦ inl (drop_of_length-le T (let below = ltb-true (length T) k t in omega arith))
-      | inr t ↦ inr (let le = ltb-false (length T) k t in omega (arith, length-take k T))
-    ]
+      whole : (drop k T ≡ []) ⊎ (k ≤ 0 + length (take k T))
+      whole = elim (cases_Bool (nat_lt (length T) k)) [
+        | inl t ↦ inl (drop_of_length-le T (let below = ltb-true (length T) k t in omega arith))
+        | inr t ↦ inr (let le = ltb-false (length T) k t in omega (arith, length-take k T))
+      ]
 
 within-transfers : (k : ℕ) (ts : List Transfer) → map pair (told_within k (map transfer_place ts)) ≡ ended_within k ts
 within-transfers k [] = refl
 within-transfers k (t ∷ ts) = elim (cases_Bool (nat_lt (last_or 0 t.positions) k)) [
-    | inl b ↦ rw b (ap (λ l. (t.dir, t.message) ∷ l) (within-transfers k ts))
-    | inr b ↦ rw b (within-transfers k ts)
-  ]
+  | inl b ↦ rw b (ap (λ l. (t.dir, t.message) ∷ l) (within-transfers k ts))
+  | inr b ↦ rw b (within-transfers k ts)
+]
 
 pub delivers-at-last : (limit : ℕ) (before T : List Entry) (M : List (Dir × List ℕ)) (r : IsRecording limit T M) (n : ℕ)
     → messages limit (before ++ take n T) ≡ messages limit before ++ ended_within n r.transfers
 delivers-at-last limit before T M r n =
     messages-append limit [] before (take n T)
     ∙ ap (λ l. messages limit before ++ l) (
-      messages-told limit 0 before (take n T)
-      ∙ ap (map pair) (told-take limit n before T ∙ ap (told_within n) (told-recording limit before T M r))
-      ∙ within-transfers n r.transfers)
+    messages-told limit 0 before (take n T)
+    ∙ ap (map pair) (told-take limit n before T ∙ ap (told_within n) (told-recording limit before T M r))
+    ∙ within-transfers n r.transfers)

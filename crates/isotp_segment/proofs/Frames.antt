@@ -1,11 +1,12 @@
 -- The list of the canonical frames: its length, and what is left of it.
-use Rattle.std.proofs.Common.{◌≡◌, ℕ, ◌+◌, ◌<◌, ◌≤◌, true, List, [], ◌∷◌, ◌&&◌, length, map, drop, refl, ◌∙◌, ap, arith, sym}
+use Rattle.std.proofs.Common.{◌≡◌, ℕ, ◌+◌, ◌-◌, ◌<◌, ◌≤◌, ◌==◌, true, false, List, [], ◌∷◌, ◌&&◌, length, map, drop, refl, ◌∙◌, ap, arith, sym}
 use Rattle.std.specs.List.{range_with_len}
 use Rattle.std.specs.Prelude.{nat_le}
-use Rattle.std.proofs.lemmas.Bool.{le-leb, and_from}
+use Rattle.std.proofs.lemmas.Bool.{le-leb, lt-leb, ne_eqb, and_from}
 use Rattle.std.proofs.lemmas.List.FromFn.{length-map-range_with_len}
+use Rattle.can_log.specs.Dir.{other_direction}
 use Rattle.can_log.specs.declared.frame.Dir.{Dir}
-use Rattle.isotp_segment.specs.CanonicalFrames.{total_count, canonical_frame, canonical_frames}
+use Rattle.isotp_segment.specs.CanonicalFrames.{filled, single_control, first_control, consecutive_control, continue_control, place_of, total_count, canonical_frame, canonical_frames}
 use Rattle.isotp_segment.proofs.Left.{drop-map-range, drop-map-range-end}
 
 -- a message that has frames
@@ -39,3 +40,30 @@ pub count_of_frames : (len n : ℕ) → 1 ≤ len → len ≤ 65535 → n ≡ to
     → (direction : Dir) (message : List ℕ) → len ≡ length message → n ≡ length (canonical_frames 65535 direction message)
 count_of_frames len n some high is direction message same =
     is ∙ ap total_count same ∙ sym (length-canonical_frames 65535 direction message (omega arith) (omega arith))
+
+-- each frame by its number
+
+pub frame-single : (direction : Dir) (message : List ℕ) (number : ℕ) → length message ≤ 7
+    → canonical_frame direction message number ≡ (direction, filled (single_control (length message)) message)
+unfolding canonical_frame
+frame-single direction message number short = (let one = le-leb (length message) 7 short in rw one refl)
+
+pub frame-first : (direction : Dir) (message : List ℕ) → 7 < length message
+    → canonical_frame direction message 0 ≡ (direction, filled (first_control (length message)) message)
+unfolding canonical_frame
+frame-first direction message long = (let more = lt-leb (length message) 7 long in rw more refl)
+
+pub frame-continue : (direction : Dir) (message : List ℕ) → 7 < length message
+    → canonical_frame direction message 1 ≡ (other_direction direction, filled continue_control [])
+unfolding canonical_frame
+frame-continue direction message long = (let more = lt-leb (length message) 7 long in rw more refl)
+
+pub frame-consecutive : (direction : Dir) (message : List ℕ) (number : ℕ) → 7 < length message → 1 ≤ number
+    → canonical_frame direction message (1 + number) ≡ (direction, filled (consecutive_control number) (drop (place_of (length message) number) message))
+unfolding canonical_frame
+frame-consecutive direction message number long one =
+    let more = lt-leb (length message) 7 long in
+    let not_zero : (1 + number) == 0 ≡ false = ne_eqb (1 + number) 0 (omega arith) in
+    let not_one : (1 + number) == 1 ≡ false = ne_eqb (1 + number) 1 (omega arith) in
+    let back : 1 + number - 1 ≡ number = omega arith in
+    rw (more, not_zero, not_one, back) refl

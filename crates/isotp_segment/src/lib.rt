@@ -19,6 +19,8 @@ ghost use Rattle.std.specs.Prelude.{◌≡◌, ◌<◌, ◌≤◌, ◌-◌, ◌+
 ghost use Rattle.can_log.specs.declared.frame.Dir.{Dir};
 ghost use Rattle.isotp_segment.specs.CanonicalFrames.{filled, first_control, consecutive_control, bytes_in_first, place_of, total_count, canonical_frame, canonical_frames};
 
+pub mod laws;
+
 use can_log::Dir;
 
 /// The most bytes that a message has.
