@@ -10,3 +10,4 @@ pub mod Delivered
 pub mod Clean
 pub mod Certified
 pub mod Fits
+pub mod MessagesOfMore

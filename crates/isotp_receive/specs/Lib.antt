@@ -9,6 +9,7 @@ pub mod CleanTrace
 pub mod Laws
 pub mod RecordingLaws
 pub mod EventSeen
+pub mod Recorded
 pub mod Heard
 pub mod Machine
 pub mod Kept

@@ -67,3 +67,8 @@ after limit o micros no_part = o
 abbrev pub both_after : ℕ → Receptions → ℕ → ℕ → Dir → Result Layout PduFault → Receptions
 both_after limit p line micros Tester x = record { tester = after limit p.tester micros (own_role line micros x); unit = after limit p.unit micros (other_role x) }
 both_after limit p line micros Unit x = record { unit = after limit p.unit micros (own_role line micros x); tester = after limit p.tester micros (other_role x) }
+
+-- both where nothing stands for the direction any more
+abbrev pub without : Receptions → Dir → Receptions
+without p Tester = record p { tester = None }
+without p Unit = record p { unit = None }

@@ -12,6 +12,21 @@ pub struct Event<'a> {
     pub verdict: Verdict<'a>,
 }
 
+impl<'a> Event<'a> {
+    ghost use Rattle.std.specs.Prelude.{◌≡◌, None};
+    ghost use Rattle.isotp_receive.specs.EventSeen.{seen_event, seen_verdict};
+
+    /// A frame that ended nothing.
+    pub(crate) fn of(verdict: Verdict<'a>) -> Event<'a>
+        ensures { seen_event result ≡ record { ended = None; told = seen_verdict verdict.entry } }
+    {
+        Event {
+            ended: None,
+            verdict,
+        }
+    }
+}
+
 /// A reception that ended before its message was complete.
 #[derive(Clone, Copy, Debug, PartialEq, Eq)]
 pub struct Ended {

@@ -21,7 +21,7 @@ mod reception;
 pub mod recordings;
 
 pub use event::{Cause, Ended, Event, Reason, Verdict};
-pub use messages::Recorded;
+pub use messages::{Message, Recorded, messages_of};
 pub use pair::Pair;
 
 /// The most bytes that a message may have.

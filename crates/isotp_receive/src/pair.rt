@@ -3,14 +3,15 @@
 ghost use Rattle.std.specs.Prelude.{◌≡◌, ℕ, List, ◌++◌, ◌∷◌, [], IfOk, option_map};
 ghost use Rattle.std.specs.Borrow.{sem};
 ghost use Rattle.can_log.specs.Dir.{other_direction};
-ghost use Rattle.isotp_pdu.specs.Layout.{IsSoundLayout, layout_seen};
+ghost use Rattle.isotp_pdu.specs.Layout.{IsSoundLayout, first, layout_seen};
 ghost use Rattle.isotp_receive.specs.Trace.{Entry};
 ghost use Rattle.isotp_receive.specs.Standing.{receptions_after, of_direction};
-ghost use Rattle.isotp_receive.specs.Verdict.{on_layout, verdict};
+ghost use Rattle.isotp_receive.specs.Verdict.{ended_as, on_layout, verdict};
+ghost use Rattle.isotp_receive.specs.Machine.{both_after, without};
 ghost use Rattle.isotp_receive.specs.EventSeen.{seen_event};
 
 use crate::MESSAGE_LIMIT;
-use crate::event::{Cause, Event, Reason, Verdict};
+use crate::event::{Cause, Ended, Event, Reason, Verdict};
 use crate::reception::Reception;
 use can_log::{Dir, Frame};
 use isotp_pdu::{Pdu, PduFault, read_pdu};
@@ -68,44 +69,16 @@ impl Pair {
         ensures event { seen_event result ≡ on_layout MESSAGE_LIMIT dir (of_direction self.old dir) (of_direction self.old (other_direction dir)) micros (layout_seen read.entry) }
     {
         match read {
-            Err(fault) => Event {
-                ended: None,
-                verdict: Verdict::Dropped(Reason::Pdu(fault)),
-            },
+            Err(fault) => Event::of(Verdict::Dropped(Reason::Pdu(fault))),
             Ok(Pdu::Flow(status)) => match dir {
                 Dir::Tester => self.unit.flow(Dir::Unit, micros, status),
                 Dir::Unit => self.tester.flow(Dir::Tester, micros, status),
             },
-            Ok(Pdu::Single(message)) => {
-                let ended = match dir {
-                    Dir::Tester => self.tester.end(Cause::NewStart, dir),
-                    Dir::Unit => self.unit.end(Cause::NewStart, dir),
-                };
-                Event {
-                    ended,
-                    verdict: Verdict::Message(message),
-                }
-            }
-            Ok(Pdu::First { len, rx_dl, bytes }) => {
-                let ended = match dir {
-                    Dir::Tester => self.tester.end(Cause::NewStart, dir),
-                    Dir::Unit => self.unit.end(Cause::NewStart, dir),
-                };
-                if len > MESSAGE_LIMIT {
-                    return Event {
-                        ended,
-                        verdict: Verdict::Dropped(Reason::TooLong { announced: len }),
-                    };
-                }
-                match dir {
-                    Dir::Tester => self.tester.begin(line, micros, len, rx_dl, bytes),
-                    Dir::Unit => self.unit.begin(line, micros, len, rx_dl, bytes),
-                }
-                Event {
-                    ended,
-                    verdict: Verdict::Began,
-                }
-            }
+            Ok(Pdu::Single(message)) => Event {
+                ended: self.end(dir),
+                verdict: Verdict::Message(message),
+            },
+            Ok(Pdu::First { len, rx_dl, bytes }) => self.begin(line, micros, dir, len, rx_dl, bytes),
             Ok(
                 Pdu::Next {
                     sn,
@@ -116,6 +89,49 @@ impl Pair {
                 Dir::Tester => self.tester.next(dir, micros, sn, frame_len, bytes),
                 Dir::Unit => self.unit.next(dir, micros, sn, frame_len, bytes),
             },
+        }
+    }
+
+    /// Ends the reception of the direction, since a new message of it starts.
+    fn end(&mut self, dir: Dir) -> Option<Ended>
+        ensures end { self.new ≡ without self.old dir }
+        ensures ended { result ≡ ended_as Cause.NewStart dir (of_direction self.old dir) }
+    {
+        match dir {
+            Dir::Tester => self.tester.end(Cause::NewStart, dir),
+            Dir::Unit => self.unit.end(Cause::NewStart, dir),
+        }
+    }
+
+    /// A first frame: it ends what stands, and begins a reception where its message is one that a
+    /// pair holds.
+    fn begin(
+        &mut self,
+        line: u64,
+        micros: u64,
+        dir: Dir,
+        len: u32,
+        rx_dl: u8,
+        bytes: &[u8],
+    ) -> Event<'static>
+        requires { IsSoundLayout (first len rx_dl bytes.now) }
+        ensures after { self.new ≡ both_after MESSAGE_LIMIT self.old line micros dir (Ok (first len rx_dl bytes.now)) }
+        ensures event { seen_event result ≡ on_layout MESSAGE_LIMIT dir (of_direction self.old dir) (of_direction self.old (other_direction dir)) micros (Ok (first len rx_dl bytes.now)) }
+    {
+        let ended = self.end(dir);
+        if len > MESSAGE_LIMIT {
+            return Event {
+                ended,
+                verdict: Verdict::Dropped(Reason::TooLong { announced: len }),
+            };
+        }
+        match dir {
+            Dir::Tester => self.tester.begin(line, micros, len, rx_dl, bytes),
+            Dir::Unit => self.unit.begin(line, micros, len, rx_dl, bytes),
+        }
+        Event {
+            ended,
+            verdict: Verdict::Began,
         }
     }
 

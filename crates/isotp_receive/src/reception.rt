@@ -39,6 +39,42 @@ struct Head {
     reference: u64,
 }
 
+impl Head {
+    ghost use Rattle.std.specs.Prelude.{◌≡◌, ◌<◌, ◌+◌, ◌%◌, ◌^◌, Some};
+    ghost use Rattle.isotp_receive.specs.Verdict.{refused};
+    ghost use Rattle.isotp_receive.specs.EventSeen.{seen_event};
+
+    /// The sequence number of the next consecutive frame.
+    fn expected(self) -> u8
+        requires { self.taken < 2 ^ 31 }
+        ensures { result ≡ (self.taken + 1) % 16 }
+    {
+        ((self.taken + 1) % 16) as u8
+    }
+
+    /// The reception that ended so.
+    fn ended(self, cause: Cause, dir: Dir) -> Ended
+        ensures { result ≡ record { dir = dir; begun_line = self.line; len = self.len; cause = cause } }
+    {
+        Ended {
+            dir,
+            begun_line: self.line,
+            len: self.len,
+            cause,
+        }
+    }
+
+    /// A frame that is dropped, and ends the reception.
+    fn refuse(self, cause: Cause, dir: Dir, reason: Reason) -> Event<'static>
+        ensures { seen_event result ≡ refused (Some (record { dir = dir; begun_line = self.line; len = self.len; cause = cause })) reason }
+    {
+        Event {
+            ended: Some(self.ended(cause, dir)),
+            verdict: Verdict::Dropped(reason),
+        }
+    }
+}
+
 /// The reception of one direction.
 #[derive(Drop)]
 pub struct Reception {
@@ -84,12 +120,7 @@ impl Reception {
         let head = self.head;
         self.head = None;
         match head {
-            Some(head) => Some(Ended {
-                dir,
-                begun_line: head.line,
-                len: head.len,
-                cause,
-            }),
+            Some(head) => Some(head.ended(cause, dir)),
             None => None,
         }
     }
@@ -115,10 +146,7 @@ impl Reception {
         ensures event { seen_event result ≡ on_flow_control dir self.old status }
     {
         let Some(head) = self.head else {
-            return Event {
-                ended: None,
-                verdict: Verdict::Dropped(Reason::FlowUnexpected),
-            };
+            return Event::of(Verdict::Dropped(Reason::FlowUnexpected));
         };
         match status {
             Status::Continue | Status::Wait => {
@@ -126,48 +154,26 @@ impl Reception {
                     reference: micros,
                     ..head
                 });
-                Event {
-                    ended: None,
-                    verdict: Verdict::Flow,
-                }
+                Event::of(Verdict::Flow)
             }
-            Status::Overflow => {
-                if head.taken == 0 {
-                    let ended = self.end(Cause::Overflow, dir);
-                    Event {
-                        ended,
-                        verdict: Verdict::Flow,
-                    }
-                } else {
-                    Event {
-                        ended: None,
-                        verdict: Verdict::Dropped(Reason::FlowUnexpected),
-                    }
-                }
-            }
+            Status::Overflow if head.taken == 0 => Event {
+                ended: self.end(Cause::Overflow, dir),
+                verdict: Verdict::Flow,
+            },
+            Status::Overflow => Event::of(Verdict::Dropped(Reason::FlowUnexpected)),
         }
     }
 
     #[tactic(auto, using(crate::proofs::Next::take_over))]
-    pub fn next<'a>(
-        &'a mut self,
-        dir: Dir,
-        micros: u64,
-        sn: u8,
-        frame_len: u8,
-        bytes: &[u8],
-    ) -> Event<'a>
-        requires { IsSoundLayout (consecutive sn frame_len bytes.now) }
-        ensures* after { sem 𝓛 (TakesConsecutive self.entry micros sn frame_len bytes.now) }
-        ensures event { seen_event result ≡ on_consecutive dir self.old micros sn frame_len bytes.now }
+    pub fn next<'a>(&'a mut self, dir: Dir, micros: u64, sn: u8, can_dl: u8, bytes: &[u8]) -> Event<'a>
+        requires { IsSoundLayout (consecutive sn can_dl bytes.now) }
+        ensures* after { sem 𝓛 (TakesConsecutive self.entry micros sn can_dl bytes.now) }
+        ensures event { seen_event result ≡ on_consecutive dir self.old micros sn can_dl bytes.now }
     {
         let Some(head) = self.head else {
-            return Event {
-                ended: None,
-                verdict: Verdict::Dropped(Reason::NextUnexpected),
-            };
+            return Event::of(Verdict::Dropped(Reason::NextUnexpected));
         };
-        match judge(head, self.bytes.as_slice(), micros, sn, frame_len) {
+        match judge(head, self.bytes.as_slice(), micros, sn, can_dl) {
             Judged::More => {
                 self.bytes.extend_from_slice(bytes).unwrap();
                 self.head = Some(Head {
@@ -175,10 +181,7 @@ impl Reception {
                     reference: micros,
                     ..head
                 });
-                Event {
-                    ended: None,
-                    verdict: Verdict::Stored,
-                }
+                Event::of(Verdict::Stored)
             }
             Judged::Last => {
                 let missing = head.len as usize - self.bytes.len();
@@ -191,66 +194,43 @@ impl Reception {
             }
             Judged::Late => {
                 self.head = None;
-                refuse(Cause::Late, dir, head.line, head.len, Reason::NextLate)
+                head.refuse(Cause::Late, dir, Reason::NextLate)
             }
             Judged::Sequence => {
                 self.head = None;
-                let expected = ((head.taken + 1) % 16) as u8;
-                refuse(
-                    Cause::Sequence,
-                    dir,
-                    head.line,
-                    head.len,
-                    Reason::NextSequence {
-                        expected,
-                        found: sn,
-                    },
-                )
+                let expected = head.expected();
+                head.refuse(Cause::Sequence, dir, Reason::NextSequence { expected, found: sn })
             }
             Judged::Length => {
                 self.head = None;
-                refuse(Cause::Length, dir, head.line, head.len, Reason::NextLength)
+                head.refuse(Cause::Length, dir, Reason::NextLength)
             }
         }
     }
 }
 
-fn refuse(cause: Cause, dir: Dir, begun_line: u64, len: u32, reason: Reason) -> Event<'static>
-    ensures { seen_event result ≡ refused (Some (record { dir = dir; begun_line = begun_line; len = len; cause = cause })) reason }
-{
-    Event {
-        ended: Some(Ended {
-            dir,
-            begun_line,
-            len,
-            cause,
-        }),
-        verdict: Verdict::Dropped(reason),
-    }
-}
-
 /// What a consecutive frame is to a reception of which these bytes are there.
-fn judge(head: Head, bytes: &[u8], micros: u64, sn: u8, frame_len: u8) -> Judged
+fn judge(head: Head, bytes: &[u8], micros: u64, sn: u8, can_dl: u8) -> Judged
     requires taken { head.taken < 65536 }
     requires have { length bytes.now < head.len }
     requires limit { head.len ≤ MESSAGE_LIMIT }
     requires low { 8 ≤ head.rx_dl }
-    ensures { result ≡ judged (stands_as head bytes.now) micros sn frame_len }
+    ensures { result ≡ judged (stands_as head bytes.now) micros sn can_dl }
 {
     let have = bytes.len() as u32;
     if micros > head.reference && micros - head.reference > N_CR {
         return Judged::Late;
     }
-    if sn as u32 != (head.taken + 1) % 16 {
+    if sn != head.expected() {
         return Judged::Sequence;
     }
     if have + (head.rx_dl as u32 - 1) < head.len {
-        if frame_len == head.rx_dl {
+        if can_dl == head.rx_dl {
             Judged::More
         } else {
             Judged::Length
         }
-    } else if frame_len as u32 >= 1 + (head.len - have) && frame_len <= head.rx_dl {
+    } else if can_dl as u32 >= 1 + (head.len - have) && can_dl <= head.rx_dl {
         Judged::Last
     } else {
         Judged::Length

@@ -1,0 +1,15 @@
+-- Recorded frames as a trace, and messages without where they lie in memory.
+use Rattle.std.specs.Prelude.{ℕ, List, map}
+use Rattle.can_log.specs.declared.frame.Dir.{Dir}
+use Rattle.isotp_receive.specs.Trace.{Entry}
+use Rattle.isotp_receive.specs.declared.messages.Message.{Message}
+use Rattle.isotp_receive.specs.declared.messages.Recorded.{Recorded}
+
+abbrev pub entry_of : Recorded → Entry
+entry_of r = record { line = r.line; micros = r.micros; dir = r.dir; frame = r.frame }
+
+abbrev pub entries : List Recorded → List Entry
+entries rs = map entry_of rs
+
+abbrev pub sent : List Message → List (Dir × List ℕ)
+sent ms = map (λ m. (m.dir, m.bytes.items)) ms
