@@ -1,5 +1,5 @@
 -- The bytes of a canonical frame, each by its place.
-use Rattle.std.proofs.Common.{◌≡◌, ℕ, ◌+◌, ◌-◌, ◌<◌, List, ◌++◌, length, take, drop, map, get_or, sym, ◌∙◌, ap, arith, append_assoc, length-append, length-take, length-drop, ext_get_or, get_or-take, inl, inr}
+use Rattle.std.proofs.Common.{◌≡◌, ℕ, ◌+◌, ◌-◌, ◌<◌, List, ◌++◌, length, take, map, get_or, sym, ◌∙◌, ap, arith, append_assoc, length-append, length-take, ext_get_or, get_or-take, inl, inr}
 use Rattle.std.specs.Prelude.{replicate, slice_index, slice_index_or, nat_lt}
 use Rattle.std.specs.List.{range_with_len}
 use Rattle.std.proofs.Math.Seq.{get_or-append_right}
@@ -45,6 +45,3 @@ filled-holds control bytes x i inside is room =
 
 pub length-filled : (control bytes : List ℕ) → length (filled control bytes) ≡ 8
 length-filled control bytes = ap (length {A = ℕ}) (filled_by_place control bytes) ∙ length-map-range_with_len (byte_at (control ++ bytes)) 0 8
-
-pub length-drop-filled : (k : ℕ) (control bytes : List ℕ) → length (drop k (filled control bytes)) ≡ 8 - k
-length-drop-filled k control bytes = omega (arith, length-drop k (filled control bytes), length-filled control bytes)

@@ -1,71 +1,69 @@
--- What the canonical frames read as.
-use Rattle.std.proofs.Common.{◌≡◌, ℕ, ◌+◌, ◌*◌, ◌/◌, ◌%◌, ◌<◌, ◌≤◌, ◌^◌, false, List, [], ◌∷◌, length, drop, nat_lt, nat_le, ◌==◌, Ok, refl, arith}
-use Rattle.std.proofs.lemmas.Bool.{le-leb, lt-leb, le-ltb, ne_eqb}
-use Rattle.isotp_pdu.specs.declared.Status.TheVariants.{Continue}
+-- What the canonical frames say: each has a layout, and is read so.
+use Rattle.std.proofs.Common.{◌≡◌, ℕ, ◌-◌, ◌/◌, ◌%◌, ◌<◌, ◌≤◌, ◌^◌, List, [], ◌∷◌, length, take, drop, nat_le, Ok, refl, sym, ap, arith, inl, inr}
+use Rattle.std.specs.Prelude.{◌≢◌, replicate}
+use Rattle.std.proofs.lemmas.Bool.{leb-true, leb-false, cases_Bool}
 use Rattle.can_log.specs.Frame.{FrameValue}
 use Rattle.can_log.specs.declared.frame.Id.{Id}
-use Rattle.can_log.specs.declared.frame.Kind.TheVariants.{Classic}
-use Rattle.isotp_pdu.specs.Layout.{single, first, consecutive, flow_control, layout_of, of_bytes}
-use Rattle.isotp_pdu.proofs.Spelled.{reads_next}
-use Rattle.isotp_segment.specs.CanonicalFrames.{filled, single_control, first_control, consecutive_control, continue_control}
-use Rattle.isotp_segment.proofs.Bytes.{byte_at, placed_bytes, filled_by_place}
-
-first_short : (len a b c d e f g h : ℕ) → 8 ≤ len → len ≤ 4095 → a ≡ 16 + len / 256 → b ≡ len % 256
-    → of_bytes (a ∷ b ∷ c ∷ d ∷ e ∷ f ∷ g ∷ h ∷ []) ≡ Ok (first len 8 (c ∷ d ∷ e ∷ f ∷ g ∷ h ∷ []))
-first_short len a b c d e f g h low high ea eb =
-    let kind : a / 16 ≡ 1 = omega arith in
-    let short : a % 16 * 256 + b ≡ len = omega arith in
-    let nz : len == 0 ≡ false = ne_eqb len 0 (omega arith) in
-    let least : nat_lt len 8 ≡ false = le-ltb len 8 low in
-    rw (kind, short, nz, least) refl
-
-first_escaped : (len a b c d e f g h : ℕ) → 4095 < len → len < 4294967296 → a ≡ 16 → b ≡ 0 → c ≡ len / 16777216 % 256 → d ≡ len / 65536 % 256 → e ≡ len / 256 % 256 → f ≡ len % 256
-    → of_bytes (a ∷ b ∷ c ∷ d ∷ e ∷ f ∷ g ∷ h ∷ []) ≡ Ok (first len 8 (g ∷ h ∷ []))
-first_escaped len a b c d e f g h low high ea eb ec ed ee ef =
-    let kind : a / 16 ≡ 1 = omega arith in
-    let short : a % 16 * 256 + b ≡ 0 = omega arith in
-    let size : ((c * 256 + d) * 256 + e) * 256 + f ≡ len = omega arith in
-    let least : nat_le len 4095 ≡ false = lt-leb len 4095 low in
-    rw (kind, short, size, least) refl
+use Rattle.can_log.specs.declared.frame.Kind.TheVariants.{Classic, Remote}
+use Rattle.isotp_pdu.specs.declared.Status.TheVariants.{Continue}
+use Rattle.isotp_pdu.specs.Layout.{Layout, single, first, consecutive, flow_control, first_byte, least_first, Spells, layout_of}
+use Rattle.isotp_pdu.proofs.EveryFrame.{layout_is_read}
+use Rattle.isotp_segment.specs.CanonicalFrames.{filled, padding, single_control, first_control, consecutive_control, continue_control, bytes_in_first}
+use Rattle.isotp_segment.proofs.Padding.{filled-whole, filled-padded}
+use Rattle.isotp_segment.proofs.Bytes.{filled_by_place, length-filled}
 
 -- a classic frame of these bytes
 abbrev pub classic : Id → List ℕ → FrameValue
 classic id bytes = record { id = id; kind = Classic; bytes = bytes }
 
-pub layout-consecutive : (id : Id) (number : ℕ) (bytes : List ℕ) → layout_of (classic id (filled (consecutive_control number) bytes))
-    ≡ Ok (consecutive (number % 16) 8 (drop 1 (filled (consecutive_control number) bytes)))
-unfolding layout_of
-layout-consecutive id number bytes =
-    let small : number % 16 < 16 = omega arith in
-    rw (filled_by_place (consecutive_control number) bytes) (reads_next (number % 16) (drop 1 (placed_bytes 8 (byte_at ((0x20 + number % 16) ∷ bytes)))) small)
-
-pub layout-continue : (id : Id) → layout_of (classic id (filled continue_control [])) ≡ Ok (flow_control Continue)
-unfolding layout_of filled
-layout-continue id = refl
-
-pub layout-first_short : (id : Id) (m : List ℕ) → 8 ≤ length m → length m ≤ 4095
-    → layout_of (classic id (filled (first_control (length m)) m)) ≡ Ok (first (length m) 8 (drop 2 (filled (first_control (length m)) m)))
-unfolding layout_of
-layout-first_short id m low high =
-    let short = le-leb (length m) 4095 high in
-    rw (short, filled_by_place ((0x10 + length m / 256) ∷ (length m % 256) ∷ []) m) (first_short (length m) _ _ _ _ _ _ _ _ low high refl refl)
-
-pub layout-first_escaped : (id : Id) (m : List ℕ) → 4095 < length m → length m < 2 ^ 32
-    → layout_of (classic id (filled (first_control (length m)) m)) ≡ Ok (first (length m) 8 (drop 6 (filled (first_control (length m)) m)))
-unfolding layout_of
-layout-first_escaped id m low high =
-    let long = lt-leb (length m) 4095 low in
-    rw (long, filled_by_place (0x10 ∷ 0 ∷ (length m / 16777216 % 256) ∷ (length m / 65536 % 256) ∷ (length m / 256 % 256) ∷ (length m % 256) ∷ []) m)
-    (first_escaped (length m) _ _ _ _ _ _ _ _ low high refl refl refl refl refl refl)
+-- a frame of 8 bytes that spells the layout is read so
+reads : (id : Id) (control bytes : List ℕ) (layout : Layout) → Spells (filled control bytes) layout → layout_of (classic id (filled control bytes)) ≡ Ok layout
+reads id control bytes layout spelled = (layout_is_read (classic id (filled control bytes)) layout).0 (record {
+  data_frame = data_frame;
+  frame_length = rw (length-filled control bytes) refl;
+  spelled = spelled;
+}) where
+  data_frame : Classic ≢ Remote
+  data_frame e = cc
 
 pub layout-single : (id : Id) (m : List ℕ) → 1 ≤ length m → length m ≤ 7 → layout_of (classic id (filled (single_control (length m)) m)) ≡ Ok (single m)
-unfolding layout_of filled
-layout-single id [] low high = absurd (omega arith)
-layout-single id (a ∷ []) low high = refl
-layout-single id (a ∷ b ∷ []) low high = refl
-layout-single id (a ∷ b ∷ c ∷ []) low high = refl
-layout-single id (a ∷ b ∷ c ∷ d ∷ []) low high = refl
-layout-single id (a ∷ b ∷ c ∷ d ∷ e ∷ []) low high = refl
-layout-single id (a ∷ b ∷ c ∷ d ∷ e ∷ f ∷ []) low high = refl
-layout-single id (a ∷ b ∷ c ∷ d ∷ e ∷ f ∷ g ∷ []) low high = refl
-layout-single id (a ∷ b ∷ c ∷ d ∷ e ∷ f ∷ g ∷ h ∷ more) low high = absurd (omega arith)
+layout-single id m some short = reads id (single_control (length m)) m (single m)
+    (replicate (8 - 1 - length m) padding, some, inl (omega (arith, length-filled (single_control (length m)) m), sym (filled-padded (single_control (length m)) m (omega arith) (omega arith))))
+
+short_control : ℕ → List ℕ
+short_control len = first_byte 1 (len / 2 ^ 8) ∷ (len % 256) ∷ []
+
+escaped_control : ℕ → List ℕ
+escaped_control len = first_byte 1 0 ∷ 0 ∷ (len / 2 ^ 24) ∷ (len / 2 ^ 16 % 256) ∷ (len / 2 ^ 8 % 256) ∷ (len % 256) ∷ []
+
+first_short : (id : Id) (m : List ℕ) → 8 ≤ length m → length m ≤ 4095 → layout_of (classic id (filled (short_control (length m)) m)) ≡ Ok (first (length m) 8 (take 6 m))
+unfolding short_control
+first_short id m low high =
+    let size = length-filled (short_control (length m)) m in
+    let least : least_first (length (filled (short_control (length m)) m)) ≡ 8 = ap least_first size in
+    reads id (short_control (length m)) m (first (length m) 8 (take 6 m))
+    (refl, sym size, inl (omega arith, high, sym (filled-whole (short_control (length m)) m (omega arith) (omega arith))))
+
+first_escaped : (id : Id) (m : List ℕ) → 4095 < length m → length m < 2 ^ 32 → layout_of (classic id (filled (escaped_control (length m)) m)) ≡ Ok (first (length m) 8 (take 2 m))
+unfolding escaped_control
+first_escaped id m low high =
+    let size = length-filled (escaped_control (length m)) m in
+    reads id (escaped_control (length m)) m (first (length m) 8 (take 2 m))
+    (refl, sym size, inr (low, high, sym (filled-whole (escaped_control (length m)) m (omega arith) (omega arith))))
+
+pub layout-first : (id : Id) (m : List ℕ) → 8 ≤ length m → length m < 2 ^ 32
+    → layout_of (classic id (filled (first_control (length m)) m)) ≡ Ok (first (length m) 8 (take (bytes_in_first (length m)) m))
+unfolding short_control escaped_control
+layout-first id m low high = elim (cases_Bool (nat_le (length m) 4095)) [
+  | inl t ↦ rw t (first_short id m low (leb-true (length m) 4095 t))
+  | inr t ↦ rw t (first_escaped id m (leb-false (length m) 4095 t) high)
+]
+
+pub layout-consecutive : (id : Id) (number : ℕ) (bytes : List ℕ) → layout_of (classic id (filled (consecutive_control number) bytes))
+    ≡ Ok (consecutive (number % 16) 8 (drop 1 (filled (consecutive_control number) bytes)))
+layout-consecutive id number bytes = reads id (consecutive_control number) bytes _
+    (omega arith, sym (length-filled (consecutive_control number) bytes), rw (filled_by_place (consecutive_control number) bytes) refl)
+
+pub layout-continue : (id : Id) → layout_of (classic id (filled continue_control [])) ≡ Ok (flow_control Continue)
+unfolding filled
+layout-continue id = reads id continue_control [] (flow_control Continue) (0, 0, replicate 5 padding, refl)

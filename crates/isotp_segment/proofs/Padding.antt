@@ -12,7 +12,7 @@ take-append-from n xs ys le =
     ap (λ k. take k (xs ++ ys)) sum ∙ take-append-add xs ys (n - length xs)
 
 -- the bytes leave no room for padding
-filled-whole : (control bytes : List ℕ) → length control ≤ 8 → 8 - length control ≤ length bytes
+pub filled-whole : (control bytes : List ℕ) → length control ≤ 8 → 8 - length control ≤ length bytes
     → control ++ take (8 - length control) bytes ≡ filled control bytes
 unfolding filled
 filled-whole control bytes fits long =
@@ -20,7 +20,7 @@ filled-whole control bytes fits long =
     ∙ sym (take-append-from 8 control (bytes ++ replicate 8 padding) fits)
 
 -- they do
-filled-padded : (control bytes : List ℕ) → length control ≤ 8 → length bytes ≤ 8 - length control
+pub filled-padded : (control bytes : List ℕ) → length control ≤ 8 → length bytes ≤ 8 - length control
     → control ++ (bytes ++ replicate (8 - length control - length bytes) padding) ≡ filled control bytes
 unfolding filled
 filled-padded control bytes fits short =

@@ -1,18 +1,14 @@
 -- The positions that the frames of a message are given, where they begin at n.
-use Rattle.std.proofs.Common.{◌≡◌, ℕ, zero, suc, ◌+◌, ◌-◌, ◌/◌, ◌<◌, ◌≤◌, List, [], ◌∷◌, length, nat_lt, nat_le, refl, ◌∙◌, ap, arith, cond, inl, inr}
+use Rattle.std.proofs.Common.{◌≡◌, ℕ, zero, suc, ◌+◌, ◌-◌, ◌<◌, ◌≤◌, List, [], ◌∷◌, length, nat_lt, nat_le, refl, ◌∙◌, ap, arith, cond, inl, inr}
 use Rattle.std.specs.List.{range_with_len}
 use Rattle.std.proofs.lemmas.Bool.{leb-false, ltb-true, ltb-false, cases_Bool}
 use Rattle.isotp_receive.specs.Recording.{IsRisingFrom, IsIn, last_or}
 use Rattle.isotp_receive.proofs.Delivered.{last-in}
-use Rattle.isotp_segment.specs.CanonicalFrames.{bytes_in_first, total_count}
-
--- how many consecutive frames a message of more than 7 bytes has
-abbrev pub consecutive_count : List ℕ → ℕ
-consecutive_count m = (length m - bytes_in_first (length m) + 6) / 7
+use Rattle.isotp_segment.specs.CanonicalFrames.{bytes_in_first, consecutive_count, total_count}
 
 -- one, or that of the first frame and, behind the continue frame, those of the consecutive frames
 abbrev pub positions_of : List ℕ → ℕ → List ℕ
-positions_of m n = cond (nat_le (length m) 7) (n ∷ []) (n ∷ range_with_len (n + 2) (consecutive_count m))
+positions_of m n = cond (nat_le (length m) 7) (n ∷ []) (n ∷ range_with_len (n + 2) (consecutive_count (length m)))
 
 pub rising-range : (k a c : ℕ) → k ≤ a → IsRisingFrom k (range_with_len a c)
 rising-range k a zero le = tt
@@ -33,13 +29,13 @@ in-range p a (suc c) low high = elim (cases_Bool (nat_lt a p)) [
 pub position-bounds : (m : List ℕ) (n p : ℕ) → IsIn p (positions_of m n) → (n ≤ p) × (p < n + total_count (length m))
 position-bounds m n p i = elim (cases_Bool (nat_le (length m) 7)) [
   | inl t ↦ rw t (elim (rw t at i) [ inl e ↦ (omega arith, omega arith) | inr none ↦ absurd none ])
-  | inr t ↦ rw t (elim (rw t at i) [ inl e ↦ (omega arith, omega arith) | inr r ↦ (let h = range-bounds p (n + 2) (consecutive_count m) r in (omega arith, omega arith)) ])
+  | inr t ↦ rw t (elim (rw t at i) [ inl e ↦ (omega arith, omega arith) | inr r ↦ (let h = range-bounds p (n + 2) (consecutive_count (length m)) r in (omega arith, omega arith)) ])
 ]
 
 pub last-position : (m : List ℕ) (n : ℕ) → IsIn (last_or 0 (positions_of m n)) (positions_of m n)
 last-position m n = elim (cases_Bool (nat_le (length m) 7)) [
   | inl t ↦ rw t (inl refl)
-  | inr t ↦ rw t (last-in n (range_with_len (n + 2) (consecutive_count m)))
+  | inr t ↦ rw t (last-in n (range_with_len (n + 2) (consecutive_count (length m))))
 ]
 
 pub bytes_in_first-few : (len : ℕ) → bytes_in_first len ≤ 6
@@ -53,6 +49,6 @@ last_or-range k a (suc c) = (let e : a + 1 + c ≡ a + suc c = omega arith in la
 pub last-position-is : (m : List ℕ) (n : ℕ) → 1 ≤ length m → last_or 0 (positions_of m n) + 1 ≡ n + total_count (length m)
 last-position-is m n some = elim (cases_Bool (nat_le (length m) 7)) [
   | inl t ↦ rw t refl
-  | inr t ↦ rw t (let low = leb-false (length m) 7 t in let few = bytes_in_first-few (length m) in let more : consecutive_count m ≡ suc (consecutive_count m - 1) = omega arith in
-      let last = ap (λ c. last_or n (range_with_len (n + 2) c)) more ∙ last_or-range n (n + 2) (consecutive_count m - 1) in omega arith)
+  | inr t ↦ rw t (let low = leb-false (length m) 7 t in let few = bytes_in_first-few (length m) in let more : consecutive_count (length m) ≡ suc (consecutive_count (length m) - 1) = omega arith in
+      let last = ap (λ c. last_or n (range_with_len (n + 2) c)) more ∙ last_or-range n (n + 2) (consecutive_count (length m) - 1) in omega arith)
 ]

@@ -1,5 +1,5 @@
 -- The canonical frames of messages, a millisecond apart, are a recording of them.
-use Rattle.std.proofs.Common.{◌≡◌, ℕ, zero, suc, ◌+◌, ◌-◌, ◌*◌, ◌%◌, ◌<◌, ◌≤◌, ◌^◌, true, false, List, [], ◌∷◌, ◌++◌, length, map, take, drop, get_or, nat_lt, nat_le, refl, sym, ◌∙◌, ap, arith, cond, inl, inr, subst, length-append, append_assoc}
+use Rattle.std.proofs.Common.{◌≡◌, ℕ, zero, suc, ◌+◌, ◌-◌, ◌*◌, ◌%◌, ◌<◌, ◌≤◌, ◌^◌, true, false, List, [], ◌∷◌, ◌++◌, length, map, take, drop, get_or, nat_lt, nat_le, refl, sym, ◌∙◌, ap, arith, cond, inl, inr, subst, length-append, length-take-le, append_assoc}
 use Rattle.std.specs.Prelude.{slice_index, ◌⊎◌}
 use Rattle.std.specs.List.{range_with_len, AllByRecursion}
 use Rattle.std.proofs.lemmas.Bool.{lt-leb, le-ltb, leb-true, leb-false, ltb-true, ltb-false, cases_Bool}
@@ -18,12 +18,12 @@ use Rattle.isotp_receive.proofs.Delivered.{recording-delivers-behind, delivers-a
 use Rattle.isotp_receive.specs.Places as places
 use Rattle.isotp_receive.proofs.Places.{first_from}
 use Rattle.isotp_receive.proofs.References.{at-same}
-use Rattle.isotp_segment.specs.CanonicalFrames.{filled, single_control, first_control, consecutive_control, continue_control, bytes_in_first, place_of, total_count, canonical_frame, canonical_frames}
+use Rattle.isotp_segment.specs.CanonicalFrames.{consecutive_count, filled, single_control, first_control, consecutive_control, continue_control, bytes_in_first, place_of, total_count, canonical_frame, canonical_frames}
 use Rattle.isotp_segment.specs.Timed.{timed, HasFrames, all_frames}
-use Rattle.isotp_segment.proofs.Bytes.{filled-holds, length-drop-filled}
+use Rattle.isotp_segment.proofs.Bytes.{filled-holds}
 use Rattle.isotp_segment.proofs.Frames.{frame-single, frame-first, frame-continue, frame-consecutive, length-canonical_frames}
-use Rattle.isotp_segment.proofs.Layouts.{layout-single, layout-first_short, layout-first_escaped, layout-consecutive, layout-continue}
-use Rattle.isotp_segment.proofs.Positions.{consecutive_count, positions_of, rising-range, in-range, position-bounds, last-position, bytes_in_first-few, last-position-is}
+use Rattle.isotp_segment.proofs.Layouts.{layout-single, layout-first, layout-consecutive, layout-continue}
+use Rattle.isotp_segment.proofs.Positions.{positions_of, rising-range, in-range, position-bounds, last-position, bytes_in_first-few, last-position-is}
 use Rattle.isotp_segment.proofs.TimedFrames.{entry, role-own, role-other, length-timed, take-timed, frames-stand}
 
 module _ (identifier : Dir → Id) (line micros limit : ℕ) (bits : limit < 2 ^ 32) where
@@ -33,23 +33,10 @@ module _ (identifier : Dir → Id) (line micros limit : ℕ) (bits : limit < 2 ^
       (role d (entry identifier line micros n (d, filled (first_control (length m)) m))
       ≡ first (record { line = line + n; micros = micros + n * 1000; len = length m; rx_dl = 8; bytes = b })) × (length b ≡ bytes_in_first (length m))
 
-  first-role : (d : Dir) (n : ℕ) (m : List ℕ) → 8 ≤ length m → length m ≤ limit → (b : List ℕ) × Begins d n m b
-  first-role d n m low high = elim (cases_Bool (nat_le (length m) 4095)) [
-    | inl t ↦ (
-      drop 2 (filled (first_control (length m)) m),
-      (
-        role-own identifier line micros d n _ _ (layout-first_short (identifier d) m low (leb-true (length m) 4095 t)),
-        rw t (length-drop-filled 2 _ m),
-      ),
-    )
-    | inr t ↦ (
-      drop 6 (filled (first_control (length m)) m),
-      (
-        role-own identifier line micros d n _ _ (layout-first_escaped (identifier d) m (leb-false (length m) 4095 t) (omega arith)),
-        rw t (length-drop-filled 6 _ m),
-      ),
-    )
-  ]
+  first-role : (d : Dir) (n : ℕ) (m : List ℕ) → 8 ≤ length m → length m ≤ limit → Begins d n m (take (bytes_in_first (length m)) m)
+  first-role d n m low high =
+      let few = bytes_in_first-few (length m) in
+      (role-own identifier line micros d n _ _ (layout-first (identifier d) m low (omega arith)), length-take-le (bytes_in_first (length m)) m (omega arith))
 
   first-holds : (m : List ℕ) (x i : ℕ) → 8 ≤ length m → x < bytes_in_first (length m) → i ≡ 8 - bytes_in_first (length m) + x
       → slice_index m x ≡ slice_index (filled (first_control (length m)) m) i
@@ -62,7 +49,7 @@ module _ (identifier : Dir → Id) (line micros limit : ℕ) (bits : limit < 2 ^
 
   module _ (T : List Entry) (d : Dir) (m : List ℕ) (n : ℕ) (low : 8 ≤ length m) (high : length m ≤ limit)
       (stand : (j : ℕ) → j < total_count (length m) → At T (n + j) (entry identifier line micros (n + j) (canonical_frame d m j))) where
-    total : total_count (length m) ≡ 2 + consecutive_count m
+    total : total_count (length m) ≡ 2 + consecutive_count (length m)
     total = (let more = lt-leb (length m) 7 (omega arith) in rw more refl)
 
     at-consecutive : (k : ℕ) → 1 ≤ k → 1 + k < total_count (length m)
@@ -101,7 +88,7 @@ module _ (identifier : Dir → Id) (line micros limit : ℕ) (bits : limit < 2 ^
       held : places.bytes_in_first (filled (first_control (length m)) m) ≡ bytes_in_first (length m)
       held = (let h = first_from d (entry identifier line micros n (d, filled (first_control (length m)) m)) _ starts.0 in sym h.1 ∙ starts.1)
 
-      part : (k : ℕ) → 1 ≤ k → k ≤ consecutive_count m → IsConsecutiveFrame T d m n start (bytes_in_first (length m)) (consecutive_count m) k (n + (1 + k))
+      part : (k : ℕ) → 1 ≤ k → k ≤ consecutive_count (length m) → IsConsecutiveFrame T d m n start (bytes_in_first (length m)) (consecutive_count (length m)) k (n + (1 + k))
       unfolding start
       part k one most =
           let all = total in
@@ -125,20 +112,20 @@ module _ (identifier : Dir → Id) (line micros limit : ℕ) (bits : limit < 2 ^
                 ∙ filled-holds (consecutive_control k) bytes c (1 + c) (omega (arith, length-drop (place_of (length m) k) m)) refl (omega arith);
           }
 
-      parts-from : (c k a : ℕ) → 1 ≤ k → k + c ≡ consecutive_count m + 1 → a ≡ n + (1 + k)
-          → EachNumbered (IsConsecutiveFrame T d m n start (bytes_in_first (length m)) (consecutive_count m)) k (range_with_len a c)
+      parts-from : (c k a : ℕ) → 1 ≤ k → k + c ≡ consecutive_count (length m) + 1 → a ≡ n + (1 + k)
+          → EachNumbered (IsConsecutiveFrame T d m n start (bytes_in_first (length m)) (consecutive_count (length m))) k (range_with_len a c)
       parts-from zero k a one sum place = tt
       parts-from (suc c) k a one sum place = (
-        subst (IsConsecutiveFrame T d m n start (bytes_in_first (length m)) (consecutive_count m) k) (sym place) (part k one (omega arith)),
+        subst (IsConsecutiveFrame T d m n start (bytes_in_first (length m)) (consecutive_count (length m)) k) (sym place) (part k one (omega arith)),
         parts-from c (k + 1) (a + 1) (omega arith) (omega arith) (omega arith),
       )
 
-      is-segmented : IsSegmented T d m n (range_with_len (n + 2) (consecutive_count m))
+      is-segmented : IsSegmented T d m n (range_with_len (n + 2) (consecutive_count (length m)))
       unfolding start
       is-segmented =
           let all = total in
           let few = bytes_in_first-few (length m) in
-          let count : length (range_with_len (n + 2) (consecutive_count m)) ≡ consecutive_count m = length-range_with_len (n + 2) (consecutive_count m) in
+          let count : length (range_with_len (n + 2) (consecutive_count (length m))) ≡ consecutive_count (length m) = length-range_with_len (n + 2) (consecutive_count (length m)) in
           record {
             frame = entry identifier line micros n (d, filled (first_control (length m)) m);
             start = start;
@@ -146,7 +133,7 @@ module _ (identifier : Dir → Id) (line micros limit : ℕ) (bits : limit < 2 ^
             kind = starts.0;
             announces = refl;
             count = rw (held, count) (record { enough = omega arith; fewer = λ k less. omega arith });
-            consecutive_frames = rw (held, count) (parts-from (consecutive_count m) 1 (n + 2) (omega arith) (omega arith) (omega arith));
+            consecutive_frames = rw (held, count) (parts-from (consecutive_count (length m)) 1 (n + 2) (omega arith) (omega arith) (omega arith));
             holds = λ x inside. (let h = held in first-holds m x _ low (omega arith) (ap (λ j. 8 - j + x) h));
           }
 
@@ -162,12 +149,12 @@ module _ (identifier : Dir → Id) (line micros limit : ℕ) (bits : limit < 2 ^
         carried = rw t (unsegmented (entry identifier line micros n (d, filled (single_control (length m)) m)) (short t)
             (role-own identifier line micros d n _ _ (layout-single (identifier d) m some (leb-true (length m) 7 t))));
       }
-      | inr t ↦ (let low = leb-false (length m) 7 t in let w = first-role d n m low high in
+      | inr t ↦ (let low = leb-false (length m) 7 t in let starts = first-role d n m low high in
           record {
             some = some;
             fits = high;
             rising = rw t (omega arith, rising-range (suc n) (n + 2) _ (omega arith));
-            carried = rw t (segmented (is-segmented T d m n low high stand w.0 w.1));
+            carried = rw t (segmented (is-segmented T d m n low high stand _ starts));
           })
     ] where
       short : nat_le (length m) 7 ≡ true → At T n (entry identifier line micros n (d, filled (single_control (length m)) m))
@@ -187,7 +174,7 @@ module _ (identifier : Dir → Id) (line micros limit : ℕ) (bits : limit < 2 ^
     at-own d m n p e some high stand above below there = elim (cases_Bool (nat_le (length m) 7)) [
       | inl t ↦ inl (rw t (inl (let b : p < n + 1 = rw t at below in omega arith)))
       | inr t ↦ (let low = leb-false (length m) 7 t in let all = total T d m n low high stand in elim (cases_Bool (nat_lt (n + 1) p)) [
-        | inl u ↦ inl (rw t (inr (let lt = ltb-true (n + 1) p u in in-range p (n + 2) (consecutive_count m) (omega arith) (omega arith))))
+        | inl u ↦ inl (rw t (inr (let lt = ltb-true (n + 1) p u in in-range p (n + 2) (consecutive_count (length m)) (omega arith) (omega arith))))
         | inr u ↦ (let le = ltb-false (n + 1) p u in elim (cases_Bool (nat_lt n p)) [
           | inl w ↦ (let lt = ltb-true n p w in let is : p ≡ n + 1 = omega arith in
               let continue_there = at-continue T d m n low high stand (omega arith) in

@@ -17,14 +17,14 @@
 
 ghost use Rattle.std.specs.Prelude.{◌≡◌, ◌<◌, ◌≤◌, ◌-◌, ◌+◌, ◌*◌, ℕ, List, length, drop};
 ghost use Rattle.can_log.specs.declared.frame.Dir.{Dir};
+ghost use Rattle.isotp_receive.specs.declared.TheConstants.{MESSAGE_LIMIT};
 ghost use Rattle.isotp_segment.specs.CanonicalFrames.{filled, first_control, consecutive_control, bytes_in_first, place_of, total_count, canonical_frame, canonical_frames};
 
 pub mod laws;
 
 use can_log::Dir;
-
-/// The most bytes that a message has.
-pub const MESSAGE_LIMIT: usize = 65_535;
+use isotp_receive::MESSAGE_LIMIT;
+use std::iter::FusedIterator;
 
 /// The longest message whose length a first frame tells in 12 bits; of a longer one it tells 32 bits.
 const SHORT_LIMIT: usize = 4095;
@@ -38,10 +38,10 @@ const CONTINUE_FRAME: [u8; 8] = [0x30, 0, 0, PADDING, PADDING, PADDING, PADDING,
 /// The number of canonical frames of a message of `len` bytes, the continue frame counted.
 pub fn frame_count(len: usize) -> u64
     requires some { 1 ≤ len }
-    requires limit { len ≤ 65535 }
+    requires limit { len ≤ MESSAGE_LIMIT }
     ensures value { result ≡ total_count len }
     ensures frames { (direction : Dir) (message : List ℕ) → len ≡ length message →
-        result ≡ length (canonical_frames 65535 direction message) }
+        result ≡ length (canonical_frames MESSAGE_LIMIT direction message) }
 {
     if len <= 7 {
         return 1;
@@ -75,7 +75,7 @@ fn filled(control: &[u8], bytes: &[u8]) -> [u8; 8]
 
 /// The first frame of a message of more than 7 bytes (section 9.6.3 of the standard).
 fn first_frame(message: &[u8]) -> [u8; 8]
-    requires { length message.now ≤ 65535 }
+    requires { length message.now ≤ MESSAGE_LIMIT }
     ensures { result ≡ filled (first_control (length message.now)) message.now }
 {
     let [_, _, high, low] = (message.len() as u32).to_be_bytes();
@@ -90,7 +90,7 @@ fn first_frame(message: &[u8]) -> [u8; 8]
 fn consecutive_frame(message: &[u8], number: usize) -> [u8; 8]
     requires some { 1 ≤ number }
     requires place { place_of (length message.now) number ≤ length message.now }
-    requires limit { length message.now ≤ 65535 }
+    requires limit { length message.now ≤ MESSAGE_LIMIT }
     ensures { result ≡ filled (consecutive_control number) (drop (place_of (length message.now) number) message.now) }
 {
     let place = bytes_in_first(message.len()) + (number - 1) * 7;
@@ -99,9 +99,9 @@ fn consecutive_frame(message: &[u8], number: usize) -> [u8; 8]
 
 /// Frame `number` of a message, from 0, and who sends it.
 #[tactic(auto, unfolding(crate::specs::CanonicalFrames::canonical_frame, crate::specs::CanonicalFrames::filled))]
-fn canonical_frame(dir: Dir, message: &[u8], number: u64) -> (Dir, [u8; 8])
+fn canonical_frame(dir: Dir, message: &[u8], number: usize) -> (Dir, [u8; 8])
     requires number { number < total_count (length message.now) }
-    requires limit { length message.now ≤ 65535 }
+    requires limit { length message.now ≤ MESSAGE_LIMIT }
     ensures { result ≡ canonical_frame dir message.now number }
 {
     if message.len() <= 7 {
@@ -110,7 +110,7 @@ fn canonical_frame(dir: Dir, message: &[u8], number: u64) -> (Dir, [u8; 8])
     match number {
         0 => (dir, first_frame(message)),
         1 => (dir.other(), CONTINUE_FRAME),
-        _ => (dir, consecutive_frame(message, number as usize - 1)),
+        _ => (dir, consecutive_frame(message, number - 1)),
     }
 }
 
@@ -120,12 +120,13 @@ pub struct Segments<'a> {
     dir: Dir,
     message: &'a [u8],
     /// How many frames there are.
-    count: u64,
+    count: usize,
     /// The number of the next one, from 0.
-    number: u64,
+    number: usize,
     ghost some: { 1 ≤ length message.now },
-    ghost limit: { length message.now ≤ 65535 },
+    ghost limit: { length message.now ≤ MESSAGE_LIMIT },
     ghost counted: { count ≡ total_count (length message.now) },
+    ghost within: { number ≤ count },
 }
 
 impl<'a> Segments<'a> {
@@ -134,13 +135,13 @@ impl<'a> Segments<'a> {
     /// The frames of a message that is sent in the direction `dir`. A message has 1 to 65,535 bytes.
     pub fn new(dir: Dir, message: &'a [u8]) -> Segments<'a>
         requires some { 1 ≤ length message.now }
-        requires limit { length message.now ≤ 65535 }
-        ensures { frames_left result ≡ canonical_frames 65535 dir message.now }
+        requires limit { length message.now ≤ MESSAGE_LIMIT }
+        ensures { frames_left result ≡ canonical_frames MESSAGE_LIMIT dir message.now }
     {
         Segments {
             dir,
             message,
-            count: frame_count(message.len()),
+            count: frame_count(message.len()) as usize,
             number: 0,
         }
     }
@@ -165,4 +166,19 @@ impl<'a> Iterator for Segments<'a> {
         self.number += 1;
         Some(frame)
     }
+
+    #[tactic(auto, using(crate::proofs::Frames::count_left))]
+    fn size_hint(&self) -> (usize, Option<usize>) {
+        let left = self.count - self.number;
+        (left, Some(left))
+    }
 }
+
+impl<'a> ExactSizeIterator for Segments<'a> {
+    #[tactic(auto, using(crate::proofs::Frames::count_left))]
+    fn len(&self) -> usize {
+        self.count - self.number
+    }
+}
+
+impl<'a> FusedIterator for Segments<'a> {}
