@@ -21,6 +21,8 @@ ghost use Rattle.isotp_receive.specs.declared.TheConstants.{MESSAGE_LIMIT};
 ghost use Rattle.isotp_segment.specs.CanonicalFrames.{filled, first_control, consecutive_control, bytes_in_first, place_of, total_count, canonical_frame, canonical_frames};
 
 pub mod laws;
+#[cfg(test)]
+mod tests;
 
 use can_log::Dir;
 use isotp_receive::MESSAGE_LIMIT;
