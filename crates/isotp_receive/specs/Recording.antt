@@ -8,7 +8,7 @@ use Rattle.isotp_pdu.specs.Layout as layout
 use Rattle.isotp_pdu.specs.declared.PduFault.{PduFault}
 use Rattle.isotp_pdu.specs.declared.Status.TheVariants.{Continue, Wait, Overflow}
 use Rattle.isotp_receive.specs.Trace.{Entry, At, FirstFrame, single, first, consecutive, role}
-use Rattle.isotp_receive.specs.Places.{bytes_in_first, IsConsecutiveCount, FitsAs}
+use Rattle.isotp_receive.specs.Places.{bytes_in_first, bytes_before, IsConsecutiveCount, FitsAs}
 use Rattle.isotp_receive.specs.OnTime.{IsOnTime}
 
 -- At position c stands consecutive frame number k of n of the message m, whose first frame stands at i and holds f bytes:
@@ -22,7 +22,7 @@ pub record IsConsecutiveFrame (T : List Entry) (d : Dir) (m : List ℕ) (i : ℕ
   pub kind : role d frame ≡ consecutive sequence_number can_dl bytes
   pub fits : FitsAs f s.rx_dl s.len n k sequence_number can_dl
   pub on_time : IsOnTime T d i c frame
-  pub holds : (x q b : ℕ) → x < length m → x ≡ f + (q * (s.rx_dl - 1) + b) → b < s.rx_dl - 1 → k ≡ q + 1
+  pub holds : (x q b : ℕ) → x < length m → x ≡ bytes_before f s.rx_dl q + b → b < s.rx_dl - 1 → k ≡ q + 1
       → slice_index m x ≡ slice_index frame.frame.bytes (1 + b)
 
 -- P of each of the positions, with its number, from k on
