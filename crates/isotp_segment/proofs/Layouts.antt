@@ -8,7 +8,7 @@ use Rattle.can_log.specs.declared.frame.Kind.TheVariants.{Classic, Remote}
 use Rattle.isotp_pdu.specs.declared.Status.TheVariants.{Continue}
 use Rattle.isotp_pdu.specs.Layout.{Layout, single, first, consecutive, flow_control, first_byte, least_first, Spells, layout_of}
 use Rattle.isotp_pdu.proofs.EveryFrame.{layout_is_read}
-use Rattle.isotp_segment.specs.CanonicalFrames.{filled, padding, single_control, first_control, consecutive_control, continue_control, bytes_in_first}
+use Rattle.isotp_segment.specs.CanonicalFrames.{filled, padding, single_control, first_control, consecutive_control, continue_control, room_in_first}
 use Rattle.isotp_segment.proofs.Padding.{filled-whole, filled-padded}
 use Rattle.isotp_segment.proofs.Bytes.{filled_by_place, length-filled}
 
@@ -52,7 +52,7 @@ first_escaped id m low high =
     (refl, sym size, inr (low, high, sym (filled-whole (escaped_control (length m)) m (omega arith) (omega arith))))
 
 pub layout-first : (id : Id) (m : List ℕ) → 8 ≤ length m → length m < 2 ^ 32
-    → layout_of (classic id (filled (first_control (length m)) m)) ≡ Ok (first (length m) 8 (take (bytes_in_first (length m)) m))
+    → layout_of (classic id (filled (first_control (length m)) m)) ≡ Ok (first (length m) 8 (take (room_in_first (length m)) m))
 unfolding short_control escaped_control
 layout-first id m low high = elim (cases_Bool (nat_le (length m) 4095)) [
   | inl t ↦ rw t (first_short id m low (leb-true (length m) 4095 t))

@@ -4,7 +4,7 @@ use Rattle.std.specs.List.{range_with_len}
 use Rattle.std.proofs.lemmas.Bool.{leb-false, ltb-true, ltb-false, cases_Bool}
 use Rattle.isotp_receive.specs.Recording.{IsRisingFrom, IsIn, last_or}
 use Rattle.isotp_receive.proofs.Delivered.{last-in}
-use Rattle.isotp_segment.specs.CanonicalFrames.{bytes_in_first, consecutive_count, total_count}
+use Rattle.isotp_segment.specs.CanonicalFrames.{room_in_first, consecutive_count, total_count}
 
 -- one, or that of the first frame and, behind the continue frame, those of the consecutive frames
 abbrev pub positions_of : List ℕ → ℕ → List ℕ
@@ -38,8 +38,8 @@ last-position m n = elim (cases_Bool (nat_le (length m) 7)) [
   | inr t ↦ rw t (last-in n (range_with_len (n + 2) (consecutive_count (length m))))
 ]
 
-pub bytes_in_first-few : (len : ℕ) → bytes_in_first len ≤ 6
-bytes_in_first-few len = elim (cases_Bool (nat_le len 4095)) [ inl t ↦ rw t (omega arith) | inr t ↦ rw t (omega arith) ]
+pub room_in_first-few : (len : ℕ) → room_in_first len ≤ 6
+room_in_first-few len = elim (cases_Bool (nat_le len 4095)) [ inl t ↦ rw t (omega arith) | inr t ↦ rw t (omega arith) ]
 
 last_or-range : (k a c : ℕ) → last_or k (range_with_len a (suc c)) ≡ a + c
 last_or-range k a zero = omega arith
@@ -49,6 +49,6 @@ last_or-range k a (suc c) = (let e : a + 1 + c ≡ a + suc c = omega arith in la
 pub last-position-is : (m : List ℕ) (n : ℕ) → 1 ≤ length m → last_or 0 (positions_of m n) + 1 ≡ n + total_count (length m)
 last-position-is m n some = elim (cases_Bool (nat_le (length m) 7)) [
   | inl t ↦ rw t refl
-  | inr t ↦ rw t (let low = leb-false (length m) 7 t in let few = bytes_in_first-few (length m) in let more : consecutive_count (length m) ≡ suc (consecutive_count (length m) - 1) = omega arith in
+  | inr t ↦ rw t (let low = leb-false (length m) 7 t in let few = room_in_first-few (length m) in let more : consecutive_count (length m) ≡ suc (consecutive_count (length m) - 1) = omega arith in
       let last = ap (λ c. last_or n (range_with_len (n + 2) c)) more ∙ last_or-range n (n + 2) (consecutive_count (length m) - 1) in omega arith)
 ]

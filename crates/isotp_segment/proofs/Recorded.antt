@@ -18,12 +18,12 @@ use Rattle.isotp_receive.proofs.Delivered.{recording-delivers-behind, delivers-a
 use Rattle.isotp_receive.specs.Places as places
 use Rattle.isotp_receive.proofs.Places.{first_from}
 use Rattle.isotp_receive.proofs.References.{at-same}
-use Rattle.isotp_segment.specs.CanonicalFrames.{consecutive_count, filled, single_control, first_control, consecutive_control, continue_control, bytes_in_first, place_of, total_count, canonical_frame, canonical_frames}
+use Rattle.isotp_segment.specs.CanonicalFrames.{consecutive_count, filled, single_control, first_control, consecutive_control, continue_control, room_in_first, place_of, total_count, canonical_frame, canonical_frames}
 use Rattle.isotp_segment.specs.Timed.{timed, HasFrames, all_frames}
 use Rattle.isotp_segment.proofs.Bytes.{filled-holds}
 use Rattle.isotp_segment.proofs.Frames.{frame-single, frame-first, frame-continue, frame-consecutive, length-canonical_frames}
 use Rattle.isotp_segment.proofs.Layouts.{layout-single, layout-first, layout-consecutive, layout-continue}
-use Rattle.isotp_segment.proofs.Positions.{positions_of, rising-range, in-range, position-bounds, last-position, bytes_in_first-few, last-position-is}
+use Rattle.isotp_segment.proofs.Positions.{positions_of, rising-range, in-range, position-bounds, last-position, room_in_first-few, last-position-is}
 use Rattle.isotp_segment.proofs.TimedFrames.{entry, role-own, role-other, length-timed, take-timed, frames-stand}
 
 module _ (identifier : Dir → Id) (line micros limit : ℕ) (bits : limit < 2 ^ 32) where
@@ -31,19 +31,19 @@ module _ (identifier : Dir → Id) (line micros limit : ℕ) (bits : limit < 2 ^
   abbrev Begins : Dir → ℕ → List ℕ → List ℕ → Type 0
   Begins d n m b =
       (role d (entry identifier line micros n (d, filled (first_control (length m)) m))
-      ≡ first (record { line = line + n; micros = micros + n * 1000; len = length m; rx_dl = 8; bytes = b })) × (length b ≡ bytes_in_first (length m))
+      ≡ first (record { line = line + n; micros = micros + n * 1000; len = length m; rx_dl = 8; bytes = b })) × (length b ≡ room_in_first (length m))
 
-  first-role : (d : Dir) (n : ℕ) (m : List ℕ) → 8 ≤ length m → length m ≤ limit → Begins d n m (take (bytes_in_first (length m)) m)
+  first-role : (d : Dir) (n : ℕ) (m : List ℕ) → 8 ≤ length m → length m ≤ limit → Begins d n m (take (room_in_first (length m)) m)
   first-role d n m low high =
-      let few = bytes_in_first-few (length m) in
-      (role-own identifier line micros d n _ _ (layout-first (identifier d) m low (omega arith)), length-take-le (bytes_in_first (length m)) m (omega arith))
+      let few = room_in_first-few (length m) in
+      (role-own identifier line micros d n _ _ (layout-first (identifier d) m low (omega arith)), length-take-le (room_in_first (length m)) m (omega arith))
 
-  first-holds : (m : List ℕ) (x i : ℕ) → 8 ≤ length m → x < bytes_in_first (length m) → i ≡ 8 - bytes_in_first (length m) + x
+  first-holds : (m : List ℕ) (x i : ℕ) → 8 ≤ length m → x < room_in_first (length m) → i ≡ 8 - room_in_first (length m) + x
       → slice_index m x ≡ slice_index (filled (first_control (length m)) m) i
   first-holds m x i low inside place = elim (cases_Bool (nat_le (length m) 4095)) [
-    | inl t ↦ (let six : bytes_in_first (length m) ≡ 6 = ap (λ b. cond b 6 2) t in
+    | inl t ↦ (let six : room_in_first (length m) ≡ 6 = ap (λ b. cond b 6 2) t in
         filled-holds (first_control (length m)) m x i (omega arith) (rw t (omega arith)) (omega arith))
-    | inr t ↦ (let two : bytes_in_first (length m) ≡ 2 = ap (λ b. cond b 6 2) t in
+    | inr t ↦ (let two : room_in_first (length m) ≡ 2 = ap (λ b. cond b 6 2) t in
         filled-holds (first_control (length m)) m x i (omega arith) (rw t (omega arith)) (omega arith))
   ]
 
@@ -85,14 +85,14 @@ module _ (identifier : Dir → Id) (line micros limit : ℕ) (bits : limit < 2 ^
       start : FirstFrame
       start = record { line = line + n; micros = micros + n * 1000; len = length m; rx_dl = 8; bytes = b }
 
-      held : places.bytes_in_first (filled (first_control (length m)) m) ≡ bytes_in_first (length m)
+      held : places.bytes_in_first (filled (first_control (length m)) m) ≡ room_in_first (length m)
       held = (let h = first_from d (entry identifier line micros n (d, filled (first_control (length m)) m)) _ starts.0 in sym h.1 ∙ starts.1)
 
-      part : (k : ℕ) → 1 ≤ k → k ≤ consecutive_count (length m) → IsConsecutiveFrame T d m n start (bytes_in_first (length m)) (consecutive_count (length m)) k (n + (1 + k))
+      part : (k : ℕ) → 1 ≤ k → k ≤ consecutive_count (length m) → IsConsecutiveFrame T d m n start (room_in_first (length m)) (consecutive_count (length m)) k (n + (1 + k))
       unfolding start
       part k one most =
           let all = total in
-          let few = bytes_in_first-few (length m) in
+          let few = room_in_first-few (length m) in
           let below : 1 + k < total_count (length m) = omega arith in
           let w = reference-of k one below in
           let bytes = drop (place_of (length m) k) m in
@@ -113,10 +113,10 @@ module _ (identifier : Dir → Id) (line micros limit : ℕ) (bits : limit < 2 ^
           }
 
       parts-from : (c k a : ℕ) → 1 ≤ k → k + c ≡ consecutive_count (length m) + 1 → a ≡ n + (1 + k)
-          → EachNumbered (IsConsecutiveFrame T d m n start (bytes_in_first (length m)) (consecutive_count (length m))) k (range_with_len a c)
+          → EachNumbered (IsConsecutiveFrame T d m n start (room_in_first (length m)) (consecutive_count (length m))) k (range_with_len a c)
       parts-from zero k a one sum place = tt
       parts-from (suc c) k a one sum place = (
-        subst (IsConsecutiveFrame T d m n start (bytes_in_first (length m)) (consecutive_count (length m)) k) (sym place) (part k one (omega arith)),
+        subst (IsConsecutiveFrame T d m n start (room_in_first (length m)) (consecutive_count (length m)) k) (sym place) (part k one (omega arith)),
         parts-from c (k + 1) (a + 1) (omega arith) (omega arith) (omega arith),
       )
 
@@ -124,7 +124,7 @@ module _ (identifier : Dir → Id) (line micros limit : ℕ) (bits : limit < 2 ^
       unfolding start
       is-segmented =
           let all = total in
-          let few = bytes_in_first-few (length m) in
+          let few = room_in_first-few (length m) in
           let count : length (range_with_len (n + 2) (consecutive_count (length m))) ≡ consecutive_count (length m) = length-range_with_len (n + 2) (consecutive_count (length m)) in
           record {
             frame = entry identifier line micros n (d, filled (first_control (length m)) m);

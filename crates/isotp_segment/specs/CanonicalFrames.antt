@@ -6,6 +6,7 @@ use Rattle.can_log.specs.Dir.{other_direction}
 use Rattle.can_log.specs.declared.frame.Dir.{Dir}
 use Rattle.isotp_pdu.specs.declared.Status.TheVariants.{Continue}
 use Rattle.isotp_pdu.specs.Layout.{first_byte, status_number}
+use Rattle.isotp_receive.specs.Places.{bytes_before}
 
 -- the byte that fills a frame up
 abbrev pub padding : ℕ
@@ -34,16 +35,16 @@ abbrev pub continue_control : List ℕ
 continue_control = first_byte 3 (status_number Continue) ∷ 0 ∷ 0 ∷ []
 
 -- how many bytes of the message a first frame holds: what its control information leaves of 8
-abbrev pub bytes_in_first : ℕ → ℕ
-bytes_in_first len = if nat_le len 4095 then 6 else 2
+abbrev pub room_in_first : ℕ → ℕ
+room_in_first len = if nat_le len 4095 then 6 else 2
 
 -- the place in the message where the bytes of consecutive frame `number` begin, counted from 1
 abbrev pub place_of : ℕ → ℕ → ℕ
-place_of len number = bytes_in_first len + (number - 1) * 7
+place_of len number = bytes_before (room_in_first len) 8 (number - 1)
 
 -- how many consecutive frames hold what the first frame leaves
 abbrev pub consecutive_count : ℕ → ℕ
-consecutive_count len = (len - bytes_in_first len + 6) / 7
+consecutive_count len = (len - room_in_first len + 6) / 7
 
 -- how many frames there are, the continue frame counted
 abbrev pub total_count : ℕ → ℕ

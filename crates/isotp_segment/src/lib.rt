@@ -18,7 +18,7 @@
 ghost use Rattle.std.specs.Prelude.{◌≡◌, ◌<◌, ◌≤◌, ◌-◌, ◌+◌, ◌*◌, ℕ, List, length, drop};
 ghost use Rattle.can_log.specs.declared.frame.Dir.{Dir};
 ghost use Rattle.isotp_receive.specs.declared.TheConstants.{MESSAGE_LIMIT};
-ghost use Rattle.isotp_segment.specs.CanonicalFrames.{filled, first_control, consecutive_control, bytes_in_first, place_of, total_count, canonical_frame, canonical_frames};
+ghost use Rattle.isotp_segment.specs.CanonicalFrames.{filled, first_control, consecutive_control, room_in_first, place_of, total_count, canonical_frame, canonical_frames};
 
 pub mod laws;
 #[cfg(test)]
@@ -48,12 +48,12 @@ pub fn frame_count(len: usize) -> u64
     if len <= 7 {
         return 1;
     }
-    2 + (len - bytes_in_first(len)).div_ceil(7) as u64
+    2 + (len - room_in_first(len)).div_ceil(7) as u64
 }
 
 /// How many bytes of a message of this length the first frame holds.
-fn bytes_in_first(len: usize) -> usize
-    ensures { result ≡ bytes_in_first len }
+fn room_in_first(len: usize) -> usize
+    ensures { result ≡ room_in_first len }
 {
     if len <= SHORT_LIMIT { 6 } else { 2 }
 }
@@ -95,7 +95,7 @@ fn consecutive_frame(message: &[u8], number: usize) -> [u8; 8]
     requires limit { length message.now ≤ MESSAGE_LIMIT }
     ensures { result ≡ filled (consecutive_control number) (drop (place_of (length message.now) number) message.now) }
 {
-    let place = bytes_in_first(message.len()) + (number - 1) * 7;
+    let place = room_in_first(message.len()) + (number - 1) * 7;
     filled(&[0x20 + (number % 16) as u8], &message[place..])
 }
 
