@@ -1,14 +1,13 @@
--- The laws of the crate.
-use Rattle.std.proofs.Common.{◌≡◌, ℕ, ◌-◌, ◌==◌, ◌<◌, ◌≤◌, List, length, Result, Ok, Err, refl, sym, ◌∙◌, subst, ap, arith, inl, inr}
-use Rattle.std.specs.Prelude.{◌⊎◌, ◌↔◌, IsTrue, IfOk}
-use Rattle.std.proofs.lemmas.Bool.{cond_both, eqb-true}
-use Rattle.std.proofs.lemmas.Bool.Decides.{nat_tests}
+-- The laws of every frame, and what they make of the function's result.
+use Rattle.std.proofs.Common.{◌≡◌, Result, Ok, Err, sym, ◌∙◌, subst, ap, inl, inr}
+use Rattle.std.specs.Prelude.{◌⊎◌, ◌↔◌, IfOk}
 use Rattle.can_log.specs.Frame.{FrameValue}
 use Rattle.isotp_pdu.specs.declared.PduFault.{PduFault}
-use Rattle.isotp_pdu.specs.Layout.{Layout, single, first, consecutive, flow_control, layout_of, HasLayout, IsSoundLayout, SpellsFirst, is_rx_dl, is_can_dl, least_first}
+use Rattle.isotp_pdu.specs.Layout.{Layout, layout_of, HasLayout, IsSoundLayout}
 use Rattle.isotp_pdu.specs.Fault.{IsFault}
-use Rattle.isotp_pdu.specs.Laws.{LayoutIsRead, FaultIsRead, AtMostOneLayout, AtMostOneFault, LayoutOrFault, LayoutHasNoFault, LayoutIsSound}
-use Rattle.isotp_pdu.proofs.Unique.{at_most_one, rx_dl_long}
+use Rattle.isotp_pdu.specs.Laws.{LayoutIsRead, FaultIsRead, AtMostOneLayout, AtMostOneFault, LayoutOrFault, LayoutHasNoFault}
+use Rattle.isotp_pdu.proofs.Unique.{at_most_one}
+pub use Rattle.isotp_pdu.proofs.Sound.{sound, layout_is_sound}
 use Rattle.isotp_pdu.proofs.Precedence.{at_most_one_fault, has_no_fault}
 use Rattle.isotp_pdu.proofs.Read.{Reads, read}
 
@@ -45,45 +44,6 @@ either frame (Err e) here = inr (e, here)
 pub layout_or_fault : LayoutOrFault
 layout_or_fault frame = either frame (layout_of frame) (read frame)
 
-above_least : (n : ℕ) → 8 ≤ n → n - 2 < least_first n
-above_least n long = cond_both (n == 8) 8 (n - 1) (λ m. n - 2 < m) (λ e. omega (arith, eqb-true n 8 e)) (λ _. omega arith)
-
-rx_dl_few : (n : ℕ) → IsTrue (is_rx_dl n) → n ≤ 64
-rx_dl_few n h = grind (arith, nat_tests)
-
-can_dl_few : (n : ℕ) → IsTrue (is_can_dl n) → n ≤ 64
-can_dl_few n h = grind (arith, nat_tests)
-
-carries_less : (bytes : List ℕ) (announced : ℕ) (data_bytes : List ℕ) → 8 ≤ length bytes → length bytes ≤ 64 → SpellsFirst bytes announced data_bytes
-    → (length data_bytes < announced) × (length data_bytes < length bytes)
-carries_less bytes announced data_bytes long few (inl (least, most, parts)) =
-    (omega (arith, ap length parts, above_least (length bytes) long), omega (arith, ap length parts))
-carries_less bytes announced data_bytes long few (inr (least, most, parts)) = (omega (arith, ap length parts), omega (arith, ap length parts))
-
-pub layout_is_sound : LayoutIsSound
-layout_is_sound frame (single message) has = has.spelled.1
-layout_is_sound frame (first announced rx_dl data_bytes) has =
-    let long : 8 ≤ rx_dl = rx_dl_long rx_dl has.spelled.0 in
-    let size : rx_dl ≡ length frame.bytes = has.spelled.1 in
-    let less = carries_less frame.bytes announced data_bytes (omega arith) (can_dl_few (length frame.bytes) has.frame_length) has.spelled.2 in
-    record {
-      carries_less = less.0;
-      in_frame = omega (arith, less.1);
-      at_least = long;
-      at_most = rx_dl_few rx_dl has.spelled.0;
-      one_of_eight = has.spelled.0;
-    }
-layout_is_sound frame (consecutive number can_dl data_bytes) has = record {
-  in_frame = omega (arith, has.spelled.1, ap length has.spelled.2);
-  at_most = omega (arith, has.spelled.1, can_dl_few (length frame.bytes) has.frame_length);
-  four_bits = has.spelled.0;
-}
-layout_is_sound frame (flow_control status) has = tt
-
-sound_result : (frame : FrameValue) (r : Result Layout PduFault) → Reads frame r → IfOk r IsSoundLayout
-sound_result frame (Ok layout) here = layout_is_sound frame layout here
-sound_result frame (Err e) here = tt
-
 -- the laws, of a result that is the function's
 module _ (frame : FrameValue) (r : Result Layout PduFault) (same : r ≡ layout_of frame) where
   pub read_layouts : (layout : Layout) → (r ≡ Ok layout) ↔ HasLayout frame layout
@@ -93,7 +53,4 @@ module _ (frame : FrameValue) (r : Result Layout PduFault) (same : r ≡ layout_
   read_faults e = (let law = fault_is_read frame e in (λ is_it. law.1 (sym same ∙ is_it), λ has. same ∙ law.0 has))
 
   pub read_soundly : IfOk r IsSoundLayout
-  read_soundly = subst (λ found. IfOk found IsSoundLayout) (sym same) (sound_result frame (layout_of frame) (read frame))
-
-pub sound : (frame : FrameValue) → IfOk (layout_of frame) IsSoundLayout
-sound frame = read_soundly frame (layout_of frame) refl
+  read_soundly = subst (λ found. IfOk found IsSoundLayout) (sym same) (sound frame)

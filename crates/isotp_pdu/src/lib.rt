@@ -161,7 +161,7 @@ fn read_first(bytes: &[u8]) -> Result<Pdu<'_>, PduFault>
 
 /// The announced length stands in 12 bits of the first two bytes.
 fn read_short_first(bytes: &[u8]) -> Result<Pdu<'_>, PduFault>
-    requires long { 8 ≤ length bytes.now }
+    requires long { 2 ≤ length bytes.now }
     requires few { length bytes.now ≤ 64 }
     ensures { layout_seen result ≡ short_first_of bytes.now }
 {
@@ -186,7 +186,7 @@ fn least_first(rx_dl: u8) -> u32
 
 /// The announced length stands in the four bytes behind the first two.
 fn read_escaped_first(bytes: &[u8]) -> Result<Pdu<'_>, PduFault>
-    requires long { 8 ≤ length bytes.now }
+    requires long { 6 ≤ length bytes.now }
     requires few { length bytes.now ≤ 64 }
     ensures { layout_seen result ≡ escaped_first_of bytes.now }
 {

@@ -1,4 +1,4 @@
-use Rattle.isotp_pdu.proofs.EveryFrame.{layout_is_sound}
+use Rattle.isotp_pdu.proofs.Sound.{layout_is_sound}
 use Rattle.isotp_pdu.proofs.laws.layout_is_sound.Goals as goal
 
 pub returns : goal.returns
