@@ -2,8 +2,10 @@ pub mod OneMore
 pub mod Next
 pub mod Judgement
 pub mod OpenLaws
+pub mod OpenPositions
 pub mod SaysHeard
 pub mod Places
+pub mod ListPositions
 pub mod References
 pub mod Carried
 pub mod Delivered

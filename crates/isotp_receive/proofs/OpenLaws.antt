@@ -1,12 +1,12 @@
--- What is open as a relation is what stands, and the other way round.
-use Rattle.std.proofs.Common.{◌≡◌, ℕ, ◌<◌, true, List, [], ◌∷◌, ◌++◌, nat_lt, nat_le, Option, Some, None, refl, sym, ◌∙◌, ap, append_assoc, subst}
+-- What stands after a list of frames: where it began, and that each frame since leaves it open.
+use Rattle.std.proofs.Common.{inl, inr, ◌≡◌, ℕ, ◌<◌, true, List, [], ◌∷◌, ◌++◌, nat_lt, nat_le, Option, Some, None, refl, sym, ◌∙◌, ap, append_assoc, subst}
 use Rattle.std.specs.Prelude.{IsTrue}
 use Rattle.std.proofs.lemmas.List.{append-nil}
-use Rattle.std.proofs.lemmas.Bool.{and_parts, and_from, lt-ltb, le-leb}
+use Rattle.std.proofs.lemmas.Bool.{cases_Bool, and_parts, and_from, lt-ltb, le-leb}
 use Rattle.can_log.specs.declared.frame.Dir.{Dir}
-use Rattle.isotp_receive.specs.Trace.{Entry, FirstFrame, first, role}
-use Rattle.isotp_receive.specs.Standing.{taken, carried_after, keeps_by, keep, is_open, Standing, standing_of, since, or_else, stands}
-use Rattle.isotp_receive.specs.OpenReception.{IsOpen}
+use Rattle.isotp_receive.specs.Trace.{Entry, FirstFrame, Role, single, first, consecutive, continue_or_wait, overflow, no_part, role}
+use Rattle.isotp_receive.specs.Places.{consecutive_count}
+use Rattle.isotp_receive.specs.Standing.{carried_after, keeps_by, keep, is_open, Standing, standing_of, since, or_else, stands}
 use Rattle.isotp_receive.proofs.OneMore.{since-alone}
 
 Each : Dir → FirstFrame → List Entry → List Entry → Type 0
@@ -40,6 +40,11 @@ keep-each d s past (e ∷ es) h (b ∷ between) after x q =
     let rest = keep-each d s (past ++ e ∷ []) es (and_parts (keeps_by d s past e.micros (role d e)) _ h).1 between after x (cons-tail q) in
     rw (← cons-head q) (rw append_assoc at rest)
 
+pub kept-at : (d : Dir) (s : FirstFrame) (es : List Entry) → keep d s [] es ≡ true
+    → (b after : List Entry) (x : Entry) → es ≡ b ++ x ∷ after → keeps_by d s b x.micros (role d x) ≡ true
+unfolding Each
+kept-at d s es h = keep-each d s [] es h
+
 -- what is open stands
 pub open-stands-here : (limit : ℕ) (d : Dir) (before es : List Entry) (e : Entry) (s : FirstFrame) → role d e ≡ first s → is_open limit d s es ≡ true
     → stands limit d (before ++ e ∷ es) ≡ Some (standing_of d s es)
@@ -54,10 +59,33 @@ open-stands-here limit d (x ∷ before) es e s h open_test =
         some-none : {st : Standing} → ◌≡◌ {A = Option Standing} (Some st) None → ⊥
         some-none q = cc
 
-pub open-stands : (limit : ℕ) (T : List Entry) (d : Dir) (i k : ℕ) (o : IsOpen limit T d i k) → stands limit d T ≡ Some (standing_of d o.start o.since)
-unfolding Each
-open-stands limit T d i k o =
-    let kept : keep d o.start [] o.since ≡ true = keep-from d o.start [] o.since o.each in
-    let room_left : nat_lt (carried_after o.start (taken d o.since)) o.start.len ≡ true = lt-ltb _ _ (subst (λ n. carried_after o.start n < o.start.len) o.count o.more) in
-    let fits : nat_le o.start.len limit ≡ true = le-leb _ _ o.fits in
-    ap (stands limit d) o.splits ∙ open-stands-here limit d o.before o.since o.first_frame o.start o.starts (and_from _ _ fits (and_from _ _ room_left kept))
+-- what stands began somewhere, and is open since
+pub record Found (limit : ℕ) (d : Dir) (T : List Entry) (st : Standing) : Type 0 where
+  pub before : List Entry
+  pub e : Entry
+  pub since : List Entry
+  pub s : FirstFrame
+  pub splits : T ≡ before ++ e ∷ since
+  pub begins : role d e ≡ first s
+  pub opens : is_open limit d s since ≡ true
+  pub is : st ≡ standing_of d s since
+
+found-here : (limit : ℕ) (d : Dir) (e : Entry) (es : List Entry) (r : Role) (st : Standing) → role d e ≡ r → since limit d r es ≡ Some st → Found limit d (e ∷ es) st
+found-here limit d e es (first s) st is h = elim (cases_Bool (is_open limit d s es)) [
+    | inl t ↦ record { before = []; e = e; since = es; s = s; splits = refl; begins = is; opens = t; is = (let f = rw t at h in cc) }
+    | inr t ↦ absurd (let f = rw t at h in cc)
+  ]
+found-here limit d e es (single m) st is h = absurd (cc)
+found-here limit d e es (consecutive sequence_number can_dl bytes) st is h = absurd (cc)
+found-here limit d e es continue_or_wait st is h = absurd (cc)
+found-here limit d e es overflow st is h = absurd (cc)
+found-here limit d e es no_part st is h = absurd (cc)
+
+pub found : (limit : ℕ) (d : Dir) (T : List Entry) (st : Standing) → stands limit d T ≡ Some st → Found limit d T st
+found limit d [] st h = absurd (cc)
+found limit d (e ∷ es) st h = by_head (since limit d (role d e) es) refl h (found limit d es st) where
+  by_head : (o : Option Standing) → since limit d (role d e) es ≡ o → or_else o (stands limit d es) ≡ Some st → (stands limit d es ≡ Some st → Found limit d es st) → Found limit d (e ∷ es) st
+  by_head (Some x) is h further = found-here limit d e es (role d e) st refl (is ∙ h)
+  by_head None is h further =
+      let w = further h in
+      record { before = e ∷ w.before; e = w.e; since = w.since; s = w.s; splits = ap (λ l. e ∷ l) w.splits; begins = w.begins; opens = w.opens; is = w.is }

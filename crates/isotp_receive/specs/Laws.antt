@@ -1,18 +1,13 @@
 -- What the public laws of the receptions say.
-use Rattle.std.specs.Prelude.{◌≡◌, ◌<◌, ℕ, ◌+◌, ◌-◌, ◌*◌, ◌%◌, ◌↔◌, List, Some, None, IsTrue}
+use Rattle.std.specs.Prelude.{◌≡◌, ◌<◌, ℕ, ◌+◌, ◌-◌, ◌*◌, ◌%◌, ◌↔◌, List, None, IsTrue}
 use Rattle.can_log.specs.declared.frame.Dir.{Dir}
 use Rattle.isotp_receive.specs.Trace.{Entry, FirstFrame, first, role}
 use Rattle.isotp_receive.specs.Places.{bytes_in_first, bytes_before, IsConsecutiveCount, FitsAs}
-use Rattle.isotp_receive.specs.Standing.{carried_after, fits_length, is_open, standing_of, stands}
-use Rattle.isotp_receive.specs.OpenReception.{IsOpen}
+use Rattle.isotp_receive.specs.Standing.{carried_after, fits_length, is_open, stands}
 
 -- where a reception that began earlier is still open, none began since: so at most one stands in a direction
 abbrev pub StandsAlone : Type 0
 StandsAlone = (limit : ℕ) (d : Dir) (s : FirstFrame) (es : List Entry) → IsTrue (is_open limit d s es) → stands limit d es ≡ None
-
--- what is open by the relation stands
-abbrev pub OpenStands : Type 0
-OpenStands = (limit : ℕ) (T : List Entry) (d : Dir) (i k : ℕ) (o : IsOpen limit T d i k) → stands limit d T ≡ Some (standing_of d o.start o.since)
 
 -- what the places say of the bytes that have come is what the reception counts
 abbrev pub CarriedAgrees : Type 0

@@ -3,6 +3,7 @@ pub mod Places
 pub mod OnTime
 pub mod Standing
 pub mod OpenReception
+pub mod Delivers
 pub mod Verdict
 pub mod Recording
 pub mod CleanTrace

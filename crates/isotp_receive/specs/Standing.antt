@@ -3,23 +3,10 @@ use Rattle.std.specs.Prelude.{ℕ, ◌+◌, ◌-◌, ◌*◌, ◌%◌, Bool, tru
 use Rattle.can_log.specs.declared.frame.Dir.{Dir}
 use Rattle.can_log.specs.declared.frame.Dir.TheVariants.{Tester, Unit}
 use Rattle.isotp_receive.specs.Trace.{Entry, FirstFrame, Role, single, first, consecutive, continue_or_wait, overflow, no_part, role}
-use Rattle.isotp_receive.specs.Places.{bytes_before}
+use Rattle.isotp_receive.specs.Places.{bytes_before, consecutive_count}
 use Rattle.isotp_receive.specs.OnTime.{n_cr}
 
--- how many consecutive frames of the direction stand here
-abbrev pub taken_by : Role → ℕ
-taken_by (consecutive sequence_number can_dl bytes) = 1
-taken_by (single m) = 0
-taken_by (first s) = 0
-taken_by continue_or_wait = 0
-taken_by overflow = 0
-taken_by no_part = 0
-
-abbrev pub taken : Dir → List Entry → ℕ
-taken d [] = 0
-taken d (e ∷ es) = taken_by (role d e) + taken d es
-
--- the bytes that they carry
+-- the bytes that the consecutive frames of the direction carry
 abbrev pub carried_by : Role → List ℕ
 carried_by (consecutive sequence_number can_dl bytes) = bytes
 carried_by (single m) = []
@@ -60,8 +47,8 @@ fits_length len rx_dl have can_dl =
 abbrev pub keeps_by : Dir → FirstFrame → List Entry → ℕ → Role → Bool
 keeps_by d s past micros (consecutive sequence_number can_dl bytes) =
     nat_le micros (reference d s.micros past + n_cr)
-    && (sequence_number == (taken d past + 1) % 16 && fits_length s.len s.rx_dl (carried_after s (taken d past)) can_dl)
-keeps_by d s past micros overflow = nat_lt 0 (taken d past)
+    && (sequence_number == (consecutive_count d past + 1) % 16 && fits_length s.len s.rx_dl (carried_after s (consecutive_count d past)) can_dl)
+keeps_by d s past micros overflow = nat_lt 0 (consecutive_count d past)
 keeps_by d s past micros (single m) = false
 keeps_by d s past micros (first f) = false
 keeps_by d s past micros continue_or_wait = true
@@ -74,7 +61,7 @@ keep d s past (e ∷ es) = keeps_by d s past e.micros (role d e) && keep d s (pa
 
 -- a reception that began with s is open after these frames, and not complete
 abbrev pub is_open : ℕ → Dir → FirstFrame → List Entry → Bool
-is_open limit d s es = nat_le s.len limit && (nat_lt (carried_after s (taken d es)) s.len && keep d s [] es)
+is_open limit d s es = nat_le s.len limit && (nat_lt (carried_after s (consecutive_count d es)) s.len && keep d s [] es)
 
 -- a reception that stands
 pub record Standing : Type 0 where
@@ -86,7 +73,7 @@ pub record Standing : Type 0 where
   pub reference : ℕ
 
 abbrev pub standing_of : Dir → FirstFrame → List Entry → Standing
-standing_of d s es = record { line = s.line; len = s.len; rx_dl = s.rx_dl; taken = taken d es; bytes = s.bytes ++ carried d es; reference = reference d s.micros es }
+standing_of d s es = record { line = s.line; len = s.len; rx_dl = s.rx_dl; taken = consecutive_count d es; bytes = s.bytes ++ carried d es; reference = reference d s.micros es }
 
 -- the one that began with a frame of this role, and is open after these frames
 abbrev pub since : ℕ → Dir → Role → List Entry → Option Standing

@@ -19,6 +19,8 @@ mod messages;
 mod pair;
 mod reception;
 pub mod recordings;
+#[cfg(test)]
+mod tests;
 
 pub use event::{Cause, Ended, Event, Reason, Verdict};
 pub use messages::{Message, Recorded, messages_of};

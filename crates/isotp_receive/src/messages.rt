@@ -42,7 +42,12 @@ pub fn messages_of(alloc: Global, trace: &[Recorded]) -> Result<Vec<Message>, Al
     let mut pair = Pair::new(alloc)?;
     let mut found = Vec::new(alloc);
     for recorded in trace {
-        let event = pair.accept(recorded.line, recorded.micros, recorded.dir, &recorded.frame);
+        let event = pair.accept(
+            recorded.line,
+            recorded.micros,
+            recorded.dir,
+            &recorded.frame,
+        );
         if let Verdict::Message(bytes) = event.verdict {
             found.push(Message {
                 dir: recorded.dir,

@@ -78,7 +78,9 @@ impl Pair {
                 ended: self.end(dir),
                 verdict: Verdict::Message(message),
             },
-            Ok(Pdu::First { len, rx_dl, bytes }) => self.begin(line, micros, dir, len, rx_dl, bytes),
+            Ok(Pdu::First { len, rx_dl, bytes }) => self.begin(
+                line, micros, dir, len, rx_dl, bytes,
+            ),
             Ok(
                 Pdu::Next {
                     sn,

@@ -52,6 +52,16 @@ impl Head {
         ((self.taken + 1) % 16) as u8
     }
 
+    fn wrong_number(self, found: u8) -> Reason
+        requires { self.taken < 2 ^ 31 }
+        ensures { result ≡ Reason.NextSequence ((self.taken + 1) % 16) found }
+    {
+        Reason::NextSequence {
+            expected: self.expected(),
+            found,
+        }
+    }
+
     /// The reception that ended so.
     fn ended(self, cause: Cause, dir: Dir) -> Ended
         ensures { result ≡ record { dir = dir; begun_line = self.line; len = self.len; cause = cause } }
@@ -165,7 +175,14 @@ impl Reception {
     }
 
     #[tactic(auto, using(crate::proofs::Next::take_over))]
-    pub fn next<'a>(&'a mut self, dir: Dir, micros: u64, sn: u8, can_dl: u8, bytes: &[u8]) -> Event<'a>
+    pub fn next<'a>(
+        &'a mut self,
+        dir: Dir,
+        micros: u64,
+        sn: u8,
+        can_dl: u8,
+        bytes: &[u8],
+    ) -> Event<'a>
         requires { IsSoundLayout (consecutive sn can_dl bytes.now) }
         ensures* after { sem 𝓛 (TakesConsecutive self.entry micros sn can_dl bytes.now) }
         ensures event { seen_event result ≡ on_consecutive dir self.old micros sn can_dl bytes.now }
@@ -198,8 +215,7 @@ impl Reception {
             }
             Judged::Sequence => {
                 self.head = None;
-                let expected = head.expected();
-                head.refuse(Cause::Sequence, dir, Reason::NextSequence { expected, found: sn })
+                head.refuse(Cause::Sequence, dir, head.wrong_number(sn))
             }
             Judged::Length => {
                 self.head = None;
@@ -218,7 +234,7 @@ fn judge(head: Head, bytes: &[u8], micros: u64, sn: u8, can_dl: u8) -> Judged
     ensures { result ≡ judged (stands_as head bytes.now) micros sn can_dl }
 {
     let have = bytes.len() as u32;
-    if micros > head.reference && micros - head.reference > N_CR {
+    if micros.saturating_sub(head.reference) > N_CR {
         return Judged::Late;
     }
     if sn != head.expected() {
