@@ -1,9 +1,8 @@
--- The layouts of ISO 15765-2, and the faults.
-use Rattle.std.specs.Prelude.{◌<◌, ◌≤◌, ℕ, ◌+◌, ◌-◌, ◌*◌, ◌/◌, ◌%◌, ◌≡◌, Bool, ◌&&◌, ◌||◌, List, ◌∷◌, length, drop, slice_index, slice_range, nat_lt, nat_le, ◌==◌, if◌then◌else◌, Result, Ok, Err, true, ⊤, ◌≢◌, ◌^◌, ◌++◌, ◌⊎◌}
-use Rattle.std.specs.List.{AllByRecursion}
+-- What a CAN frame says under ISO 15765-2:2016: each layout as the bytes that it spells, and the same as a function.
+use Rattle.std.specs.Prelude.{◌≡◌, ◌≢◌, ℕ, ◌+◌, ◌-◌, ◌*◌, ◌/◌, ◌%◌, ◌^◌, ◌<◌, ◌≤◌, ◌⊎◌, Bool, ◌&&◌, ◌||◌, ◌==◌, nat_lt, nat_le, IsTrue, List, [], ◌∷◌, ◌++◌, length, drop, slice_index, slice_range, Result, Ok, Err, true, ⊤, if◌then◌else◌}
 use Rattle.can_log.specs.Frame.{FrameValue}
 use Rattle.can_log.specs.declared.frame.Kind.{Kind}
-use Rattle.can_log.specs.declared.frame.Kind.TheVariants.{Classic, Fd, Remote}
+use Rattle.can_log.specs.declared.frame.Kind.TheVariants as kind
 use Rattle.isotp_pdu.specs.declared.Status.{Status}
 use Rattle.isotp_pdu.specs.declared.Status.TheVariants as status
 use Rattle.isotp_pdu.specs.declared.PduFault.{PduFault}
@@ -11,110 +10,165 @@ use Rattle.isotp_pdu.specs.declared.PduFault.TheVariants as fault
 use Rattle.isotp_pdu.specs.declared.Pdu.{Pdu}
 use Rattle.isotp_pdu.specs.declared.Pdu.TheVariants as pdu
 
--- what a frame says
+-- what a frame says, apart from where its bytes lie
 pub data Layout : Type 0 where
+  -- the message
   single : List ℕ → Layout
+  -- the announced length, RX_DL, and the first bytes of the message
   first : ℕ → ℕ → List ℕ → Layout
+  -- the sequence number, CAN_DL, and the next bytes of the message with what is padded
   consecutive : ℕ → ℕ → List ℕ → Layout
+  -- the flow status
   flow_control : Status → Layout
 
--- a layout_of without where it lies in memory
-abbrev pub layout_at : Pdu → Layout
-layout_at (pdu.Single bytes) = single bytes.now
-layout_at (pdu.First len rx_dl bytes) = first len rx_dl bytes.now
-layout_at (pdu.Next sn frame_len bytes) = consecutive sn frame_len bytes.now
-layout_at (pdu.Flow s) = flow_control s
-
--- the lengths that a frame may have
-abbrev pub is_can_dl : ℕ → Bool
-is_can_dl n = nat_le n 8 || n == 12 || n == 16 || n == 20 || n == 24 || n == 32 || n == 48 || n == 64
-
--- the lengths that a first frame may have, each the RX_DL of its reception
+-- the data lengths of a first frame, one of which is RX_DL
 abbrev pub is_rx_dl : ℕ → Bool
 is_rx_dl n = n == 8 || n == 12 || n == 16 || n == 20 || n == 24 || n == 32 || n == 48 || n == 64
 
-abbrev pub single_of : List ℕ → Result Layout PduFault
-single_of x =
-    if nat_le (length x) 8 then
-    (let len = slice_index x 0 % 16 in
-    if nat_le 1 len && nat_le (len + 1) (length x) then Ok (single (slice_range x 1 (len + 1))) else Err fault.SingleLength)
-    else
-    (let len = slice_index x 1 in
-    if (slice_index x 0 == 0) && (nat_le 1 len && nat_le (len + 2) (length x)) then Ok (single (slice_range x 2 (len + 2))) else Err fault.SingleLength)
+-- the data lengths of a CAN frame (ISO 11898-1), one of which is CAN_DL
+abbrev pub is_can_dl : ℕ → Bool
+is_can_dl n = nat_lt n 8 || is_rx_dl n
 
--- the least length that a first frame may announce
+-- the first byte of a frame: its kind in the high four bits, and a number below 16 in the low four
+abbrev pub first_byte : ℕ → ℕ → ℕ
+first_byte kind low = 16 * kind + low
+
+-- Single frame (9.6.2): the length of the message in the low bits, or in a byte of its own where CAN_DL is above 8;
+-- then the message, and padding of any value.
+abbrev pub SpellsSingle : List ℕ → List ℕ → Type 0
+SpellsSingle bytes message = (padding : List ℕ) × (0 < length message)
+    × (((length bytes ≤ 8) × (bytes ≡ first_byte 0 (length message) ∷ message ++ padding))
+    ⊎ ((8 < length bytes) × (bytes ≡ first_byte 0 0 ∷ length message ∷ message ++ padding)))
+
+-- the least length that a first frame announces: what no single frame of this RX_DL holds
 abbrev pub least_first : ℕ → ℕ
 least_first rx_dl = if rx_dl == 8 then 8 else rx_dl - 1
 
+-- First frame (9.6.3): the announced length in 12 bits; or these are 0, and it stands in 32 bits and is above 4095.
+-- Then the first bytes of the message, to the end of the frame.
+abbrev pub SpellsFirst : List ℕ → ℕ → List ℕ → Type 0
+SpellsFirst bytes announced data_bytes =
+    ((least_first (length bytes) ≤ announced) × (announced ≤ 4095)
+    × (bytes ≡ first_byte 1 (announced / 256) ∷ (announced % 256) ∷ data_bytes))
+    ⊎ ((4095 < announced) × (announced < 2 ^ 32)
+    × (bytes ≡ first_byte 1 0 ∷ 0 ∷ (announced / 2 ^ 24) ∷ (announced / 2 ^ 16 % 256) ∷ (announced / 2 ^ 8 % 256) ∷ (announced % 256) ∷ data_bytes))
+
+-- the flow status in the low bits of a flow control frame
+abbrev pub status_number : Status → ℕ
+status_number status.Continue = 0
+status_number status.Wait = 1
+status_number status.Overflow = 2
+
+-- the bytes spell the layout
+abbrev pub Spells : List ℕ → Layout → Type 0
+Spells bytes (single message) = SpellsSingle bytes message
+Spells bytes (first announced rx_dl data_bytes) = IsTrue (is_rx_dl rx_dl) × (rx_dl ≡ length bytes) × SpellsFirst bytes announced data_bytes
+-- Consecutive frame (9.6.4): the sequence number in the low bits, then bytes to the end of the frame.
+Spells bytes (consecutive number can_dl data_bytes) = (number < 16) × (can_dl ≡ length bytes) × (bytes ≡ first_byte 2 number ∷ data_bytes)
+-- Flow control (9.6.5): the flow status in the low bits, then block size and separation time, of any value, and padding.
+Spells bytes (flow_control status) = (block_size : ℕ) × (separation_time : ℕ) × (padding : List ℕ)
+    × (bytes ≡ first_byte 3 (status_number status) ∷ block_size ∷ separation_time ∷ padding)
+
+-- a data frame of a legal length, whose bytes spell the layout
+pub record HasLayout (frame : FrameValue) (layout : Layout) : Type 0 where
+  pub data_frame : frame.kind ≢ kind.Remote
+  pub frame_length : IsTrue (is_can_dl (length frame.bytes))
+  pub spelled : Spells frame.bytes layout
+
+-- a first frame carries less than it announces, and has one of the eight lengths
+pub record IsSoundFirst (announced rx_dl : ℕ) (data_bytes : List ℕ) : Type 0 where
+  pub carries_less : length data_bytes < announced
+  pub in_frame : length data_bytes < rx_dl
+  pub at_least : 8 ≤ rx_dl
+  pub at_most : rx_dl ≤ 64
+  pub one_of_eight : IsTrue (is_rx_dl rx_dl)
+
+-- a consecutive frame has its first byte, and the rest is data
+pub record IsSoundConsecutive (number can_dl : ℕ) (data_bytes : List ℕ) : Type 0 where
+  pub in_frame : length data_bytes + 1 ≡ can_dl
+  pub at_most : can_dl ≤ 64
+  pub four_bits : number < 16
+
+-- what holds of the numbers of each layout that a frame has; no message is empty
+abbrev pub IsSoundLayout : Layout → Type 0
+IsSoundLayout (single message) = 0 < length message
+IsSoundLayout (first announced rx_dl data_bytes) = IsSoundFirst announced rx_dl data_bytes
+IsSoundLayout (consecutive number can_dl data_bytes) = IsSoundConsecutive number can_dl data_bytes
+IsSoundLayout (flow_control status) = ⊤
+
+-- a `Pdu` without where its bytes lie
+abbrev pub layout_at : Pdu → Layout
+layout_at (pdu.Single message) = single message.now
+layout_at (pdu.First announced rx_dl bytes) = first announced rx_dl bytes.now
+layout_at (pdu.Next number can_dl bytes) = consecutive number can_dl bytes.now
+layout_at (pdu.Flow status) = flow_control status
+
+-- a result of `read_pdu` without where its bytes lie
+abbrev pub layout_seen : Result Pdu PduFault → Result Layout PduFault
+layout_seen (Ok pdu) = Ok (layout_at pdu)
+layout_seen (Err fault) = Err fault
+
+-- The same as a function, by the tests that a reader makes. `layout_of` is the layout that a frame has, or the fault of
+-- lowest number that applies: specs/Laws says both of it.
+
+abbrev pub single_of : List ℕ → Result Layout PduFault
+single_of bytes =
+    if nat_le (length bytes) 8 then
+    (let len = slice_index bytes 0 % 16 in
+    if nat_le 1 len && nat_le (len + 1) (length bytes) then Ok (single (slice_range bytes 1 (len + 1))) else Err fault.SingleLength)
+    else
+    (let len = slice_index bytes 1 in
+    if (slice_index bytes 0 == 0) && (nat_le 1 len && nat_le (len + 2) (length bytes)) then Ok (single (slice_range bytes 2 (len + 2))) else Err fault.SingleLength)
+
+-- a number above 255 is no byte
+abbrev pub are_bytes : List ℕ → Bool
+are_bytes [] = true
+are_bytes (b ∷ bytes) = nat_lt b 256 && are_bytes bytes
+
+-- a first frame whose length stands in 12 bits
+abbrev pub short_first_of : List ℕ → Result Layout PduFault
+short_first_of bytes =
+    let announced = slice_index bytes 0 % 16 * 256 + slice_index bytes 1 in
+    if nat_le (least_first (length bytes)) announced && are_bytes (slice_range bytes 1 2) then Ok (first announced (length bytes) (drop 2 bytes))
+    else Err fault.FirstLength
+
+-- a first frame whose length stands in 32 bits
+abbrev pub escaped_first_of : List ℕ → Result Layout PduFault
+escaped_first_of bytes =
+    let announced = ((slice_index bytes 2 * 256 + slice_index bytes 3) * 256 + slice_index bytes 4) * 256 + slice_index bytes 5 in
+    if nat_lt 4095 announced && are_bytes (slice_range bytes 2 6) then Ok (first announced (length bytes) (drop 6 bytes))
+    else Err fault.FirstLength
+
 abbrev pub first_of : List ℕ → Result Layout PduFault
-first_of x =
-    let short = (slice_index x 0 % 16) * 256 + slice_index x 1 in
-    let long = ((slice_index x 2 * 256 + slice_index x 3) * 256 + slice_index x 4) * 256 + slice_index x 5 in
-    if nat_lt (length x) 8 then Err fault.FirstLength
-    else if short == 0 then
-    (if nat_le long 4095 then Err fault.FirstLength else Ok (first long (length x) (drop 6 x)))
-    else (if nat_lt short (least_first (length x)) then Err fault.FirstLength else Ok (first short (length x) (drop 2 x)))
+first_of bytes =
+    if nat_lt (length bytes) 8 then Err fault.FirstLength
+    else if (slice_index bytes 0 % 16 == 0) && (slice_index bytes 1 == 0) then escaped_first_of bytes
+    else short_first_of bytes
 
 abbrev pub status_of : ℕ → Result Layout PduFault
-status_of n =
-    if n == 0 then Ok (flow_control status.Continue)
-    else if n == 1 then Ok (flow_control status.Wait)
-    else if n == 2 then Ok (flow_control status.Overflow)
+status_of low =
+    if low == 0 then Ok (flow_control status.Continue)
+    else if low == 1 then Ok (flow_control status.Wait)
+    else if low == 2 then Ok (flow_control status.Overflow)
     else Err fault.FlowStatus
 
 abbrev pub of_kind : ℕ → List ℕ → Result Layout PduFault
-of_kind k x =
-    if k == 0 then single_of x
-    else if k == 1 then first_of x
-    else if k == 2 then Ok (consecutive (slice_index x 0 % 16) (length x) (drop 1 x))
-    else if k == 3 then (if nat_lt (length x) 3 then Err fault.FlowShort else status_of (slice_index x 0 % 16))
+of_kind kind bytes =
+    if kind == 0 then single_of bytes
+    else if kind == 1 then first_of bytes
+    else if kind == 2 then Ok (consecutive (slice_index bytes 0 % 16) (length bytes) (drop 1 bytes))
+    else if kind == 3 then (if nat_lt (length bytes) 3 then Err fault.FlowShort else status_of (slice_index bytes 0 % 16))
     else Err fault.UnknownKind
 
 abbrev pub of_bytes : List ℕ → Result Layout PduFault
-of_bytes x =
-    if is_can_dl (length x) then (if length x == 0 then Err fault.Empty else of_kind (slice_index x 0 / 16) x) else Err fault.FrameLength
+of_bytes bytes =
+    if is_can_dl (length bytes) then (if length bytes == 0 then Err fault.Empty else of_kind (slice_index bytes 0 / 16) bytes)
+    else Err fault.FrameLength
 
 abbrev pub of_frame : Kind → List ℕ → Result Layout PduFault
-of_frame Remote x = Err fault.Remote
-of_frame Classic x = of_bytes x
-of_frame Fd x = of_bytes x
+of_frame kind.Remote bytes = Err fault.Remote
+of_frame kind.Classic bytes = of_bytes bytes
+of_frame kind.Fd bytes = of_bytes bytes
 
--- the layout_of of a frame, or the fault of the lowest number
 unfoldable pub layout_of : FrameValue → Result Layout PduFault
-layout_of f = of_frame f.kind f.bytes
-
--- what a function returned, without places in memory
-abbrev pub layout_seen : Result Pdu PduFault → Result Layout PduFault
-layout_seen (Ok p) = Ok (layout_at p)
-layout_seen (Err e) = Err e
-
--- what holds of every layout_of: no message is empty, a first frame carries less than it announces, and the bytes are the frame's
-abbrev pub IsSoundLayout : Layout → Type 0
-IsSoundLayout (single m) = 0 < length m
-IsSoundLayout (first len rx_dl bytes) = (length bytes < len) × (8 ≤ rx_dl) × (rx_dl ≤ 64) × (length bytes < rx_dl) × (is_rx_dl rx_dl ≡ true)
-IsSoundLayout (consecutive sn frame_len bytes) = (length bytes + 1 ≡ frame_len) × (frame_len ≤ 64) × (sn < 16)
-IsSoundLayout (flow_control s) = ⊤
-
-abbrev pub AreBytes : List ℕ → Type 0
-AreBytes x = AllByRecursion (λ b. b < 256) x
-
-abbrev pub code_of : Status → ℕ
-code_of status.Continue = 0
-code_of status.Wait = 1
-code_of status.Overflow = 2
-
--- the bytes x spell the layout_of
-abbrev pub Spells : List ℕ → Layout → Type 0
--- the length in the low half of the first byte, or in the second byte of a longer frame; then the message and padding
-Spells x (single m) = (0 < length m) × ((pad : List ℕ) ×
-    (((length x ≤ 8) × (x ≡ length m ∷ m ++ pad)) ⊎ ((8 < length x) × (x ≡ 0 ∷ length m ∷ m ++ pad))))
--- 12 bits of length, or none of them and 32 bits, above 4095
-Spells x (first len rx_dl bytes) = (rx_dl ≡ length x) × (8 ≤ rx_dl) ×
-    (((least_first rx_dl ≤ len) × (len < 4096) × (x ≡ (16 + len / 256) ∷ (len % 256) ∷ bytes))
-    ⊎ ((4095 < len) × (len < 2 ^ 32) × (x ≡ 16 ∷ 0 ∷ (len / 16777216) ∷ (len / 65536 % 256) ∷ (len / 256 % 256) ∷ (len % 256) ∷ bytes)))
-Spells x (consecutive sn frame_len bytes) = (sn < 16) × (frame_len ≡ length x) × (x ≡ (32 + sn) ∷ bytes)
-Spells x (flow_control s) = (rest : List ℕ) × (2 ≤ length rest) × (x ≡ (48 + code_of s) ∷ rest)
-
--- the frame has the layout_of
-abbrev pub HasLayout : FrameValue → Layout → Type 0
-HasLayout f p = (f.kind ≢ Remote) × (is_can_dl (length f.bytes) ≡ true) × Spells f.bytes p
+layout_of frame = of_frame frame.kind frame.bytes

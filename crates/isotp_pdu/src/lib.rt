@@ -1,53 +1,96 @@
+//! What a CAN frame says under ISO 15765-2: a whole message, the beginning of one, the next part of
+//! one, or a word to the sender about its pace. [`read_pdu`] reads it from one frame alone, whatever
+//! came before; receiving a message out of several frames is the layer above. Nothing is copied: the
+//! bytes of a [`Pdu`] lie in the frame.
+//!
+//! `101462F190574241` is a first frame: its message has 20 bytes (`014`), of which six stand here,
+//! and the consecutive frames that follow it have 8 bytes each.
 #![tactic(auto)]
 
-//! The layouts of ISO 15765-2.
+pub mod laws;
+#[cfg(test)]
+mod tests;
 
-ghost use Rattle.std.specs.Prelude.{◌≡◌, ◌≤◌, ◌<◌, length, slice_index, ◌/◌, ◌%◌, nat_lt, if◌then◌else◌, ◌↔◌, IsTrue, IfOk};
-ghost use Rattle.isotp_pdu.specs.Layout.{layout_seen, IsSoundLayout, layout_of, of_bytes, of_kind, single_of, first_of, status_of, is_can_dl, least_first};
+ghost use Rattle.std.specs.Prelude.{◌≡◌, ◌↔◌, ◌≤◌, ◌<◌, ◌==◌, ◌*◌, ◌+◌, ◌%◌, length, slice_index, nat_lt, if◌then◌else◌, IfOk, IsTrue};
+ghost use Rattle.isotp_pdu.specs.Layout.{Layout, HasLayout, IsSoundLayout, layout_of, layout_seen, of_bytes, single_of, first_of, short_first_of, escaped_first_of, status_of, is_can_dl, least_first};
+ghost use Rattle.isotp_pdu.specs.Fault.{IsFault};
 
 use can_log::{Frame, Kind};
 
+/// The flow status of a flow control frame.
 #[derive(Clone, Copy, Debug, PartialEq, Eq)]
 pub enum Status {
+    /// Go on sending.
     Continue,
+    /// Send nothing yet.
     Wait,
+    /// The message is too long for the receiver, and is given up.
     Overflow,
 }
 
-/// What a frame says. `bytes` of `First` and `Next` runs to the end of the frame.
-#[derive(Clone, Copy, Debug)]
+/// What a frame says. The bytes lie in the frame.
+#[derive(Clone, Copy, Debug, PartialEq, Eq)]
 pub enum Pdu<'a> {
+    /// A single frame: the whole message, of at least one byte.
     Single(&'a [u8]),
+    /// A first frame: the beginning of a message.
     First {
+        /// The length of the whole message.
         len: u32,
+        /// RX_DL, the number of bytes of this frame and of each that follows but the last: 8, 12, 16,
+        /// 20, 24, 32, 48 or 64.
         rx_dl: u8,
+        /// The bytes of the message to the end of the frame, fewer than `len`.
         bytes: &'a [u8],
     },
+    /// A consecutive frame: the next part of a message.
     Next {
+        /// The sequence number, 0 to 15.
         sn: u8,
+        /// CAN_DL, the number of bytes of this frame, 1 to 64.
         frame_len: u8,
+        /// The bytes to the end of the frame. Where the message ends before, the others are padding.
         bytes: &'a [u8],
     },
+    /// A flow control frame: how a sender goes on after a first frame or a block of consecutive ones.
     Flow(Status),
 }
 
+/// Why a frame says nothing. Of several the first in this order is told.
 #[derive(Clone, Copy, Debug, PartialEq, Eq)]
 pub enum PduFault {
+    /// It is a remote frame.
     Remote,
+    /// Its data has a length that no CAN frame has, as 9.
     FrameLength,
+    /// It has no data.
     Empty,
+    /// The high four bits of the first byte are 4 to 15.
     UnknownKind,
+    /// A single frame of no message, or of a longer one than it carries.
     SingleLength,
+    /// A first frame below 8 bytes, or one that announces what a single frame holds, or that spends
+    /// 32 bits on a length that 12 bits hold.
     FirstLength,
+    /// Flow control below 3 bytes.
     FlowShort,
+    /// A flow status above 2.
     FlowStatus,
 }
 
-#[tactic(auto, unfolding(crate::specs::Layout::layout_of))]
-/// What the frame says, or the fault of the lowest number.
+/// What the frame says, or else the first fault that applies.
 pub fn read_pdu(frame: &Frame) -> Result<Pdu<'_>, PduFault>
     ensures value { layout_seen result ≡ layout_of frame.now }
+    ensures layout { (layout : Layout) → (layout_seen result ≡ Ok layout) ↔ HasLayout frame.now layout }
+    ensures fault { (e : PduFault) → (layout_seen result ≡ Err e) ↔ IsFault e frame.now }
     ensures sound { IfOk (layout_seen result) IsSoundLayout }
+{
+    read_frame(frame)
+}
+
+#[tactic(auto, unfolding(crate::specs::Layout::layout_of))]
+fn read_frame(frame: &Frame) -> Result<Pdu<'_>, PduFault>
+    ensures { layout_seen result ≡ layout_of frame.now }
 {
     match frame.kind() {
         Kind::Remote => Err(PduFault::Remote),
@@ -109,27 +152,51 @@ fn read_first(bytes: &[u8]) -> Result<Pdu<'_>, PduFault>
     if bytes.len() < 8 {
         return Err(PduFault::FirstLength);
     }
-    let rx_dl = bytes.len() as u8;
-    let short = (bytes[0] % 16) as u32 * 256 + bytes[1] as u32;
-    if short != 0 {
-        let least: u32 = if rx_dl == 8 { 8 } else { rx_dl as u32 - 1 };
-        if short < least {
-            return Err(PduFault::FirstLength);
-        }
-        return Ok(Pdu::First {
-            len: short,
-            rx_dl,
-            bytes: &bytes[2..],
-        });
+    if bytes[0] % 16 == 0 && bytes[1] == 0 {
+        read_escaped_first(bytes)
+    } else {
+        read_short_first(bytes)
     }
-    let len = ((bytes[2] as u32 * 256 + bytes[3] as u32) * 256 + bytes[4] as u32) * 256
-        + bytes[5] as u32;
-    if len <= 4095 {
+}
+
+/// The announced length stands in 12 bits of the first two bytes.
+fn read_short_first(bytes: &[u8]) -> Result<Pdu<'_>, PduFault>
+    requires long { 2 ≤ length bytes.now }
+    requires few { length bytes.now ≤ 64 }
+    ensures { layout_seen result ≡ short_first_of bytes.now }
+{
+    let announced = u16::from_be_bytes([bytes[0] % 16, bytes[1]]) as u32;
+    let rx_dl = bytes.len() as u8;
+    if announced < least_first(rx_dl) {
         return Err(PduFault::FirstLength);
     }
     Ok(Pdu::First {
-        len,
+        len: announced,
         rx_dl,
+        bytes: &bytes[2..],
+    })
+}
+
+fn least_first(rx_dl: u8) -> u32
+    requires { 0 < rx_dl }
+    ensures { result ≡ least_first rx_dl }
+{
+    if rx_dl == 8 { 8 } else { rx_dl as u32 - 1 }
+}
+
+/// The announced length stands in the four bytes behind the first two.
+fn read_escaped_first(bytes: &[u8]) -> Result<Pdu<'_>, PduFault>
+    requires long { 6 ≤ length bytes.now }
+    requires few { length bytes.now ≤ 64 }
+    ensures { layout_seen result ≡ escaped_first_of bytes.now }
+{
+    let announced = u32::from_be_bytes([bytes[2], bytes[3], bytes[4], bytes[5]]);
+    if announced <= 4095 {
+        return Err(PduFault::FirstLength);
+    }
+    Ok(Pdu::First {
+        len: announced,
+        rx_dl: bytes.len() as u8,
         bytes: &bytes[6..],
     })
 }

@@ -11,7 +11,7 @@ use Rattle.isotp_receive.specs.Trace.{Entry, FirstFrame, Role, single, first, co
 use Rattle.isotp_receive.specs.Places.{bytes_in_first, IsConsecutiveCount, FitsAs}
 use Rattle.isotp_receive.specs.OnTime.{n_cr, IsReference}
 use Rattle.isotp_receive.specs.Standing.{Standing, stands, fits_length}
-use Rattle.isotp_receive.specs.Recording.{IsPart, Numbered, RisingFrom, IsLong, Carries, one_frame, frames, Given, IsIn, last_of}
+use Rattle.isotp_receive.specs.Recording.{IsConsecutiveFrame, EachNumbered, IsRisingFrom, IsSegmented, Carries, unsegmented, segmented, Transfer, IsIn, last_or}
 use Rattle.isotp_receive.specs.Heard.{heard}
 use Rattle.isotp_receive.specs.Machine.{after, fresh, judged}
 use Rattle.isotp_receive.proofs.OneMore.{one_more}
@@ -24,17 +24,17 @@ abbrev pub IsQuiet : Role → Type 0
 IsQuiet r = (r ≡ no_part) ⊎ (r ≡ continue_or_wait)
 
 -- the positions of messages of one direction, and what they deliver
-abbrev pub flat : List Given → List ℕ
+abbrev pub flat : List Transfer → List ℕ
 flat [] = []
-flat (g ∷ gs) = g.places ++ flat gs
+flat (g ∷ gs) = g.positions ++ flat gs
 
-abbrev pub placed_of : List Given → List (ℕ × List ℕ)
+abbrev pub placed_of : List Transfer → List (ℕ × List ℕ)
 placed_of [] = []
-placed_of (g ∷ gs) = (last_of 0 g.places, g.message) ∷ placed_of gs
+placed_of (g ∷ gs) = (last_or 0 g.positions, g.message) ∷ placed_of gs
 
-abbrev pub Goods : ℕ → List Entry → Dir → List Given → Type 0
+abbrev pub Goods : ℕ → List Entry → Dir → List Transfer → Type 0
 Goods limit T d [] = ⊤
-Goods limit T d (g ∷ gs) = ((length g.message ≤ limit) × Carries T d g.message g.places) × Goods limit T d gs
+Goods limit T d (g ∷ gs) = ((length g.message ≤ limit) × Carries T d g.message g.positions) × Goods limit T d gs
 
 -- from n on, each frame of T is at one of the positions, or is no frame of a message
 abbrev pub Cover : List Entry → Dir → ℕ → List ℕ → Type 0
@@ -55,7 +55,7 @@ record Open (T : List Entry) (d : Dir) (n : ℕ) (st : Standing) (m : List ℕ) 
   taken : st.taken ≡ k
   bytes : st.bytes ≡ take (f + k * (start.rx_dl - 1)) m
   left : k + length cs ≡ nn
-  parts : Numbered (IsPart T d m i start f nn) (k + 1) cs
+  parts : EachNumbered (IsConsecutiveFrame T d m i start f nn) (k + 1) cs
   q : ℕ
   e : Entry
   ref : IsReference T d i n q
@@ -63,8 +63,8 @@ record Open (T : List Entry) (d : Dir) (n : ℕ) (st : Standing) (m : List ℕ) 
   time : st.reference ≡ e.micros
 
 data State (T : List Entry) (d : Dir) (n : ℕ) : Option Standing → List ℕ → List (ℕ × List ℕ) → Type 0 where
-  closed : State T d n None [] []
-  opened : {st : Standing} {m : List ℕ} {c : ℕ} {cs : List ℕ} → Open T d n st m (c ∷ cs) → State T d n (Some st) (c ∷ cs) ((last_of c cs, m) ∷ [])
+  closed : {o : Option Standing} → State T d n o [] []
+  opened : {st : Standing} {m : List ℕ} {c : ℕ} {cs : List ℕ} → Open T d n st m (c ∷ cs) → State T d n (Some st) (c ∷ cs) ((last_or c cs, m) ∷ [])
 
 -- the same message under way, one frame later
 reopen : (T : List Entry) (d : Dir) (n : ℕ) (st : Standing) (m : List ℕ) (cs : List ℕ) (s : Open T d n st m cs) (t q : ℕ) (e : Entry)
@@ -108,15 +108,15 @@ no_message : (o : Option Standing) (micros : ℕ) → completed o micros continu
 no_message o micros = refl
 
 -- a position is the first of the list, or in none of it
-next_of : (n : ℕ) (ps : List ℕ) → RisingFrom n ps → ((rest : List ℕ) × (ps ≡ n ∷ rest) × RisingFrom (suc n) rest) ⊎ RisingFrom (suc n) ps
+next_of : (n : ℕ) (ps : List ℕ) → IsRisingFrom n ps → ((rest : List ℕ) × (ps ≡ n ∷ rest) × IsRisingFrom (suc n) rest) ⊎ IsRisingFrom (suc n) ps
 next_of n [] h = inr tt
 next_of n (p ∷ ps) h = elim (cases_Bool (nat_lt n p)) [
   | inl t ↦ inr (ltb-true n p t, h.1)
   | inr t ↦ (let same : p ≡ n = (let a = ltb-false n p t in let b = h.0 in omega arith) in
-      inl (ps, ap (λ x. x ∷ ps) same, subst (λ x. RisingFrom (suc x) ps) same h.1))
+      inl (ps, ap (λ x. x ∷ ps) same, subst (λ x. IsRisingFrom (suc x) ps) same h.1))
 ]
 
-pub above-none : (n p : ℕ) (ps : List ℕ) → RisingFrom n ps → IsIn p ps → n ≤ p
+pub above-none : (n p : ℕ) (ps : List ℕ) → IsRisingFrom n ps → IsIn p ps → n ≤ p
 above-none n p [] h i = absurd i
 above-none n p (q ∷ qs) h (inl e) = (let a = h.0 in omega arith)
 above-none n p (q ∷ qs) h (inr i) = (let a = above-none (suc q) p qs h.1 i in let b = h.0 in omega arith)
@@ -283,7 +283,7 @@ module _ (limit : ℕ) (T : List Entry) (d : Dir) (n : ℕ) (e : Entry) (at : At
         time = refl;
       }
 
-  begin-open : (m cs : List ℕ) (l : IsLong T d m n cs) → Open T d (suc n) (fresh l.start) m cs
+  begin-open : (m cs : List ℕ) (l : IsSegmented T d m n cs) → Open T d (suc n) (fresh l.start) m cs
   begin-open m cs l =
       let is_e : l.frame ≡ e = at-same T n l.frame e l.stands at in
       let from = first_from d l.frame l.start l.kind in
@@ -302,7 +302,7 @@ module _ (limit : ℕ) (T : List Entry) (d : Dir) (n : ℕ) (e : Entry) (at : At
         f = f;
         nn = length cs;
         k = 0;
-        least = l.least;
+        least = l.count;
         announces = l.announces;
         full = from.3;
         len = refl;
@@ -310,7 +310,7 @@ module _ (limit : ℕ) (T : List Entry) (d : Dir) (n : ℕ) (e : Entry) (at : At
         taken = refl;
         bytes = sym (take_all (length m) l.start.bytes (omega arith)) ∙ grown ∙ ap (λ j. take j m) sum;
         left = omega arith;
-        parts = l.parts;
+        parts = l.consecutive_frames;
         q = n;
         e = e;
         ref = record { from = omega arith; below = omega arith; restarts = inl refl; greatest = λ p x above under there _. absurd (omega arith) };
@@ -322,10 +322,10 @@ module _ (limit : ℕ) (T : List Entry) (d : Dir) (n : ℕ) (e : Entry) (at : At
 record Stepped (limit : ℕ) (T : List Entry) (d : Dir) (n : ℕ) (o next : Option Standing) (told : List (List ℕ)) (want : List (ℕ × List ℕ)) : Type 0 where
   cs : List ℕ
   out' : List (ℕ × List ℕ)
-  bs' : List Given
+  bs' : List Transfer
   state : State T d (suc n) next cs out'
   goods : Goods limit T d bs'
-  rising : RisingFrom (suc n) (cs ++ flat bs')
+  rising : IsRisingFrom (suc n) (cs ++ flat bs')
   cover : Cover T d (suc n) (cs ++ flat bs')
   tells : at_place n told ++ (out' ++ placed_of bs') ≡ want
 
@@ -340,8 +340,8 @@ passed T d n ps cover p e above at = elim (cover p e (omega arith) at) [
 
 module _ (limit : ℕ) (T : List Entry) (d : Dir) (n : ℕ) (e : Entry) (at : At T n e) where
   -- a frame that is at none of the positions
-  aside : (o : Option Standing) (cs : List ℕ) (out : List (ℕ × List ℕ)) (bs : List Given) → State T d n o cs out → Goods limit T d bs
-      → RisingFrom (suc n) (cs ++ flat bs) → Cover T d n (cs ++ flat bs) → Stepped limit T d n o (after limit o e.micros (role d e)) (completed o e.micros (role d e)) (out ++ placed_of bs)
+  aside : (o : Option Standing) (cs : List ℕ) (out : List (ℕ × List ℕ)) (bs : List Transfer) → State T d n o cs out → Goods limit T d bs
+      → IsRisingFrom (suc n) (cs ++ flat bs) → Cover T d n (cs ++ flat bs) → Stepped limit T d n o (after limit o e.micros (role d e)) (completed o e.micros (role d e)) (out ++ placed_of bs)
   aside o cs out bs state goods rising cover = elim (cover n e (omega arith) at) [
     | inl i ↦ absurd (let h = above-none (suc n) n (cs ++ flat bs) rising i in omega arith)
     | inr quiet ↦ elim quiet [
@@ -368,35 +368,35 @@ module _ (limit : ℕ) (T : List Entry) (d : Dir) (n : ℕ) (e : Entry) (at : At
     ]
   ]
 
-  module _ (rest : List ℕ) (rising : RisingFrom (suc n) rest) (cover : Cover T d n (n ∷ rest)) where
+  module _ (rest : List ℕ) (rising : IsRisingFrom (suc n) rest) (cover : Cover T d n (n ∷ rest)) where
     -- the next consecutive frame of the message under way
-    goes : (st : Standing) (m : List ℕ) (cs : List ℕ) (bs : List Given) → Open T d n st m (n ∷ cs) → Goods limit T d bs → cs ++ flat bs ≡ rest
-        → Stepped limit T d n (Some st) (after limit (Some st) e.micros (role d e)) (completed (Some st) e.micros (role d e)) ((last_of n cs, m) ∷ placed_of bs)
+    goes : (st : Standing) (m : List ℕ) (cs : List ℕ) (bs : List Transfer) → Open T d n st m (n ∷ cs) → Goods limit T d bs → cs ++ flat bs ≡ rest
+        → Stepped limit T d n (Some st) (after limit (Some st) e.micros (role d e)) (completed (Some st) e.micros (role d e)) ((last_or n cs, m) ∷ placed_of bs)
     goes st m [] bs s goods same = record {
       cs = [];
       out' = [];
       bs' = bs;
       state = rw (last-after limit T d n e at st m s) closed;
       goods = goods;
-      rising = subst (RisingFrom (suc n)) (sym same) rising;
+      rising = subst (IsRisingFrom (suc n)) (sym same) rising;
       cover = passed T d n (flat bs) (subst (λ l. Cover T d n (n ∷ l)) (sym same) cover);
       tells = rw (last-told limit T d n e at st m s) refl;
     }
     goes st m (c ∷ cs) bs s goods same = record {
       cs = c ∷ cs;
-      out' = (last_of c cs, m) ∷ [];
+      out' = (last_or c cs, m) ∷ [];
       bs' = bs;
       state = rw (more-after limit T d n e at st m c cs s) (opened (more-open limit T d n e at st m c cs s));
       goods = goods;
-      rising = subst (RisingFrom (suc n)) (sym same) rising;
+      rising = subst (IsRisingFrom (suc n)) (sym same) rising;
       cover = passed T d n (c ∷ (cs ++ flat bs)) (subst (λ l. Cover T d n (n ∷ l)) (sym same) cover);
       tells = rw (more-told limit T d n e at st m c cs s) refl;
     }
 
     -- the first frame of the next message
-    starts_one : (m : List ℕ) (p : ℕ) (bs : List Given) (x : Entry) → At T p x → role d x ≡ single m → p ≡ n → Goods limit T d bs → flat bs ≡ rest
-        → Stepped limit T d n None (after limit None e.micros (role d e)) (completed None e.micros (role d e)) ((p, m) ∷ placed_of bs)
-    starts_one m p bs x stands kind here goods same =
+    starts_one : (o : Option Standing) (m : List ℕ) (p : ℕ) (bs : List Transfer) (x : Entry) → At T p x → role d x ≡ single m → p ≡ n → Goods limit T d bs → flat bs ≡ rest
+        → Stepped limit T d n o (after limit o e.micros (role d e)) (completed o e.micros (role d e)) ((p, m) ∷ placed_of bs)
+    starts_one o m p bs x stands kind here goods same =
         let there : At T n x = subst (λ j. At T j x) here stands in
         let is_e : x ≡ e = at-same T n x e there at in
         let kind_e : role d e ≡ single m = ap (role d) (sym is_e) ∙ kind in
@@ -406,90 +406,95 @@ module _ (limit : ℕ) (T : List Entry) (d : Dir) (n : ℕ) (e : Entry) (at : At
           bs' = bs;
           state = rw kind_e closed;
           goods = goods;
-          rising = subst (RisingFrom (suc n)) (sym same) rising;
+          rising = subst (IsRisingFrom (suc n)) (sym same) rising;
           cover = passed T d n (flat bs) (subst (λ l. Cover T d n (n ∷ l)) (sym same) cover);
           tells = rw (kind_e, here) refl;
         }
 
-    starts_long : (m cs : List ℕ) (bs : List Given) → length m ≤ limit → IsLong T d m n cs → Goods limit T d bs → cs ++ flat bs ≡ rest
-        → Stepped limit T d n None (after limit None e.micros (role d e)) (completed None e.micros (role d e)) ((last_of n cs, m) ∷ placed_of bs)
-    starts_long m [] bs fits l goods same = absurd (let from = first_from d l.frame l.start l.kind in let a = from.1 in let b = from.2 in let g = l.least.enough in omega arith)
-    starts_long m (c ∷ cs) bs fits l goods same =
+    starts_long : (o : Option Standing) (m cs : List ℕ) (bs : List Transfer) → length m ≤ limit → IsSegmented T d m n cs → Goods limit T d bs → cs ++ flat bs ≡ rest
+        → Stepped limit T d n o (after limit o e.micros (role d e)) (completed o e.micros (role d e)) ((last_or n cs, m) ∷ placed_of bs)
+    starts_long o m [] bs fits l goods same = absurd (let from = first_from d l.frame l.start l.kind in let a = from.1 in let b = from.2 in let g = l.count.enough in omega arith)
+    starts_long o m (c ∷ cs) bs fits l goods same =
         let is_e : l.frame ≡ e = at-same T n l.frame e l.stands at in
         let kind_e : role d e ≡ first l.start = ap (role d) (sym is_e) ∙ l.kind in
         let announces = l.announces in
         let within : nat_le l.start.len limit ≡ true = le-leb _ _ (omega arith) in
         record {
           cs = c ∷ cs;
-          out' = (last_of c cs, m) ∷ [];
+          out' = (last_or c cs, m) ∷ [];
           bs' = bs;
           state = rw (kind_e, within) (opened (begin-open limit T d n e at m (c ∷ cs) l));
           goods = goods;
-          rising = subst (RisingFrom (suc n)) (sym same) rising;
+          rising = subst (IsRisingFrom (suc n)) (sym same) rising;
           cover = passed T d n (c ∷ (cs ++ flat bs)) (subst (λ l. Cover T d n (n ∷ l)) (sym same) cover);
           tells = rw kind_e refl;
         }
 
-    starts : (m ps : List ℕ) (bs : List Given) → length m ≤ limit → Carries T d m ps → Goods limit T d bs → ps ++ flat bs ≡ n ∷ rest
-        → Stepped limit T d n None (after limit None e.micros (role d e)) (completed None e.micros (role d e)) ((last_of 0 ps, m) ∷ placed_of bs)
-    starts m _ bs fits (one_frame {p = p} x there kind) goods same = starts_one m p bs x there kind (cc) goods (cc)
-    starts m _ bs fits (frames {i = i} {cs = cs} l) goods same =
+    starts : (o : Option Standing) (m ps : List ℕ) (bs : List Transfer) → length m ≤ limit → Carries T d m ps → Goods limit T d bs → ps ++ flat bs ≡ n ∷ rest
+        → Stepped limit T d n o (after limit o e.micros (role d e)) (completed o e.micros (role d e)) ((last_or 0 ps, m) ∷ placed_of bs)
+    starts o m _ bs fits (unsegmented {p = p} x there kind) goods same = starts_one o m p bs x there kind (cc) goods (cc)
+    starts o m _ bs fits (segmented {i = i} {cs = cs} l) goods same =
         let here : i ≡ n = cc in
         let more : cs ++ flat bs ≡ rest = cc in
-        rw here (starts_long m cs bs fits (subst (λ j. IsLong T d m j cs) here l) goods more)
+        rw here (starts_long o m cs bs fits (subst (λ j. IsSegmented T d m j cs) here l) goods more)
 
   -- one frame
-  step : (o : Option Standing) (cs : List ℕ) (out : List (ℕ × List ℕ)) (bs : List Given) → State T d n o cs out → Goods limit T d bs
-      → RisingFrom n (cs ++ flat bs) → Cover T d n (cs ++ flat bs) → Stepped limit T d n o (after limit o e.micros (role d e)) (completed o e.micros (role d e)) (out ++ placed_of bs)
+  step : (o : Option Standing) (cs : List ℕ) (out : List (ℕ × List ℕ)) (bs : List Transfer) → State T d n o cs out → Goods limit T d bs
+      → IsRisingFrom n (cs ++ flat bs) → Cover T d n (cs ++ flat bs) → Stepped limit T d n o (after limit o e.micros (role d e)) (completed o e.micros (role d e)) (out ++ placed_of bs)
   step o cs out bs state goods rising cover = elim (next_of n (cs ++ flat bs) rising) [
     | inl w ↦ here o cs out bs state goods w.0 w.1 w.2 cover
     | inr above ↦ aside o cs out bs state goods above cover
   ] where
-    here : (o : Option Standing) (cs : List ℕ) (out : List (ℕ × List ℕ)) (bs : List Given) → State T d n o cs out → Goods limit T d bs
-        → (rest : List ℕ) → cs ++ flat bs ≡ n ∷ rest → RisingFrom (suc n) rest → Cover T d n (cs ++ flat bs)
+    here : (o : Option Standing) (cs : List ℕ) (out : List (ℕ × List ℕ)) (bs : List Transfer) → State T d n o cs out → Goods limit T d bs
+        → (rest : List ℕ) → cs ++ flat bs ≡ n ∷ rest → IsRisingFrom (suc n) rest → Cover T d n (cs ++ flat bs)
         → Stepped limit T d n o (after limit o e.micros (role d e)) (completed o e.micros (role d e)) (out ++ placed_of bs)
-    here _ _ _ [] closed goods rest same above cover = absurd (cc)
-    here _ _ _ (g ∷ bs) closed goods rest same above cover =
-        starts rest above (subst (Cover T d n) same cover) g.message g.places bs goods.0.0 goods.0.1 goods.1 same
+    here o _ _ [] closed goods rest same above cover = absurd (cc)
+    here o _ _ (g ∷ bs) closed goods rest same above cover =
+        starts rest above (subst (Cover T d n) same cover) o g.message g.positions bs goods.0.0 goods.0.1 goods.1 same
     here _ _ _ bs (opened {st = st} {m = m} {c = c} {cs = cs} s) goods rest same above cover =
         let now : c ≡ n = cc in
         let more : cs ++ flat bs ≡ rest = cc in
         rw now (goes rest above (subst (Cover T d n) same cover) st m cs bs (subst (λ j. Open T d n st m (j ∷ cs)) now s) goods more)
 
 has-first : (T : List Entry) (d : Dir) (m ps : List ℕ) → Carries T d m ps → (p : ℕ) × (e : Entry) × (rest : List ℕ) × (ps ≡ p ∷ rest) × At T p e
-has-first T d m _ (one_frame {p = p} e stands kind) = (p, e, [], refl, stands)
-has-first T d m _ (frames {i = i} {cs = cs} l) = (i, l.frame, cs, refl, l.stands)
+has-first T d m _ (unsegmented {p = p} e stands kind) = (p, e, [], refl, stands)
+has-first T d m _ (segmented {i = i} {cs = cs} l) = (i, l.frame, cs, refl, l.stands)
 
 -- nothing is left at the end
-over : (limit : ℕ) (T : List Entry) (d : Dir) (o : Option Standing) (cs : List ℕ) (out : List (ℕ × List ℕ)) (bs : List Given) → State T d (length T) o cs out → Goods limit T d bs
-    → RisingFrom (length T) (cs ++ flat bs) → [] ≡ out ++ placed_of bs
+over : (limit : ℕ) (T : List Entry) (d : Dir) (o : Option Standing) (cs : List ℕ) (out : List (ℕ × List ℕ)) (bs : List Transfer) → State T d (length T) o cs out → Goods limit T d bs
+    → IsRisingFrom (length T) (cs ++ flat bs) → [] ≡ out ++ placed_of bs
 over limit T d _ _ _ [] closed goods rising = refl
 over limit T d _ _ _ (g ∷ bs) closed goods rising =
-    let w = has-first T d g.message g.places goods.0.1 in
-    let above = subst (λ l. RisingFrom (length T) (l ++ flat bs)) w.3 rising in
+    let w = has-first T d g.message g.positions goods.0.1 in
+    let above = subst (λ l. IsRisingFrom (length T) (l ++ flat bs)) w.3 rising in
     absurd (let inside = slice_get_within T w.0 w.1 w.4 in let a = above.0 in omega arith)
 over limit T d _ _ _ bs (opened {c = c} s) goods rising =
     let P = s.parts.0 in
     absurd (let inside = slice_get_within T c P.frame P.stands in let a = rising.0 in omega arith)
 
-run : (limit : ℕ) (T : List Entry) (d : Dir) (n : ℕ) (past es : List Entry) → n ≡ length past → T ≡ past ++ es
-    → (o : Option Standing) (cs : List ℕ) (out : List (ℕ × List ℕ)) (bs : List Given) → State T d n o cs out → stands limit d past ≡ o → Goods limit T d bs
-    → RisingFrom n (cs ++ flat bs) → Cover T d n (cs ++ flat bs) → heard limit d n past es ≡ out ++ placed_of bs
-run limit T d n past [] at split o cs out bs state now goods rising cover =
+run : (limit : ℕ) (before T : List Entry) (d : Dir) (n : ℕ) (past es : List Entry) → n ≡ length past → T ≡ past ++ es
+    → (o : Option Standing) (cs : List ℕ) (out : List (ℕ × List ℕ)) (bs : List Transfer) → State T d n o cs out → stands limit d (before ++ past) ≡ o → Goods limit T d bs
+    → IsRisingFrom n (cs ++ flat bs) → Cover T d n (cs ++ flat bs) → heard limit d n (before ++ past) es ≡ out ++ placed_of bs
+run limit before T d n past [] at split o cs out bs state now goods rising cover =
     let ends : n ≡ length T = at ∙ ap length (sym (split ∙ append-nil past)) in
-    over limit T d o cs out bs (subst (λ j. State T d j o cs out) ends state) goods (subst (λ j. RisingFrom j (cs ++ flat bs)) ends rising)
-run limit T d n past (e ∷ es) at split o cs out bs state now goods rising cover =
+    over limit T d o cs out bs (subst (λ j. State T d j o cs out) ends state) goods (subst (λ j. IsRisingFrom j (cs ++ flat bs)) ends rising)
+run limit before T d n past (e ∷ es) at split o cs out bs state now goods rising cover =
     let here : At T n e = rw (split, at) (at_here past es e) in
     let s = step limit T d n e here o cs out bs state goods rising cover in
-    let next : stands limit d (past ++ e ∷ []) ≡ after limit o e.micros (role d e) = one_more limit d past e ∙ ap (λ x. after limit x e.micros (role d e)) now in
+    let grown : (before ++ past) ++ e ∷ [] ≡ before ++ (past ++ e ∷ []) = append_assoc before past (e ∷ []) in
+    let next : stands limit d (before ++ (past ++ e ∷ [])) ≡ after limit o e.micros (role d e) =
+    ap (stands limit d) (sym grown) ∙ one_more limit d (before ++ past) e ∙ ap (λ x. after limit x e.micros (role d e)) now in
     let at_next : suc n ≡ length (past ++ e ∷ []) = omega (arith, length-append past (e ∷ [])) in
     let split_next : T ≡ (past ++ e ∷ []) ++ es = split ∙ sym (append_assoc past (e ∷ []) es) in
-    ap (λ l. l ++ heard limit d (suc n) (past ++ e ∷ []) es) (told-by-role limit d n past e ∙ ap (λ x. at_place n (completed x e.micros (role d e))) now)
+    ap (λ l. l ++ heard limit d (suc n) ((before ++ past) ++ e ∷ []) es) (told-by-role limit d n (before ++ past) e ∙ ap (λ x. at_place n (completed x e.micros (role d e))) now)
+    ∙ ap (λ l. at_place n (completed o e.micros (role d e)) ++ heard limit d (suc n) l es) grown
     ∙ ap (λ l. at_place n (completed o e.micros (role d e)) ++ l)
-    (run limit T d (suc n) (past ++ e ∷ []) es at_next split_next (after limit o e.micros (role d e)) s.cs s.out' s.bs' s.state next s.goods s.rising s.cover)
+    (run limit before T d (suc n) (past ++ e ∷ []) es at_next split_next (after limit o e.micros (role d e)) s.cs s.out' s.bs' s.state next s.goods s.rising s.cover)
     ∙ s.tells
 
--- a direction delivers the messages that its positions carry
-pub direction-heard : (limit : ℕ) (T : List Entry) (d : Dir) (bs : List Given) → Goods limit T d bs → RisingFrom 0 (flat bs) → Cover T d 0 (flat bs)
-    → heard limit d 0 [] T ≡ placed_of bs
-direction-heard limit T d bs goods rising cover = run limit T d 0 [] T refl refl None [] [] bs closed refl goods rising cover
+-- behind any trace a direction delivers the messages that its positions carry
+pub direction-heard : (limit : ℕ) (before T : List Entry) (d : Dir) (bs : List Transfer) → Goods limit T d bs → IsRisingFrom 0 (flat bs) → Cover T d 0 (flat bs)
+    → heard limit d 0 before T ≡ placed_of bs
+direction-heard limit before T d bs goods rising cover =
+    ap (λ l. heard limit d 0 l T) (sym (append-nil before))
+    ∙ run limit before T d 0 [] T refl refl (stands limit d (before ++ [])) [] [] bs closed refl goods rising cover

@@ -22,7 +22,8 @@ use Rattle.isotp_receive.specs.Places.{bytes_in_first, FitsAs}
 use Rattle.isotp_receive.specs.OnTime.{n_cr, IsReference}
 use Rattle.isotp_receive.specs.Standing.{Standing, stands}
 use Rattle.isotp_receive.specs.Verdict.{Told, message, began, stored, flowed, dropped, verdict, told_message, messages, messages_after}
-use Rattle.isotp_receive.specs.Recording.{IsPart, Numbered, RisingFrom, IsLong, Carries, one_frame, frames, Given, IsGiven, IsIn, last_of, AreApart, EachPair, IsGivenOut, IsIdle, IsRecording, IsKept, EachClean, IsClean}
+use Rattle.isotp_receive.specs.Recording.{IsConsecutiveFrame, EachNumbered, IsRisingFrom, IsSegmented, Carries, unsegmented, segmented, Transfer, IsTransfer, IsIn, last_or, AreApart, EachPair, IsGiven, IsIdle, IsRecording}
+use Rattle.isotp_receive.specs.CleanTrace.{IsKept, EachClean, IsClean}
 use Rattle.isotp_receive.specs.Heard.{placed}
 use Rattle.isotp_receive.specs.Machine.{after, fresh, judged}
 use Rattle.isotp_receive.proofs.OneMore.{one_more, more}
@@ -45,8 +46,8 @@ record Under (limit : ℕ) (T : List Entry) (d : Dir) (n : ℕ) (st : Standing) 
   more : length st.bytes < start.len
   fits : start.len ≤ limit
   heads : take (bytes_in_first frame.frame.bytes) st.bytes ≡ start.bytes
-  parts : (m : List ℕ) (nn : ℕ) → length m ≡ start.len → length cs < nn → take (length st.bytes) m ≡ st.bytes → Numbered (IsPart T d m i start (bytes_in_first frame.frame.bytes) nn) 1 cs
-  rising : RisingFrom 0 (i ∷ cs)
+  parts : (m : List ℕ) (nn : ℕ) → length m ≡ start.len → length cs < nn → take (length st.bytes) m ≡ st.bytes → EachNumbered (IsConsecutiveFrame T d m i start (bytes_in_first frame.frame.bytes) nn) 1 cs
+  rising : IsRisingFrom 0 (i ∷ cs)
   below : (p : ℕ) → IsIn p (i ∷ cs) → p < n
   q : ℕ
   e : Entry
@@ -58,14 +59,14 @@ data Pend (limit : ℕ) (T : List Entry) (d : Dir) (n : ℕ) : Option Standing �
   nothing : Pend limit T d n None []
   under : {st : Standing} {i : ℕ} {cs : List ℕ} → Under limit T d n st i cs → Pend limit T d n (Some st) (i ∷ cs)
 
-numbered-snoc : (P : ℕ → ℕ → Type 0) (k c : ℕ) (cs : List ℕ) → Numbered P k cs → P (k + length cs) c → Numbered P k (cs ++ c ∷ [])
+numbered-snoc : (P : ℕ → ℕ → Type 0) (k c : ℕ) (cs : List ℕ) → EachNumbered P k cs → P (k + length cs) c → EachNumbered P k (cs ++ c ∷ [])
 numbered-snoc P k c [] h p = (let e : k + 0 ≡ k = omega arith in subst (λ j. P j c) e p, tt)
 numbered-snoc P k c (x ∷ cs) h p = (h.0, numbered-snoc P (k + 1) c cs h.1 (let e : k + suc (length cs) ≡ k + 1 + length cs = omega arith in subst (λ j. P j c) e p))
 
 length-snoc : (cs : List ℕ) (n : ℕ) → length (cs ++ n ∷ []) ≡ length cs + 1
 length-snoc cs n = omega (arith, length-append cs (n ∷ []))
 
-last-snoc : (i n : ℕ) (cs : List ℕ) → last_of i (cs ++ n ∷ []) ≡ n
+last-snoc : (i n : ℕ) (cs : List ℕ) → last_or i (cs ++ n ∷ []) ≡ n
 last-snoc i n [] = refl
 last-snoc i n (c ∷ cs) = last-snoc c n cs
 
@@ -73,7 +74,7 @@ module _ (limit : ℕ) (T : List Entry) (d : Dir) (n : ℕ) (e : Entry) (at : At
   new-part : (st : Standing) (i : ℕ) (cs : List ℕ) (u : Under limit T d n st i cs) (sequence_number can_dl : ℕ) (bytes m : List ℕ) (nn : ℕ) → role d e ≡ consecutive sequence_number can_dl bytes
       → e.micros ≤ st.reference + n_cr → FitsAs (bytes_in_first u.frame.frame.bytes) u.start.rx_dl u.start.len nn (1 + length cs) sequence_number can_dl
       → ((b : ℕ) → length st.bytes + b < length m → b < u.start.rx_dl - 1 → get_or m (length st.bytes + b) 0 ≡ get_or bytes b 0)
-      → IsPart T d m i u.start (bytes_in_first u.frame.frame.bytes) nn (1 + length cs) n
+      → IsConsecutiveFrame T d m i u.start (bytes_in_first u.frame.frame.bytes) nn (1 + length cs) n
   new-part st i cs u sequence_number can_dl bytes m nn kind late fits each =
       let r = u.start.rx_dl in
       let from = next_from d e sequence_number can_dl bytes kind in
@@ -131,7 +132,7 @@ module _ (limit : ℕ) (T : List Entry) (d : Dir) (n : ℕ) (e : Entry) (at : At
         parts = λ m nn announced less grown.
             let old : take (length st.bytes) m ≡ st.bytes =
             (let le : length st.bytes ≤ length (st.bytes ++ bytes) = omega arith in sym (take-take (length st.bytes) (length (st.bytes ++ bytes)) m le) ∙ ap (take (length st.bytes)) grown ∙ take_at st.bytes bytes (length st.bytes) refl) in
-            numbered-snoc (IsPart T d m i u.start f nn) 1 n cs (u.parts m nn announced (omega arith) old)
+            numbered-snoc (IsConsecutiveFrame T d m i u.start f nn) 1 n cs (u.parts m nn announced (omega arith) old)
             (new-part st i cs u sequence_number can_dl bytes m nn kind w.0
             (record { number = w.1 ∙ ap (λ j. j % 16) (let e : st.taken + 1 ≡ 1 + length cs = omega arith in e); full = λ _. omega arith; last_low = λ same. absurd (omega arith); last_high = λ same. absurd (omega arith) })
             (λ b inside lt. let sum : length st.bytes + b < length (st.bytes ++ bytes) = omega arith in
@@ -150,7 +151,7 @@ module _ (limit : ℕ) (T : List Entry) (d : Dir) (n : ℕ) (e : Entry) (at : At
 
   -- the last one
   long : (st : Standing) (i : ℕ) (cs : List ℕ) (u : Under limit T d n st i cs) (sequence_number can_dl : ℕ) (bytes : List ℕ) → role d e ≡ consecutive sequence_number can_dl bytes
-      → judged st e.micros sequence_number can_dl ≡ judged_as.Last → IsLong T d (take st.len (st.bytes ++ bytes)) i (cs ++ n ∷ [])
+      → judged st e.micros sequence_number can_dl ≡ judged_as.Last → IsSegmented T d (take st.len (st.bytes ++ bytes)) i (cs ++ n ∷ [])
   long st i cs u sequence_number can_dl bytes kind j =
       let w = was-last st e.micros sequence_number can_dl j in
       let r = u.start.rx_dl in
@@ -184,14 +185,14 @@ module _ (limit : ℕ) (T : List Entry) (d : Dir) (n : ℕ) (e : Entry) (at : At
         stands = u.here;
         kind = u.kind;
         announces = omega arith;
-        least = record {
+        count = record {
           enough = omega arith;
           fewer = λ k less.
               let sum : k + (length cs - k) ≡ length cs = omega arith in
               let all = ap (λ j. j * (r - 1)) sum in
               let le = more f k (length cs - k) (r - 1) in omega arith;
         };
-        parts = numbered-snoc (IsPart T d m i u.start f nn) 1 n cs (u.parts m nn (omega arith) (omega arith) old)
+        consecutive_frames = numbered-snoc (IsConsecutiveFrame T d m i u.start f nn) 1 n cs (u.parts m nn (omega arith) (omega arith) old)
             (new-part st i cs u sequence_number can_dl bytes m nn kind w.0
             (record { number = w.1 ∙ ap (λ j. j % 16) (let e : st.taken + 1 ≡ 1 + length cs = omega arith in e); full = λ less. absurd (omega arith); last_low = λ same. omega arith; last_high = λ same. omega arith })
             (λ b inside lt. let sum : length st.bytes + b < st.len = omega arith in
@@ -257,16 +258,16 @@ module _ (limit : ℕ) (T : List Entry) (d : Dir) (n : ℕ) (e : Entry) (at : At
 record Adv (limit : ℕ) (T : List Entry) (d : Dir) (n : ℕ) (e : Entry) (next : Option Standing) (ps : List ℕ) (told : List (List ℕ)) : Type 0 where
   left : List ℕ
   state : Pend limit T d (suc n) next left
-  out : List Given
+  out : List Transfer
   told_out : map {B = Dir × List ℕ} (λ g. (g.dir, g.message)) out ≡ map {B = Dir × List ℕ} (λ m. (d, m)) told
-  each : AllByRecursion (IsGiven limit T) out
-  keeps : (p : ℕ) → IsIn p ps → IsIn p left ⊎ IsGivenOut p out
+  each : AllByRecursion (IsTransfer limit T) out
+  keeps : (p : ℕ) → IsIn p ps → IsIn p left ⊎ IsGiven p out
   lows : (p : ℕ) → IsIn p left → IsIn p ps ⊎ (p ≡ n)
-  out_lows : AllByRecursion (λ g. (g.dir ≡ d) × ((p : ℕ) → IsIn p g.places → IsIn p ps ⊎ (n ≤ p))) out
-  out_lasts : AllByRecursion (λ g. last_of 0 g.places ≡ n) out
-  out_own : (p : ℕ) → IsGivenOut p out → IsOwn (role d e)
-  here : IsOwn (role d e) → IsIn n left ⊎ IsGivenOut n out
-  shape : (out ≡ []) ⊎ ((g : Given) × (out ≡ g ∷ []) × (g.dir ≡ d) × (left ≡ []) × ((p : ℕ) → IsIn p g.places → p ≤ n))
+  out_lows : AllByRecursion (λ g. (g.dir ≡ d) × ((p : ℕ) → IsIn p g.positions → IsIn p ps ⊎ (n ≤ p))) out
+  out_lasts : AllByRecursion (λ g. last_or 0 g.positions ≡ n) out
+  out_own : (p : ℕ) → IsGiven p out → IsOwn (role d e)
+  here : IsOwn (role d e) → IsIn n left ⊎ IsGiven n out
+  shape : (out ≡ []) ⊎ ((g : Transfer) × (out ≡ g ∷ []) × (g.dir ≡ d) × (left ≡ []) × ((p : ℕ) → IsIn p g.positions → p ≤ n))
 
 module _ (limit : ℕ) (T : List Entry) (d : Dir) (n : ℕ) (e : Entry) (at : At T n e) where
   keep : (next : Option Standing) (ps left : List ℕ) → Pend limit T d (suc n) next left → ((p : ℕ) → IsIn p ps → IsIn p left) → ((p : ℕ) → IsIn p left → IsIn p ps ⊎ (p ≡ n))
@@ -286,13 +287,13 @@ module _ (limit : ℕ) (T : List Entry) (d : Dir) (n : ℕ) (e : Entry) (at : At
     shape = inl refl;
   }
 
-  deliver : (ps places : List ℕ) (m : List ℕ) → IsGiven limit T (record { dir = d; message = m; places = places }) → last_of 0 places ≡ n
+  deliver : (ps places : List ℕ) (m : List ℕ) → IsTransfer limit T (record { dir = d; message = m; positions = places }) → last_or 0 places ≡ n
       → ((p : ℕ) → IsIn p ps → IsIn p places) → ((p : ℕ) → IsIn p places → IsIn p ps ⊎ (p ≡ n)) → ((p : ℕ) → IsIn p places → p ≤ n) → IsIn n places → IsOwn (role d e)
       → Adv limit T d n e None ps (m ∷ [])
   deliver ps places m given last keeps lows most now own = record {
     left = [];
     state = nothing;
-    out = (record { dir = d; message = m; places = places }) ∷ [];
+    out = (record { dir = d; message = m; positions = places }) ∷ [];
     told_out = refl;
     each = (given, tt);
     keeps = λ p i. inr (inl (keeps p i));
@@ -301,7 +302,7 @@ module _ (limit : ℕ) (T : List Entry) (d : Dir) (n : ℕ) (e : Entry) (at : At
     out_lasts = (last, tt);
     out_own = λ p i. own;
     here = λ _. inr (inl now);
-    shape = inr (record { dir = d; message = m; places = places }, refl, refl, refl, most);
+    shape = inr (record { dir = d; message = m; positions = places }, refl, refl, refl, most);
   }
 
   is_new : (p i : ℕ) (cs : List ℕ) → IsIn p (i ∷ (cs ++ n ∷ [])) → IsIn p (i ∷ cs) ⊎ (p ≡ n)
@@ -333,7 +334,7 @@ module _ (limit : ℕ) (T : List Entry) (d : Dir) (n : ℕ) (e : Entry) (at : At
         some = omega arith;
         fits = omega arith;
         rising = rising-append 0 (i ∷ cs) (n ∷ []) u.rising (omega arith, tt) (λ p q a b. elim b [ inl same_q ↦ (let lt = u.below p a in omega arith) | inr none ↦ absurd none ]) (λ q b. omega arith);
-        carried = frames l;
+        carried = segmented l;
       })
       (last-snoc i n cs) (λ p a. in-left p (i ∷ cs) (n ∷ []) a) (λ p a. is_new p i cs a) most (in-right n (i ∷ cs) (n ∷ []) (inl refl)) (rw kind tt))
 
@@ -341,7 +342,7 @@ module _ (limit : ℕ) (T : List Entry) (d : Dir) (n : ℕ) (e : Entry) (at : At
       → Adv limit T d n e (after limit o e.micros r) ps (completed o e.micros r)
   advance _ _ nothing _ kind (t_whole m closed) wide =
       let size = whole_from d e m kind in
-      deliver [] (n ∷ []) m (record { some = size.0; fits = (let b = size.1 in omega arith); rising = (omega arith, tt); carried = one_frame e at kind })
+      deliver [] (n ∷ []) m (record { some = size.0; fits = (let b = size.1 in omega arith); rising = (omega arith, tt); carried = unsegmented e at kind })
       refl (λ p a. absurd a) (λ p a. elim a [ inl is ↦ inr is | inr none ↦ absurd none ]) (λ p a. elim a [ inl is ↦ omega arith | inr none ↦ absurd none ]) (inl refl) (rw kind tt)
   advance _ _ nothing _ kind (t_begins s closed fits) wide =
       let within = le-leb _ _ fits in
@@ -364,57 +365,57 @@ module _ (limit : ℕ) (T : List Entry) (d : Dir) (n : ℕ) (e : Entry) (at : At
   advance _ _ (under {st = st} {i = i} {cs = cs} u) _ kind t_foreign wide =
       keep (Some st) (i ∷ cs) (i ∷ cs) (under (waits limit T d n e at st i cs u st.reference u.q u.e (still T d n i u.q e at kind u.ref) u.at u.time)) (λ p a. a) (λ p a. inl a) (λ own. absurd (rw kind at own))
 
-all-append : (P : Given → Type 0) (xs ys : List Given) → AllByRecursion P xs → AllByRecursion P ys → AllByRecursion P (xs ++ ys)
+all-append : (P : Transfer → Type 0) (xs ys : List Transfer) → AllByRecursion P xs → AllByRecursion P ys → AllByRecursion P (xs ++ ys)
 all-append P [] ys h g = g
 all-append P (x ∷ xs) ys h g = (h.0, all-append P xs ys h.1 g)
 
-all-map : (P Q : Given → Type 0) (xs : List Given) → AllByRecursion P xs → ((x : Given) → P x → Q x) → AllByRecursion Q xs
+all-map : (P Q : Transfer → Type 0) (xs : List Transfer) → AllByRecursion P xs → ((x : Transfer) → P x → Q x) → AllByRecursion Q xs
 all-map P Q [] h f = tt
 all-map P Q (x ∷ xs) h f = (f x h.0, all-map P Q xs h.1 f)
 
-given-left : (p : ℕ) (xs ys : List Given) → IsGivenOut p xs → IsGivenOut p (xs ++ ys)
+given-left : (p : ℕ) (xs ys : List Transfer) → IsGiven p xs → IsGiven p (xs ++ ys)
 given-left p [] ys i = absurd i
 given-left p (x ∷ xs) ys (inl i) = inl i
 given-left p (x ∷ xs) ys (inr i) = inr (given-left p xs ys i)
 
-given-right : (p : ℕ) (xs ys : List Given) → IsGivenOut p ys → IsGivenOut p (xs ++ ys)
+given-right : (p : ℕ) (xs ys : List Transfer) → IsGiven p ys → IsGiven p (xs ++ ys)
 given-right p [] ys i = i
 given-right p (x ∷ xs) ys i = inr (given-right p xs ys i)
 
-part-at : (T : List Entry) (d : Dir) (m : List ℕ) (i : ℕ) (s : FirstFrame) (f nn k : ℕ) (cs : List ℕ) (p : ℕ) → Numbered (IsPart T d m i s f nn) k cs → IsIn p cs → (x : Entry) × At T p x
+part-at : (T : List Entry) (d : Dir) (m : List ℕ) (i : ℕ) (s : FirstFrame) (f nn k : ℕ) (cs : List ℕ) (p : ℕ) → EachNumbered (IsConsecutiveFrame T d m i s f nn) k cs → IsIn p cs → (x : Entry) × At T p x
 part-at T d m i s f nn k [] p h a = absurd a
 part-at T d m i s f nn k (c ∷ cs) p h (inl is) = (h.0.frame, subst (λ j. At T j h.0.frame) (sym is) h.0.stands)
 part-at T d m i s f nn k (c ∷ cs) p h (inr a) = part-at T d m i s f nn (k + 1) cs p h.1 a
 
 carries-at : (T : List Entry) (d : Dir) (m ps : List ℕ) (p : ℕ) → Carries T d m ps → IsIn p ps → (x : Entry) × At T p x
-carries-at T d m _ p (one_frame {p = q} x there kind) (inl is) = (x, subst (λ j. At T j x) (sym is) there)
-carries-at T d m _ p (one_frame {p = q} x there kind) (inr none) = absurd none
-carries-at T d m _ p (frames {i = i} {cs = cs} l) (inl is) = (l.frame, subst (λ j. At T j l.frame) (sym is) l.stands)
-carries-at T d m _ p (frames {i = i} {cs = cs} l) (inr a) = part-at T d m i l.start _ _ 1 cs p l.parts a
+carries-at T d m _ p (unsegmented {p = q} x there kind) (inl is) = (x, subst (λ j. At T j x) (sym is) there)
+carries-at T d m _ p (unsegmented {p = q} x there kind) (inr none) = absurd none
+carries-at T d m _ p (segmented {i = i} {cs = cs} l) (inl is) = (l.frame, subst (λ j. At T j l.frame) (sym is) l.stands)
+carries-at T d m _ p (segmented {i = i} {cs = cs} l) (inr a) = part-at T d m i l.start _ _ 1 cs p l.consecutive_frames a
 
 never-own : Role → Type 0
 never-own r = IsOwn r → ⊥
 
 -- positions of two directions are not the same
-two-sides : (limit : ℕ) (T : List Entry) (g x : Given) (p : ℕ) → IsGiven limit T g → IsGiven limit T x → same_direction g.dir x.dir ≡ false → IsIn p g.places → IsIn p x.places → ⊥
+two-sides : (limit : ℕ) (T : List Entry) (g x : Transfer) (p : ℕ) → IsTransfer limit T g → IsTransfer limit T x → same_direction g.dir x.dir ≡ false → IsIn p g.positions → IsIn p x.positions → ⊥
 two-sides limit T g x p a b apart i j =
-    let w = carries-at T g.dir g.message g.places p a.carried i in
-    let mine = carries-own T g.dir g.message g.places p w.0 a.carried i w.1 in
-    let yours = carries-own T x.dir x.message x.places p w.0 b.carried j w.1 in
+    let w = carries-at T g.dir g.message g.positions p a.carried i in
+    let mine = carries-own T g.dir g.message g.positions p w.0 a.carried i w.1 in
+    let yours = carries-own T x.dir x.message x.positions p w.0 b.carried j w.1 in
     let other = own-other g.dir x.dir w.0 apart yours in
     rw other at mine
 
 module _ (limit : ℕ) (T : List Entry) (n : ℕ) (pend : Dir → List ℕ) where
   -- a message completed at n, and one completed later
-  apart-one : (g x : Given) → IsGiven limit T g → last_of 0 g.places ≡ n → pend g.dir ≡ [] → ((p : ℕ) → IsIn p g.places → p ≤ n)
-      → IsGiven limit T x → suc n ≤ last_of 0 x.places → ((p : ℕ) → IsIn p x.places → IsIn p (pend x.dir) ⊎ (suc n ≤ p)) → AreApart g x
+  apart-one : (g x : Transfer) → IsTransfer limit T g → last_or 0 g.positions ≡ n → pend g.dir ≡ [] → ((p : ℕ) → IsIn p g.positions → p ≤ n)
+      → IsTransfer limit T x → suc n ≤ last_or 0 x.positions → ((p : ℕ) → IsIn p x.positions → IsIn p (pend x.dir) ⊎ (suc n ≤ p)) → AreApart g x
   apart-one g x a last closed most b later lows =
-      let above : g.dir ≡ x.dir → (q : ℕ) → IsIn q x.places → suc n ≤ q = λ (one : g.dir ≡ x.dir) (q : ℕ) (j : IsIn q x.places). elim (lows q j) [
+      let above : g.dir ≡ x.dir → (q : ℕ) → IsIn q x.positions → suc n ≤ q = λ (one : g.dir ≡ x.dir) (q : ℕ) (j : IsIn q x.positions). elim (lows q j) [
         | inl old ↦ absurd (subst (IsIn q) (ap pend (sym one) ∙ closed) old)
         | inr new ↦ new
       ] in
       record {
-        twice = λ p i j. elim (cases_Bool (same_direction g.dir x.dir)) [
+        shared = λ p i j. elim (cases_Bool (same_direction g.dir x.dir)) [
           | inl t ↦ (let lt = above (same g.dir x.dir t) p j in let le = most p i in omega arith)
           | inr t ↦ two-sides limit T g x p a b t i j
         ];
@@ -422,23 +423,23 @@ module _ (limit : ℕ) (T : List Entry) (n : ℕ) (pend : Dir → List ℕ) wher
         order = omega arith;
       }
 
-  apart-all : (g : Given) (xs : List Given) → IsGiven limit T g → last_of 0 g.places ≡ n → pend g.dir ≡ [] → ((p : ℕ) → IsIn p g.places → p ≤ n)
-      → AllByRecursion (IsGiven limit T) xs → AllByRecursion (λ x. suc n ≤ last_of 0 x.places) xs
-      → AllByRecursion (λ x. (p : ℕ) → IsIn p x.places → IsIn p (pend x.dir) ⊎ (suc n ≤ p)) xs → AllByRecursion (AreApart g) xs
+  apart-all : (g : Transfer) (xs : List Transfer) → IsTransfer limit T g → last_or 0 g.positions ≡ n → pend g.dir ≡ [] → ((p : ℕ) → IsIn p g.positions → p ≤ n)
+      → AllByRecursion (IsTransfer limit T) xs → AllByRecursion (λ x. suc n ≤ last_or 0 x.positions) xs
+      → AllByRecursion (λ x. (p : ℕ) → IsIn p x.positions → IsIn p (pend x.dir) ⊎ (suc n ≤ p)) xs → AllByRecursion (AreApart g) xs
   apart-all g [] a last closed most each lasts lows = tt
   apart-all g (x ∷ xs) a last closed most each lasts lows =
       (apart-one g x a last closed most each.0 lasts.0 lows.0, apart-all g xs a last closed most each.1 lasts.1 lows.1)
 
 -- the messages that are completed from n on, where these positions are under way
 record Tail (limit : ℕ) (T : List Entry) (n : ℕ) (past es : List Entry) (pend : Dir → List ℕ) : Type 0 where
-  gs : List Given
+  gs : List Transfer
   told : map {B = Dir × List ℕ} (λ g. (g.dir, g.message)) gs ≡ messages_after limit past es
-  each : AllByRecursion (IsGiven limit T) gs
+  each : AllByRecursion (IsTransfer limit T) gs
   pairs : EachPair AreApart gs
-  others : (p : ℕ) (x : Entry) → n ≤ p → At T p x → IsGivenOut p gs ⊎ IsIdle (layout_of x.frame)
-  pending : (d : Dir) (p : ℕ) → IsIn p (pend d) → IsGivenOut p gs
-  lasts : AllByRecursion (λ g. n ≤ last_of 0 g.places) gs
-  lows : AllByRecursion (λ g. (p : ℕ) → IsIn p g.places → IsIn p (pend g.dir) ⊎ (n ≤ p)) gs
+  others : (p : ℕ) (x : Entry) → n ≤ p → At T p x → IsGiven p gs ⊎ IsIdle (layout_of x.frame)
+  pending : (d : Dir) (p : ℕ) → IsIn p (pend d) → IsGiven p gs
+  lasts : AllByRecursion (λ g. n ≤ last_or 0 g.positions) gs
+  lows : AllByRecursion (λ g. (p : ℕ) → IsIn p g.positions → IsIn p (pend g.dir) ⊎ (n ≤ p)) gs
 
 placed-told : (n : ℕ) (d : Dir) (t : Told) → map {B = Dir × List ℕ} (λ x. (d, x.1)) (placed n t) ≡ told_message d t
 placed-told n d (message m) = refl
@@ -507,12 +508,12 @@ module _ (limit : ℕ) (T : List Entry) (n : ℕ) (past es : List Entry) (e : En
   pairs-join : EachPair AreApart ((adv e.dir).out ++ tail.gs)
   pairs-join = elim (adv e.dir).shape [
     | inl none ↦ rw none tail.pairs
-    | inr w ↦ (let each = subst (AllByRecursion (IsGiven limit T)) w.1 (adv e.dir).each in
-        let lasts = subst (AllByRecursion (λ g. last_of 0 g.places ≡ n)) w.1 (adv e.dir).out_lasts in
+    | inr w ↦ (let each = subst (AllByRecursion (IsTransfer limit T)) w.1 (adv e.dir).each in
+        let lasts = subst (AllByRecursion (λ g. last_or 0 g.positions ≡ n)) w.1 (adv e.dir).out_lasts in
         rw w.1 (apart-all limit T n (λ d. (adv d).left) w.0 tail.gs each.0 lasts.0 (ap (λ d. (adv d).left) w.2 ∙ w.3) w.4 tail.each tail.lasts tail.lows, tail.pairs))
   ]
 
-  others-join : (p : ℕ) (x : Entry) → n ≤ p → At T p x → IsGivenOut p ((adv e.dir).out ++ tail.gs) ⊎ IsIdle (layout_of x.frame)
+  others-join : (p : ℕ) (x : Entry) → n ≤ p → At T p x → IsGiven p ((adv e.dir).out ++ tail.gs) ⊎ IsIdle (layout_of x.frame)
   others-join p x above there = elim (cases_Bool (nat_lt n p)) [
     | inl t ↦ (let lt = ltb-true n p t in elim (tail.others p x (omega arith) there) [
       | inl i ↦ inl (given-right p (adv e.dir).out tail.gs i)
@@ -521,7 +522,7 @@ module _ (limit : ℕ) (T : List Entry) (n : ℕ) (past es : List Entry) (e : En
     | inr t ↦ (let le = ltb-false n p t in let here : p ≡ n = omega arith in
         let is_e : x ≡ e = at-same T n x e (subst (λ j. At T j x) here there) at in
         elim (idle-here limit past e ended kept) [
-          | inl own ↦ inl (subst (λ j. IsGivenOut j ((adv e.dir).out ++ tail.gs)) (sym here) (elim ((adv e.dir).here own) [
+          | inl own ↦ inl (subst (λ j. IsGiven j ((adv e.dir).out ++ tail.gs)) (sym here) (elim ((adv e.dir).here own) [
             | inl a ↦ given-right n (adv e.dir).out tail.gs (tail.pending e.dir n a)
             | inr b ↦ given-left n (adv e.dir).out tail.gs b
           ]))
@@ -529,18 +530,18 @@ module _ (limit : ℕ) (T : List Entry) (n : ℕ) (past es : List Entry) (e : En
         ])
   ]
 
-  pending-join : (d : Dir) (p : ℕ) → IsIn p (pend d) → IsGivenOut p ((adv e.dir).out ++ tail.gs)
+  pending-join : (d : Dir) (p : ℕ) → IsIn p (pend d) → IsGiven p ((adv e.dir).out ++ tail.gs)
   pending-join d p i = elim ((adv d).keeps p i) [
     | inl a ↦ given-right p (adv e.dir).out tail.gs (tail.pending d p a)
-    | inr b ↦ (let one = same d e.dir (own-same d e ((adv d).out_own p b)) in given-left p (adv e.dir).out tail.gs (subst (λ y. IsGivenOut p (adv y).out) one b))
+    | inr b ↦ (let one = same d e.dir (own-same d e ((adv d).out_own p b)) in given-left p (adv e.dir).out tail.gs (subst (λ y. IsGiven p (adv y).out) one b))
   ]
 
-  lows-join : AllByRecursion (λ g. (p : ℕ) → IsIn p g.places → IsIn p (pend g.dir) ⊎ (n ≤ p)) ((adv e.dir).out ++ tail.gs)
+  lows-join : AllByRecursion (λ g. (p : ℕ) → IsIn p g.positions → IsIn p (pend g.dir) ⊎ (n ≤ p)) ((adv e.dir).out ++ tail.gs)
   lows-join =
-      all-append (λ g. (p : ℕ) → IsIn p g.places → IsIn p (pend g.dir) ⊎ (n ≤ p)) (adv e.dir).out tail.gs
-      (all-map (λ g. (g.dir ≡ e.dir) × ((p : ℕ) → IsIn p g.places → IsIn p (pend e.dir) ⊎ (n ≤ p))) (λ g. (p : ℕ) → IsIn p g.places → IsIn p (pend g.dir) ⊎ (n ≤ p)) (adv e.dir).out (adv e.dir).out_lows
+      all-append (λ g. (p : ℕ) → IsIn p g.positions → IsIn p (pend g.dir) ⊎ (n ≤ p)) (adv e.dir).out tail.gs
+      (all-map (λ g. (g.dir ≡ e.dir) × ((p : ℕ) → IsIn p g.positions → IsIn p (pend e.dir) ⊎ (n ≤ p))) (λ g. (p : ℕ) → IsIn p g.positions → IsIn p (pend g.dir) ⊎ (n ≤ p)) (adv e.dir).out (adv e.dir).out_lows
       (λ g h p i. elim (h.1 p i) [ inl a ↦ inl (subst (λ y. IsIn p (pend y)) (sym h.0) a) | inr b ↦ inr b ]))
-      (all-map (λ g. (p : ℕ) → IsIn p g.places → IsIn p (adv g.dir).left ⊎ (suc n ≤ p)) (λ g. (p : ℕ) → IsIn p g.places → IsIn p (pend g.dir) ⊎ (n ≤ p)) tail.gs tail.lows
+      (all-map (λ g. (p : ℕ) → IsIn p g.positions → IsIn p (adv g.dir).left ⊎ (suc n ≤ p)) (λ g. (p : ℕ) → IsIn p g.positions → IsIn p (pend g.dir) ⊎ (n ≤ p)) tail.gs tail.lows
       (λ g h p i. elim (h p i) [
         | inl a ↦ elim ((adv g.dir).lows p a) [ inl b ↦ inl b | inr is ↦ inr (omega arith) ]
         | inr b ↦ inr (omega arith)
@@ -551,13 +552,13 @@ module _ (limit : ℕ) (T : List Entry) (n : ℕ) (past es : List Entry) (e : En
     gs = (adv e.dir).out ++ tail.gs;
     told = map-append {B = Dir × List ℕ} (λ g. (g.dir, g.message)) (adv e.dir).out tail.gs
         ∙ ap (λ l. l ++ map {B = Dir × List ℕ} (λ g. (g.dir, g.message)) tail.gs) out_told ∙ ap (λ l. told_message e.dir (verdict limit past e).told ++ l) tail.told;
-    each = all-append (IsGiven limit T) (adv e.dir).out tail.gs (adv e.dir).each tail.each;
+    each = all-append (IsTransfer limit T) (adv e.dir).out tail.gs (adv e.dir).each tail.each;
     pairs = pairs-join;
     others = others-join;
     pending = pending-join;
-    lasts = all-append (λ g. n ≤ last_of 0 g.places) (adv e.dir).out tail.gs
-        (all-map (λ g. last_of 0 g.places ≡ n) (λ g. n ≤ last_of 0 g.places) (adv e.dir).out (adv e.dir).out_lasts (λ g h. omega arith))
-        (all-map (λ g. suc n ≤ last_of 0 g.places) (λ g. n ≤ last_of 0 g.places) tail.gs tail.lasts (λ g h. omega arith));
+    lasts = all-append (λ g. n ≤ last_or 0 g.positions) (adv e.dir).out tail.gs
+        (all-map (λ g. last_or 0 g.positions ≡ n) (λ g. n ≤ last_or 0 g.positions) (adv e.dir).out (adv e.dir).out_lasts (λ g h. omega arith))
+        (all-map (λ g. suc n ≤ last_or 0 g.positions) (λ g. n ≤ last_or 0 g.positions) tail.gs tail.lasts (λ g h. omega arith));
     lows = lows-join;
   }
 
@@ -582,18 +583,18 @@ back limit T wide n past [] place split clean finished pend state =
 back limit T wide n past (e ∷ es) place split clean finished pend state =
     let here : At T n e = rw (split, place) (at_here past es e) in
     let adv : (d : Dir) → Adv limit T d n e (after limit (stands limit d past) e.micros (role d e)) (pend d) (completed (stands limit d past) e.micros (role d e)) =
-    λ d. advance limit T d n e here (stands limit d past) (pend d) (state d) (role d e) refl (turn limit d past e clean.0 clean.1) wide in
+    λ d. advance limit T d n e here (stands limit d past) (pend d) (state d) (role d e) refl (turn limit d past e clean.0.goes_on clean.0.kept) wide in
     let place_next : suc n ≡ length (past ++ e ∷ []) = omega (arith, length-append past (e ∷ [])) in
     let split_next : T ≡ (past ++ e ∷ []) ++ es = split ∙ sym (append_assoc past (e ∷ []) es) in
-    join limit T n past es e here clean.0 clean.1 pend adv
-    (back limit T wide (suc n) (past ++ e ∷ []) es place_next split_next clean.2 finished (λ d. (adv d).left)
+    join limit T n past es e here clean.0.goes_on clean.0.kept pend adv
+    (back limit T wide (suc n) (past ++ e ∷ []) es place_next split_next clean.1 finished (λ d. (adv d).left)
     (λ d. subst (λ o. Pend limit T d (suc n) o (adv d).left) (sym (one_more limit d past e)) (adv d).state))
 
 pub clean-records : (limit : ℕ) (T : List Entry) → 64 ≤ limit → IsClean limit T → IsRecording limit T (messages limit T)
 clean-records limit T wide clean =
     let t = back limit T wide 0 [] T refl refl clean.each clean.finished (λ d. []) (λ d. nothing) in
     record {
-      given = t.gs;
+      transfers = t.gs;
       messages = t.told;
       each = t.each;
       pairs = t.pairs;

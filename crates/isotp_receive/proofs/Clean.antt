@@ -15,7 +15,7 @@ use Rattle.isotp_receive.specs.Trace.{Entry, FirstFrame, Role, single, first, co
 use Rattle.isotp_receive.specs.OnTime.{n_cr}
 use Rattle.isotp_receive.specs.Standing.{Standing, stands, fits_length}
 use Rattle.isotp_receive.specs.Verdict.{began, dropped, verdict, on_layout, on_overflow, ended_as}
-use Rattle.isotp_receive.specs.Recording.{IsKept}
+use Rattle.isotp_receive.specs.CleanTrace.{IsKept}
 use Rattle.isotp_receive.specs.Machine.{judged, on_judged}
 use Rattle.isotp_receive.proofs.SaysHeard.{same}
 use Rattle.isotp_receive.proofs.Judgement.{on-judged}

@@ -10,7 +10,7 @@ use Rattle.isotp_pdu.specs.Layout.{Layout, layout_of, IsSoundLayout}
 use Rattle.isotp_pdu.specs.Layout as layout
 use Rattle.isotp_pdu.specs.declared.PduFault.{PduFault}
 use Rattle.isotp_pdu.specs.declared.Status.TheVariants.{Continue, Wait, Overflow}
-use Rattle.isotp_pdu.proofs.Sound.{sound}
+use Rattle.isotp_pdu.proofs.EveryFrame.{sound}
 use Rattle.isotp_receive.specs.Trace.{own_role, other_role, same_direction, Entry, FirstFrame, Role, single, first, consecutive, continue_or_wait, overflow, no_part, role}
 use Rattle.isotp_receive.specs.OnTime.{n_cr}
 use Rattle.isotp_receive.specs.Places.{consecutive_by, consecutive_count}
@@ -92,8 +92,8 @@ HasItsLength no_part = Unit {0}
 
 own_length : (line micros : ℕ) (x : Result Layout PduFault) → IfOk x IsSoundLayout → HasItsLength (own_role line micros x)
 own_length line micros (Ok (layout.single m)) h = tt
-own_length line micros (Ok (layout.first len rx_dl bytes)) h = h.0
-own_length line micros (Ok (layout.consecutive sequence_number can_dl bytes)) h = h.0
+own_length line micros (Ok (layout.first len rx_dl bytes)) h = h.carries_less
+own_length line micros (Ok (layout.consecutive sequence_number can_dl bytes)) h = h.in_frame
 own_length line micros (Ok (layout.flow_control s)) h = tt
 own_length line micros (Err f) h = tt
 

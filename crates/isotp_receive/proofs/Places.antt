@@ -1,102 +1,72 @@
 -- Where the bytes of a message stand, and positions of a trace.
-use Rattle.std.proofs.Common.{true, ◌≡◌, ℕ, ◌+◌, ◌-◌, ◌*◌, ◌%◌, ◌/◌, ◌<◌, ◌≤◌, ◌&&◌, List, [], ◌∷◌, ◌++◌, length, take, drop, get_or, slice_index, nat_lt, nat_le, ◌==◌, Result, Ok, Err, refl, sym, ◌∙◌, ap, arith, cond, length-append, length-take, length-drop, inl, inr, ext_get_or, get_or-take}
-use Rattle.std.specs.Prelude.{⊤, ◌⊎◌, IfOk}
-use Rattle.std.proofs.lemmas.Bool.{cond_both, ltb-false, ltb-true, cases_Bool}
+use Rattle.std.proofs.Common.{true, false, ◌≡◌, ℕ, ◌+◌, ◌-◌, ◌*◌, ◌%◌, ◌/◌, ◌<◌, ◌≤◌, ◌&&◌, List, [], ◌∷◌, ◌++◌, length, take, drop, get_or, slice_index, nat_lt, nat_le, ◌==◌, Result, Ok, Err, refl, sym, ◌∙◌, ap, arith, cond, length-append, length-take, length-drop, inl, inr, ext_get_or, get_or-take}
+use Rattle.std.specs.Prelude.{⊤, ◌⊎◌, IfOk, IsTrue}
+use Rattle.std.proofs.lemmas.Bool.{cond_both, ne_eqb, ltb-false, ltb-true, cases_Bool}
 use Rattle.std.proofs.lemmas.Bool.Decides.{nat_tests}
 use Rattle.std.proofs.lemmas.List.{get_or_append_left, get_or-append_right}
 use Rattle.can_log.specs.Frame.{FrameValue}
 use Rattle.can_log.specs.declared.frame.Dir.{Dir}
-use Rattle.can_log.specs.declared.frame.Kind.{Kind}
-use Rattle.can_log.specs.declared.frame.Kind.TheVariants.{Classic, Fd, Remote}
 use Rattle.isotp_pdu.specs.declared.PduFault.{PduFault}
 use Rattle.isotp_pdu.specs.declared.Status.TheVariants.{Continue, Wait, Overflow}
-use Rattle.isotp_pdu.specs.Layout.{Layout, layout_of, of_frame, of_bytes, of_kind, single_of, first_of, status_of, is_can_dl, least_first, IsSoundLayout}
+use Rattle.isotp_pdu.specs.Layout.{Layout, layout_of, is_can_dl, least_first, SpellsFirst, Spells, IsSoundLayout}
 use Rattle.isotp_pdu.specs.Layout as layout
-use Rattle.isotp_pdu.proofs.Sound.{sound}
+use Rattle.isotp_pdu.proofs.EveryFrame.{layout_is_read, layout_is_sound}
 use Rattle.isotp_receive.specs.Trace.{Entry, FirstFrame, Role, single, first, consecutive, continue_or_wait, overflow, no_part, role, own_role, other_role, same_direction, At}
 use Rattle.isotp_receive.specs.Places.{bytes_in_first}
 
--- the bytes of a reading are the frame's, from their place on
-abbrev ReadFrom : List ℕ → Result Layout PduFault → Type 0
-ReadFrom x (Ok (layout.first len rx_dl bytes)) = (bytes ≡ drop (rx_dl - bytes_in_first x) x) × (length bytes ≡ bytes_in_first x)
-ReadFrom x (Ok (layout.consecutive sequence_number can_dl bytes)) = bytes ≡ drop 1 x
-ReadFrom x (Ok (layout.single m)) = length m ≤ length x
-ReadFrom x (Ok (layout.flow_control s)) = ⊤
-ReadFrom x (Err f) = ⊤
+-- where the bytes of a layout lie in its frame, which has at most 64
+abbrev LiesIn : List ℕ → Layout → Type 0
+LiesIn x (layout.first len rx_dl bytes) = (bytes ≡ drop (rx_dl - bytes_in_first x) x) × (length bytes ≡ bytes_in_first x)
+LiesIn x (layout.consecutive sequence_number can_dl bytes) = bytes ≡ drop 1 x
+LiesIn x (layout.single m) = length m ≤ length x
+LiesIn x (layout.flow_control s) = ⊤
 
-held_from : (x : List ℕ) (k f : ℕ) → k ≤ length x → f ≡ length x - k → (drop k x ≡ drop (length x - f) x) × (length (drop k x) ≡ f)
-held_from x k f h e = (let same : k ≡ length x - f = omega arith in ap (λ n. drop n x) same, omega (arith, length-drop k x))
+least_above_six : (n : ℕ) → 8 ≤ n → 7 ≤ least_first n
+least_above_six n low = cond_both (n == 8) 8 (n - 1) (λ m. 7 ≤ m) (λ _. omega arith) (λ _. omega arith)
 
-from_single : (x : List ℕ) → ReadFrom x (single_of x)
-from_single x =
-    cond_both (nat_le (length x) 8) _ _ (ReadFrom x)
-    (λ _. cond_both (nat_le 1 (slice_index x 0 % 16) && nat_le (slice_index x 0 % 16 + 1) (length x)) _ _ (ReadFrom x) (λ _. omega (arith, length-take (slice_index x 0 % 16 + 1 - 1) (drop 1 x), length-drop 1 x)) (λ _. tt))
-    (λ _. cond_both ((slice_index x 0 == 0) && (nat_le 1 (slice_index x 1) && nat_le (slice_index x 1 + 2) (length x))) _ _ (ReadFrom x) (λ _. omega (arith, length-take (slice_index x 1 + 2 - 2) (drop 2 x), length-drop 2 x)) (λ _. tt))
+first_lies : (x : List ℕ) (len : ℕ) (bytes : List ℕ) → 8 ≤ length x → SpellsFirst x len bytes
+    → (bytes ≡ drop (length x - bytes_in_first x) x) × (length bytes ≡ bytes_in_first x)
+first_lies x len bytes low (inl (least, most, parts)) =
+    let high_byte : slice_index x 0 ≡ 16 + len / 256 = ap (λ l. get_or l 0 0) parts in
+    let low_byte : slice_index x 1 ≡ len % 256 = ap (λ l. get_or l 1 0) parts in
+    let above = least_above_six (length x) low in
+    let told : ((slice_index x 0 % 16) * 256 + slice_index x 1 == 0) ≡ false = ne_eqb _ 0 (omega arith) in
+    let held : bytes_in_first x ≡ length x - 2 = ap (λ b. cond b (length x - 6) (length x - 2)) told in
+    let size = ap length parts in
+    let place : length x - bytes_in_first x ≡ 2 = omega arith in
+    (sym (ap (λ k. drop k x) place ∙ ap (drop 2) parts), omega arith)
+first_lies x len bytes low (inr (least, most, parts)) =
+    let told : ((slice_index x 0 % 16) * 256 + slice_index x 1 == 0) ≡ true = rw parts refl in
+    let held : bytes_in_first x ≡ length x - 6 = ap (λ b. cond b (length x - 6) (length x - 2)) told in
+    let size = ap length parts in
+    let place : length x - bytes_in_first x ≡ 6 = omega arith in
+    (sym (ap (λ k. drop k x) place ∙ ap (drop 6) parts), omega arith)
 
-from_first : (x : List ℕ) → ReadFrom x (first_of x)
-from_first x =
-    let short = slice_index x 0 % 16 * 256 + slice_index x 1 in
-    let long = ((slice_index x 2 * 256 + slice_index x 3) * 256 + slice_index x 4) * 256 + slice_index x 5 in
-    cond_both (nat_lt (length x) 8) _ _ (ReadFrom x) (λ _. tt) (λ low.
-    let eight : 8 ≤ length x = ltb-false (length x) 8 low in
-    cond_both (short == 0) _ _ (ReadFrom x)
-    (λ z. cond_both (nat_le long 4095) _ _ (ReadFrom x) (λ _. tt) (λ _. held_from x 6 (bytes_in_first x) (omega arith) (ap (λ b. cond b (length x - 6) (length x - 2)) z)))
-    (λ z. cond_both (nat_lt short (least_first (length x))) _ _ (ReadFrom x) (λ _. tt) (λ _. held_from x 2 (bytes_in_first x) (omega arith) (ap (λ b. cond b (length x - 6) (length x - 2)) z))))
+spelled_lies : (x : List ℕ) (found : Layout) → Spells x found → IsSoundLayout found → LiesIn x found
+spelled_lies x (layout.single m) (padding, some, inl (short, parts)) sound_one = (let size = ap length parts in omega (arith, length-append m padding))
+spelled_lies x (layout.single m) (padding, some, inr (long, parts)) sound_one = (let size = ap length parts in omega (arith, length-append m padding))
+spelled_lies x (layout.first len rx_dl bytes) (is_rx_dl, size, parts) sound_one =
+    let low = sound_one.at_least in
+    let lies = first_lies x len bytes (omega arith) parts in
+    (lies.0 ∙ ap (λ n. drop (n - bytes_in_first x) x) (sym size), lies.1)
+spelled_lies x (layout.consecutive sequence_number can_dl bytes) (few, size, parts) sound_one = sym (ap (drop 1) parts)
+spelled_lies x (layout.flow_control s) spelled sound_one = tt
 
-from_status : (x : List ℕ) (n : ℕ) → ReadFrom x (status_of n)
-from_status x n =
-    cond_both (n == 0) _ _ (ReadFrom x) (λ _. tt) (λ _.
-    cond_both (n == 1) _ _ (ReadFrom x) (λ _. tt) (λ _.
-    cond_both (n == 2) _ _ (ReadFrom x) (λ _. tt) (λ _. tt)))
-
-from_kind : (k : ℕ) (x : List ℕ) → ReadFrom x (of_kind k x)
-from_kind k x =
-    cond_both (k == 0) _ _ (ReadFrom x) (λ _. from_single x) (λ _.
-    cond_both (k == 1) _ _ (ReadFrom x) (λ _. from_first x) (λ _.
-    cond_both (k == 2) _ _ (ReadFrom x) (λ _. refl) (λ _.
-    cond_both (k == 3) _ _ (ReadFrom x) (λ _. cond_both (nat_lt (length x) 3) _ _ (ReadFrom x) (λ _. tt) (λ _. from_status x (slice_index x 0 % 16))) (λ _. tt))))
-
-from_bytes : (x : List ℕ) → ReadFrom x (of_bytes x)
-from_bytes x =
-    cond_both (is_can_dl (length x)) _ _ (ReadFrom x)
-    (λ _. cond_both (length x == 0) _ _ (ReadFrom x) (λ _. tt) (λ _. from_kind (slice_index x 0 / 16) x))
-    (λ _. tt)
-
-from_frame : (k : Kind) (x : List ℕ) → ReadFrom x (of_frame k x)
-from_frame Remote x = tt
-from_frame Classic x = from_bytes x
-from_frame Fd x = from_bytes x
-
-read_from : (f : FrameValue) → ReadFrom f.bytes (layout_of f)
-unfolding layout_of
-read_from f = from_frame f.kind f.bytes
-
-can_dl_high : (n : ℕ) → is_can_dl n ≡ true → n ≤ 64
+can_dl_high : (n : ℕ) → IsTrue (is_can_dl n) → n ≤ 64
 can_dl_high n h = grind (arith, nat_tests)
 
--- a frame with a reading has at most 64 bytes
-abbrev HasSize : List ℕ → Result Layout PduFault → Type 0
-HasSize x (Ok p) = length x ≤ 64
-HasSize x (Err f) = ⊤
+-- what is known of a reading
+record IsFrom (x : List ℕ) (found : Layout) : Type 0 where
+  lies : LiesIn x found
+  few : length x ≤ 64
+  numbers : IsSoundLayout found
 
-size-any : (x : List ℕ) (r : Result Layout PduFault) → length x ≤ 64 → HasSize x r
-size-any x (Ok p) h = h
-size-any x (Err f) h = tt
-
-size_bytes : (x : List ℕ) → HasSize x (of_bytes x)
-size_bytes x =
-    cond_both (is_can_dl (length x)) _ _ (HasSize x)
-    (λ t. cond_both (length x == 0) _ _ (HasSize x) (λ _. tt) (λ _. size-any x (of_kind (slice_index x 0 / 16) x) (can_dl_high (length x) t)))
-    (λ _. tt)
-
-size_frame : (k : Kind) (x : List ℕ) → HasSize x (of_frame k x)
-size_frame Remote x = tt
-size_frame Classic x = size_bytes x
-size_frame Fd x = size_bytes x
-
-size_of : (f : FrameValue) → HasSize f.bytes (layout_of f)
-unfolding layout_of
-size_of f = size_frame f.kind f.bytes
+read_from : (f : FrameValue) (r : Result Layout PduFault) → layout_of f ≡ r → IfOk r (IsFrom f.bytes)
+read_from f (Ok found) is =
+    let has = (layout_is_read f found).1 is in
+    let numbers = layout_is_sound f found has in
+    record { lies = spelled_lies f.bytes found has.spelled numbers; few = can_dl_high (length f.bytes) has.frame_length; numbers = numbers }
+read_from f (Err fault) is = tt
 
 -- what is known of a first and of a consecutive frame of these bytes
 abbrev RoleFrom : ℕ → List ℕ → Role → Type 0
@@ -107,12 +77,12 @@ RoleFrom t x continue_or_wait = ⊤
 RoleFrom t x overflow = ⊤
 RoleFrom t x no_part = ⊤
 
-own_from : (line micros : ℕ) (x : List ℕ) (r : Result Layout PduFault) → ReadFrom x r → HasSize x r → IfOk r IsSoundLayout → RoleFrom micros x (own_role line micros r)
-own_from line micros x (Ok (layout.single m)) h z s = (omega arith, omega arith)
-own_from line micros x (Ok (layout.first len rx_dl bytes)) h z s = (h.0, h.1, s.0, s.1, refl)
-own_from line micros x (Ok (layout.consecutive sequence_number can_dl bytes)) h z s = (h, s.0)
-own_from line micros x (Ok (layout.flow_control s)) h z _ = tt
-own_from line micros x (Err f) h z s = tt
+own_from : (line micros : ℕ) (x : List ℕ) (r : Result Layout PduFault) → IfOk r (IsFrom x) → RoleFrom micros x (own_role line micros r)
+own_from line micros x (Ok (layout.single m)) from = (from.numbers, (let lies = from.lies in let few = from.few in omega arith))
+own_from line micros x (Ok (layout.first len rx_dl bytes)) from = (from.lies.0, from.lies.1, from.numbers.carries_less, from.numbers.at_least, refl)
+own_from line micros x (Ok (layout.consecutive sequence_number can_dl bytes)) from = (from.lies, from.numbers.in_frame)
+own_from line micros x (Ok (layout.flow_control s)) from = tt
+own_from line micros x (Err f) from = tt
 
 other_from : (t : ℕ) (x : List ℕ) (r : Result Layout PduFault) → RoleFrom t x (other_role r)
 other_from t x (Ok (layout.flow_control Continue)) = tt
@@ -125,7 +95,7 @@ other_from t x (Err f) = tt
 
 pub role_from : (d : Dir) (e : Entry) → RoleFrom e.micros e.frame.bytes (role d e)
 unfolding role
-role_from d e = cond_both (same_direction d e.dir) _ _ (RoleFrom e.micros e.frame.bytes) (λ _. own_from e.line e.micros e.frame.bytes _ (read_from e.frame) (size_of e.frame) (sound e.frame)) (λ _. other_from e.micros e.frame.bytes (layout_of e.frame))
+role_from d e = cond_both (same_direction d e.dir) _ _ (RoleFrom e.micros e.frame.bytes) (λ _. own_from e.line e.micros e.frame.bytes _ (read_from e.frame (layout_of e.frame) refl)) (λ _. other_from e.micros e.frame.bytes (layout_of e.frame))
 
 pub whole_from : (d : Dir) (e : Entry) (m : List ℕ) → role d e ≡ single m → (1 ≤ length m) × (length m ≤ 64)
 whole_from d e m h = rw h at (role_from d e)

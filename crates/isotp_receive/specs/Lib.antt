@@ -6,6 +6,7 @@ pub mod OpenReception
 pub mod Delivers
 pub mod Verdict
 pub mod Recording
+pub mod CleanTrace
 pub mod Laws
 pub mod RecordingLaws
 pub mod EventSeen

@@ -3,7 +3,7 @@ use Rattle.std.specs.Prelude.{ℕ, ◌+◌, ◌-◌, ◌*◌, ◌%◌, Bool, tru
 use Rattle.can_log.specs.declared.frame.Dir.{Dir}
 use Rattle.can_log.specs.declared.frame.Dir.TheVariants.{Tester, Unit}
 use Rattle.isotp_receive.specs.Trace.{Entry, FirstFrame, Role, single, first, consecutive, continue_or_wait, overflow, no_part, role}
-use Rattle.isotp_receive.specs.Places.{consecutive_count}
+use Rattle.isotp_receive.specs.Places.{bytes_before, consecutive_count}
 use Rattle.isotp_receive.specs.OnTime.{n_cr}
 
 -- the bytes that the consecutive frames of the direction carry
@@ -34,7 +34,7 @@ reference d t (e ∷ es) = reference d (referred (role d e) e.micros t) es
 
 -- the bytes of the message that a first frame and k consecutive frames of full length carry
 abbrev pub carried_after : FirstFrame → ℕ → ℕ
-carried_after s k = length s.bytes + k * (s.rx_dl - 1)
+carried_after s k = bytes_before (length s.bytes) s.rx_dl k
 
 -- A consecutive frame of this length fits where `have` bytes of `len` are there. One that is not the last is
 -- as long as the first frame. The last has what is missing, and is no longer than the first frame.

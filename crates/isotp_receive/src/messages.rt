@@ -1,7 +1,9 @@
 //! The messages of a whole trace.
 
-ghost use Rattle.std.specs.Prelude.{◌≡◌, IfOk};
+ghost use Rattle.std.specs.Prelude.{◌≡◌, ℕ, List, IfOk};
+ghost use Rattle.can_log.specs.declared.frame.Dir.{Dir};
 ghost use Rattle.isotp_receive.specs.Verdict.{messages};
+ghost use Rattle.isotp_receive.specs.Recording.{IsRecording};
 ghost use Rattle.isotp_receive.specs.Recorded.{entries, sent};
 
 use crate::MESSAGE_LIMIT;
@@ -34,7 +36,8 @@ pub struct Message {
 
 /// The messages that recorded frames deliver, in the order in which they were completed.
 pub fn messages_of(alloc: Global, trace: &[Recorded]) -> Result<Vec<Message>, AllocError>
-    ensures { IfOk result (λ found. sent found.items ≡ messages MESSAGE_LIMIT (entries trace.now)) }
+    ensures messages { IfOk result (λ found. sent found.items ≡ messages MESSAGE_LIMIT (entries trace.now)) }
+    ensures recording { (M : List (Dir × List ℕ)) → IsRecording MESSAGE_LIMIT (entries trace.now) M → IfOk result (λ found. sent found.items ≡ M) }
 {
     let mut pair = Pair::new(alloc)?;
     let mut found = Vec::new(alloc);

@@ -1,3 +1,4 @@
-pub mod Cut
-pub mod Rest
-pub mod Paced
+pub mod CanonicalFrames
+pub mod FramesLeft
+pub mod Timed
+pub mod Laws

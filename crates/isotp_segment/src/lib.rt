@@ -1,142 +1,150 @@
+//! A message as ISO-TP frames of one fixed spelling: its *canonical* frames.
+//!
+//! ISO 15765-2 leaves the sender of a message many choices: the size of the frames, the padding, the flow control. Here
+//! each choice is made once, so that equal messages become equal frames: classic frames of 8 bytes, padded with `CC`, and
+//! one continue frame from the other side directly behind a first frame. The frames are made one at a time, out of the
+//! message itself; nothing is allocated.
+//!
+//! ```
+//! let answer = [0x62, 0xF1, 0x90, 0x41, 0x42, 0x43, 0x44, 0x45];
+//! for (dir, bytes) in Segments::new(Dir::Unit, &answer) {
+//!     // Unit   10 08 62 F1 90 41 42 43
+//!     // Tester 30 00 00 CC CC CC CC CC
+//!     // Unit   21 44 45 CC CC CC CC CC
+//! }
+//! ```
 #![tactic(auto)]
 
-//! The canonical frames of a message.
-
-ghost use Rattle.std.specs.Prelude.{◌≡◌, ◌<◌, ◌≤◌, length};
-ghost use Rattle.isotp_segment.specs.Cut.{cut, frames, frame_at, in_first, byte_or_pad, single_byte, first_byte, next_byte, flow_byte, eight};
-ghost use Rattle.std.specs.Prelude.{ℕ, List};
+ghost use Rattle.std.specs.Prelude.{◌≡◌, ◌<◌, ◌≤◌, ◌-◌, ◌+◌, ◌*◌, ℕ, List, length, drop};
 ghost use Rattle.can_log.specs.declared.frame.Dir.{Dir};
-ghost use Rattle.isotp_receive.specs.Recording.{IsRecording};
-ghost use Rattle.isotp_segment.specs.Paced.{cut_all, paced, HasSizes};
+ghost use Rattle.isotp_receive.specs.declared.TheConstants.{MESSAGE_LIMIT};
+ghost use Rattle.isotp_segment.specs.CanonicalFrames.{filled, first_control, consecutive_control, room_in_first, place_of, total_count, canonical_frame, canonical_frames};
+
+pub mod laws;
+#[cfg(test)]
+mod tests;
 
 use can_log::Dir;
+use isotp_receive::MESSAGE_LIMIT;
+use std::iter::FusedIterator;
 
-/// How many canonical frames a message of this length has, with the continue frame.
+/// The longest message whose length a first frame tells in 12 bits; of a longer one it tells 32 bits.
+const SHORT_LIMIT: usize = 4095;
+
+/// What a frame has behind the bytes of the message.
+const PADDING: u8 = 0xCC;
+
+/// Continue to send: no limit of the block and no separation time.
+const CONTINUE_FRAME: [u8; 8] = [0x30, 0, 0, PADDING, PADDING, PADDING, PADDING, PADDING];
+
+/// The number of canonical frames of a message of `len` bytes, the continue frame counted.
 pub fn frame_count(len: usize) -> u64
-    requires low { 1 ≤ len }
-    requires high { len ≤ 65535 }
-    ensures { result ≡ frames len }
+    requires some { 1 ≤ len }
+    requires limit { len ≤ MESSAGE_LIMIT }
+    ensures value { result ≡ total_count len }
+    ensures frames { (direction : Dir) (message : List ℕ) → len ≡ length message →
+        result ≡ length (canonical_frames MESSAGE_LIMIT direction message) }
 {
     if len <= 7 {
         return 1;
     }
-    let in_first = if len <= 4095 { 6 } else { 2 };
-    2 + ((len - in_first + 6) / 7) as u64
+    2 + (len - room_in_first(len)).div_ceil(7) as u64
 }
 
-fn byte_or_pad(message: &[u8], i: usize) -> u8
-    ensures { result ≡ byte_or_pad message.now i }
+/// How many bytes of a message of this length the first frame holds.
+fn room_in_first(len: usize) -> usize
+    ensures { result ≡ room_in_first len }
 {
-    match message.get(i) {
-        Some(byte) => *byte,
-        None => 0xCC,
+    if len <= SHORT_LIMIT { 6 } else { 2 }
+}
+
+/// A frame of this control information, the bytes as far as there is room, and padding.
+#[inline(always)]
+fn filled(control: &[u8], bytes: &[u8]) -> [u8; 8]
+    requires { length control.now ≤ 8 }
+    ensures { result ≡ filled control.now bytes.now }
+{
+    let mut frame = [PADDING; 8];
+    let place = control.len();
+    frame[..place].copy_from_slice(control);
+    if bytes.len() >= 8 - place {
+        frame[place..].copy_from_slice(&bytes[..8 - place]);
+    } else {
+        frame[place..place + bytes.len()].copy_from_slice(bytes);
+    }
+    frame
+}
+
+/// The first frame of a message of more than 7 bytes (section 9.6.3 of the standard).
+fn first_frame(message: &[u8]) -> [u8; 8]
+    requires { length message.now ≤ MESSAGE_LIMIT }
+    ensures { result ≡ filled (first_control (length message.now)) message.now }
+{
+    let [_, _, high, low] = (message.len() as u32).to_be_bytes();
+    if message.len() <= SHORT_LIMIT {
+        filled(&[0x10 + high, low], message)
+    } else {
+        filled(&[0x10, 0, 0, 0, high, low], message)
     }
 }
 
-fn single(message: &[u8]) -> [u8; 8]
-    requires { length message.now ≤ 7 }
-    ensures { result ≡ eight (single_byte message.now) }
+/// Consecutive frame `number`, counted from 1 (section 9.6.4).
+fn consecutive_frame(message: &[u8], number: usize) -> [u8; 8]
+    requires some { 1 ≤ number }
+    requires place { place_of (length message.now) number ≤ length message.now }
+    requires limit { length message.now ≤ MESSAGE_LIMIT }
+    ensures { result ≡ filled (consecutive_control number) (drop (place_of (length message.now) number) message.now) }
 {
-    [
-        message.len() as u8,
-        byte_or_pad(message, 0),
-        byte_or_pad(message, 1),
-        byte_or_pad(message, 2),
-        byte_or_pad(message, 3),
-        byte_or_pad(message, 4),
-        byte_or_pad(message, 5),
-        byte_or_pad(message, 6),
-    ]
+    let place = room_in_first(message.len()) + (number - 1) * 7;
+    filled(&[0x20 + (number % 16) as u8], &message[place..])
 }
 
-fn first(message: &[u8]) -> [u8; 8]
-    requires { length message.now ≤ 65535 }
-    ensures { result ≡ eight (first_byte message.now) }
-{
-    let len = message.len();
-    if len <= 4095 {
-        return [
-            (0x10 + len / 256) as u8,
-            (len % 256) as u8,
-            byte_or_pad(message, 0),
-            byte_or_pad(message, 1),
-            byte_or_pad(message, 2),
-            byte_or_pad(message, 3),
-            byte_or_pad(message, 4),
-            byte_or_pad(message, 5),
-        ];
-    }
-    [
-        0x10,
-        0,
-        (len / 16_777_216 % 256) as u8,
-        (len / 65_536 % 256) as u8,
-        (len / 256 % 256) as u8,
-        (len % 256) as u8,
-        byte_or_pad(message, 0),
-        byte_or_pad(message, 1),
-    ]
-}
-
-fn next(message: &[u8], number: usize) -> [u8; 8]
-    requires limit { length message.now ≤ 65535 }
-    requires low { 1 ≤ number }
-    requires high { number < 65536 }
-    ensures { result ≡ eight (next_byte message.now number) }
-{
-    let in_first = if message.len() <= 4095 { 6 } else { 2 };
-    let at = in_first + (number - 1) * 7;
-    [
-        (0x20 + number % 16) as u8,
-        byte_or_pad(message, at),
-        byte_or_pad(message, at + 1),
-        byte_or_pad(message, at + 2),
-        byte_or_pad(message, at + 3),
-        byte_or_pad(message, at + 4),
-        byte_or_pad(message, at + 5),
-        byte_or_pad(message, at + 6),
-    ]
-}
-
-fn frame(dir: Dir, message: &[u8], number: u64) -> (Dir, [u8; 8])
-    requires limit { length message.now ≤ 65535 }
-    requires high { number < 65536 }
-    ensures { result ≡ frame_at dir message.now number }
+/// Frame `number` of a message, from 0, and who sends it.
+#[tactic(auto, unfolding(crate::specs::CanonicalFrames::canonical_frame, crate::specs::CanonicalFrames::filled))]
+fn canonical_frame(dir: Dir, message: &[u8], number: usize) -> (Dir, [u8; 8])
+    requires number { number < total_count (length message.now) }
+    requires limit { length message.now ≤ MESSAGE_LIMIT }
+    ensures { result ≡ canonical_frame dir message.now number }
 {
     if message.len() <= 7 {
-        return (dir, single(message));
+        return (dir, filled(&[message.len() as u8], message));
     }
-    if number == 0 {
-        return (dir, first(message));
+    match number {
+        0 => (dir, first_frame(message)),
+        1 => (dir.other(), CONTINUE_FRAME),
+        _ => (dir, consecutive_frame(message, number - 1)),
     }
-    if number == 1 {
-        return (dir.other(), [0x30, 0, 0, 0xCC, 0xCC, 0xCC, 0xCC, 0xCC]);
-    }
-    (dir, next(message, number as usize - 1))
 }
 
-/// The canonical frames of a message, one after another.
-#[derive(Drop)]
+/// The canonical frames of a message, one after another: who sends it, and its bytes.
+#[derive(Debug, Drop)]
 pub struct Segments<'a> {
     dir: Dir,
     message: &'a [u8],
-    next: u64,
-    ghost low: { 1 ≤ length message.now },
-    ghost high: { length message.now ≤ 65535 },
+    /// How many frames there are.
+    count: usize,
+    /// The number of the next one, from 0.
+    number: usize,
+    ghost some: { 1 ≤ length message.now },
+    ghost limit: { length message.now ≤ MESSAGE_LIMIT },
+    ghost counted: { count ≡ total_count (length message.now) },
+    ghost within: { number ≤ count },
 }
 
 impl<'a> Segments<'a> {
-    ghost use Rattle.isotp_segment.specs.Rest.{rest};
+    ghost use Rattle.isotp_segment.specs.FramesLeft.{frames_left};
 
+    /// The frames of a message that is sent in the direction `dir`. A message has 1 to 65,535 bytes.
     pub fn new(dir: Dir, message: &'a [u8]) -> Segments<'a>
-        requires low { 1 ≤ length message.now }
-        requires high { length message.now ≤ 65535 }
-        ensures { rest result ≡ cut dir message.now }
+        requires some { 1 ≤ length message.now }
+        requires limit { length message.now ≤ MESSAGE_LIMIT }
+        ensures { frames_left result ≡ canonical_frames MESSAGE_LIMIT dir message.now }
     {
         Segments {
             dir,
             message,
-            next: 0,
+            count: frame_count(message.len()) as usize,
+            number: 0,
         }
     }
 }
@@ -145,24 +153,34 @@ impl<'a> Iterator for Segments<'a> {
     type Item = (Dir, [u8; 8]);
 
     ghost use Rattle.std.specs.Iterator.{YieldsFirst, item_count};
-    ghost use Rattle.isotp_segment.specs.Rest.{rest};
+    ghost use Rattle.isotp_segment.specs.FramesLeft.{frames_left};
 
-    ghost next_gives = { YieldsFirst rest };
+    ghost next_gives = { YieldsFirst frames_left };
 
-    ghost remaining = { item_count rest };
+    ghost remaining = { item_count frames_left };
 
-    #[tactic(auto, using(crate::proofs::Left::more_left, crate::proofs::Left::none_left))]
+    #[tactic(auto, using(crate::proofs::Frames::drop_canonical_frames, crate::proofs::Frames::drop_at_end))]
     fn next(&mut self) -> Option<(Dir, [u8; 8])> {
-        if self.next >= frame_count(self.message.len()) {
+        if self.number >= self.count {
             return None;
         }
-        let item = frame(self.dir, self.message, self.next);
-        self.next += 1;
-        Some(item)
+        let frame = canonical_frame(self.dir, self.message, self.number);
+        self.number += 1;
+        Some(frame)
+    }
+
+    #[tactic(auto, using(crate::proofs::Frames::count_left))]
+    fn size_hint(&self) -> (usize, Option<usize>) {
+        let left = self.count - self.number;
+        (left, Some(left))
     }
 }
 
-/// The canonical frames of messages, a millisecond apart, are a recording of them.
-pub fn cut_records()
-    ensures { (M : List (Dir × List ℕ)) → HasSizes M → IsRecording 65535 (paced 0 (cut_all M)) M }
-{}
+impl<'a> ExactSizeIterator for Segments<'a> {
+    #[tactic(auto, using(crate::proofs::Frames::count_left))]
+    fn len(&self) -> usize {
+        self.count - self.number
+    }
+}
+
+impl<'a> FusedIterator for Segments<'a> {}

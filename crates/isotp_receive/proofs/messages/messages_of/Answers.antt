@@ -1,7 +1,10 @@
-use Rattle.std.proofs.Common.{◌∙◌, ap, sym, ◌++◌, ◌∷◌, []}
+use Rattle.std.proofs.Common.{◌≡◌, ◌∙◌, ap, sym, ◌++◌, ◌∷◌, [], arith}
+use Rattle.std.proofs.lemmas.Grind.{common_steps}
 use Rattle.std.proofs.lemmas.List.{append-nil}
 use Rattle.isotp_receive.specs.EventSeen.{seen_event}
-use Rattle.isotp_receive.specs.Recorded.{sent}
+use Rattle.isotp_receive.specs.Recorded.{entries, sent}
+use Rattle.isotp_receive.specs.Verdict.{messages}
+use Rattle.isotp_receive.proofs.Delivered.{recording-delivers}
 use Rattle.isotp_receive.proofs.MessagesOfMore.{stands_next, found_next, told_none, sent-snoc}
 use Rattle.isotp_receive.proofs.messages.messages_of.Goals as goal
 use Rattle.isotp_receive.proofs.messages.messages_of.Goals.{in-Message+in_ok-to_vec+in_ok-push, in_default}
@@ -27,3 +30,8 @@ loop-recorded-preserved c =
             ap (λ v. sent v.items) w.found-is ∙ sym (append-nil (sent loop.found.items)) ∙ ap (λ l. sent loop.found.items ++ l) (sym none) ∙ found;
       }
     ]
+
+pub returns-clause-recording : goal.returns-clause-recording
+returns-clause-recording c =
+    let whole : sent c.loop-recorded.found.items ≡ messages 65535 (entries c.args.trace.now) = grind (arith, common_steps, c.loop-recorded.invariant.found) in
+    λ M recording. whole ∙ recording-delivers 65535 (entries c.args.trace.now) M recording

@@ -1,0 +1,49 @@
+-- Why a frame has no layout: the faults in their order of precedence, each with the fact that it stands for.
+use Rattle.std.specs.Prelude.{◌≡◌, ℕ, ◌<◌, ◌≤◌, IsFalse, List, [], ◌∷◌, length}
+use Rattle.can_log.specs.Frame.{FrameValue}
+use Rattle.can_log.specs.declared.frame.Kind.TheVariants as kind
+use Rattle.isotp_pdu.specs.declared.PduFault.{PduFault}
+use Rattle.isotp_pdu.specs.declared.PduFault.TheVariants as fault
+use Rattle.isotp_pdu.specs.Layout.{Spells, is_can_dl, first_byte, single, first}
+
+-- the lower is answered
+abbrev pub number_of : PduFault → ℕ
+number_of fault.Remote = 1
+number_of fault.FrameLength = 2
+number_of fault.Empty = 3
+number_of fault.UnknownKind = 4
+number_of fault.SingleLength = 5
+number_of fault.FirstLength = 6
+number_of fault.FlowShort = 7
+number_of fault.FlowStatus = 8
+
+-- the first byte has this kind in its high bits, and this number in its low ones
+pub record Begins (kind low : ℕ) (bytes : List ℕ) : Type 0 where
+  pub rest : List ℕ
+  pub four_bits : low < 16
+  pub parts : bytes ≡ first_byte kind low ∷ rest
+
+-- the fault applies to the frame
+abbrev pub Applies : PduFault → FrameValue → Type 0
+-- a remote frame has no data
+Applies fault.Remote frame = frame.kind ≡ kind.Remote
+-- no CAN frame has so many bytes
+Applies fault.FrameLength frame = IsFalse (is_can_dl (length frame.bytes))
+-- a frame without bytes has no kind
+Applies fault.Empty frame = frame.bytes ≡ []
+-- single, first and consecutive frames and flow control are the kinds 0 to 3
+Applies fault.UnknownKind frame = (kind : ℕ) × (low : ℕ) × (3 < kind) × Begins kind low frame.bytes
+-- a single frame whose bytes spell no message
+Applies fault.SingleLength frame = (low : ℕ) × Begins 0 low frame.bytes × ((message : List ℕ) → ¬ Spells frame.bytes (single message))
+-- a first frame whose bytes announce no length that one may
+Applies fault.FirstLength frame =
+    (low : ℕ) × Begins 1 low frame.bytes × ((announced rx_dl : ℕ) (data_bytes : List ℕ) → ¬ Spells frame.bytes (first announced rx_dl data_bytes))
+-- flow control without room for block size and separation time
+Applies fault.FlowShort frame = (low : ℕ) × Begins 3 low frame.bytes × (length frame.bytes < 3)
+-- continue, wait and overflow are the statuses 0 to 2
+Applies fault.FlowStatus frame = (low : ℕ) × Begins 3 low frame.bytes × (2 < low)
+
+-- the fault that the frame is answered with
+pub record IsFault (e : PduFault) (frame : FrameValue) : Type 0 where
+  pub applies : Applies e frame
+  pub lowest : (other : PduFault) → Applies other frame → number_of e ≤ number_of other

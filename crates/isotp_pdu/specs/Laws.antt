@@ -1,0 +1,34 @@
+-- What holds of every frame. Each is the contract of a function of the module `laws`.
+use Rattle.std.specs.Prelude.{◌≡◌, ◌⊎◌, ◌↔◌, Ok, Err}
+use Rattle.can_log.specs.Frame.{FrameValue}
+use Rattle.isotp_pdu.specs.declared.PduFault.{PduFault}
+use Rattle.isotp_pdu.specs.Layout.{Layout, HasLayout, IsSoundLayout, layout_of}
+use Rattle.isotp_pdu.specs.Fault.{Applies, IsFault}
+
+-- the function gives a layout exactly where the frame has it
+abbrev pub LayoutIsRead : Type 0
+LayoutIsRead = (frame : FrameValue) (layout : Layout) → HasLayout frame layout ↔ (layout_of frame ≡ Ok layout)
+
+-- the function gives a fault exactly where it is the lowest that applies
+abbrev pub FaultIsRead : Type 0
+FaultIsRead = (frame : FrameValue) (e : PduFault) → IsFault e frame ↔ (layout_of frame ≡ Err e)
+
+-- a frame has at most one layout
+abbrev pub AtMostOneLayout : Type 0
+AtMostOneLayout = (frame : FrameValue) (a b : Layout) → HasLayout frame a → HasLayout frame b → a ≡ b
+
+-- a frame has at most one fault
+abbrev pub AtMostOneFault : Type 0
+AtMostOneFault = (frame : FrameValue) (a b : PduFault) → IsFault a frame → IsFault b frame → a ≡ b
+
+-- a frame has a layout or a fault
+abbrev pub LayoutOrFault : Type 0
+LayoutOrFault = (frame : FrameValue) → ((layout : Layout) × HasLayout frame layout) ⊎ ((e : PduFault) × IsFault e frame)
+
+-- and not both: no fault applies to a frame that has a layout
+abbrev pub LayoutHasNoFault : Type 0
+LayoutHasNoFault = (frame : FrameValue) (layout : Layout) (e : PduFault) → HasLayout frame layout → ¬ Applies e frame
+
+-- each layout that a frame has is sound
+abbrev pub LayoutIsSound : Type 0
+LayoutIsSound = (frame : FrameValue) (layout : Layout) → HasLayout frame layout → IsSoundLayout layout
