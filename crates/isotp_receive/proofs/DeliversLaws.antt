@@ -56,7 +56,7 @@ module _ (limit : ℕ) (d : Dir) (before : List Entry) (e0 : Entry) (s : FirstFr
   kept : (keep d s [] since ≡ true) × (carried_after s (consecutive_count d since) < s.len)
   kept = (let more = and_parts (nat_lt (carried_after s (consecutive_count d since)) s.len) _ (and_parts (nat_le s.len limit) _ opens).1 in (more.1, ltb-true _ _ more.0))
 
-  have : length (s.bytes ++ carried d since) ≡ bytes_before (bytes_in_first e0.frame.bytes) s.rx_dl (consecutive_count d since)
+  pub have : length (s.bytes ++ carried d since) ≡ bytes_before (bytes_in_first e0.frame.bytes) s.rx_dl (consecutive_count d since)
   have = (let from = first_from d e0 s begins in let held = from.1 in let full = full_of d s since kept.0 kept.1 in omega (arith, length-append s.bytes (carried d since)))
 
   completes : judged (standing_of d s since) last.micros sequence_number can_dl ≡ judged_as.Last

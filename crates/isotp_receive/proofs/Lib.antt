@@ -6,6 +6,7 @@ pub mod OpenPositions
 pub mod BytesAtPlaces
 pub mod StandingLaws
 pub mod DeliversLaws
+pub mod VerdictLaws
 pub mod SaysHeard
 pub mod Places
 pub mod ListPositions
