@@ -81,29 +81,29 @@ is-judged limit T e i k sequence_number can_dl bytes goes o =
     let join = fits-join (bytes_in_first o.frame.frame.bytes) s.rx_dl s.len o.n (consecutive_count d since) sequence_number can_dl o.count below in
     let ref = refers d before o.frame s since (e ∷ []) o.kind in
     let on_to : IsOnTime (T ++ e ∷ []) d i (length T) e → is_on_time st e.micros ≡ true =
-      λ on. on-time-to (before ++ o.frame ∷ (since ++ e ∷ [])) d (length before) (suc (length before) + length since) (reference d s.micros since) e ref
-        (subst (λ p. IsOnTime (before ++ o.frame ∷ (since ++ e ∷ [])) d (length before) p e) (sym ends)
-        (subst (λ j. IsOnTime (before ++ o.frame ∷ (since ++ e ∷ [])) d j (length T) e) (sym w.3)
-        (subst (λ t. IsOnTime t d i (length T) e) (sym whole) on))) in
+    λ on. on-time-to (before ++ o.frame ∷ (since ++ e ∷ [])) d (length before) (suc (length before) + length since) (reference d s.micros since) e ref
+    (subst (λ p. IsOnTime (before ++ o.frame ∷ (since ++ e ∷ [])) d (length before) p e) (sym ends)
+    (subst (λ j. IsOnTime (before ++ o.frame ∷ (since ++ e ∷ [])) d j (length T) e) (sym w.3)
+    (subst (λ t. IsOnTime t d i (length T) e) (sym whole) on))) in
     let on_from : is_on_time st e.micros ≡ true → IsOnTime (T ++ e ∷ []) d i (length T) e =
-      λ t. subst (λ l. IsOnTime l d i (length T) e) whole (subst (λ j. IsOnTime (before ++ o.frame ∷ (since ++ e ∷ [])) d j (length T) e) w.3
-        (subst (λ p. IsOnTime (before ++ o.frame ∷ (since ++ e ∷ [])) d (length before) p e) ends
-        (on-time-from (before ++ o.frame ∷ (since ++ e ∷ [])) d (length before) (suc (length before) + length since) (reference d s.micros since) e ref t))) in
+    λ t. subst (λ l. IsOnTime l d i (length T) e) whole (subst (λ j. IsOnTime (before ++ o.frame ∷ (since ++ e ∷ [])) d j (length T) e) w.3
+    (subst (λ p. IsOnTime (before ++ o.frame ∷ (since ++ e ∷ [])) d (length before) p e) ends
+    (on-time-from (before ++ o.frame ∷ (since ++ e ∷ [])) d (length before) (suc (length before) + length since) (reference d s.micros since) e ref t))) in
     let same_number : expected st ≡ (k + 1) % 16 = ap (λ j. (j + 1) % 16) (sym taken) in
     let length_is : has_length st can_dl ≡ fits_length s.len s.rx_dl (bytes_before (bytes_in_first o.frame.frame.bytes) s.rx_dl (consecutive_count d since)) can_dl = ap (λ h. fits_length s.len s.rx_dl h can_dl) size in
     record {
       late = λ off. is ∙ first-of (is_on_time st e.micros) (sequence_number == expected st) (has_length st can_dl) (wants_more st) _ _ _ _ _ (not-true (is_on_time st e.micros) (λ t. off (on_from t)));
       wrong_number = λ on apart. is ∙ second-of (is_on_time st e.micros) (sequence_number == expected st) (has_length st can_dl) (wants_more st) _ _ _ _ _ (on_to on)
-        (ne_eqb sequence_number (expected st) (λ same. apart (same ∙ same_number)))
-        ∙ ap (λ x. refused (Some (ended_by d s cause.Sequence)) (reason.NextSequence x sequence_number)) same_number;
+          (ne_eqb sequence_number (expected st) (λ same. apart (same ∙ same_number)))
+          ∙ ap (λ x. refused (Some (ended_by d s cause.Sequence)) (reason.NextSequence x sequence_number)) same_number;
       wrong_length = λ on number apart. is ∙ third-of (is_on_time st e.micros) (sequence_number == expected st) (has_length st can_dl) (wants_more st) _ _ _ _ _ (on_to on)
-        (eq-eqb sequence_number (expected st) (number ∙ sym same_number))
-        (not-true (has_length st can_dl) (λ t. apart (subst (λ j. FitsAs (bytes_in_first o.frame.frame.bytes) s.rx_dl s.len o.n (j + 1) sequence_number can_dl) (sym taken)
+          (eq-eqb sequence_number (expected st) (number ∙ sym same_number))
+          (not-true (has_length st can_dl) (λ t. apart (subst (λ j. FitsAs (bytes_in_first o.frame.frame.bytes) s.rx_dl s.len o.n (j + 1) sequence_number can_dl) (sym taken)
           (join.1 (number ∙ ap (λ j. (j + 1) % 16) taken, sym length_is ∙ t)))));
       stored_away = λ on fits less.
-        let fit = join.0 (subst (λ j. FitsAs (bytes_in_first o.frame.frame.bytes) s.rx_dl s.len o.n (j + 1) sequence_number can_dl) taken fits) in
-        let room = o.count.fewer (k + 1) less in
-        let product = ap (λ j. (j + 1) * (s.rx_dl - 1)) taken in
-        is ∙ fourth-of (is_on_time st e.micros) (sequence_number == expected st) (has_length st can_dl) (wants_more st) _ _ _ _ _ (on_to on)
-        (eq-eqb sequence_number (expected st) fit.0) (length_is ∙ fit.1) (lt-ltb _ _ (omega arith));
+          let fit = join.0 (subst (λ j. FitsAs (bytes_in_first o.frame.frame.bytes) s.rx_dl s.len o.n (j + 1) sequence_number can_dl) taken fits) in
+          let room = o.count.fewer (k + 1) less in
+          let product = ap (λ j. (j + 1) * (s.rx_dl - 1)) taken in
+          is ∙ fourth-of (is_on_time st e.micros) (sequence_number == expected st) (has_length st can_dl) (wants_more st) _ _ _ _ _ (on_to on)
+          (eq-eqb sequence_number (expected st) fit.0) (length_is ∙ fit.1) (lt-ltb _ _ (omega arith));
     }
