@@ -8,6 +8,9 @@ pub mod Places
 pub mod ListPositions
 pub mod References
 pub mod Carried
+pub mod PositionLists
+pub mod OwnFrames
+pub mod Told
 pub mod Delivered
 pub mod Clean
 pub mod Certified

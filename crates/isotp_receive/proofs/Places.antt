@@ -1,5 +1,5 @@
 -- Where the bytes of a message stand, and positions of a trace.
-use Rattle.std.proofs.Common.{true, false, ◌≡◌, ℕ, ◌+◌, ◌-◌, ◌*◌, ◌%◌, ◌/◌, ◌<◌, ◌≤◌, ◌&&◌, List, [], ◌∷◌, ◌++◌, length, take, drop, get_or, slice_index, nat_lt, nat_le, ◌==◌, Result, Ok, Err, refl, sym, ◌∙◌, ap, arith, cond, length-append, length-take, length-drop, inl, inr, ext_get_or, get_or-take}
+use Rattle.std.proofs.Common.{true, false, ◌≡◌, ℕ, ◌+◌, ◌-◌, ◌*◌, ◌%◌, ◌/◌, ◌<◌, ◌≤◌, List, [], ◌∷◌, ◌++◌, length, take, drop, get_or, slice_index, nat_lt, ◌==◌, Result, Ok, Err, refl, sym, ◌∙◌, ap, arith, cond, length-append, length-take, inl, inr, ext_get_or, get_or-take}
 use Rattle.std.specs.Prelude.{⊤, ◌⊎◌, IfOk, IsTrue}
 use Rattle.std.proofs.lemmas.Bool.{cond_both, ne_eqb, ltb-false, ltb-true, cases_Bool}
 use Rattle.std.proofs.lemmas.Bool.Decides.{nat_tests}

@@ -3,7 +3,7 @@ use Rattle.std.proofs.Common.{◌≡◌, ℕ, zero, suc, ◌+◌, ◌-◌, ◌<�
 use Rattle.std.specs.List.{range_with_len}
 use Rattle.std.proofs.lemmas.Bool.{leb-false, ltb-true, ltb-false, cases_Bool}
 use Rattle.isotp_receive.specs.Recording.{IsRisingFrom, IsIn, last_or}
-use Rattle.isotp_receive.proofs.Delivered.{last-in}
+use Rattle.isotp_receive.proofs.PositionLists.{last-in}
 use Rattle.isotp_segment.specs.CanonicalFrames.{room_in_first, consecutive_count, total_count}
 
 -- one, or that of the first frame and, behind the continue frame, those of the consecutive frames
