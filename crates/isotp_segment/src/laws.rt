@@ -1,6 +1,11 @@
 //! Laws of canonical frames, for the proofs of callers: functions that do nothing.
 
-ghost use Rattle.isotp_segment.specs.Laws.{CanonicalFramesAreRecording, FramesDeliver, FrontsDeliverNothing};
+ghost use Rattle.isotp_segment.specs.Laws.{CountIsLeast, CanonicalFramesAreRecording, FramesDeliver, FrontsDeliverNothing};
+
+/// The consecutive frames of a message are as many as its bytes ask for, and no more.
+pub fn consecutive_count_is_least()
+    ensures { CountIsLeast }
+{}
 
 /// The canonical frames of any messages, each a millisecond after the one before, are a recording of these messages: from
 /// any line and time on, and under any two identifiers.

@@ -152,7 +152,9 @@ impl<'a> Segments<'a> {
 impl<'a> Iterator for Segments<'a> {
     type Item = (Dir, [u8; 8]);
 
-    ghost use Rattle.std.specs.Iterator.{YieldsFirst, item_count};
+    ghost use Rattle.std.specs.Prelude.{IfSome};
+    ghost use Rattle.std.specs.Iterator.{UpTo, YieldsFirst, item_count};
+    ghost use Rattle.std.specs.Iterator.SizeHint.{IsWithinCount};
     ghost use Rattle.isotp_segment.specs.FramesLeft.{frames_left};
 
     ghost next_gives = { YieldsFirst frames_left };
@@ -170,7 +172,11 @@ impl<'a> Iterator for Segments<'a> {
     }
 
     #[tactic(auto, using(crate::proofs::Frames::count_left))]
-    fn size_hint(&self) -> (usize, Option<usize>) {
+    fn size_hint(&self) -> (usize, Option<usize>)
+        ensures lower { IsWithinCount result.0 (item_count frames_left self.now) }
+        ensures upper { IfSome result.1 (UpTo (item_count frames_left self.now)) }
+        ensures exact { result ≡ (length (frames_left self.now), Some (length (frames_left self.now))) }
+    {
         let left = self.count - self.number;
         (left, Some(left))
     }
