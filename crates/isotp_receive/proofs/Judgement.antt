@@ -24,3 +24,7 @@ by-tests true true true false d s sequence_number bytes = refl
 pub on-judged : (d : Dir) (s : Standing) (micros sequence_number can_dl : ℕ) (bytes : List ℕ)
     → on_consecutive d (Some s) micros sequence_number can_dl bytes ≡ on_judged d s (judged s micros sequence_number can_dl) sequence_number bytes
 on-judged d s micros sequence_number can_dl bytes = by-tests (is_on_time s micros) (sequence_number == expected s) (has_length s can_dl) (wants_more s) d s sequence_number bytes
+
+pub judged-fit : (on_time number fits more : Bool) → on_time ≡ true → number ≡ true → fits ≡ true
+    → cond on_time (cond number (cond fits (cond more judged_as.More judged_as.Last) judged_as.Length) judged_as.Sequence) judged_as.Late ≡ cond more judged_as.More judged_as.Last
+judged-fit on_time number fits more ho hn hf = rw (ho, hn, hf) refl

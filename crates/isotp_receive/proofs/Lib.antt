@@ -3,6 +3,9 @@ pub mod Next
 pub mod Judgement
 pub mod OpenLaws
 pub mod OpenPositions
+pub mod BytesAtPlaces
+pub mod StandingLaws
+pub mod DeliversLaws
 pub mod SaysHeard
 pub mod Places
 pub mod ListPositions

@@ -42,3 +42,6 @@ range-behind before y b rest =
     let size : suc (length before) + length b - (length before + 1) ≡ length b = omega arith in
     ap (take (suc (length before) + length b - (length before + 1))) (drop-behind before y (b ++ rest))
     ∙ ap (λ n. take n (b ++ rest)) size ∙ take_at b rest (length b) refl
+
+pub cons-head : {X : Type 0} {x y : X} {xs ys : List X} → x ∷ xs ≡ y ∷ ys → x ≡ y
+cons-head h = cc

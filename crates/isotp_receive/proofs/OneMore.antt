@@ -113,7 +113,7 @@ role-length d e = cond_both (same_direction d e.dir) _ _ HasItsLength (λ _. own
 pub more : (n a b c : ℕ) → n + a * c ≤ n + (a + b) * c
 more n a b c = omega arith
 
-fits_full : (len rx_dl have can_dl : ℕ) → fits_length len rx_dl have can_dl ≡ true → have + (rx_dl - 1) < len → can_dl ≡ rx_dl
+pub fits_full : (len rx_dl have can_dl : ℕ) → fits_length len rx_dl have can_dl ≡ true → have + (rx_dl - 1) < len → can_dl ≡ rx_dl
 fits_full len rx_dl have can_dl h below =
     let test : nat_lt (have + (rx_dl - 1)) len ≡ true = lt-ltb _ _ below in
     let parts = and_parts (nat_lt have len) _ h in

@@ -7,6 +7,7 @@ use Rattle.can_log.specs.declared.frame.Dir.{Dir}
 use Rattle.isotp_receive.specs.Trace.{Entry, FirstFrame, Role, single, first, consecutive, continue_or_wait, overflow, no_part, role}
 use Rattle.isotp_receive.specs.Places.{consecutive_count}
 use Rattle.isotp_receive.specs.Standing.{carried_after, keeps_by, keep, is_open, Standing, standing_of, since, or_else, stands}
+use Rattle.isotp_receive.proofs.ListPositions.{cons-head}
 use Rattle.isotp_receive.proofs.OneMore.{since-alone}
 
 Each : Dir → FirstFrame → List Entry → List Entry → Type 0
@@ -23,9 +24,6 @@ pub keep-from-each : (d : Dir) (s : FirstFrame) (es : List Entry)
     → ((between after : List Entry) (e : Entry) → es ≡ between ++ e ∷ after → IsTrue (keeps_by d s between e.micros (role d e))) → keep d s [] es ≡ true
 unfolding Each
 keep-from-each d s es h = keep-from d s [] es h
-
-cons-head : {X : Type 0} {x y : X} {xs ys : List X} → x ∷ xs ≡ y ∷ ys → x ≡ y
-cons-head h = cc
 
 cons-tail : {X : Type 0} {x y : X} {xs ys : List X} → x ∷ xs ≡ y ∷ ys → xs ≡ ys
 cons-tail h = cc

@@ -53,12 +53,12 @@ count-exists f r len wide =
 
 -- Behind the first frame e0 that began the reception s.
 module _ (d : Dir) (before : List Entry) (e0 : Entry) (s : FirstFrame) (begins : role d e0 ≡ first s) (n : ℕ) (count : IsConsecutiveCount (bytes_in_first e0.frame.bytes) s.rx_dl s.len n) where
-  size : (k : ℕ) → carried_after s k ≡ bytes_in_first e0.frame.bytes + k * (s.rx_dl - 1)
+  pub size : (k : ℕ) → carried_after s k ≡ bytes_in_first e0.frame.bytes + k * (s.rx_dl - 1)
   size k = (let from = first_from d e0 s begins in let held = from.1 in omega arith)
 
   -- a frame x behind the frames b
   module _ (b : List Entry) (x : Entry) (after : List Entry) where
-    leaves-by : (r : Role) → keeps_by d s b x.micros r ≡ true
+    pub leaves-by : (r : Role) → keeps_by d s b x.micros r ≡ true
         → LeavesOpen s (bytes_in_first e0.frame.bytes) n (consecutive_count d b) (IsOnTime (before ++ e0 ∷ (b ++ x ∷ after)) d (length before) (suc (length before) + length b) x) r
     leaves-by (consecutive sequence_number can_dl bytes) h =
         let on = and_parts (nat_le x.micros (reference d s.micros b + n_cr)) _ h in
@@ -86,25 +86,25 @@ module _ (d : Dir) (before : List Entry) (e0 : Entry) (s : FirstFrame) (begins :
     keeps-from overflow below h = lt-ltb 0 (consecutive_count d b) h
     keeps-from no_part below h = refl
 
-at-of : (T before after : List Entry) (c : ℕ) (x : Entry) → T ≡ before ++ x ∷ after → c ≡ length before → At T c x
+pub at-of : (T before after : List Entry) (c : ℕ) (x : Entry) → T ≡ before ++ x ∷ after → c ≡ length before → At T c x
 at-of T before after c x split size = rw (split, size) (at_here before after x)
 
 -- the same said of the same frame in another spelling of the trace
-same-leaves : (d : Dir) (s : FirstFrame) (f n i i' j j' c c' : ℕ) (T T' : List Entry) (x : Entry) (r : Role) → j ≡ j' → T ≡ T' → i ≡ i' → c ≡ c'
+pub same-leaves : (d : Dir) (s : FirstFrame) (f n i i' j j' c c' : ℕ) (T T' : List Entry) (x : Entry) (r : Role) → j ≡ j' → T ≡ T' → i ≡ i' → c ≡ c'
     → LeavesOpen s f n j (IsOnTime T d i c x) r → LeavesOpen s f n j' (IsOnTime T' d i' c' x) r
 same-leaves d s f n i i' j j' c c' T T' x r ej et ei ec h =
     subst (λ z. LeavesOpen s f n z (IsOnTime T' d i' c' x) r) ej (subst (λ z. LeavesOpen s f n j (IsOnTime z d i' c' x) r) et
     (subst (λ z. LeavesOpen s f n j (IsOnTime T d z c' x) r) ei (subst (λ z. LeavesOpen s f n j (IsOnTime T d i z x) r) ec h)))
 
 -- a frame that stands behind another one of the first of two lists
-record Behind (before : List Entry) (e0 : Entry) (since rest : List Entry) (c : ℕ) (x : Entry) : Type 0 where
-  b : List Entry
-  after : List Entry
-  splits : since ≡ b ++ x ∷ after
-  place : c ≡ suc (length before) + length b
-  whole : before ++ e0 ∷ (since ++ rest) ≡ before ++ e0 ∷ (b ++ x ∷ (after ++ rest))
+pub record Behind (before : List Entry) (e0 : Entry) (since rest : List Entry) (c : ℕ) (x : Entry) : Type 0 where
+  pub b : List Entry
+  pub after : List Entry
+  pub splits : since ≡ b ++ x ∷ after
+  pub place : c ≡ suc (length before) + length b
+  pub whole : before ++ e0 ∷ (since ++ rest) ≡ before ++ e0 ∷ (b ++ x ∷ (after ++ rest))
 
-behind : (before : List Entry) (e0 : Entry) (since rest : List Entry) (c : ℕ) (x : Entry) → length before < c → c < suc (length before) + length since
+pub behind : (before : List Entry) (e0 : Entry) (since rest : List Entry) (c : ℕ) (x : Entry) → length before < c → c < suc (length before) + length since
     → At (before ++ e0 ∷ (since ++ rest)) c x → Behind before e0 since rest c x
 behind before e0 since rest c x later within at =
     let regroup : before ++ e0 ∷ (since ++ rest) ≡ (before ++ e0 ∷ since) ++ rest = sym (append_assoc before (e0 ∷ since) rest) in
@@ -117,7 +117,7 @@ behind before e0 since rest c x later within at =
     }
 
 -- what stands is open at its place, whatever follows
-pub open-there : (limit : ℕ) (d : Dir) (before : List Entry) (e0 : Entry) (s : FirstFrame) (since rest : List Entry) → role d e0 ≡ first s → is_open limit d s since ≡ true
+unfoldable pub open-there : (limit : ℕ) (d : Dir) (before : List Entry) (e0 : Entry) (s : FirstFrame) (since rest : List Entry) → role d e0 ≡ first s → is_open limit d s since ≡ true
     → IsOpenAt limit (before ++ e0 ∷ (since ++ rest)) d (length before) (consecutive_count d since) (suc (length before) + length since)
 open-there limit d before e0 s since rest begins opens =
     let parts = and_parts (nat_le s.len limit) _ opens in

@@ -153,32 +153,29 @@ fn times_at_both_ends(rt: HostRuntime) -> Result<(), Fail> {
 fn sequence_error_ends_the_reception(rt: HostRuntime) -> Result<(), Fail> {
     let alloc = rt.alloc();
     let message = part(alloc, &[], 0, 130)?;
-    let first = part(alloc, &[0x10, 130], 0, 8)?;
-    let begun = [
-        Step(0, Unit, &first, told(Verdict::Began)),
-        Step(0, Tester, CONTINUE, told(Verdict::Flow)),
-    ];
-    let whole = told(Verdict::Message(&message));
+    let first = frame(&part(alloc, &[0x10, 130], 0, 8)?)?;
+    let flow = frame(CONTINUE)?;
     let wrong = Reason::NextSequence {
         expected: 0,
         found: 15,
     };
     for repeats in [false, true] {
-        let mut pair = follow(&rt, alloc, "begun", &begun)?;
+        let mut pair = Pair::new(alloc)?;
+        assert_eq!(rt; pair.accept(1, 0, Unit, &first), told(Verdict::Began));
+        assert_eq!(rt; pair.accept(2, 0, Tester, &flow), told(Verdict::Flow));
         for number in 1..19_usize {
             let data = part(alloc, &[(0x20 + number % 16) as u8], 7 * number - 1, 8)?;
             let frame = frame(&data)?;
             let line = number as u64 + 2;
-            let wanted = match number {
-                16.. if repeats => dropped(Reason::NextUnexpected),
-                18 => whole,
-                _ => told(Verdict::Stored),
+            let wanted = if repeats && number > 15 {
+                Verdict::Dropped(Reason::NextUnexpected)
+            } else if number == 18 {
+                Verdict::Message(&message)
+            } else {
+                Verdict::Stored
             };
-            assert_eq!(rt;
-                pair.accept(line, 0, Unit, &frame),
-                wanted,
-                "number {number}"
-            );
+            let event = pair.accept(line, 0, Unit, &frame);
+            assert_eq!(rt; event, told(wanted), "number {number}");
             if repeats && number == 15 {
                 let wanted = refuses(Cause::Sequence, 130, wrong);
                 assert_eq!(rt; pair.accept(18, 0, Unit, &frame), wanted, "repeated");
@@ -229,13 +226,14 @@ fn directions_are_received_apart(rt: HostRuntime) -> Result<(), Fail> {
     let unit_last = part(alloc, &[0x21], 62, 48)?;
     let tester_first = part(alloc, &[0x10, 10], 0, 8)?;
     let tester_last = part(alloc, &[0x21], 6, 5)?;
+    let whole = |message| told(Verdict::Message(message));
     let steps = [
         Step(0, Tester, &tester_first, told(Verdict::Began)),
         Step(0, Unit, &unit_first, told(Verdict::Began)),
         Step(0, Unit, CONTINUE, told(Verdict::Flow)),
         Step(0, Tester, CONTINUE, told(Verdict::Flow)),
-        Step(0, Unit, &unit_last, told(Verdict::Message(&unit))),
-        Step(0, Tester, &tester_last, told(Verdict::Message(&tester))),
+        Step(0, Unit, &unit_last, whole(&unit)),
+        Step(0, Tester, &tester_last, whole(&tester)),
     ];
     follow(&rt, alloc, "both at once", &steps)?;
     Ok(())
