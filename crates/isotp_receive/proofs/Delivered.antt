@@ -8,7 +8,7 @@ use Rattle.isotp_receive.specs.Trace.{Entry, role, same_direction, At}
 use Rattle.isotp_receive.specs.Verdict.{messages}
 use Rattle.isotp_receive.specs.Recording.{IsRisingFrom, Carries, Transfer, IsTransfer, IsIn, last_or, AllBefore, AreApart, EachPair, IsGiven, IsRecording, ended_within}
 use Rattle.isotp_receive.proofs.Carried.{IsQuiet, flat, placed_of, Goods, Cover, direction-heard}
-use Rattle.isotp_receive.proofs.SaysHeard.{same}
+use Rattle.isotp_receive.proofs.HeardByRole.{same}
 use Rattle.isotp_receive.proofs.PositionLists.{in-append, in-left, in-right, rising-append, last-is-in}
 use Rattle.isotp_receive.proofs.OwnFrames.{own-other, carries-own, idle-quiet}
 use Rattle.isotp_receive.proofs.Told.{Placed, side, all_told, Rise, heard-side, pair, messages-told, told-rise, merge, messages-append, told_within, told-take}

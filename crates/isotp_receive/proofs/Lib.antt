@@ -6,7 +6,7 @@ pub mod OpenPositions
 pub mod BytesAtPlaces
 pub mod StandingLaws
 pub mod DeliversLaws
-pub mod SaysHeard
+pub mod HeardByRole
 pub mod Places
 pub mod ListPositions
 pub mod References

@@ -11,7 +11,7 @@ use Rattle.isotp_receive.specs.Trace.{Entry, FirstFrame, Role, single, first, co
 use Rattle.isotp_receive.specs.Recording.{IsConsecutiveFrame, EachNumbered, Carries, unsegmented, segmented, IsIn, IsIdle}
 use Rattle.isotp_receive.proofs.Carried.{IsQuiet}
 use Rattle.isotp_receive.proofs.References.{at-same}
-use Rattle.isotp_receive.proofs.SaysHeard.{same}
+use Rattle.isotp_receive.proofs.HeardByRole.{same}
 
 -- what a message's frame is to the other direction
 abbrev pub IsOwn : Role → Type 0

@@ -9,7 +9,8 @@ use Rattle.can_log.specs.declared.frame.Dir.TheVariants.{Tester, Unit}
 use Rattle.isotp_receive.specs.Trace.{Entry, same_direction}
 use Rattle.isotp_receive.specs.Verdict.{Told, message, began, stored, flowed, dropped, verdict, told_message, messages_after}
 use Rattle.isotp_receive.specs.Heard.{placed, heard}
-use Rattle.isotp_receive.proofs.SaysHeard.{same}
+use Rattle.isotp_receive.proofs.ListPositions.{cons-head}
+use Rattle.isotp_receive.proofs.HeardByRole.{same}
 
 pub self : (d : Dir) → same_direction d d ≡ true
 self Tester = refl
@@ -83,9 +84,6 @@ one-rise n x (dropped r) xs h = weaken n (suc n) xs (omega arith) h
 pub told-rise : (limit n : ℕ) (past es : List Entry) → Rise n (all_told limit n past es)
 told-rise limit n past [] = tt
 told-rise limit n past (e ∷ es) = one-rise n e.dir (verdict limit past e).told _ (told-rise limit (suc n) (past ++ e ∷ []) es)
-
-cons-head : {X : Type 0} {x y : X} {xs ys : List X} → x ∷ xs ≡ y ∷ ys → x ≡ y
-cons-head h = cc
 
 same-placed : (x y : Placed) → x.dir ≡ y.dir → ◌≡◌ {A = ℕ × List ℕ} (x.place, x.message) (y.place, y.message) → x ≡ y
 same-placed x y d h =
