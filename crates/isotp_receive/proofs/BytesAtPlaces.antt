@@ -47,16 +47,34 @@ pub record CarriesByte (d : Dir) (es : List Entry) (w q b : ℕ) : Type 0 where
 
 carries-later : (d : Dir) (x : Entry) (es : List Entry) (w q b : ℕ) → carried_by (role d x) ≡ [] → consecutive_by (role d x) ≡ 0 → CarriesByte d es w q b → CarriesByte d (x ∷ es) w q b
 carries-later d x es w q b none zero_by h = record {
-  carrier = record { b = x ∷ h.carrier.b; x = h.carrier.x; after = h.carrier.after; sequence_number = h.carrier.sequence_number; can_dl = h.carrier.can_dl; bytes = h.carrier.bytes;
-    splits = ap (λ l. x ∷ l) h.carrier.splits; kind = h.carrier.kind; number = (let n = h.carrier.number in omega arith) };
+  carrier = record {
+    b = x ∷ h.carrier.b;
+    x = h.carrier.x;
+    after = h.carrier.after;
+    sequence_number = h.carrier.sequence_number;
+    can_dl = h.carrier.can_dl;
+    bytes = h.carrier.bytes;
+    splits = ap (λ l. x ∷ l) h.carrier.splits;
+    kind = h.carrier.kind;
+    number = (let n = h.carrier.number in omega arith);
+  };
   byte = ap (λ c. get_or (c ++ carried d es) (q * w + b) 0) none ∙ h.byte;
 }
 
 carries-behind : (d : Dir) (x : Entry) (es : List Entry) (w q b sequence_number can_dl : ℕ) (bytes : List ℕ) → role d x ≡ consecutive sequence_number can_dl bytes → length bytes ≡ w
     → CarriesByte d es w q b → CarriesByte d (x ∷ es) w (suc q) b
 carries-behind d x es w q b sequence_number can_dl bytes kind size h = record {
-  carrier = record { b = x ∷ h.carrier.b; x = h.carrier.x; after = h.carrier.after; sequence_number = h.carrier.sequence_number; can_dl = h.carrier.can_dl; bytes = h.carrier.bytes;
-    splits = ap (λ l. x ∷ l) h.carrier.splits; kind = h.carrier.kind; number = (let n = h.carrier.number in let one : consecutive_by (role d x) ≡ 1 = ap consecutive_by kind in omega arith) };
+  carrier = record {
+    b = x ∷ h.carrier.b;
+    x = h.carrier.x;
+    after = h.carrier.after;
+    sequence_number = h.carrier.sequence_number;
+    can_dl = h.carrier.can_dl;
+    bytes = h.carrier.bytes;
+    splits = ap (λ l. x ∷ l) h.carrier.splits;
+    kind = h.carrier.kind;
+    number = (let n = h.carrier.number in let one : consecutive_by (role d x) ≡ 1 = ap consecutive_by kind in omega arith);
+  };
   byte =
       let place : suc q * w + b ≡ length bytes + (q * w + b) = (let one : suc q ≡ q + 1 = omega arith in let product = ap (λ j. j * w) one in omega arith) in
       ap (λ r. get_or (carried_by r ++ carried d es) (suc q * w + b) 0) kind ∙ ap (λ j. get_or (bytes ++ carried d es) j 0) place
@@ -68,7 +86,7 @@ carries-here : (d : Dir) (x : Entry) (es : List Entry) (w b sequence_number can_
 carries-here d x es w b sequence_number can_dl bytes kind inside = record {
   carrier = record { b = []; x = x; after = es; sequence_number = sequence_number; can_dl = can_dl; bytes = bytes; splits = refl; kind = kind; number = refl };
   byte = (let place : 0 * w + b ≡ b = omega arith in
-    ap (λ r. get_or (carried_by r ++ carried d es) (0 * w + b) 0) kind ∙ ap (λ j. get_or (bytes ++ carried d es) j 0) place ∙ get_or_append_left bytes (carried d es) 0 b inside);
+      ap (λ r. get_or (carried_by r ++ carried d es) (0 * w + b) 0) kind ∙ ap (λ j. get_or (bytes ++ carried d es) j 0) place ∙ get_or_append_left bytes (carried d es) 0 b inside);
 }
 
 carries : (d : Dir) (w : ℕ) (es : List Entry) (q b : ℕ) → AllFull d w es → b < w → q < consecutive_count d es → CarriesByte d es w q b
@@ -103,9 +121,9 @@ all-full d s es kept room b after x sequence_number can_dl bytes splits kind =
 
 product-below : (q k b w : ℕ) → q * w + b < k * w → q < k
 product-below q k b w h = elim (cases_Bool (nat_lt q k)) [
-    | inl t ↦ ltb-true q k t
-    | inr t ↦ (let over = ltb-false q k t in let sum : q ≡ k + (q - k) = omega arith in let product = ap (λ j. j * w) sum in absurd (omega arith))
-  ]
+  | inl t ↦ ltb-true q k t
+  | inr t ↦ (let over = ltb-false q k t in let sum : q ≡ k + (q - k) = omega arith in let product = ap (λ j. j * w) sum in absurd (omega arith))
+]
 
 -- what has come stands at its places
 module _ (limit : ℕ) (d : Dir) (before : List Entry) (e0 : Entry) (s : FirstFrame) (since rest : List Entry) (begins : role d e0 ≡ first s) (opens : is_open limit d s since ≡ true) where
@@ -128,8 +146,8 @@ module _ (limit : ℕ) (d : Dir) (before : List Entry) (e0 : Entry) (s : FirstFr
         stands = at-of (before ++ e0 ∷ (since ++ rest)) (before ++ e0 ∷ h.b) (h.after ++ rest) (suc (length before) + length h.b) h.x (split ∙ regroup) (omega (arith, length-append before (e0 ∷ h.b)));
         kind = ap consecutive_by h.kind;
         number = (let here : between (before ++ e0 ∷ (since ++ rest)) (length before) (suc (length before) + length h.b) ≡ h.b =
-          ap (λ l. between l (length before) (suc (length before) + length h.b)) split ∙ range-behind before e0 h.b (h.x ∷ (h.after ++ rest)) in
-          let count = ap (consecutive_count d) here in let n = h.number in omega arith);
+            ap (λ l. between l (length before) (suc (length before) + length h.b)) split ∙ range-behind before e0 h.b (h.x ∷ (h.after ++ rest)) in
+            let count = ap (consecutive_count d) here in let n = h.number in omega arith);
       }
 
   pub come-at : AtPlaces (before ++ e0 ∷ (since ++ rest)) d (length before) e0 s.rx_dl (s.bytes ++ carried d since)
@@ -140,15 +158,18 @@ module _ (limit : ℕ) (d : Dir) (before : List Entry) (e0 : Entry) (s : FirstFr
       record {
         in_first = λ x inside below. get_or_append_left s.bytes (carried d since) 0 x (omega arith) ∙ ap (λ l. get_or l x 0) from.0 ∙ get_or-drop (s.rx_dl - bytes_in_first e0.frame.bytes) e0.frame.bytes x 0;
         in_consecutive = λ q b wide inside.
-          let full = full_of d s since kept room in
-          let size = length-append s.bytes (carried d since) in
-          let below = product-below q (consecutive_count d since) b (s.rx_dl - 1) (omega arith) in
-          let h = carries d (s.rx_dl - 1) since q b (all-full d s since kept room) wide below in
-          let place : bytes_in_first e0.frame.bytes + (q * (s.rx_dl - 1) + b) ≡ length s.bytes + (q * (s.rx_dl - 1) + b) = omega arith in
-          let held_by = next_from d h.carrier.x h.carrier.sequence_number h.carrier.can_dl h.carrier.bytes h.carrier.kind in
-          (suc (length before) + length h.carrier.b, h.carrier.x, number-at q h.carrier,
-           ap (λ j. get_or (s.bytes ++ carried d since) j 0) place ∙ get_or-append-add s.bytes (carried d since) (q * (s.rx_dl - 1) + b) 0 ∙ h.byte
-           ∙ ap (λ l. get_or l b 0) held_by.0 ∙ get_or_after_one h.carrier.x.frame.bytes b 0);
+            let full = full_of d s since kept room in
+            let size = length-append s.bytes (carried d since) in
+            let below = product-below q (consecutive_count d since) b (s.rx_dl - 1) (omega arith) in
+            let h = carries d (s.rx_dl - 1) since q b (all-full d s since kept room) wide below in
+            let place : bytes_in_first e0.frame.bytes + (q * (s.rx_dl - 1) + b) ≡ length s.bytes + (q * (s.rx_dl - 1) + b) = omega arith in
+            let held_by = next_from d h.carrier.x h.carrier.sequence_number h.carrier.can_dl h.carrier.bytes h.carrier.kind in (
+              suc (length before) + length h.carrier.b,
+              h.carrier.x,
+              number-at q h.carrier,
+              ap (λ j. get_or (s.bytes ++ carried d since) j 0) place ∙ get_or-append-add s.bytes (carried d since) (q * (s.rx_dl - 1) + b) 0 ∙ h.byte
+                  ∙ ap (λ l. get_or l b 0) held_by.0 ∙ get_or_after_one h.carrier.x.frame.bytes b 0,
+            );
       }
 
 -- the message that the last frame completes stands at its places
@@ -168,8 +189,8 @@ module _ (limit : ℕ) (d : Dir) (before : List Entry) (e0 : Entry) (s : FirstFr
       let size = have in
       record {
         in_first = λ x inside below.
-          let early : x < length (s.bytes ++ carried d since) = omega arith in
-          get_or-take s.len ((s.bytes ++ carried d since) ++ bytes) x 0 (omega arith) ∙ get_or_append_left (s.bytes ++ carried d since) bytes 0 x early ∙ come.in_first x early below;
+            let early : x < length (s.bytes ++ carried d since) = omega arith in
+            get_or-take s.len ((s.bytes ++ carried d since) ++ bytes) x 0 (omega arith) ∙ get_or_append_left (s.bytes ++ carried d since) bytes 0 x early ∙ come.in_first x early below;
         in_consecutive = λ q b wide inside. elim (cases_Bool (nat_lt q k)) [
           | inl t ↦ (let less = ltb-true q k t in
               let sum : k ≡ q + 1 + (k - q - 1) = omega arith in
@@ -184,16 +205,18 @@ module _ (limit : ℕ) (d : Dir) (before : List Entry) (e0 : Entry) (s : FirstFr
               let product = ap (λ j. j * w) same in
               let place : bytes_in_first e0.frame.bytes + (q * w + b) ≡ length (s.bytes ++ carried d since) + b = omega arith in
               let held_by = next_from d last sequence_number can_dl bytes goes in
-              let regroup : before ++ e0 ∷ (since ++ last ∷ rest) ≡ (before ++ e0 ∷ since) ++ last ∷ rest = sym (append_assoc before (e0 ∷ since) (last ∷ rest)) in
-              (suc (length before) + length since, last,
-               record {
-                 later = omega arith;
-                 stands = at-of (before ++ e0 ∷ (since ++ last ∷ rest)) (before ++ e0 ∷ since) rest (suc (length before) + length since) last regroup (omega (arith, length-append before (e0 ∷ since)));
-                 kind = ap consecutive_by goes;
-                 number = (let count = ap (consecutive_count d) (range-behind before e0 since (last ∷ rest)) in omega arith);
-               },
-               get_or-take s.len ((s.bytes ++ carried d since) ++ bytes) _ 0 (omega arith) ∙ ap (λ j. get_or ((s.bytes ++ carried d since) ++ bytes) j 0) place
-               ∙ get_or-append-add (s.bytes ++ carried d since) bytes b 0 ∙ ap (λ l. get_or l b 0) held_by.0 ∙ get_or_after_one last.frame.bytes b 0))
+              let regroup : before ++ e0 ∷ (since ++ last ∷ rest) ≡ (before ++ e0 ∷ since) ++ last ∷ rest = sym (append_assoc before (e0 ∷ since) (last ∷ rest)) in (
+                suc (length before) + length since,
+                last,
+                record {
+                  later = omega arith;
+                  stands = at-of (before ++ e0 ∷ (since ++ last ∷ rest)) (before ++ e0 ∷ since) rest (suc (length before) + length since) last regroup (omega (arith, length-append before (e0 ∷ since)));
+                  kind = ap consecutive_by goes;
+                  number = (let count = ap (consecutive_count d) (range-behind before e0 since (last ∷ rest)) in omega arith);
+                },
+                get_or-take s.len ((s.bytes ++ carried d since) ++ bytes) _ 0 (omega arith) ∙ ap (λ j. get_or ((s.bytes ++ carried d since) ++ bytes) j 0) place
+                    ∙ get_or-append-add (s.bytes ++ carried d since) bytes b 0 ∙ ap (λ l. get_or l b 0) held_by.0 ∙ get_or_after_one last.frame.bytes b 0,
+              ))
         ];
       }
 
@@ -219,29 +242,31 @@ number-rises T d i k c k' c' x x' h g less =
 
 same-number : (T : List Entry) (d : Dir) (i k c c' : ℕ) (x x' : Entry) → IsConsecutive T d i k c x → IsConsecutive T d i k c' x' → x ≡ x'
 same-number T d i k c c' x x' h g = elim (cases_Bool (nat_lt c c')) [
-    | inl t ↦ absurd (let less = number-rises T d i k c k c' x x' h g (ltb-true c c' t) in omega arith)
-    | inr t ↦ elim (cases_Bool (nat_lt c' c)) [
-      | inl u ↦ absurd (let less = number-rises T d i k c' k c x' x g h (ltb-true c' c u) in omega arith)
-      | inr u ↦ (let a = ltb-false c c' t in let b = ltb-false c' c u in let same : c ≡ c' = omega arith in
-          at-same T c x x' h.stands (subst (λ j. At T j x') (sym same) g.stands))
-    ]
+  | inl t ↦ absurd (let less = number-rises T d i k c k c' x x' h g (ltb-true c c' t) in omega arith)
+  | inr t ↦ elim (cases_Bool (nat_lt c' c)) [
+    | inl u ↦ absurd (let less = number-rises T d i k c' k c x' x g h (ltb-true c' c u) in omega arith)
+    | inr u ↦ (let a = ltb-false c c' t in let b = ltb-false c' c u in let same : c ≡ c' = omega arith in
+        at-same T c x x' h.stands (subst (λ j. At T j x') (sym same) g.stands))
   ]
+]
 
 -- a message is fixed by its places
 pub same-message : (T : List Entry) (d : Dir) (i : ℕ) (e : Entry) (r : ℕ) (m n : List ℕ) → 2 ≤ r → AtPlaces T d i e r m → AtPlaces T d i e r n → length m ≡ length n → m ≡ n
 same-message T d i e r m n wide a b size = ext_get_or 0 m n size (λ x inside. by_place x inside) where
   f : ℕ
   f = bytes_in_first e.frame.bytes
+
   in_frames : (x q t : ℕ) → x < length m → t < r - 1 → x ≡ bytes_in_first e.frame.bytes + (q * (r - 1) + t) → get_or m x 0 ≡ get_or n x 0
   in_frames x q t inside less place =
       let one = a.in_consecutive q t less (omega arith) in
       let two = b.in_consecutive q t less (omega arith) in
       let frame : one.1 ≡ two.1 = same-number T d i (q + 1) one.0 two.0 one.1 two.1 one.2 two.2 in
       ap (λ j. get_or m j 0) place ∙ one.3 ∙ ap (λ y. slice_index y.frame.bytes (1 + t)) frame ∙ sym two.3 ∙ ap (λ j. get_or n j 0) (sym place)
+
   by_place : (x : ℕ) → x < length m → get_or m x 0 ≡ get_or n x 0
   by_place x inside = elim (cases_Bool (nat_lt x (bytes_in_first e.frame.bytes))) [
-      | inl t ↦ (let less = ltb-true x (bytes_in_first e.frame.bytes) t in a.in_first x inside less ∙ sym (b.in_first x (omega arith) less))
-      | inr t ↦ (let over = ltb-false x (bytes_in_first e.frame.bytes) t in
-          let parts = div-add-mod' (x - bytes_in_first e.frame.bytes) (r - 1) in
-          in_frames x ((x - bytes_in_first e.frame.bytes) / (r - 1)) ((x - bytes_in_first e.frame.bytes) % (r - 1)) inside (mod-lt (x - bytes_in_first e.frame.bytes) (omega arith)) (omega arith))
-    ]
+    | inl t ↦ (let less = ltb-true x (bytes_in_first e.frame.bytes) t in a.in_first x inside less ∙ sym (b.in_first x (omega arith) less))
+    | inr t ↦ (let over = ltb-false x (bytes_in_first e.frame.bytes) t in
+        let parts = div-add-mod' (x - bytes_in_first e.frame.bytes) (r - 1) in
+        in_frames x ((x - bytes_in_first e.frame.bytes) / (r - 1)) ((x - bytes_in_first e.frame.bytes) % (r - 1)) inside (mod-lt (x - bytes_in_first e.frame.bytes) (omega arith)) (omega arith))
+  ]

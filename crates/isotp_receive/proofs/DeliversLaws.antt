@@ -56,7 +56,7 @@ module _ (limit : ℕ) (d : Dir) (before : List Entry) (e0 : Entry) (s : FirstFr
   kept : (keep d s [] since ≡ true) × (carried_after s (consecutive_count d since) < s.len)
   kept = (let more = and_parts (nat_lt (carried_after s (consecutive_count d since)) s.len) _ (and_parts (nat_le s.len limit) _ opens).1 in (more.1, ltb-true _ _ more.0))
 
-  have : length (s.bytes ++ carried d since) ≡ bytes_before (bytes_in_first e0.frame.bytes) s.rx_dl (consecutive_count d since)
+  pub have : length (s.bytes ++ carried d since) ≡ bytes_before (bytes_in_first e0.frame.bytes) s.rx_dl (consecutive_count d since)
   have = (let from = first_from d e0 s begins in let held = from.1 in let full = full_of d s since kept.0 kept.1 in omega (arith, length-append s.bytes (carried d since)))
 
   completes : judged (standing_of d s since) last.micros sequence_number can_dl ≡ judged_as.Last
@@ -83,7 +83,14 @@ module _ (limit : ℕ) (d : Dir) (before : List Entry) (e0 : Entry) (s : FirstFr
       let enough : s.len ≤ length (s.bytes ++ carried d since) + length bytes = omega arith in
       let regroup : before ++ e0 ∷ (since ++ last ∷ rest) ≡ (before ++ e0 ∷ since) ++ last ∷ rest = sym (append_assoc before (e0 ∷ since) (last ∷ rest)) in
       record {
-        i = length before; k = k; is_open = o; last = n_is; frame = last; sequence_number = sequence_number; can_dl = can_dl; bytes = bytes;
+        i = length before;
+        k = k;
+        is_open = o;
+        last = n_is;
+        frame = last;
+        sequence_number = sequence_number;
+        can_dl = can_dl;
+        bytes = bytes;
         stands = at-of (before ++ e0 ∷ (since ++ last ∷ rest)) (before ++ e0 ∷ since) rest (suc (length before) + length since) last regroup (omega (arith, length-append before (e0 ∷ since)));
         kind = goes;
         fits = record { number = w.1; full = λ less. absurd (omega arith); last_low = λ same. omega arith; last_high = λ same. high };
@@ -104,8 +111,8 @@ delivered limit T d e m ms (consecutive sequence_number can_dl bytes) (Some st) 
     let c = completes limit d w.before w.e w.s w.since [] w.begins w.opens e sequence_number can_dl bytes is j in
     let is_m : take w.s.len ((w.s.bytes ++ carried d w.since) ++ bytes) ≡ m = ap (λ x. take x.len (x.bytes ++ bytes)) (sym w.is) ∙ l.1 in
     in_frames (subst (Completes limit (T ++ e ∷ []) (length T) d) is_m
-      (subst (λ p. Completes limit (T ++ e ∷ []) p d (take w.s.len ((w.s.bytes ++ carried d w.since) ++ bytes))) (ends-at T w.before w.since w.e w.splits)
-      (subst (λ t. Completes limit t (suc (length w.before) + length w.since) d (take w.s.len ((w.s.bytes ++ carried d w.since) ++ bytes))) (regrouped T (e ∷ []) w.before w.since w.e w.splits) c)))
+    (subst (λ p. Completes limit (T ++ e ∷ []) p d (take w.s.len ((w.s.bytes ++ carried d w.since) ++ bytes))) (ends-at T w.before w.since w.e w.splits)
+    (subst (λ t. Completes limit t (suc (length w.before) + length w.since) d (take w.s.len ((w.s.bytes ++ carried d w.since) ++ bytes))) (regrouped T (e ∷ []) w.before w.since w.e w.splits) c)))
 delivered limit T d e m ms (first s) o is now h = absurd (cc)
 delivered limit T d e m ms continue_or_wait o is now h = absurd (cc)
 delivered limit T d e m ms overflow o is now h = absurd (cc)
@@ -131,12 +138,12 @@ completed-in limit T d e m c =
     let below : consecutive_count d since < o.n = omega arith in
     let product = ap (λ j. j * (s.rx_dl - 1)) taken in
     let fit = (fits-join (bytes_in_first o.frame.frame.bytes) s.rx_dl s.len o.n (consecutive_count d since) c.sequence_number c.can_dl o.count below).0
-      (subst (λ k. FitsAs (bytes_in_first o.frame.frame.bytes) s.rx_dl s.len o.n (k + 1) c.sequence_number c.can_dl) taken c.fits) in
+    (subst (λ k. FitsAs (bytes_in_first o.frame.frame.bytes) s.rx_dl s.len o.n (k + 1) c.sequence_number c.can_dl) taken c.fits) in
     let on : IsOnTime (before ++ o.frame ∷ (since ++ e ∷ [])) d (length before) (suc (length before) + length since) e =
-      subst (λ x. IsOnTime (before ++ o.frame ∷ (since ++ e ∷ [])) d (length before) (suc (length before) + length since) x) is_e
-      (subst (λ p. IsOnTime (before ++ o.frame ∷ (since ++ e ∷ [])) d (length before) p c.frame) (sym (ends-at T before since o.frame w.2))
-      (subst (λ i. IsOnTime (before ++ o.frame ∷ (since ++ e ∷ [])) d i (length T) c.frame) (sym w.3)
-      (subst (λ t. IsOnTime t d c.i (length T) c.frame) whole c.on_time))) in
+    subst (λ x. IsOnTime (before ++ o.frame ∷ (since ++ e ∷ [])) d (length before) (suc (length before) + length since) x) is_e
+    (subst (λ p. IsOnTime (before ++ o.frame ∷ (since ++ e ∷ [])) d (length before) p c.frame) (sym (ends-at T before since o.frame w.2))
+    (subst (λ i. IsOnTime (before ++ o.frame ∷ (since ++ e ∷ [])) d i (length T) c.frame) (sym w.3)
+    (subst (λ t. IsOnTime t d c.i (length T) c.frame) whole c.on_time))) in
     let on_time = on-time-to _ d (length before) _ (reference d s.micros since) e (refers d before o.frame s since (e ∷ []) o.kind) on in
     let all : o.n ≡ consecutive_count d since + 1 = omega arith in
     let product_all = ap (λ j. j * (s.rx_dl - 1)) all in
@@ -145,16 +152,16 @@ completed-in limit T d e m c =
     let short : st.len ≤ length st.bytes + (st.rx_dl - 1) = omega arith in
     let fits : has_length st c.can_dl ≡ true = subst (λ h. fits_length s.len s.rx_dl h c.can_dl ≡ true) (sym size) fit.1 in
     let j : judged st e.micros c.sequence_number c.can_dl ≡ judged_as.Last =
-      judged-fit (is_on_time st e.micros) (c.sequence_number == expected st) (has_length st c.can_dl) (wants_more st) on_time (eq-eqb _ _ fit.0) fits
-      ∙ ap (λ b. cond b judged_as.More judged_as.Last) (le-ltb _ _ short) in
+    judged-fit (is_on_time st e.micros) (c.sequence_number == expected st) (has_length st c.can_dl) (wants_more st) on_time (eq-eqb _ _ fit.0) fits
+    ∙ ap (λ b. cond b judged_as.More judged_as.Last) (le-ltb _ _ short) in
     let got = completes limit d before o.frame s since [] o.kind opens e c.sequence_number c.can_dl c.bytes goes j in
     let from = first_from d o.frame s o.kind in
     let eight = from.3 in
     let places : AtPlaces (before ++ o.frame ∷ (since ++ e ∷ [])) d (length before) o.frame s.rx_dl m =
-      subst (λ i. AtPlaces (before ++ o.frame ∷ (since ++ e ∷ [])) d i o.frame s.rx_dl m) (sym w.3) (subst (λ t. AtPlaces t d c.i o.frame s.rx_dl m) whole c.places) in
+    subst (λ i. AtPlaces (before ++ o.frame ∷ (since ++ e ∷ [])) d i o.frame s.rx_dl m) (sym w.3) (subst (λ t. AtPlaces t d c.i o.frame s.rx_dl m) whole c.places) in
     let same : take s.len ((s.bytes ++ carried d since) ++ c.bytes) ≡ m =
-      same-message (before ++ o.frame ∷ (since ++ e ∷ [])) d (length before) o.frame s.rx_dl (take s.len ((s.bytes ++ carried d since) ++ c.bytes)) m (omega arith)
-      got.places places (got.size ∙ sym c.size) in
+    same-message (before ++ o.frame ∷ (since ++ e ∷ [])) d (length before) o.frame s.rx_dl (take s.len ((s.bytes ++ carried d since) ++ c.bytes)) m (omega arith)
+    got.places places (got.size ∙ sym c.size) in
     ap (λ x. completed x e.micros (role d e)) now ∙ ap (completed (Some st) e.micros) goes ∙ ap (λ j. completed_by j st c.bytes) j ∙ ap (λ x. x ∷ []) same
 
 completed-all : (limit : ℕ) (T : List Entry) (d : Dir) (e : Entry) (m : List ℕ) → Delivers limit (T ++ e ∷ []) (length T) d m → completed (stands limit d T) e.micros (role d e) ≡ m ∷ []
@@ -170,5 +177,6 @@ message-delivers limit T e m = (to, from) where
   to h =
       let w = place-message (completed (stands limit e.dir T) e.micros (role e.dir e)) m (sym (told-at limit T e) ∙ ap (placed 0) h) in
       delivered limit T e.dir e m w.0 (role e.dir e) (stands limit e.dir T) refl refl w.1
+
   from : Delivers limit (T ++ e ∷ []) (length T) e.dir m → (verdict limit T e).told ≡ message m
   from h = placed-message (verdict limit T e).told m (told-at limit T e ∙ ap (at_place 0) (completed-all limit T e.dir e m h))

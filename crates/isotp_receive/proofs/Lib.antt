@@ -7,6 +7,7 @@ pub mod BytesAtPlaces
 pub mod StandingLaws
 pub mod DeliversLaws
 pub mod HeardByRole
+pub mod VerdictLaws
 pub mod Places
 pub mod ListPositions
 pub mod References

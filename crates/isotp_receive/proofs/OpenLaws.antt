@@ -70,9 +70,9 @@ pub record Found (limit : ℕ) (d : Dir) (T : List Entry) (st : Standing) : Type
 
 found-here : (limit : ℕ) (d : Dir) (e : Entry) (es : List Entry) (r : Role) (st : Standing) → role d e ≡ r → since limit d r es ≡ Some st → Found limit d (e ∷ es) st
 found-here limit d e es (first s) st is h = elim (cases_Bool (is_open limit d s es)) [
-    | inl t ↦ record { before = []; e = e; since = es; s = s; splits = refl; begins = is; opens = t; is = (let f = rw t at h in cc) }
-    | inr t ↦ absurd (let f = rw t at h in cc)
-  ]
+  | inl t ↦ record { before = []; e = e; since = es; s = s; splits = refl; begins = is; opens = t; is = (let f = rw t at h in cc) }
+  | inr t ↦ absurd (let f = rw t at h in cc)
+]
 found-here limit d e es (single m) st is h = absurd (cc)
 found-here limit d e es (consecutive sequence_number can_dl bytes) st is h = absurd (cc)
 found-here limit d e es continue_or_wait st is h = absurd (cc)

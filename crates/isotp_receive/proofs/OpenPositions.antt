@@ -20,26 +20,26 @@ use Rattle.isotp_receive.proofs.OpenLaws.{kept-at, keep-from-each, open-stands-h
 -- fewer than n consecutive frames don't hold the message
 pub below-count : (f r len n k : ℕ) → IsConsecutiveCount f r len n → f + k * (r - 1) < len → k < n
 below-count f r len n k count less = elim (cases_Bool (nat_lt k n)) [
-    | inl t ↦ ltb-true k n t
-    | inr t ↦ (let over = ltb-false k n t in
-        let sum : k ≡ n + (k - n) = omega arith in
-        let product = ap (λ j. j * (r - 1)) sum in
-        let enough = count.enough in absurd (omega arith))
-  ]
+  | inl t ↦ ltb-true k n t
+  | inr t ↦ (let over = ltb-false k n t in
+      let sum : k ≡ n + (k - n) = omega arith in
+      let product = ap (λ j. j * (r - 1)) sum in
+      let enough = count.enough in absurd (omega arith))
+]
 
 -- there is a least number of consecutive frames
 least : (f r len fuel n : ℕ) → 2 ≤ r → len ≤ f + (n + fuel) * (r - 1) → ((k : ℕ) → k < n → f + k * (r - 1) < len) → (m : ℕ) × IsConsecutiveCount f r len m
 least f r len zero n wide enough fewer = (n, record { enough = (let same : n + 0 ≡ n = omega arith in let product = ap (λ j. j * (r - 1)) same in omega arith); fewer = fewer })
 least f r len (suc fuel) n wide enough fewer = elim (cases_Bool (nat_lt (f + n * (r - 1)) len)) [
-    | inl t ↦ (let sum : n + suc fuel ≡ n + 1 + fuel = omega arith in
-        let product = ap (λ j. j * (r - 1)) sum in
-        let here = ltb-true (f + n * (r - 1)) len t in
-        least f r len fuel (n + 1) wide (omega arith) (λ k less. elim (cases_Bool (nat_lt k n)) [
-          | inl u ↦ fewer k (ltb-true k n u)
-          | inr u ↦ (let ge = ltb-false k n u in let same : k ≡ n = omega arith in let product_here = ap (λ j. j * (r - 1)) same in omega arith)
-        ]))
-    | inr t ↦ (n, record { enough = ltb-false (f + n * (r - 1)) len t; fewer = fewer })
-  ]
+  | inl t ↦ (let sum : n + suc fuel ≡ n + 1 + fuel = omega arith in
+      let product = ap (λ j. j * (r - 1)) sum in
+      let here = ltb-true (f + n * (r - 1)) len t in
+      least f r len fuel (n + 1) wide (omega arith) (λ k less. elim (cases_Bool (nat_lt k n)) [
+        | inl u ↦ fewer k (ltb-true k n u)
+        | inr u ↦ (let ge = ltb-false k n u in let same : k ≡ n = omega arith in let product_here = ap (λ j. j * (r - 1)) same in omega arith)
+      ]))
+  | inr t ↦ (n, record { enough = ltb-false (f + n * (r - 1)) len t; fewer = fewer })
+]
 
 grows : (n w : ℕ) → 1 ≤ w → n ≤ n * w
 grows n w h = (let sum : w ≡ 1 + (w - 1) = omega arith in let product = ap (λ v. n * v) sum in omega arith)
@@ -64,9 +64,10 @@ module _ (d : Dir) (before : List Entry) (e0 : Entry) (s : FirstFrame) (begins :
         let on = and_parts (nat_le x.micros (reference d s.micros b + n_cr)) _ h in
         let number = and_parts (sequence_number == (consecutive_count d b + 1) % 16) _ on.1 in
         let fits : fits_length s.len s.rx_dl (bytes_in_first e0.frame.bytes + consecutive_count d b * (s.rx_dl - 1)) can_dl ≡ true = subst (λ h. fits_length s.len s.rx_dl h can_dl ≡ true) (size (consecutive_count d b)) number.1 in
-        let below = below-count (bytes_in_first e0.frame.bytes) s.rx_dl s.len n (consecutive_count d b) count (ltb-true _ _ (and_parts (nat_lt _ s.len) _ fits).0) in
-        ((fits-join (bytes_in_first e0.frame.bytes) s.rx_dl s.len n (consecutive_count d b) sequence_number can_dl count below).1 (eqb-true _ _ number.0, fits),
-         on-time-from _ d (length before) _ (reference d s.micros b) x (refers d before e0 s b (x ∷ after) begins) on.0)
+        let below = below-count (bytes_in_first e0.frame.bytes) s.rx_dl s.len n (consecutive_count d b) count (ltb-true _ _ (and_parts (nat_lt _ s.len) _ fits).0) in (
+          (fits-join (bytes_in_first e0.frame.bytes) s.rx_dl s.len n (consecutive_count d b) sequence_number can_dl count below).1 (eqb-true _ _ number.0, fits),
+          on-time-from _ d (length before) _ (reference d s.micros b) x (refers d before e0 s b (x ∷ after) begins) on.0,
+        )
     leaves-by (single m) h = absurd (false≢true h)
     leaves-by (first f) h = absurd (false≢true h)
     leaves-by continue_or_wait h = tt
@@ -112,7 +113,10 @@ behind before e0 since rest c x later within at =
     let there : At (before ++ e0 ∷ since) c x = sym (get-left (before ++ e0 ∷ since) rest c inside) ∙ subst (λ l. At l c x) regroup at in
     let w = split-behind before e0 since c x later there in
     record {
-      b = w.0; after = w.1; splits = w.2; place = w.3;
+      b = w.0;
+      after = w.1;
+      splits = w.2;
+      place = w.3;
       whole = ap (λ l. before ++ e0 ∷ l) (ap (λ l. l ++ rest) w.2 ∙ append_assoc w.0 (x ∷ w.1) rest);
     }
 
@@ -137,12 +141,12 @@ open-there limit d before e0 s since rest begins opens =
       n = found.0;
       count = found.1;
       each = λ c x later within at.
-        let w = behind before e0 since rest c x later within at in
-        let kept = kept-at d s since more.1 w.b w.after x w.splits in
-        let here : between (before ++ e0 ∷ (since ++ rest)) (length before) c ≡ w.b =
+          let w = behind before e0 since rest c x later within at in
+          let kept = kept-at d s since more.1 w.b w.after x w.splits in
+          let here : between (before ++ e0 ∷ (since ++ rest)) (length before) c ≡ w.b =
           ap (λ l. between l (length before) c) w.whole ∙ ap (between (before ++ e0 ∷ (w.b ++ x ∷ (w.after ++ rest))) (length before)) w.place ∙ range-behind before e0 w.b (x ∷ (w.after ++ rest)) in
-        let leaves = leaves-by d before e0 s begins found.0 found.1 w.b x (w.after ++ rest) (role d x) kept in
-        same-leaves d s _ found.0 (length before) (length before) _ _ _ c _ _ x (role d x) (ap (consecutive_count d) (sym here)) (sym w.whole) refl (sym w.place) leaves;
+          let leaves = leaves-by d before e0 s begins found.0 found.1 w.b x (w.after ++ rest) (role d x) kept in
+          same-leaves d s _ found.0 (length before) (length before) _ _ _ c _ _ x (role d x) (ap (consecutive_count d) (sym here)) (sym w.whole) refl (sym w.place) leaves;
       taken = ap (consecutive_count d) (sym (range-behind before e0 since rest));
       more = below-count (bytes_in_first e0.frame.bytes) s.rx_dl s.len found.0 (consecutive_count d since) found.1 (let same = size d before e0 s begins found.0 found.1 (consecutive_count d since) in omega arith);
     }
@@ -160,22 +164,22 @@ stands-there limit d T rest i k o =
     let whole : T ++ rest ≡ before ++ o.frame ∷ (since ++ rest) = ap (λ l. l ++ rest) w.2 ∙ append_assoc before (o.frame ∷ since) rest in
     let ends : length T ≡ suc (length before) + length since = ap length w.2 ∙ omega (arith, length-append before (o.frame ∷ since)) in
     let taken : k ≡ consecutive_count d since =
-      o.taken ∙ ap (consecutive_count d) (ap (λ l. between l i (length T)) whole ∙ ap (λ j. between (before ++ o.frame ∷ (since ++ rest)) j (length T)) (sym place)
-        ∙ ap (between (before ++ o.frame ∷ (since ++ rest)) (length before)) ends ∙ range-behind before o.frame since rest) in
+    o.taken ∙ ap (consecutive_count d) (ap (λ l. between l i (length T)) whole ∙ ap (λ j. between (before ++ o.frame ∷ (since ++ rest)) j (length T)) (sym place)
+    ∙ ap (between (before ++ o.frame ∷ (since ++ rest)) (length before)) ends ∙ range-behind before o.frame since rest) in
     let kept = keep-from-each d o.start since (λ b after x splits.
-      let c = suc (length before) + length b in
-      let size_since = ap length splits ∙ length-append b (x ∷ after) in
-      let count_since = ap (consecutive_count d) splits ∙ taken-append d b (x ∷ after) in
-      let whole_x : T ++ rest ≡ before ++ o.frame ∷ (b ++ x ∷ (after ++ rest)) = whole ∙ ap (λ l. before ++ o.frame ∷ l) (ap (λ l. l ++ rest) splits ∙ append_assoc b (x ∷ after) rest) in
-      let regroup : before ++ o.frame ∷ (b ++ x ∷ (after ++ rest)) ≡ (before ++ o.frame ∷ b) ++ x ∷ (after ++ rest) = sym (append_assoc before (o.frame ∷ b) (x ∷ (after ++ rest))) in
-      let at = at-of (T ++ rest) (before ++ o.frame ∷ b) (after ++ rest) c x (whole_x ∙ regroup) (omega (arith, length-append before (o.frame ∷ b))) in
-      let leaves = o.each c x (omega arith) (omega arith) at in
-      let here : between (T ++ rest) i c ≡ b =
-        ap (λ l. between l i c) whole_x ∙ ap (λ j. between (before ++ o.frame ∷ (b ++ x ∷ (after ++ rest))) j c) (sym place) ∙ range-behind before o.frame b (x ∷ (after ++ rest)) in
-      let below : consecutive_count d b < o.n = (let more = o.more in omega arith) in
-      keeps-from d before o.frame o.start o.kind o.n o.count b x (after ++ rest) (role d x) below
-        (same-leaves d o.start _ o.n i (length before) _ _ c c _ _ x (role d x) (ap (consecutive_count d) here) whole_x (sym place) refl leaves)) in
+    let c = suc (length before) + length b in
+    let size_since = ap length splits ∙ length-append b (x ∷ after) in
+    let count_since = ap (consecutive_count d) splits ∙ taken-append d b (x ∷ after) in
+    let whole_x : T ++ rest ≡ before ++ o.frame ∷ (b ++ x ∷ (after ++ rest)) = whole ∙ ap (λ l. before ++ o.frame ∷ l) (ap (λ l. l ++ rest) splits ∙ append_assoc b (x ∷ after) rest) in
+    let regroup : before ++ o.frame ∷ (b ++ x ∷ (after ++ rest)) ≡ (before ++ o.frame ∷ b) ++ x ∷ (after ++ rest) = sym (append_assoc before (o.frame ∷ b) (x ∷ (after ++ rest))) in
+    let at = at-of (T ++ rest) (before ++ o.frame ∷ b) (after ++ rest) c x (whole_x ∙ regroup) (omega (arith, length-append before (o.frame ∷ b))) in
+    let leaves = o.each c x (omega arith) (omega arith) at in
+    let here : between (T ++ rest) i c ≡ b =
+    ap (λ l. between l i c) whole_x ∙ ap (λ j. between (before ++ o.frame ∷ (b ++ x ∷ (after ++ rest))) j c) (sym place) ∙ range-behind before o.frame b (x ∷ (after ++ rest)) in
+    let below : consecutive_count d b < o.n = (let more = o.more in omega arith) in
+    keeps-from d before o.frame o.start o.kind o.n o.count b x (after ++ rest) (role d x) below
+    (same-leaves d o.start _ o.n i (length before) _ _ c c _ _ x (role d x) (ap (consecutive_count d) here) whole_x (sym place) refl leaves)) in
     let room : carried_after o.start (consecutive_count d since) < o.start.len =
-      (let less = o.count.fewer (consecutive_count d since) (subst (λ j. j < o.n) taken o.more) in
-       let same = size d before o.frame o.start o.kind o.n o.count (consecutive_count d since) in omega arith) in
+    (let less = o.count.fewer (consecutive_count d since) (subst (λ j. j < o.n) taken o.more) in
+    let same = size d before o.frame o.start o.kind o.n o.count (consecutive_count d since) in omega arith) in
     (before, since, w.2, w.3, and_from _ _ (le-leb _ _ o.fits) (and_from _ _ (lt-ltb _ _ room) kept), taken)

@@ -35,10 +35,17 @@ standing-here limit d before e0 s since rest begins opens =
       i = length before;
       k = consecutive_count d since;
       is_open = open-there limit d before e0 s since rest begins opens;
-      line = refl; len = refl; rx_dl = refl; taken = refl;
+      line = refl;
+      len = refl;
+      rx_dl = refl;
+      taken = refl;
       size = omega (arith, length-append s.bytes (carried d since));
       places = come-at limit d before e0 s since rest begins opens;
-      q = ref.q; last = ref.e; refers = ref.reference; stands = ref.stands; reference = ref.time;
+      q = ref.q;
+      last = ref.e;
+      refers = ref.reference;
+      stands = ref.stands;
+      reference = ref.time;
     }
 
 pub stands-open : (limit : ℕ) (T rest : List Entry) (d : Dir) (st : Standing) → stands limit d T ≡ Some st → IsStandingAt limit (T ++ rest) d (length T) st
@@ -63,14 +70,15 @@ pub one-open : (limit : ℕ) (T : List Entry) (d : Dir) (i k j l p : ℕ) → Is
 one-open limit T d i k j l p a b = (same, a.taken ∙ ap (λ q. consecutive_count d (between T q p)) same ∙ sym b.taken) where
   apart : (i k j l : ℕ) → IsOpenAt limit T d i k p → IsOpenAt limit T d j l p → i < j → ⊥
   apart i k j l a b less = no-first a.start b.start _ _ _ _ (role d b.frame) b.kind (a.each j b.frame less b.later b.stands)
+
   same : i ≡ j
   same = elim (cases_Bool (nat_lt i j)) [
-      | inl t ↦ absurd (apart i k j l a b (ltb-true i j t))
-      | inr t ↦ elim (cases_Bool (nat_lt j i)) [
-        | inl u ↦ absurd (apart j l i k b a (ltb-true j i u))
-        | inr u ↦ (let x = ltb-false i j t in let y = ltb-false j i u in omega arith)
-      ]
+    | inl t ↦ absurd (apart i k j l a b (ltb-true i j t))
+    | inr t ↦ elim (cases_Bool (nat_lt j i)) [
+      | inl u ↦ absurd (apart j l i k b a (ltb-true j i u))
+      | inr u ↦ (let x = ltb-false i j t in let y = ltb-false j i u in omega arith)
     ]
+  ]
 
 -- what a pair keeps for a direction
 pub kept-bytes : (limit : ℕ) (T : List Entry) (d : Dir) (st : Standing) → stands limit d T ≡ Some st → (st.len ≤ limit) × (length st.bytes < st.len)

@@ -67,14 +67,26 @@ fn frame(data: &[u8]) -> Result<Frame, Fail> {
     Ok(Frame::new(Id::Std(0x7E8), kind, data).ok_or("no frame")?)
 }
 
+/// The pair takes the frame, and it has to be this event.
+fn takes(
+    rt: &impl Abort,
+    pair: &mut Pair,
+    line: u64,
+    step: Step<'_>,
+    case: &str,
+) -> Result<(), Fail> {
+    let Step(micros, dir, data, wanted) = step;
+    let frame = frame(data)?;
+    let event = pair.accept(line, micros, dir, &frame);
+    assert_eq!(rt; event, wanted, "{case}, line {line}");
+    Ok(())
+}
+
 /// A pair that has taken the frames, line after line, each as it has to be.
 fn follow(rt: &impl Abort, alloc: Global, case: &str, steps: &[Step<'_>]) -> Result<Pair, Fail> {
     let mut pair = Pair::new(alloc)?;
-    for (i, Step(micros, dir, data, wanted)) in steps.iter().enumerate() {
-        let line = i as u64 + 1;
-        let frame = frame(data)?;
-        let event = pair.accept(line, *micros, *dir, &frame);
-        assert_eq!(rt; event, *wanted, "{case}, line {line}");
+    for (i, step) in steps.iter().enumerate() {
+        takes(rt, &mut pair, i as u64 + 1, *step, case)?;
     }
     Ok(pair)
 }
@@ -153,32 +165,53 @@ fn times_at_both_ends(rt: HostRuntime) -> Result<(), Fail> {
 fn sequence_error_ends_the_reception(rt: HostRuntime) -> Result<(), Fail> {
     let alloc = rt.alloc();
     let message = part(alloc, &[], 0, 130)?;
-    let first = frame(&part(alloc, &[0x10, 130], 0, 8)?)?;
-    let flow = frame(CONTINUE)?;
+    let first = part(alloc, &[0x10, 130], 0, 8)?;
     let wrong = Reason::NextSequence {
         expected: 0,
         found: 15,
     };
     for repeats in [false, true] {
         let mut pair = Pair::new(alloc)?;
-        assert_eq!(rt; pair.accept(1, 0, Unit, &first), told(Verdict::Began));
-        assert_eq!(rt; pair.accept(2, 0, Tester, &flow), told(Verdict::Flow));
+        takes(
+            &rt,
+            &mut pair,
+            1,
+            Step(0, Unit, &first, told(Verdict::Began)),
+            "first",
+        )?;
+        takes(
+            &rt,
+            &mut pair,
+            2,
+            Step(0, Tester, CONTINUE, told(Verdict::Flow)),
+            "continue",
+        )?;
         for number in 1..19_usize {
-            let data = part(alloc, &[(0x20 + number % 16) as u8], 7 * number - 1, 8)?;
-            let frame = frame(&data)?;
             let line = number as u64 + 2;
-            let wanted = if repeats && number > 15 {
+            let data = part(alloc, &[(0x20 + number % 16) as u8], 7 * number - 1, 8)?;
+            let verdict = if repeats && number > 15 {
                 Verdict::Dropped(Reason::NextUnexpected)
             } else if number == 18 {
                 Verdict::Message(&message)
             } else {
                 Verdict::Stored
             };
-            let event = pair.accept(line, 0, Unit, &frame);
-            assert_eq!(rt; event, told(wanted), "number {number}");
+            takes(
+                &rt,
+                &mut pair,
+                line,
+                Step(0, Unit, &data, told(verdict)),
+                "number",
+            )?;
             if repeats && number == 15 {
-                let wanted = refuses(Cause::Sequence, 130, wrong);
-                assert_eq!(rt; pair.accept(18, 0, Unit, &frame), wanted, "repeated");
+                let event = refuses(Cause::Sequence, 130, wrong);
+                takes(
+                    &rt,
+                    &mut pair,
+                    18,
+                    Step(0, Unit, &data, event),
+                    "number again",
+                )?;
             }
         }
     }
@@ -220,22 +253,26 @@ fn overflow_counts_before_the_first_consecutive_frame(rt: HostRuntime) -> Result
 #[test]
 fn directions_are_received_apart(rt: HostRuntime) -> Result<(), Fail> {
     let alloc = rt.alloc();
+    let mut pair = Pair::new(alloc)?;
     let unit = part(alloc, &[], 0, 100)?;
     let tester = part(alloc, &[], 0, 10)?;
-    let unit_first = part(alloc, &[0x10, 100], 0, 64)?;
-    let unit_last = part(alloc, &[0x21], 62, 48)?;
-    let tester_first = part(alloc, &[0x10, 10], 0, 8)?;
-    let tester_last = part(alloc, &[0x21], 6, 5)?;
-    let whole = |message| told(Verdict::Message(message));
-    let steps = [
-        Step(0, Tester, &tester_first, told(Verdict::Began)),
-        Step(0, Unit, &unit_first, told(Verdict::Began)),
-        Step(0, Unit, CONTINUE, told(Verdict::Flow)),
-        Step(0, Tester, CONTINUE, told(Verdict::Flow)),
-        Step(0, Unit, &unit_last, whole(&unit)),
-        Step(0, Tester, &tester_last, whole(&tester)),
-    ];
-    follow(&rt, alloc, "both at once", &steps)?;
+    for (line, dir, head, from, can_dl, verdict) in [
+        (1, Tester, [0x10, 10].as_slice(), 0, 8, Verdict::Began),
+        (2, Unit, &[0x10, 100], 0, 64, Verdict::Began),
+        (3, Unit, CONTINUE, 0, 3, Verdict::Flow),
+        (4, Tester, CONTINUE, 0, 3, Verdict::Flow),
+        (5, Unit, &[0x21], 62, 48, Verdict::Message(&unit)),
+        (6, Tester, &[0x21], 6, 5, Verdict::Message(&tester)),
+    ] {
+        let data = part(alloc, head, from, can_dl)?;
+        takes(
+            &rt,
+            &mut pair,
+            line,
+            Step(0, dir, &data, told(verdict)),
+            "both at once",
+        )?;
+    }
     Ok(())
 }
 
