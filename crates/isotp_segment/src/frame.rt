@@ -10,7 +10,7 @@ use isotp_receive::MESSAGE_LIMIT;
 /// The longest message that a single frame holds.
 pub const SINGLE_LIMIT: usize = 7;
 
-/// The longest message whose length a first frame tells in 12 bits; of a longer one it tells 32 bits.
+/// The longest message whose length a first frame tells in 12 bits; of a longer one it tells 32.
 const SHORT_LIMIT: usize = 4095;
 
 /// The bytes of the message that a consecutive frame holds.
@@ -27,7 +27,7 @@ const CONTINUE_FRAME: [u8; 8] = [0x30, 0, 0, PADDING, PADDING, PADDING, PADDING,
 pub fn canonical_frame(dir: Dir, message: &[u8], number: usize) -> (Dir, [u8; 8])
     requires number { number < total_count (length message.now) }
     requires limit { length message.now ≤ MESSAGE_LIMIT }
-    ensures { result ≡ canonical_frame dir message.now number }
+    ensures value { result ≡ canonical_frame dir message.now number }
 {
     if message.len() <= SINGLE_LIMIT {
         return (dir, filled(&[message.len() as u8], message));
@@ -41,8 +41,8 @@ pub fn canonical_frame(dir: Dir, message: &[u8], number: usize) -> (Dir, [u8; 8]
 
 /// The first frame of a message of more than 7 bytes (section 9.6.3 of the standard).
 fn first_frame(message: &[u8]) -> [u8; 8]
-    requires { length message.now ≤ MESSAGE_LIMIT }
-    ensures { result ≡ filled (first_control (length message.now)) message.now }
+    requires limit { length message.now ≤ MESSAGE_LIMIT }
+    ensures value { result ≡ filled (first_control (length message.now)) message.now }
 {
     let [_, _, high, low] = (message.len() as u32).to_be_bytes();
     if message.len() <= SHORT_LIMIT {
@@ -57,7 +57,8 @@ fn consecutive_frame(message: &[u8], number: usize) -> [u8; 8]
     requires some { 1 ≤ number }
     requires place { place_of (length message.now) number ≤ length message.now }
     requires limit { length message.now ≤ MESSAGE_LIMIT }
-    ensures { result ≡ filled (consecutive_control number) (drop (place_of (length message.now) number) message.now) }
+    ensures value { result ≡
+        filled (consecutive_control number) (drop (place_of (length message.now) number) message.now) }
 {
     let place = room_in_first(message.len()) + (number - 1) * CONSECUTIVE_ROOM;
     filled(&[0x20 + (number % 16) as u8], &message[place..])
@@ -65,7 +66,7 @@ fn consecutive_frame(message: &[u8], number: usize) -> [u8; 8]
 
 /// How many bytes of a message of this length the first frame holds.
 pub fn room_in_first(len: usize) -> usize
-    ensures { result ≡ room_in_first len }
+    ensures value { result ≡ room_in_first len }
 {
     if len <= SHORT_LIMIT { 6 } else { 2 }
 }
@@ -73,8 +74,8 @@ pub fn room_in_first(len: usize) -> usize
 /// A frame of this control information, the bytes as far as there is room, and padding.
 #[inline(always)]
 fn filled(control: &[u8], bytes: &[u8]) -> [u8; 8]
-    requires { length control.now ≤ 8 }
-    ensures { result ≡ filled control.now bytes.now }
+    requires control { length control.now ≤ 8 }
+    ensures value { result ≡ filled control.now bytes.now }
 {
     let mut frame = [PADDING; 8];
     let place = control.len();

@@ -4,16 +4,17 @@ ghost use Rattle.isotp_segment.specs.Laws.{CountIsLeast, CanonicalFramesAreRecor
 
 /// The consecutive frames of a message are as many as its bytes ask for, and no more.
 pub fn consecutive_count_is_least()
-    ensures { CountIsLeast }
+    ensures least { CountIsLeast }
 {}
 
-/// The canonical frames of any messages, each a millisecond after the one before, are a recording of these messages: from
-/// any line and time on, and under any two identifiers.
+/// The canonical frames of any messages, each a millisecond after the one before, are a recording of
+/// these messages: from any line and time on, and under any two identifiers.
 pub fn canonical_frames_are_a_recording()
-    ensures { CanonicalFramesAreRecording }
+    ensures recording { CanonicalFramesAreRecording }
 {}
 
-/// Received after any trace, the canonical frames of a message deliver it at the last of them, and nothing before.
+/// Received after any trace, the canonical frames of a message deliver it at the last of them, and
+/// nothing before.
 pub fn segments_deliver()
     ensures message { FramesDeliver }
     ensures nothing_before { FrontsDeliverNothing }

@@ -1,9 +1,9 @@
 //! A message as ISO-TP frames of one fixed spelling: its *canonical* frames.
 //!
-//! ISO 15765-2 leaves the sender of a message many choices: the size of the frames, the padding, the flow control. Here
-//! each choice is made once, so that equal messages become equal frames: classic frames of 8 bytes, padded with `CC`, and
-//! one continue frame from the other side directly behind a first frame. The frames are made one at a time, out of the
-//! message itself; nothing is allocated.
+//! ISO 15765-2 leaves the sender of a message many choices: the size of the frames, the padding, the
+//! flow control. Here each choice is made once, so that equal messages become equal frames: classic
+//! frames of 8 bytes, padded with `CC`, and one continue frame from the other side directly behind a
+//! first frame. The frames are made one at a time, out of the message itself; nothing is allocated.
 //!
 //! ```
 //! let answer = [0x62, 0xF1, 0x90, 0x41, 0x42, 0x43, 0x44, 0x45];
@@ -62,11 +62,11 @@ pub struct Segments<'a> {
 impl<'a> Segments<'a> {
     ghost use Rattle.isotp_segment.specs.FramesLeft.{frames_left};
 
-    /// The frames of a message that is sent in the direction `dir`. A message has 1 to 65,535 bytes.
+    /// The frames of a message that is sent in the direction `dir`.
     pub fn new(dir: Dir, message: &'a [u8]) -> Segments<'a>
         requires some { 1 ≤ length message.now }
         requires limit { length message.now ≤ MESSAGE_LIMIT }
-        ensures { frames_left result ≡ canonical_frames MESSAGE_LIMIT dir message.now }
+        ensures frames { frames_left result ≡ canonical_frames MESSAGE_LIMIT dir message.now }
     {
         Segments {
             dir,
@@ -103,7 +103,8 @@ impl<'a> Iterator for Segments<'a> {
     fn size_hint(&self) -> (usize, Option<usize>)
         ensures lower { IsWithinCount result.0 (item_count frames_left self.now) }
         ensures upper { IfSome result.1 (UpTo (item_count frames_left self.now)) }
-        ensures exact { result ≡ (length (frames_left self.now), Some (length (frames_left self.now))) }
+        ensures exact { result ≡
+            (length (frames_left self.now), Some (length (frames_left self.now))) }
     {
         let left = self.count - self.number;
         (left, Some(left))
