@@ -3,8 +3,15 @@
 //! came before; receiving a message out of several frames is the layer above. Nothing is copied: the
 //! bytes of a [`Pdu`] lie in the frame.
 //!
-//! `101462F190574241` is a first frame: its message has 20 bytes (`014`), of which six stand here,
-//! and the consecutive frames that follow it have 8 bytes each.
+//! ```
+//! let data = [0x10, 0x14, 0x62, 0xF1, 0x90, 0x57, 0x42, 0x41];
+//! if let Some(frame) = Frame::new(Id::Std(0x7E8), Kind::Classic, &data) {
+//!     match read_pdu(&frame) {
+//!         // a message of 20 bytes, of which six stand here, in frames of 8 bytes
+//!         Ok(Pdu::First { len: 20, rx_dl: 8, bytes: [0x62, 0xF1, 0x90, 0x57, 0x42, 0x41] }) => ..
+//!     }
+//! }
+//! ```
 #![tactic(auto)]
 
 pub mod laws;
@@ -67,7 +74,8 @@ pub enum PduFault {
     Empty,
     /// The high four bits of the first byte are 4 to 15.
     UnknownKind,
-    /// A single frame of no message, or of a longer one than it carries.
+    /// A single frame of no message, or of a longer one than it carries; or one above 8 bytes that
+    /// does not have its length in the second byte.
     SingleLength,
     /// A first frame below 8 bytes, or one that announces what a single frame holds, or that spends
     /// 32 bits on a length that 12 bits hold.
@@ -78,7 +86,8 @@ pub enum PduFault {
     FlowStatus,
 }
 
-/// What the frame says, or else the first fault that applies.
+/// What the frame says, or else the first fault that applies. It takes neither the identifier nor
+/// the frames before into account, and treats classic and FD frames of equal length alike.
 pub fn read_pdu(frame: &Frame) -> Result<Pdu<'_>, PduFault>
     ensures value { layout_seen result ≡ layout_of frame.now }
     ensures layout { (layout : Layout) → (layout_seen result ≡ Ok layout) ↔ HasLayout frame.now layout }

@@ -18,7 +18,7 @@ use Rattle.isotp_receive.proofs.OneMore.{one_more}
 use Rattle.isotp_receive.proofs.References.{at-same, still, moved, same-reference}
 use Rattle.isotp_receive.proofs.Fits.{fits-more, fits-last}
 use Rattle.isotp_receive.proofs.Places.{first_from, next_from, chunk, at_here}
-use Rattle.isotp_receive.proofs.SaysHeard.{completed, at_place, told-by-role}
+use Rattle.isotp_receive.proofs.HeardByRole.{completed, at_place, told-by-role}
 
 abbrev pub IsQuiet : Role → Type 0
 IsQuiet r = (r ≡ no_part) ⊎ (r ≡ continue_or_wait)

@@ -28,9 +28,11 @@ use Rattle.isotp_receive.specs.Heard.{placed}
 use Rattle.isotp_receive.specs.Machine.{after, fresh, judged}
 use Rattle.isotp_receive.proofs.OneMore.{one_more, more}
 use Rattle.isotp_receive.proofs.Places.{whole_from, first_from, next_from, at_here}
-use Rattle.isotp_receive.proofs.SaysHeard.{same, completed, completed_by, at_place, told-by-role}
+use Rattle.isotp_receive.proofs.HeardByRole.{same, completed, completed_by, at_place, told-by-role}
 use Rattle.isotp_receive.proofs.References.{at-same, still, moved}
-use Rattle.isotp_receive.proofs.Delivered.{in-append, in-left, in-right, rising-append, IsOwn, own-other, carries-own, self, none-own}
+use Rattle.isotp_receive.proofs.PositionLists.{in-append, in-left, in-right, rising-append}
+use Rattle.isotp_receive.proofs.OwnFrames.{IsOwn, own-other, carries-own, none-own}
+use Rattle.isotp_receive.proofs.Told.{self}
 use Rattle.isotp_receive.proofs.Clean.{Turn, t_whole, t_begins, t_more, t_last, t_paces, t_foreign, turn, was-more, was-last}
 
 -- a message under way: what its positions so far carry, whatever it will be

@@ -17,7 +17,7 @@ use Rattle.isotp_receive.specs.Standing.{Standing, stands, fits_length}
 use Rattle.isotp_receive.specs.Verdict.{began, dropped, verdict, on_layout, on_overflow, ended_as}
 use Rattle.isotp_receive.specs.CleanTrace.{IsKept}
 use Rattle.isotp_receive.specs.Machine.{judged, on_judged}
-use Rattle.isotp_receive.proofs.SaysHeard.{same}
+use Rattle.isotp_receive.proofs.HeardByRole.{same}
 use Rattle.isotp_receive.proofs.Judgement.{on-judged}
 
 -- what a frame of this role may be to a direction where o stands, if its verdict is clean

@@ -13,8 +13,8 @@ use Rattle.isotp_receive.specs.Delivers.{Completes, Delivers, in_one_frame, in_f
 use Rattle.isotp_receive.specs.Verdict.{Told, message, began, stored, flowed, dropped, verdict, is_on_time, expected, has_length, wants_more}
 use Rattle.isotp_receive.specs.Machine.{judged}
 use Rattle.isotp_receive.specs.Heard.{placed}
-use Rattle.isotp_receive.proofs.SaysHeard.{completed, completed_by, at_place, told-by-role}
-use Rattle.isotp_receive.proofs.Delivered.{self}
+use Rattle.isotp_receive.proofs.HeardByRole.{completed, completed_by, at_place, told-by-role}
+use Rattle.isotp_receive.proofs.Told.{self}
 use Rattle.isotp_receive.proofs.Clean.{was-last}
 use Rattle.isotp_receive.proofs.ListPositions.{cons-head}
 use Rattle.isotp_receive.proofs.Judgement.{judged-fit}

@@ -6,12 +6,15 @@ pub mod OpenPositions
 pub mod BytesAtPlaces
 pub mod StandingLaws
 pub mod DeliversLaws
+pub mod HeardByRole
 pub mod VerdictLaws
-pub mod SaysHeard
 pub mod Places
 pub mod ListPositions
 pub mod References
 pub mod Carried
+pub mod PositionLists
+pub mod OwnFrames
+pub mod Told
 pub mod Delivered
 pub mod Clean
 pub mod Certified

@@ -22,7 +22,7 @@ use Rattle.isotp_receive.specs.Standing.{Standing, reference, fits_length, stand
 use Rattle.isotp_receive.specs.OpenReception.{IsOpenAt}
 use Rattle.isotp_receive.specs.Verdict.{Answer, Told, message, began, stored, flowed, dropped, refused, ended_as, on_overflow, verdict, on_layout, on_consecutive, is_on_time, expected, has_length, wants_more}
 use Rattle.isotp_receive.specs.VerdictTable.{IsOpenBefore, NothingOpen, ended_by, EndsByNewStart, HasVerdict, no_layout, single_frame, first_frame, too_long, next_unexpected, next_late, wrong_number, wrong_length, stored_frame, last_frame, flow_unexpected, flow, overflow_in_time, overflow_too_late}
-use Rattle.isotp_receive.proofs.Delivered.{self}
+use Rattle.isotp_receive.proofs.Told.{self}
 use Rattle.isotp_receive.proofs.References.{at-same, refers, on-time-from, on-time-to}
 use Rattle.isotp_receive.proofs.Fits.{fits-join}
 use Rattle.isotp_receive.proofs.OpenLaws.{open-stands-here}

@@ -13,7 +13,8 @@ RecordingDelivers = (limit : ℕ) (T : List Entry) (M : List (Dir × List ℕ)) 
 -- it does so behind any trace, whatever stands there
 abbrev pub RecordingDeliversBehind : Type 0
 RecordingDeliversBehind =
-    (limit : ℕ) (before T : List Entry) (M : List (Dir × List ℕ)) → IsRecording limit T M → messages limit (before ++ T) ≡ messages limit before ++ M
+    (limit : ℕ) (before T : List Entry) (M : List (Dir × List ℕ)) → IsRecording limit T M
+    → messages limit (before ++ T) ≡ messages limit before ++ M
 
 -- each message is delivered at the last of its positions
 abbrev pub DeliversAtLastPosition : Type 0
@@ -21,6 +22,7 @@ DeliversAtLastPosition =
     (limit : ℕ) (before T : List Entry) (M : List (Dir × List ℕ)) (recording : IsRecording limit T M) (n : ℕ)
     → messages limit (before ++ take n T) ≡ messages limit before ++ ended_within n recording.transfers
 
--- a trace of which nothing is dropped, ended or left over is a recording of what it delivers
+-- A trace of which nothing is dropped, ended or left over is a recording of what it delivers. The limit is at least the
+-- length of the longest frame, since no rule bounds the message of a single frame by it.
 abbrev pub CleanTraceIsRecording : Type 0
 CleanTraceIsRecording = (limit : ℕ) (T : List Entry) → 64 ≤ limit → IsClean limit T → IsRecording limit T (messages limit T)

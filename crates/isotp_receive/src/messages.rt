@@ -36,8 +36,10 @@ pub struct Message {
 
 /// The messages that recorded frames deliver, in the order in which they were completed.
 pub fn messages_of(alloc: Global, trace: &[Recorded]) -> Result<Vec<Message>, AllocError>
-    ensures messages { IfOk result (λ found. sent found.items ≡ messages MESSAGE_LIMIT (entries trace.now)) }
-    ensures recording { (M : List (Dir × List ℕ)) → IsRecording MESSAGE_LIMIT (entries trace.now) M → IfOk result (λ found. sent found.items ≡ M) }
+    ensures messages { IfOk result (λ found.
+        sent found.items ≡ messages MESSAGE_LIMIT (entries trace.now)) }
+    ensures recording { (M : List (Dir × List ℕ)) → IsRecording MESSAGE_LIMIT (entries trace.now) M →
+        IfOk result (λ found. sent found.items ≡ M) }
 {
     let mut pair = Pair::new(alloc)?;
     let mut found = Vec::new(alloc);

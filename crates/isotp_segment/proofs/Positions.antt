@@ -2,8 +2,9 @@
 use Rattle.std.proofs.Common.{◌≡◌, ℕ, zero, suc, ◌+◌, ◌-◌, ◌<◌, ◌≤◌, List, [], ◌∷◌, length, nat_lt, nat_le, refl, ◌∙◌, ap, arith, cond, inl, inr}
 use Rattle.std.specs.List.{range_with_len}
 use Rattle.std.proofs.lemmas.Bool.{leb-false, ltb-true, ltb-false, cases_Bool}
+use Rattle.isotp_receive.specs.Places.{IsConsecutiveCount}
 use Rattle.isotp_receive.specs.Recording.{IsRisingFrom, IsIn, last_or}
-use Rattle.isotp_receive.proofs.Delivered.{last-in}
+use Rattle.isotp_receive.proofs.PositionLists.{last-in}
 use Rattle.isotp_segment.specs.CanonicalFrames.{room_in_first, consecutive_count, total_count}
 
 -- one, or that of the first frame and, behind the continue frame, those of the consecutive frames
@@ -40,6 +41,9 @@ last-position m n = elim (cases_Bool (nat_le (length m) 7)) [
 
 pub room_in_first-few : (len : ℕ) → room_in_first len ≤ 6
 room_in_first-few len = elim (cases_Bool (nat_le len 4095)) [ inl t ↦ rw t (omega arith) | inr t ↦ rw t (omega arith) ]
+
+pub count-least : (len : ℕ) → 7 < len → IsConsecutiveCount (room_in_first len) 8 len (consecutive_count len)
+count-least len long = (let few = room_in_first-few len in record { enough = omega arith; fewer = λ k less. omega arith })
 
 last_or-range : (k a c : ℕ) → last_or k (range_with_len a (suc c)) ≡ a + c
 last_or-range k a zero = omega arith

@@ -23,7 +23,7 @@ use Rattle.isotp_segment.specs.Timed.{timed, HasFrames, all_frames}
 use Rattle.isotp_segment.proofs.Bytes.{filled-holds}
 use Rattle.isotp_segment.proofs.Frames.{frame-single, frame-first, frame-continue, frame-consecutive, length-canonical_frames}
 use Rattle.isotp_segment.proofs.Layouts.{layout-single, layout-first, layout-consecutive, layout-continue}
-use Rattle.isotp_segment.proofs.Positions.{positions_of, rising-range, in-range, position-bounds, last-position, room_in_first-few, last-position-is}
+use Rattle.isotp_segment.proofs.Positions.{positions_of, rising-range, in-range, position-bounds, last-position, room_in_first-few, count-least, last-position-is}
 use Rattle.isotp_segment.proofs.TimedFrames.{entry, role-own, role-other, length-timed, take-timed, frames-stand}
 
 module _ (identifier : Dir → Id) (line micros limit : ℕ) (bits : limit < 2 ^ 32) where
@@ -132,7 +132,7 @@ module _ (identifier : Dir → Id) (line micros limit : ℕ) (bits : limit < 2 ^
             stands = at-first (omega arith);
             kind = starts.0;
             announces = refl;
-            count = rw (held, count) (record { enough = omega arith; fewer = λ k less. omega arith });
+            count = rw (held, count) (count-least (length m) (omega arith));
             consecutive_frames = rw (held, count) (parts-from (consecutive_count (length m)) 1 (n + 2) (omega arith) (omega arith) (omega arith));
             holds = λ x inside. (let h = held in first-holds m x _ low (omega arith) (ap (λ j. 8 - j + x) h));
           }

@@ -1,5 +1,5 @@
 -- Canonical frames as the entries of a trace: which stands at which position, and what it is to the receptions.
-use Rattle.std.proofs.Common.{◌≡◌, ℕ, zero, suc, ◌+◌, ◌*◌, ◌<◌, ◌≤◌, true, false, List, [], ◌∷◌, ◌++◌, length, take, Some, Result, refl, ◌∙◌, ap, arith, subst}
+use Rattle.std.proofs.Common.{◌≡◌, ℕ, zero, suc, ◌+◌, ◌*◌, ◌<◌, ◌≤◌, false, List, [], ◌∷◌, ◌++◌, length, take, Some, Result, refl, ◌∙◌, ap, arith, subst}
 use Rattle.std.specs.Prelude.{slice_get}
 use Rattle.std.proofs.lemmas.Option.{slice_get-get_or}
 use Rattle.std.proofs.lemmas.List.FromFn.{get_or-map-range_with_len}
@@ -10,14 +10,11 @@ use Rattle.can_log.specs.declared.frame.Id.{Id}
 use Rattle.isotp_pdu.specs.declared.PduFault.{PduFault}
 use Rattle.isotp_pdu.specs.Layout.{Layout, layout_of}
 use Rattle.isotp_receive.specs.Trace.{Entry, At, role, own_role, other_role, same_direction}
+use Rattle.isotp_receive.proofs.Told.{self}
 use Rattle.isotp_segment.specs.CanonicalFrames.{total_count, canonical_frame, canonical_frames}
 use Rattle.isotp_segment.specs.Timed.{timed}
 use Rattle.isotp_segment.proofs.Frames.{frames_of, length-canonical_frames}
 use Rattle.isotp_segment.proofs.Layouts.{classic}
-
-pub same-itself : (d : Dir) → same_direction d d ≡ true
-same-itself Tester = refl
-same-itself Unit = refl
 
 not-other : (d : Dir) → same_direction d (other_direction d) ≡ false
 not-other Tester = refl
@@ -51,7 +48,7 @@ module _ (identifier : Dir → Id) (line micros : ℕ) where
   pub role-own : (d : Dir) (n : ℕ) (bytes : List ℕ) (r : Result Layout PduFault) → layout_of (classic (identifier d) bytes) ≡ r
       → role d (entry n (d, bytes)) ≡ own_role (line + n) (micros + n * 1000) r
   unfolding role
-  role-own d n bytes r h = rw (same-itself d, h) refl
+  role-own d n bytes r h = rw (self d, h) refl
 
   pub role-other : (d : Dir) (n : ℕ) (bytes : List ℕ) (r : Result Layout PduFault) → layout_of (classic (identifier (other_direction d)) bytes) ≡ r
       → role d (entry n (other_direction d, bytes)) ≡ other_role r

@@ -1,6 +1,6 @@
 -- The canonical frames of a message: classic frames of 8 bytes with normal addressing (ISO 15765-2, section 9.6), each
 -- by its number and by the place in the message where its bytes begin.
-use Rattle.std.specs.Prelude.{ℕ, ◌+◌, ◌-◌, ◌*◌, ◌/◌, ◌%◌, ◌^◌, List, [], ◌∷◌, ◌++◌, length, map, take, drop, replicate, nat_le, ◌==◌, ◌&&◌, if◌then◌else◌}
+use Rattle.std.specs.Prelude.{ℕ, ◌+◌, ◌-◌, ◌/◌, ◌%◌, ◌^◌, List, [], ◌∷◌, ◌++◌, length, map, take, drop, replicate, nat_le, ◌==◌, ◌&&◌, if◌then◌else◌}
 use Rattle.std.specs.List.{range_with_len}
 use Rattle.can_log.specs.Dir.{other_direction}
 use Rattle.can_log.specs.declared.frame.Dir.{Dir}

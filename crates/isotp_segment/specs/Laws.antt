@@ -4,10 +4,15 @@ use Rattle.std.specs.List.{AllByRecursion}
 use Rattle.can_log.specs.declared.frame.Dir.{Dir}
 use Rattle.can_log.specs.declared.frame.Id.{Id}
 use Rattle.isotp_receive.specs.Trace.{Entry}
+use Rattle.isotp_receive.specs.Places.{IsConsecutiveCount}
 use Rattle.isotp_receive.specs.Verdict.{messages}
 use Rattle.isotp_receive.specs.Recording.{IsRecording}
-use Rattle.isotp_segment.specs.CanonicalFrames.{canonical_frames}
+use Rattle.isotp_segment.specs.CanonicalFrames.{room_in_first, consecutive_count, canonical_frames}
 use Rattle.isotp_segment.specs.Timed.{timed, HasFrames, all_frames}
+
+-- the count of a message's consecutive frames is the least that holds what the first frame leaves
+abbrev pub CountIsLeast : Type 0
+CountIsLeast = (len : ℕ) → 7 < len → IsConsecutiveCount (room_in_first len) 8 len (consecutive_count len)
 
 -- the canonical frames of any messages, a millisecond apart, are a recording of them
 abbrev pub CanonicalFramesAreRecording : Type 0

@@ -1,9 +1,9 @@
 //! A message as ISO-TP frames of one fixed spelling: its *canonical* frames.
 //!
-//! ISO 15765-2 leaves the sender of a message many choices: the size of the frames, the padding, the flow control. Here
-//! each choice is made once, so that equal messages become equal frames: classic frames of 8 bytes, padded with `CC`, and
-//! one continue frame from the other side directly behind a first frame. The frames are made one at a time, out of the
-//! message itself; nothing is allocated.
+//! ISO 15765-2 leaves the sender of a message many choices: the size of the frames, the padding, the
+//! flow control. Here each choice is made once, so that equal messages become equal frames: classic
+//! frames of 8 bytes, padded with `CC`, and one continue frame from the other side directly behind a
+//! first frame. The frames are made one at a time, out of the message itself; nothing is allocated.
 //!
 //! ```
 //! let answer = [0x62, 0xF1, 0x90, 0x41, 0x42, 0x43, 0x44, 0x45];
@@ -15,27 +15,20 @@
 //! ```
 #![tactic(auto)]
 
-ghost use Rattle.std.specs.Prelude.{◌≡◌, ◌<◌, ◌≤◌, ◌-◌, ◌+◌, ◌*◌, ℕ, List, length, drop};
-ghost use Rattle.can_log.specs.declared.frame.Dir.{Dir};
-ghost use Rattle.isotp_receive.specs.declared.TheConstants.{MESSAGE_LIMIT};
-ghost use Rattle.isotp_segment.specs.CanonicalFrames.{filled, first_control, consecutive_control, room_in_first, place_of, total_count, canonical_frame, canonical_frames};
-
+mod frame;
 pub mod laws;
 #[cfg(test)]
 mod tests;
 
+ghost use Rattle.std.specs.Prelude.{◌≡◌, ◌≤◌, ℕ, List, length};
+ghost use Rattle.can_log.specs.declared.frame.Dir.{Dir};
+ghost use Rattle.isotp_receive.specs.declared.TheConstants.{MESSAGE_LIMIT};
+ghost use Rattle.isotp_segment.specs.CanonicalFrames.{total_count, canonical_frames};
+
 use can_log::Dir;
+use frame::{CONSECUTIVE_ROOM, SINGLE_LIMIT, canonical_frame, room_in_first};
 use isotp_receive::MESSAGE_LIMIT;
 use std::iter::FusedIterator;
-
-/// The longest message whose length a first frame tells in 12 bits; of a longer one it tells 32 bits.
-const SHORT_LIMIT: usize = 4095;
-
-/// What a frame has behind the bytes of the message.
-const PADDING: u8 = 0xCC;
-
-/// Continue to send: no limit of the block and no separation time.
-const CONTINUE_FRAME: [u8; 8] = [0x30, 0, 0, PADDING, PADDING, PADDING, PADDING, PADDING];
 
 /// The number of canonical frames of a message of `len` bytes, the continue frame counted.
 pub fn frame_count(len: usize) -> u64
@@ -45,75 +38,10 @@ pub fn frame_count(len: usize) -> u64
     ensures frames { (direction : Dir) (message : List ℕ) → len ≡ length message →
         result ≡ length (canonical_frames MESSAGE_LIMIT direction message) }
 {
-    if len <= 7 {
+    if len <= SINGLE_LIMIT {
         return 1;
     }
-    2 + (len - room_in_first(len)).div_ceil(7) as u64
-}
-
-/// How many bytes of a message of this length the first frame holds.
-fn room_in_first(len: usize) -> usize
-    ensures { result ≡ room_in_first len }
-{
-    if len <= SHORT_LIMIT { 6 } else { 2 }
-}
-
-/// A frame of this control information, the bytes as far as there is room, and padding.
-#[inline(always)]
-fn filled(control: &[u8], bytes: &[u8]) -> [u8; 8]
-    requires { length control.now ≤ 8 }
-    ensures { result ≡ filled control.now bytes.now }
-{
-    let mut frame = [PADDING; 8];
-    let place = control.len();
-    frame[..place].copy_from_slice(control);
-    if bytes.len() >= 8 - place {
-        frame[place..].copy_from_slice(&bytes[..8 - place]);
-    } else {
-        frame[place..place + bytes.len()].copy_from_slice(bytes);
-    }
-    frame
-}
-
-/// The first frame of a message of more than 7 bytes (section 9.6.3 of the standard).
-fn first_frame(message: &[u8]) -> [u8; 8]
-    requires { length message.now ≤ MESSAGE_LIMIT }
-    ensures { result ≡ filled (first_control (length message.now)) message.now }
-{
-    let [_, _, high, low] = (message.len() as u32).to_be_bytes();
-    if message.len() <= SHORT_LIMIT {
-        filled(&[0x10 + high, low], message)
-    } else {
-        filled(&[0x10, 0, 0, 0, high, low], message)
-    }
-}
-
-/// Consecutive frame `number`, counted from 1 (section 9.6.4).
-fn consecutive_frame(message: &[u8], number: usize) -> [u8; 8]
-    requires some { 1 ≤ number }
-    requires place { place_of (length message.now) number ≤ length message.now }
-    requires limit { length message.now ≤ MESSAGE_LIMIT }
-    ensures { result ≡ filled (consecutive_control number) (drop (place_of (length message.now) number) message.now) }
-{
-    let place = room_in_first(message.len()) + (number - 1) * 7;
-    filled(&[0x20 + (number % 16) as u8], &message[place..])
-}
-
-/// Frame `number` of a message, from 0, and who sends it.
-#[tactic(auto, unfolding(crate::specs::CanonicalFrames::canonical_frame, crate::specs::CanonicalFrames::filled))]
-fn canonical_frame(dir: Dir, message: &[u8], number: usize) -> (Dir, [u8; 8])
-    requires number { number < total_count (length message.now) }
-    requires limit { length message.now ≤ MESSAGE_LIMIT }
-    ensures { result ≡ canonical_frame dir message.now number }
-{
-    if message.len() <= 7 {
-        return (dir, filled(&[message.len() as u8], message));
-    }
-    match number {
-        0 => (dir, first_frame(message)),
-        1 => (dir.other(), CONTINUE_FRAME),
-        _ => (dir, consecutive_frame(message, number - 1)),
-    }
+    2 + (len - room_in_first(len)).div_ceil(CONSECUTIVE_ROOM) as u64
 }
 
 /// The canonical frames of a message, one after another: who sends it, and its bytes.
@@ -134,11 +62,11 @@ pub struct Segments<'a> {
 impl<'a> Segments<'a> {
     ghost use Rattle.isotp_segment.specs.FramesLeft.{frames_left};
 
-    /// The frames of a message that is sent in the direction `dir`. A message has 1 to 65,535 bytes.
+    /// The frames of a message that is sent in the direction `dir`.
     pub fn new(dir: Dir, message: &'a [u8]) -> Segments<'a>
         requires some { 1 ≤ length message.now }
         requires limit { length message.now ≤ MESSAGE_LIMIT }
-        ensures { frames_left result ≡ canonical_frames MESSAGE_LIMIT dir message.now }
+        ensures frames { frames_left result ≡ canonical_frames MESSAGE_LIMIT dir message.now }
     {
         Segments {
             dir,
@@ -152,7 +80,9 @@ impl<'a> Segments<'a> {
 impl<'a> Iterator for Segments<'a> {
     type Item = (Dir, [u8; 8]);
 
-    ghost use Rattle.std.specs.Iterator.{YieldsFirst, item_count};
+    ghost use Rattle.std.specs.Prelude.{IfSome};
+    ghost use Rattle.std.specs.Iterator.{UpTo, YieldsFirst, item_count};
+    ghost use Rattle.std.specs.Iterator.SizeHint.{IsWithinCount};
     ghost use Rattle.isotp_segment.specs.FramesLeft.{frames_left};
 
     ghost next_gives = { YieldsFirst frames_left };
@@ -170,7 +100,12 @@ impl<'a> Iterator for Segments<'a> {
     }
 
     #[tactic(auto, using(crate::proofs::Frames::count_left))]
-    fn size_hint(&self) -> (usize, Option<usize>) {
+    fn size_hint(&self) -> (usize, Option<usize>)
+        ensures lower { IsWithinCount result.0 (item_count frames_left self.now) }
+        ensures upper { IfSome result.1 (UpTo (item_count frames_left self.now)) }
+        ensures exact { result ≡
+            (length (frames_left self.now), Some (length (frames_left self.now))) }
+    {
         let left = self.count - self.number;
         (left, Some(left))
     }

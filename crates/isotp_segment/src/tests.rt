@@ -132,8 +132,8 @@ fn canonical_frames_are_received(rt: HostRuntime) -> Result<(), Fail> {
     Ok(())
 }
 
-/// How a sender may record a message: the size of its frames, what they are padded with, and whether the last one is as
-/// long as the others or as short as its bytes allow.
+/// How a sender may send a message: the size of its frames, what they are padded with, and whether
+/// the last one is as long as the others or as short as its bytes allow.
 #[derive(Clone, Copy, Debug)]
 struct Style {
     rx_dl: u8,
@@ -158,7 +158,7 @@ impl Style {
         Ok(frame)
     }
 
-    /// What the message delivers that a sender of this style records, a continue frame behind the first frame.
+    /// What the frames of a sender of this style deliver, with a continue frame behind the first.
     fn read(self, alloc: Global, message: &[u8]) -> Result<Vec<u8>, Fail> {
         let [.., high, low] = message.len().to_be_bytes();
         let short = [0x10 | high, low];

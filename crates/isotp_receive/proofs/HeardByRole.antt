@@ -1,4 +1,4 @@
--- What a frame tells a direction, by its role.
+-- What a frame tells a direction, by the role that it has for it: the message that it completes, or nothing.
 use Rattle.std.proofs.Common.{◌≡◌, ℕ, true, List, [], ◌∷◌, ◌++◌, take, nat_le, ◌==◌, Option, Some, None, Result, Ok, Err, refl, sym, ◌∙◌, ap, cond}
 use Rattle.std.proofs.lemmas.Bool.{cases_Bool, false≢true}
 use Rattle.can_log.specs.Dir.{other_direction}
