@@ -1,0 +1,125 @@
+-- A recording delivers its messages, in order, each at the last of its positions.
+use Rattle.std.proofs.Common.{◌≡◌, ℕ, suc, ◌≤◌, take, nat_lt, List, [], ◌∷◌, ◌++◌, map, refl, sym, ◌∙◌, ap, arith, cond, inl, inr, subst}
+use Rattle.std.specs.Prelude.{◌⊎◌}
+use Rattle.std.specs.List.{AllByRecursion}
+use Rattle.std.proofs.lemmas.Bool.{cases_Bool}
+use Rattle.can_log.specs.declared.frame.Dir.{Dir}
+use Rattle.isotp_receive.specs.Trace.{Entry, role, same_direction, At}
+use Rattle.isotp_receive.specs.Verdict.{messages}
+use Rattle.isotp_receive.specs.Recording.{IsRisingFrom, Carries, Transfer, IsTransfer, IsIn, last_or, AllBefore, AreApart, EachPair, IsGiven, IsRecording, ended_within}
+use Rattle.isotp_receive.proofs.Carried.{IsQuiet, flat, placed_of, Goods, Cover, direction-heard}
+use Rattle.isotp_receive.proofs.HeardByRole.{same}
+use Rattle.isotp_receive.proofs.PositionLists.{in-append, in-left, in-right, rising-append, last-is-in}
+use Rattle.isotp_receive.proofs.OwnFrames.{own-other, carries-own, idle-quiet}
+use Rattle.isotp_receive.proofs.Told.{Placed, side, all_told, Rise, heard-side, pair, messages-told, told-rise, merge, messages-append, told_within, told-take}
+
+before : (g h : Transfer) → AreApart g h → g.dir ≡ h.dir → AllBefore g.positions h.positions
+before g h a same_side p q i j = elim (a.apart same_side) [
+  | inl b ↦ b p q i j
+  | inr b ↦ absurd (let lt = b (last_or 0 h.positions) (last_or 0 g.positions) (last-is-in q h.positions j) (last-is-in p g.positions i) in let o = a.order in omega arith)
+]
+
+-- the messages of a direction
+
+abbrev of_dir : Dir → List Transfer → List Transfer
+of_dir d [] = []
+of_dir d (g ∷ gs) = cond (same_direction d g.dir) (g ∷ of_dir d gs) (of_dir d gs)
+
+goods-of : (limit : ℕ) (T : List Entry) (d : Dir) (gs : List Transfer) → AllByRecursion (IsTransfer limit T) gs → Goods limit T d (of_dir d gs)
+goods-of limit T d [] h = tt
+goods-of limit T d (g ∷ gs) h = elim (cases_Bool (same_direction d g.dir)) [
+  | inl t ↦ rw t ((h.0.fits, subst (λ x. Carries T x g.message g.positions) (sym (same d g.dir t)) h.0.carried), goods-of limit T d gs h.1)
+  | inr t ↦ rw t (goods-of limit T d gs h.1)
+]
+
+before-rest : (d : Dir) (g : Transfer) (gs : List Transfer) → d ≡ g.dir → AllByRecursion (AreApart g) gs → AllBefore g.positions (flat (of_dir d gs))
+before-rest d g [] is h p q i j = absurd j
+before-rest d g (x ∷ gs) is h p q i j = elim (cases_Bool (same_direction d x.dir)) [
+  | inl t ↦ (let k = rw t at j in elim (in-append q x.positions (flat (of_dir d gs)) k) [
+    | inl a ↦ before g x h.0 (sym is ∙ same d x.dir t) p q i a
+    | inr b ↦ before-rest d g gs is h.1 p q i b
+  ])
+  | inr t ↦ (let k = rw t at j in before-rest d g gs is h.1 p q i k)
+]
+
+rising-of : (limit : ℕ) (T : List Entry) (d : Dir) (gs : List Transfer) → AllByRecursion (IsTransfer limit T) gs → EachPair AreApart gs → IsRisingFrom 0 (flat (of_dir d gs))
+rising-of limit T d [] each pairs = tt
+rising-of limit T d (g ∷ gs) each pairs = elim (cases_Bool (same_direction d g.dir)) [
+  | inl t ↦ rw t (rising-append 0 g.positions (flat (of_dir d gs)) each.0.rising (rising-of limit T d gs each.1 pairs.1) (before-rest d g gs (same d g.dir t) pairs.0) (λ q i. omega arith))
+  | inr t ↦ rw t (rising-of limit T d gs each.1 pairs.1)
+]
+
+covered : (limit : ℕ) (T : List Entry) (d : Dir) (gs : List Transfer) (p : ℕ) (e : Entry) → AllByRecursion (IsTransfer limit T) gs → At T p e → IsGiven p gs
+    → IsIn p (flat (of_dir d gs)) ⊎ IsQuiet (role d e)
+covered limit T d [] p e each at given = absurd given
+covered limit T d (g ∷ gs) p e each at (inl i) = elim (cases_Bool (same_direction d g.dir)) [
+  | inl t ↦ inl (rw t (in-left p g.positions (flat (of_dir d gs)) i))
+  | inr t ↦ inr (inl (own-other d g.dir e t (carries-own T g.dir g.message g.positions p e each.0.carried i at)))
+]
+covered limit T d (g ∷ gs) p e each at (inr i) = elim (covered limit T d gs p e each.1 at i) [
+  | inl j ↦ inl (elim (cases_Bool (same_direction d g.dir)) [
+    | inl t ↦ rw t (in-right p g.positions (flat (of_dir d gs)) j)
+    | inr t ↦ rw t j
+  ])
+  | inr q ↦ inr q
+]
+
+cover-of : (limit : ℕ) (T : List Entry) (M : List (Dir × List ℕ)) (d : Dir) (r : IsRecording limit T M) → Cover T d 0 (flat (of_dir d r.transfers))
+cover-of limit T M d r p e _ at = elim (r.others p e at) [
+  | inl i ↦ covered limit T d r.transfers p e r.each at i
+  | inr h ↦ inr (idle-quiet d e h)
+]
+
+abbrev transfer_place : Transfer → Placed
+transfer_place g = record { place = last_or 0 g.positions; dir = g.dir; message = g.message }
+
+transfer-rise : (n : ℕ) (gs : List Transfer) → EachPair AreApart gs → ((g : Transfer) (rest : List Transfer) → gs ≡ g ∷ rest → n ≤ last_or 0 g.positions) → Rise n (map transfer_place gs)
+transfer-rise n [] pairs h = tt
+transfer-rise n (g ∷ gs) pairs h = (h g gs refl, transfer-rise (suc (last_or 0 g.positions)) gs pairs.1 (λ x rest same. let a = subst (AllByRecursion (AreApart g)) same pairs.0 in let o = a.0.order in omega arith))
+
+transfer-side : (d : Dir) (gs : List Transfer) → side d (map transfer_place gs) ≡ placed_of (of_dir d gs)
+transfer-side d [] = refl
+transfer-side d (g ∷ gs) = elim (cases_Bool (same_direction d g.dir)) [
+  | inl t ↦ rw t (ap (λ l. (last_or 0 g.positions, g.message) ∷ l) (transfer-side d gs))
+  | inr t ↦ rw t (transfer-side d gs)
+]
+
+transfer-pairs : (gs : List Transfer) → map pair (map transfer_place gs) ≡ map (λ g. (g.dir, g.message)) gs
+transfer-pairs [] = refl
+transfer-pairs (g ∷ gs) = ap (λ l. (g.dir, g.message) ∷ l) (transfer-pairs gs)
+
+-- what a recording tells behind any trace: each message at the last of its positions
+told-recording : (limit : ℕ) (before T : List Entry) (M : List (Dir × List ℕ)) (r : IsRecording limit T M) → all_told limit 0 before T ≡ map transfer_place r.transfers
+told-recording limit before T M r =
+    merge 0 0 (all_told limit 0 before T) (map transfer_place r.transfers) (told-rise limit 0 before T) (transfer-rise 0 r.transfers r.pairs (λ g rest same. omega arith)) (λ d.
+    sym (heard-side limit d 0 before T)
+    ∙ direction-heard limit before T d (of_dir d r.transfers) (goods-of limit T d r.transfers r.each) (rising-of limit T d r.transfers r.each r.pairs) (cover-of limit T M d r)
+    ∙ sym (transfer-side d r.transfers))
+
+pub recording-delivers-behind : (limit : ℕ) (before T : List Entry) (M : List (Dir × List ℕ)) → IsRecording limit T M → messages limit (before ++ T) ≡ messages limit before ++ M
+recording-delivers-behind limit before T M r =
+    messages-append limit [] before T
+    ∙ ap (λ l. messages limit before ++ l) (
+    messages-told limit 0 before T
+    ∙ ap (map pair) (told-recording limit before T M r)
+    ∙ transfer-pairs r.transfers
+    ∙ r.messages)
+
+pub recording-delivers : (limit : ℕ) (T : List Entry) (M : List (Dir × List ℕ)) → IsRecording limit T M → messages limit T ≡ M
+recording-delivers limit T M r = recording-delivers-behind limit [] T M r
+
+within-transfers : (k : ℕ) (ts : List Transfer) → map pair (told_within k (map transfer_place ts)) ≡ ended_within k ts
+within-transfers k [] = refl
+within-transfers k (t ∷ ts) = elim (cases_Bool (nat_lt (last_or 0 t.positions) k)) [
+  | inl b ↦ rw b (ap (λ l. (t.dir, t.message) ∷ l) (within-transfers k ts))
+  | inr b ↦ rw b (within-transfers k ts)
+]
+
+pub delivers-at-last : (limit : ℕ) (before T : List Entry) (M : List (Dir × List ℕ)) (r : IsRecording limit T M) (n : ℕ)
+    → messages limit (before ++ take n T) ≡ messages limit before ++ ended_within n r.transfers
+delivers-at-last limit before T M r n =
+    messages-append limit [] before (take n T)
+    ∙ ap (λ l. messages limit before ++ l) (
+    messages-told limit 0 before (take n T)
+    ∙ ap (map pair) (told-take limit n before T ∙ ap (told_within n) (told-recording limit before T M r))
+    ∙ within-transfers n r.transfers)

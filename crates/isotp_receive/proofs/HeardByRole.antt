@@ -1,0 +1,97 @@
+-- What a frame tells a direction, by the role that it has for it: the message that it completes, or nothing.
+use Rattle.std.proofs.Common.{◌≡◌, ℕ, true, List, [], ◌∷◌, ◌++◌, take, nat_le, ◌==◌, Option, Some, None, Result, Ok, Err, refl, sym, ◌∙◌, ap, cond}
+use Rattle.std.proofs.lemmas.Bool.{cases_Bool, false≢true}
+use Rattle.can_log.specs.Dir.{other_direction}
+use Rattle.can_log.specs.declared.frame.Dir.{Dir}
+use Rattle.can_log.specs.declared.frame.Dir.TheVariants.{Tester, Unit}
+use Rattle.isotp_pdu.specs.Layout.{Layout, layout_of}
+use Rattle.isotp_pdu.specs.Layout as layout
+use Rattle.isotp_pdu.specs.declared.PduFault.{PduFault}
+use Rattle.isotp_pdu.specs.declared.Status.TheVariants.{Continue, Wait, Overflow}
+use Rattle.isotp_receive.specs.declared.reception.Judged.TheVariants as judged_as
+use Rattle.isotp_receive.specs.declared.reception.Judged.{Judged}
+use Rattle.isotp_receive.specs.declared.event.Reason.TheVariants as as_reason
+use Rattle.std.proofs.Common.{inl, inr}
+use Rattle.isotp_receive.specs.Trace.{Entry, Role, single, first, consecutive, continue_or_wait, overflow, no_part, role, own_role, other_role, same_direction}
+use Rattle.isotp_receive.specs.Standing.{Standing, stands}
+use Rattle.isotp_receive.specs.Verdict.{began, dropped, verdict, on_layout, on_continue_or_wait, on_overflow}
+use Rattle.isotp_receive.specs.Heard.{placed}
+use Rattle.isotp_receive.specs.Machine.{judged, on_judged}
+use Rattle.isotp_receive.proofs.Judgement.{on-judged}
+
+-- the message that a frame of this role completes, where this stands
+abbrev pub completed_by : Judged → Standing → List ℕ → List (List ℕ)
+completed_by judged_as.Last s bytes = take s.len (s.bytes ++ bytes) ∷ []
+completed_by judged_as.More s bytes = []
+completed_by judged_as.Late s bytes = []
+completed_by judged_as.Sequence s bytes = []
+completed_by judged_as.Length s bytes = []
+
+abbrev pub completed : Option Standing → ℕ → Role → List (List ℕ)
+completed o micros (single m) = m ∷ []
+completed None micros (consecutive sequence_number can_dl bytes) = []
+completed (Some s) micros (consecutive sequence_number can_dl bytes) = completed_by (judged s micros sequence_number can_dl) s bytes
+completed o micros (first s) = []
+completed o micros continue_or_wait = []
+completed o micros overflow = []
+completed o micros no_part = []
+
+abbrev pub at_place : ℕ → List (List ℕ) → List (ℕ × List ℕ)
+at_place n [] = []
+at_place n (m ∷ ms) = (n, m) ∷ []
+
+placed-judged : (n : ℕ) (d : Dir) (s : Standing) (j : Judged) (sequence_number : ℕ) (bytes : List ℕ) → placed n (on_judged d s j sequence_number bytes).told ≡ at_place n (completed_by j s bytes)
+placed-judged n d s judged_as.Last sequence_number bytes = refl
+placed-judged n d s judged_as.More sequence_number bytes = refl
+placed-judged n d s judged_as.Late sequence_number bytes = refl
+placed-judged n d s judged_as.Sequence sequence_number bytes = refl
+placed-judged n d s judged_as.Length sequence_number bytes = refl
+
+placed-pace : (n : ℕ) (o : Option Standing) → placed n (on_continue_or_wait o).told ≡ []
+placed-pace n None = refl
+placed-pace n (Some s) = refl
+
+placed-overflow : (n : ℕ) (d : Dir) (o : Option Standing) → placed n (on_overflow d o).told ≡ []
+placed-overflow n d None = refl
+placed-overflow n d (Some s) = elim (cases_Bool (s.taken == 0)) [ inl e ↦ rw e refl | inr e ↦ rw e refl ]
+
+placed-first : (n limit len : ℕ) → placed n (cond (nat_le len limit) began (dropped (as_reason.TooLong len))) ≡ []
+placed-first n limit len = elim (cases_Bool (nat_le len limit)) [ inl e ↦ rw e refl | inr e ↦ rw e refl ]
+
+-- what a reading of the direction's own frame tells
+placed-reading : (n limit : ℕ) (d : Dir) (own others : Option Standing) (line micros : ℕ) (x : Result Layout PduFault)
+    → placed n (on_layout limit d own others micros x).told ≡ at_place n (completed own micros (own_role line micros x))
+placed-reading n limit d own others line micros (Err f) = refl
+placed-reading n limit d own others line micros (Ok (layout.single m)) = refl
+placed-reading n limit d own others line micros (Ok (layout.first len rx_dl bytes)) = placed-first n limit len
+placed-reading n limit d None others line micros (Ok (layout.consecutive sequence_number can_dl bytes)) = refl
+placed-reading n limit d (Some s) others line micros (Ok (layout.consecutive sequence_number can_dl bytes)) =
+    ap (λ a. placed n a.told) (on-judged d s micros sequence_number can_dl bytes) ∙ placed-judged n d s (judged s micros sequence_number can_dl) sequence_number bytes
+placed-reading n limit d own others line micros (Ok (layout.flow_control Continue)) = placed-pace n others
+placed-reading n limit d own others line micros (Ok (layout.flow_control Wait)) = placed-pace n others
+placed-reading n limit d own others line micros (Ok (layout.flow_control Overflow)) = placed-overflow n (other_direction d) others
+
+nothing-else : (o : Option Standing) (micros : ℕ) (x : Result Layout PduFault) → completed o micros (other_role x) ≡ []
+nothing-else o micros (Err f) = refl
+nothing-else o micros (Ok (layout.single m)) = refl
+nothing-else o micros (Ok (layout.first len rx_dl bytes)) = refl
+nothing-else o micros (Ok (layout.consecutive sequence_number can_dl bytes)) = refl
+nothing-else o micros (Ok (layout.flow_control Continue)) = refl
+nothing-else o micros (Ok (layout.flow_control Wait)) = refl
+nothing-else o micros (Ok (layout.flow_control Overflow)) = refl
+
+pub same : (d e : Dir) → same_direction d e ≡ true → d ≡ e
+same Tester Tester h = refl
+same Unit Unit h = refl
+same Tester Unit h = absurd (false≢true h)
+same Unit Tester h = absurd (false≢true h)
+
+-- what a frame tells a direction, by its role
+pub told-by-role : (limit : ℕ) (d : Dir) (n : ℕ) (past : List Entry) (e : Entry)
+    → cond (same_direction d e.dir) (placed n (verdict limit past e).told) [] ≡ at_place n (completed (stands limit d past) e.micros (role d e))
+unfolding verdict role
+told-by-role limit d n past e =
+    elim (cases_Bool (same_direction d e.dir)) [
+      | inl q ↦ rw q (rw (same d e.dir q) (placed-reading n limit e.dir (stands limit e.dir past) (stands limit (other_direction e.dir) past) e.line e.micros (layout_of e.frame)))
+      | inr q ↦ rw q (ap (at_place n) (sym (nothing-else (stands limit d past) e.micros (layout_of e.frame))))
+    ]

@@ -1,0 +1,47 @@
+-- Positions of a list: what stands before a position, and after it.
+use Rattle.std.proofs.Common.{◌≡◌, ℕ, zero, suc, ◌+◌, ◌-◌, ◌<◌, List, [], ◌∷◌, ◌++◌, length, take, drop, Some, refl, ◌∙◌, ap, arith}
+use Rattle.std.specs.Prelude.{slice_get, slice_range}
+use Rattle.std.proofs.lemmas.List.{take_at}
+
+pub split-at : {X : Type 0} (xs : List X) (c : ℕ) (x : X) → slice_get xs c ≡ Some x
+    → (before : List X) × (after : List X) × (xs ≡ before ++ x ∷ after) × (length before ≡ c)
+split-at [] c x h = absurd (cc)
+split-at (y ∷ xs) zero x h = (let same : y ≡ x = cc in ([], xs, ap (λ z. z ∷ xs) same, refl))
+split-at (y ∷ xs) (suc c) x h =
+    let rest = split-at xs c x h in
+    (y ∷ rest.0, rest.1, ap (λ l. y ∷ l) rest.2, ap suc rest.3)
+
+-- what stands at c, behind y
+pub split-behind : {X : Type 0} (before : List X) (y : X) (rest : List X) (c : ℕ) (x : X) → length before < c → slice_get (before ++ y ∷ rest) c ≡ Some x
+    → (b : List X) × (after : List X) × (rest ≡ b ++ x ∷ after) × (c ≡ suc (length before) + length b)
+split-behind [] y rest zero x later h = absurd (omega arith)
+split-behind [] y rest (suc c) x later h =
+    let w = split-at rest c x h in
+    (w.0, w.1, w.2, (let e = w.3 in omega arith))
+split-behind (z ∷ before) y rest zero x later h = absurd (omega arith)
+split-behind (z ∷ before) y rest (suc c) x later h =
+    let w = split-behind before y rest c x (omega arith) h in
+    (w.0, w.1, w.2, (let e = w.3 in omega arith))
+
+-- what stands within the first of two lists
+pub get-left : {X : Type 0} (xs ys : List X) (c : ℕ) → c < length xs → slice_get (xs ++ ys) c ≡ slice_get xs c
+get-left [] ys c below = absurd (omega arith)
+get-left (x ∷ xs) ys zero below = refl
+get-left (x ∷ xs) ys (suc c) below = get-left xs ys c (omega arith)
+
+drop-behind : {X : Type 0} (before : List X) (y : X) (rest : List X) → drop (length before + 1) (before ++ y ∷ rest) ≡ rest
+drop-behind [] y rest = refl
+drop-behind (z ∷ before) y rest =
+    let next : suc (length before) + 1 ≡ suc (length before + 1) = omega arith in
+    rw next (drop-behind before y rest)
+
+-- the elements strictly between y and what stands behind b
+pub range-behind : {X : Type 0} (before : List X) (y : X) (b rest : List X)
+    → slice_range (before ++ y ∷ (b ++ rest)) (length before + 1) (suc (length before) + length b) ≡ b
+range-behind before y b rest =
+    let size : suc (length before) + length b - (length before + 1) ≡ length b = omega arith in
+    ap (take (suc (length before) + length b - (length before + 1))) (drop-behind before y (b ++ rest))
+    ∙ ap (λ n. take n (b ++ rest)) size ∙ take_at b rest (length b) refl
+
+pub cons-head : {X : Type 0} {x y : X} {xs ys : List X} → x ∷ xs ≡ y ∷ ys → x ≡ y
+cons-head h = cc

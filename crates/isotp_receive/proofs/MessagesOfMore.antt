@@ -1,0 +1,51 @@
+-- The messages of a trace with one more frame.
+use Rattle.std.proofs.Common.{◌≡◌, ℕ, ◌+◌, ◌<◌, List, [], ◌∷◌, ◌++◌, length, take, get_or, refl, sym, ◌∙◌, ap, append_assoc}
+use Rattle.std.proofs.lemmas.List.{append-nil, take_more, map-append}
+use Rattle.std.specs.Borrow.{Bor}
+use Rattle.can_log.specs.declared.frame.Dir.{Dir}
+use Rattle.isotp_receive.specs.declared.messages.Message.{Message}
+use Rattle.isotp_receive.specs.declared.messages.Recorded.{Recorded}
+use Rattle.isotp_receive.specs.declared.event.Verdict.{Verdict}
+use Rattle.isotp_receive.specs.declared.event.Verdict.TheVariants as as_told
+use Rattle.isotp_receive.specs.Trace.{Entry}
+use Rattle.isotp_receive.specs.Standing.{Receptions, receptions_after}
+use Rattle.isotp_receive.specs.Verdict.{Answer, messages, messages_after, told_message, verdict}
+use Rattle.isotp_receive.specs.EventSeen.{seen_verdict}
+use Rattle.isotp_receive.specs.Recorded.{entries, entry_of, sent}
+
+more_entries : (rs : List Recorded) (i : ℕ) (r : Recorded) → r ≡ get_or rs i r → i < length rs → entries (take (i + 1) rs) ≡ entries (take i rs) ++ entry_of r ∷ []
+more_entries rs i r e h =
+    ap entries (take_more rs i r h) ∙ map-append entry_of (take i rs) (get_or rs i r ∷ []) ∙ ap (λ x. entries (take i rs) ++ entry_of x ∷ []) (sym e)
+
+pub messages-snoc : (limit : ℕ) (past es : List Entry) (e : Entry)
+    → messages_after limit past (es ++ e ∷ []) ≡ messages_after limit past es ++ told_message e.dir (verdict limit (past ++ es) e).told
+messages-snoc limit past [] e = append-nil _ ∙ ap (λ p. told_message e.dir (verdict limit p e).told) (sym (append-nil past))
+messages-snoc limit past (x ∷ es) e =
+    ap (λ ms. told_message x.dir (verdict limit past x).told ++ ms)
+    (messages-snoc limit (past ++ x ∷ []) es e ∙ ap (λ p. messages_after limit (past ++ x ∷ []) es ++ told_message e.dir (verdict limit p e).told) (append_assoc past (x ∷ []) es))
+    ∙ sym (append_assoc (told_message x.dir (verdict limit past x).told) (messages_after limit (past ++ x ∷ []) es) (told_message e.dir (verdict limit (past ++ x ∷ es) e).told))
+
+-- what holds after one more frame of the slice
+module _ (limit : ℕ) (rs : List Recorded) (i : ℕ) (r : Recorded) (is : r ≡ get_or rs i r) (below : i < length rs) where
+  pub stands_next : (p q : Receptions) → p ≡ receptions_after limit (entries (take i rs))
+      → ((T : List Entry) → p ≡ receptions_after limit T → q ≡ receptions_after limit (T ++ entry_of r ∷ []))
+      → q ≡ receptions_after limit (entries (take (i + 1) rs))
+  stands_next p q h step = step (entries (take i rs)) h ∙ ap (receptions_after limit) (sym (more_entries rs i r is below))
+
+  pub found_next : (p : Receptions) (found : List (Dir × List ℕ)) (answer : Answer) → p ≡ receptions_after limit (entries (take i rs))
+      → ((T : List Entry) → p ≡ receptions_after limit T → answer ≡ verdict limit T (entry_of r))
+      → found ≡ messages limit (entries (take i rs))
+      → found ++ told_message r.dir answer.told ≡ messages limit (entries (take (i + 1) rs))
+  found_next p found answer h step e =
+      let told = step (entries (take i rs)) h in
+      rw (more_entries rs i r is below, messages-snoc limit [] (entries (take i rs)) (entry_of r), told, e) refl
+
+pub told_none : (d : Dir) (v : Verdict) → ((m : Bor (List ℕ)) → v ≡ as_told.Message m → ⊥) → told_message d (seen_verdict v) ≡ []
+told_none d (as_told.Message m) h = absurd (h m refl)
+told_none d as_told.Began h = refl
+told_none d as_told.Stored h = refl
+told_none d as_told.Flow h = refl
+told_none d (as_told.Dropped r) h = refl
+
+pub sent-snoc : (ms : List Message) (m : Message) → sent (ms ++ m ∷ []) ≡ sent ms ++ (m.dir, m.bytes.items) ∷ []
+sent-snoc ms m = map-append (λ m. (m.dir, m.bytes.items)) ms (m ∷ [])

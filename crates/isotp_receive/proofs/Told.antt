@@ -1,0 +1,195 @@
+-- What a trace tells: its messages, each with its direction and the position of the frame that completes it.
+use Rattle.std.proofs.Common.{◌≡◌, ℕ, suc, ◌+◌, ◌<◌, ◌≤◌, length, take, drop, nat_lt, append_assoc, length-take, Bool, true, false, List, [], ◌∷◌, ◌++◌, map, refl, sym, ◌∙◌, ap, arith, cond, inl, inr}
+use Rattle.std.specs.Prelude.{⊤, ◌⊎◌}
+use Rattle.std.proofs.Math.ListN.{drop_of_length-le}
+use Rattle.std.proofs.lemmas.List.{append-nil, take-append-drop}
+use Rattle.std.proofs.lemmas.Bool.{cases_Bool, le-ltb, lt-ltb, ltb-true, ltb-false}
+use Rattle.can_log.specs.declared.frame.Dir.{Dir}
+use Rattle.can_log.specs.declared.frame.Dir.TheVariants.{Tester, Unit}
+use Rattle.isotp_receive.specs.Trace.{Entry, same_direction}
+use Rattle.isotp_receive.specs.Verdict.{Told, message, began, stored, flowed, dropped, verdict, told_message, messages_after}
+use Rattle.isotp_receive.specs.Heard.{placed, heard}
+use Rattle.isotp_receive.proofs.ListPositions.{cons-head}
+use Rattle.isotp_receive.proofs.HeardByRole.{same}
+
+pub self : (d : Dir) → same_direction d d ≡ true
+self Tester = refl
+self Unit = refl
+
+pub record Placed : Type 0 where
+  pub place : ℕ
+  pub dir : Dir
+  pub message : List ℕ
+
+abbrev pub tag : Dir → List (ℕ × List ℕ) → List Placed
+tag d [] = []
+tag d (x ∷ xs) = record { place = x.0; dir = d; message = x.1 } ∷ tag d xs
+
+abbrev pub side : Dir → List Placed → List (ℕ × List ℕ)
+side d [] = []
+side d (x ∷ xs) = cond (same_direction d x.dir) ((x.place, x.message) ∷ side d xs) (side d xs)
+
+abbrev pub all_told : ℕ → ℕ → List Entry → List Entry → List Placed
+all_told limit n past [] = []
+all_told limit n past (e ∷ es) = tag e.dir (placed n (verdict limit past e).told) ++ all_told limit (suc n) (past ++ e ∷ []) es
+
+abbrev pub Rise : ℕ → List Placed → Type 0
+Rise n [] = ⊤
+Rise n (x ∷ xs) = (n ≤ x.place) × Rise (suc x.place) xs
+
+either : (b : Bool) (xs : List (ℕ × List ℕ)) → cond b [] [] ++ xs ≡ xs
+either true xs = refl
+either false xs = refl
+
+one-side : (n : ℕ) (d x : Dir) (t : Told) (xs : List Placed) → cond (same_direction d x) (placed n t) [] ++ side d xs ≡ side d (tag x (placed n t) ++ xs)
+one-side n d x (message m) xs = elim (cases_Bool (same_direction d x)) [ inl t ↦ rw t refl | inr t ↦ rw t refl ]
+one-side n d x began xs = either (same_direction d x) (side d xs)
+one-side n d x stored xs = either (same_direction d x) (side d xs)
+one-side n d x flowed xs = either (same_direction d x) (side d xs)
+one-side n d x (dropped r) xs = either (same_direction d x) (side d xs)
+
+pub heard-side : (limit : ℕ) (d : Dir) (n : ℕ) (past es : List Entry) → heard limit d n past es ≡ side d (all_told limit n past es)
+heard-side limit d n past [] = refl
+heard-side limit d n past (e ∷ es) =
+    ap (λ l. cond (same_direction d e.dir) (placed n (verdict limit past e).told) [] ++ l) (heard-side limit d (suc n) (past ++ e ∷ []) es)
+    ∙ one-side n d e.dir (verdict limit past e).told (all_told limit (suc n) (past ++ e ∷ []) es)
+
+abbrev pub pair : Placed → Dir × List ℕ
+pair x = (x.dir, x.message)
+
+one-message : (n : ℕ) (x : Dir) (t : Told) (xs : List Placed) → told_message x t ++ map pair xs ≡ map pair (tag x (placed n t) ++ xs)
+one-message n x (message m) xs = refl
+one-message n x began xs = refl
+one-message n x stored xs = refl
+one-message n x flowed xs = refl
+one-message n x (dropped r) xs = refl
+
+pub messages-told : (limit n : ℕ) (past es : List Entry) → messages_after limit past es ≡ map pair (all_told limit n past es)
+messages-told limit n past [] = refl
+messages-told limit n past (e ∷ es) =
+    ap (λ l. told_message e.dir (verdict limit past e).told ++ l) (messages-told limit (suc n) (past ++ e ∷ []) es)
+    ∙ one-message n e.dir (verdict limit past e).told (all_told limit (suc n) (past ++ e ∷ []) es)
+
+weaken : (n k : ℕ) (xs : List Placed) → n ≤ k → Rise k xs → Rise n xs
+weaken n k [] le h = tt
+weaken n k (x ∷ xs) le h = (let a = h.0 in omega arith, h.1)
+
+one-rise : (n : ℕ) (x : Dir) (t : Told) (xs : List Placed) → Rise (suc n) xs → Rise n (tag x (placed n t) ++ xs)
+one-rise n x (message m) xs h = (omega arith, h)
+one-rise n x began xs h = weaken n (suc n) xs (omega arith) h
+one-rise n x stored xs h = weaken n (suc n) xs (omega arith) h
+one-rise n x flowed xs h = weaken n (suc n) xs (omega arith) h
+one-rise n x (dropped r) xs h = weaken n (suc n) xs (omega arith) h
+
+pub told-rise : (limit n : ℕ) (past es : List Entry) → Rise n (all_told limit n past es)
+told-rise limit n past [] = tt
+told-rise limit n past (e ∷ es) = one-rise n e.dir (verdict limit past e).told _ (told-rise limit (suc n) (past ++ e ∷ []) es)
+
+same-placed : (x y : Placed) → x.dir ≡ y.dir → ◌≡◌ {A = ℕ × List ℕ} (x.place, x.message) (y.place, y.message) → x ≡ y
+same-placed x y d h =
+    ap (λ a. record { place = a.0; dir = x.dir; message = a.1 }) h ∙ ap (λ b. record { place = y.place; dir = b; message = y.message }) d
+
+head-above : (k : ℕ) (d : Dir) (p : ℕ) (m : List ℕ) (r : List (ℕ × List ℕ)) (xs : List Placed) → Rise k xs → side d xs ≡ (p, m) ∷ r → k ≤ p
+head-above k d p m r [] h e = absurd (cc)
+head-above k d p m r (x ∷ xs) h e = elim (cases_Bool (same_direction d x.dir)) [
+  | inl t ↦ (let f = rw t at e in let same_place : x.place ≡ p = ap (λ w. w.0) (cons-head f) in let a = h.0 in omega arith)
+  | inr t ↦ (let f = rw t at e in let b = head-above (suc x.place) d p m r xs h.1 f in let a = h.0 in omega arith)
+]
+
+tails : (d : Dir) (x : Placed) (xs ys : List Placed) → side d (x ∷ xs) ≡ side d (x ∷ ys) → side d xs ≡ side d ys
+tails d x xs ys e = elim (cases_Bool (same_direction d x.dir)) [
+  | inl t ↦ (let f = rw t at e in cc)
+  | inr t ↦ (let f = rw t at e in f)
+]
+
+-- lists that rise are one where they are one in each direction
+pub merge : (n k : ℕ) (xs ys : List Placed) → Rise n xs → Rise k ys → ((d : Dir) → side d xs ≡ side d ys) → xs ≡ ys
+merge n k [] [] h g e = refl
+merge n k [] (y ∷ ys) h g e = absurd (let f = rw (self y.dir) at (e y.dir) in cc)
+merge n k (x ∷ xs) [] h g e = absurd (let f = rw (self x.dir) at (e x.dir) in cc)
+merge n k (x ∷ xs) (y ∷ ys) h g e = elim (cases_Bool (same_direction x.dir y.dir)) [
+  | inl t ↦ (let f = rw (self x.dir, t) at (e x.dir) in
+      let side_same : x.dir ≡ y.dir = same x.dir y.dir t in
+      let heads : x ≡ y = same-placed x y side_same (cons-head f) in
+      let rest = (merge (suc x.place) (suc y.place) xs ys h.1 g.1 (λ d. tails d x xs ys (e d ∙ ap (λ z. side d (z ∷ ys)) (sym heads)))) in cc)
+  | inr t ↦ absurd (
+      let f = rw (self x.dir, t) at (e x.dir) in
+      let a = head-above (suc y.place) x.dir x.place x.message (side x.dir xs) ys g.1 (sym f) in
+      let u : same_direction y.dir x.dir ≡ false = flipped x.dir y.dir t in
+      let f2 = rw (self y.dir, u) at (e y.dir) in
+      let b = head-above (suc x.place) y.dir y.place y.message (side y.dir ys) xs h.1 f2 in
+      omega arith)
+] where
+  flipped : (a b : Dir) → same_direction a b ≡ false → same_direction b a ≡ false
+  flipped Tester Tester t = t
+  flipped Tester Unit t = refl
+  flipped Unit Tester t = refl
+  flipped Unit Unit t = t
+
+pub messages-append : (limit : ℕ) (past xs ys : List Entry) → messages_after limit past (xs ++ ys) ≡ messages_after limit past xs ++ messages_after limit (past ++ xs) ys
+messages-append limit past [] ys = ap (λ l. messages_after limit l ys) (sym (append-nil past))
+messages-append limit past (e ∷ xs) ys =
+    ap (λ l. told_message e.dir (verdict limit past e).told ++ l) (messages-append limit (past ++ e ∷ []) xs ys
+    ∙ ap (λ l. messages_after limit (past ++ e ∷ []) xs ++ messages_after limit l ys) (append_assoc past (e ∷ []) xs))
+    ∙ sym (append_assoc (told_message e.dir (verdict limit past e).told) (messages_after limit (past ++ e ∷ []) xs) (messages_after limit (past ++ (e ∷ xs)) ys))
+
+-- what is told of the first frames
+
+told-append : (limit n : ℕ) (past xs ys : List Entry) → all_told limit n past (xs ++ ys) ≡ all_told limit n past xs ++ all_told limit (n + length xs) (past ++ xs) ys
+told-append limit n past [] ys = (let zero_more : n ≡ n + 0 = omega arith in
+    ap (λ l. all_told limit n l ys) (sym (append-nil past)) ∙ ap (λ k. all_told limit k (past ++ []) ys) zero_more)
+told-append limit n past (e ∷ xs) ys =
+    let one_more_place : suc n + length xs ≡ n + length (e ∷ xs) = omega arith in
+    ap (λ l. tag e.dir (placed n (verdict limit past e).told) ++ l) (told-append limit (suc n) (past ++ e ∷ []) xs ys
+    ∙ ap (λ l. all_told limit (suc n) (past ++ e ∷ []) xs ++ all_told limit (suc n + length xs) l ys) (append_assoc past (e ∷ []) xs)
+    ∙ ap (λ k. all_told limit (suc n) (past ++ e ∷ []) xs ++ all_told limit k (past ++ e ∷ xs) ys) one_more_place)
+    ∙ sym (append_assoc (tag e.dir (placed n (verdict limit past e).told)) (all_told limit (suc n) (past ++ e ∷ []) xs) _)
+
+abbrev pub told_within : ℕ → List Placed → List Placed
+told_within k [] = []
+told_within k (x ∷ xs) = cond (nat_lt x.place k) (x ∷ told_within k xs) (told_within k xs)
+
+within-append : (k : ℕ) (xs ys : List Placed) → told_within k (xs ++ ys) ≡ told_within k xs ++ told_within k ys
+within-append k [] ys = refl
+within-append k (x ∷ xs) ys = elim (cases_Bool (nat_lt x.place k)) [
+  | inl t ↦ rw t (ap (λ l. x ∷ l) (within-append k xs ys))
+  | inr t ↦ rw t (within-append k xs ys)
+]
+
+within-later : (k n : ℕ) (xs : List Placed) → k ≤ n → Rise n xs → told_within k xs ≡ []
+within-later k n [] le h = refl
+within-later k n (x ∷ xs) le h =
+    let past : nat_lt x.place k ≡ false = le-ltb x.place k (let a = h.0 in omega arith) in
+    rw past (within-later k (suc x.place) xs (let a = h.0 in omega arith) h.1)
+
+within-one : (k n : ℕ) (d : Dir) (t : Told) → n < k → told_within k (tag d (placed n t)) ≡ tag d (placed n t)
+within-one k n d (message m) below = (let inside : nat_lt n k ≡ true = lt-ltb n k below in rw inside refl)
+within-one k n d began below = refl
+within-one k n d stored below = refl
+within-one k n d flowed below = refl
+within-one k n d (dropped r) below = refl
+
+within-all : (limit k n : ℕ) (past es : List Entry) → n + length es ≤ k → told_within k (all_told limit n past es) ≡ all_told limit n past es
+within-all limit k n past [] le = refl
+within-all limit k n past (e ∷ es) le =
+    within-append k (tag e.dir (placed n (verdict limit past e).told)) (all_told limit (suc n) (past ++ e ∷ []) es)
+    ∙ ap (λ l. l ++ told_within k (all_told limit (suc n) (past ++ e ∷ []) es)) (within-one k n e.dir (verdict limit past e).told (omega arith))
+    ∙ ap (λ l. tag e.dir (placed n (verdict limit past e).told) ++ l) (within-all limit k (suc n) (past ++ e ∷ []) es (omega arith))
+
+rest-within : (limit k : ℕ) (past ys : List Entry) (n : ℕ) → (ys ≡ []) ⊎ (k ≤ n) → told_within k (all_told limit n past ys) ≡ []
+rest-within limit k past ys n (inl none) = rw none refl
+rest-within limit k past ys n (inr le) = within-later k n (all_told limit n past ys) le (told-rise limit n past ys)
+
+pub told-take : (limit k : ℕ) (before T : List Entry) → all_told limit 0 before (take k T) ≡ told_within k (all_told limit 0 before T)
+told-take limit k before T = sym (
+    ap (λ l. told_within k (all_told limit 0 before l)) (sym (take-append-drop k T))
+    ∙ ap (told_within k) (told-append limit 0 before (take k T) (drop k T))
+    ∙ within-append k (all_told limit 0 before (take k T)) _
+    ∙ ap (λ l. l ++ told_within k (all_told limit (0 + length (take k T)) (before ++ take k T) (drop k T))) (within-all limit k 0 before (take k T) (omega (arith, length-take k T)))
+    ∙ ap (λ l. all_told limit 0 before (take k T) ++ l) (rest-within limit k (before ++ take k T) (drop k T) (0 + length (take k T)) whole)
+    ∙ append-nil (all_told limit 0 before (take k T))) where
+      whole : (drop k T ≡ []) ⊎ (k ≤ 0 + length (take k T))
+      whole = elim (cases_Bool (nat_lt (length T) k)) [
+        | inl t ↦ inl (drop_of_length-le T (let below = ltb-true (length T) k t in omega arith))
+        | inr t ↦ inr (let le = ltb-false (length T) k t in omega (arith, length-take k T))
+      ]

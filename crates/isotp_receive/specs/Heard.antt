@@ -1,0 +1,16 @@
+-- The messages of one direction that a trace delivers, each with the place of the frame that completes it.
+use Rattle.std.specs.Prelude.{ℕ, suc, List, [], ◌∷◌, ◌++◌, if◌then◌else◌}
+use Rattle.can_log.specs.declared.frame.Dir.{Dir}
+use Rattle.isotp_receive.specs.Trace.{Entry, same_direction}
+use Rattle.isotp_receive.specs.Verdict.{Told, message, began, stored, flowed, dropped, verdict}
+
+abbrev pub placed : ℕ → Told → List (ℕ × List ℕ)
+placed n (message m) = (n, m) ∷ []
+placed n began = []
+placed n stored = []
+placed n flowed = []
+placed n (dropped r) = []
+
+abbrev pub heard : ℕ → Dir → ℕ → List Entry → List Entry → List (ℕ × List ℕ)
+heard limit d n past [] = []
+heard limit d n past (e ∷ es) = (if same_direction d e.dir then placed n (verdict limit past e).told else []) ++ heard limit d (suc n) (past ++ e ∷ []) es

@@ -1,0 +1,12 @@
+-- A device of proof: what a reception becomes once the message that it lends is given back.
+use Rattle.std.specs.Prelude.{◌≡◌, ℕ, List, Option}
+use Rattle.std.specs.Borrow.{Fml, MutBor}
+use Rattle.std.specs.Io.BufRead.{Rests}
+use Rattle.isotp_receive.specs.Trace.{consecutive}
+use Rattle.isotp_receive.specs.Standing.{Standing}
+use Rattle.isotp_receive.specs.Machine.{continue}
+use Rattle.isotp_receive.specs.contracts.reception.Reception.{the_row}
+
+abbrev pub TakesConsecutive : MutBor (Option Standing) → ℕ → ℕ → ℕ → List ℕ → Fml
+TakesConsecutive s micros sequence_number can_dl bytes =
+    Rests the_row s (λ new. new ≡ continue s.now micros (consecutive sequence_number can_dl bytes))

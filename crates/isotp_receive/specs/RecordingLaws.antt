@@ -1,0 +1,28 @@
+-- What the public laws of recordings say.
+use Rattle.std.specs.Prelude.{◌≡◌, ◌≤◌, ℕ, List, ◌++◌, take}
+use Rattle.can_log.specs.declared.frame.Dir.{Dir}
+use Rattle.isotp_receive.specs.Trace.{Entry}
+use Rattle.isotp_receive.specs.Verdict.{messages}
+use Rattle.isotp_receive.specs.Recording.{IsRecording, ended_within}
+use Rattle.isotp_receive.specs.CleanTrace.{IsClean}
+
+-- a recording delivers its messages, in order, and nothing else
+abbrev pub RecordingDelivers : Type 0
+RecordingDelivers = (limit : ℕ) (T : List Entry) (M : List (Dir × List ℕ)) → IsRecording limit T M → messages limit T ≡ M
+
+-- it does so behind any trace, whatever stands there
+abbrev pub RecordingDeliversBehind : Type 0
+RecordingDeliversBehind =
+    (limit : ℕ) (before T : List Entry) (M : List (Dir × List ℕ)) → IsRecording limit T M
+    → messages limit (before ++ T) ≡ messages limit before ++ M
+
+-- each message is delivered at the last of its positions
+abbrev pub DeliversAtLastPosition : Type 0
+DeliversAtLastPosition =
+    (limit : ℕ) (before T : List Entry) (M : List (Dir × List ℕ)) (recording : IsRecording limit T M) (n : ℕ)
+    → messages limit (before ++ take n T) ≡ messages limit before ++ ended_within n recording.transfers
+
+-- A trace of which nothing is dropped, ended or left over is a recording of what it delivers. The limit is at least the
+-- length of the longest frame, since no rule bounds the message of a single frame by it.
+abbrev pub CleanTraceIsRecording : Type 0
+CleanTraceIsRecording = (limit : ℕ) (T : List Entry) → 64 ≤ limit → IsClean limit T → IsRecording limit T (messages limit T)

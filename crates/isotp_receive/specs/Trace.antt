@@ -1,0 +1,72 @@
+-- A trace: the frames of the two directions in the order of the log, and what each is to the reception of a direction.
+use Rattle.std.specs.Prelude.{ℕ, ◌≡◌, Bool, true, false, List, slice_get, if◌then◌else◌, Some, Result, Ok, Err}
+use Rattle.can_log.specs.Frame.{FrameValue}
+use Rattle.can_log.specs.declared.frame.Dir.{Dir}
+use Rattle.can_log.specs.declared.frame.Dir.TheVariants.{Tester, Unit}
+use Rattle.isotp_pdu.specs.Layout.{Layout, layout_of}
+use Rattle.isotp_pdu.specs.Layout as layout
+use Rattle.isotp_pdu.specs.declared.PduFault.{PduFault}
+use Rattle.isotp_pdu.specs.declared.Status.TheVariants.{Continue, Wait, Overflow}
+
+-- a frame of one of the two directions, with its line and its time
+pub record Entry : Type 0 where
+  pub line : ℕ
+  pub micros : ℕ
+  pub dir : Dir
+  pub frame : FrameValue
+
+-- at position p of T stands the frame e
+abbrev pub At : List Entry → ℕ → Entry → Type 0
+At T p e = slice_get T p ≡ Some e
+
+-- a first frame: its line and its time, the length that it announces, its CAN_DL, and the bytes of the message that it carries
+pub record FirstFrame : Type 0 where
+  pub line : ℕ
+  pub micros : ℕ
+  pub len : ℕ
+  pub rx_dl : ℕ
+  pub bytes : List ℕ
+
+-- what a frame is to the reception of a direction
+pub data Role : Type 0 where
+  -- a single frame of the direction: its message
+  single : List ℕ → Role
+  -- a first frame of it
+  first : FirstFrame → Role
+  -- a consecutive frame of it: its sequence number, its CAN_DL, its bytes
+  consecutive : ℕ → ℕ → List ℕ → Role
+  -- a flow control frame of the other direction that says continue or wait
+  continue_or_wait : Role
+  -- a flow control frame of the other direction that says overflow
+  overflow : Role
+  -- any other frame
+  no_part : Role
+
+-- the two are one direction
+abbrev pub same_direction : Dir → Dir → Bool
+same_direction Tester Tester = true
+same_direction Unit Unit = true
+same_direction Tester Unit = false
+same_direction Unit Tester = false
+
+-- to the direction that sent it (ISO 15765-2, section 9.6)
+abbrev pub own_role : ℕ → ℕ → Result Layout PduFault → Role
+own_role line micros (Ok (layout.single m)) = single m
+own_role line micros (Ok (layout.first len rx_dl bytes)) = first (record { line = line; micros = micros; len = len; rx_dl = rx_dl; bytes = bytes })
+own_role line micros (Ok (layout.consecutive sequence_number can_dl bytes)) = consecutive sequence_number can_dl bytes
+own_role line micros (Ok (layout.flow_control s)) = no_part
+own_role line micros (Err f) = no_part
+
+-- to the direction that it was sent to: flow control is all that matters
+abbrev pub other_role : Result Layout PduFault → Role
+other_role (Ok (layout.flow_control Continue)) = continue_or_wait
+other_role (Ok (layout.flow_control Wait)) = continue_or_wait
+other_role (Ok (layout.flow_control Overflow)) = overflow
+other_role (Ok (layout.single m)) = no_part
+other_role (Ok (layout.first len rx_dl bytes)) = no_part
+other_role (Ok (layout.consecutive sequence_number can_dl bytes)) = no_part
+other_role (Err f) = no_part
+
+-- what the frame e is to the reception of d
+unfoldable pub role : Dir → Entry → Role
+role d e = if same_direction d e.dir then own_role e.line e.micros (layout_of e.frame) else other_role (layout_of e.frame)

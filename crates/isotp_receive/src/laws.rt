@@ -1,0 +1,35 @@
+//! Laws of the receptions, for the proofs of callers: functions that do nothing.
+
+ghost use Rattle.isotp_receive.specs.Laws.{StandsOpen, OpenStands, OneIsOpen, KeepsFewer, MessageDelivers, VerdictIsTabled, CarriedAgrees, FitsAgrees};
+
+/// What stands after a trace is the reception that is open at its end by the positions of its frames.
+pub fn what_stands_is_open()
+    ensures is_open { StandsOpen }
+    ensures stands { OpenStands }
+{}
+
+/// At most one reception of a direction is open at a position.
+pub fn one_is_open()
+    ensures { OneIsOpen }
+{}
+
+/// A pair keeps fewer bytes of a message than the message has, and that is at most the limit.
+pub fn keeps_fewer_bytes()
+    ensures { KeepsFewer }
+{}
+
+/// The verdict on a frame is a message exactly where the trace delivers that message with the frame.
+pub fn a_message_is_delivered()
+    ensures { MessageDelivers }
+{}
+
+/// The table of verdicts has one for each frame, and that is the verdict.
+pub fn the_verdict_is_tabled()
+    ensures { VerdictIsTabled }
+{}
+
+/// What the places say of bytes and lengths is what the reception counts and tests.
+pub fn places_agree()
+    ensures carried { CarriedAgrees }
+    ensures fits { FitsAgrees }
+{}

@@ -1,0 +1,22 @@
+//! Laws of recordings, for the proofs of callers: functions that do nothing.
+//!
+//! A *recording* of a list of messages is a trace in which each message stands as one single frame,
+//! or as a first frame and its consecutive frames, and whatever else stands there carries nothing. It
+//! says nothing of how the frames are paced within the time-out, how long they are, or what they are
+//! padded with: so these can't change what is read.
+
+ghost use Rattle.isotp_receive.specs.RecordingLaws.{RecordingDelivers, RecordingDeliversBehind, DeliversAtLastPosition, CleanTraceIsRecording};
+
+/// A recording delivers exactly its messages, in order, each at the last of its frames; behind any
+/// trace too, even where a reception stands there.
+pub fn recording_delivers()
+    ensures alone { RecordingDelivers }
+    ensures behind_any_trace { RecordingDeliversBehind }
+    ensures at_last_position { DeliversAtLastPosition }
+{}
+
+/// A trace of which nothing is dropped, ended or left over is a recording of what it delivers: each
+/// single, first and consecutive frame belongs to exactly one delivered message.
+pub fn clean_trace_is_recording()
+    ensures certificate { CleanTraceIsRecording }
+{}

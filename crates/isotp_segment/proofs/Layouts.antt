@@ -1,0 +1,69 @@
+-- What the canonical frames say: each has a layout, and is read so.
+use Rattle.std.proofs.Common.{◌≡◌, ℕ, ◌-◌, ◌/◌, ◌%◌, ◌<◌, ◌≤◌, ◌^◌, List, [], ◌∷◌, length, take, drop, nat_le, Ok, refl, sym, ap, arith, inl, inr}
+use Rattle.std.specs.Prelude.{◌≢◌, replicate}
+use Rattle.std.proofs.lemmas.Bool.{leb-true, leb-false, cases_Bool}
+use Rattle.can_log.specs.Frame.{FrameValue}
+use Rattle.can_log.specs.declared.frame.Id.{Id}
+use Rattle.can_log.specs.declared.frame.Kind.TheVariants.{Classic, Remote}
+use Rattle.isotp_pdu.specs.declared.Status.TheVariants.{Continue}
+use Rattle.isotp_pdu.specs.Layout.{Layout, single, first, consecutive, flow_control, first_byte, least_first, Spells, layout_of}
+use Rattle.isotp_pdu.proofs.EveryFrame.{layout_is_read}
+use Rattle.isotp_segment.specs.CanonicalFrames.{filled, padding, single_control, first_control, consecutive_control, continue_control, room_in_first}
+use Rattle.isotp_segment.proofs.Padding.{filled-whole, filled-padded}
+use Rattle.isotp_segment.proofs.Bytes.{filled_by_place, length-filled}
+
+-- a classic frame of these bytes
+abbrev pub classic : Id → List ℕ → FrameValue
+classic id bytes = record { id = id; kind = Classic; bytes = bytes }
+
+-- a frame of 8 bytes that spells the layout is read so
+reads : (id : Id) (control bytes : List ℕ) (layout : Layout) → Spells (filled control bytes) layout → layout_of (classic id (filled control bytes)) ≡ Ok layout
+reads id control bytes layout spelled = (layout_is_read (classic id (filled control bytes)) layout).0 (record {
+  data_frame = data_frame;
+  frame_length = rw (length-filled control bytes) refl;
+  spelled = spelled;
+}) where
+  data_frame : Classic ≢ Remote
+  data_frame e = cc
+
+pub layout-single : (id : Id) (m : List ℕ) → 1 ≤ length m → length m ≤ 7 → layout_of (classic id (filled (single_control (length m)) m)) ≡ Ok (single m)
+layout-single id m some short = reads id (single_control (length m)) m (single m)
+    (replicate (8 - 1 - length m) padding, some, inl (omega (arith, length-filled (single_control (length m)) m), sym (filled-padded (single_control (length m)) m (omega arith) (omega arith))))
+
+short_control : ℕ → List ℕ
+short_control len = first_byte 1 (len / 2 ^ 8) ∷ (len % 256) ∷ []
+
+escaped_control : ℕ → List ℕ
+escaped_control len = first_byte 1 0 ∷ 0 ∷ (len / 2 ^ 24) ∷ (len / 2 ^ 16 % 256) ∷ (len / 2 ^ 8 % 256) ∷ (len % 256) ∷ []
+
+first_short : (id : Id) (m : List ℕ) → 8 ≤ length m → length m ≤ 4095 → layout_of (classic id (filled (short_control (length m)) m)) ≡ Ok (first (length m) 8 (take 6 m))
+unfolding short_control
+first_short id m low high =
+    let size = length-filled (short_control (length m)) m in
+    let least : least_first (length (filled (short_control (length m)) m)) ≡ 8 = ap least_first size in
+    reads id (short_control (length m)) m (first (length m) 8 (take 6 m))
+    (refl, sym size, inl (omega arith, high, sym (filled-whole (short_control (length m)) m (omega arith) (omega arith))))
+
+first_escaped : (id : Id) (m : List ℕ) → 4095 < length m → length m < 2 ^ 32 → layout_of (classic id (filled (escaped_control (length m)) m)) ≡ Ok (first (length m) 8 (take 2 m))
+unfolding escaped_control
+first_escaped id m low high =
+    let size = length-filled (escaped_control (length m)) m in
+    reads id (escaped_control (length m)) m (first (length m) 8 (take 2 m))
+    (refl, sym size, inr (low, high, sym (filled-whole (escaped_control (length m)) m (omega arith) (omega arith))))
+
+pub layout-first : (id : Id) (m : List ℕ) → 8 ≤ length m → length m < 2 ^ 32
+    → layout_of (classic id (filled (first_control (length m)) m)) ≡ Ok (first (length m) 8 (take (room_in_first (length m)) m))
+unfolding short_control escaped_control
+layout-first id m low high = elim (cases_Bool (nat_le (length m) 4095)) [
+  | inl t ↦ rw t (first_short id m low (leb-true (length m) 4095 t))
+  | inr t ↦ rw t (first_escaped id m (leb-false (length m) 4095 t) high)
+]
+
+pub layout-consecutive : (id : Id) (number : ℕ) (bytes : List ℕ) → layout_of (classic id (filled (consecutive_control number) bytes))
+    ≡ Ok (consecutive (number % 16) 8 (drop 1 (filled (consecutive_control number) bytes)))
+layout-consecutive id number bytes = reads id (consecutive_control number) bytes _
+    (omega arith, sym (length-filled (consecutive_control number) bytes), rw (filled_by_place (consecutive_control number) bytes) refl)
+
+pub layout-continue : (id : Id) → layout_of (classic id (filled continue_control [])) ≡ Ok (flow_control Continue)
+unfolding filled
+layout-continue id = reads id continue_control [] (flow_control Continue) (0, 0, replicate 5 padding, refl)

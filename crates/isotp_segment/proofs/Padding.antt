@@ -1,0 +1,52 @@
+-- The 8 bytes of a frame, as they are copied into it.
+use Rattle.std.proofs.Common.{◌≡◌, ℕ, ◌+◌, ◌-◌, ◌≤◌, List, ◌++◌, length, take, drop, sym, ◌∙◌, ap, arith}
+use Rattle.std.specs.Prelude.{replicate}
+use Rattle.std.proofs.Math.Seq.{take-append-add, take-append_seam, drop-append_seam}
+use Rattle.std.proofs.lemmas.List.{append-nil, take-append-le, drop-replicate, take-replicate}
+use Rattle.isotp_segment.specs.CanonicalFrames.{filled, padding}
+use borrow.Rule.Slice.PartMut.{put_mid}
+
+take-append-from : (n : ℕ) (xs ys : List ℕ) → length xs ≤ n → take n (xs ++ ys) ≡ xs ++ take (n - length xs) ys
+take-append-from n xs ys le =
+    let sum : n ≡ length xs + (n - length xs) = omega arith in
+    ap (λ k. take k (xs ++ ys)) sum ∙ take-append-add xs ys (n - length xs)
+
+-- the bytes leave no room for padding
+pub filled-whole : (control bytes : List ℕ) → length control ≤ 8 → 8 - length control ≤ length bytes
+    → control ++ take (8 - length control) bytes ≡ filled control bytes
+unfolding filled
+filled-whole control bytes fits long =
+    ap (λ l. control ++ l) (sym (take-append-le (8 - length control) bytes (replicate 8 padding) long))
+    ∙ sym (take-append-from 8 control (bytes ++ replicate 8 padding) fits)
+
+-- they do
+pub filled-padded : (control bytes : List ℕ) → length control ≤ 8 → length bytes ≤ 8 - length control
+    → control ++ (bytes ++ replicate (8 - length control - length bytes) padding) ≡ filled control bytes
+unfolding filled
+filled-padded control bytes fits short =
+    ap (λ l. control ++ (bytes ++ l)) (sym (take-replicate (8 - length control - length bytes) 8 padding (omega arith)))
+    ∙ ap (λ l. control ++ l) (sym (take-append-from (8 - length control) bytes (replicate 8 padding) short))
+    ∙ sym (take-append-from 8 control (bytes ++ replicate 8 padding) fits)
+
+-- bytes that are written into a frame of padding, behind its control information
+put_mid-behind : (control bytes : List ℕ) (size : ℕ)
+    → put_mid (length control) size (control ++ drop (length control) (replicate 8 padding)) bytes
+    ≡ control ++ (bytes ++ replicate (8 - length control - size) padding)
+put_mid-behind control bytes size =
+    rw (take-append_seam, drop-append_seam, drop-replicate, drop-replicate) (ap (λ n. control ++ (bytes ++ replicate n padding)) (let e : 8 - length control - size ≡ 8 - length control - size = omega arith in e))
+
+pub put_mid-whole : (control bytes written copied : List ℕ) → length control ≤ 8 → 8 - length control ≤ length bytes
+    → written ≡ control → copied ≡ take (8 - length control) bytes
+    → put_mid (length control) (8 - length control) (written ++ drop (length control) (replicate 8 padding)) copied ≡ filled control bytes
+put_mid-whole control bytes written copied fits long w c =
+    let none : 8 - length control - (8 - length control) ≡ 0 = omega arith in
+    rw (w, c) (put_mid-behind control (take (8 - length control) bytes) (8 - length control)
+    ∙ ap (λ n. control ++ (take (8 - length control) bytes ++ replicate n padding)) none
+    ∙ ap (λ l. control ++ l) (append-nil (take (8 - length control) bytes))
+    ∙ filled-whole control bytes fits long)
+
+pub put_mid-padded : (control bytes written copied : List ℕ) (size : ℕ) → length control ≤ 8 → length bytes ≤ 8 - length control → size ≡ length bytes
+    → written ≡ control → copied ≡ bytes
+    → put_mid (length control) size (written ++ drop (length control) (replicate 8 padding)) copied ≡ filled control bytes
+put_mid-padded control bytes written copied size fits short is w c =
+    rw (w, c, is) (put_mid-behind control bytes (length bytes) ∙ filled-padded control bytes fits short)

@@ -1,0 +1,4 @@
+pub mod CanonicalFrames
+pub mod FramesLeft
+pub mod Timed
+pub mod Laws

@@ -1,0 +1,121 @@
+//! A message as ISO-TP frames of one fixed spelling: its *canonical* frames.
+//!
+//! ISO 15765-2 leaves the sender of a message many choices: the size of the frames, the padding, the
+//! flow control. Here each choice is made once, so that equal messages become equal frames: classic
+//! frames of 8 bytes, padded with `CC`, and one continue frame from the other side directly behind a
+//! first frame. The frames are made one at a time, out of the message itself; nothing is allocated.
+//!
+//! ```
+//! let answer = [0x62, 0xF1, 0x90, 0x41, 0x42, 0x43, 0x44, 0x45];
+//! for (dir, bytes) in Segments::new(Dir::Unit, &answer) {
+//!     // Unit   10 08 62 F1 90 41 42 43
+//!     // Tester 30 00 00 CC CC CC CC CC
+//!     // Unit   21 44 45 CC CC CC CC CC
+//! }
+//! ```
+#![tactic(auto)]
+
+mod frame;
+pub mod laws;
+#[cfg(test)]
+mod tests;
+
+ghost use Rattle.std.specs.Prelude.{◌≡◌, ◌≤◌, ℕ, List, length};
+ghost use Rattle.can_log.specs.declared.frame.Dir.{Dir};
+ghost use Rattle.isotp_receive.specs.declared.TheConstants.{MESSAGE_LIMIT};
+ghost use Rattle.isotp_segment.specs.CanonicalFrames.{total_count, canonical_frames};
+
+use can_log::Dir;
+use frame::{CONSECUTIVE_ROOM, SINGLE_LIMIT, canonical_frame, room_in_first};
+use isotp_receive::MESSAGE_LIMIT;
+use std::iter::FusedIterator;
+
+/// The number of canonical frames of a message of `len` bytes, the continue frame counted.
+pub fn frame_count(len: usize) -> u64
+    requires some { 1 ≤ len }
+    requires limit { len ≤ MESSAGE_LIMIT }
+    ensures value { result ≡ total_count len }
+    ensures frames { (direction : Dir) (message : List ℕ) → len ≡ length message →
+        result ≡ length (canonical_frames MESSAGE_LIMIT direction message) }
+{
+    if len <= SINGLE_LIMIT {
+        return 1;
+    }
+    2 + (len - room_in_first(len)).div_ceil(CONSECUTIVE_ROOM) as u64
+}
+
+/// The canonical frames of a message, one after another: who sends it, and its bytes.
+#[derive(Debug, Drop)]
+pub struct Segments<'a> {
+    dir: Dir,
+    message: &'a [u8],
+    /// How many frames there are.
+    count: usize,
+    /// The number of the next one, from 0.
+    number: usize,
+    ghost some: { 1 ≤ length message.now },
+    ghost limit: { length message.now ≤ MESSAGE_LIMIT },
+    ghost counted: { count ≡ total_count (length message.now) },
+    ghost within: { number ≤ count },
+}
+
+impl<'a> Segments<'a> {
+    ghost use Rattle.isotp_segment.specs.FramesLeft.{frames_left};
+
+    /// The frames of a message that is sent in the direction `dir`.
+    pub fn new(dir: Dir, message: &'a [u8]) -> Segments<'a>
+        requires some { 1 ≤ length message.now }
+        requires limit { length message.now ≤ MESSAGE_LIMIT }
+        ensures frames { frames_left result ≡ canonical_frames MESSAGE_LIMIT dir message.now }
+    {
+        Segments {
+            dir,
+            message,
+            count: frame_count(message.len()) as usize,
+            number: 0,
+        }
+    }
+}
+
+impl<'a> Iterator for Segments<'a> {
+    type Item = (Dir, [u8; 8]);
+
+    ghost use Rattle.std.specs.Prelude.{IfSome};
+    ghost use Rattle.std.specs.Iterator.{UpTo, YieldsFirst, item_count};
+    ghost use Rattle.std.specs.Iterator.SizeHint.{IsWithinCount};
+    ghost use Rattle.isotp_segment.specs.FramesLeft.{frames_left};
+
+    ghost next_gives = { YieldsFirst frames_left };
+
+    ghost remaining = { item_count frames_left };
+
+    #[tactic(auto, using(crate::proofs::Frames::drop_canonical_frames, crate::proofs::Frames::drop_at_end))]
+    fn next(&mut self) -> Option<(Dir, [u8; 8])> {
+        if self.number >= self.count {
+            return None;
+        }
+        let frame = canonical_frame(self.dir, self.message, self.number);
+        self.number += 1;
+        Some(frame)
+    }
+
+    #[tactic(auto, using(crate::proofs::Frames::count_left))]
+    fn size_hint(&self) -> (usize, Option<usize>)
+        ensures lower { IsWithinCount result.0 (item_count frames_left self.now) }
+        ensures upper { IfSome result.1 (UpTo (item_count frames_left self.now)) }
+        ensures exact { result ≡
+            (length (frames_left self.now), Some (length (frames_left self.now))) }
+    {
+        let left = self.count - self.number;
+        (left, Some(left))
+    }
+}
+
+impl<'a> ExactSizeIterator for Segments<'a> {
+    #[tactic(auto, using(crate::proofs::Frames::count_left))]
+    fn len(&self) -> usize {
+        self.count - self.number
+    }
+}
+
+impl<'a> FusedIterator for Segments<'a> {}
