@@ -1,29 +1,17 @@
 -- What holds of the numbers of each layout, and so of what the function gives.
-use Rattle.std.proofs.Common.{◌≡◌, ℕ, ◌-◌, ◌==◌, ◌<◌, ◌≤◌, List, length, ap, arith, inl, inr}
-use Rattle.std.specs.Prelude.{IsTrue, IfOk}
-use Rattle.std.specs.Prelude.{Result, Ok, Err}
+use Rattle.std.proofs.Common.{◌≡◌, ℕ, ◌<◌, ◌≤◌, List, length, ap, arith, inl, inr}
+use Rattle.std.specs.Prelude.{IfOk, Result, Ok, Err}
 use Rattle.can_log.specs.Frame.{FrameValue}
 use Rattle.isotp_pdu.specs.declared.PduFault.{PduFault}
-use Rattle.std.proofs.lemmas.Bool.{cond_both, eqb-true}
-use Rattle.std.proofs.lemmas.Bool.Decides.{nat_tests}
-use Rattle.isotp_pdu.specs.Layout.{Layout, IsSoundLayout, layout_of, single, first, consecutive, flow_control, SpellsFirst, is_rx_dl, is_can_dl, least_first}
+use Rattle.isotp_pdu.specs.Layout.{Layout, IsSoundLayout, layout_of, single, first, consecutive, flow_control, SpellsFirst}
 use Rattle.isotp_pdu.specs.Laws.{LayoutIsSound}
-use Rattle.isotp_pdu.proofs.Unique.{rx_dl_long}
+use Rattle.isotp_pdu.proofs.Lengths.{can_dl_few, rx_dl_few, rx_dl_long, least_above}
 use Rattle.isotp_pdu.proofs.Read.{Reads, read}
-
-above_least : (n : ℕ) → 8 ≤ n → n - 2 < least_first n
-above_least n long = cond_both (n == 8) 8 (n - 1) (λ m. n - 2 < m) (λ e. omega (arith, eqb-true n 8 e)) (λ _. omega arith)
-
-rx_dl_few : (n : ℕ) → IsTrue (is_rx_dl n) → n ≤ 64
-rx_dl_few n h = grind (arith, nat_tests)
-
-can_dl_few : (n : ℕ) → IsTrue (is_can_dl n) → n ≤ 64
-can_dl_few n h = grind (arith, nat_tests)
 
 carries_less : (bytes : List ℕ) (announced : ℕ) (data_bytes : List ℕ) → 8 ≤ length bytes → length bytes ≤ 64 → SpellsFirst bytes announced data_bytes
     → (length data_bytes < announced) × (length data_bytes < length bytes)
 carries_less bytes announced data_bytes long few (inl (least, most, parts)) =
-    (omega (arith, ap length parts, above_least (length bytes) long), omega (arith, ap length parts))
+    (omega (arith, ap length parts, least_above (length bytes) long), omega (arith, ap length parts))
 carries_less bytes announced data_bytes long few (inr (least, most, parts)) = (omega (arith, ap length parts), omega (arith, ap length parts))
 
 pub layout_is_sound : LayoutIsSound

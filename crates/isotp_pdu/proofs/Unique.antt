@@ -1,16 +1,12 @@
 -- Bytes spell at most one layout.
-use Rattle.std.proofs.Common.{◌≡◌, ℕ, ◌-◌, ◌==◌, ◌/◌, ◌%◌, ◌<◌, ◌≤◌, ◌^◌, List, ◌++◌, length, refl, ap, arith, inl, inr}
-use Rattle.std.specs.Prelude.{IsTrue}
-use Rattle.std.proofs.Math.Seq.{take-append_seam}
-use Rattle.std.proofs.lemmas.Bool.{cond_both}
-use Rattle.std.proofs.lemmas.Bool.Decides.{nat_tests}
+use Rattle.std.proofs.Common.{◌≡◌, ℕ, ◌/◌, ◌%◌, ◌≤◌, ◌^◌, List, length, refl, ap, arith, inl, inr}
 use Rattle.isotp_pdu.specs.declared.Status.{Status}
 use Rattle.isotp_pdu.specs.declared.Status.TheVariants as status
-use Rattle.isotp_pdu.specs.Layout.{Layout, single, first, consecutive, flow_control, Spells, SpellsSingle, SpellsFirst, first_byte, status_number, least_first, is_rx_dl}
+use Rattle.isotp_pdu.specs.Layout.{Layout, single, first, consecutive, flow_control, Spells, SpellsSingle, SpellsFirst, first_byte, status_number}
+use Rattle.isotp_pdu.proofs.Digits.{same_digits}
+use Rattle.isotp_pdu.proofs.Fronts.{same_front}
+use Rattle.isotp_pdu.proofs.Lengths.{rx_dl_long, least_above}
 use Rattle.isotp_pdu.proofs.FirstByte.{kind_number, begins, begins_once}
-
-same_front : (a b c d : List ℕ) → length a ≡ length c → a ++ b ≡ c ++ d → a ≡ c
-same_front a b c d size same = (let left = take-append_seam a b in let right = take-append_seam c d in cc)
 
 one_message : (bytes a b : List ℕ) → SpellsSingle bytes a → SpellsSingle bytes b → a ≡ b
 one_message bytes a b (p, _, inl (_, left)) (q, _, inl (_, right)) =
@@ -19,13 +15,6 @@ one_message bytes a b (p, _, inl (_, left)) (q, _, inl (_, right)) =
 one_message bytes a b (p, _, inr (_, left)) (q, _, inr (_, right)) = (let size : length a ≡ length b = cc in same_front a p b q size cc)
 one_message bytes a b (p, _, inl (short, _)) (q, _, inr (long, _)) = absurd (omega arith)
 one_message bytes a b (p, _, inr (long, _)) (q, _, inl (short, _)) = absurd (omega arith)
-
-pub least_above : (n : ℕ) → 8 ≤ n → 0 < least_first n
-least_above n low = cond_both (n == 8) 8 (n - 1) (λ m. 0 < m) (λ _. omega arith) (λ _. omega arith)
-
--- the four digits of a number to the base 256
-same_digits : (a b : ℕ) → a / 2 ^ 24 ≡ b / 2 ^ 24 → a / 2 ^ 16 % 256 ≡ b / 2 ^ 16 % 256 → a / 2 ^ 8 % 256 ≡ b / 2 ^ 8 % 256 → a % 256 ≡ b % 256 → a ≡ b
-same_digits a b first_digit second third fourth = omega arith
 
 one_announcement : (bytes : List ℕ) (a b : ℕ) (s t : List ℕ) → 8 ≤ length bytes → SpellsFirst bytes a s → SpellsFirst bytes b t → (a ≡ b) × (s ≡ t)
 one_announcement bytes a b s t long (inl (_, _, left)) (inl (_, _, right)) =
@@ -57,9 +46,6 @@ one_status status.Wait status.Continue same = absurd (omega arith)
 one_status status.Wait status.Overflow same = absurd (omega arith)
 one_status status.Overflow status.Continue same = absurd (omega arith)
 one_status status.Overflow status.Wait same = absurd (omega arith)
-
-pub rx_dl_long : (n : ℕ) → IsTrue (is_rx_dl n) → 8 ≤ n
-rx_dl_long n h = grind (arith, nat_tests)
 
 same_kind : (bytes : List ℕ) (a b : Layout) → Spells bytes a → Spells bytes b → kind_number a ≡ kind_number b
 same_kind bytes a b left right = (begins_once bytes (begins bytes a left).1 (begins bytes b right).1).0

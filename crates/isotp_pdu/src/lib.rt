@@ -18,8 +18,9 @@ pub mod laws;
 #[cfg(test)]
 mod tests;
 
-ghost use Rattle.std.specs.Prelude.{◌≡◌, ◌↔◌, ◌≤◌, ◌<◌, ◌==◌, ◌*◌, ◌+◌, ◌%◌, length, slice_index, nat_lt, if◌then◌else◌, IfOk, IsTrue};
-ghost use Rattle.isotp_pdu.specs.Layout.{Layout, HasLayout, IsSoundLayout, layout_of, layout_seen, of_bytes, single_of, first_of, short_first_of, escaped_first_of, status_of, is_can_dl, least_first};
+ghost use Rattle.std.specs.Prelude.{◌≡◌, ◌↔◌, ◌≤◌, ◌<◌, ◌%◌, length, slice_index, nat_lt, if◌then◌else◌, IfOk};
+ghost use Rattle.isotp_pdu.specs.Layout.{Layout, HasLayout, IsSoundLayout, layout_of, layout_seen};
+ghost use Rattle.isotp_pdu.specs.Layout.{of_bytes, single_of, first_of, short_first_of, escaped_first_of, status_of, is_can_dl, least_first};
 ghost use Rattle.isotp_pdu.specs.Fault.{IsFault};
 
 use can_log::{Frame, Kind};
@@ -97,6 +98,7 @@ pub fn read_pdu(frame: &Frame) -> Result<Pdu<'_>, PduFault>
     read_frame(frame)
 }
 
+/// The same by the one equation that the other clauses follow from.
 #[tactic(auto, unfolding(crate::specs::Layout::layout_of))]
 fn read_frame(frame: &Frame) -> Result<Pdu<'_>, PduFault>
     ensures { layout_seen result ≡ layout_of frame.now }
@@ -107,6 +109,7 @@ fn read_frame(frame: &Frame) -> Result<Pdu<'_>, PduFault>
     }
 }
 
+/// A data frame of these bytes.
 fn read_bytes(bytes: &[u8]) -> Result<Pdu<'_>, PduFault>
     requires { length bytes.now ≤ 64 }
     ensures { layout_seen result ≡ of_bytes bytes.now }
@@ -130,12 +133,14 @@ fn read_bytes(bytes: &[u8]) -> Result<Pdu<'_>, PduFault>
     }
 }
 
+/// Whether a CAN frame has so many bytes (ISO 11898-1).
 fn has_frame_length(bytes: &[u8]) -> bool
     ensures { result ≡ is_can_dl (length bytes.now) }
 {
     matches!(bytes.len(), 0..=8 | 12 | 16 | 20 | 24 | 32 | 48 | 64)
 }
 
+/// A single frame (ISO 15765-2, section 9.6.2).
 fn read_single(bytes: &[u8]) -> Result<Pdu<'_>, PduFault>
     requires { 0 < length bytes.now }
     ensures { layout_seen result ≡ single_of bytes.now }
@@ -154,6 +159,7 @@ fn read_single(bytes: &[u8]) -> Result<Pdu<'_>, PduFault>
     Err(PduFault::SingleLength)
 }
 
+/// A first frame (section 9.6.3).
 fn read_first(bytes: &[u8]) -> Result<Pdu<'_>, PduFault>
     requires { length bytes.now ≤ 64 }
     ensures { layout_seen result ≡ first_of bytes.now }
@@ -186,6 +192,7 @@ fn read_short_first(bytes: &[u8]) -> Result<Pdu<'_>, PduFault>
     })
 }
 
+/// The least length that a first frame of so many bytes announces.
 fn least_first(rx_dl: u8) -> u32
     requires { 0 < rx_dl }
     ensures { result ≡ least_first rx_dl }
@@ -210,6 +217,7 @@ fn read_escaped_first(bytes: &[u8]) -> Result<Pdu<'_>, PduFault>
     })
 }
 
+/// Flow control (section 9.6.5).
 fn read_flow(bytes: &[u8]) -> Result<Pdu<'_>, PduFault>
     requires { 0 < length bytes.now }
     ensures { layout_seen result ≡ if nat_lt (length bytes.now) 3 then Err PduFault.FlowShort else status_of (slice_index bytes.now 0 % 16) }

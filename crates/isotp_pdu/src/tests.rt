@@ -8,7 +8,7 @@ type Reading<'a> = Result<Pdu<'a>, PduFault>;
 
 fn assert_reads(rt: &impl Abort, case: &str, kind: Kind, data: &[u8], expected: Reading<'_>) {
     let frame = Frame::new(Id::Std(0x7E8), kind, data).expect(rt, "no frame");
-    assert_eq!(rt; read_pdu(&frame), expected, "{case}");
+    assert_eq!(rt; read_pdu(&frame), expected, "{case}: {kind:?} {data:?}");
 }
 
 const VECTORS: [(&str, Kind, &[u8], Reading<'static>); 28] = [
