@@ -1,5 +1,5 @@
 -- The bytes that have come stand at their places, and a message is fixed by its places.
-use Rattle.std.proofs.Common.{◌≡◌, ℕ, zero, suc, ◌+◌, ◌-◌, ◌*◌, ◌/◌, ◌%◌, ◌<◌, ◌≤◌, true, false, ◌&&◌, List, [], ◌∷◌, ◌++◌, length, take, get_or, slice_index, nat_lt, nat_le, ◌==◌, refl, sym, ◌∙◌, ap, arith, inl, inr, subst, append_assoc, length-append, ext_get_or, get_or-take, length-take, drop, Some}
+use Rattle.std.proofs.Common.{◌≡◌, ℕ, zero, suc, ◌+◌, ◌-◌, ◌*◌, ◌/◌, ◌%◌, ◌<◌, ◌≤◌, true, List, [], ◌∷◌, ◌++◌, length, take, get_or, slice_index, nat_lt, nat_le, ◌==◌, refl, sym, ◌∙◌, ap, arith, inl, inr, subst, append_assoc, length-append, ext_get_or, get_or-take, length-take, drop, Some}
 use Rattle.std.specs.Prelude.{slice_get}
 use Rattle.std.proofs.lemmas.Nat.{div-add-mod'}
 use Rattle.std.proofs.Math.Nat.{mod-lt}
@@ -9,7 +9,7 @@ use Rattle.std.proofs.lemmas.Bool.{and_parts, ltb-true, ltb-false, cases_Bool}
 use Rattle.can_log.specs.declared.frame.Dir.{Dir}
 use Rattle.isotp_receive.specs.Trace.{Entry, At, FirstFrame, Role, single, first, consecutive, continue_or_wait, overflow, no_part, role}
 use Rattle.isotp_receive.specs.Places.{bytes_in_first, consecutive_by, consecutive_count, between, IsConsecutive, AtPlaces}
-use Rattle.isotp_receive.specs.Standing.{carried_by, carried, carried_after, fits_length, keeps_by, keep, is_open}
+use Rattle.isotp_receive.specs.Standing.{carried_by, carried, carried_after, keeps_by, keep, is_open}
 use Rattle.isotp_receive.proofs.ListPositions.{range-behind}
 use Rattle.isotp_receive.proofs.OneMore.{role-length, taken-append, fits_full, full_of}
 use Rattle.isotp_receive.proofs.OpenLaws.{kept-at}

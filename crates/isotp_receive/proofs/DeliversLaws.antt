@@ -1,15 +1,14 @@
 -- A frame's verdict is a message exactly where the trace delivers it there.
-use Rattle.std.proofs.Common.{◌≡◌, ℕ, suc, ◌+◌, ◌-◌, ◌*◌, ◌%◌, ◌<◌, ◌≤◌, Bool, true, false, ◌&&◌, List, [], ◌∷◌, ◌++◌, length, take, nat_lt, nat_le, ◌==◌, Option, Some, None, refl, sym, ◌∙◌, ap, arith, cond, inl, inr, subst, append_assoc, length-append, length-take}
+use Rattle.std.proofs.Common.{◌≡◌, ℕ, suc, ◌+◌, ◌-◌, ◌*◌, ◌<◌, ◌≤◌, true, List, [], ◌∷◌, ◌++◌, length, take, nat_lt, nat_le, ◌==◌, Option, Some, None, refl, sym, ◌∙◌, ap, arith, cond, inl, inr, subst, append_assoc, length-append, length-take}
 use Rattle.std.specs.Prelude.{◌↔◌}
-use Rattle.std.proofs.lemmas.Bool.{and_parts, ltb-true, ltb-false, lt-ltb, le-ltb, leb-true, le-leb, eq-eqb, cases_Bool}
+use Rattle.std.proofs.lemmas.Bool.{and_parts, ltb-true, ltb-false, le-ltb, le-leb, eq-eqb, cases_Bool}
 use Rattle.can_log.specs.declared.frame.Dir.{Dir}
 use Rattle.isotp_receive.specs.declared.reception.Judged.{Judged}
 use Rattle.isotp_receive.specs.declared.reception.Judged.TheVariants as judged_as
-use Rattle.isotp_receive.specs.Trace.{Entry, At, FirstFrame, Role, single, first, consecutive, continue_or_wait, overflow, no_part, role, same_direction}
+use Rattle.isotp_receive.specs.Trace.{Entry, FirstFrame, Role, single, first, consecutive, continue_or_wait, overflow, no_part, role}
 use Rattle.isotp_receive.specs.Places.{bytes_in_first, bytes_before, consecutive_count, FitsAs, AtPlaces}
-use Rattle.isotp_receive.specs.OnTime.{n_cr, IsOnTime}
+use Rattle.isotp_receive.specs.OnTime.{IsOnTime}
 use Rattle.isotp_receive.specs.Standing.{reference, carried, carried_after, fits_length, keep, is_open, Standing, standing_of, stands}
-use Rattle.isotp_receive.specs.OpenReception.{IsOpenAt}
 use Rattle.isotp_receive.specs.Delivers.{Completes, Delivers, in_one_frame, in_frames}
 use Rattle.isotp_receive.specs.Verdict.{Told, message, began, stored, flowed, dropped, verdict, is_on_time, expected, has_length, wants_more}
 use Rattle.isotp_receive.specs.Machine.{judged}

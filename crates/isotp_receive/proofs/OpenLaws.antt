@@ -1,12 +1,11 @@
 -- What stands after a list of frames: where it began, and that each frame since leaves it open.
-use Rattle.std.proofs.Common.{inl, inr, ◌≡◌, ℕ, ◌<◌, true, List, [], ◌∷◌, ◌++◌, nat_lt, nat_le, Option, Some, None, refl, sym, ◌∙◌, ap, append_assoc, subst}
+use Rattle.std.proofs.Common.{inl, inr, ◌≡◌, ℕ, true, List, [], ◌∷◌, ◌++◌, Option, Some, None, refl, sym, ◌∙◌, ap, append_assoc, subst}
 use Rattle.std.specs.Prelude.{IsTrue}
 use Rattle.std.proofs.lemmas.List.{append-nil}
-use Rattle.std.proofs.lemmas.Bool.{cases_Bool, and_parts, and_from, lt-ltb, le-leb}
+use Rattle.std.proofs.lemmas.Bool.{cases_Bool, and_parts, and_from}
 use Rattle.can_log.specs.declared.frame.Dir.{Dir}
 use Rattle.isotp_receive.specs.Trace.{Entry, FirstFrame, Role, single, first, consecutive, continue_or_wait, overflow, no_part, role}
-use Rattle.isotp_receive.specs.Places.{consecutive_count}
-use Rattle.isotp_receive.specs.Standing.{carried_after, keeps_by, keep, is_open, Standing, standing_of, since, or_else, stands}
+use Rattle.isotp_receive.specs.Standing.{keeps_by, keep, is_open, Standing, standing_of, since, or_else, stands}
 use Rattle.isotp_receive.proofs.ListPositions.{cons-head}
 use Rattle.isotp_receive.proofs.OneMore.{since-alone}
 

@@ -1,21 +1,18 @@
 -- A reception that is open by the positions of a trace stands, and what stands is open by them.
-use Rattle.std.proofs.Common.{◌≡◌, ℕ, zero, suc, ◌+◌, ◌-◌, ◌*◌, ◌%◌, ◌<◌, ◌≤◌, true, ◌&&◌, List, [], ◌∷◌, ◌++◌, length, nat_lt, nat_le, ◌==◌, Some, refl, sym, ◌∙◌, ap, arith, inl, inr, subst, append_assoc, length-append}
-use Rattle.std.specs.Prelude.{◌⊎◌}
-use Rattle.std.proofs.lemmas.List.{append-nil}
+use Rattle.std.proofs.Common.{◌≡◌, ℕ, zero, suc, ◌+◌, ◌-◌, ◌*◌, ◌%◌, ◌<◌, ◌≤◌, true, List, ◌∷◌, ◌++◌, length, nat_lt, nat_le, ◌==◌, refl, sym, ◌∙◌, ap, arith, inl, inr, subst, append_assoc, length-append}
 use Rattle.std.proofs.lemmas.Bool.{and_parts, and_from, ltb-true, ltb-false, lt-ltb, leb-true, le-leb, eqb-true, eq-eqb, cases_Bool, false≢true}
-use Rattle.std.proofs.lemmas.Option.{slice_get_within}
 use Rattle.can_log.specs.declared.frame.Dir.{Dir}
 use Rattle.isotp_receive.specs.Trace.{Entry, At, FirstFrame, Role, single, first, consecutive, continue_or_wait, overflow, no_part, role}
-use Rattle.isotp_receive.specs.Places.{bytes_in_first, IsConsecutiveCount, FitsAs, consecutive_count, between}
+use Rattle.isotp_receive.specs.Places.{bytes_in_first, IsConsecutiveCount, consecutive_count, between}
 use Rattle.isotp_receive.specs.OnTime.{n_cr, IsOnTime}
-use Rattle.isotp_receive.specs.Standing.{reference, carried_after, fits_length, keeps_by, keep, is_open, Standing, standing_of, stands}
+use Rattle.isotp_receive.specs.Standing.{reference, carried_after, fits_length, keeps_by, is_open}
 use Rattle.isotp_receive.specs.OpenReception.{LeavesOpen, IsOpenAt}
 use Rattle.isotp_receive.proofs.ListPositions.{split-at, split-behind, get-left, range-behind}
 use Rattle.isotp_receive.proofs.References.{refers, on-time-from, on-time-to}
 use Rattle.isotp_receive.proofs.Places.{first_from, at_here}
 use Rattle.isotp_receive.proofs.Fits.{fits-join}
 use Rattle.isotp_receive.proofs.OneMore.{taken-append}
-use Rattle.isotp_receive.proofs.OpenLaws.{kept-at, keep-from-each, open-stands-here}
+use Rattle.isotp_receive.proofs.OpenLaws.{kept-at, keep-from-each}
 
 -- fewer than n consecutive frames don't hold the message
 pub below-count : (f r len n k : ℕ) → IsConsecutiveCount f r len n → f + k * (r - 1) < len → k < n

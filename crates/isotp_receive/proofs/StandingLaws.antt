@@ -1,15 +1,14 @@
 -- What stands is what is known of the reception that is open, and at most one is open.
-use Rattle.std.proofs.Common.{◌≡◌, ℕ, suc, ◌+◌, ◌-◌, ◌*◌, ◌<◌, ◌≤◌, true, List, [], ◌∷◌, ◌++◌, length, nat_lt, nat_le, Some, refl, sym, ◌∙◌, ap, arith, inl, inr, subst, append_assoc, length-append}
+use Rattle.std.proofs.Common.{◌≡◌, ℕ, suc, ◌+◌, ◌<◌, ◌≤◌, true, List, ◌∷◌, ◌++◌, length, nat_lt, nat_le, Some, refl, sym, ◌∙◌, ap, arith, inl, inr, subst, append_assoc, length-append}
 use Rattle.std.proofs.lemmas.Bool.{and_parts, ltb-true, ltb-false, leb-true, cases_Bool}
 use Rattle.can_log.specs.declared.frame.Dir.{Dir}
-use Rattle.isotp_receive.specs.Trace.{Entry, At, FirstFrame, Role, first, role}
-use Rattle.isotp_receive.specs.Places.{bytes_in_first, consecutive_count, between}
-use Rattle.isotp_receive.specs.OnTime.{IsOnTime}
-use Rattle.isotp_receive.specs.Standing.{reference, carried, carried_after, keep, is_open, Standing, standing_of, stands}
+use Rattle.isotp_receive.specs.Trace.{Entry, FirstFrame, Role, first, role}
+use Rattle.isotp_receive.specs.Places.{consecutive_count, between}
+use Rattle.isotp_receive.specs.Standing.{carried, carried_after, is_open, Standing, standing_of, stands}
 use Rattle.isotp_receive.specs.OpenReception.{LeavesOpen, IsOpenAt, IsStandingAt}
-use Rattle.isotp_receive.proofs.References.{at-same, refers}
+use Rattle.isotp_receive.proofs.References.{refers}
 use Rattle.isotp_receive.proofs.OneMore.{full_of}
-use Rattle.isotp_receive.proofs.OpenLaws.{Found, found, open-stands-here}
+use Rattle.isotp_receive.proofs.OpenLaws.{found, open-stands-here}
 use Rattle.isotp_receive.proofs.OpenPositions.{open-there, stands-there}
 use Rattle.isotp_receive.proofs.BytesAtPlaces.{come-at}
 use Rattle.isotp_receive.proofs.Places.{first_from}

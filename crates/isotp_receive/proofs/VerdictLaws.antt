@@ -1,27 +1,38 @@
--- The verdict on a consecutive frame of a reception that is open by the positions of the trace.
-use Rattle.std.proofs.Common.{◌≡◌, ℕ, suc, ◌+◌, ◌-◌, ◌*◌, ◌%◌, ◌<◌, ◌≤◌, Bool, true, false, List, [], ◌∷◌, ◌++◌, length, nat_lt, nat_le, ◌==◌, Some, None, Result, Ok, Err, refl, sym, ◌∙◌, ap, arith, cond, inl, inr, subst}
+-- The verdict on a frame is the one that the table has.
+use Rattle.std.proofs.Common.{Option, ◌≡◌, ℕ, suc, ◌+◌, ◌-◌, ◌*◌, ◌%◌, ◌<◌, Bool, true, false, List, [], ◌∷◌, ◌++◌, length, ◌==◌, Some, None, Result, Ok, Err, refl, sym, ◌∙◌, ap, arith, cond, subst}
 use Rattle.std.specs.Prelude.{◌≢◌, not}
-use Rattle.std.proofs.lemmas.Bool.{lt-ltb, eq-eqb, ne_eqb, cases_Bool}
+use Rattle.std.proofs.lemmas.Bool.{lt-ltb, eq-eqb, ne_eqb, le-leb, lt-leb}
 use Rattle.can_log.specs.declared.frame.Dir.{Dir}
 use Rattle.isotp_pdu.specs.Layout.{Layout, layout_of}
 use Rattle.isotp_pdu.specs.Layout as layout
 use Rattle.isotp_pdu.specs.declared.PduFault.{PduFault}
+use Rattle.can_log.specs.Dir.{other_direction}
+use Rattle.isotp_pdu.specs.declared.Status.{Status}
+use Rattle.isotp_pdu.specs.declared.Status.TheVariants.{Continue, Wait, Overflow}
+use Rattle.isotp_receive.specs.declared.reception.Judged.{Judged}
+use Rattle.isotp_receive.specs.declared.reception.Judged.TheVariants as judged_as
+use Rattle.isotp_receive.specs.declared.event.Cause.{Cause}
+use Rattle.isotp_receive.specs.declared.event.Ended.{Ended}
 use Rattle.isotp_receive.specs.declared.event.Cause.TheVariants as cause
 use Rattle.isotp_receive.specs.declared.event.Reason.TheVariants as reason
-use Rattle.isotp_receive.specs.Trace.{Entry, FirstFrame, consecutive, role, own_role, same_direction}
+use Rattle.isotp_receive.specs.Trace.{Entry, consecutive, role, own_role}
 use Rattle.isotp_receive.specs.Places.{bytes_in_first, bytes_before, consecutive_count, FitsAs}
 use Rattle.isotp_receive.specs.OnTime.{IsOnTime}
-use Rattle.isotp_receive.specs.Standing.{reference, carried, fits_length, is_open, standing_of, stands}
+use Rattle.isotp_receive.specs.Standing.{Standing, reference, fits_length, standing_of, stands}
 use Rattle.isotp_receive.specs.OpenReception.{IsOpenAt}
-use Rattle.isotp_receive.specs.Verdict.{Answer, stored, refused, verdict, on_layout, on_consecutive, is_on_time, expected, has_length, wants_more}
-use Rattle.isotp_receive.specs.Laws.{ended_by, IsJudged}
+use Rattle.isotp_receive.specs.Verdict.{Answer, Told, message, began, stored, flowed, dropped, refused, ended_as, on_overflow, verdict, on_layout, on_consecutive, is_on_time, expected, has_length, wants_more}
+use Rattle.isotp_receive.specs.VerdictTable.{IsOpenBefore, NothingOpen, ended_by, EndsByNewStart, HasVerdict, no_layout, single_frame, first_frame, too_long, next_unexpected, next_late, wrong_number, wrong_length, stored_frame, last_frame, flow_unexpected, flow, overflow_in_time, overflow_too_late}
 use Rattle.isotp_receive.proofs.Told.{self}
-use Rattle.isotp_receive.proofs.References.{refers, on-time-from, on-time-to}
+use Rattle.isotp_receive.proofs.References.{at-same, refers, on-time-from, on-time-to}
 use Rattle.isotp_receive.proofs.Fits.{fits-join}
 use Rattle.isotp_receive.proofs.OpenLaws.{open-stands-here}
 use Rattle.isotp_receive.proofs.OpenPositions.{stands-there}
-use Rattle.isotp_receive.proofs.StandingLaws.{regrouped, ends-at}
-use Rattle.isotp_receive.proofs.DeliversLaws.{have}
+use Rattle.isotp_receive.proofs.StandingLaws.{regrouped, ends-at, stands-open, open-stands}
+use Rattle.isotp_receive.proofs.DeliversLaws.{have, message-delivers}
+use Rattle.isotp_receive.proofs.Judgement.{on-judged}
+use Rattle.isotp_receive.proofs.Places.{at_here}
+use Rattle.isotp_receive.specs.Machine.{judged, on_judged}
+use Rattle.isotp_receive.specs.Delivers.{in_frames}
 
 read-consecutive : (line micros sequence_number can_dl : ℕ) (bytes : List ℕ) (x : Result Layout PduFault) → own_role line micros x ≡ consecutive sequence_number can_dl bytes
     → x ≡ Ok (layout.consecutive sequence_number can_dl bytes)
@@ -61,7 +72,19 @@ not-true : (b : Bool) → (b ≡ true → ⊥) → b ≡ false
 not-true true h = absurd (h refl)
 not-true false h = refl
 
-pub is-judged : (limit : ℕ) (T : List Entry) (e : Entry) (i k sequence_number can_dl : ℕ) (bytes : List ℕ) → role e.dir e ≡ consecutive sequence_number can_dl bytes
+-- what becomes of a consecutive frame where a reception is open
+record IsJudged (limit : ℕ) (T : List Entry) (e : Entry) (i k sequence_number can_dl : ℕ) (o : IsOpenAt limit (T ++ e ∷ []) e.dir i k (length T)) : Type 0 where
+  late : (IsOnTime (T ++ e ∷ []) e.dir i (length T) e → ⊥) → verdict limit T e ≡ refused (Some (ended_by e.dir o.start cause.Late)) reason.NextLate
+  number : IsOnTime (T ++ e ∷ []) e.dir i (length T) e → sequence_number ≢ (k + 1) % 16
+      → verdict limit T e ≡ refused (Some (ended_by e.dir o.start cause.Sequence)) (reason.NextSequence ((k + 1) % 16) sequence_number)
+  size : IsOnTime (T ++ e ∷ []) e.dir i (length T) e → sequence_number ≡ (k + 1) % 16
+      → (FitsAs (bytes_in_first o.frame.frame.bytes) o.start.rx_dl o.start.len o.n (k + 1) sequence_number can_dl → ⊥)
+      → verdict limit T e ≡ refused (Some (ended_by e.dir o.start cause.Length)) reason.NextLength
+  kept : IsOnTime (T ++ e ∷ []) e.dir i (length T) e
+      → FitsAs (bytes_in_first o.frame.frame.bytes) o.start.rx_dl o.start.len o.n (k + 1) sequence_number can_dl → k + 1 < o.n
+      → verdict limit T e ≡ record { ended = None; told = stored }
+
+is-judged : (limit : ℕ) (T : List Entry) (e : Entry) (i k sequence_number can_dl : ℕ) (bytes : List ℕ) → role e.dir e ≡ consecutive sequence_number can_dl bytes
     → (o : IsOpenAt limit (T ++ e ∷ []) e.dir i k (length T)) → IsJudged limit T e i k sequence_number can_dl o
 is-judged limit T e i k sequence_number can_dl bytes goes o =
     let d = e.dir in
@@ -81,29 +104,122 @@ is-judged limit T e i k sequence_number can_dl bytes goes o =
     let join = fits-join (bytes_in_first o.frame.frame.bytes) s.rx_dl s.len o.n (consecutive_count d since) sequence_number can_dl o.count below in
     let ref = refers d before o.frame s since (e ∷ []) o.kind in
     let on_to : IsOnTime (T ++ e ∷ []) d i (length T) e → is_on_time st e.micros ≡ true =
-      λ on. on-time-to (before ++ o.frame ∷ (since ++ e ∷ [])) d (length before) (suc (length before) + length since) (reference d s.micros since) e ref
-        (subst (λ p. IsOnTime (before ++ o.frame ∷ (since ++ e ∷ [])) d (length before) p e) (sym ends)
-        (subst (λ j. IsOnTime (before ++ o.frame ∷ (since ++ e ∷ [])) d j (length T) e) (sym w.3)
-        (subst (λ t. IsOnTime t d i (length T) e) (sym whole) on))) in
+    λ on. on-time-to (before ++ o.frame ∷ (since ++ e ∷ [])) d (length before) (suc (length before) + length since) (reference d s.micros since) e ref
+    (subst (λ p. IsOnTime (before ++ o.frame ∷ (since ++ e ∷ [])) d (length before) p e) (sym ends)
+    (subst (λ j. IsOnTime (before ++ o.frame ∷ (since ++ e ∷ [])) d j (length T) e) (sym w.3)
+    (subst (λ t. IsOnTime t d i (length T) e) (sym whole) on))) in
     let on_from : is_on_time st e.micros ≡ true → IsOnTime (T ++ e ∷ []) d i (length T) e =
-      λ t. subst (λ l. IsOnTime l d i (length T) e) whole (subst (λ j. IsOnTime (before ++ o.frame ∷ (since ++ e ∷ [])) d j (length T) e) w.3
-        (subst (λ p. IsOnTime (before ++ o.frame ∷ (since ++ e ∷ [])) d (length before) p e) ends
-        (on-time-from (before ++ o.frame ∷ (since ++ e ∷ [])) d (length before) (suc (length before) + length since) (reference d s.micros since) e ref t))) in
+    λ t. subst (λ l. IsOnTime l d i (length T) e) whole (subst (λ j. IsOnTime (before ++ o.frame ∷ (since ++ e ∷ [])) d j (length T) e) w.3
+    (subst (λ p. IsOnTime (before ++ o.frame ∷ (since ++ e ∷ [])) d (length before) p e) ends
+    (on-time-from (before ++ o.frame ∷ (since ++ e ∷ [])) d (length before) (suc (length before) + length since) (reference d s.micros since) e ref t))) in
     let same_number : expected st ≡ (k + 1) % 16 = ap (λ j. (j + 1) % 16) (sym taken) in
     let length_is : has_length st can_dl ≡ fits_length s.len s.rx_dl (bytes_before (bytes_in_first o.frame.frame.bytes) s.rx_dl (consecutive_count d since)) can_dl = ap (λ h. fits_length s.len s.rx_dl h can_dl) size in
     record {
       late = λ off. is ∙ first-of (is_on_time st e.micros) (sequence_number == expected st) (has_length st can_dl) (wants_more st) _ _ _ _ _ (not-true (is_on_time st e.micros) (λ t. off (on_from t)));
-      wrong_number = λ on apart. is ∙ second-of (is_on_time st e.micros) (sequence_number == expected st) (has_length st can_dl) (wants_more st) _ _ _ _ _ (on_to on)
-        (ne_eqb sequence_number (expected st) (λ same. apart (same ∙ same_number)))
-        ∙ ap (λ x. refused (Some (ended_by d s cause.Sequence)) (reason.NextSequence x sequence_number)) same_number;
-      wrong_length = λ on number apart. is ∙ third-of (is_on_time st e.micros) (sequence_number == expected st) (has_length st can_dl) (wants_more st) _ _ _ _ _ (on_to on)
-        (eq-eqb sequence_number (expected st) (number ∙ sym same_number))
-        (not-true (has_length st can_dl) (λ t. apart (subst (λ j. FitsAs (bytes_in_first o.frame.frame.bytes) s.rx_dl s.len o.n (j + 1) sequence_number can_dl) (sym taken)
+      number = λ on apart. is ∙ second-of (is_on_time st e.micros) (sequence_number == expected st) (has_length st can_dl) (wants_more st) _ _ _ _ _ (on_to on)
+          (ne_eqb sequence_number (expected st) (λ same. apart (same ∙ same_number)))
+          ∙ ap (λ x. refused (Some (ended_by d s cause.Sequence)) (reason.NextSequence x sequence_number)) same_number;
+      size = λ on number apart. is ∙ third-of (is_on_time st e.micros) (sequence_number == expected st) (has_length st can_dl) (wants_more st) _ _ _ _ _ (on_to on)
+          (eq-eqb sequence_number (expected st) (number ∙ sym same_number))
+          (not-true (has_length st can_dl) (λ t. apart (subst (λ j. FitsAs (bytes_in_first o.frame.frame.bytes) s.rx_dl s.len o.n (j + 1) sequence_number can_dl) (sym taken)
           (join.1 (number ∙ ap (λ j. (j + 1) % 16) taken, sym length_is ∙ t)))));
-      stored_away = λ on fits less.
-        let fit = join.0 (subst (λ j. FitsAs (bytes_in_first o.frame.frame.bytes) s.rx_dl s.len o.n (j + 1) sequence_number can_dl) taken fits) in
-        let room = o.count.fewer (k + 1) less in
-        let product = ap (λ j. (j + 1) * (s.rx_dl - 1)) taken in
-        is ∙ fourth-of (is_on_time st e.micros) (sequence_number == expected st) (has_length st can_dl) (wants_more st) _ _ _ _ _ (on_to on)
-        (eq-eqb sequence_number (expected st) fit.0) (length_is ∙ fit.1) (lt-ltb _ _ (omega arith));
+      kept = λ on fits less.
+          let fit = join.0 (subst (λ j. FitsAs (bytes_in_first o.frame.frame.bytes) s.rx_dl s.len o.n (j + 1) sequence_number can_dl) taken fits) in
+          let room = o.count.fewer (k + 1) less in
+          let product = ap (λ j. (j + 1) * (s.rx_dl - 1)) taken in
+          is ∙ fourth-of (is_on_time st e.micros) (sequence_number == expected st) (has_length st can_dl) (wants_more st) _ _ _ _ _ (on_to on)
+          (eq-eqb sequence_number (expected st) fit.0) (length_is ∙ fit.1) (lt-ltb _ _ (omega arith));
     }
+
+verdict-by : (limit : ℕ) (T : List Entry) (e : Entry) (x : Result Layout PduFault) → layout_of e.frame ≡ x
+    → verdict limit T e ≡ on_layout limit e.dir (stands limit e.dir T) (stands limit (other_direction e.dir) T) e.micros x
+unfolding verdict
+verdict-by limit T e x h = ap (on_layout limit e.dir (stands limit e.dir T) (stands limit (other_direction e.dir) T) e.micros) h
+
+role-by : (e : Entry) (sequence_number can_dl : ℕ) (bytes : List ℕ) → layout_of e.frame ≡ Ok (layout.consecutive sequence_number can_dl bytes) → role e.dir e ≡ consecutive sequence_number can_dl bytes
+unfolding role
+role-by e sequence_number can_dl bytes h = rw (self e.dir, h) refl
+
+-- where nothing is open nothing stands
+none-open : (limit : ℕ) (T : List Entry) (e : Entry) (d : Dir) → NothingOpen limit T e d → stands limit d T ≡ None
+none-open limit T e d none = by_case (stands limit d T) refl where
+  by_case : (o : Option Standing) → stands limit d T ≡ o → o ≡ None
+  by_case None is = refl
+  by_case (Some st) is = absurd (let s = stands-open limit T (e ∷ []) d st is in none s.i s.k s.is_open)
+
+-- and where a reception is open it ends so
+some-open : (limit : ℕ) (T : List Entry) (e : Entry) (d : Dir) (i k : ℕ) (c : Cause) (o : IsOpenBefore limit T e d i k)
+    → (st : Standing) × (stands limit d T ≡ Some st) × (ended_as c d (Some st) ≡ Some (ended_by d o.start c)) × (st.taken ≡ k)
+some-open limit T e d i k c o =
+    let w = open-stands limit T (e ∷ []) d i k o in
+    (w.0, w.1, ap (λ l. Some (record { dir = d; begun_line = l; len = w.0.len; cause = c })) w.2 ∙ ap (λ n. Some (record { dir = d; begun_line = o.start.line; len = n; cause = c })) w.3, w.4)
+
+ends-so : (limit : ℕ) (T : List Entry) (e : Entry) (x : Option Ended) → EndsByNewStart limit T e x → ended_as cause.NewStart e.dir (stands limit e.dir T) ≡ x
+ends-so limit T e None none = ap (ended_as cause.NewStart e.dir) (none-open limit T e e.dir none)
+ends-so limit T e (Some x) h =
+    let w = some-open limit T e e.dir h.0 h.1 cause.NewStart h.2 in
+    ap (ended_as cause.NewStart e.dir) w.1 ∙ w.2 ∙ ap Some (sym h.3)
+
+both : (a : Answer) (x : Option Ended) (t : Told) → a.ended ≡ x → a.told ≡ t → a ≡ record { ended = x; told = t }
+both a x t h g = ap (λ y. record { ended = y; told = a.told }) h ∙ ap (λ y. record { ended = x; told = y }) g
+
+-- a consecutive frame that completes a message ends nothing
+last-ends : (d : Dir) (s : Standing) (j : Judged) (sequence_number : ℕ) (bytes m : List ℕ) → (on_judged d s j sequence_number bytes).told ≡ message m → (on_judged d s j sequence_number bytes).ended ≡ None
+last-ends d s judged_as.Last sequence_number bytes m h = refl
+last-ends d s judged_as.More sequence_number bytes m h = absurd (cc)
+last-ends d s judged_as.Late sequence_number bytes m h = absurd (cc)
+last-ends d s judged_as.Sequence sequence_number bytes m h = absurd (cc)
+last-ends d s judged_as.Length sequence_number bytes m h = absurd (cc)
+
+completing-ends : (d : Dir) (o : Option Standing) (micros sequence_number can_dl : ℕ) (bytes m : List ℕ) → (on_consecutive d o micros sequence_number can_dl bytes).told ≡ message m
+    → (on_consecutive d o micros sequence_number can_dl bytes).ended ≡ None
+completing-ends d None micros sequence_number can_dl bytes m h = refl
+completing-ends d (Some s) micros sequence_number can_dl bytes m h =
+    let same = on-judged d s micros sequence_number can_dl bytes in
+    ap (λ a. a.ended) same ∙ last-ends d s (judged s micros sequence_number can_dl) sequence_number bytes m (ap (λ a. a.told) (sym same) ∙ h)
+
+no-flow : (limit : ℕ) (d : Dir) (own others : Option Standing) (micros : ℕ) (s : Status) → others ≡ None → on_layout limit d own others micros (Ok (layout.flow_control s)) ≡ refused None reason.FlowUnexpected
+no-flow limit d own others micros Continue h = rw h refl
+no-flow limit d own others micros Wait h = rw h refl
+no-flow limit d own others micros Overflow h = rw h refl
+
+moves-on : (limit : ℕ) (d : Dir) (own others : Option Standing) (micros : ℕ) (s : Status) (st : Standing) → s ≢ Overflow → others ≡ Some st
+    → on_layout limit d own others micros (Ok (layout.flow_control s)) ≡ record { ended = None; told = flowed }
+moves-on limit d own others micros Continue st apart h = rw h refl
+moves-on limit d own others micros Wait st apart h = rw h refl
+moves-on limit d own others micros Overflow st apart h = absurd (apart refl)
+
+pub tabled : (limit : ℕ) (T : List Entry) (e : Entry) (a : Answer) → HasVerdict limit T e a → verdict limit T e ≡ a
+tabled limit T e _ (no_layout f h) = verdict-by limit T e (Err f) h
+tabled limit T e _ (single_frame m x h ends) = verdict-by limit T e _ h ∙ ap (λ y. record { ended = y; told = message m }) (ends-so limit T e x ends)
+tabled limit T e _ (first_frame len rx_dl bytes x h fits ends) =
+    verdict-by limit T e _ h ∙ both _ x began (ends-so limit T e x ends) (ap (λ b. cond b began (dropped (reason.TooLong len))) (le-leb len limit fits))
+tabled limit T e _ (too_long len rx_dl bytes x h over ends) =
+    verdict-by limit T e _ h ∙ both _ x (dropped (reason.TooLong len)) (ends-so limit T e x ends) (ap (λ b. cond b began (dropped (reason.TooLong len))) (lt-leb len limit over))
+tabled limit T e _ (next_unexpected sequence_number can_dl bytes h none) =
+    verdict-by limit T e _ h ∙ ap (λ o. on_consecutive e.dir o e.micros sequence_number can_dl bytes) (none-open limit T e e.dir none)
+tabled limit T e _ (next_late sequence_number can_dl bytes i k h o off) = (is-judged limit T e i k sequence_number can_dl bytes (role-by e sequence_number can_dl bytes h) o).late off
+tabled limit T e _ (wrong_number sequence_number can_dl bytes i k h o on apart) = (is-judged limit T e i k sequence_number can_dl bytes (role-by e sequence_number can_dl bytes h) o).number on apart
+tabled limit T e _ (wrong_length sequence_number can_dl bytes i k h o on number apart) = (is-judged limit T e i k sequence_number can_dl bytes (role-by e sequence_number can_dl bytes h) o).size on number apart
+tabled limit T e _ (stored_frame sequence_number can_dl bytes i k h o on fits less) = (is-judged limit T e i k sequence_number can_dl bytes (role-by e sequence_number can_dl bytes h) o).kept on fits less
+tabled limit T e _ (last_frame m c) =
+    let is_e : c.frame ≡ e = at-same (T ++ e ∷ []) (length T) c.frame e c.stands (at_here T [] e) in
+    let goes : role e.dir e ≡ consecutive c.sequence_number c.can_dl c.bytes = ap (role e.dir) (sym is_e) ∙ c.kind in
+    let told = (message-delivers limit T e m).1 (in_frames c) in
+    let is = on-own limit T e c.sequence_number c.can_dl c.bytes goes in
+    let ends = completing-ends e.dir (stands limit e.dir T) e.micros c.sequence_number c.can_dl c.bytes m (ap (λ a. a.told) (sym is) ∙ told) in
+    both (verdict limit T e) None (message m) (ap (λ a. a.ended) is ∙ ends) told
+tabled limit T e _ (flow_unexpected s h none) = verdict-by limit T e _ h ∙ no-flow limit e.dir (stands limit e.dir T) (stands limit (other_direction e.dir) T) e.micros s (none-open limit T e (other_direction e.dir) none)
+tabled limit T e _ (flow s i k h apart o) =
+    let w = some-open limit T e (other_direction e.dir) i k cause.Overflow o in
+    verdict-by limit T e _ h ∙ moves-on limit e.dir (stands limit e.dir T) (stands limit (other_direction e.dir) T) e.micros s w.0 apart w.1
+tabled limit T e _ (overflow_in_time i h o) =
+    let w = some-open limit T e (other_direction e.dir) i 0 cause.Overflow o in
+    verdict-by limit T e _ h ∙ ap (on_overflow (other_direction e.dir)) w.1
+    ∙ ap (λ n. cond (n == 0) (record { ended = ended_as cause.Overflow (other_direction e.dir) (Some w.0); told = flowed }) (refused None reason.FlowUnexpected)) w.3
+    ∙ ap (λ y. record { ended = y; told = flowed }) w.2
+tabled limit T e _ (overflow_too_late i k h o some) =
+    let w = some-open limit T e (other_direction e.dir) i k cause.Overflow o in
+    let taken = w.3 in
+    verdict-by limit T e _ h ∙ ap (on_overflow (other_direction e.dir)) w.1
+    ∙ ap (λ b. cond b (record { ended = ended_as cause.Overflow (other_direction e.dir) (Some w.0); told = flowed }) (refused None reason.FlowUnexpected)) (ne_eqb w.0.taken 0 (λ z. omega (arith, z)))

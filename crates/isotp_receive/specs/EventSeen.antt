@@ -4,6 +4,7 @@ use Rattle.isotp_receive.specs.declared.event.Verdict.TheVariants as v
 use Rattle.isotp_receive.specs.declared.event.Event.{Event}
 use Rattle.isotp_receive.specs.Verdict.{Told, message, began, stored, flowed, dropped, Answer}
 
+-- a verdict
 abbrev pub seen_verdict : Verdict → Told
 seen_verdict (v.Message m) = message m.now
 seen_verdict v.Began = began
@@ -11,5 +12,6 @@ seen_verdict v.Stored = stored
 seen_verdict v.Flow = flowed
 seen_verdict (v.Dropped r) = dropped r
 
+-- an event
 abbrev pub seen_event : Event → Answer
 seen_event e = record { ended = e.ended; told = seen_verdict e.verdict }

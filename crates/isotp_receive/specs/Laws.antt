@@ -1,17 +1,13 @@
 -- What the public laws of the receptions say.
-use Rattle.std.specs.Prelude.{◌≡◌, ◌<◌, ◌≤◌, ℕ, ◌+◌, ◌*◌, ◌-◌, ◌%◌, ◌++◌, ◌∷◌, [], ◌↔◌, ◌≢◌, List, length, Some, None, IsTrue}
+use Rattle.std.specs.Prelude.{◌≡◌, ◌<◌, ◌≤◌, ℕ, ◌+◌, ◌%◌, ◌++◌, ◌∷◌, [], ◌↔◌, List, length, Some, IsTrue}
 use Rattle.can_log.specs.declared.frame.Dir.{Dir}
-use Rattle.isotp_receive.specs.Trace.{Entry, FirstFrame, first, consecutive, role}
+use Rattle.isotp_receive.specs.Trace.{Entry, FirstFrame, first, role}
 use Rattle.isotp_receive.specs.Places.{bytes_in_first, bytes_before, IsConsecutiveCount, FitsAs}
 use Rattle.isotp_receive.specs.Standing.{Standing, carried_after, fits_length, stands}
 use Rattle.isotp_receive.specs.OpenReception.{IsOpenAt, IsStandingAt}
 use Rattle.isotp_receive.specs.Delivers.{Delivers}
-use Rattle.isotp_receive.specs.Verdict.{message, stored, refused, verdict}
-use Rattle.isotp_receive.specs.OnTime.{IsOnTime}
-use Rattle.isotp_receive.specs.declared.event.Cause.{Cause}
-use Rattle.isotp_receive.specs.declared.event.Cause.TheVariants as cause
-use Rattle.isotp_receive.specs.declared.event.Ended.{Ended}
-use Rattle.isotp_receive.specs.declared.event.Reason.TheVariants as reason
+use Rattle.isotp_receive.specs.Verdict.{Answer, message, verdict}
+use Rattle.isotp_receive.specs.VerdictTable.{HasVerdict}
 
 -- what stands after T is what is known of the reception that is open there, whatever follows
 abbrev pub StandsOpen : Type 0
@@ -43,23 +39,6 @@ abbrev pub FitsAgrees : Type 0
 FitsAgrees = (f r len n k sequence_number can_dl : ℕ) → IsConsecutiveCount f r len n → k < n →
     FitsAs f r len n (k + 1) sequence_number can_dl ↔ (sequence_number ≡ (k + 1) % 16) × IsTrue (fits_length len r (bytes_before f r k) can_dl)
 
--- the reception of d that the first frame s began, ended so
-abbrev pub ended_by : Dir → FirstFrame → Cause → Ended
-ended_by d s c = record { dir = d; begun_line = s.line; len = s.len; cause = c }
-
--- What becomes of a consecutive frame e of d, where the reception of d is open that began at i: the first that holds of
--- late, wrong number, wrong length; else it is stored, if it isn't the last.
-pub record IsJudged (limit : ℕ) (T : List Entry) (e : Entry) (i k sequence_number can_dl : ℕ) (o : IsOpenAt limit (T ++ e ∷ []) e.dir i k (length T)) : Type 0 where
-  pub late : (IsOnTime (T ++ e ∷ []) e.dir i (length T) e → ⊥) → verdict limit T e ≡ refused (Some (ended_by e.dir o.start cause.Late)) reason.NextLate
-  pub wrong_number : IsOnTime (T ++ e ∷ []) e.dir i (length T) e → sequence_number ≢ (k + 1) % 16
-      → verdict limit T e ≡ refused (Some (ended_by e.dir o.start cause.Sequence)) (reason.NextSequence ((k + 1) % 16) sequence_number)
-  pub wrong_length : IsOnTime (T ++ e ∷ []) e.dir i (length T) e → sequence_number ≡ (k + 1) % 16
-      → (FitsAs (bytes_in_first o.frame.frame.bytes) o.start.rx_dl o.start.len o.n (k + 1) sequence_number can_dl → ⊥)
-      → verdict limit T e ≡ refused (Some (ended_by e.dir o.start cause.Length)) reason.NextLength
-  pub stored_away : IsOnTime (T ++ e ∷ []) e.dir i (length T) e
-      → FitsAs (bytes_in_first o.frame.frame.bytes) o.start.rx_dl o.start.len o.n (k + 1) sequence_number can_dl → k + 1 < o.n
-      → verdict limit T e ≡ record { ended = None; told = stored }
-
-abbrev pub ConsecutiveIsJudged : Type 0
-ConsecutiveIsJudged = (limit : ℕ) (T : List Entry) (e : Entry) (i k sequence_number can_dl : ℕ) (bytes : List ℕ) → role e.dir e ≡ consecutive sequence_number can_dl bytes
-    → (o : IsOpenAt limit (T ++ e ∷ []) e.dir i k (length T)) → IsJudged limit T e i k sequence_number can_dl o
+-- the verdict on a frame is the one that the table has
+abbrev pub VerdictIsTabled : Type 0
+VerdictIsTabled = (limit : ℕ) (T : List Entry) (e : Entry) (a : Answer) → HasVerdict limit T e a → verdict limit T e ≡ a

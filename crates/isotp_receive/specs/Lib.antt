@@ -5,6 +5,7 @@ pub mod Standing
 pub mod OpenReception
 pub mod Delivers
 pub mod Verdict
+pub mod VerdictTable
 pub mod Recording
 pub mod CleanTrace
 pub mod Laws

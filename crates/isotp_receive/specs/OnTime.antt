@@ -1,13 +1,13 @@
--- The time-out of a reception, N_Cr (ISO 15765-2, section 9.7).
+-- The time-out of a reception, N_Cr (ISO 15765-2, section 9.8).
 use Rattle.std.specs.Prelude.{◌≡◌, ◌<◌, ◌≤◌, ℕ, ◌+◌, List, ⊤, ◌⊎◌}
 use Rattle.can_log.specs.declared.frame.Dir.{Dir}
 use Rattle.isotp_receive.specs.Trace.{Entry, At, Role, single, first, consecutive, continue_or_wait, overflow, no_part, role}
 
--- a consecutive frame more than this after its reference is late
+-- N_Cr in microseconds: a consecutive frame more than this after its reference is late
 abbrev pub n_cr : ℕ
 n_cr = 1000000
 
--- a consecutive frame of d, or a continue or wait frame of the other direction
+-- a frame from which N_Cr runs anew: a consecutive frame of d, or a continue or wait frame of the other direction
 abbrev pub RestartsTimer : Role → Type 0
 RestartsTimer (consecutive sequence_number can_dl bytes) = ⊤
 RestartsTimer continue_or_wait = ⊤
@@ -16,7 +16,7 @@ RestartsTimer (first s) = ⊥
 RestartsTimer overflow = ⊥
 RestartsTimer no_part = ⊥
 
--- q is the greatest position before c that is i, or later than i and holds such a frame
+-- q is the position of the reference frame of c: the greatest before c that is i, or later than i and holds such a frame
 pub record IsReference (T : List Entry) (d : Dir) (i c q : ℕ) : Type 0 where
   pub from : i ≤ q
   pub below : q < c

@@ -1,4 +1,4 @@
--- Where the bytes of a message stand in its frames (ISO 15765-2, sections 9.6.3 and 9.6.4).
+-- Where the bytes of a message stand in its frames (ISO 15765-2, section 9.6).
 use Rattle.std.specs.Prelude.{◌≡◌, ◌<◌, ◌≤◌, ℕ, ◌+◌, ◌-◌, ◌*◌, ◌%◌, List, [], ◌∷◌, length, slice_index, slice_range, ◌==◌, if◌then◌else◌}
 use Rattle.can_log.specs.declared.frame.Dir.{Dir}
 use Rattle.isotp_receive.specs.Trace.{Entry, At, Role, single, first, consecutive, continue_or_wait, overflow, no_part, role}

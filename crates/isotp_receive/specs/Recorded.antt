@@ -5,11 +5,14 @@ use Rattle.isotp_receive.specs.Trace.{Entry}
 use Rattle.isotp_receive.specs.declared.messages.Message.{Message}
 use Rattle.isotp_receive.specs.declared.messages.Recorded.{Recorded}
 
+-- a recorded frame as an entry of a trace
 abbrev pub entry_of : Recorded → Entry
 entry_of r = record { line = r.line; micros = r.micros; dir = r.dir; frame = r.frame }
 
+-- all of a slice
 abbrev pub entries : List Recorded → List Entry
 entries rs = map entry_of rs
 
+-- messages with their directions
 abbrev pub sent : List Message → List (Dir × List ℕ)
 sent ms = map (λ m. (m.dir, m.bytes.items)) ms

@@ -1,4 +1,5 @@
--- The reception of a direction that stands after a list of frames, by looking back over the whole list.
+-- The reception of a direction that stands after a list of frames: a function that looks back over the whole list. It is
+-- the short spelling, for contracts and proofs, of `IsOpenAt` and `IsStandingAt`; public laws join them both ways.
 use Rattle.std.specs.Prelude.{ℕ, ◌+◌, ◌-◌, ◌%◌, Bool, true, false, ◌&&◌, List, [], ◌∷◌, ◌++◌, length, nat_lt, nat_le, ◌==◌, if◌then◌else◌, Option, Some, None}
 use Rattle.can_log.specs.declared.frame.Dir.{Dir}
 use Rattle.can_log.specs.declared.frame.Dir.TheVariants.{Tester, Unit}
@@ -15,6 +16,7 @@ carried_by continue_or_wait = []
 carried_by overflow = []
 carried_by no_part = []
 
+-- and of all in the list, end to end
 abbrev pub carried : Dir → List Entry → List ℕ
 carried d [] = []
 carried d (e ∷ es) = carried_by (role d e) ++ carried d es
@@ -28,6 +30,7 @@ referred (first s) micros t = t
 referred overflow micros t = t
 referred no_part micros t = t
 
+-- the time of the reference of what comes next
 abbrev pub reference : Dir → ℕ → List Entry → ℕ
 reference d t [] = t
 reference d t (e ∷ es) = reference d (referred (role d e) e.micros t) es
@@ -63,7 +66,8 @@ keep d s past (e ∷ es) = keeps_by d s past e.micros (role d e) && keep d s (pa
 abbrev pub is_open : ℕ → Dir → FirstFrame → List Entry → Bool
 is_open limit d s es = nat_le s.len limit && (nat_lt (carried_after s (consecutive_count d es)) s.len && keep d s [] es)
 
--- a reception that stands
+-- what is known of a reception: line, length and CAN_DL of its first frame, how many consecutive frames it took, the
+-- bytes that have come, and the time that N_Cr runs from
 pub record Standing : Type 0 where
   pub line : ℕ
   pub len : ℕ
@@ -72,6 +76,7 @@ pub record Standing : Type 0 where
   pub bytes : List ℕ
   pub reference : ℕ
 
+-- of the one that began with s, after these frames
 abbrev pub standing_of : Dir → FirstFrame → List Entry → Standing
 standing_of d s es = record { line = s.line; len = s.len; rx_dl = s.rx_dl; taken = consecutive_count d es; bytes = s.bytes ++ carried d es; reference = reference d s.micros es }
 
@@ -84,6 +89,7 @@ since limit d continue_or_wait es = None
 since limit d overflow es = None
 since limit d no_part es = None
 
+-- the first of two that is there
 abbrev pub or_else : Option Standing → Option Standing → Option Standing
 or_else (Some s) o = Some s
 or_else None o = o
@@ -102,6 +108,7 @@ pub record Receptions : Type 0 where
 abbrev pub receptions_after : ℕ → List Entry → Receptions
 receptions_after limit T = record { tester = stands limit Tester T; unit = stands limit Unit T }
 
+-- the one of the direction
 abbrev pub of_direction : Receptions → Dir → Option Standing
 of_direction p Tester = p.tester
 of_direction p Unit = p.unit

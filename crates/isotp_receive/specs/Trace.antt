@@ -19,7 +19,7 @@ pub record Entry : Type 0 where
 abbrev pub At : List Entry → ℕ → Entry → Type 0
 At T p e = slice_get T p ≡ Some e
 
--- a first frame: the length that it announces, its own length, and the bytes of the message that it carries
+-- a first frame: its line and its time, the length that it announces, its CAN_DL, and the bytes of the message that it carries
 pub record FirstFrame : Type 0 where
   pub line : ℕ
   pub micros : ℕ
@@ -42,12 +42,14 @@ pub data Role : Type 0 where
   -- any other frame
   no_part : Role
 
+-- the two are one direction
 abbrev pub same_direction : Dir → Dir → Bool
 same_direction Tester Tester = true
 same_direction Unit Unit = true
 same_direction Tester Unit = false
 same_direction Unit Tester = false
 
+-- to the direction that sent it (ISO 15765-2, section 9.6)
 abbrev pub own_role : ℕ → ℕ → Result Layout PduFault → Role
 own_role line micros (Ok (layout.single m)) = single m
 own_role line micros (Ok (layout.first len rx_dl bytes)) = first (record { line = line; micros = micros; len = len; rx_dl = rx_dl; bytes = bytes })
@@ -55,6 +57,7 @@ own_role line micros (Ok (layout.consecutive sequence_number can_dl bytes)) = co
 own_role line micros (Ok (layout.flow_control s)) = no_part
 own_role line micros (Err f) = no_part
 
+-- to the direction that it was sent to: flow control is all that matters
 abbrev pub other_role : Result Layout PduFault → Role
 other_role (Ok (layout.flow_control Continue)) = continue_or_wait
 other_role (Ok (layout.flow_control Wait)) = continue_or_wait
@@ -64,5 +67,6 @@ other_role (Ok (layout.first len rx_dl bytes)) = no_part
 other_role (Ok (layout.consecutive sequence_number can_dl bytes)) = no_part
 other_role (Err f) = no_part
 
+-- what the frame e is to the reception of d
 unfoldable pub role : Dir → Entry → Role
 role d e = if same_direction d e.dir then own_role e.line e.micros (layout_of e.frame) else other_role (layout_of e.frame)

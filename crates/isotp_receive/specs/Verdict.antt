@@ -1,4 +1,4 @@
--- What a frame means after the frames before it.
+-- What a frame does after the frames before it, and the messages of a trace.
 use Rattle.std.specs.Prelude.{ℕ, ◌+◌, ◌-◌, ◌%◌, Bool, List, [], ◌∷◌, ◌++◌, length, take, not, nat_lt, nat_le, ◌==◌, if◌then◌else◌, Option, Some, None, Result, Ok, Err}
 use Rattle.can_log.specs.Dir.{other_direction}
 use Rattle.can_log.specs.declared.frame.Dir.{Dir}
@@ -16,6 +16,7 @@ use Rattle.isotp_receive.specs.Trace.{Entry}
 use Rattle.isotp_receive.specs.OnTime.{n_cr}
 use Rattle.isotp_receive.specs.Standing.{Standing, fits_length, stands}
 
+-- what becomes of a frame: it completes a message, begins a reception, is stored, is flow control, or is dropped
 pub data Told : Type 0 where
   message : List ℕ → Told
   began : Told
@@ -23,11 +24,12 @@ pub data Told : Type 0 where
   flowed : Told
   dropped : Reason → Told
 
--- the reception that the frame ended, and what it meant
+-- the reception that the frame ends, if it ends one, and what becomes of the frame
 pub record Answer : Type 0 where
   pub ended : Option Ended
   pub told : Told
 
+-- what ends for this cause, where o stands for d
 abbrev pub ended_as : Cause → Dir → Option Standing → Option Ended
 ended_as cause d None = None
 ended_as cause d (Some s) = Some (record { dir = d; begun_line = s.line; len = s.len; cause = cause })
@@ -62,21 +64,23 @@ on_consecutive d (Some s) micros sequence_number can_dl bytes =
     else if wants_more s then record { ended = None; told = stored }
     else record { ended = None; told = message (take s.len (s.bytes ++ bytes)) }
 
--- a continue or wait frame, and an overflow frame, where this stands for the other direction
+-- a continue or wait frame is expected where this stands for the other direction
 abbrev pub on_continue_or_wait : Option Standing → Answer
 on_continue_or_wait None = refused None (reason.FlowUnexpected)
 on_continue_or_wait (Some s) = record { ended = None; told = flowed }
 
+-- an overflow frame, where that took no consecutive frame yet, and then ends it
 abbrev pub on_overflow : Dir → Option Standing → Answer
 on_overflow other None = refused None (reason.FlowUnexpected)
 on_overflow other (Some s) = if s.taken == 0 then record { ended = ended_as cause.Overflow other (Some s); told = flowed } else refused None reason.FlowUnexpected
 
+-- a flow control frame by its status
 abbrev pub on_flow_control : Dir → Option Standing → Status → Answer
 on_flow_control other o Continue = on_continue_or_wait o
 on_flow_control other o Wait = on_continue_or_wait o
 on_flow_control other o Overflow = on_overflow other o
 
--- a frame of direction d at this time, where own and others stand
+-- a frame of direction d with this layout or fault, at this time, where own stands for d and others for the other direction
 abbrev pub on_layout : ℕ → Dir → Option Standing → Option Standing → ℕ → Result Layout PduFault → Answer
 on_layout limit d own others micros (Err f) = refused None (reason.Pdu f)
 on_layout limit d own others micros (Ok (layout.single m)) = record { ended = ended_as cause.NewStart d own; told = message m }
@@ -85,7 +89,7 @@ on_layout limit d own others micros (Ok (layout.first len rx_dl bytes)) =
 on_layout limit d own others micros (Ok (layout.consecutive sequence_number can_dl bytes)) = on_consecutive d own micros sequence_number can_dl bytes
 on_layout limit d own others micros (Ok (layout.flow_control s)) = on_flow_control (other_direction d) others s
 
--- what the frame e means after the frames T
+-- what the frame e does after the frames T
 unfoldable pub verdict : ℕ → List Entry → Entry → Answer
 verdict limit T e = on_layout limit e.dir (stands limit e.dir T) (stands limit (other_direction e.dir) T) e.micros (layout_of e.frame)
 
@@ -97,6 +101,7 @@ told_message d stored = []
 told_message d flowed = []
 told_message d (dropped r) = []
 
+-- the messages that these frames deliver after the frames past
 abbrev pub messages_after : ℕ → List Entry → List Entry → List (Dir × List ℕ)
 messages_after limit past [] = []
 messages_after limit past (e ∷ es) = told_message e.dir (verdict limit past e).told ++ messages_after limit (past ++ e ∷ []) es

@@ -40,7 +40,7 @@ pub struct Ended {
     pub cause: Cause,
 }
 
-/// Why a reception ended before its message was complete (ISO 15765-2, sections 9.6.5 and 9.7).
+/// Why a reception ended before its message was complete (ISO 15765-2, sections 9.6 and 9.8).
 #[derive(Clone, Copy, Debug, PartialEq, Eq)]
 pub enum Cause {
     /// A single or first frame of the same direction.

@@ -1,6 +1,6 @@
 //! Laws of the receptions, for the proofs of callers: functions that do nothing.
 
-ghost use Rattle.isotp_receive.specs.Laws.{StandsOpen, OpenStands, OneIsOpen, KeepsFewer, MessageDelivers, ConsecutiveIsJudged, CarriedAgrees, FitsAgrees};
+ghost use Rattle.isotp_receive.specs.Laws.{StandsOpen, OpenStands, OneIsOpen, KeepsFewer, MessageDelivers, VerdictIsTabled, CarriedAgrees, FitsAgrees};
 
 /// What stands after a trace is the reception that is open at its end by the positions of its frames.
 pub fn what_stands_is_open()
@@ -23,10 +23,9 @@ pub fn a_message_is_delivered()
     ensures { MessageDelivers }
 {}
 
-/// A consecutive frame of a reception that is open is late, has a wrong number, has a wrong length or
-/// is stored, in this order, by the positions of the frames.
-pub fn a_consecutive_frame_is_judged()
-    ensures { ConsecutiveIsJudged }
+/// The verdict on a frame is the one that the table of verdicts has for it.
+pub fn the_verdict_is_tabled()
+    ensures { VerdictIsTabled }
 {}
 
 /// What the places say of bytes and lengths is what the reception counts and tests.

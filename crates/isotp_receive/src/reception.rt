@@ -16,7 +16,7 @@ use isotp_pdu::Status;
 use std::alloc::{AllocError, Global};
 use std::marker::Model;
 
-/// N_Cr, in microseconds (ISO 15765-2, section 9.7): a later consecutive frame is late.
+/// N_Cr, in microseconds (ISO 15765-2, section 9.8): a later consecutive frame is late.
 const N_CR: u64 = 1_000_000;
 
 /// What a consecutive frame is to the reception that stands.
