@@ -23,25 +23,27 @@ use Rattle.isotp_receive.proofs.HeardByRole.{completed, at_place, told-by-role}
 abbrev pub IsQuiet : Role → Type 0
 IsQuiet r = (r ≡ no_part) ⊎ (r ≡ continue_or_wait)
 
--- the positions of messages of one direction, and what they deliver
-abbrev pub flat : List Transfer → List ℕ
-flat [] = []
-flat (g ∷ gs) = g.positions ++ flat gs
+-- all positions of messages of one direction
+abbrev pub all_positions : List Transfer → List ℕ
+all_positions [] = []
+all_positions (g ∷ gs) = g.positions ++ all_positions gs
 
+-- what they deliver: each message at its last position
 abbrev pub placed_of : List Transfer → List (ℕ × List ℕ)
 placed_of [] = []
 placed_of (g ∷ gs) = (last_or 0 g.positions, g.message) ∷ placed_of gs
 
-abbrev pub Goods : ℕ → List Entry → Dir → List Transfer → Type 0
-Goods limit T d [] = ⊤
-Goods limit T d (g ∷ gs) = ((length g.message ≤ limit) × Carries T d g.message g.positions) × Goods limit T d gs
+-- each is no longer than the limit, and its positions carry it
+abbrev pub AreCarried : ℕ → List Entry → Dir → List Transfer → Type 0
+AreCarried limit T d [] = ⊤
+AreCarried limit T d (g ∷ gs) = ((length g.message ≤ limit) × Carries T d g.message g.positions) × AreCarried limit T d gs
 
 -- from n on, each frame of T is at one of the positions, or is no frame of a message
-abbrev pub Cover : List Entry → Dir → ℕ → List ℕ → Type 0
-Cover T d n ps = (p : ℕ) (e : Entry) → n ≤ p → At T p e → IsIn p ps ⊎ IsQuiet (role d e)
+abbrev pub IsCovered : List Entry → Dir → ℕ → List ℕ → Type 0
+IsCovered T d n ps = (p : ℕ) (e : Entry) → n ≤ p → At T p e → IsIn p ps ⊎ IsQuiet (role d e)
 
--- a message under way, with the positions that are left
-record Open (T : List Entry) (d : Dir) (n : ℕ) (st : Standing) (m : List ℕ) (cs : List ℕ) : Type 0 where
+-- A message under way at position n: it began at i, k of its nn consecutive frames have come, and those at cs are left.
+record UnderWay (T : List Entry) (d : Dir) (n : ℕ) (st : Standing) (m : List ℕ) (cs : List ℕ) : Type 0 where
   i : ℕ
   start : FirstFrame
   f : ℕ
@@ -62,13 +64,15 @@ record Open (T : List Entry) (d : Dir) (n : ℕ) (st : Standing) (m : List ℕ) 
   at : At T q e
   time : st.reference ≡ e.micros
 
+-- How a direction stands before position n: no message is under way, whatever stands there from before; or one is, with
+-- the positions that are left of it, and it will be delivered at the last of them.
 data State (T : List Entry) (d : Dir) (n : ℕ) : Option Standing → List ℕ → List (ℕ × List ℕ) → Type 0 where
   closed : {o : Option Standing} → State T d n o [] []
-  opened : {st : Standing} {m : List ℕ} {c : ℕ} {cs : List ℕ} → Open T d n st m (c ∷ cs) → State T d n (Some st) (c ∷ cs) ((last_or c cs, m) ∷ [])
+  opened : {st : Standing} {m : List ℕ} {c : ℕ} {cs : List ℕ} → UnderWay T d n st m (c ∷ cs) → State T d n (Some st) (c ∷ cs) ((last_or c cs, m) ∷ [])
 
 -- the same message under way, one frame later
-reopen : (T : List Entry) (d : Dir) (n : ℕ) (st : Standing) (m : List ℕ) (cs : List ℕ) (s : Open T d n st m cs) (t q : ℕ) (e : Entry)
-    → IsReference T d s.i (suc n) q → At T q e → t ≡ e.micros → Open T d (suc n) (record st { reference = t }) m cs
+reopen : (T : List Entry) (d : Dir) (n : ℕ) (st : Standing) (m : List ℕ) (cs : List ℕ) (s : UnderWay T d n st m cs) (t q : ℕ) (e : Entry)
+    → IsReference T d s.i (suc n) q → At T q e → t ≡ e.micros → UnderWay T d (suc n) (record st { reference = t }) m cs
 reopen T d n st m cs s t q e ref at time = record {
   i = s.i;
   start = s.start;
@@ -127,7 +131,7 @@ judge-fit : (o q h b : Bool) → o ≡ true → q ≡ true → h ≡ true
 judge-fit o q h b ho hq hh = rw (ho, hq, hh) refl
 
 module _ (limit : ℕ) (T : List Entry) (d : Dir) (n : ℕ) (e : Entry) (at : At T n e) where
-  record Kept (st : Standing) (m cs : List ℕ) (s : Open T d n st m (n ∷ cs)) (sequence_number can_dl : ℕ) (bytes : List ℕ) : Type 0 where
+  record Kept (st : Standing) (m cs : List ℕ) (s : UnderWay T d n st m (n ∷ cs)) (sequence_number can_dl : ℕ) (bytes : List ℕ) : Type 0 where
     kind : role d e ≡ consecutive sequence_number can_dl bytes
     have : length st.bytes ≡ s.f + s.k * (s.start.rx_dl - 1)
     below : s.f + s.k * (s.start.rx_dl - 1) < length m
@@ -143,7 +147,7 @@ module _ (limit : ℕ) (T : List Entry) (d : Dir) (n : ℕ) (e : Entry) (at : At
     | inr t ↦ (let g = ltb-false k nn t in h.last_high (omega arith))
   ]
 
-  kept : (st : Standing) (m cs : List ℕ) (s : Open T d n st m (n ∷ cs)) → Kept st m cs s s.parts.0.sequence_number s.parts.0.can_dl s.parts.0.bytes
+  kept : (st : Standing) (m cs : List ℕ) (s : UnderWay T d n st m (n ∷ cs)) → Kept st m cs s s.parts.0.sequence_number s.parts.0.can_dl s.parts.0.bytes
   kept st m cs s =
       let P = s.parts.0 in
       let is_e : P.frame ≡ e = at-same T n P.frame e P.stands at in
@@ -173,7 +177,7 @@ module _ (limit : ℕ) (T : List Entry) (d : Dir) (n : ℕ) (e : Entry) (at : At
             ∙ ap (λ x. get_or x.frame.bytes (1 + b) 0) is_e ∙ sym (get_or_after_one e.frame.bytes b 0) ∙ ap (λ l. get_or l b 0) (sym from.0));
       }
 
-  judged-last : (st : Standing) (m : List ℕ) (s : Open T d n st m (n ∷ [])) → judged st e.micros s.parts.0.sequence_number s.parts.0.can_dl ≡ judged_as.Last
+  judged-last : (st : Standing) (m : List ℕ) (s : UnderWay T d n st m (n ∷ [])) → judged st e.micros s.parts.0.sequence_number s.parts.0.can_dl ≡ judged_as.Last
   judged-last st m s =
       let K = kept st m [] s in
       let P = s.parts.0 in
@@ -197,7 +201,7 @@ module _ (limit : ℕ) (T : List Entry) (d : Dir) (n : ℕ) (e : Entry) (at : At
       judge-fit (nat_le e.micros (st.reference + n_cr)) (P.sequence_number == (st.taken + 1) % 16) (fits_length st.len st.rx_dl (length st.bytes) P.can_dl) (nat_lt (length st.bytes + (st.rx_dl - 1)) st.len)
       K.on_time K.number fits ∙ ap (λ b. cond b judged_as.More judged_as.Last) over
 
-  last-told : (st : Standing) (m : List ℕ) (s : Open T d n st m (n ∷ [])) → completed (Some st) e.micros (role d e) ≡ m ∷ []
+  last-told : (st : Standing) (m : List ℕ) (s : UnderWay T d n st m (n ∷ [])) → completed (Some st) e.micros (role d e) ≡ m ∷ []
   last-told st m s =
       let K = kept st m [] s in
       let P = s.parts.0 in
@@ -212,10 +216,10 @@ module _ (limit : ℕ) (T : List Entry) (d : Dir) (n : ℕ) (e : Entry) (at : At
       let enough : length m ≤ s.f + s.k * (r - 1) + length P.bytes = omega arith in
       rw (K.kind, judged-last st m s) (ap (λ l. l ∷ []) (ap (λ j. take j (st.bytes ++ P.bytes)) whole_len ∙ K.grown ∙ take_all _ m enough))
 
-  last-after : (st : Standing) (m : List ℕ) (s : Open T d n st m (n ∷ [])) → after limit (Some st) e.micros (role d e) ≡ None
+  last-after : (st : Standing) (m : List ℕ) (s : UnderWay T d n st m (n ∷ [])) → after limit (Some st) e.micros (role d e) ≡ None
   last-after st m s = let K = kept st m [] s in rw (K.kind, judged-last st m s) refl
 
-  judged-more : (st : Standing) (m : List ℕ) (c : ℕ) (cs : List ℕ) (s : Open T d n st m (n ∷ c ∷ cs)) → judged st e.micros s.parts.0.sequence_number s.parts.0.can_dl ≡ judged_as.More
+  judged-more : (st : Standing) (m : List ℕ) (c : ℕ) (cs : List ℕ) (s : UnderWay T d n st m (n ∷ c ∷ cs)) → judged st e.micros s.parts.0.sequence_number s.parts.0.can_dl ≡ judged_as.More
   judged-more st m c cs s =
       let K = kept st m (c ∷ cs) s in
       let P = s.parts.0 in
@@ -234,17 +238,17 @@ module _ (limit : ℕ) (T : List Entry) (d : Dir) (n : ℕ) (e : Entry) (at : At
       judge-fit (nat_le e.micros (st.reference + n_cr)) (P.sequence_number == (st.taken + 1) % 16) (fits_length st.len st.rx_dl (length st.bytes) P.can_dl) (nat_lt (length st.bytes + (st.rx_dl - 1)) st.len)
       K.on_time K.number fits ∙ ap (λ b. cond b judged_as.More judged_as.Last) under
 
-  grown-by : (st : Standing) (m : List ℕ) (c : ℕ) (cs : List ℕ) (s : Open T d n st m (n ∷ c ∷ cs)) → Standing
+  grown-by : (st : Standing) (m : List ℕ) (c : ℕ) (cs : List ℕ) (s : UnderWay T d n st m (n ∷ c ∷ cs)) → Standing
   grown-by st m c cs s = record st { taken = st.taken + 1; bytes = st.bytes ++ s.parts.0.bytes; reference = e.micros }
 
-  more-told : (st : Standing) (m : List ℕ) (c : ℕ) (cs : List ℕ) (s : Open T d n st m (n ∷ c ∷ cs)) → completed (Some st) e.micros (role d e) ≡ []
+  more-told : (st : Standing) (m : List ℕ) (c : ℕ) (cs : List ℕ) (s : UnderWay T d n st m (n ∷ c ∷ cs)) → completed (Some st) e.micros (role d e) ≡ []
   more-told st m c cs s = let K = kept st m (c ∷ cs) s in rw (K.kind, judged-more st m c cs s) refl
 
-  more-after : (st : Standing) (m : List ℕ) (c : ℕ) (cs : List ℕ) (s : Open T d n st m (n ∷ c ∷ cs)) → after limit (Some st) e.micros (role d e) ≡ Some (grown-by st m c cs s)
+  more-after : (st : Standing) (m : List ℕ) (c : ℕ) (cs : List ℕ) (s : UnderWay T d n st m (n ∷ c ∷ cs)) → after limit (Some st) e.micros (role d e) ≡ Some (grown-by st m c cs s)
   unfolding grown-by
   more-after st m c cs s = let K = kept st m (c ∷ cs) s in rw (K.kind, judged-more st m c cs s) refl
 
-  more-open : (st : Standing) (m : List ℕ) (c : ℕ) (cs : List ℕ) (s : Open T d n st m (n ∷ c ∷ cs)) → Open T d (suc n) (grown-by st m c cs s) m (c ∷ cs)
+  more-open : (st : Standing) (m : List ℕ) (c : ℕ) (cs : List ℕ) (s : UnderWay T d n st m (n ∷ c ∷ cs)) → UnderWay T d (suc n) (grown-by st m c cs s) m (c ∷ cs)
   unfolding grown-by
   more-open st m c cs s =
       let K = kept st m (c ∷ cs) s in
@@ -283,7 +287,7 @@ module _ (limit : ℕ) (T : List Entry) (d : Dir) (n : ℕ) (e : Entry) (at : At
         time = refl;
       }
 
-  begin-open : (m cs : List ℕ) (l : IsSegmented T d m n cs) → Open T d (suc n) (fresh l.start) m cs
+  begin-open : (m cs : List ℕ) (l : IsSegmented T d m n cs) → UnderWay T d (suc n) (fresh l.start) m cs
   begin-open m cs l =
       let is_e : l.frame ≡ e = at-same T n l.frame e l.stands at in
       let from = first_from d l.frame l.start l.kind in
@@ -324,15 +328,15 @@ record Stepped (limit : ℕ) (T : List Entry) (d : Dir) (n : ℕ) (o next : Opti
   out' : List (ℕ × List ℕ)
   bs' : List Transfer
   state : State T d (suc n) next cs out'
-  goods : Goods limit T d bs'
-  rising : IsRisingFrom (suc n) (cs ++ flat bs')
-  cover : Cover T d (suc n) (cs ++ flat bs')
+  goods : AreCarried limit T d bs'
+  rising : IsRisingFrom (suc n) (cs ++ all_positions bs')
+  cover : IsCovered T d (suc n) (cs ++ all_positions bs')
   tells : at_place n told ++ (out' ++ placed_of bs') ≡ want
 
-later : (T : List Entry) (d : Dir) (n : ℕ) (ps : List ℕ) → Cover T d n ps → Cover T d (suc n) ps
+later : (T : List Entry) (d : Dir) (n : ℕ) (ps : List ℕ) → IsCovered T d n ps → IsCovered T d (suc n) ps
 later T d n ps cover p e above at = cover p e (omega arith) at
 
-passed : (T : List Entry) (d : Dir) (n : ℕ) (ps : List ℕ) → Cover T d n (n ∷ ps) → Cover T d (suc n) ps
+passed : (T : List Entry) (d : Dir) (n : ℕ) (ps : List ℕ) → IsCovered T d n (n ∷ ps) → IsCovered T d (suc n) ps
 passed T d n ps cover p e above at = elim (cover p e (omega arith) at) [
   | inl i ↦ (elim i [ inl same ↦ absurd (omega arith) | inr there ↦ inl there ])
   | inr quiet ↦ inr quiet
@@ -340,10 +344,10 @@ passed T d n ps cover p e above at = elim (cover p e (omega arith) at) [
 
 module _ (limit : ℕ) (T : List Entry) (d : Dir) (n : ℕ) (e : Entry) (at : At T n e) where
   -- a frame that is at none of the positions
-  aside : (o : Option Standing) (cs : List ℕ) (out : List (ℕ × List ℕ)) (bs : List Transfer) → State T d n o cs out → Goods limit T d bs
-      → IsRisingFrom (suc n) (cs ++ flat bs) → Cover T d n (cs ++ flat bs) → Stepped limit T d n o (after limit o e.micros (role d e)) (completed o e.micros (role d e)) (out ++ placed_of bs)
+  aside : (o : Option Standing) (cs : List ℕ) (out : List (ℕ × List ℕ)) (bs : List Transfer) → State T d n o cs out → AreCarried limit T d bs
+      → IsRisingFrom (suc n) (cs ++ all_positions bs) → IsCovered T d n (cs ++ all_positions bs) → Stepped limit T d n o (after limit o e.micros (role d e)) (completed o e.micros (role d e)) (out ++ placed_of bs)
   aside o cs out bs state goods rising cover = elim (cover n e (omega arith) at) [
-    | inl i ↦ absurd (let h = above-none (suc n) n (cs ++ flat bs) rising i in omega arith)
+    | inl i ↦ absurd (let h = above-none (suc n) n (cs ++ all_positions bs) rising i in omega arith)
     | inr quiet ↦ elim quiet [
       | inl q ↦ record {
         cs = cs;
@@ -352,7 +356,7 @@ module _ (limit : ℕ) (T : List Entry) (d : Dir) (n : ℕ) (e : Entry) (at : At
         state = rw q (quiet-foreign T d n o cs out e at q state);
         goods = goods;
         rising = rising;
-        cover = later T d n (cs ++ flat bs) cover;
+        cover = later T d n (cs ++ all_positions bs) cover;
         tells = rw q refl;
       }
       | inr q ↦ record {
@@ -362,15 +366,15 @@ module _ (limit : ℕ) (T : List Entry) (d : Dir) (n : ℕ) (e : Entry) (at : At
         state = rw q (quiet-paces T d n limit o cs out e at q state);
         goods = goods;
         rising = rising;
-        cover = later T d n (cs ++ flat bs) cover;
+        cover = later T d n (cs ++ all_positions bs) cover;
         tells = rw q refl;
       }
     ]
   ]
 
-  module _ (rest : List ℕ) (rising : IsRisingFrom (suc n) rest) (cover : Cover T d n (n ∷ rest)) where
+  module _ (rest : List ℕ) (rising : IsRisingFrom (suc n) rest) (cover : IsCovered T d n (n ∷ rest)) where
     -- the next consecutive frame of the message under way
-    goes : (st : Standing) (m : List ℕ) (cs : List ℕ) (bs : List Transfer) → Open T d n st m (n ∷ cs) → Goods limit T d bs → cs ++ flat bs ≡ rest
+    goes : (st : Standing) (m : List ℕ) (cs : List ℕ) (bs : List Transfer) → UnderWay T d n st m (n ∷ cs) → AreCarried limit T d bs → cs ++ all_positions bs ≡ rest
         → Stepped limit T d n (Some st) (after limit (Some st) e.micros (role d e)) (completed (Some st) e.micros (role d e)) ((last_or n cs, m) ∷ placed_of bs)
     goes st m [] bs s goods same = record {
       cs = [];
@@ -379,7 +383,7 @@ module _ (limit : ℕ) (T : List Entry) (d : Dir) (n : ℕ) (e : Entry) (at : At
       state = rw (last-after limit T d n e at st m s) closed;
       goods = goods;
       rising = subst (IsRisingFrom (suc n)) (sym same) rising;
-      cover = passed T d n (flat bs) (subst (λ l. Cover T d n (n ∷ l)) (sym same) cover);
+      cover = passed T d n (all_positions bs) (subst (λ l. IsCovered T d n (n ∷ l)) (sym same) cover);
       tells = rw (last-told limit T d n e at st m s) refl;
     }
     goes st m (c ∷ cs) bs s goods same = record {
@@ -389,12 +393,12 @@ module _ (limit : ℕ) (T : List Entry) (d : Dir) (n : ℕ) (e : Entry) (at : At
       state = rw (more-after limit T d n e at st m c cs s) (opened (more-open limit T d n e at st m c cs s));
       goods = goods;
       rising = subst (IsRisingFrom (suc n)) (sym same) rising;
-      cover = passed T d n (c ∷ (cs ++ flat bs)) (subst (λ l. Cover T d n (n ∷ l)) (sym same) cover);
+      cover = passed T d n (c ∷ (cs ++ all_positions bs)) (subst (λ l. IsCovered T d n (n ∷ l)) (sym same) cover);
       tells = rw (more-told limit T d n e at st m c cs s) refl;
     }
 
     -- the first frame of the next message
-    starts_one : (o : Option Standing) (m : List ℕ) (p : ℕ) (bs : List Transfer) (x : Entry) → At T p x → role d x ≡ single m → p ≡ n → Goods limit T d bs → flat bs ≡ rest
+    starts_one : (o : Option Standing) (m : List ℕ) (p : ℕ) (bs : List Transfer) (x : Entry) → At T p x → role d x ≡ single m → p ≡ n → AreCarried limit T d bs → all_positions bs ≡ rest
         → Stepped limit T d n o (after limit o e.micros (role d e)) (completed o e.micros (role d e)) ((p, m) ∷ placed_of bs)
     starts_one o m p bs x stands kind here goods same =
         let there : At T n x = subst (λ j. At T j x) here stands in
@@ -407,11 +411,11 @@ module _ (limit : ℕ) (T : List Entry) (d : Dir) (n : ℕ) (e : Entry) (at : At
           state = rw kind_e closed;
           goods = goods;
           rising = subst (IsRisingFrom (suc n)) (sym same) rising;
-          cover = passed T d n (flat bs) (subst (λ l. Cover T d n (n ∷ l)) (sym same) cover);
+          cover = passed T d n (all_positions bs) (subst (λ l. IsCovered T d n (n ∷ l)) (sym same) cover);
           tells = rw (kind_e, here) refl;
         }
 
-    starts_long : (o : Option Standing) (m cs : List ℕ) (bs : List Transfer) → length m ≤ limit → IsSegmented T d m n cs → Goods limit T d bs → cs ++ flat bs ≡ rest
+    starts_long : (o : Option Standing) (m cs : List ℕ) (bs : List Transfer) → length m ≤ limit → IsSegmented T d m n cs → AreCarried limit T d bs → cs ++ all_positions bs ≡ rest
         → Stepped limit T d n o (after limit o e.micros (role d e)) (completed o e.micros (role d e)) ((last_or n cs, m) ∷ placed_of bs)
     starts_long o m [] bs fits l goods same = absurd (let from = first_from d l.frame l.start l.kind in let a = from.1 in let b = from.2 in let g = l.count.enough in omega arith)
     starts_long o m (c ∷ cs) bs fits l goods same =
@@ -426,58 +430,58 @@ module _ (limit : ℕ) (T : List Entry) (d : Dir) (n : ℕ) (e : Entry) (at : At
           state = rw (kind_e, within) (opened (begin-open limit T d n e at m (c ∷ cs) l));
           goods = goods;
           rising = subst (IsRisingFrom (suc n)) (sym same) rising;
-          cover = passed T d n (c ∷ (cs ++ flat bs)) (subst (λ l. Cover T d n (n ∷ l)) (sym same) cover);
+          cover = passed T d n (c ∷ (cs ++ all_positions bs)) (subst (λ l. IsCovered T d n (n ∷ l)) (sym same) cover);
           tells = rw kind_e refl;
         }
 
-    starts : (o : Option Standing) (m ps : List ℕ) (bs : List Transfer) → length m ≤ limit → Carries T d m ps → Goods limit T d bs → ps ++ flat bs ≡ n ∷ rest
+    starts : (o : Option Standing) (m ps : List ℕ) (bs : List Transfer) → length m ≤ limit → Carries T d m ps → AreCarried limit T d bs → ps ++ all_positions bs ≡ n ∷ rest
         → Stepped limit T d n o (after limit o e.micros (role d e)) (completed o e.micros (role d e)) ((last_or 0 ps, m) ∷ placed_of bs)
     starts o m _ bs fits (unsegmented {p = p} x there kind) goods same = starts_one o m p bs x there kind (cc) goods (cc)
     starts o m _ bs fits (segmented {i = i} {cs = cs} l) goods same =
         let here : i ≡ n = cc in
-        let more : cs ++ flat bs ≡ rest = cc in
+        let more : cs ++ all_positions bs ≡ rest = cc in
         rw here (starts_long o m cs bs fits (subst (λ j. IsSegmented T d m j cs) here l) goods more)
 
   -- one frame
-  step : (o : Option Standing) (cs : List ℕ) (out : List (ℕ × List ℕ)) (bs : List Transfer) → State T d n o cs out → Goods limit T d bs
-      → IsRisingFrom n (cs ++ flat bs) → Cover T d n (cs ++ flat bs) → Stepped limit T d n o (after limit o e.micros (role d e)) (completed o e.micros (role d e)) (out ++ placed_of bs)
-  step o cs out bs state goods rising cover = elim (next_of n (cs ++ flat bs) rising) [
+  step : (o : Option Standing) (cs : List ℕ) (out : List (ℕ × List ℕ)) (bs : List Transfer) → State T d n o cs out → AreCarried limit T d bs
+      → IsRisingFrom n (cs ++ all_positions bs) → IsCovered T d n (cs ++ all_positions bs) → Stepped limit T d n o (after limit o e.micros (role d e)) (completed o e.micros (role d e)) (out ++ placed_of bs)
+  step o cs out bs state goods rising cover = elim (next_of n (cs ++ all_positions bs) rising) [
     | inl w ↦ here o cs out bs state goods w.0 w.1 w.2 cover
     | inr above ↦ aside o cs out bs state goods above cover
   ] where
-    here : (o : Option Standing) (cs : List ℕ) (out : List (ℕ × List ℕ)) (bs : List Transfer) → State T d n o cs out → Goods limit T d bs
-        → (rest : List ℕ) → cs ++ flat bs ≡ n ∷ rest → IsRisingFrom (suc n) rest → Cover T d n (cs ++ flat bs)
+    here : (o : Option Standing) (cs : List ℕ) (out : List (ℕ × List ℕ)) (bs : List Transfer) → State T d n o cs out → AreCarried limit T d bs
+        → (rest : List ℕ) → cs ++ all_positions bs ≡ n ∷ rest → IsRisingFrom (suc n) rest → IsCovered T d n (cs ++ all_positions bs)
         → Stepped limit T d n o (after limit o e.micros (role d e)) (completed o e.micros (role d e)) (out ++ placed_of bs)
     here o _ _ [] closed goods rest same above cover = absurd (cc)
     here o _ _ (g ∷ bs) closed goods rest same above cover =
-        starts rest above (subst (Cover T d n) same cover) o g.message g.positions bs goods.0.0 goods.0.1 goods.1 same
+        starts rest above (subst (IsCovered T d n) same cover) o g.message g.positions bs goods.0.0 goods.0.1 goods.1 same
     here _ _ _ bs (opened {st = st} {m = m} {c = c} {cs = cs} s) goods rest same above cover =
         let now : c ≡ n = cc in
-        let more : cs ++ flat bs ≡ rest = cc in
-        rw now (goes rest above (subst (Cover T d n) same cover) st m cs bs (subst (λ j. Open T d n st m (j ∷ cs)) now s) goods more)
+        let more : cs ++ all_positions bs ≡ rest = cc in
+        rw now (goes rest above (subst (IsCovered T d n) same cover) st m cs bs (subst (λ j. UnderWay T d n st m (j ∷ cs)) now s) goods more)
 
 has-first : (T : List Entry) (d : Dir) (m ps : List ℕ) → Carries T d m ps → (p : ℕ) × (e : Entry) × (rest : List ℕ) × (ps ≡ p ∷ rest) × At T p e
 has-first T d m _ (unsegmented {p = p} e stands kind) = (p, e, [], refl, stands)
 has-first T d m _ (segmented {i = i} {cs = cs} l) = (i, l.frame, cs, refl, l.stands)
 
 -- nothing is left at the end
-over : (limit : ℕ) (T : List Entry) (d : Dir) (o : Option Standing) (cs : List ℕ) (out : List (ℕ × List ℕ)) (bs : List Transfer) → State T d (length T) o cs out → Goods limit T d bs
-    → IsRisingFrom (length T) (cs ++ flat bs) → [] ≡ out ++ placed_of bs
+over : (limit : ℕ) (T : List Entry) (d : Dir) (o : Option Standing) (cs : List ℕ) (out : List (ℕ × List ℕ)) (bs : List Transfer) → State T d (length T) o cs out → AreCarried limit T d bs
+    → IsRisingFrom (length T) (cs ++ all_positions bs) → [] ≡ out ++ placed_of bs
 over limit T d _ _ _ [] closed goods rising = refl
 over limit T d _ _ _ (g ∷ bs) closed goods rising =
     let w = has-first T d g.message g.positions goods.0.1 in
-    let above = subst (λ l. IsRisingFrom (length T) (l ++ flat bs)) w.3 rising in
+    let above = subst (λ l. IsRisingFrom (length T) (l ++ all_positions bs)) w.3 rising in
     absurd (let inside = slice_get_within T w.0 w.1 w.4 in let a = above.0 in omega arith)
 over limit T d _ _ _ bs (opened {c = c} s) goods rising =
     let P = s.parts.0 in
     absurd (let inside = slice_get_within T c P.frame P.stands in let a = rising.0 in omega arith)
 
 run : (limit : ℕ) (before T : List Entry) (d : Dir) (n : ℕ) (past es : List Entry) → n ≡ length past → T ≡ past ++ es
-    → (o : Option Standing) (cs : List ℕ) (out : List (ℕ × List ℕ)) (bs : List Transfer) → State T d n o cs out → stands limit d (before ++ past) ≡ o → Goods limit T d bs
-    → IsRisingFrom n (cs ++ flat bs) → Cover T d n (cs ++ flat bs) → heard limit d n (before ++ past) es ≡ out ++ placed_of bs
+    → (o : Option Standing) (cs : List ℕ) (out : List (ℕ × List ℕ)) (bs : List Transfer) → State T d n o cs out → stands limit d (before ++ past) ≡ o → AreCarried limit T d bs
+    → IsRisingFrom n (cs ++ all_positions bs) → IsCovered T d n (cs ++ all_positions bs) → heard limit d n (before ++ past) es ≡ out ++ placed_of bs
 run limit before T d n past [] at split o cs out bs state now goods rising cover =
     let ends : n ≡ length T = at ∙ ap length (sym (split ∙ append-nil past)) in
-    over limit T d o cs out bs (subst (λ j. State T d j o cs out) ends state) goods (subst (λ j. IsRisingFrom j (cs ++ flat bs)) ends rising)
+    over limit T d o cs out bs (subst (λ j. State T d j o cs out) ends state) goods (subst (λ j. IsRisingFrom j (cs ++ all_positions bs)) ends rising)
 run limit before T d n past (e ∷ es) at split o cs out bs state now goods rising cover =
     let here : At T n e = rw (split, at) (at_here past es e) in
     let s = step limit T d n e here o cs out bs state goods rising cover in
@@ -493,7 +497,7 @@ run limit before T d n past (e ∷ es) at split o cs out bs state now goods risi
     ∙ s.tells
 
 -- behind any trace a direction delivers the messages that its positions carry
-pub direction-heard : (limit : ℕ) (before T : List Entry) (d : Dir) (bs : List Transfer) → Goods limit T d bs → IsRisingFrom 0 (flat bs) → Cover T d 0 (flat bs)
+pub direction-heard : (limit : ℕ) (before T : List Entry) (d : Dir) (bs : List Transfer) → AreCarried limit T d bs → IsRisingFrom 0 (all_positions bs) → IsCovered T d 0 (all_positions bs)
     → heard limit d 0 before T ≡ placed_of bs
 direction-heard limit before T d bs goods rising cover =
     ap (λ l. heard limit d 0 l T) (sym (append-nil before))

@@ -36,7 +36,7 @@ use Rattle.isotp_receive.proofs.Told.{self}
 use Rattle.isotp_receive.proofs.Clean.{Turn, t_whole, t_begins, t_more, t_last, t_paces, t_foreign, turn, was-more, was-last}
 
 -- a message under way: what its positions so far carry, whatever it will be
-record Under (limit : ℕ) (T : List Entry) (d : Dir) (n : ℕ) (st : Standing) (i : ℕ) (cs : List ℕ) : Type 0 where
+record UnderWay (limit : ℕ) (T : List Entry) (d : Dir) (n : ℕ) (st : Standing) (i : ℕ) (cs : List ℕ) : Type 0 where
   frame : Entry
   start : FirstFrame
   here : At T i frame
@@ -57,9 +57,10 @@ record Under (limit : ℕ) (T : List Entry) (d : Dir) (n : ℕ) (st : Standing) 
   at : At T q e
   time : st.reference ≡ e.micros
 
-data Pend (limit : ℕ) (T : List Entry) (d : Dir) (n : ℕ) : Option Standing → List ℕ → Type 0 where
-  nothing : Pend limit T d n None []
-  under : {st : Standing} {i : ℕ} {cs : List ℕ} → Under limit T d n st i cs → Pend limit T d n (Some st) (i ∷ cs)
+-- the positions that are under way where this stands
+data Pending (limit : ℕ) (T : List Entry) (d : Dir) (n : ℕ) : Option Standing → List ℕ → Type 0 where
+  nothing : Pending limit T d n None []
+  under : {st : Standing} {i : ℕ} {cs : List ℕ} → UnderWay limit T d n st i cs → Pending limit T d n (Some st) (i ∷ cs)
 
 numbered-snoc : (P : ℕ → ℕ → Type 0) (k c : ℕ) (cs : List ℕ) → EachNumbered P k cs → P (k + length cs) c → EachNumbered P k (cs ++ c ∷ [])
 numbered-snoc P k c [] h p = (let e : k + 0 ≡ k = omega arith in subst (λ j. P j c) e p, tt)
@@ -73,7 +74,7 @@ last-snoc i n [] = refl
 last-snoc i n (c ∷ cs) = last-snoc c n cs
 
 module _ (limit : ℕ) (T : List Entry) (d : Dir) (n : ℕ) (e : Entry) (at : At T n e) where
-  new-part : (st : Standing) (i : ℕ) (cs : List ℕ) (u : Under limit T d n st i cs) (sequence_number can_dl : ℕ) (bytes m : List ℕ) (nn : ℕ) → role d e ≡ consecutive sequence_number can_dl bytes
+  new-part : (st : Standing) (i : ℕ) (cs : List ℕ) (u : UnderWay limit T d n st i cs) (sequence_number can_dl : ℕ) (bytes m : List ℕ) (nn : ℕ) → role d e ≡ consecutive sequence_number can_dl bytes
       → e.micros ≤ st.reference + n_cr → FitsAs (bytes_in_first u.frame.frame.bytes) u.start.rx_dl u.start.len nn (1 + length cs) sequence_number can_dl
       → ((b : ℕ) → length st.bytes + b < length m → b < u.start.rx_dl - 1 → get_or m (length st.bytes + b) 0 ≡ get_or bytes b 0)
       → IsConsecutiveFrame T d m i u.start (bytes_in_first u.frame.frame.bytes) nn (1 + length cs) n
@@ -98,9 +99,9 @@ module _ (limit : ℕ) (T : List Entry) (d : Dir) (n : ℕ) (e : Entry) (at : At
       }
 
   -- one more consecutive frame
-  grow : (st : Standing) (i : ℕ) (cs : List ℕ) (u : Under limit T d n st i cs) (sequence_number can_dl : ℕ) (bytes : List ℕ) → role d e ≡ consecutive sequence_number can_dl bytes
+  grow : (st : Standing) (i : ℕ) (cs : List ℕ) (u : UnderWay limit T d n st i cs) (sequence_number can_dl : ℕ) (bytes : List ℕ) → role d e ≡ consecutive sequence_number can_dl bytes
       → judged st e.micros sequence_number can_dl ≡ judged_as.More
-      → Under limit T d (suc n) (record st { taken = st.taken + 1; bytes = st.bytes ++ bytes; reference = e.micros }) i (cs ++ n ∷ [])
+      → UnderWay limit T d (suc n) (record st { taken = st.taken + 1; bytes = st.bytes ++ bytes; reference = e.micros }) i (cs ++ n ∷ [])
   grow st i cs u sequence_number can_dl bytes kind j =
       let w = was-more st e.micros sequence_number can_dl j in
       let r = u.start.rx_dl in
@@ -152,7 +153,7 @@ module _ (limit : ℕ) (T : List Entry) (d : Dir) (n : ℕ) (e : Entry) (at : At
       }
 
   -- the last one
-  long : (st : Standing) (i : ℕ) (cs : List ℕ) (u : Under limit T d n st i cs) (sequence_number can_dl : ℕ) (bytes : List ℕ) → role d e ≡ consecutive sequence_number can_dl bytes
+  long : (st : Standing) (i : ℕ) (cs : List ℕ) (u : UnderWay limit T d n st i cs) (sequence_number can_dl : ℕ) (bytes : List ℕ) → role d e ≡ consecutive sequence_number can_dl bytes
       → judged st e.micros sequence_number can_dl ≡ judged_as.Last → IsSegmented T d (take st.len (st.bytes ++ bytes)) i (cs ++ n ∷ [])
   long st i cs u sequence_number can_dl bytes kind j =
       let w = was-last st e.micros sequence_number can_dl j in
@@ -206,7 +207,7 @@ module _ (limit : ℕ) (T : List Entry) (d : Dir) (n : ℕ) (e : Entry) (at : At
             ∙ sym (get_or-take f st.bytes x 0 inside) ∙ ap (λ l. get_or l x 0) (u.heads ∙ begun_by.0) ∙ get_or-drop (r - f) u.frame.frame.bytes x 0;
       }
 
-  begun : (s : FirstFrame) → role d e ≡ first s → s.len ≤ limit → Under limit T d (suc n) (fresh s) n []
+  begun : (s : FirstFrame) → role d e ≡ first s → s.len ≤ limit → UnderWay limit T d (suc n) (fresh s) n []
   begun s kind fits =
       let begun_by = first_from d e s kind in
       let size = begun_by.1 in
@@ -232,8 +233,8 @@ module _ (limit : ℕ) (T : List Entry) (d : Dir) (n : ℕ) (e : Entry) (at : At
         time = begun_by.4;
       }
 
-  waits : (st : Standing) (i : ℕ) (cs : List ℕ) (u : Under limit T d n st i cs) (t q : ℕ) (x : Entry) → IsReference T d i (suc n) q → At T q x → t ≡ x.micros
-      → Under limit T d (suc n) (record st { reference = t }) i cs
+  waits : (st : Standing) (i : ℕ) (cs : List ℕ) (u : UnderWay limit T d n st i cs) (t q : ℕ) (x : Entry) → IsReference T d i (suc n) q → At T q x → t ≡ x.micros
+      → UnderWay limit T d (suc n) (record st { reference = t }) i cs
   waits st i cs u t q x ref there time = record {
     frame = u.frame;
     start = u.start;
@@ -257,9 +258,9 @@ module _ (limit : ℕ) (T : List Entry) (d : Dir) (n : ℕ) (e : Entry) (at : At
   }
 
 -- what a frame makes of a direction: the positions that are under way, and the message that it completes
-record Adv (limit : ℕ) (T : List Entry) (d : Dir) (n : ℕ) (e : Entry) (next : Option Standing) (ps : List ℕ) (told : List (List ℕ)) : Type 0 where
+record Advanced (limit : ℕ) (T : List Entry) (d : Dir) (n : ℕ) (e : Entry) (next : Option Standing) (ps : List ℕ) (told : List (List ℕ)) : Type 0 where
   left : List ℕ
-  state : Pend limit T d (suc n) next left
+  state : Pending limit T d (suc n) next left
   out : List Transfer
   told_out : map {B = Dir × List ℕ} (λ g. (g.dir, g.message)) out ≡ map {B = Dir × List ℕ} (λ m. (d, m)) told
   each : AllByRecursion (IsTransfer limit T) out
@@ -272,8 +273,8 @@ record Adv (limit : ℕ) (T : List Entry) (d : Dir) (n : ℕ) (e : Entry) (next 
   shape : (out ≡ []) ⊎ ((g : Transfer) × (out ≡ g ∷ []) × (g.dir ≡ d) × (left ≡ []) × ((p : ℕ) → IsIn p g.positions → p ≤ n))
 
 module _ (limit : ℕ) (T : List Entry) (d : Dir) (n : ℕ) (e : Entry) (at : At T n e) where
-  keep : (next : Option Standing) (ps left : List ℕ) → Pend limit T d (suc n) next left → ((p : ℕ) → IsIn p ps → IsIn p left) → ((p : ℕ) → IsIn p left → IsIn p ps ⊎ (p ≡ n))
-      → (IsOwn (role d e) → IsIn n left) → Adv limit T d n e next ps []
+  keep : (next : Option Standing) (ps left : List ℕ) → Pending limit T d (suc n) next left → ((p : ℕ) → IsIn p ps → IsIn p left) → ((p : ℕ) → IsIn p left → IsIn p ps ⊎ (p ≡ n))
+      → (IsOwn (role d e) → IsIn n left) → Advanced limit T d n e next ps []
   keep then_o ps left state keeps lows here = record {
     left = left;
     state = state;
@@ -291,7 +292,7 @@ module _ (limit : ℕ) (T : List Entry) (d : Dir) (n : ℕ) (e : Entry) (at : At
 
   deliver : (ps places : List ℕ) (m : List ℕ) → IsTransfer limit T (record { dir = d; message = m; positions = places }) → last_or 0 places ≡ n
       → ((p : ℕ) → IsIn p ps → IsIn p places) → ((p : ℕ) → IsIn p places → IsIn p ps ⊎ (p ≡ n)) → ((p : ℕ) → IsIn p places → p ≤ n) → IsIn n places → IsOwn (role d e)
-      → Adv limit T d n e None ps (m ∷ [])
+      → Advanced limit T d n e None ps (m ∷ [])
   deliver ps places m given last keeps lows most now own = record {
     left = [];
     state = nothing;
@@ -310,14 +311,14 @@ module _ (limit : ℕ) (T : List Entry) (d : Dir) (n : ℕ) (e : Entry) (at : At
   is_new : (p i : ℕ) (cs : List ℕ) → IsIn p (i ∷ (cs ++ n ∷ [])) → IsIn p (i ∷ cs) ⊎ (p ≡ n)
   is_new p i cs a = elim (in-append p (i ∷ cs) (n ∷ []) a) [ inl old ↦ inl old | inr new ↦ elim new [ inl is ↦ inr is | inr none ↦ absurd none ] ]
 
-  on-more : (st : Standing) (i : ℕ) (cs : List ℕ) (u : Under limit T d n st i cs) (sequence_number can_dl : ℕ) (bytes : List ℕ) → role d e ≡ consecutive sequence_number can_dl bytes → judged st e.micros sequence_number can_dl ≡ judged_as.More
-      → Adv limit T d n e (after limit (Some st) e.micros (consecutive sequence_number can_dl bytes)) (i ∷ cs) (completed (Some st) e.micros (consecutive sequence_number can_dl bytes))
+  on-more : (st : Standing) (i : ℕ) (cs : List ℕ) (u : UnderWay limit T d n st i cs) (sequence_number can_dl : ℕ) (bytes : List ℕ) → role d e ≡ consecutive sequence_number can_dl bytes → judged st e.micros sequence_number can_dl ≡ judged_as.More
+      → Advanced limit T d n e (after limit (Some st) e.micros (consecutive sequence_number can_dl bytes)) (i ∷ cs) (completed (Some st) e.micros (consecutive sequence_number can_dl bytes))
   on-more st i cs u sequence_number can_dl bytes kind j =
       rw j (keep _ (i ∷ cs) (i ∷ (cs ++ n ∷ [])) (under (grow limit T d n e at st i cs u sequence_number can_dl bytes kind j))
       (λ p a. in-left p (i ∷ cs) (n ∷ []) a) (λ p a. is_new p i cs a) (λ _. in-right n (i ∷ cs) (n ∷ []) (inl refl)))
 
-  on-last : (st : Standing) (i : ℕ) (cs : List ℕ) (u : Under limit T d n st i cs) (sequence_number can_dl : ℕ) (bytes : List ℕ) → role d e ≡ consecutive sequence_number can_dl bytes → judged st e.micros sequence_number can_dl ≡ judged_as.Last
-      → Adv limit T d n e (after limit (Some st) e.micros (consecutive sequence_number can_dl bytes)) (i ∷ cs) (completed (Some st) e.micros (consecutive sequence_number can_dl bytes))
+  on-last : (st : Standing) (i : ℕ) (cs : List ℕ) (u : UnderWay limit T d n st i cs) (sequence_number can_dl : ℕ) (bytes : List ℕ) → role d e ≡ consecutive sequence_number can_dl bytes → judged st e.micros sequence_number can_dl ≡ judged_as.Last
+      → Advanced limit T d n e (after limit (Some st) e.micros (consecutive sequence_number can_dl bytes)) (i ∷ cs) (completed (Some st) e.micros (consecutive sequence_number can_dl bytes))
   on-last st i cs u sequence_number can_dl bytes kind j =
       let l = long limit T d n e at st i cs u sequence_number can_dl bytes kind j in
       let announces = l.announces in
@@ -340,8 +341,8 @@ module _ (limit : ℕ) (T : List Entry) (d : Dir) (n : ℕ) (e : Entry) (at : At
       })
       (last-snoc i n cs) (λ p a. in-left p (i ∷ cs) (n ∷ []) a) (λ p a. is_new p i cs a) most (in-right n (i ∷ cs) (n ∷ []) (inl refl)) (rw kind tt))
 
-  advance : (o : Option Standing) (ps : List ℕ) → Pend limit T d n o ps → (r : Role) → role d e ≡ r → Turn limit o e.micros r → 64 ≤ limit
-      → Adv limit T d n e (after limit o e.micros r) ps (completed o e.micros r)
+  advance : (o : Option Standing) (ps : List ℕ) → Pending limit T d n o ps → (r : Role) → role d e ≡ r → Turn limit o e.micros r → 64 ≤ limit
+      → Advanced limit T d n e (after limit o e.micros r) ps (completed o e.micros r)
   advance _ _ nothing _ kind (t_whole m closed) wide =
       let size = whole_from d e m kind in
       deliver [] (n ∷ []) m (record { some = size.0; fits = (let b = size.1 in omega arith); rising = (omega arith, tt); carried = unsegmented e at kind })
@@ -499,7 +500,7 @@ idle-here limit past e h k =
     rw (self e.dir) (own-idle limit (stands limit (other_direction e.dir) past) e.line e.micros (layout_of e.frame) other)
 
 module _ (limit : ℕ) (T : List Entry) (n : ℕ) (past es : List Entry) (e : Entry) (at : At T n e) (ended : (verdict limit past e).ended ≡ None) (kept : IsKept (verdict limit past e).told)
-    (pend : Dir → List ℕ) (adv : (d : Dir) → Adv limit T d n e (after limit (stands limit d past) e.micros (role d e)) (pend d) (completed (stands limit d past) e.micros (role d e)))
+    (pend : Dir → List ℕ) (adv : (d : Dir) → Advanced limit T d n e (after limit (stands limit d past) e.micros (role d e)) (pend d) (completed (stands limit d past) e.micros (role d e)))
     (tail : Tail limit T (suc n) (past ++ e ∷ []) es (λ d. (adv d).left)) where
   out_told : map {B = Dir × List ℕ} (λ g. (g.dir, g.message)) (adv e.dir).out ≡ told_message e.dir (verdict limit past e).told
   out_told =
@@ -564,12 +565,12 @@ module _ (limit : ℕ) (T : List Entry) (n : ℕ) (past es : List Entry) (e : En
     lows = lows-join;
   }
 
-none-left : (limit : ℕ) (T : List Entry) (d : Dir) (n : ℕ) (o : Option Standing) (ps : List ℕ) → Pend limit T d n o ps → o ≡ None → ps ≡ []
+none-left : (limit : ℕ) (T : List Entry) (d : Dir) (n : ℕ) (o : Option Standing) (ps : List ℕ) → Pending limit T d n o ps → o ≡ None → ps ≡ []
 none-left limit T d n _ _ nothing h = refl
 none-left limit T d n _ _ (under u) h = absurd (cc)
 
 back : (limit : ℕ) (T : List Entry) → 64 ≤ limit → (n : ℕ) (past es : List Entry) → n ≡ length past → T ≡ past ++ es → EachClean limit past es → ((d : Dir) → stands limit d T ≡ None)
-    → (pend : Dir → List ℕ) → ((d : Dir) → Pend limit T d n (stands limit d past) (pend d)) → Tail limit T n past es pend
+    → (pend : Dir → List ℕ) → ((d : Dir) → Pending limit T d n (stands limit d past) (pend d)) → Tail limit T n past es pend
 back limit T wide n past [] place split clean finished pend state =
     let all : past ≡ T = sym (split ∙ append-nil past) in
     record {
@@ -584,13 +585,13 @@ back limit T wide n past [] place split clean finished pend state =
     }
 back limit T wide n past (e ∷ es) place split clean finished pend state =
     let here : At T n e = rw (split, place) (at_here past es e) in
-    let adv : (d : Dir) → Adv limit T d n e (after limit (stands limit d past) e.micros (role d e)) (pend d) (completed (stands limit d past) e.micros (role d e)) =
+    let adv : (d : Dir) → Advanced limit T d n e (after limit (stands limit d past) e.micros (role d e)) (pend d) (completed (stands limit d past) e.micros (role d e)) =
     λ d. advance limit T d n e here (stands limit d past) (pend d) (state d) (role d e) refl (turn limit d past e clean.0.goes_on clean.0.kept) wide in
     let place_next : suc n ≡ length (past ++ e ∷ []) = omega (arith, length-append past (e ∷ [])) in
     let split_next : T ≡ (past ++ e ∷ []) ++ es = split ∙ sym (append_assoc past (e ∷ []) es) in
     join limit T n past es e here clean.0.goes_on clean.0.kept pend adv
     (back limit T wide (suc n) (past ++ e ∷ []) es place_next split_next clean.1 finished (λ d. (adv d).left)
-    (λ d. subst (λ o. Pend limit T d (suc n) o (adv d).left) (sym (one_more limit d past e)) (adv d).state))
+    (λ d. subst (λ o. Pending limit T d (suc n) o (adv d).left) (sym (one_more limit d past e)) (adv d).state))
 
 pub clean-records : (limit : ℕ) (T : List Entry) → 64 ≤ limit → IsClean limit T → IsRecording limit T (messages limit T)
 clean-records limit T wide clean =

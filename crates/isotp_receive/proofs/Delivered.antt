@@ -7,7 +7,7 @@ use Rattle.can_log.specs.declared.frame.Dir.{Dir}
 use Rattle.isotp_receive.specs.Trace.{Entry, role, same_direction, At}
 use Rattle.isotp_receive.specs.Verdict.{messages}
 use Rattle.isotp_receive.specs.Recording.{IsRisingFrom, Carries, Transfer, IsTransfer, IsIn, last_or, AllBefore, AreApart, EachPair, IsGiven, IsRecording, ended_within}
-use Rattle.isotp_receive.proofs.Carried.{IsQuiet, flat, placed_of, Goods, Cover, direction-heard}
+use Rattle.isotp_receive.proofs.Carried.{IsQuiet, all_positions, placed_of, AreCarried, IsCovered, direction-heard}
 use Rattle.isotp_receive.proofs.HeardByRole.{same}
 use Rattle.isotp_receive.proofs.PositionLists.{in-append, in-left, in-right, rising-append, last-is-in}
 use Rattle.isotp_receive.proofs.OwnFrames.{own-other, carries-own, idle-quiet}
@@ -25,46 +25,46 @@ abbrev of_dir : Dir → List Transfer → List Transfer
 of_dir d [] = []
 of_dir d (g ∷ gs) = cond (same_direction d g.dir) (g ∷ of_dir d gs) (of_dir d gs)
 
-goods-of : (limit : ℕ) (T : List Entry) (d : Dir) (gs : List Transfer) → AllByRecursion (IsTransfer limit T) gs → Goods limit T d (of_dir d gs)
+goods-of : (limit : ℕ) (T : List Entry) (d : Dir) (gs : List Transfer) → AllByRecursion (IsTransfer limit T) gs → AreCarried limit T d (of_dir d gs)
 goods-of limit T d [] h = tt
 goods-of limit T d (g ∷ gs) h = elim (cases_Bool (same_direction d g.dir)) [
   | inl t ↦ rw t ((h.0.fits, subst (λ x. Carries T x g.message g.positions) (sym (same d g.dir t)) h.0.carried), goods-of limit T d gs h.1)
   | inr t ↦ rw t (goods-of limit T d gs h.1)
 ]
 
-before-rest : (d : Dir) (g : Transfer) (gs : List Transfer) → d ≡ g.dir → AllByRecursion (AreApart g) gs → AllBefore g.positions (flat (of_dir d gs))
+before-rest : (d : Dir) (g : Transfer) (gs : List Transfer) → d ≡ g.dir → AllByRecursion (AreApart g) gs → AllBefore g.positions (all_positions (of_dir d gs))
 before-rest d g [] is h p q i j = absurd j
 before-rest d g (x ∷ gs) is h p q i j = elim (cases_Bool (same_direction d x.dir)) [
-  | inl t ↦ (let k = rw t at j in elim (in-append q x.positions (flat (of_dir d gs)) k) [
+  | inl t ↦ (let k = rw t at j in elim (in-append q x.positions (all_positions (of_dir d gs)) k) [
     | inl a ↦ before g x h.0 (sym is ∙ same d x.dir t) p q i a
     | inr b ↦ before-rest d g gs is h.1 p q i b
   ])
   | inr t ↦ (let k = rw t at j in before-rest d g gs is h.1 p q i k)
 ]
 
-rising-of : (limit : ℕ) (T : List Entry) (d : Dir) (gs : List Transfer) → AllByRecursion (IsTransfer limit T) gs → EachPair AreApart gs → IsRisingFrom 0 (flat (of_dir d gs))
+rising-of : (limit : ℕ) (T : List Entry) (d : Dir) (gs : List Transfer) → AllByRecursion (IsTransfer limit T) gs → EachPair AreApart gs → IsRisingFrom 0 (all_positions (of_dir d gs))
 rising-of limit T d [] each pairs = tt
 rising-of limit T d (g ∷ gs) each pairs = elim (cases_Bool (same_direction d g.dir)) [
-  | inl t ↦ rw t (rising-append 0 g.positions (flat (of_dir d gs)) each.0.rising (rising-of limit T d gs each.1 pairs.1) (before-rest d g gs (same d g.dir t) pairs.0) (λ q i. omega arith))
+  | inl t ↦ rw t (rising-append 0 g.positions (all_positions (of_dir d gs)) each.0.rising (rising-of limit T d gs each.1 pairs.1) (before-rest d g gs (same d g.dir t) pairs.0) (λ q i. omega arith))
   | inr t ↦ rw t (rising-of limit T d gs each.1 pairs.1)
 ]
 
 covered : (limit : ℕ) (T : List Entry) (d : Dir) (gs : List Transfer) (p : ℕ) (e : Entry) → AllByRecursion (IsTransfer limit T) gs → At T p e → IsGiven p gs
-    → IsIn p (flat (of_dir d gs)) ⊎ IsQuiet (role d e)
+    → IsIn p (all_positions (of_dir d gs)) ⊎ IsQuiet (role d e)
 covered limit T d [] p e each at given = absurd given
 covered limit T d (g ∷ gs) p e each at (inl i) = elim (cases_Bool (same_direction d g.dir)) [
-  | inl t ↦ inl (rw t (in-left p g.positions (flat (of_dir d gs)) i))
+  | inl t ↦ inl (rw t (in-left p g.positions (all_positions (of_dir d gs)) i))
   | inr t ↦ inr (inl (own-other d g.dir e t (carries-own T g.dir g.message g.positions p e each.0.carried i at)))
 ]
 covered limit T d (g ∷ gs) p e each at (inr i) = elim (covered limit T d gs p e each.1 at i) [
   | inl j ↦ inl (elim (cases_Bool (same_direction d g.dir)) [
-    | inl t ↦ rw t (in-right p g.positions (flat (of_dir d gs)) j)
+    | inl t ↦ rw t (in-right p g.positions (all_positions (of_dir d gs)) j)
     | inr t ↦ rw t j
   ])
   | inr q ↦ inr q
 ]
 
-cover-of : (limit : ℕ) (T : List Entry) (M : List (Dir × List ℕ)) (d : Dir) (r : IsRecording limit T M) → Cover T d 0 (flat (of_dir d r.transfers))
+cover-of : (limit : ℕ) (T : List Entry) (M : List (Dir × List ℕ)) (d : Dir) (r : IsRecording limit T M) → IsCovered T d 0 (all_positions (of_dir d r.transfers))
 cover-of limit T M d r p e _ at = elim (r.others p e at) [
   | inl i ↦ covered limit T d r.transfers p e r.each at i
   | inr h ↦ inr (idle-quiet d e h)
