@@ -1,14 +1,15 @@
 -- The messages of a meaning have that meaning.
 use Rattle.std.specs.Prelude.{⊤}
-use Rattle.std.proofs.Common.{◌≡◌, ℕ, ◌+◌, true, false, List, [], ◌∷◌, ◌++◌, length, map, Option, Some, None, refl, sym, ◌∙◌, ap, arith, inl, inr, subst, length-append}
+use Rattle.std.proofs.Common.{◌≡◌, ℕ, true, false, List, [], ◌∷◌, ◌++◌, map, Option, Some, None, refl, sym, ◌∙◌, ap, inl, inr, subst}
 use Rattle.std.specs.List.{flat_map}
 use Rattle.std.proofs.lemmas.List.{append-nil}
 use Rattle.std.proofs.lemmas.Grind.{flat_map-append}
 use Rattle.std.proofs.lemmas.Bool.{cond_both, cases_Bool, false≢true}
 use Rattle.can_log.specs.declared.frame.Dir.TheVariants.{Tester, Unit}
 use Rattle.uds_message.specs.Message.{is_request}
-use Rattle.uds_exchange.specs.Meaning.{Message, is_tester_request, is_answer_to, is_pending_reply_to, before_requests, Part, part, parts, answer, strays_in, removed, exchange, stray_of, items_of, meaning, messages_of, flattened}
+use Rattle.uds_exchange.specs.Meaning.{Message, is_tester_request, is_answer_to, is_pending_reply_to, before_requests, Part, part, parts, answer, strays_in, exchange, stray_of, items_of, meaning, messages_of, flattened}
 use Rattle.uds_exchange.proofs.Options.{some_none}
+use Rattle.uds_exchange.proofs.Replies.{request-bytes}
 
 -- no message of the list is a request
 abbrev pub Quiet : List Message → Type 0
@@ -28,7 +29,7 @@ parts-append : (xs N : List Message) → Quiet xs → parts (xs ++ N) ≡ parts 
 parts-append [] N h = refl
 parts-append (x ∷ xs) N h = rw h.0 (parts-append xs N h.1)
 
-quiet-others : (r : List ℕ) (xs : List Message) → Quiet xs → Quiet (strays_in r xs)
+pub quiet-others : (r : List ℕ) (xs : List Message) → Quiet xs → Quiet (strays_in r xs)
 quiet-others r [] h = tt
 quiet-others r (x ∷ xs) h =
     cond_both (is_answer_to r x) _ _ Quiet (λ _. h.1) (λ _.
@@ -102,14 +103,10 @@ abbrev pub Good : List Part → Type 0
 Good [] = ⊤
 Good (p ∷ ps) = (is_request p.request ≡ true) × Quiet p.behind × Good ps
 
-pub is-tester : (x : Message) → is_tester_request x ≡ true → is_request x.1 ≡ true
-is-tester (Tester, m) h = h
-is-tester (Unit, m) h = absurd (false≢true h)
-
 pub good-parts : (M : List Message) → Good (parts M)
 good-parts [] = tt
 good-parts (x ∷ xs) =
-    cond_both (is_tester_request x) _ _ Good (λ e. (is-tester x e, quiet-before xs, good-parts xs)) (λ _. good-parts xs)
+    cond_both (is_tester_request x) _ _ Good (λ e. (request-bytes x e, quiet-before xs, good-parts xs)) (λ _. good-parts xs)
 
 flat-parts : (ps : List Part) → Good ps
     → (before_requests (flattened (flat_map items_of ps)) ≡ []) × (parts (flattened (flat_map items_of ps)) ≡ map again ps)

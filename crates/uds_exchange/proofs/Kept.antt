@@ -1,5 +1,5 @@
 -- What the code keeps of a meaning, and what it makes of one more message.
-use Rattle.std.proofs.Common.{◌≡◌, ℕ, ◌<◌, Bool, true, false, not, ◌&&◌, List, [], ◌∷◌, ◌++◌, length, get_or, Option, Some, None, refl, sym, ◌∙◌, ap, arith, inl, inr, option_map}
+use Rattle.std.proofs.Common.{◌≡◌, ℕ, ◌<◌, not, ◌&&◌, List, [], ◌∷◌, ◌++◌, length, get_or, Option, Some, None, refl, sym, ◌∙◌, ap, arith, inl, inr, option_map}
 use Rattle.std.specs.Prelude.{slice_get, slice_set}
 use Rattle.std.proofs.lemmas.Option.{slice_get_read, slice_get_within, slice_get-map}
 use Rattle.std.proofs.lemmas.List.{map-append}
@@ -8,7 +8,7 @@ use Rattle.uds_message.specs.Message.{sid, is_final_for, is_pending_for}
 use Rattle.uds_exchange.specs.declared.item.Item.{Item}
 use Rattle.uds_exchange.specs.declared.roles.Role.{Role}
 use Rattle.uds_exchange.specs.declared.roles.Role.TheVariants as role
-use Rattle.uds_exchange.specs.Meaning.{Message, ItemValue, exchange, stray, stray_of, is_from_tester, is_tester_request, is_answer_to, is_pending_reply_to}
+use Rattle.uds_exchange.specs.Meaning.{Message, ItemValue, exchange, stray_of, is_from_tester, is_tester_request, is_answer_to, is_pending_reply_to}
 use Rattle.uds_exchange.specs.Pairing.{item_value, item_values, waiting, waiting_sid, IsOpenAt, role_if_open, role_at, joined_by, joined}
 use Rattle.uds_exchange.proofs.Options.{some_same, some_none}
 use Rattle.uds_exchange.proofs.Waiting.{waiting-stray, waiting-request, waiting-at, waiting-answered}

@@ -5,3 +5,9 @@ pub mod Again
 pub mod Counts
 pub mod Kept
 pub mod Differences
+pub mod Replies
+pub mod OpenRequests
+pub mod RolesFound
+pub mod Placed
+pub mod RemovedOnes
+pub mod ByRoles

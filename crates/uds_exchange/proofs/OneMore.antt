@@ -7,12 +7,12 @@ use Rattle.uds_exchange.specs.Meaning.{Message, is_tester_request, is_answer_to,
 use Rattle.uds_exchange.specs.Pairing.{has_exchange, one_later, waiting, joined_by, joined}
 
 -- the parts, and what stands before_requests them, with one more message
-abbrev grown : List Part → Message → List Part
+abbrev pub grown : List Part → Message → List Part
 grown [] x = cond (is_tester_request x) (part x.1 [] ∷ []) []
 grown (p ∷ []) x = cond (is_tester_request x) (p ∷ part x.1 [] ∷ []) (part p.request (p.behind ++ x ∷ []) ∷ [])
 grown (p ∷ q ∷ ps) x = p ∷ grown (q ∷ ps) x
 
-abbrev fronted : List Message → List Part → Message → List Message
+abbrev pub fronted : List Message → List Part → Message → List Message
 fronted b [] x = cond (is_tester_request x) b (b ++ x ∷ [])
 fronted b (p ∷ ps) x = b
 
@@ -24,7 +24,7 @@ grown-cons : (r : List ℕ) (b : List Message) (ps : List Part) (x : Message) �
 grown-cons r b [] x = elim (cases_Bool (is_tester_request x)) [ inl e ↦ rw e refl | inr e ↦ rw e refl ]
 grown-cons r b (p ∷ ps) x = refl
 
-grows : (M : List Message) (x : Message) → (before_requests (M ++ x ∷ []) ≡ fronted (before_requests M) (parts M) x) × (parts (M ++ x ∷ []) ≡ grown (parts M) x)
+pub grows : (M : List Message) (x : Message) → (before_requests (M ++ x ∷ []) ≡ fronted (before_requests M) (parts M) x) × (parts (M ++ x ∷ []) ≡ grown (parts M) x)
 grows [] x = (refl, refl)
 grows (y ∷ ys) x =
     let rest = grows ys x in
@@ -33,11 +33,11 @@ grows (y ∷ ys) x =
       | inr e ↦ rw e (ap (λ l. y ∷ l) rest.0 ∙ fronted-cons y (before_requests ys) (parts ys) x, rest.1)
     ]
 
-no-strays : (o : List Message) → (has_exchange (map stray_of o) ≡ false) × (waiting (map stray_of o) ≡ None)
+pub no-strays : (o : List Message) → (has_exchange (map stray_of o) ≡ false) × (waiting (map stray_of o) ≡ None)
 no-strays [] = (refl, refl)
 no-strays (x ∷ o) = ((no-strays o).0, ap one_later (no-strays o).1)
 
-waiting-cons : (a : ItemValue) (its : List ItemValue) → has_exchange its ≡ true → waiting (a ∷ its) ≡ one_later (waiting its)
+pub waiting-cons : (a : ItemValue) (its : List ItemValue) → has_exchange its ≡ true → waiting (a ∷ its) ≡ one_later (waiting its)
 waiting-cons (stray d m) its h = refl
 waiting-cons (exchange r (Some b)) its h = refl
 waiting-cons (exchange r None) its h = rw h refl
@@ -57,7 +57,7 @@ joined-cons a its x h =
       | inr e ↦ rw (e, waiting-cons a its h) (joined_by-cons a (waiting its) its x)
     ]
 
-has-behind : (A B : List ItemValue) → has_exchange B ≡ true → has_exchange (A ++ B) ≡ true
+pub has-behind : (A B : List ItemValue) → has_exchange B ≡ true → has_exchange (A ++ B) ≡ true
 has-behind [] B h = h
 has-behind (stray d m ∷ A) B h = has-behind A B h
 has-behind (exchange r a ∷ A) B h = refl
@@ -113,11 +113,11 @@ part-grows r None o x h =
       ]
     ])
 
-has-items : (p : Part) (ps : List Part) → has_exchange (flat_map items_of (p ∷ ps)) ≡ true
+pub has-items : (p : Part) (ps : List Part) → has_exchange (flat_map items_of (p ∷ ps)) ≡ true
 has-items p ps = refl
 
-one : (p : Part) → flat_map items_of (p ∷ []) ≡ items_of p
-one p = append-nil (items_of p)
+pub one-part : (p : Part) → flat_map items_of (p ∷ []) ≡ items_of p
+one-part p = append-nil (items_of p)
 
 parts-join : (p : Part) (ps : List Part) (x : Message) → flat_map items_of (grown (p ∷ ps) x) ≡ joined (flat_map items_of (p ∷ ps)) x
 parts-join p [] x =
@@ -127,7 +127,7 @@ parts-join p [] x =
           (let grows_by : items_of (part p.request (p.behind ++ x ∷ [])) ≡ joined (items_of p) x =
           rw (answer-snoc p.request p.behind x, others-snoc p.request p.behind x) (part-grows p.request (answer p.request p.behind) (strays_in p.request p.behind) x e) in
           ap (λ b. flat_map items_of (cond b (p ∷ part x.1 [] ∷ []) (part p.request (p.behind ++ x ∷ []) ∷ []))) e
-          ∙ one (part p.request (p.behind ++ x ∷ [])) ∙ grows_by ∙ ap (λ l. joined l x) (sym (one p)))
+          ∙ one-part (part p.request (p.behind ++ x ∷ [])) ∙ grows_by ∙ ap (λ l. joined l x) (sym (one-part p)))
     ]
 parts-join p (q ∷ ps) x =
     ap (λ l. items_of p ++ l) (parts-join q ps x) ∙ sym (joined-behind (items_of p) (flat_map items_of (q ∷ ps)) x (has-items q ps))

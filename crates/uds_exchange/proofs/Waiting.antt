@@ -1,9 +1,9 @@
 -- The exchange of a list of items that waits for its answer, and lists that grow behind it.
-use Rattle.std.proofs.Common.{◌≡◌, ℕ, zero, suc, Bool, true, false, List, [], ◌∷◌, ◌++◌, length, Option, Some, None, refl, sym, ◌∙◌, ap, arith, inl, inr}
+use Rattle.std.proofs.Common.{◌≡◌, ℕ, zero, suc, true, false, List, [], ◌∷◌, ◌++◌, length, Option, Some, None, refl, sym, ◌∙◌, ap, inl, inr}
 use Rattle.std.specs.Prelude.{slice_get, slice_set}
 use Rattle.std.proofs.lemmas.Bool.{cases_Bool}
 use Rattle.can_log.specs.declared.frame.Dir.{Dir}
-use Rattle.uds_exchange.specs.Meaning.{Message, ItemValue, exchange, stray}
+use Rattle.uds_exchange.specs.Meaning.{ItemValue, exchange, stray}
 use Rattle.uds_exchange.specs.Pairing.{has_exchange, one_later, waiting}
 use Rattle.uds_exchange.proofs.Options.{some_same}
 
@@ -29,17 +29,17 @@ waiting-request (stray e n ∷ its) r = ap one_later (waiting-request its r)
 waiting-request (exchange q (Some a) ∷ its) r = ap one_later (waiting-request its r)
 waiting-request (exchange q None ∷ its) r = rw (has-last its r None, waiting-request its r) refl
 
-pub later-some : (o : Option (ℕ × List ℕ)) (w : ℕ × List ℕ) → one_later o ≡ Some w → (v : ℕ × List ℕ) × (o ≡ Some v) × (w ≡ (suc v.0, v.1))
-later-some None w h = cc
-later-some (Some v) w h = (v, refl, some_same (sym h))
+pub one_later-some : (o : Option (ℕ × List ℕ)) (w : ℕ × List ℕ) → one_later o ≡ Some w → (v : ℕ × List ℕ) × (o ≡ Some v) × (w ≡ (suc v.0, v.1))
+one_later-some None w h = cc
+one_later-some (Some v) w h = (v, refl, some_same (sym h))
 
 pub waiting-at : (its : List ItemValue) (w : ℕ × List ℕ) → waiting its ≡ Some w → slice_get its w.0 ≡ Some (exchange w.1 None)
 waiting-at [] w h = cc
-waiting-at (stray e n ∷ its) w h = let v = later-some (waiting its) w h in rw v.2 (waiting-at its v.0 v.1)
-waiting-at (exchange q (Some a) ∷ its) w h = let v = later-some (waiting its) w h in rw v.2 (waiting-at its v.0 v.1)
+waiting-at (stray e n ∷ its) w h = let v = one_later-some (waiting its) w h in rw v.2 (waiting-at its v.0 v.1)
+waiting-at (exchange q (Some a) ∷ its) w h = let v = one_later-some (waiting its) w h in rw v.2 (waiting-at its v.0 v.1)
 waiting-at (exchange q None ∷ its) w h =
     elim (cases_Bool (has_exchange its)) [
-      | inl e ↦ (let v = later-some (waiting its) w (rw e at h) in rw v.2 (waiting-at its v.0 v.1))
+      | inl e ↦ (let v = one_later-some (waiting its) w (rw e at h) in rw v.2 (waiting-at its v.0 v.1))
       | inr e ↦ (let same : (0, q) ≡ w = some_same (rw e at h) in rw (← same) refl)
     ]
 
@@ -57,11 +57,11 @@ has-set (stray d m ∷ its) (suc i) r a b h = has-set its i r a b h
 
 pub waiting-answered : (its : List ItemValue) (w : ℕ × List ℕ) (a : List ℕ) → waiting its ≡ Some w → waiting (slice_set its w.0 (exchange w.1 (Some a))) ≡ None
 waiting-answered [] w a h = cc
-waiting-answered (stray e n ∷ its) w a h = let v = later-some (waiting its) w h in rw v.2 (ap one_later (waiting-answered its v.0 a v.1))
-waiting-answered (exchange q (Some b) ∷ its) w a h = let v = later-some (waiting its) w h in rw v.2 (ap one_later (waiting-answered its v.0 a v.1))
+waiting-answered (stray e n ∷ its) w a h = let v = one_later-some (waiting its) w h in rw v.2 (ap one_later (waiting-answered its v.0 a v.1))
+waiting-answered (exchange q (Some b) ∷ its) w a h = let v = one_later-some (waiting its) w h in rw v.2 (ap one_later (waiting-answered its v.0 a v.1))
 waiting-answered (exchange q None ∷ its) w a h =
     elim (cases_Bool (has_exchange its)) [
-      | inl e ↦ (let v = later-some (waiting its) w (rw e at h) in
+      | inl e ↦ (let v = one_later-some (waiting its) w (rw e at h) in
           let more = has-set its v.0.0 v.0.1 None (Some a) (waiting-at its v.0 v.1) ∙ e in
           rw (v.2, more) (ap one_later (waiting-answered its v.0 a v.1)))
       | inr e ↦ (let same : (0, q) ≡ w = some_same (rw e at h) in rw (← same) (ap one_later (no-exchange its e)))

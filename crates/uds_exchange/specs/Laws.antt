@@ -15,6 +15,10 @@ NoneIsLost = (M : List Message) → length (flattened (meaning M)) + length (rem
 abbrev pub EachHasOneRole : Type 0
 EachHasOneRole = (past : List Message) (x : Message) → (role : Role) × HasRole past x role × ((other : Role) → HasRole past x other → other ≡ role)
 
+-- so the messages of a list have roles in one way
+abbrev pub EachListHasRoles : Type 0
+EachListHasRoles = (M : List Message) → (roles : List Role) × AreRoles [] M roles × ((others : List Role) → AreRoles [] M others → others ≡ roles)
+
 -- the messages of a meaning are the list's in order, but that the removed ones are left out and an answer moves up to its request
 abbrev pub MessagesByRoles : Type 0
 MessagesByRoles = (M : List Message) (roles : List Role) → AreRoles [] M roles

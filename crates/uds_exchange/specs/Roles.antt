@@ -1,5 +1,5 @@
 -- What each message of a list is, told by looking back over the messages before it.
-use Rattle.std.specs.Prelude.{◌≡◌, ℕ, Bool, true, false, ⊤, All, IsTrue, List, [], ◌∷◌, ◌++◌, if◌then◌else◌}
+use Rattle.std.specs.Prelude.{◌≡◌, ℕ, Bool, true, false, ⊤, List, [], ◌∷◌, ◌++◌, if◌then◌else◌}
 use Rattle.std.specs.List.{list_any}
 use Rattle.can_log.specs.declared.frame.Dir.TheVariants as dir
 use Rattle.uds_message.specs.Message.{is_request}
@@ -11,8 +11,8 @@ pub record IsOpenBehind (past : List Message) (request : List ℕ) : Type 0 wher
   pub since : List Message
   pub place : past ≡ earlier ++ (dir.Tester, request) ∷ since
   pub is_one : is_request request ≡ true
-  pub is_last : All (λ x. is_tester_request x ≡ false) since
-  pub is_unanswered : All (λ x. is_answer_to request x ≡ false) since
+  pub is_last : list_any is_tester_request since ≡ false
+  pub is_unanswered : list_any (is_answer_to request) since ≡ false
 
 pub data Role : Type 0 where
   as_request : Role

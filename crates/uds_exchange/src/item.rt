@@ -12,5 +12,8 @@ pub enum Item {
         answer: Option<Vec<u8>>,
     },
     /// A message that is neither request nor answer: a keep-alive, or one that answers nothing.
-    Stray { dir: Dir, bytes: Vec<u8> },
+    Stray {
+        dir: Dir,
+        bytes: Vec<u8>,
+    },
 }

@@ -1,1 +1,3 @@
-//! Pairing.
+//! Meanings of message lists, row by row. No expected value comes from the program.
+
+mod meanings;
