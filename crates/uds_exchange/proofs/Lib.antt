@@ -11,3 +11,8 @@ pub mod RolesFound
 pub mod Placed
 pub mod RemovedOnes
 pub mod ByRoles
+pub mod Extents
+pub mod Putting
+pub mod Early
+pub mod MustWait
+pub mod NextStep

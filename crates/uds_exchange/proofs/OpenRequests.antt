@@ -16,7 +16,7 @@ neither : (a b : Bool) → (a || b) ≡ false → (a ≡ false) × (b ≡ false)
 neither true b h = absurd (false≢true (sym h))
 neither false b h = (refl, h)
 
-any-snoc : (test : Message → Bool) (xs : List Message) (x : Message) → list_any test xs ≡ false → test x ≡ false → list_any test (xs ++ x ∷ []) ≡ false
+pub any-snoc : (test : Message → Bool) (xs : List Message) (x : Message) → list_any test xs ≡ false → test x ≡ false → list_any test (xs ++ x ∷ []) ≡ false
 any-snoc test [] x h e = rw e refl
 any-snoc test (y ∷ ys) x h e =
     let both = neither (test y) (list_any test ys) h in

@@ -9,7 +9,8 @@ use Rattle.can_log.specs.declared.frame.Dir.TheVariants.{Tester, Unit}
 use Rattle.uds_message.specs.Message.{is_request}
 use Rattle.uds_exchange.specs.Meaning.{Message, is_tester_request, is_answer_to, is_pending_reply_to, before_requests, Part, parts, strays_in, ItemValue, exchange, stray, stray_of, items_of, meaning, messages_of, flattened}
 use Rattle.uds_exchange.specs.Roles.{behind_last_request, placed}
-use Rattle.uds_exchange.specs.Pairing.{has_exchange, waiting, joined_by}
+use Rattle.uds_exchange.specs.Order.{has_exchange}
+use Rattle.uds_exchange.specs.Pairing.{waiting, joined_by}
 use Rattle.uds_exchange.proofs.Options.{some_same}
 use Rattle.uds_exchange.proofs.Waiting.{one_later-some}
 use Rattle.uds_exchange.proofs.OneMore.{meaning-join}

@@ -5,7 +5,8 @@ use Rattle.std.proofs.lemmas.List.{append-nil}
 use Rattle.std.proofs.lemmas.Bool.{cases_Bool}
 use Rattle.uds_exchange.specs.Meaning.{Message, is_tester_request, is_answer_to, is_pending_reply_to, before_requests, Part, parts, answer, strays_in, removed, removed_messages, ItemValue, exchange, stray_of, items_of, meaning}
 use Rattle.uds_exchange.specs.Roles.{those_removed}
-use Rattle.uds_exchange.specs.Pairing.{has_exchange, one_later, waiting}
+use Rattle.uds_exchange.specs.Order.{has_exchange}
+use Rattle.uds_exchange.specs.Pairing.{one_later, waiting}
 use Rattle.uds_exchange.proofs.OneMore.{grown, grows, no-strays, waiting-cons, has-behind, has-items, one-part}
 use Rattle.uds_exchange.proofs.RolesFound.{role_by, role_behind}
 

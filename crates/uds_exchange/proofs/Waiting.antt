@@ -4,7 +4,8 @@ use Rattle.std.specs.Prelude.{slice_get, slice_set}
 use Rattle.std.proofs.lemmas.Bool.{cases_Bool}
 use Rattle.can_log.specs.declared.frame.Dir.{Dir}
 use Rattle.uds_exchange.specs.Meaning.{ItemValue, exchange, stray}
-use Rattle.uds_exchange.specs.Pairing.{has_exchange, one_later, waiting}
+use Rattle.uds_exchange.specs.Order.{has_exchange}
+use Rattle.uds_exchange.specs.Pairing.{one_later, waiting}
 use Rattle.uds_exchange.proofs.Options.{some_same}
 
 pub has-more : (its : List ItemValue) (p : ItemValue) → has_exchange (p ∷ []) ≡ false → has_exchange (its ++ p ∷ []) ≡ has_exchange its

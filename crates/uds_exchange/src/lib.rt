@@ -14,13 +14,18 @@
 #![tactic(auto)]
 
 mod item;
-pub mod laws;
 mod meaning;
-mod pairing;
 mod roles;
+mod pairing;
+mod sink;
+mod held;
+mod orderer;
+pub mod laws;
 #[cfg(test)]
 mod tests;
 
 pub use item::Item;
 pub use meaning::Meaning;
+pub use orderer::{OrderFault, Orderer};
 pub use pairing::Pairing;
+pub use sink::MessageSink;
