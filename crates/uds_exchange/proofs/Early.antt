@@ -1,15 +1,15 @@
 -- What is early and what is held, as a meaning grows.
-use Rattle.std.proofs.Common.{◌≡◌, ℕ, ◌-◌, true, false, List, [], ◌∷◌, ◌++◌, length, take, Option, Some, None, refl, sym, ◌∙◌, ap, arith, cond, inl, inr, append_assoc, length-append}
+use Rattle.std.proofs.Common.{◌≡◌, ℕ, ◌-◌, false, List, [], ◌∷◌, ◌++◌, length, Option, Some, None, refl, sym, ◌∙◌, ap, arith, cond, inl, inr, append_assoc, length-append}
 use Rattle.std.specs.Prelude.{slice_set}
 use Rattle.std.proofs.lemmas.List.{append-nil}
 use Rattle.std.proofs.Math.Seq.{take-append_seam}
-use Rattle.std.proofs.lemmas.Bool.{cases_Bool, false≢true}
+use Rattle.std.proofs.lemmas.Bool.{cases_Bool}
 use Rattle.can_log.specs.declared.frame.Dir.{Dir}
 use Rattle.can_log.specs.declared.frame.Dir.TheVariants.{Tester, Unit}
 use Rattle.uds_exchange.specs.Meaning.{Message, ItemValue, exchange, stray, is_tester_request, is_answer_to, is_pending_reply_to, meaning, flattened}
 use Rattle.uds_exchange.specs.Pairing.{one_later, waiting, joined_by, joined}
 use Rattle.uds_exchange.specs.Order.{has_exchange, held_in, held, early}
-use Rattle.uds_exchange.proofs.Waiting.{has-more, has-last, has-set, waiting-stray, waiting-request, waiting-at, waiting-answered, one_later-some}
+use Rattle.uds_exchange.proofs.Waiting.{has-more, has-last, has-set, waiting-at, one_later-some}
 use Rattle.uds_exchange.proofs.Options.{some_same, some_none}
 use Rattle.uds_exchange.proofs.Replies.{from-tester, from-unit}
 use Rattle.uds_exchange.proofs.OneMore.{meaning-join}
@@ -150,4 +150,3 @@ early-front M [] = (held M, rw append-nil (sym (early-then-held M)))
 early-front M (x ∷ N) =
     let more = early-front (M ++ x ∷ []) N in
     (due_in (meaning M) x ++ more.0, ap (λ l. flattened (meaning l)) (sym (append_assoc M (x ∷ []) N)) ∙ more.1 ∙ ap (λ l. l ++ more.0) (early-grows M x) ∙ append_assoc (early M) _ _)
-

@@ -10,7 +10,7 @@ use Rattle.uds_exchange.specs.Roles.{IsOpenBehind}
 use Rattle.uds_exchange.specs.Order.{has_exchange, open_request_in, open_request, held_in, held, early, rejection_of}
 use Rattle.uds_exchange.specs.Pairing.{one_later, waiting, joined_by, joined}
 use Rattle.uds_exchange.proofs.Counts.{none-lost}
-use Rattle.uds_exchange.proofs.Waiting.{waiting-stray, waiting-request, waiting-answered}
+use Rattle.uds_exchange.proofs.Waiting.{waiting-stray, waiting-answered}
 use Rattle.uds_exchange.proofs.Options.{some_same, some_none}
 use Rattle.uds_exchange.proofs.OneMore.{meaning-join}
 use Rattle.uds_exchange.proofs.OpenRequests.{any-snoc, opens, waits-open}

@@ -3,7 +3,7 @@ use Rattle.std.proofs.Common.{◌≡◌, ℕ, false, List, [], ◌∷◌, ◌++�
 use Rattle.std.proofs.lemmas.Bool.{cases_Bool, false≢true}
 use Rattle.uds_message.specs.Message.{sid}
 use Rattle.uds_exchange.specs.Meaning.{Message, ItemValue, is_tester_request, is_answer_to, is_pending_reply_to, meaning}
-use Rattle.uds_exchange.specs.Order.{open_request_in, open_request, held_in, held, early}
+use Rattle.uds_exchange.specs.Order.{held_in, held, early}
 use Rattle.uds_exchange.specs.Orderer.{Standing, stands_after, IsDue, PutsDue, StopsDue}
 use Rattle.uds_exchange.specs.Pairing.{waiting, waiting_sid, role_at, joined_by, joined}
 use Rattle.uds_exchange.specs.Steps.{due_for, due, next_for, next, Stops}

@@ -13,14 +13,14 @@
 //! ```
 #![tactic(auto)]
 
-mod item;
-mod meaning;
-mod roles;
-mod pairing;
-mod sink;
 mod held;
-mod orderer;
+mod item;
 pub mod laws;
+mod meaning;
+mod orderer;
+mod pairing;
+mod roles;
+mod sink;
 #[cfg(test)]
 mod tests;
 

@@ -77,6 +77,7 @@ impl Orderer {
         ensures puts { OnOk result ((M : List Message) → self.old ≡ stands_after M
             → PutsDue S.after_ok M (dir, message.now) sink.old sink.new) }
 
+        ensures memory { result ≡ Err Memory → (self.new ≡ self.old) × (sink.new ≡ sink.old) }
         ensures stops { IfErr result (λ fault. (M : List Message) → self.old ≡ stands_after M
             → StopsDue S.after_ok S.after_err M (dir, message.now) sink.old sink.new fault) }
         ensures leaves { IfErr result (λ fault. Leaves self.old self.new fault) }
@@ -131,6 +132,7 @@ impl Orderer {
         ensures stops { IfErr result (λ fault. (M : List Message) → self ≡ stands_after M
             → StopsAtEnd S.after_ok S.after_err (held_after M) sink.old sink.new fault) }
         ensures failed { self.failed ≡ true → (result ≡ Err Failed) × (sink.new ≡ sink.old) }
+        ensures failed_only { result ≡ Err Failed → self.failed ≡ true }
         ensures never_memory { result ≢ Err Memory }
     {
         if self.failed {

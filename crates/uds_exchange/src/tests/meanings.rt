@@ -14,11 +14,11 @@ enum Expected {
 
 use Expected::{Answered, Stray, Unanswered};
 
-type Message = (Dir, &'static [u8]);
+pub(super) type Message = (Dir, &'static [u8]);
 
-struct Row {
-    name: &'static str,
-    messages: &'static [Message],
+pub(super) struct Row {
+    pub(super) name: &'static str,
+    pub(super) messages: &'static [Message],
     items: &'static [Expected],
 }
 
@@ -44,7 +44,7 @@ fn is_as_expected(item: &Item, expected: &Expected) -> bool {
 }
 
 /// The meaning of the messages. A call that was refused memory is made again.
-fn meaning_of(alloc: Global, messages: &[Message]) -> Result<Meaning, AllocError> {
+pub(super) fn meaning_of(alloc: Global, messages: &[Message]) -> Result<Meaning, AllocError> {
     let mut pairing = Pairing::new(alloc);
     for (dir, message) in messages.iter() {
         if pairing.take(*dir, message).is_err() {
@@ -54,7 +54,7 @@ fn meaning_of(alloc: Global, messages: &[Message]) -> Result<Meaning, AllocError
     Ok(pairing.finish())
 }
 
-const ROWS: [Row; 20] = [
+pub(super) const ROWS: [Row; 20] = [
     Row {
         name: "no message",
         messages: &[],
