@@ -8,7 +8,7 @@ use Rattle.std.proofs.lemmas.Bool.{cond_both, cases_Bool, false≢true}
 use Rattle.can_log.specs.declared.frame.Dir.TheVariants.{Tester, Unit}
 use Rattle.uds_message.specs.Message.{is_request}
 use Rattle.uds_exchange.specs.Meaning.{Message, is_tester_request, is_answer_to, is_pending_reply_to, before_requests, Part, part, parts, answer, strays_in, exchange, stray_of, items_of, meaning, messages_of, flattened}
-use Rattle.uds_exchange.proofs.Options.{some_none}
+use Rattle.uds_exchange.proofs.Variants.{some_none}
 use Rattle.uds_exchange.proofs.Replies.{request-bytes}
 
 -- no message of the list is a request

@@ -4,7 +4,7 @@ use Rattle.std.specs.List.{flat_map}
 use Rattle.std.proofs.lemmas.Grind.{flat_map-append}
 use Rattle.std.proofs.lemmas.Bool.{cases_Bool}
 use Rattle.can_log.specs.declared.frame.Dir.TheVariants.{Tester}
-use Rattle.uds_exchange.specs.Meaning.{Message, is_tester_request, is_answer_to, is_pending_reply_to, before_requests, Part, parts, answer, strays_in, removed, removed_messages, stray_of, items_of, meaning, messages_of, flattened}
+use Rattle.uds_exchange.specs.Meaning.{Message, is_tester_request, is_answer_to, is_pending_reply_to, before_requests, Part, parts, answer, strays_in, removed, removed_of, removed_messages, stray_of, items_of, meaning, messages_of, flattened}
 use Rattle.uds_exchange.proofs.Again.{kept, stays, flat-exchange, flat-strays}
 
 kept-length : (a : Option (List ℕ)) (x : Message) (o : List Message) → length (kept a (x ∷ o)) ≡ length (kept a o) + 1
@@ -23,9 +23,6 @@ whole r (x ∷ xs) =
         | inr q ↦ rw (e, q) (omega (arith, whole r xs, kept-length (answer r xs) x (strays_in r xs)))
       ]
     ]
-
-abbrev removed_of : Part → List Message
-removed_of p = removed p.request p.behind
 
 size : List Part → ℕ
 size [] = 0

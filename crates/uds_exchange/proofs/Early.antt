@@ -10,7 +10,7 @@ use Rattle.uds_exchange.specs.Meaning.{Message, ItemValue, exchange, stray, is_t
 use Rattle.uds_exchange.specs.Pairing.{one_later, waiting, joined_by, joined}
 use Rattle.uds_exchange.specs.Order.{has_exchange, held_in, held, early}
 use Rattle.uds_exchange.proofs.Waiting.{has-more, has-last, has-set, waiting-at, one_later-some}
-use Rattle.uds_exchange.proofs.Options.{some_same, some_none}
+use Rattle.uds_exchange.proofs.Variants.{some_same, some_none}
 use Rattle.uds_exchange.proofs.Replies.{from-tester, from-unit}
 use Rattle.uds_exchange.proofs.OneMore.{meaning-join}
 

@@ -10,8 +10,8 @@ use Rattle.uds_exchange.specs.declared.roles.Role.{Role}
 use Rattle.uds_exchange.specs.declared.roles.Role.TheVariants as role
 use Rattle.uds_exchange.specs.Meaning.{Message, ItemValue, exchange, stray_of, is_from_tester, is_tester_request, is_answer_to, is_pending_reply_to}
 use Rattle.uds_exchange.specs.Pairing.{item_value, item_values, waiting, waiting_sid, IsOpenAt, role_if_open, role_at, joined_by, joined}
-use Rattle.uds_exchange.proofs.Options.{some_same, some_none}
-use Rattle.uds_exchange.proofs.Waiting.{waiting-stray, waiting-request, waiting-at, waiting-answered}
+use Rattle.uds_exchange.proofs.Variants.{some_same, some_none}
+use Rattle.uds_exchange.proofs.Waiting.{sid_of, waiting-stray, waiting-request, waiting-at, waiting-answered}
 
 pub item-at : (xs : List Item) (i : ℕ) (x : Item) → x ≡ get_or xs i x → i < length xs → slice_get (item_values xs) i ≡ Some (item_value x)
 item-at xs i x e h = slice_get-map item_value xs i ∙ ap (option_map item_value) (slice_get_read xs (length xs) i x refl h e)
@@ -33,9 +33,6 @@ after role.Answer its (Some w) x = slice_set its w.0 (exchange w.1 (Some x.1))
 after role.Answer its None x = its
 after role.Removed its w x = its
 after role.Stray its w x = its ++ stray_of x ∷ []
-
-abbrev sid_of : Option (ℕ × List ℕ) → Option ℕ
-sid_of w = option_map (λ w. sid w.1) w
 
 joined_by-role : (its : List ItemValue) (w : Option (ℕ × List ℕ)) (x : Message) → joined_by w its x ≡ after (role_if_open (sid_of w) x) its w x
 unfolding after

@@ -1,5 +1,5 @@
 -- What is held must wait: the open request's answer would come before it.
-use Rattle.std.proofs.Common.{◌≡◌, ◌≢◌, ℕ, ◌+◌, Bool, true, false, ◌&&◌, ◌||◌, List, [], ◌∷◌, ◌++◌, length, Option, Some, None, refl, sym, ◌∙◌, ap, subst, arith, inl, inr, append_assoc, option_map, ◌==◌, ◌↔◌}
+use Rattle.std.proofs.Common.{◌≡◌, ◌≢◌, ℕ, ◌+◌, true, false, ◌&&◌, List, [], ◌∷◌, ◌++◌, length, Option, Some, None, refl, sym, ◌∙◌, ap, subst, inl, inr, append_assoc, ◌==◌, ◌↔◌}
 use Rattle.std.specs.Prelude.{slice_set}
 use Rattle.std.specs.List.{list_any}
 use Rattle.std.proofs.lemmas.List.{append-nil}
@@ -8,29 +8,23 @@ use Rattle.uds_message.specs.Message.{is_request, is_response_sid}
 use Rattle.uds_exchange.specs.Meaning.{Message, ItemValue, exchange, stray, is_tester_request, is_answer_to, is_pending_reply_to, meaning, flattened, removed_messages}
 use Rattle.uds_exchange.specs.Roles.{IsOpenBehind}
 use Rattle.uds_exchange.specs.Order.{has_exchange, open_request_in, open_request, held_in, held, early, rejection_of}
-use Rattle.uds_exchange.specs.Pairing.{one_later, waiting, joined_by, joined}
+use Rattle.uds_exchange.specs.Pairing.{waiting, joined_by, joined}
 use Rattle.uds_exchange.proofs.Counts.{none-lost}
-use Rattle.uds_exchange.proofs.Waiting.{waiting-stray, waiting-answered}
-use Rattle.uds_exchange.proofs.Options.{some_same, some_none}
+use Rattle.uds_exchange.proofs.Waiting.{request_of, same-request, waiting-stray, waiting-answered}
+use Rattle.uds_exchange.proofs.Bools.{or-true, same-number, any-append, any-first}
+use Rattle.uds_exchange.proofs.Variants.{some_same, some_none}
 use Rattle.uds_exchange.proofs.OneMore.{meaning-join}
-use Rattle.uds_exchange.proofs.OpenRequests.{any-snoc, opens, waits-open}
+use Rattle.uds_exchange.proofs.OpenRequests.{opens, waits-open}
 use Rattle.uds_exchange.proofs.Early.{early_in, early-held, early-is, early-then-held, early-request, early-kept, early-answered, none-held}
 use Rattle.uds_exchange.proofs.Replies.{from-unit}
-
-abbrev request_of : Option (ℕ × List ℕ) → Option (List ℕ)
-request_of w = option_map (λ w. w.1) w
-
-same-later : (o : Option (ℕ × List ℕ)) → request_of o ≡ request_of (one_later o)
-same-later None = refl
-same-later (Some w) = refl
 
 -- the open request is that of the exchange which waits
 pub open-request-waits : (its : List ItemValue) → open_request_in its ≡ request_of (waiting its)
 open-request-waits [] = refl
-open-request-waits (stray d m ∷ its) = open-request-waits its ∙ same-later (waiting its)
-open-request-waits (exchange q (Some b) ∷ its) = open-request-waits its ∙ same-later (waiting its)
+open-request-waits (stray d m ∷ its) = open-request-waits its ∙ same-request (waiting its)
+open-request-waits (exchange q (Some b) ∷ its) = open-request-waits its ∙ same-request (waiting its)
 open-request-waits (exchange q None ∷ its) =
-    elim (cases_Bool (has_exchange its)) [ inl e ↦ rw e (open-request-waits its ∙ same-later (waiting its)) | inr e ↦ rw e refl ]
+    elim (cases_Bool (has_exchange its)) [ inl e ↦ rw e (open-request-waits its ∙ same-request (waiting its)) | inr e ↦ rw e refl ]
 
 waits-by : (o : Option (ℕ × List ℕ)) (r : List ℕ) → request_of o ≡ Some r → (w : ℕ × List ℕ) × (o ≡ Some w) × (w.1 ≡ r)
 waits-by None r h = cc
@@ -62,7 +56,7 @@ no-answer-joins its x (Some v) s h =
         | inl q ↦ rw (e, q) s
         | inr q ↦ rw (e, q) (λ w k.
             let same : v ≡ w = some_same (sym h ∙ sym (waiting-stray its x.0 x.1) ∙ k) in
-            rw (← same, (early-kept its v x.0 x.1 h).1) (any-snoc (is_answer_to v.1) (held_in its) x (s v h) e))
+            rw (← same, (early-kept its v x.0 x.1 h).1) (any-append (is_answer_to v.1) (held_in its) x (s v h) e))
       ]
     ]
 
@@ -82,30 +76,19 @@ no-answer-over M (x ∷ N) s =
 no-answer-held : (M : List Message) → NoAnswerHeld (meaning M)
 no-answer-held M = no-answer-over [] M (λ w k. refl)
 
-same-byte : (s : ℕ) → (s == s) ≡ true
-same-byte s = grind arith
-
-or-true : (b : Bool) → (b || true) ≡ true
-or-true true = refl
-or-true false = refl
-
 -- the rejection is an answer
 rejects : (r : List ℕ) → is_request r ≡ true → is_answer_to r (rejection_of r) ≡ true
 rejects [] h = absurd (false≢true h)
 rejects (s ∷ bytes) h =
     elim (cases_Bool (is_response_sid s)) [
       | inl e ↦ absurd (false≢true (rw e at h))
-      | inr e ↦ rw (e, same-byte s) (or-true (0x7F == s + 0x40 && false))
+      | inr e ↦ rw (e, same-number s) (or-true (0x7F == s + 0x40 && false))
     ]
 
 answered : (its : List ItemValue) (w : ℕ × List ℕ) → waiting its ≡ Some w → (x : Message) → is_tester_request x ≡ false → is_answer_to w.1 x ≡ true → flattened (joined its x) ≡ early_in its ++ x ∷ held_in its
 answered its w h x r e =
     let set = early-answered its w x.1 h in
     rw (r, h, e) (sym (early-held (slice_set its w.0 (exchange w.1 (Some x.1)))) ∙ rw (set.0, set.1) (append-nil _ ∙ ap (λ y. early_in its ++ y ∷ held_in its) (from-unit w.1 x e)))
-
--- a list whose first message passes has one that passes
-first-passes : (test : Message → Bool) (x : Message) (xs : List Message) → test x ≡ true → list_any test (x ∷ xs) ≡ true
-first-passes test x xs h = rw h refl
 
 pub answer-first : (M : List Message) (x : Message) (more : List Message) → held M ≡ x ∷ more
     → (r : List ℕ) × IsOpenBehind M r × (flattened (meaning (M ++ rejection_of r ∷ [])) ≡ early M ++ rejection_of r ∷ held M) × (x ≢ rejection_of r)
@@ -120,7 +103,7 @@ answer-first M x more h = answer-first-by (waiting (meaning M)) refl where
         w.1,
         o,
         ap flattened (meaning-join M (rejection_of w.1)) ∙ answered (meaning M) w k (rejection_of w.1) refl yes ∙ ap (λ l. l ++ rejection_of w.1 ∷ held M) (sym (early-is M)),
-        λ e. false≢true (sym none ∙ first-passes (is_answer_to w.1) x more (ap (is_answer_to w.1) e ∙ yes)),
+        λ e. false≢true (sym none ∙ any-first (is_answer_to w.1) x more (ap (is_answer_to w.1) e ∙ yes)),
       )
 
 pub none-lost-in-order : (M : List Message) → length (early M ++ held M) + length (removed_messages M) ≡ length M

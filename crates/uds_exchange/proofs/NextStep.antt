@@ -7,17 +7,13 @@ use Rattle.uds_exchange.specs.Order.{held_in, held, early}
 use Rattle.uds_exchange.specs.Orderer.{Standing, stands_after, IsDue, PutsDue, StopsDue}
 use Rattle.uds_exchange.specs.Pairing.{waiting, waiting_sid, role_at, joined_by, joined}
 use Rattle.uds_exchange.specs.Steps.{due_for, due, next_for, next, Stops}
-use Rattle.uds_exchange.specs.Sink.{Puts}
+use Rattle.uds_exchange.specs.Sink.{AfterOk, AfterErr, Puts}
 use Rattle.uds_exchange.specs.declared.orderer.OrderFault.{OrderFault}
 use Rattle.uds_exchange.specs.declared.orderer.OrderFault.TheVariants as fault
-use Rattle.can_log.specs.declared.frame.Dir.{Dir}
-use Rattle.uds_exchange.proofs.Waiting.{waiting-stray, waiting-request, waiting-answered}
+use Rattle.uds_exchange.proofs.Waiting.{sid_of, waiting-stray, waiting-request, waiting-answered}
 use Rattle.uds_exchange.proofs.OneMore.{meaning-join}
 use Rattle.uds_exchange.proofs.Early.{due_by, due_in, early-grows, early-request, early-stray, early-kept, early-answered, none-held}
 use Rattle.uds_exchange.proofs.MustWait.{open-request-waits}
-
-abbrev sid_of : Option (ℕ × List ℕ) → Option ℕ
-sid_of w = option_map (λ w. sid w.1) w
 
 abbrev standing : List ItemValue → Standing
 standing its = record { failed = false; open_sid = waiting_sid its; holds = held_in its }
@@ -72,7 +68,7 @@ early-due M x = early-grows M x ∙ ap (λ l. early M ++ l) (sym (due-same (mean
 due-from : (M : List Message) (x : Message) (o : Standing) → o ≡ stands_after M → IsDue M x (due o x)
 due-from M x o is = early-due M x ∙ ap (λ p. early M ++ due p x) (sym is)
 
-module _ {S E : Type 0} (after_ok : S → Dir → List ℕ → S → Type 0) (after_err : S → Dir → List ℕ → E → S → Type 0) where
+module _ {S E : Type 0} (after_ok : AfterOk S) (after_err : AfterErr S E) where
   pub puts-due : (M : List Message) (x : Message) (o : Standing) (s t : S) → o ≡ stands_after M → Puts after_ok s (due o x) t → PutsDue after_ok M x s t
   puts-due M x o s t is h = (due o x, due-from M x o is, h)
 

@@ -1,26 +1,17 @@
 -- The request that is open behind a list of messages is that of the exchange which waits in its meaning.
-use Rattle.std.proofs.Common.{◌≡◌, ℕ, Bool, true, false, ◌||◌, List, [], ◌∷◌, ◌++◌, length, Option, Some, None, refl, sym, ◌∙◌, ap, subst, inl, inr, append_assoc}
+use Rattle.std.proofs.Common.{◌≡◌, ℕ, true, false, List, [], ◌∷◌, ◌++◌, length, Option, Some, None, refl, sym, ◌∙◌, ap, subst, inl, inr, append_assoc}
 use Rattle.std.specs.List.{list_any}
 use Rattle.std.proofs.lemmas.List.{append-nil}
-use Rattle.std.proofs.lemmas.Bool.{cases_Bool, false≢true}
+use Rattle.std.proofs.lemmas.Bool.{cases_Bool}
 use Rattle.can_log.specs.declared.frame.Dir.TheVariants.{Tester}
 use Rattle.uds_exchange.specs.Meaning.{Message, ItemValue, is_tester_request, is_answer_to, is_pending_reply_to, meaning}
 use Rattle.uds_exchange.specs.Roles.{IsOpenBehind}
 use Rattle.uds_exchange.specs.Pairing.{waiting, joined_by, joined}
-use Rattle.uds_exchange.proofs.Options.{some_same, some_none}
+use Rattle.uds_exchange.proofs.Bools.{neither, any-append}
+use Rattle.uds_exchange.proofs.Variants.{some_same, some_none}
 use Rattle.uds_exchange.proofs.Waiting.{waiting-stray, waiting-request, waiting-answered}
 use Rattle.uds_exchange.proofs.OneMore.{meaning-join}
 use Rattle.uds_exchange.proofs.Replies.{from-tester, request-bytes}
-
-neither : (a b : Bool) → (a || b) ≡ false → (a ≡ false) × (b ≡ false)
-neither true b h = absurd (false≢true (sym h))
-neither false b h = (refl, h)
-
-pub any-snoc : (test : Message → Bool) (xs : List Message) (x : Message) → list_any test xs ≡ false → test x ≡ false → list_any test (xs ++ x ∷ []) ≡ false
-any-snoc test [] x h e = rw e refl
-any-snoc test (y ∷ ys) x h e =
-    let both = neither (test y) (list_any test ys) h in
-    rw both.0 (any-snoc test ys x both.1 e)
 
 still-waits : (its : List ItemValue) (w : ℕ × List ℕ) (x : Message) → waiting its ≡ Some w → is_tester_request x ≡ false → is_answer_to w.1 x ≡ false → waiting (joined its x) ≡ Some w
 still-waits its w x h r a =
@@ -53,8 +44,8 @@ open-more past r x o h a = record {
   since = o.since ++ x ∷ [];
   place = ap (λ l. l ++ x ∷ []) o.place ∙ append_assoc o.earlier ((Tester, r) ∷ o.since) (x ∷ []);
   is_one = o.is_one;
-  is_last = any-snoc is_tester_request o.since x o.is_last h;
-  is_unanswered = any-snoc (is_answer_to r) o.since x o.is_unanswered a;
+  is_last = any-append is_tester_request o.since x o.is_last h;
+  is_unanswered = any-append (is_answer_to r) o.since x o.is_unanswered a;
 }
 
 open-request : (past : List Message) (x : Message) → is_tester_request x ≡ true → IsOpenBehind (past ++ x ∷ []) x.1

@@ -11,7 +11,7 @@ use Rattle.uds_exchange.specs.Meaning.{Message, is_tester_request, is_answer_to,
 use Rattle.uds_exchange.specs.Roles.{behind_last_request, placed}
 use Rattle.uds_exchange.specs.Order.{has_exchange}
 use Rattle.uds_exchange.specs.Pairing.{waiting, joined_by}
-use Rattle.uds_exchange.proofs.Options.{some_same}
+use Rattle.uds_exchange.proofs.Variants.{some_same}
 use Rattle.uds_exchange.proofs.Waiting.{one_later-some}
 use Rattle.uds_exchange.proofs.OneMore.{meaning-join}
 use Rattle.uds_exchange.proofs.Again.{Quiet, quiet-before, quiet-others, Good, good-parts}

@@ -1,15 +1,14 @@
 -- Messages put one after another, and what is left to put.
-use Rattle.std.proofs.Common.{◌≡◌, ℕ, List, [], ◌∷◌, ◌++◌, refl, ◌∙◌, ap, subst, append_assoc, Ok, Err, Result, IfErr, OnOk}
-use Rattle.can_log.specs.declared.frame.Dir.{Dir}
+use Rattle.std.proofs.Common.{◌≡◌, List, [], ◌∷◌, ◌++◌, refl, ◌∙◌, ap, subst, append_assoc}
 use Rattle.uds_exchange.specs.Meaning.{Message}
-use Rattle.uds_exchange.specs.Sink.{Puts, Fails}
+use Rattle.uds_exchange.specs.Sink.{AfterOk, AfterErr, Puts, Fails}
 
 -- where xs are put from s, all are put from s0
-pub record Onto {S E : Type 0} (after_ok : S → Dir → List ℕ → S → Type 0) (after_err : S → Dir → List ℕ → E → S → Type 0) (s : S) (xs : List Message) (s0 : S) (all : List Message) : Type 0 where
+pub record Onto {S E : Type 0} (after_ok : AfterOk S) (after_err : AfterErr S E) (s : S) (xs : List Message) (s0 : S) (all : List Message) : Type 0 where
   pub puts : (t : S) → Puts after_ok s xs t → Puts after_ok s0 all t
   pub fails : (t : S) → (e : E) → Fails after_ok after_err s xs e t → Fails after_ok after_err s0 all e t
 
-module _ {S E : Type 0} (after_ok : S → Dir → List ℕ → S → Type 0) (after_err : S → Dir → List ℕ → E → S → Type 0) where
+module _ {S E : Type 0} (after_ok : AfterOk S) (after_err : AfterErr S E) where
   pub onto-same : (s : S) (xs : List Message) → Onto after_ok after_err s xs s xs
   onto-same s xs = record { puts = λ t h. h; fails = λ t e h. h }
 
@@ -45,11 +44,3 @@ module _ {S E : Type 0} (after_ok : S → Dir → List ℕ → S → Type 0) (af
 
   pub fails-first : (s t : S) (x : Message) (xs : List Message) (e : E) → after_err s x.0 x.1 e t → Fails after_ok after_err s (x ∷ xs) e t
   fails-first s t x xs e h = ([], x, xs, s, refl, refl, h)
-
-pub if_err_along : {T E : Type 0} (r : Result T E) (P Q : E → Type 0) → ((e : E) → P e → Q e) → IfErr r P → IfErr r Q
-if_err_along (Ok x) P Q f h = tt
-if_err_along (Err e) P Q f h = f e h
-
-pub on_ok_along : {T E : Type 0} (r : Result T E) (P Q : Type 0) → (P → Q) → OnOk r P → OnOk r Q
-on_ok_along (Ok x) P Q f h = f h
-on_ok_along (Err e) P Q f h = tt

@@ -1,17 +1,15 @@
 -- What is removed of a list, by the roles of its messages.
-use Rattle.std.proofs.Common.{◌≡◌, ℕ, true, false, List, [], ◌∷◌, ◌++◌, map, Option, Some, None, refl, sym, ◌∙◌, ap, cond, inl, inr, option_map, append_assoc}
+use Rattle.std.proofs.Common.{◌≡◌, ℕ, true, false, List, [], ◌∷◌, ◌++◌, map, Option, Some, None, refl, sym, ◌∙◌, ap, cond, inl, inr, append_assoc}
 use Rattle.std.specs.List.{flat_map}
 use Rattle.std.proofs.lemmas.List.{append-nil}
 use Rattle.std.proofs.lemmas.Bool.{cases_Bool}
-use Rattle.uds_exchange.specs.Meaning.{Message, is_tester_request, is_answer_to, is_pending_reply_to, before_requests, Part, parts, answer, strays_in, removed, removed_messages, ItemValue, exchange, stray_of, items_of, meaning}
+use Rattle.uds_exchange.specs.Meaning.{Message, is_tester_request, is_answer_to, is_pending_reply_to, before_requests, Part, parts, answer, strays_in, removed, removed_of, removed_messages, ItemValue, exchange, stray_of, items_of, meaning}
 use Rattle.uds_exchange.specs.Roles.{those_removed}
 use Rattle.uds_exchange.specs.Order.{has_exchange}
-use Rattle.uds_exchange.specs.Pairing.{one_later, waiting}
+use Rattle.uds_exchange.specs.Pairing.{waiting}
+use Rattle.uds_exchange.proofs.Waiting.{request_of, same-request}
 use Rattle.uds_exchange.proofs.OneMore.{grown, grows, no-strays, waiting-cons, has-behind, has-items, one-part}
 use Rattle.uds_exchange.proofs.RolesFound.{role_by, role_behind}
-
-abbrev request_in : Option (ℕ × List ℕ) → Option (List ℕ)
-request_in w = option_map (λ w. w.1) w
 
 abbrev open_if : Option (List ℕ) → List ℕ → Option (List ℕ)
 open_if None request = Some request
@@ -23,25 +21,21 @@ open_in [] = None
 open_in (p ∷ []) = open_if (answer p.request p.behind) p.request
 open_in (p ∷ q ∷ ps) = open_in (q ∷ ps)
 
-same-request : (o : Option (ℕ × List ℕ)) → request_in (one_later o) ≡ request_in o
-same-request None = refl
-same-request (Some w) = refl
-
-waits-behind : (A B : List ItemValue) → has_exchange B ≡ true → request_in (waiting (A ++ B)) ≡ request_in (waiting B)
+waits-behind : (A B : List ItemValue) → has_exchange B ≡ true → request_of (waiting (A ++ B)) ≡ request_of (waiting B)
 waits-behind [] B h = refl
 waits-behind (a ∷ A) B h =
-    ap request_in (waiting-cons a (A ++ B) (has-behind A B h)) ∙ same-request (waiting (A ++ B)) ∙ waits-behind A B h
+    ap request_of (waiting-cons a (A ++ B) (has-behind A B h)) ∙ sym (same-request (waiting (A ++ B))) ∙ waits-behind A B h
 
-one-waits : (r : List ℕ) (a : Option (List ℕ)) (o : List Message) → request_in (waiting (exchange r a ∷ map stray_of o)) ≡ open_if a r
+one-waits : (r : List ℕ) (a : Option (List ℕ)) (o : List Message) → request_of (waiting (exchange r a ∷ map stray_of o)) ≡ open_if a r
 one-waits r None o = rw (no-strays o).0 refl
 one-waits r (Some a) o = rw (no-strays o).1 refl
 
-parts-wait : (ps : List Part) → request_in (waiting (flat_map items_of ps)) ≡ open_in ps
+parts-wait : (ps : List Part) → request_of (waiting (flat_map items_of ps)) ≡ open_in ps
 parts-wait [] = refl
-parts-wait (p ∷ []) = ap (λ l. request_in (waiting l)) (one-part p) ∙ one-waits p.request (answer p.request p.behind) (strays_in p.request p.behind)
+parts-wait (p ∷ []) = ap (λ l. request_of (waiting l)) (one-part p) ∙ one-waits p.request (answer p.request p.behind) (strays_in p.request p.behind)
 parts-wait (p ∷ q ∷ ps) = waits-behind (items_of p) (flat_map items_of (q ∷ ps)) (has-items q ps) ∙ parts-wait (q ∷ ps)
 
-meaning-waits-by : (b : List Message) (ps : List Part) → request_in (waiting (map stray_of b ++ flat_map items_of ps)) ≡ open_in ps
+meaning-waits-by : (b : List Message) (ps : List Part) → request_of (waiting (map stray_of b ++ flat_map items_of ps)) ≡ open_in ps
 meaning-waits-by b [] = rw (append-nil (map stray_of b), (no-strays b).1) refl
 meaning-waits-by b (p ∷ ps) = waits-behind (map stray_of b) (flat_map items_of (p ∷ ps)) (has-items p ps) ∙ parts-wait (p ∷ ps)
 
@@ -61,9 +55,6 @@ removed-snoc r (y ∷ ys) x =
       ]
     ]
 
-abbrev removed_of : Part → List Message
-removed_of p = removed p.request p.behind
-
 grown-request : (ps : List Part) (x : Message) → is_tester_request x ≡ true → flat_map removed_of (grown ps x) ≡ flat_map removed_of ps
 grown-request [] x e = rw e refl
 grown-request (p ∷ []) x e = rw e refl
@@ -74,7 +65,7 @@ grown-other [] x e = rw e refl
 grown-other (p ∷ []) x e = rw e (append-nil _ ∙ removed-snoc p.request p.behind x ∙ ap (λ l. l ++ more_removed (open_in (p ∷ [])) x) (sym (append-nil (removed_of p))))
 grown-other (p ∷ q ∷ ps) x e = ap (λ l. removed_of p ++ l) (grown-other (q ∷ ps) x e) ∙ sym (append_assoc (removed_of p) _ _)
 
-more-by-role : (o : Option (ℕ × List ℕ)) (x : Message) → more_removed (request_in o) x ≡ those_removed (x ∷ []) (role_by o x ∷ [])
+more-by-role : (o : Option (ℕ × List ℕ)) (x : Message) → more_removed (request_of o) x ≡ those_removed (x ∷ []) (role_by o x ∷ [])
 more-by-role None x = refl
 more-by-role (Some w) x =
     elim (cases_Bool (is_answer_to w.1 x)) [

@@ -1,12 +1,13 @@
 -- The exchange of a list of items that waits for its answer, and lists that grow behind it.
-use Rattle.std.proofs.Common.{◌≡◌, ℕ, zero, suc, true, false, List, [], ◌∷◌, ◌++◌, length, Option, Some, None, refl, sym, ◌∙◌, ap, inl, inr}
+use Rattle.std.proofs.Common.{◌≡◌, ℕ, zero, suc, true, false, List, [], ◌∷◌, ◌++◌, length, Option, Some, None, refl, sym, ◌∙◌, ap, inl, inr, option_map}
 use Rattle.std.specs.Prelude.{slice_get, slice_set}
 use Rattle.std.proofs.lemmas.Bool.{cases_Bool}
 use Rattle.can_log.specs.declared.frame.Dir.{Dir}
+use Rattle.uds_message.specs.Message.{sid}
 use Rattle.uds_exchange.specs.Meaning.{ItemValue, exchange, stray}
 use Rattle.uds_exchange.specs.Order.{has_exchange}
 use Rattle.uds_exchange.specs.Pairing.{one_later, waiting}
-use Rattle.uds_exchange.proofs.Options.{some_same}
+use Rattle.uds_exchange.proofs.Variants.{some_same}
 
 pub has-more : (its : List ItemValue) (p : ItemValue) → has_exchange (p ∷ []) ≡ false → has_exchange (its ++ p ∷ []) ≡ has_exchange its
 has-more [] p h = h
@@ -67,3 +68,14 @@ waiting-answered (exchange q None ∷ its) w a h =
           rw (v.2, more) (ap one_later (waiting-answered its v.0 a v.1)))
       | inr e ↦ (let same : (0, q) ≡ w = some_same (rw e at h) in rw (← same) (ap one_later (no-exchange its e)))
     ]
+
+-- the request that waits, and its first byte
+abbrev pub request_of : Option (ℕ × List ℕ) → Option (List ℕ)
+request_of w = option_map (λ w. w.1) w
+
+abbrev pub sid_of : Option (ℕ × List ℕ) → Option ℕ
+sid_of w = option_map (λ w. sid w.1) w
+
+pub same-request : (w : Option (ℕ × List ℕ)) → request_of w ≡ request_of (one_later w)
+same-request None = refl
+same-request (Some w) = refl

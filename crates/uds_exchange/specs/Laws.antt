@@ -14,20 +14,24 @@ NoneIsLost = (M : List Message) → length (flattened (meaning M)) + length (rem
 
 -- a message is exactly one of request, answer, removed and stray
 abbrev pub EachHasOneRole : Type 0
-EachHasOneRole = (past : List Message) (x : Message) → (role : Role) × HasRole past x role × ((other : Role) → HasRole past x other → other ≡ role)
+EachHasOneRole = (past : List Message) (x : Message)
+    → (role : Role) × HasRole past x role × ((other : Role) → HasRole past x other → other ≡ role)
 
 -- so the messages of a list have roles in one way
 abbrev pub EachListHasRoles : Type 0
-EachListHasRoles = (M : List Message) → (roles : List Role) × AreRoles [] M roles × ((others : List Role) → AreRoles [] M others → others ≡ roles)
+EachListHasRoles = (M : List Message)
+    → (roles : List Role) × AreRoles [] M roles × ((others : List Role) → AreRoles [] M others → others ≡ roles)
 
--- the messages of a meaning are the list's in order, but that the removed ones are left out and an answer moves up to its request
+-- the messages of a meaning are the list's in order, but that the removed ones are left out and an answer moves up
+-- to its request
 abbrev pub MessagesByRoles : Type 0
 MessagesByRoles = (M : List Message) (roles : List Role) → AreRoles [] M roles
     → (flattened (meaning M) ≡ arranged [] M roles) × (removed_messages M ≡ those_removed M roles)
 
 -- the open request is the last one, and none behind it is its answer
 abbrev pub OpenRequestIsLast : Type 0
-OpenRequestIsLast = (M : List Message) (request : List ℕ) → (open_request M ≡ Some request) ↔ IsOpenBehind M request
+OpenRequestIsLast = (M : List Message) (request : List ℕ)
+    → (open_request M ≡ Some request) ↔ IsOpenBehind M request
 
 -- what is early and then what is held are the messages of the meaning
 abbrev pub EarlyThenHeld : Type 0
@@ -39,7 +43,8 @@ HeldByOpenRequest = (M : List Message) → open_request M ≡ None → held M �
 
 -- what is early stays in front of the messages of the meaning, whatever follows
 abbrev pub EarlyStays : Type 0
-EarlyStays = (M more : List Message) → (rest : List Message) × (flattened (meaning (M ++ more)) ≡ early M ++ rest)
+EarlyStays = (M more : List Message)
+    → (rest : List Message) × (flattened (meaning (M ++ more)) ≡ early M ++ rest)
 
 -- where messages are held, a rejection of the open request would come before them, and it is not the first of them:
 -- so nothing more could be put

@@ -91,6 +91,9 @@ messages_of (stray d bytes) = (d, bytes) ∷ []
 abbrev pub flattened : List ItemValue → List Message
 flattened items = flat_map messages_of items
 
--- all that is removed of a list
+-- all that is removed of a list, part by part
+abbrev pub removed_of : Part → List Message
+removed_of p = removed p.request p.behind
+
 abbrev pub removed_messages : List Message → List Message
-removed_messages M = flat_map (λ p. removed p.request p.behind) (parts M)
+removed_messages M = flat_map removed_of (parts M)

@@ -28,7 +28,8 @@ AnswersOpen past x = (request : List ℕ) × IsOpenBehind past request × (is_an
 abbrev pub IsPendingForOpen : List Message → Message → Type 0
 IsPendingForOpen past x = (request : List ℕ) × IsOpenBehind past request × (is_pending_reply_to request x ≡ true)
 
--- what a message is behind the messages `past`: a request by itself, an answer or removed by the open request, else a stray
+-- what a message is behind the messages `past`: a request by itself, an answer or removed by the open request, else
+-- a stray
 abbrev pub HasRole : List Message → Message → Role → Type 0
 HasRole past x as_request = is_tester_request x ≡ true
 HasRole past x as_answer = AnswersOpen past x
@@ -68,5 +69,6 @@ is_removed role = false
 
 -- those of the messages that are removed
 abbrev pub those_removed : List Message → List Role → List Message
-those_removed (x ∷ xs) (role ∷ roles) = if is_removed role then x ∷ those_removed xs roles else those_removed xs roles
+those_removed (x ∷ xs) (role ∷ roles) =
+    if is_removed role then x ∷ those_removed xs roles else those_removed xs roles
 those_removed xs roles = []

@@ -1,6 +1,5 @@
 -- Devices of proof: what an orderer does with one more message, from what it holds, and messages that lie end to end.
 use Rattle.std.specs.Prelude.{ℕ, ◌+◌, List, [], ◌∷◌, ◌++◌, Option, Some, None, take, drop, ◌≡◌, true, false}
-use Rattle.can_log.specs.declared.frame.Dir.{Dir}
 use Rattle.uds_exchange.specs.declared.held.Extent.{Extent}
 use Rattle.uds_exchange.specs.declared.roles.Role.{Role}
 use Rattle.uds_exchange.specs.declared.roles.Role.TheVariants as role
@@ -8,7 +7,7 @@ use Rattle.uds_exchange.specs.declared.orderer.OrderFault.{OrderFault}
 use Rattle.uds_exchange.specs.declared.orderer.OrderFault.TheVariants as fault
 use Rattle.uds_exchange.specs.Meaning.{Message}
 use Rattle.uds_exchange.specs.Pairing.{role_at}
-use Rattle.uds_exchange.specs.Sink.{Fails}
+use Rattle.uds_exchange.specs.Sink.{AfterOk, AfterErr, Fails}
 use Rattle.uds_exchange.specs.Orderer.{Standing}
 
 -- the messages that are due with a message of this role, behind those that are held
@@ -34,7 +33,7 @@ abbrev pub next : Standing → Message → Standing
 next o x = next_for (role_at o.open_sid x) o o.open_sid x
 
 -- what a fault leaves, where these messages were due
-abbrev pub Stops : {S E : Type 0} → (S → Dir → List ℕ → S → Type 0) → (S → Dir → List ℕ → E → S → Type 0) → List Message → Standing → S → Standing → S → OrderFault E → Type 0
+abbrev pub Stops : {S E : Type 0} → AfterOk S → AfterErr S E → List Message → Standing → S → Standing → S → OrderFault E → Type 0
 Stops after_ok after_err xs o s p t fault.Memory = (o.failed ≡ false) × (p ≡ o) × (t ≡ s)
 Stops after_ok after_err xs o s p t (fault.Sink e) = (o.failed ≡ false) × (p.failed ≡ true) × Fails after_ok after_err s xs e t
 Stops after_ok after_err xs o s p t fault.Failed = (o.failed ≡ true) × (p ≡ o) × (t ≡ s)

@@ -106,7 +106,8 @@ fn append(
 fn put_each<S: MessageSink>(extents: &[Extent], bytes: &[u8], sink: &mut S) -> Result<(), S::Fault>
     requires { total_length extents.now ≡ length bytes.now }
     ensures ok { OnOk result (Puts S.after_ok sink.old (cut_from extents.now bytes.now) sink.new) }
-    ensures err { IfErr result (λ e. Fails S.after_ok S.after_err sink.old (cut_from extents.now bytes.now) e sink.new) }
+    ensures err { IfErr result (λ e. Fails S.after_ok S.after_err sink.old
+        (cut_from extents.now bytes.now) e sink.new) }
 {
     let mut rest = bytes;
     for extent in extents {

@@ -5,7 +5,8 @@ ghost use Rattle.uds_exchange.specs.Meaning.{Message};
 ghost use Rattle.uds_exchange.specs.Sink.{Puts};
 ghost use Rattle.uds_exchange.specs.Laws.{MeaningIsKept, NoneIsLost};
 ghost use Rattle.uds_exchange.specs.Laws.{EachHasOneRole, EachListHasRoles, MessagesByRoles};
-ghost use Rattle.uds_exchange.specs.Laws.{OpenRequestIsLast, EarlyThenHeld, HeldByOpenRequest, EarlyStays, HeldMustWait, NoneIsLostInOrder};
+ghost use Rattle.uds_exchange.specs.Laws.{OpenRequestIsLast, HeldByOpenRequest, HeldMustWait};
+ghost use Rattle.uds_exchange.specs.Laws.{EarlyThenHeld, EarlyStays, NoneIsLostInOrder};
 
 use crate::sink::MessageSink;
 
@@ -67,5 +68,6 @@ pub fn none_is_lost_in_order()
 
 /// What was put in two runs was put in one.
 pub fn puts_join<S: MessageSink>()
-    ensures { (s u t : S) (xs ys : List Message) → Puts S.after_ok s xs u → Puts S.after_ok u ys t → Puts S.after_ok s (xs ++ ys) t }
+    ensures { (s u t : S) (xs ys : List Message) → Puts S.after_ok s xs u → Puts S.after_ok u ys t
+        → Puts S.after_ok s (xs ++ ys) t }
 {}

@@ -81,7 +81,8 @@ impl Orderer {
         ensures stops { IfErr result (λ fault. (M : List Message) → self.old ≡ stands_after M
             → StopsDue S.after_ok S.after_err M (dir, message.now) sink.old sink.new fault) }
         ensures leaves { IfErr result (λ fault. Leaves self.old self.new fault) }
-        ensures failed { self.old.failed ≡ true → (result ≡ Err Failed) × (self.new ≡ self.old) × (sink.new ≡ sink.old) }
+        ensures failed { self.old.failed ≡ true
+            → (result ≡ Err Failed) × (self.new ≡ self.old) × (sink.new ≡ sink.old) }
     {
         self.advance(dir, message, sink)
     }

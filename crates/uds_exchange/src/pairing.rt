@@ -105,8 +105,9 @@ fn copy(alloc: Global, bytes: &[u8]) -> Result<Vec<u8>, AllocError>
 /// Gives the exchange at this place its answer.
 fn set_answer(items: &mut Vec<Item>, at: usize, bytes: Vec<u8>)
     requires { at < length items.old.items }
-    ensures { (request : List ℕ) → slice_get (item_values items.old.items) at ≡ Some (exchange request None) →
-        item_values items.new.items ≡ slice_set (item_values items.old.items) at (exchange request (Some bytes.items)) }
+    ensures { (request : List ℕ) → slice_get (item_values items.old.items) at ≡ Some (exchange request None)
+        → item_values items.new.items
+        ≡ slice_set (item_values items.old.items) at (exchange request (Some bytes.items)) }
 {
     answer_with(&mut items[at], bytes);
 }

@@ -1,4 +1,5 @@
-use Rattle.uds_exchange.proofs.Putting.{fails-first, fails-cons, if_err_along}
+use Rattle.uds_exchange.proofs.Putting.{fails-first, fails-cons}
+use Rattle.uds_exchange.proofs.Variants.{if_err_along}
 use Rattle.uds_exchange.proofs.orderer.put_before.Goals as goal
 
 pub returns-in-Err-clause-err : goal.returns-in-Err-clause-err

@@ -1,5 +1,6 @@
 use Rattle.std.proofs.Common.{refl}
-use Rattle.uds_exchange.proofs.Putting.{fails-front, puts-append, on_ok_along}
+use Rattle.uds_exchange.proofs.Putting.{fails-front, puts-append}
+use Rattle.uds_exchange.proofs.Variants.{on_ok_along}
 use Rattle.uds_exchange.proofs.orderer.put_behind.Goals as goal
 
 pub returns-in-Err-clause-err : goal.returns-in-Err-clause-err

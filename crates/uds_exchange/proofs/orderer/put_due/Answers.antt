@@ -1,4 +1,5 @@
-use Rattle.uds_exchange.proofs.Putting.{fails-first, if_err_along}
+use Rattle.uds_exchange.proofs.Putting.{fails-first}
+use Rattle.uds_exchange.proofs.Variants.{if_err_along}
 use Rattle.uds_exchange.proofs.orderer.put_due.Goals as goal
 
 pub returns-in-Stray-clause-err : goal.returns-in-Stray-clause-err

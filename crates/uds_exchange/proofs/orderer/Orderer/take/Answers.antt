@@ -2,7 +2,7 @@ use Rattle.std.proofs.Common.{◌∙◌, ap}
 use Rattle.uds_exchange.specs.Meaning.{Message}
 use Rattle.uds_exchange.specs.Orderer.{Standing}
 use Rattle.uds_exchange.specs.Steps.{next}
-use Rattle.uds_exchange.proofs.Putting.{on_ok_along, if_err_along}
+use Rattle.uds_exchange.proofs.Variants.{on_ok_along, if_err_along}
 use Rattle.uds_exchange.proofs.NextStep.{stands-next, puts-due, stops-due}
 use Rattle.uds_exchange.proofs.orderer.Orderer.take.Goals as goal
 
