@@ -1,8 +1,8 @@
 -- What an orderer does with one more message is what the longer list means.
-use Rattle.std.proofs.Common.{◌≡◌, ℕ, false, List, [], ◌∷◌, ◌++◌, Option, Some, None, refl, sym, ◌∙◌, ap, inl, inr, option_map}
+use Rattle.std.proofs.Common.{◌≡◌, ℕ, false, List, [], ◌∷◌, ◌++◌, Option, Some, None, refl, sym, ◌∙◌, ap, subst, inl, inr, option_map}
 use Rattle.std.proofs.lemmas.Bool.{cases_Bool, false≢true}
 use Rattle.uds_message.specs.Message.{sid}
-use Rattle.uds_exchange.specs.Meaning.{Message, ItemValue, is_tester_request, is_answer_to, is_pending_reply_to, meaning}
+use Rattle.uds_exchange.specs.Meaning.{Message, ItemValue, is_tester_request, is_answer_to, is_pending_reply_to, meaning, flattened}
 use Rattle.uds_exchange.specs.Order.{held_in, held, early}
 use Rattle.uds_exchange.specs.Orderer.{Standing, stands_after, IsDue, PutsDue, StopsDue}
 use Rattle.uds_exchange.specs.Pairing.{waiting, waiting_sid, role_at, joined_by, joined}
@@ -12,7 +12,8 @@ use Rattle.uds_exchange.specs.declared.orderer.OrderFault.{OrderFault}
 use Rattle.uds_exchange.specs.declared.orderer.OrderFault.TheVariants as fault
 use Rattle.uds_exchange.proofs.Waiting.{sid_of, waiting-stray, waiting-request, waiting-answered}
 use Rattle.uds_exchange.proofs.OneMore.{meaning-join}
-use Rattle.uds_exchange.proofs.Early.{due_by, due_in, early-grows, early-request, early-stray, early-kept, early-answered, none-held}
+use Rattle.uds_exchange.proofs.Early.{early-then-held, due_by, due_in, early-grows, early-request, early-stray, early-kept, early-answered, none-held}
+use Rattle.uds_exchange.proofs.Putting.{puts-append}
 use Rattle.uds_exchange.proofs.MustWait.{open-request-waits}
 
 abbrev standing : List ItemValue → Standing
@@ -71,6 +72,12 @@ due-from M x o is = early-due M x ∙ ap (λ p. early M ++ due p x) (sym is)
 module _ {S E : Type 0} (after_ok : AfterOk S) (after_err : AfterErr S E) where
   pub puts-due : (M : List Message) (x : Message) (o : Standing) (s t : S) → o ≡ stands_after M → Puts after_ok s (due o x) t → PutsDue after_ok M x s t
   puts-due M x o s t is h = (due o x, due-from M x o is, h)
+
+  pub puts-go-on : (s t u : S) (M : List Message) (x : Message) → Puts after_ok s (early M) t → PutsDue after_ok M x t u → Puts after_ok s (early (M ++ x ∷ [])) u
+  puts-go-on s t u M x h d = subst (λ (l : List Message). Puts after_ok s l u) (sym d.1) (puts-append after_ok after_err s t u (early M) d.0 h d.2)
+
+  pub puts-end : (s t u : S) (M : List Message) → Puts after_ok s (early M) t → Puts after_ok t (held M) u → Puts after_ok s (flattened (meaning M)) u
+  puts-end s t u M h d = subst (λ (l : List Message). Puts after_ok s l u) (early-then-held M) (puts-append after_ok after_err s t u (early M) (held M) h d)
 
   pub stops-due : (M : List Message) (x : Message) (o p : Standing) (s t : S) (f : OrderFault E) → o ≡ stands_after M
       → Stops after_ok after_err (due o x) o s p t f → StopsDue after_ok after_err M x s t f

@@ -1,8 +1,10 @@
 //! What holds of meanings, whatever computes them. Each law is its contract; a call does nothing.
 
-ghost use Rattle.std.specs.Prelude.{List, ◌++◌};
-ghost use Rattle.uds_exchange.specs.Meaning.{Message};
+ghost use Rattle.std.specs.Prelude.{List, [], ◌∷◌, ◌++◌};
+ghost use Rattle.uds_exchange.specs.Meaning.{Message, meaning, flattened};
+ghost use Rattle.uds_exchange.specs.Order.{early, held};
 ghost use Rattle.uds_exchange.specs.Sink.{Puts};
+ghost use Rattle.uds_exchange.specs.Orderer.{PutsDue};
 ghost use Rattle.uds_exchange.specs.Laws.{MeaningIsKept, NoneIsLost};
 ghost use Rattle.uds_exchange.specs.Laws.{EachHasOneRole, EachListHasRoles, MessagesByRoles};
 ghost use Rattle.uds_exchange.specs.Laws.{OpenRequestIsLast, HeldByOpenRequest, HeldMustWait};
@@ -70,4 +72,16 @@ pub fn none_is_lost_in_order()
 pub fn puts_join<S: MessageSink>()
     ensures { (s u t : S) (xs ys : List Message) → Puts S.after_ok s xs u → Puts S.after_ok u ys t
         → Puts S.after_ok s (xs ++ ys) t }
+{}
+
+/// Where what is early was put, and then what one more message makes due, what is early with that message was put.
+pub fn puts_go_on<S: MessageSink>()
+    ensures { (s t u : S) (M : List Message) (x : Message) → Puts S.after_ok s (early M) t
+        → PutsDue S.after_ok M x t u → Puts S.after_ok s (early (M ++ x ∷ [])) u }
+{}
+
+/// Where what is early was put, and then what is held, the messages of the meaning were put.
+pub fn puts_end<S: MessageSink>()
+    ensures { (s t u : S) (M : List Message) → Puts S.after_ok s (early M) t
+        → Puts S.after_ok t (held M) u → Puts S.after_ok s (flattened (meaning M)) u }
 {}
