@@ -7,7 +7,7 @@ use Rattle.std.proofs.lemmas.Grind.{flat_map-append}
 use Rattle.std.proofs.lemmas.Bool.{cond_both, cases_Bool, false≢true}
 use Rattle.can_log.specs.declared.frame.Dir.TheVariants.{Tester, Unit}
 use Rattle.uds_message.specs.Message.{is_request}
-use Rattle.uds_exchange.specs.Meaning.{Message, is_tester_request, is_answer_to, is_pending_reply_to, before_requests, Part, part, parts, answer, strays_in, exchange, stray_of, items_of, meaning, messages_of, flattened}
+use Rattle.uds_exchange.specs.Meaning.{Message, is_tester_request, is_answer_to, is_pending_reply_to, before_requests, Part, part, parts, answer, strays_in, ItemValue, exchange, stray_of, items_of, meaning, messages_of, flattened}
 use Rattle.uds_exchange.proofs.Variants.{some_none}
 use Rattle.uds_exchange.proofs.Replies.{request-bytes}
 
@@ -16,30 +16,35 @@ abbrev pub Quiet : List Message → Type 0
 Quiet [] = ⊤
 Quiet (x ∷ xs) = (is_tester_request x ≡ false) × Quiet xs
 
-pub quiet-before : (M : List Message) → Quiet (before_requests M)
-quiet-before [] = tt
-quiet-before (x ∷ xs) =
-    cond_both (is_tester_request x) [] (x ∷ before_requests xs) Quiet (λ _. tt) (λ e. (e, quiet-before xs))
+pub quiet-before_requests : (M : List Message) → Quiet (before_requests M)
+quiet-before_requests [] = tt
+quiet-before_requests (x ∷ xs) =
+    cond_both (is_tester_request x) [] (x ∷ before_requests xs) Quiet (λ _. tt) (λ e. (e, quiet-before_requests xs))
 
-before-append : (xs N : List Message) → Quiet xs → before_requests (xs ++ N) ≡ xs ++ before_requests N
-before-append [] N h = refl
-before-append (x ∷ xs) N h = rw h.0 (ap (λ l. x ∷ l) (before-append xs N h.1))
+before_requests-append : (xs N : List Message) → Quiet xs → before_requests (xs ++ N) ≡ xs ++ before_requests N
+before_requests-append [] N h = refl
+before_requests-append (x ∷ xs) N h = rw h.0 (ap (λ l. x ∷ l) (before_requests-append xs N h.1))
 
 parts-append : (xs N : List Message) → Quiet xs → parts (xs ++ N) ≡ parts N
 parts-append [] N h = refl
 parts-append (x ∷ xs) N h = rw h.0 (parts-append xs N h.1)
 
-pub quiet-others : (r : List ℕ) (xs : List Message) → Quiet xs → Quiet (strays_in r xs)
-quiet-others r [] h = tt
-quiet-others r (x ∷ xs) h =
+-- the strays of a part without another request have none
+pub quiet-strays_in : (r : List ℕ) (xs : List Message) → Quiet xs → Quiet (strays_in r xs)
+quiet-strays_in r [] h = tt
+quiet-strays_in r (x ∷ xs) h =
     cond_both (is_answer_to r x) _ _ Quiet (λ _. h.1) (λ _.
-    cond_both (is_pending_reply_to r x) _ _ Quiet (λ _. quiet-others r xs h.1) (λ _. (h.0, quiet-others r xs h.1)))
+    cond_both (is_pending_reply_to r x) _ _ Quiet (λ _. quiet-strays_in r xs h.1) (λ _. (h.0, quiet-strays_in r xs h.1)))
 
-pub flat-strays : (xs : List Message) → flattened (map stray_of xs) ≡ xs
-flat-strays [] = refl
-flat-strays (x ∷ xs) = ap (λ l. x ∷ l) (flat-strays xs)
+pub flattened-strays : (xs : List Message) → flattened (map stray_of xs) ≡ xs
+flattened-strays [] = refl
+flattened-strays (x ∷ xs) = ap (λ l. x ∷ l) (flattened-strays xs)
 
--- where nothing is_answer_to, what is left has neither answer nor promise
+-- one more item of one message
+pub flattened-push : (its : List ItemValue) (it : ItemValue) (x : Message) → messages_of it ≡ x ∷ [] → flattened (its ++ it ∷ []) ≡ flattened its ++ x ∷ []
+flattened-push its it x h = flat_map-append messages_of its (it ∷ []) ∙ ap (λ l. flattened its ++ (l ++ [])) h
+
+-- where nothing answers, what is left has neither an answer nor a pending reply
 unanswered : (r : List ℕ) (xs : List Message) → answer r xs ≡ None → (answer r (strays_in r xs) ≡ None) × (strays_in r (strays_in r xs) ≡ strays_in r xs)
 unanswered r [] h = (refl, refl)
 unanswered r (x ∷ xs) h =
@@ -82,16 +87,17 @@ stays p = kept (answer p.request p.behind) (strays_in p.request p.behind)
 again : Part → Part
 again p = part p.request (stays p)
 
+-- a part of which only what stays is left has the same items
 items-again : (p : Part) → items_of (again p) ≡ items_of p
 unfolding again
 items-again p =
     let same = again-same p.request p.behind (answer p.request p.behind) refl in
     rw (same.0, same.1) refl
 
-pub flat-exchange : (r : List ℕ) (a : Option (List ℕ)) (o : List Message) → flattened (exchange r a ∷ map stray_of o) ≡ (Tester, r) ∷ kept a o
+pub flattened-exchange : (r : List ℕ) (a : Option (List ℕ)) (o : List Message) → flattened (exchange r a ∷ map stray_of o) ≡ (Tester, r) ∷ kept a o
 unfolding kept
-flat-exchange r None o = ap (λ l. (Tester, r) ∷ l) (flat-strays o)
-flat-exchange r (Some a) o = ap (λ l. (Tester, r) ∷ (Unit, a) ∷ l) (flat-strays o)
+flattened-exchange r None o = ap (λ l. (Tester, r) ∷ l) (flattened-strays o)
+flattened-exchange r (Some a) o = ap (λ l. (Tester, r) ∷ (Unit, a) ∷ l) (flattened-strays o)
 
 quiet-kept : (a : Option (List ℕ)) (o : List Message) → Quiet o → Quiet (kept a o)
 unfolding kept
@@ -106,31 +112,32 @@ Good (p ∷ ps) = (is_request p.request ≡ true) × Quiet p.behind × Good ps
 pub good-parts : (M : List Message) → Good (parts M)
 good-parts [] = tt
 good-parts (x ∷ xs) =
-    cond_both (is_tester_request x) _ _ Good (λ e. (request-bytes x e, quiet-before xs, good-parts xs)) (λ _. good-parts xs)
+    cond_both (is_tester_request x) _ _ Good (λ e. (request-bytes x e, quiet-before_requests xs, good-parts xs)) (λ _. good-parts xs)
 
-flat-parts : (ps : List Part) → Good ps
+flattened-parts : (ps : List Part) → Good ps
     → (before_requests (flattened (flat_map items_of ps)) ≡ []) × (parts (flattened (flat_map items_of ps)) ≡ map again ps)
 unfolding again
-flat-parts [] h = (refl, refl)
-flat-parts (p ∷ ps) h =
-    let rest = flat-parts ps h.2 in
-    let quiet = quiet-kept (answer p.request p.behind) (strays_in p.request p.behind) (quiet-others p.request p.behind h.1) in
+flattened-parts [] h = (refl, refl)
+flattened-parts (p ∷ ps) h =
+    let rest = flattened-parts ps h.2 in
+    let quiet = quiet-kept (answer p.request p.behind) (strays_in p.request p.behind) (quiet-strays_in p.request p.behind h.1) in
     let split : flattened (flat_map items_of (p ∷ ps)) ≡ (Tester, p.request) ∷ (stays p ++ flattened (flat_map items_of ps)) =
-    flat_map-append messages_of (items_of p) (flat_map items_of ps) ∙ ap (λ l. l ++ flattened (flat_map items_of ps)) (flat-exchange p.request (answer p.request p.behind) (strays_in p.request p.behind)) in
+    flat_map-append messages_of (items_of p) (flat_map items_of ps) ∙ ap (λ l. l ++ flattened (flat_map items_of ps)) (flattened-exchange p.request (answer p.request p.behind) (strays_in p.request p.behind)) in
     let tail = flattened (flat_map items_of ps) in
     let behind : before_requests (stays p ++ tail) ≡ stays p =
-    before-append (stays p) tail quiet ∙ ap (λ l. stays p ++ l) rest.0 ∙ append-nil _ in
+    before_requests-append (stays p) tail quiet ∙ ap (λ l. stays p ++ l) rest.0 ∙ append-nil _ in
     rw (split, h.0, behind, parts-append (stays p) tail quiet, rest.1) (refl, refl)
 
 items-all : (ps : List Part) → flat_map items_of (map again ps) ≡ flat_map items_of ps
 items-all [] = refl
 items-all (p ∷ ps) = ap (λ l. l ++ flat_map items_of (map again ps)) (items-again p) ∙ ap (λ l. items_of p ++ l) (items-all ps)
 
-pub meaning-flat : (M : List Message) → meaning (flattened (meaning M)) ≡ meaning M
-meaning-flat M =
+-- what stays of each part means that part again
+pub meaning-flattened : (M : List Message) → meaning (flattened (meaning M)) ≡ meaning M
+meaning-flattened M =
     let tail = flattened (flat_map items_of (parts M)) in
-    let split : flattened (meaning M) ≡ before_requests M ++ tail = flat_map-append messages_of (map stray_of (before_requests M)) (flat_map items_of (parts M)) ∙ ap (λ l. l ++ tail) (flat-strays (before_requests M)) in
-    let facts = flat-parts (parts M) (good-parts M) in
-    let front : before_requests (before_requests M ++ tail) ≡ before_requests M = before-append (before_requests M) tail (quiet-before M) ∙ ap (λ l. before_requests M ++ l) facts.0 ∙ append-nil _ in
-    let back : parts (before_requests M ++ tail) ≡ map again (parts M) = parts-append (before_requests M) tail (quiet-before M) ∙ facts.1 in
+    let split : flattened (meaning M) ≡ before_requests M ++ tail = flat_map-append messages_of (map stray_of (before_requests M)) (flat_map items_of (parts M)) ∙ ap (λ l. l ++ tail) (flattened-strays (before_requests M)) in
+    let facts = flattened-parts (parts M) (good-parts M) in
+    let front : before_requests (before_requests M ++ tail) ≡ before_requests M = before_requests-append (before_requests M) tail (quiet-before_requests M) ∙ ap (λ l. before_requests M ++ l) facts.0 ∙ append-nil _ in
+    let back : parts (before_requests M ++ tail) ≡ map again (parts M) = parts-append (before_requests M) tail (quiet-before_requests M) ∙ facts.1 in
     rw (split, front, back, items-all (parts M)) refl

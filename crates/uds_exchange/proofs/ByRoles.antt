@@ -4,8 +4,8 @@ use Rattle.std.proofs.lemmas.List.{append-nil}
 use Rattle.uds_exchange.specs.Meaning.{Message, meaning, flattened, removed_messages}
 use Rattle.uds_exchange.specs.Roles.{Role, as_request, as_answer, as_removed, as_stray, AreRoles, placed, arranged, those_removed}
 use Rattle.uds_exchange.proofs.RolesFound.{role_behind, has-role, only-role}
-use Rattle.uds_exchange.proofs.Placed.{placed-join}
-use Rattle.uds_exchange.proofs.RemovedOnes.{removed-join}
+use Rattle.uds_exchange.proofs.Placed.{flattened-meaning-append}
+use Rattle.uds_exchange.proofs.RemovedOnes.{removed_messages-append}
 
 -- the roles of the messages behind `past`
 roles_of : List Message → List Message → List Role
@@ -42,8 +42,8 @@ by-roles past (x ∷ xs) [] h = absurd h
 by-roles past (x ∷ xs) (role ∷ roles) h =
     let same = only-role past x role h.0 in
     let rest = by-roles (past ++ x ∷ []) xs roles h.1 in
-    let out = placed-join past x ∙ ap (λ r. placed r (flattened (meaning past)) x) (sym same) in
-    let gone = removed-join past x ∙ ap (λ r. removed_messages past ++ those_removed (x ∷ []) (r ∷ [])) (sym same) in (
+    let out = flattened-meaning-append past x ∙ ap (λ r. placed r (flattened (meaning past)) x) (sym same) in
+    let gone = removed_messages-append past x ∙ ap (λ r. removed_messages past ++ those_removed (x ∷ []) (r ∷ [])) (sym same) in (
       ap (λ l. flattened (meaning l)) (sym (append_assoc past (x ∷ []) xs)) ∙ rest.0 ∙ ap (λ l. arranged l xs roles) out,
       ap removed_messages (sym (append_assoc past (x ∷ []) xs)) ∙ rest.1 ∙ ap (λ l. l ++ those_removed xs roles) gone
           ∙ append_assoc (removed_messages past) _ _ ∙ ap (λ l. removed_messages past ++ l) (those-cons x xs role roles),

@@ -12,7 +12,8 @@ use Rattle.uds_exchange.specs.Order.{has_exchange, held_in, held, early}
 use Rattle.uds_exchange.proofs.Waiting.{has-more, has-last, has-set, waiting-at, one_later-some}
 use Rattle.uds_exchange.proofs.Variants.{some_same, some_none}
 use Rattle.uds_exchange.proofs.Replies.{from-tester, from-unit}
-use Rattle.uds_exchange.proofs.OneMore.{meaning-join}
+use Rattle.uds_exchange.proofs.Again.{flattened-push}
+use Rattle.uds_exchange.proofs.OneMore.{meaning-append}
 
 -- the messages of the items before those that are held
 abbrev pub early_in : List ItemValue → List Message
@@ -21,6 +22,7 @@ early_in (stray d m ∷ its) = (d, m) ∷ early_in its
 early_in (exchange r (Some a) ∷ its) = (Tester, r) ∷ (Unit, a) ∷ early_in its
 early_in (exchange r None ∷ its) = (Tester, r) ∷ cond (has_exchange its) (early_in its) []
 
+-- these and then the held ones are all
 pub early-held : (its : List ItemValue) → early_in its ++ held_in its ≡ flattened its
 early-held [] = refl
 early-held (stray d m ∷ its) = ap (λ l. (d, m) ∷ l) (early-held its)
@@ -67,12 +69,6 @@ none-held (exchange q None ∷ its) h =
     ]
 
 -- one more stray where a request waits
-flat-more : (its : List ItemValue) (d : Dir) (m : List ℕ) → flattened (its ++ stray d m ∷ []) ≡ flattened its ++ (d, m) ∷ []
-flat-more [] d m = refl
-flat-more (stray e n ∷ its) d m = ap (λ l. (e, n) ∷ l) (flat-more its d m)
-flat-more (exchange q (Some a) ∷ its) d m = ap (λ l. (Tester, q) ∷ (Unit, a) ∷ l) (flat-more its d m)
-flat-more (exchange q None ∷ its) d m = ap (λ l. (Tester, q) ∷ l) (flat-more its d m)
-
 pub early-kept : (its : List ItemValue) (w : ℕ × List ℕ) (d : Dir) (m : List ℕ) → waiting its ≡ Some w → (early_in (its ++ stray d m ∷ []) ≡ early_in its) × (held_in (its ++ stray d m ∷ []) ≡ held_in its ++ (d, m) ∷ [])
 early-kept [] w d m h = cc
 early-kept (stray e n ∷ its) w d m h = let v = one_later-some (waiting its) w h in let rest = early-kept its v.0 d m v.1 in (ap (λ l. (e, n) ∷ l) rest.0, rest.1)
@@ -81,7 +77,7 @@ early-kept (exchange q None ∷ its) w d m h =
     elim (cases_Bool (has_exchange its)) [
       | inl e ↦ (let v = one_later-some (waiting its) w (rw e at h) in let rest = early-kept its v.0 d m v.1 in
           rw (has-more its (stray d m) refl, e) (ap (λ l. (Tester, q) ∷ l) rest.0, rest.1))
-      | inr e ↦ rw (has-more its (stray d m) refl, e) (refl, flat-more its d m)
+      | inr e ↦ rw (has-more its (stray d m) refl, e) (refl, flattened-push its (stray d m) (d, m) refl)
     ]
 
 -- the request that waits gets its answer
@@ -130,6 +126,7 @@ early-join its x =
       | inr e ↦ rw e (early-joins its x (waiting its) e refl)
     ]
 
+-- what is early, by recursion over the items
 pub early-is : (M : List Message) → early M ≡ early_in (meaning M)
 early-is M =
     let e = early_in (meaning M) in
@@ -138,8 +135,9 @@ early-is M =
     let n : length (flattened (meaning M)) - length h ≡ length e = omega (arith, ap length whole, length-append e h) in
     rw n (rw (← whole) (take-append_seam e h))
 
-pub early-grows : (M : List Message) (x : Message) → early (M ++ x ∷ []) ≡ early M ++ due_in (meaning M) x
-early-grows M x = early-is (M ++ x ∷ []) ∙ ap early_in (meaning-join M x) ∙ early-join (meaning M) x ∙ ap (λ l. l ++ due_in (meaning M) x) (sym (early-is M))
+-- what is early in a longer list
+pub early-append : (M : List Message) (x : Message) → early (M ++ x ∷ []) ≡ early M ++ due_in (meaning M) x
+early-append M x = early-is (M ++ x ∷ []) ∙ ap early_in (meaning-append M x) ∙ early-join (meaning M) x ∙ ap (λ l. l ++ due_in (meaning M) x) (sym (early-is M))
 
 pub early-then-held : (M : List Message) → early M ++ held M ≡ flattened (meaning M)
 early-then-held M = ap (λ l. l ++ held M) (early-is M) ∙ early-held (meaning M)
@@ -149,4 +147,4 @@ pub early-front : (M N : List Message) → (rest : List Message) × (flattened (
 early-front M [] = (held M, rw append-nil (sym (early-then-held M)))
 early-front M (x ∷ N) =
     let more = early-front (M ++ x ∷ []) N in
-    (due_in (meaning M) x ++ more.0, ap (λ l. flattened (meaning l)) (sym (append_assoc M (x ∷ []) N)) ∙ more.1 ∙ ap (λ l. l ++ more.0) (early-grows M x) ∙ append_assoc (early M) _ _)
+    (due_in (meaning M) x ++ more.0, ap (λ l. flattened (meaning l)) (sym (append_assoc M (x ∷ []) N)) ∙ more.1 ∙ ap (λ l. l ++ more.0) (early-append M x) ∙ append_assoc (early M) _ _)

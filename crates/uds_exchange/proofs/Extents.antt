@@ -1,4 +1,4 @@
--- Messages that lie end to end, cut_from from their bytes.
+-- Messages that lie end to end, cut from their bytes.
 use Rattle.std.proofs.Common.{◌≡◌, ℕ, ◌+◌, ◌<◌, ◌≤◌, List, [], ◌∷◌, ◌++◌, length, take, drop, get_or, refl, ◌∙◌, ap, arith, length-drop, sum_by}
 use Rattle.std.proofs.lemmas.List.{drop_more, length-take-le, take-append-le, drop-append-le, take_all}
 use Rattle.std.proofs.lemmas.List.Sums.{sum_by-cons}

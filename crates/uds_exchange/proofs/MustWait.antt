@@ -13,7 +13,7 @@ use Rattle.uds_exchange.proofs.Counts.{none-lost}
 use Rattle.uds_exchange.proofs.Waiting.{request_of, same-request, waiting-stray, waiting-answered}
 use Rattle.uds_exchange.proofs.Bools.{or-true, same-number, any-append, any-first}
 use Rattle.uds_exchange.proofs.Variants.{some_same, some_none}
-use Rattle.uds_exchange.proofs.OneMore.{meaning-join}
+use Rattle.uds_exchange.proofs.OneMore.{meaning-append}
 use Rattle.uds_exchange.proofs.OpenRequests.{opens, waits-open}
 use Rattle.uds_exchange.proofs.Early.{early_in, early-held, early-is, early-then-held, early-request, early-kept, early-answered, none-held}
 use Rattle.uds_exchange.proofs.Replies.{from-unit}
@@ -70,7 +70,7 @@ no-answer-join its x s =
 no-answer-over : (M N : List Message) → NoAnswerHeld (meaning M) → NoAnswerHeld (meaning (M ++ N))
 no-answer-over M [] s = rw append-nil s
 no-answer-over M (x ∷ N) s =
-    let one : NoAnswerHeld (meaning (M ++ x ∷ [])) = rw meaning-join (no-answer-join (meaning M) x s) in
+    let one : NoAnswerHeld (meaning (M ++ x ∷ [])) = rw meaning-append (no-answer-join (meaning M) x s) in
     rw (← append_assoc M (x ∷ []) N) (no-answer-over (M ++ x ∷ []) N one)
 
 no-answer-held : (M : List Message) → NoAnswerHeld (meaning M)
@@ -85,6 +85,7 @@ rejects (s ∷ bytes) h =
       | inr e ↦ rw (e, same-number s) (or-true (0x7F == s + 0x40 && false))
     ]
 
+-- an answer goes before what is held
 answered : (its : List ItemValue) (w : ℕ × List ℕ) → waiting its ≡ Some w → (x : Message) → is_tester_request x ≡ false → is_answer_to w.1 x ≡ true → flattened (joined its x) ≡ early_in its ++ x ∷ held_in its
 answered its w h x r e =
     let set = early-answered its w x.1 h in
@@ -102,7 +103,7 @@ answer-first M x more h = answer-first-by (waiting (meaning M)) refl where
       let none : list_any (is_answer_to w.1) (x ∷ more) ≡ false = ap (list_any (is_answer_to w.1)) (sym h) ∙ no-answer-held M w k in (
         w.1,
         o,
-        ap flattened (meaning-join M (rejection_of w.1)) ∙ answered (meaning M) w k (rejection_of w.1) refl yes ∙ ap (λ l. l ++ rejection_of w.1 ∷ held M) (sym (early-is M)),
+        ap flattened (meaning-append M (rejection_of w.1)) ∙ answered (meaning M) w k (rejection_of w.1) refl yes ∙ ap (λ l. l ++ rejection_of w.1 ∷ held M) (sym (early-is M)),
         λ e. false≢true (sym none ∙ any-first (is_answer_to w.1) x more (ap (is_answer_to w.1) e ∙ yes)),
       )
 

@@ -11,8 +11,8 @@ use Rattle.uds_exchange.specs.Sink.{AfterOk, AfterErr, Puts}
 use Rattle.uds_exchange.specs.declared.orderer.OrderFault.{OrderFault}
 use Rattle.uds_exchange.specs.declared.orderer.OrderFault.TheVariants as fault
 use Rattle.uds_exchange.proofs.Waiting.{sid_of, waiting-stray, waiting-request, waiting-answered}
-use Rattle.uds_exchange.proofs.OneMore.{meaning-join}
-use Rattle.uds_exchange.proofs.Early.{early-then-held, due_by, due_in, early-grows, early-request, early-stray, early-kept, early-answered, none-held}
+use Rattle.uds_exchange.proofs.OneMore.{meaning-append}
+use Rattle.uds_exchange.proofs.Early.{early-then-held, due_by, due_in, early-append, early-request, early-stray, early-kept, early-answered, none-held}
 use Rattle.uds_exchange.proofs.Putting.{puts-append}
 use Rattle.uds_exchange.proofs.MustWait.{open-request-waits}
 
@@ -59,12 +59,13 @@ next-same its x =
       | inr e ↦ (ap (λ l. standing l) (let j : joined its x ≡ joined_by (waiting its) its x = rw e refl in j) ∙ next-by its x (waiting its) e refl)
     ]
 
+-- what an orderer does leads to where it stands after the longer list
 pub stands-next : (M : List Message) (x : Message) → next (stands_after M) x ≡ stands_after (M ++ x ∷ [])
 stands-next M x =
-    ap (λ o. next o x) (stands-is M) ∙ sym (next-same (meaning M) x) ∙ ap standing (sym (meaning-join M x)) ∙ sym (stands-is (M ++ x ∷ []))
+    ap (λ o. next o x) (stands-is M) ∙ sym (next-same (meaning M) x) ∙ ap standing (sym (meaning-append M x)) ∙ sym (stands-is (M ++ x ∷ []))
 
 pub early-due : (M : List Message) (x : Message) → early (M ++ x ∷ []) ≡ early M ++ due (stands_after M) x
-early-due M x = early-grows M x ∙ ap (λ l. early M ++ l) (sym (due-same (meaning M) x) ∙ ap (λ o. due o x) (sym (stands-is M)))
+early-due M x = early-append M x ∙ ap (λ l. early M ++ l) (sym (due-same (meaning M) x) ∙ ap (λ o. due o x) (sym (stands-is M)))
 
 due-from : (M : List Message) (x : Message) (o : Standing) → o ≡ stands_after M → IsDue M x (due o x)
 due-from M x o is = early-due M x ∙ ap (λ p. early M ++ due p x) (sym is)

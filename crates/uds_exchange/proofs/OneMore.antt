@@ -7,7 +7,7 @@ use Rattle.uds_exchange.specs.Meaning.{Message, is_tester_request, is_answer_to,
 use Rattle.uds_exchange.specs.Order.{has_exchange}
 use Rattle.uds_exchange.specs.Pairing.{one_later, waiting, joined_by, joined}
 
--- the parts, and what stands before_requests them, with one more message
+-- the parts, and what stands before them, with one more message
 abbrev pub grown : List Part → Message → List Part
 grown [] x = cond (is_tester_request x) (part x.1 [] ∷ []) []
 grown (p ∷ []) x = cond (is_tester_request x) (p ∷ part x.1 [] ∷ []) (part p.request (p.behind ++ x ∷ []) ∷ [])
@@ -25,6 +25,7 @@ grown-cons : (r : List ℕ) (b : List Message) (ps : List Part) (x : Message) �
 grown-cons r b [] x = elim (cases_Bool (is_tester_request x)) [ inl e ↦ rw e refl | inr e ↦ rw e refl ]
 grown-cons r b (p ∷ ps) x = refl
 
+-- the cut of a list into parts, with one more message
 pub grows : (M : List Message) (x : Message) → (before_requests (M ++ x ∷ []) ≡ fronted (before_requests M) (parts M) x) × (parts (M ++ x ∷ []) ≡ grown (parts M) x)
 grows [] x = (refl, refl)
 grows (y ∷ ys) x =
@@ -34,6 +35,7 @@ grows (y ∷ ys) x =
       | inr e ↦ rw e (ap (λ l. y ∷ l) rest.0 ∙ fronted-cons y (before_requests ys) (parts ys) x, rest.1)
     ]
 
+-- strays alone have no exchange
 pub no-strays : (o : List Message) → (has_exchange (map stray_of o) ≡ false) × (waiting (map stray_of o) ≡ None)
 no-strays [] = (refl, refl)
 no-strays (x ∷ o) = ((no-strays o).0, ap one_later (no-strays o).1)
@@ -51,6 +53,7 @@ joined_by-cons a (Some w) its x =
       | inr e ↦ elim (cases_Bool (is_pending_reply_to w.1 x)) [ inl q ↦ rw (e, q) refl | inr q ↦ rw (e, q) refl ]
     ]
 
+-- a message is joined to the last exchange, whatever stands before it
 joined-cons : (a : ItemValue) (its : List ItemValue) (x : Message) → has_exchange its ≡ true → joined (a ∷ its) x ≡ a ∷ joined its x
 joined-cons a its x h =
     elim (cases_Bool (is_tester_request x)) [
@@ -76,9 +79,9 @@ abbrev left : Option (List ℕ) → List ℕ → List Message → Message → Li
 left (Some a) r o x = o ++ x ∷ []
 left None r o x = cond (is_answer_to r x) o (cond (is_pending_reply_to r x) o (o ++ x ∷ []))
 
-answer-snoc : (r : List ℕ) (xs : List Message) (x : Message) → answer r (xs ++ x ∷ []) ≡ found (answer r xs) r x
-answer-snoc r [] x = refl
-answer-snoc r (y ∷ ys) x = elim (cases_Bool (is_answer_to r y)) [ inl e ↦ rw e refl | inr e ↦ rw e (answer-snoc r ys x) ]
+answer-append : (r : List ℕ) (xs : List Message) (x : Message) → answer r (xs ++ x ∷ []) ≡ found (answer r xs) r x
+answer-append r [] x = refl
+answer-append r (y ∷ ys) x = elim (cases_Bool (is_answer_to r y)) [ inl e ↦ rw e refl | inr e ↦ rw e (answer-append r ys x) ]
 
 left-cons : (a : Option (List ℕ)) (r : List ℕ) (y : Message) (o : List Message) (x : Message) → y ∷ left a r o x ≡ left a r (y ∷ o) x
 left-cons (Some a) r y o x = refl
@@ -88,29 +91,29 @@ left-cons None r y o x =
       | inr e ↦ elim (cases_Bool (is_pending_reply_to r x)) [ inl q ↦ rw (e, q) refl | inr q ↦ rw (e, q) refl ]
     ]
 
-others-snoc : (r : List ℕ) (xs : List Message) (x : Message) → strays_in r (xs ++ x ∷ []) ≡ left (answer r xs) r (strays_in r xs) x
-others-snoc r [] x = refl
-others-snoc r (y ∷ ys) x =
+strays_in-append : (r : List ℕ) (xs : List Message) (x : Message) → strays_in r (xs ++ x ∷ []) ≡ left (answer r xs) r (strays_in r xs) x
+strays_in-append r [] x = refl
+strays_in-append r (y ∷ ys) x =
     elim (cases_Bool (is_answer_to r y)) [
       | inl e ↦ rw e refl
       | inr e ↦ elim (cases_Bool (is_pending_reply_to r y)) [
-        | inl q ↦ rw (e, q) (others-snoc r ys x)
-        | inr q ↦ rw (e, q) (ap (λ l. y ∷ l) (others-snoc r ys x) ∙ left-cons (answer r ys) r y (strays_in r ys) x)
+        | inl q ↦ rw (e, q) (strays_in-append r ys x)
+        | inr q ↦ rw (e, q) (ap (λ l. y ∷ l) (strays_in-append r ys x) ∙ left-cons (answer r ys) r y (strays_in r ys) x)
       ]
     ]
 
-strays-snoc : (o : List Message) (x : Message) → map stray_of (o ++ x ∷ []) ≡ map stray_of o ++ stray_of x ∷ []
-strays-snoc o x = map-append stray_of o (x ∷ [])
+stray_of-append : (o : List Message) (x : Message) → map stray_of (o ++ x ∷ []) ≡ map stray_of o ++ stray_of x ∷ []
+stray_of-append o x = map-append stray_of o (x ∷ [])
 
 part-grows : (r : List ℕ) (a : Option (List ℕ)) (o : List Message) (x : Message) → is_tester_request x ≡ false
     → exchange r (found a r x) ∷ map stray_of (left a r o x) ≡ joined (exchange r a ∷ map stray_of o) x
-part-grows r (Some a) o x h = rw (h, (no-strays o).1) (ap (λ l. exchange r (Some a) ∷ l) (strays-snoc o x))
+part-grows r (Some a) o x h = rw (h, (no-strays o).1) (ap (λ l. exchange r (Some a) ∷ l) (stray_of-append o x))
 part-grows r None o x h =
     rw (h, (no-strays o).0) (elim (cases_Bool (is_answer_to r x)) [
       | inl e ↦ rw e refl
       | inr e ↦ elim (cases_Bool (is_pending_reply_to r x)) [
         | inl q ↦ rw (e, q) refl
-        | inr q ↦ rw (e, q) (ap (λ l. exchange r None ∷ l) (strays-snoc o x))
+        | inr q ↦ rw (e, q) (ap (λ l. exchange r None ∷ l) (stray_of-append o x))
       ]
     ])
 
@@ -126,24 +129,25 @@ parts-join p [] x =
       | inl e ↦ rw e (ap (λ l. exchange p.request (answer p.request p.behind) ∷ (l ++ exchange x.1 None ∷ [])) (sym (append-nil (map stray_of (strays_in p.request p.behind)))))
       | inr e ↦
           (let grows_by : items_of (part p.request (p.behind ++ x ∷ [])) ≡ joined (items_of p) x =
-          rw (answer-snoc p.request p.behind x, others-snoc p.request p.behind x) (part-grows p.request (answer p.request p.behind) (strays_in p.request p.behind) x e) in
+          rw (answer-append p.request p.behind x, strays_in-append p.request p.behind x) (part-grows p.request (answer p.request p.behind) (strays_in p.request p.behind) x e) in
           ap (λ b. flat_map items_of (cond b (p ∷ part x.1 [] ∷ []) (part p.request (p.behind ++ x ∷ []) ∷ []))) e
           ∙ one-part (part p.request (p.behind ++ x ∷ [])) ∙ grows_by ∙ ap (λ l. joined l x) (sym (one-part p)))
     ]
 parts-join p (q ∷ ps) x =
     ap (λ l. items_of p ++ l) (parts-join q ps x) ∙ sym (joined-behind (items_of p) (flat_map items_of (q ∷ ps)) x (has-items q ps))
 
-meaning-join-by : (b : List Message) (ps : List Part) (x : Message)
+meaning-append-by : (b : List Message) (ps : List Part) (x : Message)
     → map stray_of (fronted b ps x) ++ flat_map items_of (grown ps x) ≡ joined (map stray_of b ++ flat_map items_of ps) x
-meaning-join-by b [] x =
+meaning-append-by b [] x =
     elim (cases_Bool (is_tester_request x)) [
       | inl e ↦ rw e (ap (λ l. l ++ exchange x.1 None ∷ []) (sym (append-nil (map stray_of b))))
       | inr e ↦
           (let plain : map stray_of b ++ stray_of x ∷ [] ≡ joined_by (waiting (map stray_of b)) (map stray_of b) x = rw (no-strays b).1 refl in
-          rw e (append-nil _ ∙ strays-snoc b x ∙ plain ∙ ap (λ l. joined_by (waiting l) l x) (sym (append-nil (map stray_of b)))))
+          rw e (append-nil _ ∙ stray_of-append b x ∙ plain ∙ ap (λ l. joined_by (waiting l) l x) (sym (append-nil (map stray_of b)))))
     ]
-meaning-join-by b (p ∷ ps) x =
+meaning-append-by b (p ∷ ps) x =
     ap (λ l. map stray_of b ++ l) (parts-join p ps x) ∙ sym (joined-behind (map stray_of b) (flat_map items_of (p ∷ ps)) x (has-items p ps))
 
-pub meaning-join : (M : List Message) (x : Message) → meaning (M ++ x ∷ []) ≡ joined (meaning M) x
-meaning-join M x = rw ((grows M x).0, (grows M x).1) (meaning-join-by (before_requests M) (parts M) x)
+-- the meaning of a longer list
+pub meaning-append : (M : List Message) (x : Message) → meaning (M ++ x ∷ []) ≡ joined (meaning M) x
+meaning-append M x = rw ((grows M x).0, (grows M x).1) (meaning-append-by (before_requests M) (parts M) x)

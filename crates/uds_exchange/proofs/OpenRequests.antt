@@ -10,9 +10,10 @@ use Rattle.uds_exchange.specs.Pairing.{waiting, joined_by, joined}
 use Rattle.uds_exchange.proofs.Bools.{neither, any-append}
 use Rattle.uds_exchange.proofs.Variants.{some_same, some_none}
 use Rattle.uds_exchange.proofs.Waiting.{waiting-stray, waiting-request, waiting-answered}
-use Rattle.uds_exchange.proofs.OneMore.{meaning-join}
+use Rattle.uds_exchange.proofs.OneMore.{meaning-append}
 use Rattle.uds_exchange.proofs.Replies.{from-tester, request-bytes}
 
+-- the exchange that waits still does behind a message that is neither request nor answer
 still-waits : (its : List ItemValue) (w : ℕ × List ℕ) (x : Message) → waiting its ≡ Some w → is_tester_request x ≡ false → is_answer_to w.1 x ≡ false → waiting (joined its x) ≡ Some w
 still-waits its w x h r a =
     elim (cases_Bool (is_pending_reply_to w.1 x)) [
@@ -26,18 +27,19 @@ waits-over past (x ∷ xs) w h r a =
     let r' = neither (is_tester_request x) (list_any is_tester_request xs) r in
     let a' = neither (is_answer_to w.1 x) (list_any (is_answer_to w.1) xs) a in
     rw (← append_assoc past (x ∷ []) xs)
-    (waits-over (past ++ x ∷ []) xs w (ap waiting (meaning-join past x) ∙ still-waits (meaning past) w x h r'.0 a'.0) r'.1 a'.1)
+    (waits-over (past ++ x ∷ []) xs w (ap waiting (meaning-append past x) ∙ still-waits (meaning past) w x h r'.0 a'.0) r'.1 a'.1)
 
 -- the exchange of the open request waits
 pub waits-open : (past : List Message) (r : List ℕ) → IsOpenBehind past r → (k : ℕ) × (waiting (meaning past) ≡ Some (k, r))
 waits-open past r o =
     let first : waiting (joined (meaning o.earlier) (Tester, r)) ≡ Some (length (meaning o.earlier), r) = rw o.is_one (waiting-request (meaning o.earlier) r) in
-    let whole = waits-over (o.earlier ++ (Tester, r) ∷ []) o.since (length (meaning o.earlier), r) (ap waiting (meaning-join o.earlier (Tester, r)) ∙ first) o.is_last o.is_unanswered in
+    let whole = waits-over (o.earlier ++ (Tester, r) ∷ []) o.since (length (meaning o.earlier), r) (ap waiting (meaning-append o.earlier (Tester, r)) ∙ first) o.is_last o.is_unanswered in
     (length (meaning o.earlier), ap (λ l. waiting (meaning l)) (o.place ∙ sym (append_assoc o.earlier ((Tester, r) ∷ []) o.since)) ∙ whole)
 
 pub same-open : (past : List Message) (r : List ℕ) (w : ℕ × List ℕ) → IsOpenBehind past r → waiting (meaning past) ≡ Some w → r ≡ w.1
 same-open past r w o h = let found = waits-open past r o in ap (λ v. v.1) (some_same (sym found.1 ∙ h))
 
+-- the open request is still open behind such a message
 open-more : (past : List Message) (r : List ℕ) (x : Message) → IsOpenBehind past r → is_tester_request x ≡ false → is_answer_to r x ≡ false → IsOpenBehind (past ++ x ∷ []) r
 open-more past r x o h a = record {
   earlier = o.earlier;
@@ -77,7 +79,7 @@ opens-by past x (Some v) s r h w e =
 
 opens-join : (past : List Message) (x : Message) → Opens past → Opens (past ++ x ∷ [])
 opens-join past x s = λ w e.
-    let e' : waiting (joined (meaning past) x) ≡ Some w = ap waiting (sym (meaning-join past x)) ∙ e in
+    let e' : waiting (joined (meaning past) x) ≡ Some w = ap waiting (sym (meaning-append past x)) ∙ e in
     elim (cases_Bool (is_tester_request x)) [
       | inl r ↦
           (let same : (length (meaning past), x.1) ≡ w = some_same (sym (waiting-request (meaning past) x.1) ∙ rw r at e') in

@@ -3,18 +3,17 @@ use Rattle.std.specs.Prelude.{⊤}
 use Rattle.std.proofs.Common.{◌≡◌, ℕ, true, false, List, [], ◌∷◌, ◌++◌, map, Option, Some, None, refl, ◌∙◌, ap, inl, inr}
 use Rattle.std.specs.Prelude.{slice_set}
 use Rattle.std.specs.List.{flat_map, list_any}
-use Rattle.std.proofs.lemmas.Grind.{flat_map-append}
 use Rattle.std.proofs.lemmas.Bool.{cases_Bool}
 use Rattle.can_log.specs.declared.frame.Dir.TheVariants.{Tester, Unit}
 use Rattle.uds_message.specs.Message.{is_request}
-use Rattle.uds_exchange.specs.Meaning.{Message, is_tester_request, is_answer_to, is_pending_reply_to, before_requests, Part, parts, strays_in, ItemValue, exchange, stray, stray_of, items_of, meaning, messages_of, flattened}
+use Rattle.uds_exchange.specs.Meaning.{Message, is_tester_request, is_answer_to, is_pending_reply_to, before_requests, Part, parts, strays_in, ItemValue, exchange, stray, stray_of, items_of, meaning, flattened}
 use Rattle.uds_exchange.specs.Roles.{behind_last_request, placed}
 use Rattle.uds_exchange.specs.Order.{has_exchange}
 use Rattle.uds_exchange.specs.Pairing.{waiting, joined_by}
 use Rattle.uds_exchange.proofs.Variants.{some_same}
 use Rattle.uds_exchange.proofs.Waiting.{one_later-some}
-use Rattle.uds_exchange.proofs.OneMore.{meaning-join}
-use Rattle.uds_exchange.proofs.Again.{Quiet, quiet-before, quiet-others, Good, good-parts}
+use Rattle.uds_exchange.proofs.OneMore.{meaning-append}
+use Rattle.uds_exchange.proofs.Again.{flattened-push, Quiet, quiet-before_requests, quiet-strays_in, Good, good-parts}
 use Rattle.uds_exchange.proofs.Replies.{from-tester, from-unit}
 use Rattle.uds_exchange.proofs.RolesFound.{role_by, role_behind}
 
@@ -36,11 +35,11 @@ sound-append (stray d m ∷ its) more h k = (h.0, sound-append its more h.1 k)
 sound-parts : (ps : List Part) → Good ps → Sound (flat_map items_of ps)
 sound-parts [] h = tt
 sound-parts (p ∷ ps) h =
-    (h.0, sound-append (map stray_of (strays_in p.request p.behind)) (flat_map items_of ps) (sound-strays (strays_in p.request p.behind) (quiet-others p.request p.behind h.1)) (sound-parts ps h.2))
+    (h.0, sound-append (map stray_of (strays_in p.request p.behind)) (flat_map items_of ps) (sound-strays (strays_in p.request p.behind) (quiet-strays_in p.request p.behind h.1)) (sound-parts ps h.2))
 
 sound-meaning : (M : List Message) → Sound (meaning M)
 sound-meaning M =
-    sound-append (map stray_of (before_requests M)) (flat_map items_of (parts M)) (sound-strays (before_requests M) (quiet-before M)) (sound-parts (parts M) (good-parts M))
+    sound-append (map stray_of (before_requests M)) (flat_map items_of (parts M)) (sound-strays (before_requests M) (quiet-before_requests M)) (sound-parts (parts M) (good-parts M))
 
 -- a list with an exchange has a request among its messages, and one without has none
 any-request : (its : List ItemValue) → Sound its → list_any is_tester_request (flattened its) ≡ has_exchange its
@@ -78,23 +77,20 @@ placed-answer (exchange q None ∷ its) w a s h =
           rw (← same, none, s.0) refl)
     ]
 
-placed-more : (its : List ItemValue) (it : ItemValue) (x : Message) → messages_of it ≡ x ∷ [] → flattened (its ++ it ∷ []) ≡ flattened its ++ x ∷ []
-placed-more its it x h = flat_map-append messages_of its (it ∷ []) ∙ ap (λ l. flattened its ++ (l ++ [])) h
-
 placed-by : (its : List ItemValue) (x : Message) (o : Option (ℕ × List ℕ)) → Sound its → waiting its ≡ o → flattened (joined_by o its x) ≡ placed (role_by o x) (flattened its) x
-placed-by its x None s h = placed-more its (stray_of x) x refl
+placed-by its x None s h = flattened-push its (stray_of x) x refl
 placed-by its x (Some w) s h =
     elim (cases_Bool (is_answer_to w.1 x)) [
       | inl e ↦ rw e (placed-answer its w x.1 s h ∙ ap (behind_last_request (flattened its)) (from-unit w.1 x e))
       | inr e ↦ elim (cases_Bool (is_pending_reply_to w.1 x)) [
         | inl q ↦ rw (e, q) refl
-        | inr q ↦ rw (e, q) (placed-more its (stray_of x) x refl)
+        | inr q ↦ rw (e, q) (flattened-push its (stray_of x) x refl)
       ]
     ]
 
-pub placed-join : (M : List Message) (x : Message) → flattened (meaning (M ++ x ∷ [])) ≡ placed (role_behind M x) (flattened (meaning M)) x
-placed-join M x =
-    ap flattened (meaning-join M x) ∙ elim (cases_Bool (is_tester_request x)) [
-      | inl e ↦ rw e (placed-more (meaning M) (exchange x.1 None) x (ap (λ y. y ∷ []) (from-tester x e)))
+pub flattened-meaning-append : (M : List Message) (x : Message) → flattened (meaning (M ++ x ∷ [])) ≡ placed (role_behind M x) (flattened (meaning M)) x
+flattened-meaning-append M x =
+    ap flattened (meaning-append M x) ∙ elim (cases_Bool (is_tester_request x)) [
+      | inl e ↦ rw e (flattened-push (meaning M) (exchange x.1 None) x (ap (λ y. y ∷ []) (from-tester x e)))
       | inr e ↦ rw e (placed-by (meaning M) x (waiting (meaning M)) (sound-meaning M) refl)
     ]

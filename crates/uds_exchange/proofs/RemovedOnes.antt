@@ -44,14 +44,14 @@ abbrev more_removed : Option (List ℕ) → Message → List Message
 more_removed None x = []
 more_removed (Some r) x = cond (is_answer_to r x) [] (cond (is_pending_reply_to r x) (x ∷ []) [])
 
-removed-snoc : (r : List ℕ) (xs : List Message) (x : Message) → removed r (xs ++ x ∷ []) ≡ removed r xs ++ more_removed (open_if (answer r xs) r) x
-removed-snoc r [] x = refl
-removed-snoc r (y ∷ ys) x =
+removed-append : (r : List ℕ) (xs : List Message) (x : Message) → removed r (xs ++ x ∷ []) ≡ removed r xs ++ more_removed (open_if (answer r xs) r) x
+removed-append r [] x = refl
+removed-append r (y ∷ ys) x =
     elim (cases_Bool (is_answer_to r y)) [
       | inl e ↦ rw e refl
       | inr e ↦ elim (cases_Bool (is_pending_reply_to r y)) [
-        | inl q ↦ rw (e, q) (ap (λ l. y ∷ l) (removed-snoc r ys x))
-        | inr q ↦ rw (e, q) (removed-snoc r ys x)
+        | inl q ↦ rw (e, q) (ap (λ l. y ∷ l) (removed-append r ys x))
+        | inr q ↦ rw (e, q) (removed-append r ys x)
       ]
     ]
 
@@ -62,7 +62,7 @@ grown-request (p ∷ q ∷ ps) x e = ap (λ l. removed_of p ++ l) (grown-request
 
 grown-other : (ps : List Part) (x : Message) → is_tester_request x ≡ false → flat_map removed_of (grown ps x) ≡ flat_map removed_of ps ++ more_removed (open_in ps) x
 grown-other [] x e = rw e refl
-grown-other (p ∷ []) x e = rw e (append-nil _ ∙ removed-snoc p.request p.behind x ∙ ap (λ l. l ++ more_removed (open_in (p ∷ [])) x) (sym (append-nil (removed_of p))))
+grown-other (p ∷ []) x e = rw e (append-nil _ ∙ removed-append p.request p.behind x ∙ ap (λ l. l ++ more_removed (open_in (p ∷ [])) x) (sym (append-nil (removed_of p))))
 grown-other (p ∷ q ∷ ps) x e = ap (λ l. removed_of p ++ l) (grown-other (q ∷ ps) x e) ∙ sym (append_assoc (removed_of p) _ _)
 
 more-by-role : (o : Option (ℕ × List ℕ)) (x : Message) → more_removed (request_of o) x ≡ those_removed (x ∷ []) (role_by o x ∷ [])
@@ -73,8 +73,8 @@ more-by-role (Some w) x =
       | inr e ↦ elim (cases_Bool (is_pending_reply_to w.1 x)) [ inl q ↦ rw (e, q) refl | inr q ↦ rw (e, q) refl ]
     ]
 
-pub removed-join : (M : List Message) (x : Message) → removed_messages (M ++ x ∷ []) ≡ removed_messages M ++ those_removed (x ∷ []) (role_behind M x ∷ [])
-removed-join M x =
+pub removed_messages-append : (M : List Message) (x : Message) → removed_messages (M ++ x ∷ []) ≡ removed_messages M ++ those_removed (x ∷ []) (role_behind M x ∷ [])
+removed_messages-append M x =
     ap (flat_map removed_of) (grows M x).1 ∙ elim (cases_Bool (is_tester_request x)) [
       | inl e ↦ rw e (grown-request (parts M) x e ∙ sym (append-nil (removed_messages M)))
       | inr e ↦ rw e (grown-other (parts M) x e ∙ ap (λ o. removed_messages M ++ more_removed o x) (sym (meaning-waits-by (before_requests M) (parts M)))

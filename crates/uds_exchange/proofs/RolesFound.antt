@@ -8,6 +8,7 @@ use Rattle.uds_exchange.proofs.Variants.{some_none}
 use Rattle.uds_exchange.proofs.OpenRequests.{opens, waits-open, same-open}
 use Rattle.uds_exchange.proofs.Replies.{pending-not-answer, answer-not-request, pending-not-request}
 
+-- the role of a message, by the exchange that waits before it
 abbrev pub role_by : Option (ℕ × List ℕ) → Message → Role
 role_by None x = as_stray
 role_by (Some w) x = cond (is_answer_to w.1 x) as_answer (cond (is_pending_reply_to w.1 x) as_removed as_stray)

@@ -19,6 +19,7 @@ has-last [] r a = refl
 has-last (exchange q b ∷ its) r a = refl
 has-last (stray d m ∷ its) r a = has-last its r a
 
+-- the exchange that waits is the same behind one more stray, and a new request waits
 pub waiting-stray : (its : List ItemValue) (d : Dir) (m : List ℕ) → waiting (its ++ stray d m ∷ []) ≡ waiting its
 waiting-stray [] d m = refl
 waiting-stray (stray e n ∷ its) d m = ap one_later (waiting-stray its d m)
@@ -35,6 +36,7 @@ pub one_later-some : (o : Option (ℕ × List ℕ)) (w : ℕ × List ℕ) → on
 one_later-some None w h = cc
 one_later-some (Some v) w h = (v, refl, some_same (sym h))
 
+-- at its place stands an exchange without answer
 pub waiting-at : (its : List ItemValue) (w : ℕ × List ℕ) → waiting its ≡ Some w → slice_get its w.0 ≡ Some (exchange w.1 None)
 waiting-at [] w h = cc
 waiting-at (stray e n ∷ its) w h = let v = one_later-some (waiting its) w h in rw v.2 (waiting-at its v.0 v.1)
@@ -57,6 +59,7 @@ has-set (stray d m ∷ its) zero r a b h = cc
 has-set (exchange q c ∷ its) (suc i) r a b h = refl
 has-set (stray d m ∷ its) (suc i) r a b h = has-set its i r a b h
 
+-- once it has its answer nothing waits
 pub waiting-answered : (its : List ItemValue) (w : ℕ × List ℕ) (a : List ℕ) → waiting its ≡ Some w → waiting (slice_set its w.0 (exchange w.1 (Some a))) ≡ None
 waiting-answered [] w a h = cc
 waiting-answered (stray e n ∷ its) w a h = let v = one_later-some (waiting its) w h in rw v.2 (ap one_later (waiting-answered its v.0 a v.1))

@@ -16,7 +16,7 @@ use std::alloc::Global;
 use std::marker::Model;
 
 /// Why an orderer did not take a message.
-#[derive(Clone, Copy, Debug, PartialEq, Eq)]
+#[derive(Debug, Drop, PartialEq, Eq)]
 pub enum OrderFault<E> {
     /// Memory was refused. Nothing was put, and the orderer is unchanged: the call may be made again.
     Memory,
@@ -57,7 +57,7 @@ impl Orderer {
         }
     }
 
-    /// The sum of the lengths of the messages that are held.
+    /// The sum of the lengths of the messages that are held; 0 where no request is open.
     pub fn held(&self) -> u64
         ensures { result ≡ sum_by (λ x. length x.1) self.now.holds }
     {
