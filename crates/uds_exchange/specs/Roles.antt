@@ -14,6 +14,7 @@ pub record IsOpenBehind (past : List Message) (request : List ℕ) : Type 0 wher
   pub is_last : list_any is_tester_request since ≡ false
   pub is_unanswered : list_any (is_answer_to request) since ≡ false
 
+-- what a message is to its list: a request, the answer to one, a pending reply that is left out, or none of these
 pub data Role : Type 0 where
   as_request : Role
   as_answer : Role
