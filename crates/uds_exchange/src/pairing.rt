@@ -71,19 +71,21 @@ impl Pairing {
                 })?;
                 self.open_sid = Some(sid);
                 self.last = last;
+                Ok(())
             }
             Role::Answer => {
                 let answer = copy(self.alloc, message)?;
                 set_answer(&mut self.items, self.last, answer);
                 self.open_sid = None;
+                Ok(())
             }
-            Role::Removed => {}
+            Role::Removed => Ok(()),
             Role::Stray => {
                 let bytes = copy(self.alloc, message)?;
                 self.items.push(Item::Stray { dir, bytes })?;
+                Ok(())
             }
         }
-        Ok(())
     }
 
     /// The meaning of the messages that were taken. It takes no memory.

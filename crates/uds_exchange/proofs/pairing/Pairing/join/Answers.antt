@@ -53,8 +53,8 @@ returns-in_ok-answer-in-Answer-clause-ok c =
     ∙ ap (λ m. slice_set its last (exchange w.0.1 (Some m))) c.in_ok-answer-in-Answer.ensures
     ∙ joins-answer its c.args.self.now c.self.view_is c.self.inside.open_sid last c.self.invariant x c.in-Answer.ensures
 
-pub invariant_of-self-in-Continue-branch-5 : goal.invariant_of-self-in-Continue-branch-5
-invariant_of-self-in-Continue-branch-5 c =
+pub invariant_of-self-in-Stray : goal.invariant_of-self-in-Stray
+invariant_of-self-in-Stray c =
     let its = item_values c.self.inside.items.items in
     let bytes = c.in_ok-bytes-in-Stray.bytes in
     let pushed = item_values-push c.self.inside.items.items c.push-in-Stray.new.self.items (item.Stray c.args.dir bytes) c.in_ok-push-in-Stray.ensures.items in
