@@ -104,7 +104,7 @@ fn copy(alloc: Global, bytes: &[u8]) -> Result<Vec<u8>, AllocError>
     Ok(v)
 }
 
-/// Gives the exchange at this place its answer.
+/// Gives the exchange at this place its answer. It has none before.
 fn set_answer(items: &mut Vec<Item>, at: usize, bytes: Vec<u8>)
     requires { at < length items.old.items }
     ensures { (request : List ℕ) → slice_get (item_values items.old.items) at ≡ Some (exchange request None)
@@ -118,10 +118,7 @@ fn answer_with(item: &mut Item, bytes: Vec<u8>)
     ensures { (request : List ℕ) → item_value item.old ≡ exchange request None
         → item_value item.new ≡ exchange request (Some bytes.items) }
 {
-    match item {
-        Item::Exchange { request: _, answer } => {
-            *answer = Some(bytes);
-        }
-        Item::Stray { dir: _, bytes: _ } => {}
+    if let Item::Exchange { answer, .. } = item {
+        *answer = Some(bytes);
     }
 }
