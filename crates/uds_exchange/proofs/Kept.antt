@@ -1,0 +1,133 @@
+-- What the code keeps of a meaning, and what it makes of one more message.
+use Rattle.std.proofs.Common.{◌≡◌, ℕ, ◌<◌, not, ◌&&◌, List, [], ◌∷◌, ◌++◌, length, get_or, Option, Some, None, refl, sym, ◌∙◌, ap, arith, inl, inr, option_map}
+use Rattle.std.specs.Prelude.{slice_get, slice_set}
+use Rattle.std.proofs.lemmas.Option.{slice_get_read, slice_get_within, slice_get-map}
+use Rattle.std.proofs.lemmas.List.{map-append}
+use Rattle.std.proofs.lemmas.Bool.{cases_Bool}
+use Rattle.uds_message.specs.Message.{sid, is_final_for, is_pending_for}
+use Rattle.uds_exchange.specs.declared.item.Item.{Item}
+use Rattle.uds_exchange.specs.declared.roles.Role.{Role}
+use Rattle.uds_exchange.specs.declared.roles.Role.TheVariants as role
+use Rattle.uds_exchange.specs.Meaning.{Message, ItemValue, exchange, stray_of, is_from_tester, is_tester_request, is_answer_to, is_pending_reply_to}
+use Rattle.uds_exchange.specs.Pairing.{item_value, item_values, waiting, waiting_sid, IsOpenAt, role_if_open, role_at, joined_by, joined}
+use Rattle.uds_exchange.proofs.Variants.{some_same, some_none}
+use Rattle.uds_exchange.proofs.Waiting.{sid_of, waiting-stray, waiting-request, waiting-at, waiting-answered}
+
+pub item-at : (xs : List Item) (i : ℕ) (x : Item) → x ≡ get_or xs i x → i < length xs → slice_get (item_values xs) i ≡ Some (item_value x)
+item-at xs i x e h = slice_get-map item_value xs i ∙ ap (option_map item_value) (slice_get_read xs (length xs) i x refl h e)
+
+pub value-at : (xs : List Item) (i : ℕ) (x : Item) (y : ItemValue) → x ≡ get_or xs i x → i < length xs → slice_get (item_values xs) i ≡ Some y → item_value x ≡ y
+value-at xs i x y e h g = some_same (sym (item-at xs i x e h) ∙ g)
+
+pub item_values-push : (xs ys : List Item) (y : Item) → ys ≡ xs ++ y ∷ [] → item_values ys ≡ item_values xs ++ item_value y ∷ []
+item_values-push xs ys y h = ap item_values h ∙ map-append item_value xs (y ∷ [])
+
+pub length-item_values : (xs : List Item) → length (item_values xs) ≡ length xs
+length-item_values [] = omega arith
+length-item_values (x ∷ xs) = omega (arith, length-item_values xs)
+
+-- the items after a message that has this role
+pub after : Role → List ItemValue → Option (ℕ × List ℕ) → Message → List ItemValue
+after (role.Request s) its w x = its ++ exchange x.1 None ∷ []
+after role.Answer its (Some w) x = slice_set its w.0 (exchange w.1 (Some x.1))
+after role.Answer its None x = its
+after role.Removed its w x = its
+after role.Stray its w x = its ++ stray_of x ∷ []
+
+joined_by-role : (its : List ItemValue) (w : Option (ℕ × List ℕ)) (x : Message) → joined_by w its x ≡ after (role_if_open (sid_of w) x) its w x
+unfolding after
+joined_by-role its None x = refl
+joined_by-role its (Some w) x =
+    elim (cases_Bool (is_answer_to w.1 x)) [
+      | inl e ↦ rw e refl
+      | inr e ↦ elim (cases_Bool (is_pending_reply_to w.1 x)) [ inl q ↦ rw (e, q) refl | inr q ↦ rw (e, q) refl ]
+    ]
+
+joined-role : (its : List ItemValue) (x : Message) → joined its x ≡ after (role_at (waiting_sid its) x) its (waiting its) x
+unfolding after
+joined-role its x =
+    elim (cases_Bool (is_tester_request x)) [ inl e ↦ rw e refl | inr e ↦ rw e (joined_by-role its (waiting its) x) ]
+
+not-request : (s : ℕ) (o : Option ℕ) (x : Message) → role.Request s ≡ role_if_open o x → ⊥
+not-request s None x h = cc
+not-request s (Some w) x h =
+    elim (cases_Bool (not (is_from_tester x.0) && is_final_for w x.1)) [
+      | inl e ↦ (let no : role.Request s ≡ role.Answer = rw e at h in cc)
+      | inr e ↦ elim (cases_Bool (not (is_from_tester x.0) && is_pending_for w x.1)) [
+        | inl q ↦ (let no : role.Request s ≡ role.Removed = rw (e, q) at h in cc)
+        | inr q ↦ (let no : role.Request s ≡ role.Stray = rw (e, q) at h in cc)
+      ]
+    ]
+
+-- an answer needs a request that waits
+answer-waits : (w : Option (ℕ × List ℕ)) (x : Message) → role.Answer ≡ role_at (sid_of w) x → (v : ℕ × List ℕ) × (w ≡ Some v)
+answer-waits (Some v) x h = (v, refl)
+answer-waits None x h =
+    elim (cases_Bool (is_tester_request x)) [
+      | inl e ↦ absurd (let no : role.Answer ≡ role.Request (sid x.1) = rw e at h in cc)
+      | inr e ↦ absurd (let no : role.Answer ≡ role.Stray = rw e at h in cc)
+    ]
+
+module _ (its now : List ItemValue) (is : its ≡ now) (open_sid : Option ℕ) (last : ℕ) (kept : IsOpenAt its open_sid last) (x : Message) where
+  joins : (r : Role) → r ≡ role_at open_sid x → joined now x ≡ after r its (waiting its) x
+  joins r h = ap (λ l. joined l x) (sym is) ∙ joined-role its x ∙ ap (λ o. after (role_at o x) its (waiting its) x) kept.first_byte ∙ ap (λ r. after r its (waiting its) x) (sym h)
+
+  pub joins-request : (s : ℕ) → role.Request s ≡ role_at open_sid x → its ++ exchange x.1 None ∷ [] ≡ joined now x
+  unfolding after
+  joins-request s h = sym (joins (role.Request s) h)
+
+  -- a request's first byte is what the code keeps of it
+  pub request-sid : (s : ℕ) → role.Request s ≡ role_at open_sid x → s ≡ sid x.1
+  request-sid s h =
+      elim (cases_Bool (is_tester_request x)) [
+        | inl e ↦ (let same : role.Request s ≡ role.Request (sid x.1) = rw e at h in cc)
+        | inr e ↦ absurd (not-request s open_sid x (rw e at h))
+      ]
+
+  pub joins-removed : role.Removed ≡ role_at open_sid x → its ≡ joined now x
+  unfolding after
+  joins-removed h = sym (joins role.Removed h)
+
+  pub joins-stray : role.Stray ≡ role_at open_sid x → its ++ stray_of x ∷ [] ≡ joined now x
+  unfolding after
+  joins-stray h = sym (joins role.Stray h)
+
+  pub answered-at : role.Answer ≡ role_at open_sid x → (w : ℕ × List ℕ) × (waiting its ≡ Some w)
+  answered-at h = answer-waits (waiting its) x (h ∙ ap (λ o. role_at o x) (sym kept.first_byte))
+
+  pub answered-below : role.Answer ≡ role_at open_sid x → last < length its
+  answered-below h =
+      let w = answered-at h in
+      omega (arith, kept.place w.0 w.1, slice_get_within its w.0.0 (exchange w.0.1 None) (waiting-at its w.0 w.1))
+
+  -- the place holds the exchange that waits
+  pub answered-exchange : (h : role.Answer ≡ role_at open_sid x) → slice_get its last ≡ Some (exchange (answered-at h).0.1 None)
+  unfolding answered-at
+  answered-exchange h =
+      let w = answered-at h in
+      ap (slice_get its) (sym (kept.place w.0 w.1)) ∙ waiting-at its w.0 w.1
+
+  pub joins-answer : (h : role.Answer ≡ role_at open_sid x) → slice_set its last (exchange (answered-at h).0.1 (Some x.1)) ≡ joined now x
+  unfolding after answered-at
+  joins-answer h =
+      let w = answered-at h in
+      ap (λ i. slice_set its i (exchange w.0.1 (Some x.1))) (sym (kept.place w.0 w.1)) ∙ sym (joins role.Answer h ∙ ap (λ o. after role.Answer its o x) w.1)
+
+-- what is kept of the longer list
+pub kept-request : (its : List ItemValue) (request : List ℕ) (last : ℕ) → last ≡ length its → IsOpenAt (its ++ exchange request None ∷ []) (Some (sid request)) last
+kept-request its request last h = record {
+  first_byte = ap sid_of (waiting-request its request);
+  place = λ w e. ap (λ v. v.0) (some_same (sym e ∙ waiting-request its request)) ∙ sym h;
+}
+
+pub kept-stray : (its : List ItemValue) (open_sid : Option ℕ) (last : ℕ) (x : Message) → IsOpenAt its open_sid last → IsOpenAt (its ++ stray_of x ∷ []) open_sid last
+kept-stray its open_sid last x k = record {
+  first_byte = ap sid_of (waiting-stray its x.0 x.1) ∙ k.first_byte;
+  place = λ w e. k.place w (sym (waiting-stray its x.0 x.1) ∙ e);
+}
+
+pub kept-answer : (its : List ItemValue) (w : ℕ × List ℕ) (last : ℕ) (reply : List ℕ) → waiting its ≡ Some w → IsOpenAt (slice_set its w.0 (exchange w.1 (Some reply))) None last
+kept-answer its w last reply h = record {
+  first_byte = ap sid_of (waiting-answered its w reply h);
+  place = λ v e. absurd (some_none (sym e ∙ waiting-answered its w reply h));
+}

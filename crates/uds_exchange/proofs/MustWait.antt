@@ -1,0 +1,111 @@
+-- What is held must wait: the open request's answer would come before it.
+use Rattle.std.proofs.Common.{◌≡◌, ◌≢◌, ℕ, ◌+◌, true, false, ◌&&◌, List, [], ◌∷◌, ◌++◌, length, Option, Some, None, refl, sym, ◌∙◌, ap, subst, inl, inr, append_assoc, ◌==◌, ◌↔◌}
+use Rattle.std.specs.Prelude.{slice_set}
+use Rattle.std.specs.List.{list_any}
+use Rattle.std.proofs.lemmas.List.{append-nil}
+use Rattle.std.proofs.lemmas.Bool.{cases_Bool, false≢true}
+use Rattle.uds_message.specs.Message.{is_request, is_response_sid}
+use Rattle.uds_exchange.specs.Meaning.{Message, ItemValue, exchange, stray, is_tester_request, is_answer_to, is_pending_reply_to, meaning, flattened, removed_messages}
+use Rattle.uds_exchange.specs.Roles.{IsOpenBehind}
+use Rattle.uds_exchange.specs.Order.{has_exchange, open_request_in, open_request, held_in, held, early, rejection_of}
+use Rattle.uds_exchange.specs.Pairing.{waiting, joined_by, joined}
+use Rattle.uds_exchange.proofs.Counts.{none-lost}
+use Rattle.uds_exchange.proofs.Waiting.{request_of, same-request, waiting-stray, waiting-answered}
+use Rattle.uds_exchange.proofs.Bools.{or-true, same-number, any-append, any-first}
+use Rattle.uds_exchange.proofs.Variants.{some_same, some_none}
+use Rattle.uds_exchange.proofs.OneMore.{meaning-append}
+use Rattle.uds_exchange.proofs.OpenRequests.{opens, waits-open}
+use Rattle.uds_exchange.proofs.Early.{early_in, early-held, early-is, early-then-held, early-request, early-kept, early-answered, none-held}
+use Rattle.uds_exchange.proofs.Replies.{from-unit}
+
+-- the open request is that of the exchange which waits
+pub open-request-waits : (its : List ItemValue) → open_request_in its ≡ request_of (waiting its)
+open-request-waits [] = refl
+open-request-waits (stray d m ∷ its) = open-request-waits its ∙ same-request (waiting its)
+open-request-waits (exchange q (Some b) ∷ its) = open-request-waits its ∙ same-request (waiting its)
+open-request-waits (exchange q None ∷ its) =
+    elim (cases_Bool (has_exchange its)) [ inl e ↦ rw e (open-request-waits its ∙ same-request (waiting its)) | inr e ↦ rw e refl ]
+
+waits-by : (o : Option (ℕ × List ℕ)) (r : List ℕ) → request_of o ≡ Some r → (w : ℕ × List ℕ) × (o ≡ Some w) × (w.1 ≡ r)
+waits-by None r h = cc
+waits-by (Some w) r h = (w, refl, some_same h)
+
+pub open-request-behind : (M : List Message) (r : List ℕ) → (open_request M ≡ Some r) ↔ IsOpenBehind M r
+open-request-behind M r = (
+  λ h. let w = waits-by (waiting (meaning M)) r (sym (open-request-waits (meaning M)) ∙ h) in subst (IsOpenBehind M) w.2 (opens M w.0 w.1),
+  λ o. open-request-waits (meaning M) ∙ ap request_of (waits-open M r o).1,
+)
+
+pub nothing-held : (its : List ItemValue) → open_request_in its ≡ None → held_in its ≡ []
+nothing-held [] h = refl
+nothing-held (stray d m ∷ its) h = nothing-held its h
+nothing-held (exchange q (Some b) ∷ its) h = nothing-held its h
+nothing-held (exchange q None ∷ its) h =
+    elim (cases_Bool (has_exchange its)) [ inl e ↦ rw e (nothing-held its (rw e at h)) | inr e ↦ absurd (some_none (rw e at h)) ]
+
+-- no message that is held answers the request that waits
+abbrev NoAnswerHeld : List ItemValue → Type 0
+NoAnswerHeld its = (w : ℕ × List ℕ) → waiting its ≡ Some w → list_any (is_answer_to w.1) (held_in its) ≡ false
+
+no-answer-joins : (its : List ItemValue) (x : Message) (o : Option (ℕ × List ℕ)) → NoAnswerHeld its → waiting its ≡ o → NoAnswerHeld (joined_by o its x)
+no-answer-joins its x None s h = λ w k. absurd (some_none (sym k ∙ waiting-stray its x.0 x.1 ∙ h))
+no-answer-joins its x (Some v) s h =
+    elim (cases_Bool (is_answer_to v.1 x)) [
+      | inl e ↦ rw e (λ w k. absurd (some_none (sym k ∙ waiting-answered its v x.1 h)))
+      | inr e ↦ elim (cases_Bool (is_pending_reply_to v.1 x)) [
+        | inl q ↦ rw (e, q) s
+        | inr q ↦ rw (e, q) (λ w k.
+            let same : v ≡ w = some_same (sym h ∙ sym (waiting-stray its x.0 x.1) ∙ k) in
+            rw (← same, (early-kept its v x.0 x.1 h).1) (any-append (is_answer_to v.1) (held_in its) x (s v h) e))
+      ]
+    ]
+
+no-answer-join : (its : List ItemValue) (x : Message) → NoAnswerHeld its → NoAnswerHeld (joined its x)
+no-answer-join its x s =
+    elim (cases_Bool (is_tester_request x)) [
+      | inl e ↦ rw e (λ w k. rw (early-request its x.1).1 refl)
+      | inr e ↦ rw e (no-answer-joins its x (waiting its) s refl)
+    ]
+
+no-answer-over : (M N : List Message) → NoAnswerHeld (meaning M) → NoAnswerHeld (meaning (M ++ N))
+no-answer-over M [] s = rw append-nil s
+no-answer-over M (x ∷ N) s =
+    let one : NoAnswerHeld (meaning (M ++ x ∷ [])) = rw meaning-append (no-answer-join (meaning M) x s) in
+    rw (← append_assoc M (x ∷ []) N) (no-answer-over (M ++ x ∷ []) N one)
+
+no-answer-held : (M : List Message) → NoAnswerHeld (meaning M)
+no-answer-held M = no-answer-over [] M (λ w k. refl)
+
+-- the rejection is an answer
+rejects : (r : List ℕ) → is_request r ≡ true → is_answer_to r (rejection_of r) ≡ true
+rejects [] h = absurd (false≢true h)
+rejects (s ∷ bytes) h =
+    elim (cases_Bool (is_response_sid s)) [
+      | inl e ↦ absurd (false≢true (rw e at h))
+      | inr e ↦ rw (e, same-number s) (or-true (0x7F == s + 0x40 && false))
+    ]
+
+-- an answer goes before what is held
+answered : (its : List ItemValue) (w : ℕ × List ℕ) → waiting its ≡ Some w → (x : Message) → is_tester_request x ≡ false → is_answer_to w.1 x ≡ true → flattened (joined its x) ≡ early_in its ++ x ∷ held_in its
+answered its w h x r e =
+    let set = early-answered its w x.1 h in
+    rw (r, h, e) (sym (early-held (slice_set its w.0 (exchange w.1 (Some x.1)))) ∙ rw (set.0, set.1) (append-nil _ ∙ ap (λ y. early_in its ++ y ∷ held_in its) (from-unit w.1 x e)))
+
+pub answer-first : (M : List Message) (x : Message) (more : List Message) → held M ≡ x ∷ more
+    → (r : List ℕ) × IsOpenBehind M r × (flattened (meaning (M ++ rejection_of r ∷ [])) ≡ early M ++ rejection_of r ∷ held M) × (x ≢ rejection_of r)
+answer-first M x more h = answer-first-by (waiting (meaning M)) refl where
+  answer-first-by : (o : Option (ℕ × List ℕ)) → waiting (meaning M) ≡ o
+      → (r : List ℕ) × IsOpenBehind M r × (flattened (meaning (M ++ rejection_of r ∷ [])) ≡ early M ++ rejection_of r ∷ held M) × (x ≢ rejection_of r)
+  answer-first-by None k = cc (none-held (meaning M) k)
+  answer-first-by (Some w) k =
+      let o = opens M w k in
+      let yes = rejects w.1 o.is_one in
+      let none : list_any (is_answer_to w.1) (x ∷ more) ≡ false = ap (list_any (is_answer_to w.1)) (sym h) ∙ no-answer-held M w k in (
+        w.1,
+        o,
+        ap flattened (meaning-append M (rejection_of w.1)) ∙ answered (meaning M) w k (rejection_of w.1) refl yes ∙ ap (λ l. l ++ rejection_of w.1 ∷ held M) (sym (early-is M)),
+        λ e. false≢true (sym none ∙ any-first (is_answer_to w.1) x more (ap (is_answer_to w.1) e ∙ yes)),
+      )
+
+pub none-lost-in-order : (M : List Message) → length (early M ++ held M) + length (removed_messages M) ≡ length M
+none-lost-in-order M = rw early-then-held (none-lost M)

@@ -1,0 +1,96 @@
+-- The request that is open behind a list of messages is that of the exchange which waits in its meaning.
+use Rattle.std.proofs.Common.{◌≡◌, ℕ, true, false, List, [], ◌∷◌, ◌++◌, length, Option, Some, None, refl, sym, ◌∙◌, ap, subst, inl, inr, append_assoc}
+use Rattle.std.specs.List.{list_any}
+use Rattle.std.proofs.lemmas.List.{append-nil}
+use Rattle.std.proofs.lemmas.Bool.{cases_Bool}
+use Rattle.can_log.specs.declared.frame.Dir.TheVariants.{Tester}
+use Rattle.uds_exchange.specs.Meaning.{Message, ItemValue, is_tester_request, is_answer_to, is_pending_reply_to, meaning}
+use Rattle.uds_exchange.specs.Roles.{IsOpenBehind}
+use Rattle.uds_exchange.specs.Pairing.{waiting, joined_by, joined}
+use Rattle.uds_exchange.proofs.Bools.{neither, any-append}
+use Rattle.uds_exchange.proofs.Variants.{some_same, some_none}
+use Rattle.uds_exchange.proofs.Waiting.{waiting-stray, waiting-request, waiting-answered}
+use Rattle.uds_exchange.proofs.OneMore.{meaning-append}
+use Rattle.uds_exchange.proofs.Replies.{from-tester, request-bytes}
+
+-- the exchange that waits still does behind a message that is neither request nor answer
+still-waits : (its : List ItemValue) (w : ℕ × List ℕ) (x : Message) → waiting its ≡ Some w → is_tester_request x ≡ false → is_answer_to w.1 x ≡ false → waiting (joined its x) ≡ Some w
+still-waits its w x h r a =
+    elim (cases_Bool (is_pending_reply_to w.1 x)) [
+      | inl q ↦ rw (r, h, a, q) h
+      | inr q ↦ rw (r, h, a, q) (waiting-stray its x.0 x.1 ∙ h)
+    ]
+
+waits-over : (past since : List Message) (w : ℕ × List ℕ) → waiting (meaning past) ≡ Some w → list_any is_tester_request since ≡ false → list_any (is_answer_to w.1) since ≡ false → waiting (meaning (past ++ since)) ≡ Some w
+waits-over past [] w h r a = rw append-nil h
+waits-over past (x ∷ xs) w h r a =
+    let r' = neither (is_tester_request x) (list_any is_tester_request xs) r in
+    let a' = neither (is_answer_to w.1 x) (list_any (is_answer_to w.1) xs) a in
+    rw (← append_assoc past (x ∷ []) xs)
+    (waits-over (past ++ x ∷ []) xs w (ap waiting (meaning-append past x) ∙ still-waits (meaning past) w x h r'.0 a'.0) r'.1 a'.1)
+
+-- the exchange of the open request waits
+pub waits-open : (past : List Message) (r : List ℕ) → IsOpenBehind past r → (k : ℕ) × (waiting (meaning past) ≡ Some (k, r))
+waits-open past r o =
+    let first : waiting (joined (meaning o.earlier) (Tester, r)) ≡ Some (length (meaning o.earlier), r) = rw o.is_one (waiting-request (meaning o.earlier) r) in
+    let whole = waits-over (o.earlier ++ (Tester, r) ∷ []) o.since (length (meaning o.earlier), r) (ap waiting (meaning-append o.earlier (Tester, r)) ∙ first) o.is_last o.is_unanswered in
+    (length (meaning o.earlier), ap (λ l. waiting (meaning l)) (o.place ∙ sym (append_assoc o.earlier ((Tester, r) ∷ []) o.since)) ∙ whole)
+
+pub same-open : (past : List Message) (r : List ℕ) (w : ℕ × List ℕ) → IsOpenBehind past r → waiting (meaning past) ≡ Some w → r ≡ w.1
+same-open past r w o h = let found = waits-open past r o in ap (λ v. v.1) (some_same (sym found.1 ∙ h))
+
+-- the open request is still open behind such a message
+open-more : (past : List Message) (r : List ℕ) (x : Message) → IsOpenBehind past r → is_tester_request x ≡ false → is_answer_to r x ≡ false → IsOpenBehind (past ++ x ∷ []) r
+open-more past r x o h a = record {
+  earlier = o.earlier;
+  since = o.since ++ x ∷ [];
+  place = ap (λ l. l ++ x ∷ []) o.place ∙ append_assoc o.earlier ((Tester, r) ∷ o.since) (x ∷ []);
+  is_one = o.is_one;
+  is_last = any-append is_tester_request o.since x o.is_last h;
+  is_unanswered = any-append (is_answer_to r) o.since x o.is_unanswered a;
+}
+
+open-request : (past : List Message) (x : Message) → is_tester_request x ≡ true → IsOpenBehind (past ++ x ∷ []) x.1
+open-request past x e = record {
+  earlier = past;
+  since = [];
+  place = ap (λ y. past ++ y ∷ []) (sym (from-tester x e));
+  is_one = request-bytes x e;
+  is_last = refl;
+  is_unanswered = refl;
+}
+
+abbrev Opens : List Message → Type 0
+Opens past = (w : ℕ × List ℕ) → waiting (meaning past) ≡ Some w → IsOpenBehind past w.1
+
+opens-by : (past : List Message) (x : Message) (o : Option (ℕ × List ℕ)) → Opens past → is_tester_request x ≡ false → waiting (meaning past) ≡ o
+    → (w : ℕ × List ℕ) → waiting (joined_by o (meaning past) x) ≡ Some w → IsOpenBehind (past ++ x ∷ []) w.1
+opens-by past x None s r h w e = absurd (some_none (sym e ∙ waiting-stray (meaning past) x.0 x.1 ∙ h))
+opens-by past x (Some v) s r h w e =
+    elim (cases_Bool (is_answer_to v.1 x)) [
+      | inl a ↦ absurd (some_none (sym (rw a at e) ∙ waiting-answered (meaning past) v x.1 h))
+      | inr a ↦
+          (let more = open-more past v.1 x (s v h) r a in
+          elim (cases_Bool (is_pending_reply_to v.1 x)) [
+            | inl q ↦ subst (λ (y : ℕ × List ℕ). IsOpenBehind (past ++ x ∷ []) y.1) (some_same (sym h ∙ rw (a, q) at e)) more
+            | inr q ↦ subst (λ (y : ℕ × List ℕ). IsOpenBehind (past ++ x ∷ []) y.1) (some_same (sym h ∙ sym (waiting-stray (meaning past) x.0 x.1) ∙ rw (a, q) at e)) more
+          ])
+    ]
+
+opens-join : (past : List Message) (x : Message) → Opens past → Opens (past ++ x ∷ [])
+opens-join past x s = λ w e.
+    let e' : waiting (joined (meaning past) x) ≡ Some w = ap waiting (sym (meaning-append past x)) ∙ e in
+    elim (cases_Bool (is_tester_request x)) [
+      | inl r ↦
+          (let same : (length (meaning past), x.1) ≡ w = some_same (sym (waiting-request (meaning past) x.1) ∙ rw r at e') in
+          subst (λ (y : ℕ × List ℕ). IsOpenBehind (past ++ x ∷ []) y.1) same (open-request past x r))
+      | inr r ↦ opens-by past x (waiting (meaning past)) s r refl w (rw r at e')
+    ]
+
+opens-over : (past more : List Message) → Opens past → Opens (past ++ more)
+opens-over past [] s = rw append-nil s
+opens-over past (x ∷ xs) s = rw (← append_assoc past (x ∷ []) xs) (opens-over (past ++ x ∷ []) xs (opens-join past x s))
+
+-- the request of an exchange that waits is open
+pub opens : (past : List Message) (w : ℕ × List ℕ) → waiting (meaning past) ≡ Some w → IsOpenBehind past w.1
+opens past = opens-over [] past (λ w h. absurd (some_none (sym h)))

@@ -1,0 +1,5 @@
+use Rattle.uds_exchange.proofs.MustWait.{answer-first}
+use Rattle.uds_exchange.proofs.laws.held_must_wait.Goals as goal
+
+pub returns : goal.returns
+returns c = answer-first

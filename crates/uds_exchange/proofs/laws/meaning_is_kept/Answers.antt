@@ -1,0 +1,5 @@
+use Rattle.uds_exchange.proofs.Again.{meaning-flattened}
+use Rattle.uds_exchange.proofs.laws.meaning_is_kept.Goals as goal
+
+pub returns : goal.returns
+returns c = meaning-flattened

@@ -1,0 +1,5 @@
+use Rattle.uds_exchange.proofs.Counts.{none-lost}
+use Rattle.uds_exchange.proofs.laws.none_is_lost.Goals as goal
+
+pub returns : goal.returns
+returns c = none-lost

@@ -1,0 +1,5 @@
+use Rattle.uds_exchange.proofs.MustWait.{open-request-behind}
+use Rattle.uds_exchange.proofs.laws.open_request_is_last.Goals as goal
+
+pub returns : goal.returns
+returns c = open-request-behind

@@ -1,0 +1,70 @@
+use Rattle.std.proofs.Common.{◌≡◌, ◌++◌, ◌∷◌, [], sym, ◌∙◌, ap, subst, arith, Some, None, ℕ, List}
+use Rattle.std.specs.Prelude.{slice_set}
+use Rattle.uds_message.specs.Message.{sid}
+use Rattle.uds_exchange.specs.declared.item.Item.TheVariants as item
+use Rattle.uds_exchange.specs.Meaning.{Message, ItemValue, exchange, stray}
+use Rattle.uds_exchange.specs.Pairing.{item_values, IsOpenAt}
+use Rattle.uds_exchange.proofs.Kept.{item_values-push, length-item_values, joins-request, request-sid, joins-stray, joins-answer, answered-at, answered-below, answered-exchange, kept-request, kept-stray, kept-answer}
+use Rattle.uds_exchange.proofs.pairing.Pairing.join.Goals as goal
+
+pub set_answer-requires : goal.set_answer-requires
+set_answer-requires c =
+    let items = c.self.inside.items.items in
+    omega (arith, length-item_values items, answered-below (item_values items) c.args.self.now c.self.view_is c.self.inside.open_sid c.self.inside.last c.self.invariant (c.args.dir, c.args.message.now) c.in-Answer.ensures)
+
+pub invariant_of-self-in-Request : goal.invariant_of-self-in-Request
+invariant_of-self-in-Request c =
+    let its = item_values c.self.inside.items.items in
+    let x : Message = (c.args.dir, c.args.message.now) in
+    let request = c.in_ok-request-in-Request.request in
+    let pushed = item_values-push c.self.inside.items.items c.push.new.self.items (item.Exchange request None) c.in_ok-push-in-Request.ensures.items in
+    let first : sid request.items ≡ c.in-Request.sid =
+    ap sid c.in_ok-request-in-Request.ensures ∙ sym (request-sid its c.args.self.now c.self.view_is c.self.inside.open_sid c.self.inside.last c.self.invariant x c.in-Request.sid c.in-Request.ensures) in
+    subst (λ (l : List ItemValue). IsOpenAt l (Some c.in-Request.sid) c.len-last.result) (sym pushed)
+    (subst (λ (s : ℕ). IsOpenAt (its ++ exchange request.items None ∷ []) (Some s) c.len-last.result) first
+    (kept-request its request.items c.len-last.result (omega (arith, length-item_values c.self.inside.items.items))))
+
+pub returns-in_ok-push-in-Request-clause-ok : goal.returns-in_ok-push-in-Request-clause-ok
+returns-in_ok-push-in-Request-clause-ok c =
+    let its = item_values c.self.inside.items.items in
+    let request = c.in_ok-request-in-Request.request in
+    item_values-push c.self.inside.items.items c.push.new.self.items (item.Exchange request None) c.in_ok-push-in-Request.ensures.items
+    ∙ ap (λ m. its ++ exchange m None ∷ []) c.in_ok-request-in-Request.ensures
+    ∙ joins-request its c.args.self.now c.self.view_is c.self.inside.open_sid c.self.inside.last c.self.invariant (c.args.dir, c.args.message.now) c.in-Request.sid c.in-Request.ensures
+
+pub invariant_of-self-in-Answer : goal.invariant_of-self-in-Answer
+invariant_of-self-in-Answer c =
+    let its = item_values c.self.inside.items.items in
+    let last = c.self.inside.last in
+    let x : Message = (c.args.dir, c.args.message.now) in
+    let w = answered-at its c.args.self.now c.self.view_is c.self.inside.open_sid last c.self.invariant x c.in-Answer.ensures in
+    let reply = c.in_ok-answer-in-Answer.answer.items in
+    let set = c.set_answer.ensures w.0.1 (answered-exchange its c.args.self.now c.self.view_is c.self.inside.open_sid last c.self.invariant x c.in-Answer.ensures) in
+    subst (λ (l : List ItemValue). IsOpenAt l None last) (sym (set ∙ ap (λ i. slice_set its i (exchange w.0.1 (Some reply))) (sym (c.self.invariant.place w.0 w.1))))
+    (kept-answer its w.0 last reply w.1)
+
+pub returns-in_ok-answer-in-Answer-clause-ok : goal.returns-in_ok-answer-in-Answer-clause-ok
+returns-in_ok-answer-in-Answer-clause-ok c =
+    let its = item_values c.self.inside.items.items in
+    let last = c.self.inside.last in
+    let x : Message = (c.args.dir, c.args.message.now) in
+    let w = answered-at its c.args.self.now c.self.view_is c.self.inside.open_sid last c.self.invariant x c.in-Answer.ensures in
+    c.set_answer.ensures w.0.1 (answered-exchange its c.args.self.now c.self.view_is c.self.inside.open_sid last c.self.invariant x c.in-Answer.ensures)
+    ∙ ap (λ m. slice_set its last (exchange w.0.1 (Some m))) c.in_ok-answer-in-Answer.ensures
+    ∙ joins-answer its c.args.self.now c.self.view_is c.self.inside.open_sid last c.self.invariant x c.in-Answer.ensures
+
+pub invariant_of-self-in-Stray : goal.invariant_of-self-in-Stray
+invariant_of-self-in-Stray c =
+    let its = item_values c.self.inside.items.items in
+    let bytes = c.in_ok-bytes-in-Stray.bytes in
+    let pushed = item_values-push c.self.inside.items.items c.push-in-Stray.new.self.items (item.Stray c.args.dir bytes) c.in_ok-push-in-Stray.ensures.items in
+    subst (λ (l : List ItemValue). IsOpenAt l c.self.inside.open_sid c.self.inside.last) (sym pushed)
+    (kept-stray its c.self.inside.open_sid c.self.inside.last (c.args.dir, bytes.items) c.self.invariant)
+
+pub returns-in_ok-push-in-Stray-clause-ok : goal.returns-in_ok-push-in-Stray-clause-ok
+returns-in_ok-push-in-Stray-clause-ok c =
+    let its = item_values c.self.inside.items.items in
+    let bytes = c.in_ok-bytes-in-Stray.bytes in
+    item_values-push c.self.inside.items.items c.push-in-Stray.new.self.items (item.Stray c.args.dir bytes) c.in_ok-push-in-Stray.ensures.items
+    ∙ ap (λ m. its ++ stray c.args.dir m ∷ []) c.in_ok-bytes-in-Stray.ensures
+    ∙ joins-stray its c.args.self.now c.self.view_is c.self.inside.open_sid c.self.inside.last c.self.invariant (c.args.dir, c.args.message.now) c.in-Stray.ensures

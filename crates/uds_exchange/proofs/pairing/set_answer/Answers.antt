@@ -1,0 +1,12 @@
+use Rattle.std.proofs.Common.{◌∙◌, ap, None}
+use Rattle.std.specs.Prelude.{slice_set}
+use Rattle.std.proofs.lemmas.List.{map-set}
+use Rattle.uds_exchange.specs.Meaning.{exchange}
+use Rattle.uds_exchange.specs.Pairing.{item_value, item_values}
+use Rattle.uds_exchange.proofs.Kept.{value-at}
+use Rattle.uds_exchange.proofs.pairing.set_answer.Goals as goal
+
+pub returns : goal.returns
+returns c = λ request h.
+    map-set item_value c.args.items.now.items c.args.at c.answer_with.new.item
+    ∙ ap (slice_set (item_values c.args.items.now.items) c.args.at) (c.answer_with.ensures request (value-at c.args.items.now.items c.args.at c.index_mut.result.now (exchange request None) c.index_mut.ensures.value c.requires h))

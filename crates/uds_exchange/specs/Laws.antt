@@ -1,0 +1,59 @@
+-- The laws of meanings, over the definitions alone.
+use Rattle.std.specs.Prelude.{◌≡◌, ◌≢◌, ◌↔◌, ℕ, ◌+◌, List, [], ◌∷◌, ◌++◌, Some, None, length}
+use Rattle.uds_exchange.specs.Meaning.{Message, meaning, flattened, removed_messages}
+use Rattle.uds_exchange.specs.Roles.{Role, IsOpenBehind, HasRole, AreRoles, arranged, those_removed}
+use Rattle.uds_exchange.specs.Order.{open_request, held, early, rejection_of}
+
+-- the messages of a meaning have that meaning
+abbrev pub MeaningIsKept : Type 0
+MeaningIsKept = (M : List Message) → meaning (flattened (meaning M)) ≡ meaning M
+
+-- the messages of a meaning and the removed ones together are as many as the list's
+abbrev pub NoneIsLost : Type 0
+NoneIsLost = (M : List Message) → length (flattened (meaning M)) + length (removed_messages M) ≡ length M
+
+-- a message is exactly one of request, answer, removed and stray
+abbrev pub EachHasOneRole : Type 0
+EachHasOneRole = (past : List Message) (x : Message)
+    → (role : Role) × HasRole past x role × ((other : Role) → HasRole past x other → other ≡ role)
+
+-- so the messages of a list have roles in one way
+abbrev pub EachListHasRoles : Type 0
+EachListHasRoles = (M : List Message)
+    → (roles : List Role) × AreRoles [] M roles × ((others : List Role) → AreRoles [] M others → others ≡ roles)
+
+-- the messages of a meaning are the list's in order, but that the removed ones are left out and an answer moves up
+-- to its request
+abbrev pub MessagesByRoles : Type 0
+MessagesByRoles = (M : List Message) (roles : List Role) → AreRoles [] M roles
+    → (flattened (meaning M) ≡ arranged [] M roles) × (removed_messages M ≡ those_removed M roles)
+
+-- the open request is the last one, and none behind it is its answer
+abbrev pub OpenRequestIsLast : Type 0
+OpenRequestIsLast = (M : List Message) (request : List ℕ)
+    → (open_request M ≡ Some request) ↔ IsOpenBehind M request
+
+-- what is early and then what is held are the messages of the meaning
+abbrev pub EarlyThenHeld : Type 0
+EarlyThenHeld = (M : List Message) → early M ++ held M ≡ flattened (meaning M)
+
+-- where no request is open nothing is held
+abbrev pub HeldByOpenRequest : Type 0
+HeldByOpenRequest = (M : List Message) → open_request M ≡ None → held M ≡ []
+
+-- what is early stays in front of the messages of the meaning, whatever follows
+abbrev pub EarlyStays : Type 0
+EarlyStays = (M more : List Message)
+    → (rest : List Message) × (flattened (meaning (M ++ more)) ≡ early M ++ rest)
+
+-- where messages are held, a rejection of the open request would come before them, and it is not the first of them:
+-- so nothing more could be put
+abbrev pub HeldMustWait : Type 0
+HeldMustWait = (M : List Message) (first : Message) (rest : List Message) → held M ≡ first ∷ rest
+    → (request : List ℕ) × IsOpenBehind M request
+    × (flattened (meaning (M ++ rejection_of request ∷ [])) ≡ early M ++ rejection_of request ∷ held M)
+    × (first ≢ rejection_of request)
+
+-- the messages put in all, early ones and then held ones, and the removed ones are as many as the list's
+abbrev pub NoneIsLostInOrder : Type 0
+NoneIsLostInOrder = (M : List Message) → length (early M ++ held M) + length (removed_messages M) ≡ length M

@@ -1,0 +1,9 @@
+pub mod Meaning
+pub mod Roles
+pub mod Difference
+pub mod Order
+pub mod Sink
+pub mod Orderer
+pub mod Laws
+pub mod Pairing
+pub mod Steps

@@ -1,0 +1,99 @@
+-- What a list of messages means: each request with its answer, and the messages that belong to no exchange
+-- (ISO 14229-1, requests, positive and negative responses). Messages are paired by first byte and order alone.
+use Rattle.std.specs.Prelude.{ℕ, Bool, true, false, not, ◌&&◌, List, [], ◌∷◌, ◌++◌, map, Option, Some, None, if◌then◌else◌}
+use Rattle.std.specs.List.{flat_map}
+use Rattle.can_log.specs.declared.frame.Dir.{Dir}
+use Rattle.can_log.specs.declared.frame.Dir.TheVariants as dir
+use Rattle.uds_message.specs.Message.{sid, is_request, is_final_for, is_pending_for}
+
+-- a message and the side that sent it
+abbrev pub Message : Type 0
+Message = Dir × List ℕ
+
+abbrev pub is_from_tester : Dir → Bool
+is_from_tester dir.Tester = true
+is_from_tester dir.Unit = false
+
+-- a request of the tester
+abbrev pub is_tester_request : Message → Bool
+is_tester_request x = is_from_tester x.0 && is_request x.1
+
+-- a message of the unit that is final for the request
+abbrev pub is_answer_to : List ℕ → Message → Bool
+is_answer_to request x = not (is_from_tester x.0) && is_final_for (sid request) x.1
+
+-- a message of the unit that is pending for the request
+abbrev pub is_pending_reply_to : List ℕ → Message → Bool
+is_pending_reply_to request x = not (is_from_tester x.0) && is_pending_for (sid request) x.1
+
+-- the messages before the first request
+abbrev pub before_requests : List Message → List Message
+before_requests [] = []
+before_requests (x ∷ xs) = if is_tester_request x then [] else x ∷ before_requests xs
+
+-- the part of a request: the request, and the messages behind it up to the next request or the end
+pub record Part : Type 0 where
+  pub request : List ℕ
+  pub behind : List Message
+
+abbrev pub part : List ℕ → List Message → Part
+part request behind = record { request = request; behind = behind }
+
+-- the parts of a list's requests, in order
+abbrev pub parts : List Message → List Part
+parts [] = []
+parts (x ∷ xs) = if is_tester_request x then part x.1 (before_requests xs) ∷ parts xs else parts xs
+
+-- the answer to a request among the messages behind it: the first that is final for it
+abbrev pub answer : List ℕ → List Message → Option (List ℕ)
+answer request [] = None
+answer request (x ∷ xs) = if is_answer_to request x then Some x.1 else answer request xs
+
+-- what is removed of them: the replies pending for the request before its answer, or all where there is no answer
+abbrev pub removed : List ℕ → List Message → List Message
+removed request [] = []
+removed request (x ∷ xs) =
+    if is_answer_to request x then []
+    else if is_pending_reply_to request x then x ∷ removed request xs
+    else removed request xs
+
+-- the strays among them: those that are neither answer nor removed
+abbrev pub strays_in : List ℕ → List Message → List Message
+strays_in request [] = []
+strays_in request (x ∷ xs) =
+    if is_answer_to request x then xs
+    else if is_pending_reply_to request x then strays_in request xs
+    else x ∷ strays_in request xs
+
+-- an item of a meaning: a request with its answer, if it has one, or a message that belongs to no exchange
+pub data ItemValue : Type 0 where
+  exchange : List ℕ → Option (List ℕ) → ItemValue
+  stray : Dir → List ℕ → ItemValue
+
+abbrev pub stray_of : Message → ItemValue
+stray_of x = stray x.0 x.1
+
+-- the items of a part: its exchange, and then its strays
+abbrev pub items_of : Part → List ItemValue
+items_of p = exchange p.request (answer p.request p.behind) ∷ map stray_of (strays_in p.request p.behind)
+
+-- the meaning of a list: what stands before the first request as strays, and then part by part
+abbrev pub meaning : List Message → List ItemValue
+meaning M = map stray_of (before_requests M) ++ flat_map items_of (parts M)
+
+-- the messages of an item
+abbrev pub messages_of : ItemValue → List Message
+messages_of (exchange request None) = (dir.Tester, request) ∷ []
+messages_of (exchange request (Some reply)) = (dir.Tester, request) ∷ (dir.Unit, reply) ∷ []
+messages_of (stray d bytes) = (d, bytes) ∷ []
+
+-- the messages of a meaning, in order
+abbrev pub flattened : List ItemValue → List Message
+flattened items = flat_map messages_of items
+
+-- all that is removed of a list, part by part
+abbrev pub removed_of : Part → List Message
+removed_of p = removed p.request p.behind
+
+abbrev pub removed_messages : List Message → List Message
+removed_messages M = flat_map removed_of (parts M)

@@ -1,0 +1,40 @@
+-- Which messages of a meaning have their place before the list of messages has ended, and which must wait.
+use Rattle.std.specs.Prelude.{ℕ, ◌-◌, Bool, true, false, List, [], ◌∷◌, length, take, Option, Some, None, if◌then◌else◌}
+use Rattle.can_log.specs.declared.frame.Dir.TheVariants as dir
+use Rattle.uds_message.specs.Message.{sid}
+use Rattle.uds_exchange.specs.Meaning.{Message, ItemValue, exchange, stray, meaning, flattened}
+
+abbrev pub has_exchange : List ItemValue → Bool
+has_exchange [] = false
+has_exchange (exchange request reply ∷ its) = true
+has_exchange (stray d bytes ∷ its) = has_exchange its
+
+-- the request of the last exchange, if that has no answer
+abbrev pub open_request_in : List ItemValue → Option (List ℕ)
+open_request_in [] = None
+open_request_in (stray d bytes ∷ its) = open_request_in its
+open_request_in (exchange request (Some reply) ∷ its) = open_request_in its
+open_request_in (exchange request None ∷ its) = if has_exchange its then open_request_in its else Some request
+
+-- the strays behind the last exchange, if that has no answer
+abbrev pub held_in : List ItemValue → List Message
+held_in [] = []
+held_in (stray d bytes ∷ its) = held_in its
+held_in (exchange request (Some reply) ∷ its) = held_in its
+held_in (exchange request None ∷ its) = if has_exchange its then held_in its else flattened its
+
+-- the request that waits for its answer behind a list of messages
+abbrev pub open_request : List Message → Option (List ℕ)
+open_request M = open_request_in (meaning M)
+
+-- what must wait: an answer to the open request would come before it
+abbrev pub held : List Message → List Message
+held M = held_in (meaning M)
+
+-- what has its place: the messages of the meaning, without those held at its end
+abbrev pub early : List Message → List Message
+early M = take (length (flattened (meaning M)) - length (held M)) (flattened (meaning M))
+
+-- the negative response of the unit with the code generalReject
+abbrev pub rejection_of : List ℕ → Message
+rejection_of request = (dir.Unit, 0x7F ∷ sid request ∷ 0x10 ∷ [])

@@ -1,0 +1,45 @@
+-- What an orderer is seen as, and what its calls do to it and to the sink.
+use Rattle.std.specs.Prelude.{◌≡◌, ℕ, Bool, true, false, List, [], ◌∷◌, ◌++◌, Option, option_map}
+use Rattle.uds_message.specs.Message.{sid}
+use Rattle.uds_exchange.specs.declared.orderer.OrderFault.{OrderFault}
+use Rattle.uds_exchange.specs.declared.orderer.OrderFault.TheVariants as fault
+use Rattle.uds_exchange.specs.Meaning.{Message}
+use Rattle.uds_exchange.specs.Order.{open_request, held, early}
+use Rattle.uds_exchange.specs.Sink.{AfterOk, AfterErr, Puts, Fails}
+
+-- whether the sink has failed, the first byte of the open request, and the messages that are held
+pub record Standing : Type 0 where
+  pub failed : Bool
+  pub open_sid : Option ℕ
+  pub holds : List Message
+
+-- an orderer that stands after the messages M
+abbrev pub stands_after : List Message → Standing
+stands_after M = record { failed = false; open_sid = option_map sid (open_request M); holds = held M }
+
+-- these are the messages that one more message x brings to their place
+abbrev pub IsDue : List Message → Message → List Message → Type 0
+IsDue M x due = early (M ++ x ∷ []) ≡ early M ++ due
+
+-- what is due with one more message was put
+abbrev pub PutsDue : {S : Type 0} → AfterOk S → List Message → Message → S → S → Type 0
+PutsDue after_ok M x s t = (due : List Message) × IsDue M x due × Puts after_ok s due t
+
+-- what a fault leaves of the sink: of what is due nothing was put for want of memory, and a proper prefix where the
+-- sink failed
+abbrev pub StopsDue : {S E : Type 0} → AfterOk S → AfterErr S E → List Message → Message → S → S → OrderFault E → Type 0
+StopsDue after_ok after_err M x s t fault.Memory = t ≡ s
+StopsDue after_ok after_err M x s t (fault.Sink e) = (due : List Message) × IsDue M x due × Fails after_ok after_err s due e t
+StopsDue after_ok after_err M x s t fault.Failed = ⊥
+
+-- what a fault leaves of the orderer: it is unchanged for want of memory, and has failed after a fault of the sink
+abbrev pub Leaves : {E : Type 0} → Standing → Standing → OrderFault E → Type 0
+Leaves old new fault.Memory = (old.failed ≡ false) × (new ≡ old)
+Leaves old new (fault.Sink e) = (old.failed ≡ false) × (new.failed ≡ true)
+Leaves old new fault.Failed = (old.failed ≡ true) × (new ≡ old)
+
+-- the only fault of an orderer that has not failed is the sink's, after a proper prefix of these messages
+abbrev pub StopsAtEnd : {S E : Type 0} → AfterOk S → AfterErr S E → List Message → S → S → OrderFault E → Type 0
+StopsAtEnd after_ok after_err xs s t fault.Memory = ⊥
+StopsAtEnd after_ok after_err xs s t (fault.Sink e) = Fails after_ok after_err s xs e t
+StopsAtEnd after_ok after_err xs s t fault.Failed = ⊥

@@ -1,0 +1,75 @@
+-- What each message of a list is, told by looking back over the messages before it.
+use Rattle.std.specs.Prelude.{◌≡◌, ℕ, Bool, true, false, ⊤, List, [], ◌∷◌, ◌++◌, if◌then◌else◌}
+use Rattle.std.specs.List.{list_any}
+use Rattle.can_log.specs.declared.frame.Dir.TheVariants as dir
+use Rattle.uds_message.specs.Message.{is_request}
+use Rattle.uds_exchange.specs.Meaning.{Message, is_tester_request, is_answer_to, is_pending_reply_to}
+
+-- the request is open behind these messages: it is the last request among them, and none behind it is its answer
+pub record IsOpenBehind (past : List Message) (request : List ℕ) : Type 0 where
+  pub earlier : List Message
+  pub since : List Message
+  pub place : past ≡ earlier ++ (dir.Tester, request) ∷ since
+  pub is_one : is_request request ≡ true
+  pub is_last : list_any is_tester_request since ≡ false
+  pub is_unanswered : list_any (is_answer_to request) since ≡ false
+
+-- what a message is to its list: a request, the answer to one, a pending reply that is left out, or none of these
+pub data Role : Type 0 where
+  as_request : Role
+  as_answer : Role
+  as_removed : Role
+  as_stray : Role
+
+-- the message is the answer to the open request
+abbrev pub AnswersOpen : List Message → Message → Type 0
+AnswersOpen past x = (request : List ℕ) × IsOpenBehind past request × (is_answer_to request x ≡ true)
+
+-- the message is a pending reply to the open request
+abbrev pub IsPendingForOpen : List Message → Message → Type 0
+IsPendingForOpen past x = (request : List ℕ) × IsOpenBehind past request × (is_pending_reply_to request x ≡ true)
+
+-- what a message is behind the messages `past`: a request by itself, an answer or removed by the open request, else
+-- a stray
+abbrev pub HasRole : List Message → Message → Role → Type 0
+HasRole past x as_request = is_tester_request x ≡ true
+HasRole past x as_answer = AnswersOpen past x
+HasRole past x as_removed = IsPendingForOpen past x
+HasRole past x as_stray = (is_tester_request x ≡ false) × (¬ AnswersOpen past x) × (¬ IsPendingForOpen past x)
+
+-- these are the roles of the messages `xs`, before which stand the messages `past`
+abbrev pub AreRoles : List Message → List Message → List Role → Type 0
+AreRoles past [] [] = ⊤
+AreRoles past (x ∷ xs) (role ∷ roles) = HasRole past x role × AreRoles (past ++ x ∷ []) xs roles
+AreRoles past [] (role ∷ roles) = ⊥
+AreRoles past (x ∷ xs) [] = ⊥
+
+-- the messages with `x` directly behind the last request among them
+abbrev pub behind_last_request : List Message → Message → List Message
+behind_last_request [] x = x ∷ []
+behind_last_request (y ∷ ys) x =
+    if list_any is_tester_request ys then y ∷ behind_last_request ys x
+    else if is_tester_request y then y ∷ x ∷ ys
+    else y ∷ behind_last_request ys x
+
+-- what a message adds to the messages in order: an answer moves up to its request, a removed message is left out
+abbrev pub placed : Role → List Message → Message → List Message
+placed as_request out x = out ++ x ∷ []
+placed as_stray out x = out ++ x ∷ []
+placed as_answer out x = behind_last_request out x
+placed as_removed out x = out
+
+-- the messages `xs` with these roles, each placed behind those of `out`
+abbrev pub arranged : List Message → List Message → List Role → List Message
+arranged out (x ∷ xs) (role ∷ roles) = arranged (placed role out x) xs roles
+arranged out xs roles = out
+
+abbrev pub is_removed : Role → Bool
+is_removed as_removed = true
+is_removed role = false
+
+-- those of the messages that are removed
+abbrev pub those_removed : List Message → List Role → List Message
+those_removed (x ∷ xs) (role ∷ roles) =
+    if is_removed role then x ∷ those_removed xs roles else those_removed xs roles
+those_removed xs roles = []

@@ -1,0 +1,19 @@
+//! The items of a meaning.
+
+use can_log::Dir;
+
+/// A request with its answer, or a message that belongs to no exchange.
+#[derive(Debug, Drop, PartialEq, Eq)]
+pub enum Item {
+    /// A request of the tester, and the unit's answer to it. The answer is positive, or negative with a code other
+    /// than response pending.
+    Exchange {
+        request: Vec<u8>,
+        answer: Option<Vec<u8>>,
+    },
+    /// A message that is neither request nor answer: a keep-alive, or one that answers nothing.
+    Stray {
+        dir: Dir,
+        bytes: Vec<u8>,
+    },
+}

@@ -1,0 +1,87 @@
+//! What holds of meanings, whatever computes them. Each law is its contract; a call does nothing.
+
+ghost use Rattle.std.specs.Prelude.{List, [], ◌∷◌, ◌++◌};
+ghost use Rattle.uds_exchange.specs.Meaning.{Message, meaning, flattened};
+ghost use Rattle.uds_exchange.specs.Order.{early, held};
+ghost use Rattle.uds_exchange.specs.Sink.{Puts};
+ghost use Rattle.uds_exchange.specs.Orderer.{PutsDue};
+ghost use Rattle.uds_exchange.specs.Laws.{MeaningIsKept, NoneIsLost};
+ghost use Rattle.uds_exchange.specs.Laws.{EachHasOneRole, EachListHasRoles, MessagesByRoles};
+ghost use Rattle.uds_exchange.specs.Laws.{OpenRequestIsLast, HeldByOpenRequest, HeldMustWait};
+ghost use Rattle.uds_exchange.specs.Laws.{EarlyThenHeld, EarlyStays, NoneIsLostInOrder};
+
+use crate::sink::MessageSink;
+
+/// The messages of a meaning, in order, mean the same again.
+pub fn meaning_is_kept()
+    ensures { MeaningIsKept }
+{}
+
+/// Each message of a list stands in its meaning or is removed.
+pub fn none_is_lost()
+    ensures { NoneIsLost }
+{}
+
+/// By the messages before it, a message is exactly one of request, answer, removed and stray.
+pub fn each_has_one_role()
+    ensures { EachHasOneRole }
+{}
+
+/// The messages of a list have their roles in one way.
+pub fn each_list_has_roles()
+    ensures { EachListHasRoles }
+{}
+
+/// The messages of a meaning are those of the list, in order, but that the removed ones are left out and an answer
+/// stands directly behind its request.
+pub fn messages_by_roles()
+    ensures { MessagesByRoles }
+{}
+
+/// The open request of a list is the last request in it, and no message behind that is its answer.
+pub fn open_request_is_last()
+    ensures { OpenRequestIsLast }
+{}
+
+/// What is early, and then what is held, are the messages of the meaning in order.
+pub fn early_then_held()
+    ensures { EarlyThenHeld }
+{}
+
+/// Where no request is open nothing is held.
+pub fn held_by_open_request()
+    ensures { HeldByOpenRequest }
+{}
+
+/// What is early stays in front of the messages of the meaning, whatever messages follow.
+pub fn early_stays()
+    ensures { EarlyStays }
+{}
+
+/// Where messages are held, an answer to the open request would come before them: nothing more could be put.
+pub fn held_must_wait()
+    ensures { HeldMustWait }
+{}
+
+/// Each message of a list is put, early or at the end, or is removed.
+pub fn none_is_lost_in_order()
+    ensures { NoneIsLostInOrder }
+{}
+
+/// What was put in two runs was put in one.
+pub fn puts_join<S: MessageSink>()
+    ensures { (s u t : S) (xs ys : List Message) → Puts S.after_ok s xs u → Puts S.after_ok u ys t
+        → Puts S.after_ok s (xs ++ ys) t }
+{}
+
+/// Where what is early was put, and then what one more message makes due, what is early with that message was put.
+pub fn puts_go_on<S: MessageSink>()
+    ensures { (s t u : S) (M : List Message) (x : Message) → Puts S.after_ok s (early M) t
+        → PutsDue S.after_ok M x t u → Puts S.after_ok s (early (M ++ x ∷ [])) u }
+{}
+
+/// Where what is early was put, and then what is held, the messages of the meaning were put.
+pub fn puts_end<S: MessageSink>()
+    ensures { (s t u : S) (M : List Message) → Puts S.after_ok s (early M) t
+        → Puts S.after_ok t (held M) u → Puts S.after_ok s (flattened (meaning M)) u }
+{}

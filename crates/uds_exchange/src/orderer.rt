@@ -1,0 +1,201 @@
+//! Messages put into their order as soon as it is known.
+
+ghost use Rattle.std.specs.Prelude.{◌≡◌, ◌≢◌, ◌++◌, ◌∷◌, [], List, ℕ, Option, true, false, length, OnOk, IfErr, sum_by};
+ghost use Rattle.uds_exchange.specs.Meaning.{Message};
+ghost use Rattle.uds_exchange.specs.Order.{held as held_after};
+ghost use Rattle.uds_exchange.specs.Sink.{Puts, Fails};
+ghost use Rattle.uds_exchange.specs.Orderer.{stands_after, PutsDue, StopsDue, Leaves, StopsAtEnd};
+ghost use Rattle.uds_exchange.specs.Steps.{due, due_for, next, Stops};
+ghost use Rattle.uds_exchange.specs.declared.orderer.OrderFault.TheVariants.{Memory, Failed};
+
+use crate::held::Held;
+use crate::roles::{Role, role_of};
+use crate::sink::MessageSink;
+use can_log::Dir;
+use std::alloc::Global;
+use std::marker::Model;
+
+/// Why an orderer did not take a message.
+#[derive(Debug, Drop, PartialEq, Eq)]
+pub enum OrderFault<E> {
+    /// Memory was refused. Nothing was put, and the orderer is unchanged: the call may be made again.
+    Memory,
+    /// The sink refused a message.
+    Sink(E),
+    /// The sink refused a message in an earlier call. Nothing was put.
+    Failed,
+}
+
+/// Puts the messages of a meaning in order into a sink, each as soon as its place is known. Behind a request without
+/// answer that is when the answer comes, the next request, or the end: until then other messages are held.
+#[derive(Debug, Drop)]
+pub struct Orderer {
+    failed: bool,
+    /// The first byte of the last request, where that waits for its answer.
+    open_sid: Option<u8>,
+    /// What stands behind that request.
+    held: Held,
+}
+
+impl Model for Orderer {
+    ghost use Rattle.uds_exchange.specs.Orderer.{Standing};
+
+    ghost Value = { Standing };
+
+    ghost view = { λ o. record { failed = o.failed; open_sid = o.open_sid; holds = o.held } };
+}
+
+impl Orderer {
+    /// An orderer that has taken no message. It takes no memory.
+    pub fn new(alloc: Global) -> Orderer
+        ensures { result ≡ stands_after [] }
+    {
+        Orderer {
+            failed: false,
+            open_sid: None,
+            held: Held::new(alloc),
+        }
+    }
+
+    /// The sum of the lengths of the messages that are held; 0 where no request is open.
+    pub fn held(&self) -> u64
+        ensures { result ≡ sum_by (λ x. length x.1) self.now.holds }
+    {
+        self.held.total_len() as u64
+    }
+
+    /// Takes one more message, and puts all whose place is now known. No memory is taken for a message that is put
+    /// or left out.
+    pub fn take<S: MessageSink>(
+        &mut self,
+        dir: Dir,
+        message: &[u8],
+        sink: &mut S,
+    ) -> Result<(), OrderFault<S::Fault>>
+        ensures stands { OnOk result ((M : List Message) → self.old ≡ stands_after M
+            → self.new ≡ stands_after (M ++ (dir, message.now) ∷ [])) }
+        ensures puts { OnOk result ((M : List Message) → self.old ≡ stands_after M
+            → PutsDue S.after_ok M (dir, message.now) sink.old sink.new) }
+
+        ensures memory { result ≡ Err Memory → (self.new ≡ self.old) × (sink.new ≡ sink.old) }
+        ensures stops { IfErr result (λ fault. (M : List Message) → self.old ≡ stands_after M
+            → StopsDue S.after_ok S.after_err M (dir, message.now) sink.old sink.new fault) }
+        ensures leaves { IfErr result (λ fault. Leaves self.old self.new fault) }
+        ensures failed { self.old.failed ≡ true
+            → (result ≡ Err Failed) × (self.new ≡ self.old) × (sink.new ≡ sink.old) }
+    {
+        self.advance(dir, message, sink)
+    }
+
+    fn advance<S: MessageSink>(
+        &mut self,
+        dir: Dir,
+        message: &[u8],
+        sink: &mut S,
+    ) -> Result<(), OrderFault<S::Fault>>
+        ensures ok { OnOk result ((self.old.failed ≡ false) × (self.new ≡ next self.old (dir, message.now))
+            × Puts S.after_ok sink.old (due self.old (dir, message.now)) sink.new) }
+        ensures err { IfErr result (λ fault. Stops S.after_ok S.after_err (due self.old (dir, message.now))
+            self.old sink.old self.new sink.new fault) }
+    {
+        if self.failed {
+            return Err(OrderFault::Failed);
+        }
+        let role = role_of(self.open_sid, dir, message);
+        if let (Role::Stray, Some(_)) = (role, self.open_sid) {
+            return match self.held.push(dir, message) {
+                Ok(()) => Ok(()),
+                Err(_) => Err(OrderFault::Memory),
+            };
+        }
+        if let Err(fault) = put_due(role, &self.held, dir, message, sink) {
+            self.failed = true;
+            return Err(OrderFault::Sink(fault));
+        }
+        match role {
+            Role::Request(sid) => {
+                self.held.clear();
+                self.open_sid = Some(sid);
+            }
+            Role::Answer => {
+                self.held.clear();
+                self.open_sid = None;
+            }
+            Role::Removed | Role::Stray => {}
+        }
+        Ok(())
+    }
+
+    /// Puts what is held. It takes no memory.
+    pub fn finish<S: MessageSink>(self, sink: &mut S) -> Result<(), OrderFault<S::Fault>>
+        ensures puts { OnOk result ((M : List Message) → self ≡ stands_after M
+            → Puts S.after_ok sink.old (held_after M) sink.new) }
+        ensures stops { IfErr result (λ fault. (M : List Message) → self ≡ stands_after M
+            → StopsAtEnd S.after_ok S.after_err (held_after M) sink.old sink.new fault) }
+        ensures failed { self.failed ≡ true → (result ≡ Err Failed) × (sink.new ≡ sink.old) }
+        ensures failed_only { result ≡ Err Failed → self.failed ≡ true }
+        ensures never_memory { result ≢ Err Memory }
+    {
+        if self.failed {
+            return Err(OrderFault::Failed);
+        }
+        match self.held.put_all(sink) {
+            Ok(()) => Ok(()),
+            Err(fault) => Err(OrderFault::Sink(fault)),
+        }
+    }
+}
+
+/// Puts what is due with a message of this role; a stray has its place where no request is open.
+fn put_due<S: MessageSink>(
+    role: Role,
+    held: &Held,
+    dir: Dir,
+    message: &[u8],
+    sink: &mut S,
+) -> Result<(), S::Fault>
+    ensures ok { OnOk result (Puts S.after_ok sink.old (due_for role None held.now (dir, message.now)) sink.new) }
+    ensures err { IfErr result (λ e. Fails S.after_ok S.after_err sink.old
+        (due_for role None held.now (dir, message.now)) e sink.new) }
+{
+    match role {
+        Role::Request(_) => put_behind(held, dir, message, sink),
+        Role::Answer => put_before(dir, message, held, sink),
+        Role::Removed => Ok(()),
+        Role::Stray => sink.put(dir, message),
+    }
+}
+
+/// Puts what is held, and then the message.
+fn put_behind<S: MessageSink>(
+    held: &Held,
+    dir: Dir,
+    message: &[u8],
+    sink: &mut S,
+) -> Result<(), S::Fault>
+    ensures ok { OnOk result (Puts S.after_ok sink.old (held.now ++ (dir, message.now) ∷ []) sink.new) }
+    ensures err { IfErr result (λ e. Fails S.after_ok S.after_err sink.old
+        (held.now ++ (dir, message.now) ∷ []) e sink.new) }
+{
+    if let Err(fault) = held.put_all(sink) {
+        return Err(fault);
+    }
+    sink.put(dir, message)
+}
+
+/// Puts the message, and then what is held.
+fn put_before<S: MessageSink>(
+    dir: Dir,
+    message: &[u8],
+    held: &Held,
+    sink: &mut S,
+) -> Result<(), S::Fault>
+    ensures ok { OnOk result (Puts S.after_ok sink.old ((dir, message.now) ∷ held.now) sink.new) }
+    ensures err { IfErr result (λ e. Fails S.after_ok S.after_err sink.old
+        ((dir, message.now) ∷ held.now) e sink.new) }
+{
+    if let Err(fault) = sink.put(dir, message) {
+        return Err(fault);
+    }
+    held.put_all(sink)
+}

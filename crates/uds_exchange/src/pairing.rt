@@ -1,0 +1,124 @@
+//! Requests with their answers, as the messages come.
+
+ghost use Rattle.std.specs.Prelude.{◌≡◌, ◌<◌, ◌++◌, ◌∷◌, [], List, ℕ, length, Some, None, OnOk, OnErr, IfOk, slice_get, slice_set};
+ghost use Rattle.uds_exchange.specs.Meaning.{Message, meaning, exchange};
+ghost use Rattle.uds_exchange.specs.Pairing.{item_value, item_values, joined};
+
+use crate::item::Item;
+use crate::meaning::Meaning;
+use crate::roles::{Role, role_of};
+use can_log::Dir;
+use std::alloc::{AllocError, Global};
+use std::marker::Model;
+
+/// What the messages so far mean. It stands after a list of messages: contracts see it as the meaning of that list.
+#[derive(Debug, Drop)]
+pub struct Pairing {
+    alloc: Global,
+    items: Vec<Item>,
+    /// The first byte of the last request, where that waits for its answer.
+    open_sid: Option<u8>,
+    /// Where a request waits, the place of its exchange.
+    last: usize,
+}
+
+impl Model for Pairing {
+    ghost use Rattle.std.specs.Prelude.{List};
+    ghost use Rattle.uds_exchange.specs.Meaning.{ItemValue};
+    ghost use Rattle.uds_exchange.specs.Pairing.{item_values, IsOpenAt};
+
+    ghost Value = { List ItemValue };
+
+    ghost view = { λ p. item_values p.items.items };
+
+    ghost invariant = { λ p. IsOpenAt (item_values p.items.items) p.open_sid p.last };
+}
+
+impl Pairing {
+    /// A pairing that has taken no message. It takes no memory.
+    pub fn new(alloc: Global) -> Pairing
+        ensures { result ≡ meaning [] }
+    {
+        Pairing {
+            alloc,
+            items: Vec::new(alloc),
+            open_sid: None,
+            last: 0,
+        }
+    }
+
+    /// Takes one more message, in time proportional to its length. A reply that is left out is not copied.
+    pub fn take(&mut self, dir: Dir, message: &[u8]) -> Result<(), AllocError>
+        ensures ok { OnOk result ((M : List Message) → self.old ≡ meaning M
+            → self.new ≡ meaning (M ++ (dir, message.now) ∷ [])) }
+        ensures err { OnErr result (self.new ≡ self.old) }
+    {
+        self.join(dir, message)?;
+        Ok(())
+    }
+
+    fn join(&mut self, dir: Dir, message: &[u8]) -> Result<(), AllocError>
+        ensures ok { OnOk result (self.new ≡ joined self.old (dir, message.now)) }
+        ensures err { OnErr result (self.new ≡ self.old) }
+    {
+        match role_of(self.open_sid, dir, message) {
+            Role::Request(sid) => {
+                let request = copy(self.alloc, message)?;
+                let last = self.items.len();
+                self.items.push(Item::Exchange {
+                    request,
+                    answer: None,
+                })?;
+                self.open_sid = Some(sid);
+                self.last = last;
+                Ok(())
+            }
+            Role::Answer => {
+                let answer = copy(self.alloc, message)?;
+                set_answer(&mut self.items, self.last, answer);
+                self.open_sid = None;
+                Ok(())
+            }
+            Role::Removed => Ok(()),
+            Role::Stray => {
+                let bytes = copy(self.alloc, message)?;
+                self.items.push(Item::Stray { dir, bytes })?;
+                Ok(())
+            }
+        }
+    }
+
+    /// The meaning of the messages that were taken. It takes no memory.
+    pub fn finish(self) -> Meaning
+        ensures { result ≡ self }
+    {
+        Meaning::of(self.items)
+    }
+}
+
+fn copy(alloc: Global, bytes: &[u8]) -> Result<Vec<u8>, AllocError>
+    ensures { IfOk result (λ v. v.items ≡ bytes.now) }
+{
+    let mut v = Vec::new(alloc);
+    v.extend_from_slice(bytes)?;
+    Ok(v)
+}
+
+/// Gives the exchange at this place its answer. It has none before.
+fn set_answer(items: &mut Vec<Item>, at: usize, bytes: Vec<u8>)
+    requires { at < length items.old.items }
+    ensures { (request : List ℕ) → slice_get (item_values items.old.items) at ≡ Some (exchange request None)
+        → item_values items.new.items
+        ≡ slice_set (item_values items.old.items) at (exchange request (Some bytes.items)) }
+{
+    answer_with(&mut items[at], bytes);
+}
+
+fn answer_with(item: &mut Item, bytes: Vec<u8>)
+    ensures { (request : List ℕ) → item_value item.old ≡ exchange request None
+        → item_value item.new ≡ exchange request (Some bytes.items) }
+{
+    if let Item::Exchange { answer, .. } = item {
+        *answer = Some(bytes);
+    }
+}

@@ -1,0 +1,21 @@
+//! The messages of a diagnostic session (ISO 14229-1), told apart by their bytes.
+//!
+//! A tester sends requests, and a keep-alive that wants no answer; the control unit answers a request once for
+//! good, and before that it may say any number of times that the answer is pending. This crate says which message
+//! is which, and has the names of services and of response codes; which answer belongs to which request is the
+//! matter of `uds_exchange`.
+//!
+//! ```text
+//! tester_kind(&[0x22, 0xF1, 0x90])           Request: ReadDataByIdentifier
+//! answers(0x22, &[0x7F, 0x22, 0x78])         Pending: the unit needs more time
+//! answers(0x22, &[0x62, 0xF1, 0x90, 0x41])   Final: the positive response
+//! ```
+#![tactic(auto)]
+
+mod message;
+mod names;
+#[cfg(test)]
+mod tests;
+
+pub use message::{Answer, TesterKind, answers, suppresses, tester_kind};
+pub use names::{code_name, service_name};

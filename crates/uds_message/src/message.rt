@@ -1,0 +1,104 @@
+//! What a message is, by its bytes.
+
+ghost use Rattle.std.specs.Prelude.{◌≡◌};
+ghost use Rattle.uds_message.specs.Message.{kind_of, answer_to, is_suppressing};
+ghost use Rattle.uds_message.specs.Message.{is_response_sid as has_response_bit};
+
+use crate::names::has_sub_function;
+
+/// The service identifier of TesterPresent.
+const TESTER_PRESENT: u8 = 0x3E;
+
+/// The service identifier of every negative response.
+const NEGATIVE_RESPONSE: u8 = 0x7F;
+
+/// What a positive response adds to the identifier of its request: bit 6.
+const POSITIVE_RESPONSE: u8 = 0x40;
+
+/// The response code requestCorrectlyReceived-ResponsePending.
+const RESPONSE_PENDING: u8 = 0x78;
+
+/// The bit of a sub-function by which the tester asks for no positive response.
+const SUPPRESS_POSITIVE_RESPONSE: u8 = 0x80;
+
+/// What a message of the tester is.
+#[derive(Clone, Copy, Debug, PartialEq, Eq)]
+pub enum TesterKind {
+    /// A request, to which the unit may answer.
+    Request,
+    /// `3E 80`: TesterPresent with the positive response suppressed. It keeps the session alive and has no answer.
+    KeepAlive,
+    /// Neither: it is empty, or bit 6 of its first byte is set.
+    Other,
+}
+
+/// What a message of the unit is to a request.
+#[derive(Clone, Copy, Debug, PartialEq, Eq)]
+pub enum Answer {
+    /// The positive response, or a negative one that ends the exchange.
+    Final,
+    /// The negative response with code 78: the answer is still to come.
+    Pending,
+    /// It doesn't answer the request.
+    No,
+}
+
+/// Tells requests from keep-alives by the bytes alone (ISO 14229-1, the table of service identifiers).
+pub fn tester_kind(message: &[u8]) -> TesterKind
+    ensures { result ≡ kind_of message.now }
+{
+    match message {
+        [] => TesterKind::Other,
+        [TESTER_PRESENT, SUPPRESS_POSITIVE_RESPONSE] => TesterKind::KeepAlive,
+        [sid, ..] => if is_response_sid(*sid) {
+            TesterKind::Other
+        } else {
+            TesterKind::Request
+        },
+    }
+}
+
+/// What a message of the unit is to a request whose first byte is `sid` (ISO 14229-1, positive and negative
+/// response messages). Where bit 6 of `sid` is set there is no such request, and the answer is `No`.
+pub fn answers(sid: u8, message: &[u8]) -> Answer
+    ensures { result ≡ answer_to sid message.now }
+{
+    if is_response_sid(sid) {
+        return Answer::No;
+    }
+    match message {
+        [] => Answer::No,
+        [NEGATIVE_RESPONSE, refused, code] if *refused == sid => {
+            if *code == RESPONSE_PENDING {
+                Answer::Pending
+            } else {
+                Answer::Final
+            }
+        }
+        [first, ..] => {
+            if *first == sid + POSITIVE_RESPONSE && *first != NEGATIVE_RESPONSE {
+                Answer::Final
+            } else {
+                Answer::No
+            }
+        }
+    }
+}
+
+/// Whether a request asks the unit to keep a positive response to itself (ISO 14229-1, the
+/// suppressPosRspMsgIndicationBit). This changes nothing in which message answers the request.
+pub fn suppresses(message: &[u8]) -> bool
+    ensures { result ≡ is_suppressing message.now }
+{
+    match message {
+        [sid, sub_function, ..] => has_sub_function(*sid)
+            && sub_function & SUPPRESS_POSITIVE_RESPONSE != 0,
+        _ => false,
+    }
+}
+
+fn is_response_sid(sid: u8) -> bool
+    ensures { result ≡ has_response_bit sid }
+{
+    sid & POSITIVE_RESPONSE != 0
+}
