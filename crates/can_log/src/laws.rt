@@ -1,6 +1,6 @@
 //! What holds of lines and logs. A law is a call without a body: a proof that needs it calls it, and nothing runs.
 
-ghost use Rattle.can_log.specs.Laws.{LineMeansAtMostOne, LineHasNoLineFeed, LineIsShort, FrontHasCompletion, SixteenAreEnough, RefusedPlaceIsOne, RefusedLogMeansNothing, ScanReadsOn, FinishReadsEnd, ScanningReadsTheLog, LogTellsOne};
+ghost use Rattle.can_log.specs.Laws.{LineMeansAtMostOne, LineHasNoLineFeed, LineIsShort, FrontHasCompletion, SixteenAreEnough, RefusedPlaceIsOne, LogIsLegalOrRefused, RefusedLogMeansNothing, ScanReadsOn, FinishReadsEnd, ScanningReadsTheLog, LogTellsOne};
 ghost use Rattle.can_log.specs.CanonicalLaws.{CanonicalLineMeans, CanonicalTextIsOneLine, CanonicalLineLength};
 ghost use Rattle.can_log.specs.LogLaws.{LogLinesOfParts, LinesMeanInParts, LineIsLog, LogsJoin};
 
@@ -32,6 +32,11 @@ pub fn sixteen_are_enough()
 /// A log has at most one refused place.
 pub fn refused_place_is_one()
     ensures { RefusedPlaceIsOne }
+{}
+
+/// A log means something, or it has a refused place.
+pub fn log_is_legal_or_refused()
+    ensures { LogIsLegalOrRefused }
 {}
 
 /// A log with a refused place has no meaning.
