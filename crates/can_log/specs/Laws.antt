@@ -42,6 +42,10 @@ LogIsLegalOrRefused = (log : List ℕ) → ((whats : List (Option Stamped)) × L
 abbrev pub RefusedLogMeansNothing : Type 0
 RefusedLogMeansNothing = (log : List ℕ) (line column : ℕ) (whats : List (Option Stamped)) → IsRefusedIn log line column → ¬ LogMeans log whats
 
+-- at the start of a log no byte and no line was read
+abbrev pub StartStands : Type 0
+StartStands = StandsAfter [] [] at_start
+
 -- an answer on a piece tells what follows these bytes of a log
 abbrev pub ScanReadsOn : Type 0
 ScanReadsOn = (bytes : List ℕ) (whats : List (Option Stamped)) (piece : List ℕ) (old new : Standing) (answer : Scan) → StandsAfter bytes whats old → Scans old piece answer new
