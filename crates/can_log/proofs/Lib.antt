@@ -20,3 +20,4 @@ pub mod LineFeeds
 pub mod RefusedPlaces
 pub mod ScannerSteps
 pub mod LogReads
+pub mod LegalOrRefused

@@ -168,8 +168,6 @@ form_parts o bytes (inl (p, f, is)) =
     let n = f.second.0 in
     let t = to_tree n f.back f.second.1 in
     subst AreLineParts is (subst AreParts f.second.2 (record {
-      seconds = record { each = t.0.seconds.each; enough = omega arith; few = t.0.seconds.few };
-      micros = record { each = t.0.micros.each; enough = omega arith; few = omega (arith, t.0.micros.few) };
       identifier = t.0.identifier;
       body = fits_body n.1.1.1.1.0 t.0.body;
     }))

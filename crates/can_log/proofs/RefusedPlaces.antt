@@ -52,7 +52,7 @@ place_is_one bytes column column2 r t = elim (two_cuts r.text r.bad r.after t.te
 place_or_unfinished : (bytes : List ℕ) (column column2 : ℕ) → IsRefusedPlace bytes column → IsUnfinishedAt bytes column2 → ⊥
 place_or_unfinished bytes column column2 r u = not_in_line r.text r.bad r.after (refuses_at r) (subst HasCompletion r.parts (whole_text bytes u.legal))
 
-abbrev Ends : List ℕ → ℕ → Type 0
+abbrev pub Ends : List ℕ → ℕ → Type 0
 Ends rest column = IsRefusedPlace rest column ⊎ IsUnfinishedAt rest column
 
 end_is_one : (rest : List ℕ) (column column2 : ℕ) → Ends rest column → Ends rest column2 → column ≡ column2
@@ -114,7 +114,7 @@ ends_mean_nothing rest column whats ends means = elim (first_line rest) [
 abbrev Cut : List ℕ → List (List ℕ) → List ℕ → Type 0
 Cut log lines rest = log ≡ ended_lines lines ++ rest
 
-next_cut : (line : List ℕ) (lines : List (List ℕ)) (rest : List ℕ) → ended_lines (line ∷ lines) ++ rest ≡ line ++ 10 ∷ (ended_lines lines ++ rest)
+pub next_cut : (line : List ℕ) (lines : List (List ℕ)) (rest : List ℕ) → ended_lines (line ∷ lines) ++ rest ≡ line ++ 10 ∷ (ended_lines lines ++ rest)
 next_cut line lines rest = append_assoc (line ++ 10 ∷ []) (ended_lines lines) rest ∙ append_assoc line (10 ∷ []) (ended_lines lines ++ rest)
 
 -- two lines that are ended at the same place are one

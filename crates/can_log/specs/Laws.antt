@@ -1,5 +1,5 @@
 -- What holds of lines and logs, whoever reads them.
-use Rattle.std.specs.Prelude.{◌≡◌, ℕ, ◌≤◌, List, [], ◌∷◌, ◌++◌, Option, length}
+use Rattle.std.specs.Prelude.{◌≡◌, ℕ, ◌≤◌, ◌⊎◌, List, [], ◌∷◌, ◌++◌, Option, length}
 use Rattle.std.specs.List.{concat}
 use Rattle.can_log.specs.declared.scanner.Scan.{Scan}
 use Rattle.can_log.specs.declared.frame.Stamped.{Stamped}
@@ -34,9 +34,17 @@ abbrev pub RefusedPlaceIsOne : Type 0
 RefusedPlaceIsOne = (log : List ℕ) (line column other_line other_column : ℕ) → IsRefusedIn log line column → IsRefusedIn log other_line other_column
     → (line ≡ other_line) × (column ≡ other_column)
 
+-- a log means something, or it has a refused place
+abbrev pub LogIsLegalOrRefused : Type 0
+LogIsLegalOrRefused = (log : List ℕ) → ((whats : List (Option Stamped)) × LogMeans log whats) ⊎ ((line : ℕ) × (column : ℕ) × IsRefusedIn log line column)
+
 -- a log with a refused place has no meaning
 abbrev pub RefusedLogMeansNothing : Type 0
 RefusedLogMeansNothing = (log : List ℕ) (line column : ℕ) (whats : List (Option Stamped)) → IsRefusedIn log line column → ¬ LogMeans log whats
+
+-- at the start of a log no byte and no line was read
+abbrev pub StartStands : Type 0
+StartStands = StandsAfter [] [] at_start
 
 -- an answer on a piece tells what follows these bytes of a log
 abbrev pub ScanReadsOn : Type 0

@@ -1,12 +1,11 @@
 -- A device of proof: a line read field by field, from left to right. The code reads so; what a line means is said by its
 -- parts and their bytes, and the laws of the readers make the two one.
 use Rattle.std.specs.Prelude.{ℕ, ◌%◌, ◌&&◌, ◌||◌, Bool, true, false, List, [], ◌∷◌, length, Option, Some, None, Ok, Err, nat_lt, slice_index, ⊤, ◌==◌, if◌then◌else◌, ◌+◌, ◌*◌}
-use Rattle.std.specs.Char.{is_ascii_digit}
 use Rattle.std.specs.Str.Parse.{digits_value}
 use Rattle.can_log.specs.declared.field.Class.TheVariants.{Digit, Hex, Space, Visible, UpToEight, AboveEight, Mark}
 use Rattle.can_log.specs.declared.frame.Stamped.{Stamped}
 use Rattle.can_log.specs.FieldReader.{FieldRead, refused, run_at, byte_at, both, either, seen, only, nothing_at}
-use Rattle.can_log.specs.Line.{Body, classic, remote, fd, identifier_of, kind_of, data_of, IsDataText, IsRunOf, IsIdentifierText}
+use Rattle.can_log.specs.Line.{Body, classic, remote, fd, identifier_of, kind_of, data_of, IsDataText, IsIdentifierText}
 
 -- `seconds.micros)`
 abbrev pub stamp_at : List ℕ → FieldRead (List ℕ × (Unit {0} × (List ℕ × Unit {0})))
@@ -93,10 +92,8 @@ FitsBody (classic digits raw_dlc) = IsDataText 16 digits
 FitsBody (remote digit raw_dlc) = ⊤
 FitsBody (fd flags digits) = IsDataText 128 digits
 
--- the parts are of a line
+-- the identifier and the body are those of a line
 pub record AreParts (p : Parts) : Type 0 where
-  pub seconds : IsRunOf is_ascii_digit 0 10 p.seconds
-  pub micros : IsRunOf is_ascii_digit 0 10 p.micros
   pub identifier : IsIdentifierText p.identifier
   pub body : FitsBody p.body
 

@@ -1,6 +1,6 @@
 //! What holds of lines and logs. A law is a call without a body: a proof that needs it calls it, and nothing runs.
 
-ghost use Rattle.can_log.specs.Laws.{LineMeansAtMostOne, LineHasNoLineFeed, LineIsShort, FrontHasCompletion, SixteenAreEnough, RefusedPlaceIsOne, RefusedLogMeansNothing, ScanReadsOn, FinishReadsEnd, ScanningReadsTheLog, LogTellsOne};
+ghost use Rattle.can_log.specs.Laws.{LineMeansAtMostOne, LineHasNoLineFeed, LineIsShort, FrontHasCompletion, SixteenAreEnough, RefusedPlaceIsOne, LogIsLegalOrRefused, RefusedLogMeansNothing, StartStands, ScanReadsOn, FinishReadsEnd, ScanningReadsTheLog, LogTellsOne};
 ghost use Rattle.can_log.specs.CanonicalLaws.{CanonicalLineMeans, CanonicalTextIsOneLine, CanonicalLineLength};
 ghost use Rattle.can_log.specs.LogLaws.{LogLinesOfParts, LinesMeanInParts, LineIsLog, LogsJoin};
 
@@ -34,9 +34,19 @@ pub fn refused_place_is_one()
     ensures { RefusedPlaceIsOne }
 {}
 
+/// A log means something, or it has a refused place.
+pub fn log_is_legal_or_refused()
+    ensures { LogIsLegalOrRefused }
+{}
+
 /// A log with a refused place has no meaning.
 pub fn refused_log_means_nothing()
     ensures { RefusedLogMeansNothing }
+{}
+
+/// A new scanner stands at the start of a log: no byte and no line was read.
+pub fn start_stands()
+    ensures { StartStands }
 {}
 
 /// Each answer of [`Scanner::scan`](crate::Scanner::scan) tells what follows the bytes of the log so far.

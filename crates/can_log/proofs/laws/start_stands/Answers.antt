@@ -1,0 +1,5 @@
+use Rattle.can_log.proofs.LogReads.{start_stands}
+use Rattle.can_log.proofs.laws.start_stands.Goals as goal
+
+pub returns : goal.returns
+returns c = start_stands
