@@ -1,5 +1,4 @@
 -- A canonical line: its parts, what it means, its length, and how it is written.
-use Prim.Native.Nat.{suc}
 use Rattle.std.proofs.Common.{◌≡◌, ℕ, ◌+◌, ◌*◌, ◌/◌, ◌%◌, ◌^◌, ◌<◌, ◌≤◌, ◌≢◌, List, [], ◌∷◌, ◌++◌, get_or, length, length-append, refl, ◌∙◌, arith, append_assoc, append-nil, inl, Some, None, true, rules}
 use Rattle.std.specs.Prelude.{codes, IsTrue, ◌==◌, not}
 use Rattle.std.specs.List.{AllByRecursion, flat_map, list_all, replace_range}

@@ -1,14 +1,15 @@
 -- The values of digits, and the bytes of pairs of them.
-use Rattle.std.proofs.Common.{◌≡◌, ℕ, zero, suc, ◌+◌, ◌-◌, ◌*◌, ◌%◌, ◌/◌, ◌<◌, ◌≤◌, true, false, List, [], ◌∷◌, ◌++◌, length, get_or, take, Some, Result, Ok, Err, refl, sym, ap, arith}
+use Rattle.std.proofs.Common.{◌≡◌, ℕ, zero, suc, ◌+◌, ◌-◌, ◌*◌, ◌%◌, ◌/◌, ◌<◌, ◌≤◌, true, false, List, [], ◌∷◌, ◌++◌, length, get_or, take, Some, Ok, refl, sym, ap, arith}
 use Rattle.std.specs.Char.{is_ascii_digit, is_ascii_hexdigit, digit_value}
 use Rattle.std.specs.Str.Parse.{digits_value, digits_value_after}
 use Rattle.std.specs.List.{AllByRecursion}
 use Rattle.std.proofs.lemmas.Bool.Decides.{nat_tests}
 use Rattle.std.proofs.lemmas.List.{length-take, take_more}
-use Rattle.std.specs.Prelude.{◌==◌, OnOk, IsOk}
+use Rattle.std.specs.Prelude.{◌==◌}
 use Rattle.std.proofs.lemmas.Bool.{eq-eqb}
 use Rattle.hex.specs.Hex.{hex_digit_value, pair_value, decode_pairs, decode_sized}
 use Rattle.can_log.specs.Line.{bytes_spelled}
+use Rattle.can_log.proofs.Lists.{all_map, all_take}
 use Rattle.can_log.proofs.Spelling.{hex_value}
 
 pub after_push : (r n : ℕ) (ds : List ℕ) (c : ℕ) → digits_value_after r n (ds ++ c ∷ []) ≡ digits_value_after r n ds * r + digit_value c
@@ -53,20 +54,6 @@ below_sixteen : (n k : ℕ) (ds : List ℕ) → AllByRecursion (λ b. digit_valu
 below_sixteen n k [] each few = bound_sixteen-lt k n
 below_sixteen n zero (d ∷ ds) each few = absurd (omega arith)
 below_sixteen n (suc k) (d ∷ ds) each few = omega (arith, below_sixteen (n * 16 + digit_value d) k ds each.1 (omega arith), bound_sixteen-le k (n * 16 + digit_value d) (n * 16 + 15) (omega (arith, each.0)))
-
-pub all_map : (P Q : ℕ → Type 0) → ((x : ℕ) → P x → Q x) → (xs : List ℕ) → AllByRecursion P xs → AllByRecursion Q xs
-all_map P Q f [] each = tt
-all_map P Q f (x ∷ xs) each = (f x each.0, all_map P Q f xs each.1)
-
-pub all_at : (P : ℕ → Type 0) (xs : List ℕ) (i : ℕ) → AllByRecursion P xs → i < length xs → P (get_or xs i 0)
-all_at P [] i each h = absurd (omega arith)
-all_at P (x ∷ xs) zero each h = each.0
-all_at P (x ∷ xs) (suc i) each h = all_at P xs i each.1 (omega arith)
-
-pub all_take : (P : ℕ → Type 0) (n : ℕ) (xs : List ℕ) → AllByRecursion P xs → AllByRecursion P (take n xs)
-all_take P zero xs each = tt
-all_take P (suc n) [] each = tt
-all_take P (suc n) (x ∷ xs) each = (each.0, all_take P n xs each.1)
 
 abbrev pub AreDigits : List ℕ → Type 0
 AreDigits = AllByRecursion (λ b. is_ascii_digit b ≡ true)
@@ -134,7 +121,3 @@ pub bytes_len : (ds : List ℕ) → length ds % 2 ≡ 0 → 2 * length (bytes_sp
 bytes_len [] even = refl
 bytes_len (h ∷ []) even = absurd (omega arith)
 bytes_len (h ∷ l ∷ ds) even = omega (arith, bytes_len ds (omega arith))
-
-pub from_ok : {A E P : Type 0} (r : Result A E) → OnOk r P → IsOk r → P
-from_ok (Ok x) h ok = h
-from_ok (Err e) h ok = absurd cc

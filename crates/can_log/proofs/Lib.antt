@@ -1,7 +1,14 @@
+pub mod AllElements
+pub mod Replacing
+pub mod CanonicalDigits
+pub mod CanonicalData
+pub mod LogLines
+pub mod CanonicalLines
+pub mod Lists
 pub mod Runs
 pub mod FieldLaws
 pub mod RunLaws
-pub mod MoreFieldLaws
+pub mod SmallFields
 pub mod LineFields
 pub mod Spelling
 pub mod LineReads
@@ -13,9 +20,4 @@ pub mod LineFeeds
 pub mod RefusedPlaces
 pub mod ScannerSteps
 pub mod LogReads
-pub mod AllElements
-pub mod Replacing
-pub mod CanonicalDigits
-pub mod CanonicalData
-pub mod LogLines
-pub mod CanonicalLines
+pub mod LegalOrRefused

@@ -5,10 +5,10 @@ use Rattle.std.specs.List.{AllByRecursion}
 use Rattle.can_log.specs.declared.frame.Stamped.{Stamped}
 use Rattle.can_log.specs.Line.{Body, classic, remote, fd, LineSpelling, IsRunOf, IsBody, IsMark, IsLineSpelling, IsLineText, LineMeans, spell_body, spell_mark, spell_line}
 use Rattle.can_log.specs.Refused.{NoLineFeed, HasCompletion}
+use Rattle.can_log.proofs.AllElements.{AllByRecursion-append}
 
 pub clean_append : (a b : List ℕ) → NoLineFeed a → NoLineFeed b → NoLineFeed (a ++ b)
-clean_append [] b h k = k
-clean_append (x ∷ a) b h k = (h.0, clean_append a b h.1 k)
+clean_append = AllByRecursion-append (λ b. b ≢ 10)
 
 pub clean_front : (a b : List ℕ) → NoLineFeed (a ++ b) → NoLineFeed a
 clean_front [] b h = tt

@@ -10,7 +10,7 @@ use Rattle.can_log.specs.Line.{Body, classic, remote, fd}
 use Rattle.can_log.specs.LineReader.{stamp_at, place_at, is_identifier, identifier_at, is_even, data_at, raw_dlc_at, is_eight, classic_at, remote_at, fd_at, body_at, mark_at, end_at, Parts, frame_at}
 use Rattle.can_log.proofs.FieldLaws.{Follows, CanEnd, Law, Both, both_law, Either, Starts, Misses, either_law}
 use Rattle.can_log.proofs.RunLaws.{AnyByte, tells, OneByte, byte_law, IsRun, AllIn, NotIn, run_law, run_shorts, run_takes, all_more}
-use Rattle.can_log.proofs.MoreFieldLaws.{weaken, Seen, seen_law, Only, only_law, only_short, Nothing, nothing_law, Never, IsEnd, end_law, exact_law}
+use Rattle.can_log.proofs.SmallFields.{weaken, Seen, seen_law, Only, only_law, only_short, Nothing, nothing_law, Never, IsEnd, end_law, exact_law}
 
 -- ---- what a field begins with
 

@@ -11,7 +11,7 @@ use Rattle.can_log.specs.FieldReader.{short, refused, FieldRead, ◌>>=◌, byte
 use Rattle.can_log.specs.LineReader.{Parts, stamp_at, place_at, identifier_at, body_at, mark_at, end_at, frame_at, line_at, stamped_by, meaning_by, AreParts, AreLineParts, FitsBody}
 use Rattle.can_log.proofs.FieldLaws.{IsOpen, CanEnd, Law, Both, both_law, Either, Starts, Misses, either_law, which, bind_ok, bind_err, both_is}
 use Rattle.can_log.proofs.RunLaws.{OneByte, byte_law, byte_is, rest_is, value_is}
-use Rattle.can_log.proofs.MoreFieldLaws.{Never, IsEnd, end_law, Seen, seen_law, seen_failed, end_done}
+use Rattle.can_log.proofs.SmallFields.{Never, IsEnd, end_law, Seen, seen_law, seen_failed, end_done}
 use Rattle.can_log.proofs.LineFields.{FrameOn, parts_of, frame_law, any_follows, both_starts, frame_on_begins}
 use Rattle.can_log.proofs.Spelling.{parts_in, tree_of, nested_of, to_tree, from_tree}
 

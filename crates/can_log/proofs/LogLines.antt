@@ -12,12 +12,12 @@ is_no_feed : (b : ℕ) → b ≢ 10 → (b == 10) ≡ false
 is_no_feed b other = grind (arith, nat_tests)
 
 -- a line ends at its line feed
-log_lines-ended : (line more : List ℕ) → NoLineFeed line → log_lines (line ++ 10 ∷ more) ≡ line ∷ log_lines more
+pub log_lines-ended : (line more : List ℕ) → NoLineFeed line → log_lines (line ++ 10 ∷ more) ≡ line ∷ log_lines more
 log_lines-ended [] more none = refl
 log_lines-ended (b ∷ line) more none = rw (is_no_feed b none.0, log_lines-ended line more none.1) refl
 
 -- the bytes of an unfinished line
-log_lines-rest : (rest : List ℕ) → NoLineFeed rest → log_lines rest ≡ last_line rest
+pub log_lines-rest : (rest : List ℕ) → NoLineFeed rest → log_lines rest ≡ last_line rest
 log_lines-rest [] none = refl
 log_lines-rest (b ∷ []) none = rw (is_no_feed b none.0) refl
 log_lines-rest (b ∷ c ∷ rest) none = rw (is_no_feed b none.0, log_lines-rest (c ∷ rest) none.1) refl
@@ -30,7 +30,7 @@ log_lines_of_parts (line ∷ lines) rest none none_behind =
 
 -- ---- what lines in a row mean
 
-mean_apart : (lines more : List (List ℕ)) (whats : List (Option Stamped)) → LinesMean (lines ++ more) whats
+pub mean_apart : (lines more : List (List ℕ)) (whats : List (Option Stamped)) → LinesMean (lines ++ more) whats
     → (front : List (Option Stamped)) × (back : List (Option Stamped)) × (whats ≡ front ++ back) × LinesMean lines front × LinesMean more back
 mean_apart [] more whats mean = ([], whats, refl, tt, mean)
 mean_apart (line ∷ lines) more [] mean = absurd mean
@@ -38,7 +38,7 @@ mean_apart (line ∷ lines) more (what ∷ whats) mean =
     let rest = mean_apart lines more whats mean.1 in
     (what ∷ rest.0, rest.1, ap (λ (z : List (Option Stamped)). what ∷ z) rest.2, (mean.0, rest.3), rest.4)
 
-mean_together : (lines more : List (List ℕ)) (front back : List (Option Stamped)) → LinesMean lines front → LinesMean more back
+pub mean_together : (lines more : List (List ℕ)) (front back : List (Option Stamped)) → LinesMean lines front → LinesMean more back
     → LinesMean (lines ++ more) (front ++ back)
 mean_together [] more [] back mean next = next
 mean_together [] more (what ∷ front) back mean next = absurd mean

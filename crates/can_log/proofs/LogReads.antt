@@ -5,13 +5,14 @@ use Rattle.std.proofs.lemmas.List.{append-nil, take_at, take-append-drop, length
 use Rattle.can_log.specs.declared.frame.Stamped.{Stamped}
 use Rattle.can_log.specs.declared.scanner.Scan.{Scan}
 use Rattle.can_log.specs.declared.scanner.Scan.TheVariants as scan
-use Rattle.can_log.specs.Line.{LineMeans}
 use Rattle.can_log.specs.Refused.{NoLineFeed}
 use Rattle.can_log.specs.Log.{log_lines, LinesMean, LogMeans, ended_lines}
 use Rattle.can_log.specs.Scanning.{Standing, Scans, ScansOn, ScansFrom, Finishes, FinishesOn, FinishesFrom}
 use Rattle.can_log.specs.WholeLog.{at_start, StandsAfter, IsRefusedBehind, ReadsOn, ReadsEnd, ScansAll, Told, line, refused, told, lines_from, TellsLog}
 use Rattle.can_log.proofs.LineFeeds.{line_clean}
-use Rattle.can_log.proofs.RefusedPlaces.{lines_first, last_line}
+use Rattle.can_log.proofs.LogLines.{log_lines-rest, mean_together}
+use Rattle.can_log.proofs.RefusedPlaces.{lines_first, lines_before_are_one, refused_place_is_one, refused_log_means_nothing}
+use Rattle.can_log.proofs.LineReads.{one_meaning}
 use Rattle.can_log.proofs.ScannerSteps.{empty_legal, place_extends}
 
 -- ---- lines at the end of a list of lines
@@ -19,12 +20,6 @@ use Rattle.can_log.proofs.ScannerSteps.{empty_legal, place_extends}
 ended_more : (lines : List (List ℕ)) (last : List ℕ) → ended_lines (lines ++ last ∷ []) ≡ ended_lines lines ++ (last ++ 10 ∷ [])
 ended_more [] last = append-nil (last ++ 10 ∷ [])
 ended_more (first ∷ lines) last = ap (λ (z : List ℕ). (first ++ 10 ∷ []) ++ z) (ended_more lines last) ∙ sym (append_assoc (first ++ 10 ∷ []) (ended_lines lines) (last ++ 10 ∷ []))
-
-means_more : (lines : List (List ℕ)) (whats : List (Option Stamped)) (last : List ℕ) (what : Option Stamped) → LinesMean lines whats → LineMeans last what → LinesMean (lines ++ last ∷ []) (whats ++ what ∷ [])
-means_more [] [] last what m k = (k, tt)
-means_more [] (other ∷ whats) last what m k = absurd m
-means_more (first ∷ lines) [] last what m k = absurd m
-means_more (first ∷ lines) (other ∷ whats) last what m k = (m.0, means_more lines whats last what m.1 k)
 
 same_length : (lines : List (List ℕ)) (whats : List (Option Stamped)) → LinesMean lines whats → length lines ≡ length whats
 same_length [] [] m = refl
@@ -72,7 +67,7 @@ scan_reads_on bytes whats piece old new answer stands scans = by answer (scans_o
           subst (StandsAfter (bytes ++ take used piece) (whats ++ what ∷ [])) (sym is) (record {
             lines = stands.lines ++ (old.line ++ front) ∷ [];
             parts = ended;
-            means = means_more stands.lines whats (old.line ++ front) what stands.means means;
+            means = mean_together stands.lines ((old.line ++ front) ∷ []) whats (what ∷ []) stands.means (means, tt);
             legal = empty_legal;
             counted = n_is ∙ number ∙ sym (length-append whats (what ∷ []));
             taken = omega (arith, stands.taken, length-append bytes (take used piece), length-take-le used piece fits);
@@ -104,13 +99,13 @@ finish_reads_end log whats old new answer stands finishes = by answer (finishes_
 
     alone : (bytes : List ℕ) → NoLineFeed bytes → 0 < length bytes → log_lines bytes ≡ bytes ∷ []
     alone [] clean some = absurd (omega arith)
-    alone (b ∷ bytes) clean some = last_line b bytes clean
+    alone (b ∷ bytes) clean some = log_lines-rest (b ∷ bytes) clean
 
     by : (answer : Scan) → FinishesOn old answer new → ReadsEnd log whats answer
     by scan.NeedMore s = s
     by (scan.Line used n what) (some, none, n_is, means, is) = (
       n_is ∙ number,
-      subst (λ (z : List (List ℕ)). LinesMean z (whats ++ what ∷ [])) (sym (lines_are (old.line ∷ []) (alone old.line (line_clean old.line what means) some))) (means_more stands.lines whats old.line what stands.means means),
+      subst (λ (z : List (List ℕ)). LinesMean z (whats ++ what ∷ [])) (sym (lines_are (old.line ∷ []) (alone old.line (line_clean old.line what means) some))) (mean_together stands.lines (old.line ∷ []) whats (what ∷ []) stands.means (means, tt)),
     )
     by (scan.Bad n column) (some, n_is, unfinished, is) = (
       record { lines = stands.lines; whats = whats; rest = old.line; parts = stands.parts; legal = stands.means; at = n_is ∙ number ∙ ap (λ (n : ℕ). n + 1) (sym (same_length stands.lines whats stands.means)); here = inr unfinished },
@@ -181,3 +176,26 @@ scanning_reads_the_log pieces answers last between new scans finishes = elim (te
   | inl told_all ↦ inl told_all
   | inr (number, column, more, place, is) ↦ inr (number, column, place.0, is ∙ ap (λ (z : List (Option Stamped)). lines_from 1 z ++ refused number column ∷ []) (sym place.1))
 ]
+
+-- ---- how the log is cut plays no part
+
+lines_mean_one : (lines : List (List ℕ)) (whats others : List (Option Stamped)) → LinesMean lines whats → LinesMean lines others → whats ≡ others
+lines_mean_one [] [] [] m n = refl
+lines_mean_one [] [] (other ∷ others) m n = absurd n
+lines_mean_one [] (what ∷ whats) others m n = absurd m
+lines_mean_one (first ∷ lines) [] others m n = absurd m
+lines_mean_one (first ∷ lines) (what ∷ whats) [] m n = absurd n
+lines_mean_one (first ∷ lines) (what ∷ whats) (other ∷ others) m n =
+    ap (λ (z : Option Stamped). z ∷ whats) (one_meaning first what other m.0 n.0) ∙ ap (λ (z : List (Option Stamped)). other ∷ z) (lines_mean_one lines whats others m.1 n.1)
+
+pub log_tells_one : (log : List ℕ) (report other : List Told) → TellsLog log report → TellsLog log other → report ≡ other
+log_tells_one log report other (inl (whats, means, is)) (inl (whats2, means2, is2)) =
+    is ∙ ap (lines_from 1) (lines_mean_one (log_lines log) whats whats2 means means2) ∙ sym is2
+log_tells_one log report other (inl (whats, means, is)) (inr (n, column, place, is2)) = absurd (refused_log_means_nothing log n column whats place means)
+log_tells_one log report other (inr (n, column, place, is)) (inl (whats, means, is2)) = absurd (refused_log_means_nothing log n column whats place means)
+log_tells_one log report other (inr (n, column, place, is)) (inr (n2, column2, place2, is2)) =
+    let at = refused_place_is_one log n column n2 column2 place place2 in
+    let lines = lines_before_are_one log n column n2 column2 place place2 in
+    let whats = lines_mean_one place2.lines place.whats place2.whats (subst (λ (z : List (List ℕ)). LinesMean z place.whats) lines place.legal) place2.legal in
+    is ∙ ap (λ (z : List (Option Stamped)). lines_from 1 z ++ refused n column ∷ []) whats
+    ∙ ap (λ (z : ℕ). lines_from 1 place2.whats ++ refused z column ∷ []) at.0 ∙ ap (λ (z : ℕ). lines_from 1 place2.whats ++ refused n2 z ∷ []) at.1 ∙ sym is2

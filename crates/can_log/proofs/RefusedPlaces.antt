@@ -1,34 +1,16 @@
 -- Refused places: a log has at most one, and none if it is legal.
 use Rattle.std.proofs.Common.{◌≡◌, ◌≢◌, ℕ, ◌+◌, Bool, true, false, List, [], ◌∷◌, ◌++◌, length, Option, None, refl, sym, ap, subst, ◌∙◌, append_assoc, arith, inl, inr, ◌⊎◌}
 use Rattle.std.specs.Prelude.{◌==◌}
-use Rattle.std.specs.List.{onto_first}
 use Rattle.std.proofs.lemmas.Bool.{eqb-true, eq-eqb}
 use Rattle.std.proofs.lemmas.List.{append-nil}
 use Rattle.can_log.specs.declared.frame.Stamped.{Stamped}
 use Rattle.can_log.specs.Line.{LineMeans, MeansNothing}
 use Rattle.can_log.specs.Refused.{NoLineFeed, HasCompletion, HasNoCompletion, IsRefusedPlace, IsUnfinishedAt}
 use Rattle.can_log.specs.Log.{log_lines, LinesMean, LogMeans, ended_lines, IsRefusedIn}
+use Rattle.can_log.proofs.LogLines.{log_lines-ended, log_lines-rest, mean_apart}
 use Rattle.can_log.proofs.LineReads.{front_legal}
+use Rattle.can_log.proofs.Lists.{two_cuts}
 use Rattle.can_log.proofs.LineFeeds.{clean_at, line_clean, completion_clean}
-
--- ---- lists that are cut at two places
-
--- where one list is cut at two bytes, the cuts are one, or one is before the other
-abbrev pub TwoCuts : List ℕ → ℕ → List ℕ → ℕ → List ℕ → List ℕ → Type 0
-TwoCuts a x b y p q = ((a ≡ b) × (x ≡ y) × (p ≡ q)) ⊎ (((z : List ℕ) × (b ≡ a ++ x ∷ z)) ⊎ ((z : List ℕ) × (a ≡ b ++ y ∷ z)))
-
-pub two_cuts : (a : List ℕ) (x : ℕ) (p b : List ℕ) (y : ℕ) (q : List ℕ) → a ++ x ∷ p ≡ b ++ y ∷ q → TwoCuts a x b y p q
-two_cuts [] x p [] y q e = inl (refl, cc, cc)
-two_cuts [] x p (c ∷ b) y q e = inr (inl (b, let same : x ≡ c = cc in ap (λ (z : ℕ). z ∷ b) (sym same)))
-two_cuts (c ∷ a) x p [] y q e = inr (inr (a, let same : c ≡ y = cc in ap (λ (z : ℕ). z ∷ a) same))
-two_cuts (c ∷ a) x p (d ∷ b) y q e =
-    let same : c ≡ d = cc in
-    let rest : a ++ x ∷ p ≡ b ++ y ∷ q = cc in
-    elim (two_cuts a x p b y q rest) [
-      | inl (h, k, l) ↦ inl (cc, k, l)
-      | inr (inl (z, h)) ↦ inr (inl (z, cc))
-      | inr (inr (z, h)) ↦ inr (inr (z, cc))
-    ]
 
 -- ---- the refused byte of a line and what follows it
 
@@ -70,7 +52,7 @@ place_is_one bytes column column2 r t = elim (two_cuts r.text r.bad r.after t.te
 place_or_unfinished : (bytes : List ℕ) (column column2 : ℕ) → IsRefusedPlace bytes column → IsUnfinishedAt bytes column2 → ⊥
 place_or_unfinished bytes column column2 r u = not_in_line r.text r.bad r.after (refuses_at r) (subst HasCompletion r.parts (whole_text bytes u.legal))
 
-abbrev Ends : List ℕ → ℕ → Type 0
+abbrev pub Ends : List ℕ → ℕ → Type 0
 Ends rest column = IsRefusedPlace rest column ⊎ IsUnfinishedAt rest column
 
 end_is_one : (rest : List ℕ) (column column2 : ℕ) → Ends rest column → Ends rest column2 → column ≡ column2
@@ -91,21 +73,6 @@ no_line_last rest column what (inr u) means = u.no_line what means
 
 -- ---- the lines of a log
 
-cons_clean : (b : ℕ) (line : List ℕ) (lines : List (List ℕ)) → b ≢ 10 → log_lines (b ∷ line) ≡ onto_first b (log_lines line)
-cons_clean b line lines h = by (b == 10) refl
-  where
-    by : (t : Bool) → (b == 10) ≡ t → log_lines (b ∷ line) ≡ onto_first b (log_lines line)
-    by true e = absurd (h (eqb-true b 10 e))
-    by false e = rw e refl
-
-pub ended_line : (line more : List ℕ) → NoLineFeed line → log_lines (line ++ 10 ∷ more) ≡ line ∷ log_lines more
-ended_line [] more h = refl
-ended_line (b ∷ line) more h = cons_clean b (line ++ 10 ∷ more) [] h.0 ∙ ap (onto_first b) (ended_line line more h.1)
-
-pub last_line : (b : ℕ) (line : List ℕ) → NoLineFeed (b ∷ line) → log_lines (b ∷ line) ≡ (b ∷ line) ∷ []
-last_line b [] h = cons_clean b [] [] h.0
-last_line b (c ∷ line) h = cons_clean b (c ∷ line) [] h.0 ∙ ap (onto_first b) (last_line c line h.1)
-
 -- the bytes up to the first line feed, if there is one
 abbrev pub FirstLine : List ℕ → Type 0
 FirstLine bytes = ((line : List ℕ) × (more : List ℕ) × (bytes ≡ line ++ 10 ∷ more) × NoLineFeed line) ⊎ NoLineFeed bytes
@@ -125,7 +92,7 @@ first_line (b ∷ bytes) = by (first_line bytes) (b == 10) refl
 -- what is refused means nothing as a log
 ends_mean_nothing : (rest : List ℕ) (column : ℕ) (whats : List (Option Stamped)) → Ends rest column → LogMeans rest whats → ⊥
 ends_mean_nothing rest column whats ends means = elim (first_line rest) [
-  | inl (line, more, e, clean) ↦ first line more e whats (subst (λ (z : List (List ℕ)). LinesMean z whats) (ap log_lines e ∙ ended_line line more clean) means)
+  | inl (line, more, e, clean) ↦ first line more e whats (subst (λ (z : List (List ℕ)). LinesMean z whats) (ap log_lines e ∙ log_lines-ended line more clean) means)
   | inr clean ↦ last rest refl clean
 ]
   where
@@ -139,7 +106,7 @@ ends_mean_nothing rest column whats ends means = elim (first_line rest) [
 
     last : (bytes : List ℕ) → rest ≡ bytes → NoLineFeed bytes → ⊥
     last [] e clean = no_line_last rest column None ends (inl e)
-    last (b ∷ bytes) e clean = only (b ∷ bytes) whats e (subst (λ (z : List (List ℕ)). LinesMean z whats) (ap log_lines e ∙ last_line b bytes clean) means)
+    last (b ∷ bytes) e clean = only (b ∷ bytes) whats e (subst (λ (z : List (List ℕ)). LinesMean z whats) (ap log_lines e ∙ log_lines-rest (b ∷ bytes) clean) means)
 
 -- ---- the refused place of a log
 
@@ -147,7 +114,7 @@ ends_mean_nothing rest column whats ends means = elim (first_line rest) [
 abbrev Cut : List ℕ → List (List ℕ) → List ℕ → Type 0
 Cut log lines rest = log ≡ ended_lines lines ++ rest
 
-next_cut : (line : List ℕ) (lines : List (List ℕ)) (rest : List ℕ) → ended_lines (line ∷ lines) ++ rest ≡ line ++ 10 ∷ (ended_lines lines ++ rest)
+pub next_cut : (line : List ℕ) (lines : List (List ℕ)) (rest : List ℕ) → ended_lines (line ∷ lines) ++ rest ≡ line ++ 10 ∷ (ended_lines lines ++ rest)
 next_cut line lines rest = append_assoc (line ++ 10 ∷ []) (ended_lines lines) rest ∙ append_assoc line (10 ∷ []) (ended_lines lines ++ rest)
 
 -- two lines that are ended at the same place are one
@@ -175,6 +142,10 @@ same_cut log (line ∷ lines) (line2 ∷ lines2) (what ∷ whats) (what2 ∷ wha
     let more = same_cut (ended_lines lines ++ rest) lines lines2 whats whats2 rest rest2 column column2 refl one.1 m.1 m2.1 r r2 in
     (ap (λ (z : List ℕ). z ∷ lines) one.0 ∙ ap (λ (z : List (List ℕ)). line2 ∷ z) more.0, more.1)
 
+-- the lines before it are the same
+pub lines_before_are_one : (log : List ℕ) (line column line2 column2 : ℕ) → (r : IsRefusedIn log line column) → (t : IsRefusedIn log line2 column2) → r.lines ≡ t.lines
+lines_before_are_one log line column line2 column2 r t = (same_cut log r.lines t.lines r.whats t.whats r.rest t.rest column column2 r.parts t.parts r.legal t.legal r.here t.here).0
+
 -- A log has at most one refused place.
 pub refused_place_is_one : (log : List ℕ) (line column line2 column2 : ℕ) → IsRefusedIn log line column → IsRefusedIn log line2 column2 → (line ≡ line2) × (column ≡ column2)
 refused_place_is_one log line column line2 column2 r t =
@@ -186,15 +157,10 @@ pub lines_first : (lines : List (List ℕ)) (whats : List (Option Stamped)) (res
 lines_first [] whats rest m = refl
 lines_first (line ∷ lines) [] rest m = absurd m
 lines_first (line ∷ lines) (what ∷ whats) rest m =
-    ap log_lines (next_cut line lines rest) ∙ ended_line line (ended_lines lines ++ rest) (line_clean line what m.0) ∙ ap (λ (z : List (List ℕ)). line ∷ z) (lines_first lines whats rest m.1)
-
-lines_mean_behind : (lines more : List (List ℕ)) (whats : List (Option Stamped)) → LinesMean (lines ++ more) whats → (behind : List (Option Stamped)) × LinesMean more behind
-lines_mean_behind [] more whats m = (whats, m)
-lines_mean_behind (line ∷ lines) more [] m = absurd m
-lines_mean_behind (line ∷ lines) more (what ∷ whats) m = lines_mean_behind lines more whats m.1
+    ap log_lines (next_cut line lines rest) ∙ log_lines-ended line (ended_lines lines ++ rest) (line_clean line what m.0) ∙ ap (λ (z : List (List ℕ)). line ∷ z) (lines_first lines whats rest m.1)
 
 -- A refused log has no meaning.
 pub refused_log_means_nothing : (log : List ℕ) (line column : ℕ) (whats : List (Option Stamped)) → IsRefusedIn log line column → LogMeans log whats → ⊥
 refused_log_means_nothing log line column whats r m =
-    let behind = lines_mean_behind r.lines (log_lines r.rest) whats (subst (λ (z : List (List ℕ)). LinesMean z whats) (ap log_lines r.parts ∙ lines_first r.lines r.whats r.rest r.legal) m) in
-    ends_mean_nothing r.rest column behind.0 r.here behind.1
+    let parts = mean_apart r.lines (log_lines r.rest) whats (subst (λ (z : List (List ℕ)). LinesMean z whats) (ap log_lines r.parts ∙ lines_first r.lines r.whats r.rest r.legal) m) in
+    ends_mean_nothing r.rest column parts.1 r.here parts.4

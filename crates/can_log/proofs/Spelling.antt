@@ -12,7 +12,7 @@ use Rattle.can_log.specs.Line.{Body, classic, remote, fd, LineSpelling, spell_ra
 use Rattle.can_log.specs.FieldReader.{is_in}
 use Rattle.can_log.specs.LineReader.{is_identifier, is_even, is_eight, Parts}
 use Rattle.can_log.proofs.RunLaws.{tells, IsRun, AllIn}
-use Rattle.can_log.proofs.MoreFieldLaws.{IsEnd}
+use Rattle.can_log.proofs.SmallFields.{IsEnd}
 use Rattle.can_log.proofs.LineFields.{Stamp, Place, IdForm, DataForm, Dlc, BodyForm, TailForm, Nested, FrameOn, eight_is_id}
 
 run_of : {class : Class} {least most : ℕ} {v text : List ℕ} → IsRun class least most v text → IsRunOf (is_in class) least most v

@@ -1,5 +1,5 @@
 -- What holds of lines and logs, whoever reads them.
-use Rattle.std.specs.Prelude.{◌≡◌, ℕ, ◌≤◌, List, [], ◌∷◌, ◌++◌, Option, length}
+use Rattle.std.specs.Prelude.{◌≡◌, ℕ, ◌≤◌, ◌⊎◌, List, [], ◌∷◌, ◌++◌, Option, length}
 use Rattle.std.specs.List.{concat}
 use Rattle.can_log.specs.declared.scanner.Scan.{Scan}
 use Rattle.can_log.specs.declared.frame.Stamped.{Stamped}
@@ -7,7 +7,7 @@ use Rattle.can_log.specs.Line.{LineMeans}
 use Rattle.can_log.specs.Refused.{NoLineFeed, HasCompletion, HasNoCompletion}
 use Rattle.can_log.specs.Log.{LogMeans, IsRefusedIn}
 use Rattle.can_log.specs.Scanning.{Standing, Scans, Finishes}
-use Rattle.can_log.specs.WholeLog.{at_start, StandsAfter, ReadsOn, ReadsEnd, ScansAll, told, TellsLog}
+use Rattle.can_log.specs.WholeLog.{at_start, StandsAfter, ReadsOn, ReadsEnd, ScansAll, Told, told, TellsLog}
 
 -- a line means at most one thing
 abbrev pub LineMeansAtMostOne : Type 0
@@ -34,6 +34,10 @@ abbrev pub RefusedPlaceIsOne : Type 0
 RefusedPlaceIsOne = (log : List ℕ) (line column other_line other_column : ℕ) → IsRefusedIn log line column → IsRefusedIn log other_line other_column
     → (line ≡ other_line) × (column ≡ other_column)
 
+-- a log means something, or it has a refused place
+abbrev pub LogIsLegalOrRefused : Type 0
+LogIsLegalOrRefused = (log : List ℕ) → ((whats : List (Option Stamped)) × LogMeans log whats) ⊎ ((line : ℕ) × (column : ℕ) × IsRefusedIn log line column)
+
 -- a log with a refused place has no meaning
 abbrev pub RefusedLogMeansNothing : Type 0
 RefusedLogMeansNothing = (log : List ℕ) (line column : ℕ) (whats : List (Option Stamped)) → IsRefusedIn log line column → ¬ LogMeans log whats
@@ -52,3 +56,7 @@ FinishReadsEnd = (log : List ℕ) (whats : List (Option Stamped)) (old new : Sta
 abbrev pub ScanningReadsTheLog : Type 0
 ScanningReadsTheLog = (pieces : List (List ℕ)) (answers : List Scan) (last : Scan) (between new : Standing) → ScansAll at_start pieces answers between → Finishes between last new
     → TellsLog (concat pieces) (told (answers ++ last ∷ []))
+
+-- All that is to be told of a log is one thing: two runs over one log, cut in two ways, tell the same.
+abbrev pub LogTellsOne : Type 0
+LogTellsOne = (log : List ℕ) (report other : List Told) → TellsLog log report → TellsLog log other → report ≡ other

@@ -1,8 +1,8 @@
 //! What holds of lines and logs. A law is a call without a body: a proof that needs it calls it, and nothing runs.
 
+ghost use Rattle.can_log.specs.Laws.{LineMeansAtMostOne, LineHasNoLineFeed, LineIsShort, FrontHasCompletion, SixteenAreEnough, RefusedPlaceIsOne, LogIsLegalOrRefused, RefusedLogMeansNothing, ScanReadsOn, FinishReadsEnd, ScanningReadsTheLog, LogTellsOne};
 ghost use Rattle.can_log.specs.CanonicalLaws.{CanonicalLineMeans, CanonicalTextIsOneLine, CanonicalLineLength};
 ghost use Rattle.can_log.specs.LogLaws.{LogLinesOfParts, LinesMeanInParts, LineIsLog, LogsJoin};
-ghost use Rattle.can_log.specs.Laws.{LineMeansAtMostOne, LineHasNoLineFeed, LineIsShort, FrontHasCompletion, SixteenAreEnough, RefusedPlaceIsOne, RefusedLogMeansNothing, ScanReadsOn, FinishReadsEnd, ScanningReadsTheLog};
 
 /// A line means at most one thing.
 pub fn line_means_at_most_one()
@@ -34,6 +34,11 @@ pub fn refused_place_is_one()
     ensures { RefusedPlaceIsOne }
 {}
 
+/// A log means something, or it has a refused place.
+pub fn log_is_legal_or_refused()
+    ensures { LogIsLegalOrRefused }
+{}
+
 /// A log with a refused place has no meaning.
 pub fn refused_log_means_nothing()
     ensures { RefusedLogMeansNothing }
@@ -53,6 +58,11 @@ pub fn finish_reads_end()
 /// or those before its refused place, and the place. How the log is cut plays no part.
 pub fn scanning_reads_the_log()
     ensures { ScanningReadsTheLog }
+{}
+
+/// All that is to be told of a log is one thing: two runs over one log, cut in two ways, tell the same.
+pub fn log_tells_one()
+    ensures { LogTellsOne }
 {}
 
 /// The text of a canonical line means the classic frame that it was made of, at its time.

@@ -1,4 +1,18 @@
 //! Frames of a CAN log, and the lines that they stand in.
+//!
+//! A [`Scanner`] takes a log of can-utils (`candump -l`, `candump -L`) in pieces, however it is cut, and answers line by line
+//! what was recorded, or the place of the first byte that no line has there. It allocates nothing, and a line that lies
+//! inside one piece is read where it lies. [`line_bytes`] goes the other way, from a frame to its line.
+//!
+//! ```rust
+//! let mut scanner = Scanner::new();
+//! match scanner.scan(b"(1.250000) can0 7E0#0322F190\n") {
+//!     Scan::Line { used, what, .. } => {} // a frame and its time, or a blank line: hand in the piece again from `used` on
+//!     Scan::NeedMore => {}                // hand in the next piece, or ask `finish`
+//!     Scan::Bad { line, column } => {}    // the log is refused here
+//!     Scan::End => {}                     // only `finish` answers this
+//! }
+//! ```
 #![tactic(auto)]
 
 mod canonical;

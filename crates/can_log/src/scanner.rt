@@ -5,6 +5,7 @@ ghost use Rattle.can_log.specs.Line.{LineMeans};
 ghost use Rattle.can_log.specs.Refused.{NoLineFeed, HasCompletion, IsRefusedPlace};
 ghost use Rattle.can_log.specs.Judging.{Judged};
 ghost use Rattle.can_log.specs.Scanning.{Scans, Finishes};
+ghost use Rattle.can_log.specs.WholeLog.{at_start};
 ghost use Rattle.can_log.specs.declared.scanner.Scan.TheVariants.{Bad};
 
 use crate::field::Stop;
@@ -37,7 +38,7 @@ pub enum Scan {
 }
 
 /// Reads the lines of a log out of its pieces, however it is cut. It allocates nothing: of a line that is cut it keeps the
-/// bytes so far.
+/// bytes so far, 223 at most, and judges them again with the next piece.
 #[derive(Debug, Drop)]
 pub struct Scanner {
     line: ArrayVec<u8, 223>,
@@ -68,7 +69,7 @@ impl Model for Scanner {
 impl Scanner {
     /// A scanner at the start of a log.
     pub fn new() -> Self
-        ensures { result ≡ record { lines = 0; line = []; taken = 0; refused = None } }
+        ensures { result ≡ at_start }
     {
         Scanner {
             line: ArrayVec::new(),
@@ -85,7 +86,8 @@ impl Scanner {
         self.taken
     }
 
-    /// Takes the next line of a piece, or the whole piece where no line ends in it.
+    /// Takes the next line of a piece, or the whole piece where no line ends in it. A refused byte is answered at once, also
+    /// in a line whose end is still to come, and from then on by every call.
     pub fn scan(&mut self, piece: &[u8]) -> Scan
         requires { self.old.taken + length piece.now ≤ 2 ^ 62 }
         ensures answer { Scans self.old piece.now result self.new }
@@ -118,7 +120,7 @@ impl Scanner {
         }
     }
 
-    /// Takes the last line of the log, if it has no line feed.
+    /// Takes the last line of the log, if it has no line feed. It is asked when no piece is left.
     pub fn finish(&mut self) -> Scan
         ensures answer { Finishes self.old result self.new }
     {
@@ -157,6 +159,17 @@ impl Scanner {
         };
         self.refused = Some(place);
         bad(place)
+    }
+}
+
+impl Default for Scanner {
+    ghost use Rattle.std.specs.Prelude.{◌≡◌};
+    ghost use Rattle.can_log.specs.WholeLog.{at_start};
+
+    ghost is_default = { λ s. s ≡ at_start };
+
+    fn default() -> Self {
+        Scanner::new()
     }
 }
 

@@ -1,0 +1,5 @@
+use Rattle.can_log.proofs.LogReads.{log_tells_one}
+use Rattle.can_log.proofs.laws.log_tells_one.Goals as goal
+
+pub returns : goal.returns
+returns c = log_tells_one
