@@ -8,6 +8,7 @@ pub mod LogLines
 pub mod Scanned
 pub mod Outcomes
 pub mod OneOutcome
+pub mod SomeOutcome
 pub mod EachElement
 pub mod ShortMessages
 pub mod ReadAgain

@@ -17,6 +17,10 @@ DirectionIsById = (settings : Settings) → AreSettings settings → (id : Id) (
 abbrev pub SingleMessageIsHeld : Type 0
 SingleMessageIsHeld = (frame : FrameValue) (message : List ℕ) → (single_message frame ≡ Some message) ↔ IsSingleFrame frame message
 
+-- each log comes to something
+abbrev pub OutcomeIsThere : Type 0
+OutcomeIsThere = (settings : Settings) (log : List ℕ) → (result : Result Accepted Fault) × IsOutcome settings log result
+
 -- a log comes to one thing
 abbrev pub OutcomeIsOne : Type 0
 OutcomeIsOne = (settings : Settings) (log : List ℕ) (first second : Result Accepted Fault)
