@@ -1,10 +1,6 @@
 //! What holds of lines and logs. A law is a call without a body: a proof that needs it calls it, and nothing runs.
 
-<<<<<<< HEAD
 ghost use Rattle.can_log.specs.Laws.{LineMeansAtMostOne, LineHasNoLineFeed, LineIsShort, FrontHasCompletion, SixteenAreEnough, RefusedPlaceIsOne, LogIsLegalOrRefused, RefusedLogMeansNothing, StartStands, ScanReadsOn, FinishReadsEnd, ScanningReadsTheLog, LogTellsOne};
-=======
-ghost use Rattle.can_log.specs.Laws.{LineMeansAtMostOne, LineHasNoLineFeed, LineIsShort, FrontHasCompletion, SixteenAreEnough, RefusedPlaceIsOne, LogIsLegalOrRefused, RefusedLogMeansNothing, ScanReadsOn, FinishReadsEnd, ScanningReadsTheLog, LogTellsOne};
->>>>>>> origin/engine
 ghost use Rattle.can_log.specs.CanonicalLaws.{CanonicalLineMeans, CanonicalTextIsOneLine, CanonicalLineLength};
 ghost use Rattle.can_log.specs.LogLaws.{LogLinesOfParts, LinesMeanInParts, LineIsLog, LogsJoin};
 
