@@ -35,7 +35,7 @@ Applies fault.Empty frame = frame.bytes ≡ []
 Applies fault.UnknownKind frame = (kind : ℕ) × (low : ℕ) × (3 < kind) × Begins kind low frame.bytes
 -- a single frame whose bytes spell no message
 Applies fault.SingleLength frame = (low : ℕ) × Begins 0 low frame.bytes × ((message : List ℕ) → ¬ Spells frame.bytes (single message))
--- a first frame below 8 bytes, or whose bytes announce no length that a first frame of theirs may announce
+-- a first frame whose bytes announce no length that a first frame of theirs may (`AnnouncesWrongly` says in which ways)
 Applies fault.FirstLength frame =
     (low : ℕ) × Begins 1 low frame.bytes
     × ((announced rx_dl : ℕ) (data_bytes : List ℕ) → ¬ Spells frame.bytes (first announced rx_dl data_bytes))
