@@ -1,7 +1,7 @@
 -- The verdict on a frame is the one that the table has.
-use Rattle.std.proofs.Common.{Option, ◌≡◌, ℕ, suc, ◌+◌, ◌-◌, ◌*◌, ◌%◌, ◌<◌, Bool, true, false, List, [], ◌∷◌, ◌++◌, length, ◌==◌, Some, None, Result, Ok, Err, refl, sym, ◌∙◌, ap, arith, cond, subst}
-use Rattle.std.specs.Prelude.{◌≢◌, not}
-use Rattle.std.proofs.lemmas.Bool.{lt-ltb, eq-eqb, ne_eqb, le-leb, lt-leb}
+use Rattle.std.proofs.Common.{zero, inl, inr, take, nat_le, Option, ◌≡◌, ℕ, suc, ◌+◌, ◌-◌, ◌*◌, ◌%◌, ◌<◌, Bool, true, false, List, [], ◌∷◌, ◌++◌, length, ◌==◌, Some, None, Result, Ok, Err, refl, sym, ◌∙◌, ap, arith, cond, subst}
+use Rattle.std.specs.Prelude.{◌↔◌, ◌≢◌, not}
+use Rattle.std.proofs.lemmas.Bool.{lt-ltb, ltb-true, eq-eqb, eqb-true, ne_eqb, le-leb, lt-leb, leb-true, leb-false, cases_Bool, false≢true}
 use Rattle.can_log.specs.declared.frame.Dir.{Dir}
 use Rattle.isotp_pdu.specs.Layout.{Layout, layout_of}
 use Rattle.isotp_pdu.specs.Layout as layout
@@ -15,7 +15,7 @@ use Rattle.isotp_receive.specs.declared.event.Cause.{Cause}
 use Rattle.isotp_receive.specs.declared.event.Ended.{Ended}
 use Rattle.isotp_receive.specs.declared.event.Cause.TheVariants as cause
 use Rattle.isotp_receive.specs.declared.event.Reason.TheVariants as reason
-use Rattle.isotp_receive.specs.Trace.{Entry, consecutive, role, own_role}
+use Rattle.isotp_receive.specs.Trace.{single, Entry, consecutive, role, own_role}
 use Rattle.isotp_receive.specs.Places.{bytes_in_first, bytes_before, consecutive_count, FitsAs}
 use Rattle.isotp_receive.specs.OnTime.{IsOnTime}
 use Rattle.isotp_receive.specs.Standing.{Standing, reference, fits_length, standing_of, stands}
@@ -26,13 +26,13 @@ use Rattle.isotp_receive.proofs.Told.{self}
 use Rattle.isotp_receive.proofs.References.{at-same, refers, on-time-from, on-time-to}
 use Rattle.isotp_receive.proofs.Fits.{fits-join}
 use Rattle.isotp_receive.proofs.OpenLaws.{open-stands-here}
-use Rattle.isotp_receive.proofs.OpenPositions.{stands-there}
+use Rattle.isotp_receive.proofs.OpenPositions.{stands-there, below-count}
 use Rattle.isotp_receive.proofs.StandingLaws.{regrouped, ends-at, stands-open, open-stands}
 use Rattle.isotp_receive.proofs.DeliversLaws.{have, message-delivers}
 use Rattle.isotp_receive.proofs.Judgement.{on-judged}
 use Rattle.isotp_receive.proofs.Places.{at_here}
 use Rattle.isotp_receive.specs.Machine.{judged, on_judged}
-use Rattle.isotp_receive.specs.Delivers.{in_frames}
+use Rattle.isotp_receive.specs.Delivers.{Delivers, in_one_frame, in_frames}
 
 read-consecutive : (line micros sequence_number can_dl : ℕ) (bytes : List ℕ) (x : Result Layout PduFault) → own_role line micros x ≡ consecutive sequence_number can_dl bytes
     → x ≡ Ok (layout.consecutive sequence_number can_dl bytes)
@@ -68,6 +68,9 @@ third-of on_time number fits more a b c x y h g f = rw (h, g, f) refl
 fourth-of : (on_time number fits more : Bool) (a b c x y : Answer) → on_time ≡ true → number ≡ true → fits ≡ true → more ≡ true → by_tests on_time number fits more a b c x y ≡ x
 fourth-of on_time number fits more a b c x y h g f m = rw (h, g, f, m) refl
 
+fifth-of : (on_time number fits more : Bool) (a b c x y : Answer) → on_time ≡ true → number ≡ true → fits ≡ true → more ≡ false → by_tests on_time number fits more a b c x y ≡ y
+fifth-of on_time number fits more a b c x y h g f m = rw (h, g, f, m) refl
+
 not-true : (b : Bool) → (b ≡ true → ⊥) → b ≡ false
 not-true true h = absurd (h refl)
 not-true false h = refl
@@ -83,6 +86,16 @@ record IsJudged (limit : ℕ) (T : List Entry) (e : Entry) (i k sequence_number 
   kept : IsOnTime (T ++ e ∷ []) e.dir i (length T) e
       → FitsAs (bytes_in_first o.frame.frame.bytes) o.start.rx_dl o.start.len o.n (k + 1) sequence_number can_dl → k + 1 < o.n
       → verdict limit T e ≡ record { ended = None; told = stored }
+  covered : (bytes : List ℕ) → layout_of e.frame ≡ Ok (layout.consecutive sequence_number can_dl bytes) → (a : Answer) × HasVerdict limit T e a
+
+-- the row of the last consecutive frame
+last-row : (limit : ℕ) (T : List Entry) (e : Entry) (sequence_number can_dl : ℕ) (bytes m : List ℕ) → role e.dir e ≡ consecutive sequence_number can_dl bytes
+    → Delivers limit (T ++ e ∷ []) (length T) e.dir m → (a : Answer) × HasVerdict limit T e a
+last-row limit T e sequence_number can_dl bytes m goes (in_frames c) = (record { ended = None; told = message m }, last_frame m c)
+last-row limit T e sequence_number can_dl bytes m goes (in_one_frame x at kind) =
+    let is_e : x ≡ e = at-same (T ++ e ∷ []) (length T) x e at (at_here T [] e) in
+    let one : single m ≡ consecutive sequence_number can_dl bytes = sym kind ∙ ap (role e.dir) is_e ∙ goes in
+    absurd (cc)
 
 is-judged : (limit : ℕ) (T : List Entry) (e : Entry) (i k sequence_number can_dl : ℕ) (bytes : List ℕ) → role e.dir e ≡ consecutive sequence_number can_dl bytes
     → (o : IsOpenAt limit (T ++ e ∷ []) e.dir i k (length T)) → IsJudged limit T e i k sequence_number can_dl o
@@ -129,6 +142,34 @@ is-judged limit T e i k sequence_number can_dl bytes goes o =
           let product = ap (λ j. (j + 1) * (s.rx_dl - 1)) taken in
           is ∙ fourth-of (is_on_time st e.micros) (sequence_number == expected st) (has_length st can_dl) (wants_more st) _ _ _ _ _ (on_to on)
           (eq-eqb sequence_number (expected st) fit.0) (length_is ∙ fit.1) (lt-ltb _ _ (omega arith));
+      covered = λ bs h. elim (cases_Bool (is_on_time st e.micros)) [
+        | inr t ↦ (_, next_late sequence_number can_dl bs i k h o (λ on. false≢true (sym t ∙ on_to on)))
+        | inl t ↦ elim (cases_Bool (sequence_number == expected st)) [
+          | inr q ↦ (_, wrong_number sequence_number can_dl bs i k h o (on_from t) (λ same. false≢true (sym q ∙ eq-eqb sequence_number (expected st) (same ∙ sym same_number))))
+          | inl q ↦ (let number : sequence_number ≡ (consecutive_count d since + 1) % 16 = eqb-true sequence_number (expected st) q in
+              elim (cases_Bool (has_length st can_dl)) [
+                | inr f ↦ (
+                  _,
+                  wrong_length sequence_number can_dl bs i k h o (on_from t) (number ∙ same_number) (λ fits.
+                      let fit = join.0 (subst (λ j. FitsAs (bytes_in_first o.frame.frame.bytes) s.rx_dl s.len o.n (j + 1) sequence_number can_dl) taken fits) in
+                      false≢true (sym f ∙ length_is ∙ fit.1)),
+                )
+                | inl f ↦ elim (cases_Bool (wants_more st)) [
+                  | inl b ↦ (
+                    _,
+                    stored_frame sequence_number can_dl bs i k h o (on_from t)
+                        (subst (λ j. FitsAs (bytes_in_first o.frame.frame.bytes) s.rx_dl s.len o.n (j + 1) sequence_number can_dl) (sym taken) (join.1 (number, sym length_is ∙ f)))
+                        (let room = ltb-true (length st.bytes + (st.rx_dl - 1)) st.len b in
+                        let product = ap (λ j. (j + 1) * (s.rx_dl - 1)) taken in
+                        below-count (bytes_in_first o.frame.frame.bytes) s.rx_dl s.len o.n (k + 1) o.count (omega arith)),
+                  )
+                  | inr b ↦ last-row limit T e sequence_number can_dl bytes (take s.len (st.bytes ++ bytes)) goes
+                      ((message-delivers limit T e (take s.len (st.bytes ++ bytes))).0
+                      (ap (λ a. a.told) (is ∙ fifth-of (is_on_time st e.micros) (sequence_number == expected st) (has_length st can_dl) (wants_more st) _ _ _ _ _ t q f b)))
+                ]
+              ])
+        ]
+      ];
     }
 
 verdict-by : (limit : ℕ) (T : List Entry) (e : Entry) (x : Result Layout PduFault) → layout_of e.frame ≡ x
@@ -223,3 +264,44 @@ tabled limit T e _ (overflow_too_late i k h o some) =
     let taken = w.3 in
     verdict-by limit T e _ h ∙ ap (on_overflow (other_direction e.dir)) w.1
     ∙ ap (λ b. cond b (record { ended = ended_as cause.Overflow (other_direction e.dir) (Some w.0); told = flowed }) (refused None reason.FlowUnexpected)) (ne_eqb w.0.taken 0 (λ z. omega (arith, z)))
+
+-- nothing stands where nothing is open
+nothing-open : (limit : ℕ) (T : List Entry) (e : Entry) (d : Dir) → stands limit d T ≡ None → NothingOpen limit T e d
+nothing-open limit T e d none i k o = (let w = open-stands limit T (e ∷ []) d i k o in absurd (let both : ◌≡◌ {A = Option Standing} None (Some w.0) = sym none ∙ w.1 in cc))
+
+new-start : (limit : ℕ) (T : List Entry) (e : Entry) (o : Option Standing) → stands limit e.dir T ≡ o → (x : Option Ended) × EndsByNewStart limit T e x
+new-start limit T e None is = (None, nothing-open limit T e e.dir is)
+new-start limit T e (Some st) is = (let s = stands-open limit T (e ∷ []) e.dir st is in (Some (ended_by e.dir s.is_open.start cause.NewStart), (s.i, s.k, s.is_open, refl)))
+
+own-row : (limit : ℕ) (T : List Entry) (e : Entry) (sequence_number can_dl : ℕ) (bytes : List ℕ) (o : Option Standing) → layout_of e.frame ≡ Ok (layout.consecutive sequence_number can_dl bytes)
+    → stands limit e.dir T ≡ o → (a : Answer) × HasVerdict limit T e a
+own-row limit T e sequence_number can_dl bytes None h is = (refused None reason.NextUnexpected, next_unexpected sequence_number can_dl bytes h (nothing-open limit T e e.dir is))
+own-row limit T e sequence_number can_dl bytes (Some st) h is =
+    let s = stands-open limit T (e ∷ []) e.dir st is in
+    (is-judged limit T e s.i s.k sequence_number can_dl bytes (role-by e sequence_number can_dl bytes h) s.is_open).covered bytes h
+
+overflow-row : (limit : ℕ) (T : List Entry) (e : Entry) (i k : ℕ) → layout_of e.frame ≡ Ok (layout.flow_control Overflow) → IsOpenBefore limit T e (other_direction e.dir) i k → (a : Answer) × HasVerdict limit T e a
+overflow-row limit T e i zero h o = (_, overflow_in_time i h o)
+overflow-row limit T e i (suc k) h o = (refused None reason.FlowUnexpected, overflow_too_late i (suc k) h o (omega arith))
+
+flow-row : (limit : ℕ) (T : List Entry) (e : Entry) (s : Status) (o : Option Standing) → layout_of e.frame ≡ Ok (layout.flow_control s) → stands limit (other_direction e.dir) T ≡ o
+    → (a : Answer) × HasVerdict limit T e a
+flow-row limit T e s None h is = (refused None reason.FlowUnexpected, flow_unexpected s h (nothing-open limit T e (other_direction e.dir) is))
+flow-row limit T e Continue (Some st) h is = (let w = stands-open limit T (e ∷ []) (other_direction e.dir) st is in (record { ended = None; told = flowed }, flow Continue w.i w.k h (λ same. cc) w.is_open))
+flow-row limit T e Wait (Some st) h is = (let w = stands-open limit T (e ∷ []) (other_direction e.dir) st is in (record { ended = None; told = flowed }, flow Wait w.i w.k h (λ same. cc) w.is_open))
+flow-row limit T e Overflow (Some st) h is = (let w = stands-open limit T (e ∷ []) (other_direction e.dir) st is in overflow-row limit T e w.i w.k h w.is_open)
+
+row : (limit : ℕ) (T : List Entry) (e : Entry) (x : Result Layout PduFault) → layout_of e.frame ≡ x → (a : Answer) × HasVerdict limit T e a
+row limit T e (Err f) h = (refused None (reason.Pdu f), no_layout f h)
+row limit T e (Ok (layout.single m)) h = (let w = new-start limit T e (stands limit e.dir T) refl in (record { ended = w.0; told = message m }, single_frame m w.0 h w.1))
+row limit T e (Ok (layout.first len rx_dl bytes)) h =
+    let w = new-start limit T e (stands limit e.dir T) refl in
+    elim (cases_Bool (nat_le len limit)) [
+      | inl t ↦ (record { ended = w.0; told = began }, first_frame len rx_dl bytes w.0 h (leb-true len limit t) w.1)
+      | inr t ↦ (refused w.0 (reason.TooLong len), too_long len rx_dl bytes w.0 h (leb-false len limit t) w.1)
+    ]
+row limit T e (Ok (layout.consecutive sequence_number can_dl bytes)) h = own-row limit T e sequence_number can_dl bytes (stands limit e.dir T) h refl
+row limit T e (Ok (layout.flow_control s)) h = flow-row limit T e s (stands limit (other_direction e.dir) T) h refl
+
+pub table-is-verdict : (limit : ℕ) (T : List Entry) (e : Entry) (a : Answer) → HasVerdict limit T e a ↔ (verdict limit T e ≡ a)
+table-is-verdict limit T e a = (tabled limit T e a, λ is. (let w = row limit T e (layout_of e.frame) refl in subst (HasVerdict limit T e) (sym (tabled limit T e w.0 w.1) ∙ is) w.1))

@@ -39,6 +39,6 @@ abbrev pub FitsAgrees : Type 0
 FitsAgrees = (f r len n k sequence_number can_dl : ℕ) → IsConsecutiveCount f r len n → k < n →
     FitsAs f r len n (k + 1) sequence_number can_dl ↔ (sequence_number ≡ (k + 1) % 16) × IsTrue (fits_length len r (bytes_before f r k) can_dl)
 
--- the verdict on a frame is the one that the table has
+-- the table has one verdict for each frame, and that is the verdict
 abbrev pub VerdictIsTabled : Type 0
-VerdictIsTabled = (limit : ℕ) (T : List Entry) (e : Entry) (a : Answer) → HasVerdict limit T e a → verdict limit T e ≡ a
+VerdictIsTabled = (limit : ℕ) (T : List Entry) (e : Entry) (a : Answer) → HasVerdict limit T e a ↔ (verdict limit T e ≡ a)

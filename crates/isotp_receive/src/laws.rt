@@ -23,7 +23,7 @@ pub fn a_message_is_delivered()
     ensures { MessageDelivers }
 {}
 
-/// The verdict on a frame is the one that the table of verdicts has for it.
+/// The table of verdicts has one for each frame, and that is the verdict.
 pub fn the_verdict_is_tabled()
     ensures { VerdictIsTabled }
 {}
