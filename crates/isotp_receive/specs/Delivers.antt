@@ -12,6 +12,7 @@ pub record Completes (limit : ℕ) (T : List Entry) (p : ℕ) (d : Dir) (m : Lis
   pub k : ℕ
   pub is_open : IsOpenAt limit T d i k p
   pub last : k + 1 ≡ is_open.n
+  -- the frame fits as the last, and is on time
   pub frame : Entry
   pub sequence_number : ℕ
   pub can_dl : ℕ
@@ -20,6 +21,7 @@ pub record Completes (limit : ℕ) (T : List Entry) (p : ℕ) (d : Dir) (m : Lis
   pub kind : role d frame ≡ consecutive sequence_number can_dl bytes
   pub fits : FitsAs (bytes_in_first is_open.frame.frame.bytes) is_open.start.rx_dl is_open.start.len is_open.n (k + 1) sequence_number can_dl
   pub on_time : IsOnTime T d i p frame
+  -- m has the announced length, and its bytes stand at their places
   pub size : length m ≡ is_open.start.len
   pub places : AtPlaces T d i is_open.frame is_open.start.rx_dl m
 

@@ -1,8 +1,8 @@
 -- Receptions that are open (ISO 15765-2, section 9.6), by looking back over the whole trace.
-use Rattle.std.specs.Prelude.{◌≡◌, ◌<◌, ◌≤◌, ℕ, ◌+◌, ◌*◌, ◌-◌, List, length, ⊤}
+use Rattle.std.specs.Prelude.{◌≡◌, ◌<◌, ◌≤◌, ℕ, ◌+◌, List, length, ⊤}
 use Rattle.can_log.specs.declared.frame.Dir.{Dir}
 use Rattle.isotp_receive.specs.Trace.{Entry, At, FirstFrame, Role, single, first, consecutive, continue_or_wait, overflow, no_part, role}
-use Rattle.isotp_receive.specs.Places.{bytes_in_first, IsConsecutiveCount, FitsAs, consecutive_count, between, AtPlaces}
+use Rattle.isotp_receive.specs.Places.{bytes_in_first, bytes_before, IsConsecutiveCount, FitsAs, consecutive_count, between, AtPlaces}
 use Rattle.isotp_receive.specs.OnTime.{IsReference, IsOnTime}
 use Rattle.isotp_receive.specs.Standing.{Standing}
 
@@ -21,15 +21,19 @@ LeavesOpen s f n j OnTime no_part = ⊤
 pub record IsOpenAt (limit : ℕ) (T : List Entry) (d : Dir) (i k p : ℕ) : Type 0 where
   pub later : i < p
   pub inside : p ≤ length T
+  -- at i stands a first frame of d that announces at most the limit
   pub frame : Entry
   pub start : FirstFrame
   pub stands : At T i frame
   pub kind : role d frame ≡ first start
   pub fits : start.len ≤ limit
+  -- n consecutive frames hold the rest
   pub n : ℕ
   pub count : IsConsecutiveCount (bytes_in_first frame.frame.bytes) start.rx_dl start.len n
+  -- each frame strictly between leaves the reception open
   pub each : (c : ℕ) (e : Entry) → i < c → c < p → At T c e
       → LeavesOpen start (bytes_in_first frame.frame.bytes) n (consecutive_count d (between T i c)) (IsOnTime T d i c e) (role d e)
+  -- k of them are consecutive frames of d, and more are to come
   pub taken : k ≡ consecutive_count d (between T i p)
   pub more : k < n
 
@@ -46,8 +50,9 @@ pub record IsStandingAt (limit : ℕ) (T : List Entry) (d : Dir) (p : ℕ) (st :
   pub len : st.len ≡ is_open.start.len
   pub rx_dl : st.rx_dl ≡ is_open.start.rx_dl
   pub taken : st.taken ≡ k
-  pub size : length st.bytes ≡ bytes_in_first is_open.frame.frame.bytes + k * (st.rx_dl - 1)
+  pub size : length st.bytes ≡ bytes_before (bytes_in_first is_open.frame.frame.bytes) st.rx_dl k
   pub places : AtPlaces T d i is_open.frame st.rx_dl st.bytes
+  -- at q stands the reference frame of what comes next
   pub q : ℕ
   pub last : Entry
   pub refers : IsReference T d i p q

@@ -227,7 +227,7 @@ impl Reception {
 
 /// What a consecutive frame is to a reception of which these bytes are there.
 fn judge(head: Head, bytes: &[u8], micros: u64, sn: u8, can_dl: u8) -> Judged
-    requires taken { head.taken < 65536 }
+    requires taken { head.taken ≤ MESSAGE_LIMIT }
     requires have { length bytes.now < head.len }
     requires limit { head.len ≤ MESSAGE_LIMIT }
     requires low { 8 ≤ head.rx_dl }

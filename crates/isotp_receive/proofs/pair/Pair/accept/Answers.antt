@@ -4,6 +4,7 @@ use Rattle.isotp_receive.specs.Verdict.{on_layout}
 use Rattle.isotp_receive.specs.Machine.{both_after}
 use Rattle.can_log.specs.Dir.{other_direction}
 use Rattle.isotp_pdu.specs.Layout.{layout_seen}
+use Rattle.isotp_receive.specs.declared.TheConstants.{MESSAGE_LIMIT}
 use Rattle.isotp_receive.proofs.Next.{both_more, verdict_of}
 use Rattle.isotp_receive.proofs.pair.Pair.accept.Goals as goal
 
@@ -14,13 +15,13 @@ returns c =
         refl,
         λ _. tt,
         λ T h. c.take.follows.holds-at-none
-            ∙ ap (λ p. both_after 65535 p c.args.line c.args.micros c.args.dir x) h
-            ∙ both_more 65535 T c.args.line c.args.micros c.args.dir c.args.frame.now x c.read_pdu.ensures.value,
+            ∙ ap (λ p. both_after MESSAGE_LIMIT p c.args.line c.args.micros c.args.dir x) h
+            ∙ both_more MESSAGE_LIMIT T c.args.line c.args.micros c.args.dir c.args.frame.now x c.read_pdu.ensures.value,
       ),
       record {
         stands = tt;
         verdict = λ T h. c.take.ensures.event
-            ∙ ap (λ p. on_layout 65535 c.args.dir (of_direction p c.args.dir) (of_direction p (other_direction c.args.dir)) c.args.micros x) h
-            ∙ verdict_of 65535 T c.args.line c.args.micros c.args.dir c.args.frame.now x c.read_pdu.ensures.value;
+            ∙ ap (λ p. on_layout MESSAGE_LIMIT c.args.dir (of_direction p c.args.dir) (of_direction p (other_direction c.args.dir)) c.args.micros x) h
+            ∙ verdict_of MESSAGE_LIMIT T c.args.line c.args.micros c.args.dir c.args.frame.now x c.read_pdu.ensures.value;
       },
     )
