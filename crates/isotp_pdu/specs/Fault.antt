@@ -1,10 +1,10 @@
 -- Why a frame has no layout: the faults in their order of precedence, each with the fact that it stands for.
-use Rattle.std.specs.Prelude.{◌≡◌, ℕ, ◌<◌, ◌≤◌, IsFalse, List, [], ◌∷◌, length}
+use Rattle.std.specs.Prelude.{◌⊎◌, ◌/◌, ◌%◌, ◌^◌, ◌≡◌, ℕ, ◌<◌, ◌≤◌, IsFalse, List, [], ◌∷◌, length}
 use Rattle.can_log.specs.Frame.{FrameValue}
 use Rattle.can_log.specs.declared.frame.Kind.TheVariants as kind
 use Rattle.isotp_pdu.specs.declared.PduFault.{PduFault}
 use Rattle.isotp_pdu.specs.declared.PduFault.TheVariants as fault
-use Rattle.isotp_pdu.specs.Layout.{Spells, is_can_dl, first_byte, single, first}
+use Rattle.isotp_pdu.specs.Layout.{Spells, is_can_dl, first_byte, least_first, single, first}
 
 -- the lower is answered
 abbrev pub number_of : PduFault → ℕ
@@ -35,7 +35,7 @@ Applies fault.Empty frame = frame.bytes ≡ []
 Applies fault.UnknownKind frame = (kind : ℕ) × (low : ℕ) × (3 < kind) × Begins kind low frame.bytes
 -- a single frame whose bytes spell no message
 Applies fault.SingleLength frame = (low : ℕ) × Begins 0 low frame.bytes × ((message : List ℕ) → ¬ Spells frame.bytes (single message))
--- a first frame below 8 bytes, or whose bytes announce no length that a first frame of theirs may announce
+-- a first frame whose bytes announce no length that a first frame of theirs may (`AnnouncesWrongly` says in which ways)
 Applies fault.FirstLength frame =
     (low : ℕ) × Begins 1 low frame.bytes
     × ((announced rx_dl : ℕ) (data_bytes : List ℕ) → ¬ Spells frame.bytes (first announced rx_dl data_bytes))
@@ -43,6 +43,17 @@ Applies fault.FirstLength frame =
 Applies fault.FlowShort frame = (low : ℕ) × Begins 3 low frame.bytes × (length frame.bytes < 3)
 -- continue, wait and overflow are the statuses 0 to 2
 Applies fault.FlowStatus frame = (low : ℕ) × Begins 3 low frame.bytes × (2 < low)
+
+-- What a first frame has wrong: it has fewer than 8 bytes; or its 12 bits announce less than a first frame of its length
+-- may; or they are 0, and its 32 bits announce what 12 bits hold.
+abbrev pub AnnouncesWrongly : List ℕ → Type 0
+AnnouncesWrongly bytes =
+    (length bytes < 8)
+    ⊎ (((announced : ℕ) × (data_bytes : List ℕ) × (0 < announced) × (announced < least_first (length bytes))
+    × (bytes ≡ first_byte 1 (announced / 256) ∷ (announced % 256) ∷ data_bytes))
+    ⊎ ((announced : ℕ) × (data_bytes : List ℕ) × (announced ≤ 4095)
+    × (bytes ≡ first_byte 1 0 ∷ 0
+    ∷ (announced / 2 ^ 24) ∷ (announced / 2 ^ 16 % 256) ∷ (announced / 2 ^ 8 % 256) ∷ (announced % 256) ∷ data_bytes)))
 
 -- the fault that the frame is answered with
 pub record IsFault (e : PduFault) (frame : FrameValue) : Type 0 where

@@ -1,9 +1,10 @@
 -- What holds of every frame. Each is the contract of a function of the module `laws`.
-use Rattle.std.specs.Prelude.{◌≡◌, ◌⊎◌, ◌↔◌, Ok, Err}
+use Rattle.std.specs.Prelude.{◌≡◌, ◌⊎◌, ◌↔◌, IsTrue, Ok, Err}
 use Rattle.can_log.specs.Frame.{FrameValue}
 use Rattle.isotp_pdu.specs.declared.PduFault.{PduFault}
-use Rattle.isotp_pdu.specs.Layout.{Layout, HasLayout, IsSoundLayout, layout_of}
-use Rattle.isotp_pdu.specs.Fault.{Applies, IsFault}
+use Rattle.isotp_pdu.specs.declared.PduFault.TheVariants as fault
+use Rattle.isotp_pdu.specs.Layout.{Layout, HasLayout, IsSoundLayout, layout_of, are_bytes}
+use Rattle.isotp_pdu.specs.Fault.{Applies, IsFault, AnnouncesWrongly}
 
 -- the function gives a layout exactly where the frame has it
 abbrev pub LayoutIsRead : Type 0
@@ -32,3 +33,7 @@ LayoutHasNoFault = (frame : FrameValue) (layout : Layout) (e : PduFault) → Has
 -- each layout that a frame has is sound
 abbrev pub LayoutIsSound : Type 0
 LayoutIsSound = (frame : FrameValue) (layout : Layout) → HasLayout frame layout → IsSoundLayout layout
+
+-- what is wrong with a first frame of bytes that is refused for its length
+abbrev pub FirstLengthMeans : Type 0
+FirstLengthMeans = (frame : FrameValue) → IsTrue (are_bytes frame.bytes) → IsFault fault.FirstLength frame → AnnouncesWrongly frame.bytes

@@ -3,7 +3,7 @@
 //!
 //! [`read_pdu`]: crate::read_pdu
 
-ghost use Rattle.isotp_pdu.specs.Laws.{LayoutIsRead, FaultIsRead, AtMostOneLayout, AtMostOneFault, LayoutOrFault, LayoutHasNoFault, LayoutIsSound};
+ghost use Rattle.isotp_pdu.specs.Laws.{LayoutIsRead, FaultIsRead, AtMostOneLayout, AtMostOneFault, LayoutOrFault, LayoutHasNoFault, LayoutIsSound, FirstLengthMeans};
 
 /// `layout_of` gives a layout exactly where the frame has it.
 pub fn layout_is_read()
@@ -38,4 +38,10 @@ pub fn layout_has_no_fault()
 /// The numbers of each layout that a frame has are in their ranges.
 pub fn layout_is_sound()
     ensures { LayoutIsSound }
+{}
+
+/// A first frame that is refused for its length is below 8 bytes, or announces less than a first
+/// frame of its length may, or spends 32 bits on a length that 12 bits hold.
+pub fn first_length_means()
+    ensures { FirstLengthMeans }
 {}
