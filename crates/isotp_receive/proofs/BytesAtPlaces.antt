@@ -10,7 +10,8 @@ use Rattle.can_log.specs.declared.frame.Dir.{Dir}
 use Rattle.isotp_receive.specs.Trace.{Entry, At, FirstFrame, Role, single, first, consecutive, continue_or_wait, overflow, no_part, role}
 use Rattle.isotp_receive.specs.Places.{bytes_in_first, consecutive_by, consecutive_count, between, IsConsecutive, AtPlaces}
 use Rattle.isotp_receive.specs.Standing.{carried_by, carried, carried_after, keeps_by, keep, is_open}
-use Rattle.isotp_receive.proofs.ListPositions.{range-behind}
+use Rattle.isotp_receive.proofs.Products.{product-below}
+use Rattle.isotp_receive.proofs.ListPositions.{range-behind, get-drop}
 use Rattle.isotp_receive.proofs.OneMore.{role-length, taken-append, fits_full, full_of}
 use Rattle.isotp_receive.proofs.OpenLaws.{kept-at}
 use Rattle.isotp_receive.proofs.OpenPositions.{at-of}
@@ -119,12 +120,6 @@ all-full d s es kept room b after x sequence_number can_dl bytes splits kind =
     let own : length bytes + 1 ≡ can_dl = rw kind at (role-length d x) in
     omega arith
 
-product-below : (q k b w : ℕ) → q * w + b < k * w → q < k
-product-below q k b w h = elim (cases_Bool (nat_lt q k)) [
-  | inl t ↦ ltb-true q k t
-  | inr t ↦ (let over = ltb-false q k t in let sum : q ≡ k + (q - k) = omega arith in let product = ap (λ j. j * w) sum in absurd (omega arith))
-]
-
 -- what has come stands at its places
 module _ (limit : ℕ) (d : Dir) (before : List Entry) (e0 : Entry) (s : FirstFrame) (since rest : List Entry) (begins : role d e0 ≡ first s) (opens : is_open limit d s since ≡ true) where
   f : ℕ
@@ -221,12 +216,6 @@ module _ (limit : ℕ) (d : Dir) (before : List Entry) (e0 : Entry) (s : FirstFr
       }
 
 -- the number of a consecutive frame fixes the frame
-get-drop : {X : Type 0} (n : ℕ) (xs : List X) (j c : ℕ) → c ≡ n + j → slice_get xs c ≡ slice_get (drop n xs) j
-get-drop zero xs j c e = (let same : c ≡ j = omega arith in ap (slice_get xs) same)
-get-drop (suc n) [] j c e = refl
-get-drop (suc n) (x ∷ xs) j zero e = absurd (omega arith)
-get-drop (suc n) (x ∷ xs) j (suc c) e = get-drop n xs j c (omega arith)
-
 count-rises : (d : Dir) (l : List Entry) (j k : ℕ) (x : Entry) → j < k → slice_get l j ≡ Some x → consecutive_by (role d x) ≡ 1 → consecutive_count d (take j l) + 1 ≤ consecutive_count d (take k l)
 count-rises d [] j k x less at one = absurd (cc)
 count-rises d (y ∷ l) j zero x less at one = absurd (omega arith)

@@ -1,5 +1,7 @@
 pub mod OneMore
-pub mod Next
+pub mod BothDirections
+pub mod Fronts
+pub mod Products
 pub mod Judgement
 pub mod OpenLaws
 pub mod OpenPositions

@@ -45,3 +45,10 @@ range-behind before y b rest =
 
 pub cons-head : {X : Type 0} {x y : X} {xs ys : List X} → x ∷ xs ≡ y ∷ ys → x ≡ y
 cons-head h = cc
+
+-- what stands behind the first n
+pub get-drop : {X : Type 0} (n : ℕ) (xs : List X) (j c : ℕ) → c ≡ n + j → slice_get xs c ≡ slice_get (drop n xs) j
+get-drop zero xs j c e = (let same : c ≡ j = omega arith in ap (slice_get xs) same)
+get-drop (suc n) [] j c e = refl
+get-drop (suc n) (x ∷ xs) j zero e = absurd (omega arith)
+get-drop (suc n) (x ∷ xs) j (suc c) e = get-drop n xs j c (omega arith)

@@ -7,6 +7,7 @@ use Rattle.isotp_receive.specs.Places.{bytes_in_first, IsConsecutiveCount, conse
 use Rattle.isotp_receive.specs.OnTime.{n_cr, IsOnTime}
 use Rattle.isotp_receive.specs.Standing.{reference, carried_after, fits_length, keeps_by, is_open}
 use Rattle.isotp_receive.specs.OpenReception.{LeavesOpen, IsOpenAt}
+use Rattle.isotp_receive.proofs.Products.{grows}
 use Rattle.isotp_receive.proofs.ListPositions.{split-at, split-behind, get-left, range-behind}
 use Rattle.isotp_receive.proofs.References.{refers, on-time-from, on-time-to}
 use Rattle.isotp_receive.proofs.Places.{first_from, at_here}
@@ -37,9 +38,6 @@ least f r len (suc fuel) n wide enough fewer = elim (cases_Bool (nat_lt (f + n *
       ]))
   | inr t ↦ (n, record { enough = ltb-false (f + n * (r - 1)) len t; fewer = fewer })
 ]
-
-grows : (n w : ℕ) → 1 ≤ w → n ≤ n * w
-grows n w h = (let sum : w ≡ 1 + (w - 1) = omega arith in let product = ap (λ v. n * v) sum in omega arith)
 
 pub count-exists : (f r len : ℕ) → 2 ≤ r → (n : ℕ) × IsConsecutiveCount f r len n
 count-exists f r len wide =

@@ -174,7 +174,7 @@ impl Reception {
         }
     }
 
-    #[tactic(auto, using(crate::proofs::Next::take_over))]
+    #[tactic(auto, using(crate::proofs::Fronts::take_over))]
     pub fn next<'a>(
         &'a mut self,
         dir: Dir,

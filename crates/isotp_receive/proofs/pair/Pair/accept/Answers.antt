@@ -5,7 +5,7 @@ use Rattle.isotp_receive.specs.Machine.{both_after}
 use Rattle.can_log.specs.Dir.{other_direction}
 use Rattle.isotp_pdu.specs.Layout.{layout_seen}
 use Rattle.isotp_receive.specs.declared.TheConstants.{MESSAGE_LIMIT}
-use Rattle.isotp_receive.proofs.Next.{both_more, verdict_of}
+use Rattle.isotp_receive.proofs.BothDirections.{both_more, verdict_of}
 use Rattle.isotp_receive.proofs.pair.Pair.accept.Goals as goal
 
 pub returns : goal.returns

@@ -1,6 +1,5 @@
--- What the last consecutive frame of a message delivers, and both receptions after one more frame.
-use Rattle.std.proofs.Common.{◌≡◌, ℕ, ◌+◌, ◌-◌, ◌≤◌, List, [], ◌∷◌, ◌++◌, length, take, Result, refl, sym, ◌∙◌, ap, arith}
-use Rattle.std.proofs.Math.Seq.{take-append-add}
+-- Both receptions after one more frame, and its verdict.
+use Rattle.std.proofs.Common.{◌≡◌, ℕ, List, [], ◌∷◌, ◌++◌, Result, refl}
 use Rattle.can_log.specs.Frame.{FrameValue}
 use Rattle.can_log.specs.Dir.{other_direction}
 use Rattle.can_log.specs.declared.frame.Dir.{Dir}
@@ -12,11 +11,6 @@ use Rattle.isotp_receive.specs.Standing.{receptions_after, of_direction}
 use Rattle.isotp_receive.specs.Verdict.{on_layout, verdict}
 use Rattle.isotp_receive.specs.Machine.{both_after}
 use Rattle.isotp_receive.proofs.OneMore.{one_more}
-
-pub take_over : (xs ys : List ℕ) (n : ℕ) → length xs ≤ n → xs ++ take (n - length xs) ys ≡ take n (xs ++ ys)
-take_over xs ys n h =
-    let e : length xs + (n - length xs) ≡ n = omega arith in
-    sym (take-append-add xs ys (n - length xs)) ∙ ap (λ k. take k (xs ++ ys)) e
 
 entry : ℕ → ℕ → Dir → FrameValue → Entry
 entry line micros dir frame = record { line = line; micros = micros; dir = dir; frame = frame }
