@@ -163,6 +163,8 @@ module _ (limit : ℕ) (T : List Entry) (d : Dir) (n : ℕ) (e : Entry) (at : At
       let same_e : on.1 ≡ s.e = at-same T s.q on.1 s.e at_q s.at in
       let late : e.micros ≤ on.1.micros + n_cr = rw is_e at on.4 in
       let late_e : e.micros ≤ s.e.micros + n_cr = rw same_e at late in
+      let back : s.k + 1 - 1 ≡ s.k = omega arith in
+      let product = ap (λ j. j * (s.start.rx_dl - 1)) back in
       let short : P.can_dl ≤ s.start.rx_dl = at_most s.f s.start.rx_dl s.start.len s.nn (s.k + 1) P.sequence_number P.can_dl P.fits (omega arith) in
       record {
         kind = kind;
@@ -173,7 +175,8 @@ module _ (limit : ℕ) (T : List Entry) (d : Dir) (n : ℕ) (e : Entry) (at : At
         carried = from.1;
         fits = P.fits;
         grown = chunk m st.bytes P.bytes (s.f + s.k * (s.start.rx_dl - 1)) s.bytes (omega arith) (λ b lt in_m.
-            P.holds (s.f + s.k * (s.start.rx_dl - 1) + b) s.k b in_m (omega arith) (let c = from.1 in omega arith) refl
+            ap (λ j. get_or m (s.f + j * (s.start.rx_dl - 1) + b) 0) (sym back)
+            ∙ P.holds b (let c = from.1 in omega arith) (omega (arith, product))
             ∙ ap (λ x. get_or x.frame.bytes (1 + b) 0) is_e ∙ sym (get_or_after_one e.frame.bytes b 0) ∙ ap (λ l. get_or l b 0) (sym from.0));
       }
 

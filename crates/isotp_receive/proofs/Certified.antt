@@ -90,12 +90,12 @@ module _ (limit : ℕ) (T : List Entry) (d : Dir) (n : ℕ) (e : Entry) (at : At
         kind = kind;
         fits = fits;
         on_time = (u.q, u.e, u.ref, u.at, rw u.time at late);
-        holds = λ x q b inside place lt number.
-            let same_q : q ≡ length cs = omega arith in
-            let product = ap (λ j. j * (r - 1)) same_q in
+        holds = λ b lt inside.
+            let back : 1 + length cs - 1 ≡ length cs = omega arith in
+            let product = ap (λ j. j * (r - 1)) back in
             let have = u.have in
-            let same_x : x ≡ length st.bytes + b = omega arith in
-            ap (λ j. get_or m j 0) same_x ∙ each b (omega arith) lt ∙ ap (λ l. get_or l b 0) from.0 ∙ get_or_after_one e.frame.bytes b 0;
+            let same_place : bytes_in_first u.frame.frame.bytes + (1 + length cs - 1) * (r - 1) + b ≡ length st.bytes + b = omega arith in
+            ap (λ j. get_or m j 0) same_place ∙ each b (omega arith) lt ∙ ap (λ l. get_or l b 0) from.0 ∙ get_or_after_one e.frame.bytes b 0;
       }
 
   -- one more consecutive frame

@@ -12,7 +12,8 @@ use Rattle.isotp_receive.specs.Places.{bytes_in_first, bytes_before, IsConsecuti
 use Rattle.isotp_receive.specs.OnTime.{IsOnTime}
 
 -- At position c stands consecutive frame number k of n of the message m, whose first frame stands at i and holds f bytes:
--- it fits as number k, is on time, and byte x of the message stands at its place (section 9.6.4).
+-- it fits as number k, is on time, and holds the bytes of the message that come next, as far as the message goes; what
+-- follows them is padding of any value (section 9.6.4).
 pub record IsConsecutiveFrame (T : List Entry) (d : Dir) (m : List ℕ) (i : ℕ) (s : FirstFrame) (f n k c : ℕ) : Type 0 where
   pub frame : Entry
   pub sequence_number : ℕ
@@ -22,8 +23,8 @@ pub record IsConsecutiveFrame (T : List Entry) (d : Dir) (m : List ℕ) (i : ℕ
   pub kind : role d frame ≡ consecutive sequence_number can_dl bytes
   pub fits : FitsAs f s.rx_dl s.len n k sequence_number can_dl
   pub on_time : IsOnTime T d i c frame
-  pub holds : (x q b : ℕ) → x < length m → x ≡ bytes_before f s.rx_dl q + b → b < s.rx_dl - 1 → k ≡ q + 1
-      → slice_index m x ≡ slice_index frame.frame.bytes (1 + b)
+  pub holds : (b : ℕ) → b < s.rx_dl - 1 → bytes_before f s.rx_dl (k - 1) + b < length m
+      → slice_index m (bytes_before f s.rx_dl (k - 1) + b) ≡ slice_index frame.frame.bytes (1 + b)
 
 -- P of each of the positions, with its number, from k on
 abbrev pub EachNumbered : (ℕ → ℕ → Type 0) → ℕ → List ℕ → Type 0

@@ -17,6 +17,6 @@ pub fn recording_delivers()
 
 /// A trace of which nothing is dropped, ended or left over is a recording of what it delivers: each
 /// single, first and consecutive frame belongs to exactly one delivered message.
-pub fn clean_trace_is_recording()
+pub fn clean_trace_is_a_recording()
     ensures certificate { CleanTraceIsRecording }
 {}

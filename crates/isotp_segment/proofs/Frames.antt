@@ -7,7 +7,7 @@ use Rattle.std.proofs.lemmas.List.FromFn.{length-map-range_with_len}
 use Rattle.can_log.specs.Dir.{other_direction}
 use Rattle.can_log.specs.declared.frame.Dir.{Dir}
 use Rattle.isotp_segment.specs.CanonicalFrames.{filled, single_control, first_control, consecutive_control, continue_control, place_of, total_count, canonical_frame, canonical_frames}
-use Rattle.isotp_segment.proofs.Left.{drop-map-range, drop-map-range-end}
+use Rattle.isotp_segment.proofs.Lists.{drop-map-range, drop-map-range-end}
 
 -- a message that has frames
 pub frames_of : (limit : ℕ) (direction : Dir) (message : List ℕ) → 1 ≤ length message → length message ≤ limit

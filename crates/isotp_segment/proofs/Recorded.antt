@@ -1,5 +1,5 @@
 -- The canonical frames of messages, a millisecond apart, are a recording of them.
-use Rattle.std.proofs.Common.{◌≡◌, ℕ, zero, suc, ◌+◌, ◌-◌, ◌*◌, ◌%◌, ◌<◌, ◌≤◌, ◌^◌, true, false, List, [], ◌∷◌, ◌++◌, length, map, take, drop, get_or, nat_lt, nat_le, refl, sym, ◌∙◌, ap, arith, cond, inl, inr, subst, length-append, length-take-le, append_assoc}
+use Rattle.std.proofs.Common.{◌≡◌, ℕ, zero, suc, ◌+◌, ◌-◌, ◌*◌, ◌%◌, ◌<◌, ◌≤◌, ◌^◌, true, false, List, [], ◌∷◌, ◌++◌, length, map, take, drop, nat_lt, nat_le, refl, sym, ◌∙◌, ap, arith, cond, inl, inr, subst, length-append, length-take-le, append_assoc}
 use Rattle.std.specs.Prelude.{slice_index, ◌⊎◌}
 use Rattle.std.specs.List.{range_with_len, AllByRecursion}
 use Rattle.std.proofs.lemmas.Bool.{lt-leb, le-ltb, leb-true, leb-false, ltb-true, ltb-false, cases_Bool}
@@ -105,10 +105,8 @@ module _ (identifier : Dir → Id) (line micros limit : ℕ) (bits : limit < 2 ^
             kind = consecutive-role (n + (1 + k)) k bytes;
             fits = record { number = refl; full = λ _. refl; last_low = λ last. omega arith; last_high = λ _. omega arith };
             on_time = (n + k, w.0, record { from = omega arith; below = omega arith; restarts = inr (w.0, w.1, w.2); greatest = λ p x above under there _. absurd (omega arith) }, w.1, (let t = w.3 in omega arith));
-            holds = λ x q c inside place lt number.
-                let same_place : x ≡ place_of (length m) k + c = omega arith in
-                ap (λ j. get_or m j 0) same_place
-                ∙ sym (get_or-drop (place_of (length m) k) m c 0)
+            holds = λ c lt inside.
+                sym (get_or-drop (place_of (length m) k) m c 0)
                 ∙ filled-holds (consecutive_control k) bytes c (1 + c) (omega (arith, length-drop (place_of (length m) k) m)) refl (omega arith);
           }
 

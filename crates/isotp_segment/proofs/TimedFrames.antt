@@ -10,24 +10,17 @@ use Rattle.can_log.specs.declared.frame.Id.{Id}
 use Rattle.isotp_pdu.specs.declared.PduFault.{PduFault}
 use Rattle.isotp_pdu.specs.Layout.{Layout, layout_of}
 use Rattle.isotp_receive.specs.Trace.{Entry, At, role, own_role, other_role, same_direction}
+use Rattle.isotp_receive.proofs.ListPositions.{get-left}
 use Rattle.isotp_receive.proofs.Told.{self}
 use Rattle.isotp_segment.specs.CanonicalFrames.{total_count, canonical_frame, canonical_frames}
 use Rattle.isotp_segment.specs.Timed.{timed}
 use Rattle.isotp_segment.proofs.Frames.{frames_of, length-canonical_frames}
 use Rattle.isotp_segment.proofs.Layouts.{classic}
+use Rattle.isotp_segment.proofs.Lists.{get-later}
 
 not-other : (d : Dir) → same_direction d (other_direction d) ≡ false
 not-other Tester = refl
 not-other Unit = refl
-
-get-later : {X : Type 0} (pre ys : List X) (j : ℕ) → slice_get (pre ++ ys) (length pre + j) ≡ slice_get ys j
-get-later [] ys j = (let e : 0 + j ≡ j = omega arith in ap (slice_get ys) e)
-get-later (x ∷ pre) ys j = (let e : length (x ∷ pre) + j ≡ suc (length pre + j) = omega arith in ap (slice_get (x ∷ (pre ++ ys))) e ∙ get-later pre ys j)
-
-get-sooner : {X : Type 0} (xs ys : List X) (j : ℕ) (x : X) → slice_get xs j ≡ Some x → slice_get (xs ++ ys) j ≡ Some x
-get-sooner [] ys j x h = absurd (cc)
-get-sooner (y ∷ xs) ys zero x h = h
-get-sooner (y ∷ xs) ys (suc j) x h = get-sooner xs ys j x h
 
 canonical_frames-at : (limit : ℕ) (d : Dir) (m : List ℕ) (j : ℕ) → 1 ≤ length m → length m ≤ limit → j < total_count (length m)
     → slice_get (canonical_frames limit d m) j ≡ Some (canonical_frame d m j)
@@ -86,7 +79,9 @@ pub frames-stand : (identifier : Dir → Id) (line micros limit : ℕ) (F pre : 
 frames-stand identifier line micros limit F pre d m rest n split place some fits j below =
     let here : slice_get F (n + j) ≡ Some (canonical_frame d m j) =
     ap (λ l. slice_get l (n + j)) split ∙ ap (λ k. slice_get (pre ++ (canonical_frames limit d m ++ rest)) (k + j)) place
-    ∙ get-later pre (canonical_frames limit d m ++ rest) j ∙ get-sooner (canonical_frames limit d m) rest j (canonical_frame d m j) (canonical_frames-at limit d m j some fits below) in
+    ∙ get-later pre (canonical_frames limit d m ++ rest) j
+    ∙ get-left (canonical_frames limit d m) rest j (omega (arith, length-canonical_frames limit d m some fits))
+    ∙ canonical_frames-at limit d m j some fits below in
     let no_line : line + 0 ≡ line = omega arith in
     let no_time : micros + 0 * 1000 ≡ micros = omega arith in
     let same_place : 0 + (n + j) ≡ n + j = omega arith in

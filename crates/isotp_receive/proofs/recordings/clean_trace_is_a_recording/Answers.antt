@@ -1,5 +1,5 @@
 use Rattle.isotp_receive.proofs.Certified.{clean-records}
-use Rattle.isotp_receive.proofs.recordings.clean_trace_is_recording.Goals as goal
+use Rattle.isotp_receive.proofs.recordings.clean_trace_is_a_recording.Goals as goal
 
 pub returns : goal.returns
 returns c = record { certificate = clean-records }
