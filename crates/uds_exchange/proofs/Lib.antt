@@ -11,6 +11,7 @@ pub mod OpenRequests
 pub mod RolesFound
 pub mod Placed
 pub mod RemovedOnes
+pub mod MadeUp
 pub mod ByRoles
 pub mod Early
 pub mod MustWait

@@ -1,5 +1,6 @@
 -- The laws of meanings, over the definitions alone.
-use Rattle.std.specs.Prelude.{◌≡◌, ◌≢◌, ◌↔◌, ℕ, ◌+◌, List, [], ◌∷◌, ◌++◌, Some, None, length}
+use Rattle.std.specs.Prelude.{◌≡◌, ◌≢◌, ◌↔◌, ℕ, ◌+◌, Bool, true, List, [], ◌∷◌, ◌++◌, Some, None, length}
+use Rattle.std.specs.List.{list_all}
 use Rattle.uds_exchange.specs.Meaning.{Message, meaning, flattened, removed_messages}
 use Rattle.uds_exchange.specs.Roles.{Role, IsOpenBehind, HasRole, AreRoles, arranged, those_removed}
 use Rattle.uds_exchange.specs.Order.{open_request, held, early, rejection_of}
@@ -11,6 +12,11 @@ MeaningIsKept = (M : List Message) → meaning (flattened (meaning M)) ≡ meani
 -- the messages of a meaning and the removed ones together are as many as the list's
 abbrev pub NoneIsLost : Type 0
 NoneIsLost = (M : List Message) → length (flattened (meaning M)) + length (removed_messages M) ≡ length M
+
+-- a meaning has no message that the list has not: what passes of each message of the list passes of those of the meaning
+abbrev pub NoneIsMadeUp : Type 0
+NoneIsMadeUp = (passes : Message → Bool) (M : List Message)
+    → list_all passes M ≡ true → list_all passes (flattened (meaning M)) ≡ true
 
 -- a message is exactly one of request, answer, removed and stray
 abbrev pub EachHasOneRole : Type 0

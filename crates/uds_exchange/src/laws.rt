@@ -5,7 +5,7 @@ ghost use Rattle.uds_exchange.specs.Meaning.{Message, meaning, flattened};
 ghost use Rattle.uds_exchange.specs.Order.{early, held};
 ghost use Rattle.uds_exchange.specs.Sink.{Puts};
 ghost use Rattle.uds_exchange.specs.Orderer.{PutsDue};
-ghost use Rattle.uds_exchange.specs.Laws.{MeaningIsKept, NoneIsLost};
+ghost use Rattle.uds_exchange.specs.Laws.{MeaningIsKept, NoneIsLost, NoneIsMadeUp};
 ghost use Rattle.uds_exchange.specs.Laws.{EachHasOneRole, EachListHasRoles, MessagesByRoles};
 ghost use Rattle.uds_exchange.specs.Laws.{OpenRequestIsLast, HeldByOpenRequest, HeldMustWait};
 ghost use Rattle.uds_exchange.specs.Laws.{EarlyThenHeld, EarlyStays, NoneIsLostInOrder};
@@ -20,6 +20,11 @@ pub fn meaning_is_kept()
 /// Each message of a list stands in its meaning or is removed.
 pub fn none_is_lost()
     ensures { NoneIsLost }
+{}
+
+/// What passes of each message of a list passes of each message of its meaning.
+pub fn none_is_made_up()
+    ensures { NoneIsMadeUp }
 {}
 
 /// By the messages before it, a message is exactly one of request, answer, removed and stray.
