@@ -41,12 +41,12 @@ fn work<R: Read>(
 ) -> io::Result<Option<u64>> {
     let [first, second] = numbers;
     Ok(Some(match layer {
-        "scan" => scan::frames_read(alloc, log)?,
-        "pdu" => pdu::bytes_carried(alloc, first)?,
-        "receive" => receive::bytes_received(alloc, first, second)?,
+        "scan" => scan::sum_of_lines(alloc, log)?,
+        "pdu" => pdu::sum_of_layouts(alloc, first)?,
+        "receive" => receive::sum_of_messages(alloc, first, second)?,
         "segment" => segment::sum_of_frames(alloc, first, second)?,
-        "pair" => pair::items_made(alloc, first)?,
-        "order" => order::bytes_put(alloc, first)?,
+        "pair" => pair::sum_of_strays(alloc, first)?,
+        "order" => order::sum_of_messages(alloc, first)?,
         _ => return Ok(None),
     }))
 }

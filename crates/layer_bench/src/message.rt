@@ -1,4 +1,4 @@
-//! A message to be cut or received.
+//! A message to be cut or received, and what a message adds to a sum.
 
 ghost use Rattle.std.specs.Prelude.{◌≤◌, IfOk, vec_len};
 
@@ -15,4 +15,10 @@ pub fn message_of(alloc: Global, size: u64) -> Result<Vec<u8>, AllocError>
         size as usize
     };
     vec![in alloc; 0x62u8; size]
+}
+
+/// The length and the last byte.
+pub fn sum_of(message: &[u8]) -> u64 {
+    let last = message.last().copied().unwrap_or(0);
+    (message.len() as u64).wrapping_add(last as u64)
 }

@@ -1,16 +1,24 @@
 //! One request that nothing answers, and messages behind it.
 
+use crate::message::sum_of;
 use can_log::Dir;
 use std::alloc::{AllocError, Global};
-use uds_exchange::Pairing;
+use uds_exchange::{Item, Pairing};
 
-/// How many items the meaning of the request and of so many messages has.
-pub fn items_made(alloc: Global, count: u64) -> Result<u64, AllocError> {
+/// The lengths and the last bytes of so many messages behind the request, as their meaning has them, added up.
+pub fn sum_of_strays(alloc: Global, count: u64) -> Result<u64, AllocError> {
     let mut pairing = Pairing::new(alloc);
     pairing.take(Dir::Tester, &[0x22, 0xF1, 0x90])?;
     for number in 0..count {
         let [low, high, ..] = number.to_le_bytes();
         pairing.take(Dir::Unit, &[0x6E, high, low])?;
     }
-    Ok(pairing.finish().len() as u64)
+    let meaning = pairing.finish();
+    let mut sum = 0u64;
+    for index in 0..meaning.len() {
+        if let Some(Item::Stray { bytes, .. }) = meaning.item(index) {
+            sum = sum.wrapping_add(sum_of(bytes));
+        }
+    }
+    Ok(sum)
 }

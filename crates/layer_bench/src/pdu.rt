@@ -59,22 +59,24 @@ fn shuffled(alloc: Global) -> Result<Vec<Frame>, AllocError> {
     Ok(frames)
 }
 
-/// The bytes that a frame carries for a message.
-fn carried(frame: &Frame) -> u64 {
+/// The numbers of what the frame says, added up.
+fn sum_of_layout(frame: &Frame) -> u64 {
     match read_pdu(frame) {
-        Ok(Pdu::Single(bytes) | Pdu::First { bytes, .. } | Pdu::Next { bytes, .. }) =>
-            bytes.len() as u64,
-        Ok(Pdu::Flow(_)) | Err(_) => 0,
+        Ok(Pdu::Single(bytes)) => bytes.len() as u64,
+        Ok(Pdu::First { len, bytes, .. }) => (len as u64).wrapping_add(bytes.len() as u64),
+        Ok(Pdu::Next { sn, bytes, .. }) => (sn as u64).wrapping_add(bytes.len() as u64),
+        Ok(Pdu::Flow(status)) => status as u64,
+        Err(_) => 0,
     }
 }
 
-/// How many bytes so many frames carry, rounded up to whole rounds over the frames in memory.
-pub fn bytes_carried(alloc: Global, count: u64) -> Result<u64, AllocError> {
+/// The same of so many frames, rounded up to whole rounds over the frames in memory.
+pub fn sum_of_layouts(alloc: Global, count: u64) -> Result<u64, AllocError> {
     let frames = shuffled(alloc)?;
     let mut sum = 0u64;
     for _ in 0..count.div_ceil(HELD) {
         for frame in &frames {
-            sum = sum.wrapping_add(carried(frame));
+            sum = sum.wrapping_add(sum_of_layout(frame));
         }
     }
     Ok(sum)

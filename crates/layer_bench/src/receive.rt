@@ -1,20 +1,20 @@
 //! A message received again and again.
 
-use crate::message::message_of;
+use crate::message::{message_of, sum_of};
 use can_log::{Dir, Frame, Id, Kind};
 use isotp_receive::{Pair, Verdict};
 use isotp_segment::Segments;
 use std::alloc::{AllocError, Global};
 
-/// How many bytes the messages have that are received, of so many of this size.
-pub fn bytes_received(alloc: Global, size: u64, count: u64) -> Result<u64, AllocError> {
+/// The lengths and the last bytes of all messages that are received, of so many of this size, added up.
+pub fn sum_of_messages(alloc: Global, size: u64, count: u64) -> Result<u64, AllocError> {
     let frames = frames_of(alloc, size)?;
     let mut pair = Pair::new(alloc)?;
     let mut sum = 0u64;
     for _ in 0..count {
         for (dir, frame) in &frames {
             if let Verdict::Message(message) = pair.accept(0, 0, *dir, frame).verdict {
-                sum = sum.wrapping_add(message.len() as u64);
+                sum = sum.wrapping_add(sum_of(message));
             }
         }
     }

@@ -1,6 +1,6 @@
-//! The frames of a log, read in pieces as a program would.
+//! The lines of a log, read in pieces as a program would.
 
-use can_log::{Scan, Scanner};
+use can_log::{Scan, Scanner, Stamped};
 use std::alloc::Global;
 use std::io::{self, Read};
 
@@ -10,25 +10,26 @@ const PIECE: usize = 65_536;
 /// No log is so long; a scanner takes 2^62 bytes.
 const MOST_TAKEN: u64 = 1 << 61;
 
-/// How many frames the log has in front of its end or its refused place.
-pub fn frames_read<R: Read>(alloc: Global, log: &mut R) -> io::Result<u64> {
+/// The time stamps and the last bytes of all frames in front of the log's end or its refused place,
+/// added up.
+pub fn sum_of_lines<R: Read>(alloc: Global, log: &mut R) -> io::Result<u64> {
     let mut buffer = vec![in alloc; 0u8; PIECE]?;
     let mut scanner = Scanner::new();
-    let mut frames = 0u64;
+    let mut sum = 0u64;
     for _ in 0..u64::MAX {
         let size = log.read(&mut buffer)?;
         if size == 0 {
             break;
         }
-        frames = frames.wrapping_add(frames_in(&mut scanner, &buffer[..size]));
+        sum = sum.wrapping_add(sum_of_piece(&mut scanner, &buffer[..size]));
     }
-    Ok(frames)
+    Ok(sum)
 }
 
-/// How many frames end in the piece.
-fn frames_in(scanner: &mut Scanner, piece: &[u8]) -> u64 {
+/// The same of the lines that end in the piece.
+fn sum_of_piece(scanner: &mut Scanner, piece: &[u8]) -> u64 {
     let mut rest = piece;
-    let mut frames = 0u64;
+    let mut sum = 0u64;
     for _ in 0..piece.len() {
         if scanner.taken() > MOST_TAKEN || rest.len() as u64 > MOST_TAKEN {
             break;
@@ -36,11 +37,19 @@ fn frames_in(scanner: &mut Scanner, piece: &[u8]) -> u64 {
         let Scan::Line { used, what, .. } = scanner.scan(rest) else {
             break;
         };
-        frames = frames.wrapping_add(what.is_some() as u64);
+        if let Some(stamped) = what {
+            sum = sum.wrapping_add(sum_of_line(&stamped));
+        }
         let Some(after) = rest.get(used..) else {
             break;
         };
         rest = after;
     }
-    frames
+    sum
+}
+
+/// The time stamp and the last byte, for which all are read.
+fn sum_of_line(stamped: &Stamped) -> u64 {
+    let last = stamped.frame.data().last().copied().unwrap_or(0);
+    stamped.micros.wrapping_add(last as u64)
 }
