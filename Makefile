@@ -17,9 +17,10 @@ build:
 run: build
 	@$(PROGRAM) < $(LOG)
 
-# The tests of the built program, and then the gate: every proof from nothing, every test, every wrong body refused.
+# The tests of the built program, each growth of memory refused in turn, and then the gate: every proof from nothing, every test, every wrong body refused.
 test: build
 	@python3 tests/program.py $(PROGRAM)
+	@python3 tests/refused_memory.py
 	@rt ci
 
 install: build
