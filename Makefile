@@ -10,12 +10,12 @@ PROGRAM := $(CRATE)/out/udsnorm
 # Proves the program and what it stands on, and builds it. What the build says is shown where it fails.
 build:
 	@mkdir -p $(CRATE)/out
-	@test -x $(PROGRAM) || echo 'udsnorm: the first build proves everything, and takes some minutes' >&2
+	@test -x $(PROGRAM) || echo 'udsnorm: the first build proves the program and what it stands on, which takes some minutes' >&2
 	@cd $(CRATE) && { rt run < /dev/null > /dev/null 2> out/build.txt || { cat out/build.txt >&2; exit 1; }; }
 
 # Prints the canonical log of LOG, and nothing else, on standard output.
 run: build
-	@$(PROGRAM) < $(LOG)
+	@$(PROGRAM) < '$(LOG)'
 
 # The tests of the built program, each growth of memory refused in turn, and then the gate: every proof from nothing, every test, every wrong body refused.
 test: build

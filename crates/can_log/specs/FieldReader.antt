@@ -16,6 +16,7 @@ pub data Trouble : Type 0 where
 abbrev pub FieldRead : Type 0 → Type 0
 FieldRead V = Result (V × List ℕ) Trouble
 
+-- what is read first, and then what a function of it gives; the first trouble ends it
 infixl 10 ◌>>=◌
 abbrev pub ◌>>=◌ : {A B : Type 0} → Result A Trouble → (A → Result B Trouble) → Result B Trouble
 (Ok x) >>= f = f x

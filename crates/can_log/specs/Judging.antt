@@ -30,6 +30,7 @@ pub record IsRefusedAt (bytes : List ℕ) (column : ℕ) : Type 0 where
   pub legal : HasCompletion text
   pub hopeless : IsHopeless (text ++ bad ∷ [])
 
+-- what each verdict on the bytes of a line says
 abbrev pub Judged : List ℕ → Verdict → Type 0
 Judged bytes (verdict.Means what) = LineMeans bytes what
 Judged bytes verdict.Short = HasCompletion bytes × MeansNothing bytes

@@ -15,7 +15,7 @@ use Rattle.can_log.specs.declared.frame.Stamped.{Stamped}
 pub data Body : Type 0 where
   -- `112233`, or `1122334455667788_9`: the digits of the data, and the digit of a raw length code
   classic : List ℕ → Option (List ℕ) → Body
-  -- `R`, `R5` or `R8_9`: the digit of the length, and the digit of a raw length code
+  -- `R`, or with a length and a raw length code `R8_9`: the digit of each
   remote : List ℕ → Option (List ℕ) → Body
   -- `#3AABB`: the digit of the flags, and the digits of the data
   fd : List ℕ → List ℕ → Body
@@ -31,15 +31,18 @@ pub record LineSpelling : Type 0 where
   pub body : Body
   pub mark : Option (List ℕ × List ℕ)
 
+-- a raw length code behind its underscore
 abbrev pub spell_raw_dlc : Option (List ℕ) → List ℕ
 spell_raw_dlc None = []
 spell_raw_dlc (Some digit) = codes "_" ++ digit
 
+-- what stands behind the `#`
 abbrev pub spell_body : Body → List ℕ
 spell_body (classic digits raw_dlc) = digits ++ spell_raw_dlc raw_dlc
 spell_body (remote digit raw_dlc) = codes "R" ++ (digit ++ spell_raw_dlc raw_dlc)
 spell_body (fd flags digits) = codes "#" ++ (flags ++ digits)
 
+-- a mark behind its gap
 abbrev pub spell_mark : Option (List ℕ × List ℕ) → List ℕ
 spell_mark None = []
 spell_mark (Some mark) = mark.0 ++ mark.1
@@ -100,6 +103,7 @@ pub record IsLineSpelling (line : LineSpelling) : Type 0 where
 abbrev pub identifier_of : List ℕ → Id
 identifier_of digits = if length digits == 8 then id.Ext (digits_value 16 digits) else id.Std (digits_value 16 digits)
 
+-- the kind of the frame, by the form of the body
 abbrev pub kind_of : Body → Kind
 kind_of (classic digits raw_dlc) = kind.Classic
 kind_of (remote digit raw_dlc) = kind.Remote
@@ -111,6 +115,7 @@ bytes_spelled [] = []
 bytes_spelled (high ∷ []) = []
 bytes_spelled (high ∷ low ∷ digits) = (16 * digit_value high + digit_value low) ∷ bytes_spelled digits
 
+-- the data of the frame; a remote frame has none
 abbrev pub data_of : Body → List ℕ
 data_of (classic digits raw_dlc) = bytes_spelled digits
 data_of (remote digit raw_dlc) = []

@@ -19,9 +19,11 @@ place_at = both (run_at Space 1 16) (λ _. both (run_at Visible 1 15) (λ _. run
 abbrev pub is_identifier : List ℕ → Bool
 is_identifier digits = length digits == 8 || (length digits == 3 && nat_lt (slice_index digits 0) 56)
 
+-- an identifier
 abbrev pub identifier_at : List ℕ → FieldRead (List ℕ)
 identifier_at = only is_identifier (run_at Hex 3 8)
 
+-- as many digits as whole bytes have
 abbrev pub is_even : List ℕ → Bool
 is_even digits = length digits % 2 == 0
 
@@ -34,19 +36,24 @@ abbrev pub raw_dlc_at : Bool → List ℕ → FieldRead (Option (List ℕ))
 raw_dlc_at true = either (λ b. b == 95) (seen (λ p. Some p.1) (both (byte_at 95) (λ _. run_at AboveEight 1 1))) (nothing_at None)
 raw_dlc_at false = nothing_at None
 
+-- the digit 8 alone, the length behind which a raw length code may stand
 abbrev pub is_eight : List ℕ → Bool
 is_eight [] = false
 is_eight (digit ∷ digits) = digit == 56
 
+-- data, and behind 8 bytes of it a raw length code
 abbrev pub classic_at : List ℕ → FieldRead Body
 classic_at = seen (λ p. classic p.0 p.1) (both (data_at 16) (λ digits. raw_dlc_at (length digits == 16)))
 
+-- `R`, a length or none, and behind the length 8 a raw length code
 abbrev pub remote_at : List ℕ → FieldRead Body
 remote_at = seen (λ p. remote p.1.0 p.1.1) (both (byte_at 82) (λ _. both (run_at UpToEight 0 1) (λ digit. raw_dlc_at (is_eight digit))))
 
+-- a second `#`, the flags, and data
 abbrev pub fd_at : List ℕ → FieldRead Body
 fd_at = seen (λ p. fd p.1.0 p.1.1) (both (byte_at 35) (λ _. both (run_at Hex 1 1) (λ _. data_at 128)))
 
+-- a body, told by its first byte
 abbrev pub body_at : List ℕ → FieldRead Body
 body_at = either (λ b. b == 82) remote_at (either (λ b. b == 35) fd_at classic_at)
 
@@ -83,10 +90,12 @@ stamped_by p = record {
   frame = record { id = identifier_of p.identifier; kind = kind_of p.body; bytes = data_of p.body };
 }
 
+-- what a line means, by its parts
 abbrev pub meaning_by : Option Parts → Option Stamped
 meaning_by None = None
 meaning_by (Some p) = Some (stamped_by p)
 
+-- the data is that of a body; no meaning depends on the other digits
 abbrev pub FitsBody : Body → Type 0
 FitsBody (classic digits raw_dlc) = IsDataText 16 digits
 FitsBody (remote digit raw_dlc) = ⊤
@@ -97,6 +106,7 @@ pub record AreParts (p : Parts) : Type 0 where
   pub identifier : IsIdentifierText p.identifier
   pub body : FitsBody p.body
 
+-- and where the line is blank there is nothing to ask
 abbrev pub AreLineParts : Option Parts → Type 0
 AreLineParts None = ⊤
 AreLineParts (Some p) = AreParts p

@@ -51,6 +51,7 @@ FinishesOn old (scan.Bad line column) new =
     × (new ≡ record old { refused = Some (record { line = line; column = column }) })
 FinishesOn old scan.End new = (old.line ≡ []) × (new ≡ old)
 
+-- A refused place is answered at the end, too.
 abbrev pub FinishesFrom : Option Place → Standing → Scan → Standing → Type 0
 FinishesFrom None old answer new = FinishesOn old answer new
 FinishesFrom (Some place) old answer new = (answer ≡ scan.Bad place.line place.column) × (new ≡ old)

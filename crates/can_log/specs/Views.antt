@@ -9,30 +9,37 @@ use Rattle.can_log.specs.declared.field.Stop.TheVariants as stop
 use Rattle.can_log.specs.LineReader as reader
 use Rattle.can_log.specs.Line as line
 
+-- the digit of a raw length code
 abbrev pub raw_dlc_of : Option (Bor (List ℕ)) → Option (List ℕ)
 raw_dlc_of None = None
 raw_dlc_of (Some digit) = Some digit.now
 
+-- a body
 abbrev pub body_of : Body → line.Body
 body_of (code.Classic digits raw_dlc) = line.classic digits.now (raw_dlc_of raw_dlc)
 body_of (code.Remote digit raw_dlc) = line.remote digit.now (raw_dlc_of raw_dlc)
 body_of (code.Fd flags digits) = line.fd flags.now digits.now
 
+-- a mark and its gap
 abbrev pub mark_of : Option (Bor (List ℕ) × Bor (List ℕ)) → Option (List ℕ × List ℕ)
 mark_of None = None
 mark_of (Some p) = Some (p.0.now, p.1.now)
 
+-- the parts that the meaning of a line rests on
 abbrev pub parts_of : Parts → reader.Parts
 parts_of p = record { seconds = p.seconds.digits.now; micros = p.micros.digits.now; identifier = p.identifier.now; body = body_of p.body }
 
+-- those of a line that may be blank
 abbrev pub line_parts_of : Option Parts → Option reader.Parts
 line_parts_of None = None
 line_parts_of (Some p) = Some (parts_of p)
 
+-- P holds where the bytes end too early
 abbrev pub OnShort : Stop → Type 0 → Type 0
 OnShort stop.Short P = P
 OnShort (stop.Refused rest) P = ⊤
 
+-- P holds of the bytes from the refused one on
 abbrev pub OnRefused : Stop → (List ℕ → Type 0) → Type 0
 OnRefused stop.Short P = ⊤
 OnRefused (stop.Refused rest) P = P rest.now

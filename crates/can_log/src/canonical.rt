@@ -22,7 +22,7 @@ pub fn line_bytes(n: u64, id: u16, data: &[u8; 8]) -> [u8; 46]
     line
 }
 
-// Writes the last digits of the number over the line, from a place on. Inlined, so that the base is a constant.
+/// Writes the last digits of the number over the line, from a place on. Inlined, so that the base is a constant.
 #[inline(always)]
 fn put_digits(line: &mut [u8; 46], at: usize, width: usize, number: u64, radix: u64)
     requires place { at + width ≤ 46 }
@@ -37,6 +37,7 @@ fn put_digits(line: &mut [u8; 46], at: usize, width: usize, number: u64, radix: 
     }
 }
 
+/// The digit of a number below 16, in upper case.
 #[inline(always)]
 fn digit(number: u8) -> u8
     requires { number < 16 }
@@ -49,6 +50,7 @@ fn digit(number: u8) -> u8
     }
 }
 
+/// Writes the data's digits over the line, two for each byte.
 #[inline(always)]
 fn put_bytes(line: &mut [u8; 46], bytes: &[u8; 8])
     ensures { line.new ≡ replace_range line.old 29 45 (flat_map (hexadecimal 2) bytes.now) }

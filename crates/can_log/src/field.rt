@@ -22,9 +22,13 @@ pub(crate) enum Class {
     Digit,
     Hex,
     Space,
+    /// ASCII that is seen: neither a space nor a control character.
     Visible,
+    /// The lengths that a remote frame asks for.
     UpToEight,
+    /// The raw length codes that stand for 8 bytes: 9 to F, in either case.
     AboveEight,
+    /// `R` or `T`.
     Mark,
 }
 
@@ -47,6 +51,7 @@ impl Class {
     }
 }
 
+/// How many bytes of the class stand at the front, at most so many.
 #[inline(always)]
 fn run_length(class: Class, most: usize, bytes: &[u8]) -> usize
     ensures value { result ≡ run_len class most bytes.now }

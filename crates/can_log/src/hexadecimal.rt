@@ -4,7 +4,7 @@ ghost use Rattle.std.specs.Prelude.{◌≡◌, ◌<◌, IsTrue};
 ghost use Rattle.std.specs.List.{list_all};
 ghost use Rattle.std.specs.Char.{is_ascii_hexdigit, digit_value};
 
-// The value of each byte as a digit, in either case, or 255.
+/// The value of each byte as a digit, in either case, or 255.
 #[rattlefmt::skip]
 static DIGIT_VALUES: [u8; 256] = [
     255, 255, 255, 255, 255, 255, 255, 255, 255, 255, 255, 255, 255, 255, 255, 255,
@@ -25,6 +25,7 @@ static DIGIT_VALUES: [u8; 256] = [
     255, 255, 255, 255, 255, 255, 255, 255, 255, 255, 255, 255, 255, 255, 255, 255,
 ];
 
+/// Whether the byte is a digit, in either case.
 #[inline(always)]
 pub(crate) fn is_hex_digit(b: u8) -> bool
     ensures { result ≡ is_ascii_hexdigit b }
@@ -32,7 +33,7 @@ pub(crate) fn is_hex_digit(b: u8) -> bool
     DIGIT_VALUES[b as usize] < 16
 }
 
-/// Whether all the bytes are digits. It leaves at no byte, so that the processor tests many at once.
+/// Whether all the bytes are digits. There is no early exit, so that the processor tests many at once.
 #[inline(always)]
 pub(crate) fn are_hex_digits(bytes: &[u8]) -> bool
     ensures { result ≡ list_all is_ascii_hexdigit bytes.now }
@@ -44,6 +45,7 @@ pub(crate) fn are_hex_digits(bytes: &[u8]) -> bool
     all
 }
 
+/// The value of a digit.
 #[inline(always)]
 pub(crate) fn hex_digit_value(b: u8) -> u8
     requires { IsTrue (is_ascii_hexdigit b) }

@@ -30,6 +30,7 @@ pub(crate) fn stamped_of(parts: Parts<'_>) -> Stamped
     }
 }
 
+/// The identifier of these digits: three make a base one, eight an extended one.
 #[inline(always)]
 fn identifier_of(digits: &[u8]) -> Id
     requires { IsIdentifierText digits.now }
@@ -43,6 +44,7 @@ fn identifier_of(digits: &[u8]) -> Id
     }
 }
 
+/// The value of at most eight digits.
 #[inline(always)]
 fn hex_number(digits: &[u8]) -> u32
     requires { IsRunOf is_ascii_hexdigit 0 8 digits.now }
@@ -55,6 +57,7 @@ fn hex_number(digits: &[u8]) -> u32
     n
 }
 
+/// The bytes that pairs of digits spell.
 #[inline(always)]
 fn data_of(digits: &[u8]) -> ArrayVec<u8, 64>
     requires { IsDataText 128 digits.now }
@@ -65,15 +68,18 @@ fn data_of(digits: &[u8]) -> ArrayVec<u8, 64>
     let n = digits.len() / 2;
     let target = &mut buffer[..n];
     decode(digits, target);
+    // There is room: 128 digits spell 64 bytes.
     let _ = bytes.try_extend_from_slice(target);
     bytes
 }
 
+/// Puts the bytes that the digits spell into a slice of just that length.
 #[inline(always)]
 fn decode(digits: &[u8], out: &mut [u8])
     requires digits { IsDataText 128 digits.now }
     requires room { length out.old ≡ length digits.now / 2 }
     ensures { out.new ≡ bytes_spelled digits.now }
 {
+    // It can't fail: these are pairs of digits, and `out` has a byte for each.
     let _ = hex::decode_to_slice(digits, out);
 }

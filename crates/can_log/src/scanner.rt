@@ -41,9 +41,13 @@ pub enum Scan {
 /// bytes so far, 223 at most, and judges them again with the next piece.
 #[derive(Debug, Drop)]
 pub struct Scanner {
+    /// The unfinished line, as far as it has come.
     line: ArrayVec<u8, 223>,
+    /// How many lines have ended.
     lines: u64,
+    /// How many bytes were taken.
     taken: u64,
+    /// The refused place, once there is one.
     refused: Option<Place>,
 }
 
@@ -111,6 +115,7 @@ impl Scanner {
             },
             None => match refused(self.line.as_slice(), piece) {
                 None => {
+                    // There is room: what can be completed has at most 223 bytes.
                     let _ = self.line.try_extend_from_slice(piece);
                     self.taken += piece.len() as u64;
                     Scan::NeedMore
@@ -173,6 +178,7 @@ impl Default for Scanner {
     }
 }
 
+/// The answer at a refused place.
 fn bad(place: Place) -> Scan
     ensures { result ≡ Bad place.line place.column }
 {
@@ -238,11 +244,13 @@ fn joined_verdict(line: &[u8], bytes: &[u8]) -> Verdict
     ensures { Judged (line.now ++ bytes.now) result }
 {
     let mut joined: ArrayVec<u8, 224> = ArrayVec::new();
+    // There is room: of the two no more than 224 bytes are joined.
     let _ = joined.try_extend_from_slice(line);
     let _ = joined.try_extend_from_slice(front_of(bytes, 224 - line.len()));
     verdict_on(joined.as_slice())
 }
 
+/// The verdict on bytes that lie in one piece.
 #[inline(always)]
 fn verdict_on(bytes: &[u8]) -> Verdict
     ensures { Judged bytes.now result }
@@ -255,6 +263,7 @@ fn verdict_on(bytes: &[u8]) -> Verdict
     }
 }
 
+/// The first `n` bytes, or all where there are fewer.
 fn front_of(bytes: &[u8], n: usize) -> &[u8]
     ensures { result.now ≡ take n bytes.now }
 {

@@ -22,6 +22,7 @@ judged s micros sequence_number can_dl =
     else judged_as.Sequence)
     else judged_as.Late
 
+-- the answer to a consecutive frame that was judged so
 abbrev pub on_judged : Dir → Standing → Judged → ℕ → List ℕ → Answer
 on_judged d s judged_as.Late sequence_number bytes = refused (ended_as cause.Late d (Some s)) reason.NextLate
 on_judged d s judged_as.Sequence sequence_number bytes = refused (ended_as cause.Sequence d (Some s)) (reason.NextSequence (expected s) sequence_number)
@@ -46,6 +47,7 @@ continued s micros no_part = Some s
 continued s micros (single m) = None
 continued s micros (first f) = None
 
+-- the same where nothing may stand: then nothing stands behind it
 abbrev pub continue : Option Standing → ℕ → Role → Option Standing
 continue None micros r = None
 continue (Some s) micros r = continued s micros r

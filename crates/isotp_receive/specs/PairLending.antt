@@ -10,6 +10,7 @@ use Rattle.isotp_receive.specs.Standing.{Receptions, receptions_after}
 use Rattle.isotp_receive.specs.Machine.{both_after}
 use Rattle.isotp_receive.specs.contracts.pair.Pair.{the_row}
 
+-- once the message is given back, the pair is what the machine's step makes of it
 abbrev pub TakesLayout : ℕ → MutBor Receptions → ℕ → ℕ → Dir → Result Layout PduFault → Fml
 TakesLayout limit s line micros dir x = Rests the_row s (λ new. new ≡ both_after limit s.now line micros dir x)
 

@@ -24,7 +24,7 @@ pub record FitsAs (f r len n k sequence_number can_dl : ℕ) : Type 0 where
   pub last_low : k ≡ n → 1 + (len - bytes_before f r (n - 1)) ≤ can_dl
   pub last_high : k ≡ n → can_dl ≤ r
 
--- how many of the frames are consecutive frames of d
+-- 1 for a consecutive frame of the direction, 0 for any other
 abbrev pub consecutive_by : Role → ℕ
 consecutive_by (consecutive sequence_number can_dl bytes) = 1
 consecutive_by (single m) = 0
@@ -33,6 +33,7 @@ consecutive_by continue_or_wait = 0
 consecutive_by overflow = 0
 consecutive_by no_part = 0
 
+-- how many of the frames are consecutive frames of d
 abbrev pub consecutive_count : Dir → List Entry → ℕ
 consecutive_count d [] = 0
 consecutive_count d (e ∷ es) = consecutive_by (role d e) + consecutive_count d es

@@ -68,6 +68,7 @@ pub record IsTransfer (limit : ℕ) (T : List Entry) (t : Transfer) : Type 0 whe
   pub rising : IsRisingFrom 0 t.positions
   pub carried : Carries T t.dir t.message t.positions
 
+-- the position is one of these
 abbrev pub IsIn : ℕ → List ℕ → Type 0
 IsIn p [] = ⊥
 IsIn p (q ∷ qs) = (p ≡ q) ⊎ IsIn p qs

@@ -35,10 +35,11 @@ abbrev pub EndsByNewStart : ℕ → List Entry → Entry → Option Ended → Ty
 EndsByNewStart limit T e None = NothingOpen limit T e e.dir
 EndsByNewStart limit T e (Some x) = (i : ℕ) × (k : ℕ) × (o : IsOpenBefore limit T e e.dir i k) × (x ≡ ended_by e.dir o.start cause.NewStart)
 
--- the consecutive frame e, of a reception that is open, is on time, and fits as its number
+-- the consecutive frame e, of a reception that began at i, is on time
 abbrev pub ComesOnTime : ℕ → List Entry → Entry → ℕ → Type 0
 ComesOnTime limit T e i = IsOnTime (T ++ e ∷ []) e.dir i (length T) e
 
+-- and it fits as the next one of the reception that is open
 abbrev pub FitsNext : (limit : ℕ) (T : List Entry) (e : Entry) (i k sequence_number can_dl : ℕ) → IsOpenBefore limit T e e.dir i k → Type 0
 FitsNext limit T e i k sequence_number can_dl o = FitsAs (bytes_in_first o.frame.frame.bytes) o.start.rx_dl o.start.len o.n (k + 1) sequence_number can_dl
 

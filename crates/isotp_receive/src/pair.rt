@@ -57,6 +57,7 @@ impl Pair {
         }
     }
 
+    /// Takes a frame that was read, as the direction's own or as flow control for the other one.
     fn take<'a>(
         &'a mut self,
         line: u64,

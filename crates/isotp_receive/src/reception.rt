@@ -22,10 +22,15 @@ const N_CR: u64 = 1_000_000;
 /// What a consecutive frame is to the reception that stands.
 #[derive(Clone, Copy)]
 enum Judged {
+    /// It comes too late, whatever else it is.
     Late,
+    /// It is on time, and has another sequence number than the expected one.
     Sequence,
+    /// It has the expected number, and another length than the message asks for.
     Length,
+    /// It fits, and the message goes on behind it.
     More,
+    /// It fits, and completes the message.
     Last,
 }
 
@@ -35,7 +40,9 @@ struct Head {
     line: u64,
     len: u32,
     rx_dl: u8,
+    /// How many consecutive frames have come.
     taken: u32,
+    /// The time that N_Cr runs from, in microseconds.
     reference: u64,
 }
 
@@ -52,6 +59,7 @@ impl Head {
         ((self.taken + 1) % 16) as u8
     }
 
+    /// Why a consecutive frame with another sequence number is dropped.
     fn wrong_number(self, found: u8) -> Reason
         requires { self.taken < 2 ^ 31 }
         ensures { result ≡ Reason.NextSequence ((self.taken + 1) % 16) found }
@@ -88,6 +96,7 @@ impl Head {
 /// The reception of one direction.
 #[derive(Drop)]
 pub struct Reception {
+    /// The bytes of the message that have come. Where nothing stands they are left over from an earlier one.
     bytes: Vec<u8>,
     head: Option<Head>,
 }
@@ -108,6 +117,7 @@ impl Model for Reception {
 impl Reception {
     ghost use Rattle.isotp_receive.specs.ReceptionLending.{TakesConsecutive};
 
+    /// Nothing stands. The buffer for the longest message is reserved here, and never grows.
     pub fn new(alloc: Global) -> Result<Reception, AllocError>
         ensures { IfOk result (λ s. s ≡ None) }
     {
@@ -117,12 +127,14 @@ impl Reception {
         })
     }
 
+    /// The line and the announced length of the first frame, where a reception stands.
     pub fn open(&self) -> Option<(u64, u32)>
         ensures { result ≡ option_map (λ s. (s.line, s.len)) self.now }
     {
         self.head.map(|head| (head.line, head.len))
     }
 
+    /// Ends what stands, if anything does.
     pub fn end(&mut self, cause: Cause, dir: Dir) -> Option<Ended>
         ensures end { self.new ≡ None }
         ensures ended { result ≡ ended_as cause dir self.old }
@@ -135,6 +147,7 @@ impl Reception {
         }
     }
 
+    /// Begins a reception with a first frame, in place of what stands.
     pub fn begin(&mut self, line: u64, micros: u64, len: u32, rx_dl: u8, bytes: &[u8])
         requires limit { len ≤ MESSAGE_LIMIT }
         requires sound { IsSoundLayout (first len rx_dl bytes.now) }
@@ -151,6 +164,7 @@ impl Reception {
         });
     }
 
+    /// Takes a flow control frame of the other direction; `dir` is that of the reception.
     pub fn flow(&mut self, dir: Dir, micros: u64, status: Status) -> Event<'static>
         ensures after { self.new ≡ after MESSAGE_LIMIT self.old micros (other_role (Ok (flow_control status))) }
         ensures event { seen_event result ≡ on_flow_control dir self.old status }
@@ -174,6 +188,7 @@ impl Reception {
         }
     }
 
+    /// Takes a consecutive frame. The message that it completes is lent out of the buffer.
     #[tactic(auto, using(crate::proofs::Fronts::take_over))]
     pub fn next<'a>(
         &'a mut self,

@@ -47,6 +47,7 @@ ComesTo settings log (Err OutputLimit) = IsOutcome settings log (Err OutputLimit
 ComesTo settings log (Err Read) = ⊥
 ComesTo settings log (Err Write) = ⊥
 
+-- why a log is not read to its end or its limit
 abbrev pub IsReadOrMemory : Fault → Type 0
 IsReadOrMemory Read = ⊤
 IsReadOrMemory Memory = ⊤

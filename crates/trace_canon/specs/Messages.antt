@@ -30,6 +30,7 @@ unfoldable pub announced : List ℕ → Option (List ℕ)
 announced [] = None
 announced (len ∷ rest) = if nat_le 1 len && nat_le len 7 && nat_le len (length rest) then Some (take len rest) else None
 
+-- all but remote frames do
 abbrev pub carries_data : Kind → Bool
 carries_data kind.Classic = true
 carries_data kind.Fd = true
@@ -39,6 +40,7 @@ carries_data kind.Remote = false
 unfoldable pub single_message : FrameValue → Option (List ℕ)
 single_message frame = if carries_data frame.kind && nat_le (length frame.bytes) 8 then announced frame.bytes else None
 
+-- the message of an entry, by the side that sent it
 abbrev pub message_of : Entry → Option Message
 message_of entry = option_map (λ bytes. record { dir = entry.dir; bytes = bytes }) (single_message entry.frame)
 

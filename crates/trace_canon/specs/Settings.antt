@@ -45,6 +45,7 @@ abbrev pub id_of : Settings → Dir → Id
 id_of settings dir.Tester = settings.tester
 id_of settings dir.Unit = settings.unit
 
+-- one format and one number
 abbrev pub is_same_id : Id → Id → Bool
 is_same_id (id.Std a) (id.Std b) = a == b
 is_same_id (id.Std a) (id.Ext b) = false

@@ -15,6 +15,7 @@ use std::alloc::{AllocError, Global};
 /// The canonical log of the lines so far, and what was counted in them.
 #[derive(Drop)]
 pub(crate) struct Gathered {
+    /// The canonical log, as long as it is within the limit.
     text: Vec<u8>,
     /// The canonical log is longer than the limit, and `text` is no longer kept up.
     is_over: bool,

@@ -62,7 +62,7 @@ pub struct FailsAt<D> {
     pub kind: ErrorKind,
 }
 
-// Counts a call, and tells whether it is the one that fails.
+/// Counts a call, and tells whether it is the one that fails.
 fn is_due(after: &mut Option<u64>) -> bool
     ensures due { IsTrue result ↔ (after.old ≡ Some 0) }
     ensures after { after.new ≡ calls_left after.old }

@@ -10,6 +10,7 @@ use Rattle.uds_message.specs.Message.{sid, is_request, is_final_for, is_pending_
 abbrev pub Message : Type 0
 Message = Dir × List ℕ
 
+-- whether the tester sent it
 abbrev pub is_from_tester : Dir → Bool
 is_from_tester dir.Tester = true
 is_from_tester dir.Unit = false
@@ -36,6 +37,7 @@ pub record Part : Type 0 where
   pub request : List ℕ
   pub behind : List Message
 
+-- the part of this request with these messages behind it
 abbrev pub part : List ℕ → List Message → Part
 part request behind = record { request = request; behind = behind }
 
@@ -70,6 +72,7 @@ pub data ItemValue : Type 0 where
   exchange : List ℕ → Option (List ℕ) → ItemValue
   stray : Dir → List ℕ → ItemValue
 
+-- a message that belongs to no exchange, as an item
 abbrev pub stray_of : Message → ItemValue
 stray_of x = stray x.0 x.1
 
@@ -91,9 +94,10 @@ messages_of (stray d bytes) = (d, bytes) ∷ []
 abbrev pub flattened : List ItemValue → List Message
 flattened items = flat_map messages_of items
 
--- all that is removed of a list, part by part
+-- what is removed of a part
 abbrev pub removed_of : Part → List Message
 removed_of p = removed p.request p.behind
 
+-- all that is removed of a list, part by part
 abbrev pub removed_messages : List Message → List Message
 removed_messages M = flat_map removed_of (parts M)

@@ -4,6 +4,7 @@ use Rattle.can_log.specs.declared.frame.Dir.TheVariants as dir
 use Rattle.uds_message.specs.Message.{sid}
 use Rattle.uds_exchange.specs.Meaning.{Message, ItemValue, exchange, stray, meaning, flattened}
 
+-- whether one of the items is an exchange
 abbrev pub has_exchange : List ItemValue → Bool
 has_exchange [] = false
 has_exchange (exchange request reply ∷ its) = true

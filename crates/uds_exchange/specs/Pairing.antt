@@ -13,9 +13,11 @@ abbrev pub item_value : Item → ItemValue
 item_value (item.Exchange request answer) = exchange request.items (option_map (λ v. v.items) answer)
 item_value (item.Stray dir bytes) = stray dir bytes.items
 
+-- and all of a list
 abbrev pub item_values : List Item → List ItemValue
 item_values items = map item_value items
 
+-- the place of an item once another stands in front of the list
 abbrev pub one_later : Option (ℕ × List ℕ) → Option (ℕ × List ℕ)
 one_later None = None
 one_later (Some w) = Some (suc w.0, w.1)
@@ -36,7 +38,7 @@ pub record IsOpenAt (its : List ItemValue) (open_sid : Option ℕ) (last : ℕ) 
   pub first_byte : waiting_sid its ≡ open_sid
   pub place : (w : ℕ × List ℕ) → waiting its ≡ Some w → w.0 ≡ last
 
--- what a message is where a request with this first byte is open
+-- what a message that is no request is, where a request with this first byte is open, or none
 abbrev pub role_if_open : Option ℕ → Message → RoleInCode
 role_if_open None x = role.Stray
 role_if_open (Some s) x =
@@ -44,10 +46,11 @@ role_if_open (Some s) x =
     else if not (is_from_tester x.0) && is_pending_for s x.1 then role.Removed
     else role.Stray
 
+-- what a message is there; a request is one in any case
 abbrev pub role_at : Option ℕ → Message → RoleInCode
 role_at open_sid x = if is_tester_request x then role.Request (sid x.1) else role_if_open open_sid x
 
--- the items after one more message
+-- the items after one more message that is no request, by the exchange that waits
 abbrev pub joined_by : Option (ℕ × List ℕ) → List ItemValue → Message → List ItemValue
 joined_by None its x = its ++ stray_of x ∷ []
 joined_by (Some w) its x =
@@ -55,5 +58,6 @@ joined_by (Some w) its x =
     else if is_pending_reply_to w.1 x then its
     else its ++ stray_of x ∷ []
 
+-- the items after one more message: a request begins an exchange, and any other goes by what waits
 abbrev pub joined : List ItemValue → Message → List ItemValue
 joined its x = if is_tester_request x then its ++ exchange x.1 None ∷ [] else joined_by (waiting its) its x

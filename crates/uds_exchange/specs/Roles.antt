@@ -64,6 +64,7 @@ abbrev pub arranged : List Message → List Message → List Role → List Messa
 arranged out (x ∷ xs) (role ∷ roles) = arranged (placed role out x) xs roles
 arranged out xs roles = out
 
+-- whether it is that of a pending reply that is left out
 abbrev pub is_removed : Role → Bool
 is_removed as_removed = true
 is_removed role = false

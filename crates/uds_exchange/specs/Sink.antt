@@ -3,10 +3,11 @@ use Rattle.std.specs.Prelude.{◌≡◌, ℕ, List, [], ◌∷◌, ◌++◌}
 use Rattle.can_log.specs.declared.frame.Dir.{Dir}
 use Rattle.uds_exchange.specs.Meaning.{Message}
 
--- the values t of a sink that may follow an Ok, or an Err e, of a `put` of a message to the value s
+-- the values t of a sink that may follow an Ok of a `put` of a message to the value s
 abbrev pub AfterOk : Type 0 → Type 1
 AfterOk S = S → Dir → List ℕ → S → Type 0
 
+-- and those that may follow an Err e
 abbrev pub AfterErr : Type 0 → Type 0 → Type 1
 AfterErr S E = S → Dir → List ℕ → E → S → Type 0
 

@@ -18,6 +18,7 @@ due_for role.Removed open_sid holds x = []
 due_for role.Stray None holds x = x ∷ []
 due_for role.Stray (Some s) holds x = []
 
+-- what is due with one more message
 abbrev pub due : Standing → Message → List Message
 due o x = due_for (role_at o.open_sid x) o.open_sid o.holds x
 
@@ -29,6 +30,7 @@ next_for role.Removed o open_sid x = o
 next_for role.Stray o None x = o
 next_for role.Stray o (Some s) x = record o { holds = o.holds ++ x ∷ [] }
 
+-- what the orderer is after one more message
 abbrev pub next : Standing → Message → Standing
 next o x = next_for (role_at o.open_sid x) o o.open_sid x
 

@@ -87,6 +87,7 @@ impl Orderer {
         self.advance(dir, message, sink)
     }
 
+    /// Takes one more message, by the open request and what is held alone.
     fn advance<S: MessageSink>(
         &mut self,
         dir: Dir,

@@ -57,6 +57,7 @@ impl Pairing {
         Ok(())
     }
 
+    /// Takes one more message, by the items and the open request alone.
     fn join(&mut self, dir: Dir, message: &[u8]) -> Result<(), AllocError>
         ensures ok { OnOk result (self.new ≡ joined self.old (dir, message.now)) }
         ensures err { OnErr result (self.new ≡ self.old) }
@@ -96,6 +97,7 @@ impl Pairing {
     }
 }
 
+/// The bytes in memory of their own.
 fn copy(alloc: Global, bytes: &[u8]) -> Result<Vec<u8>, AllocError>
     ensures { IfOk result (λ v. v.items ≡ bytes.now) }
 {
@@ -114,6 +116,7 @@ fn set_answer(items: &mut Vec<Item>, at: usize, bytes: Vec<u8>)
     answer_with(&mut items[at], bytes);
 }
 
+/// Gives an exchange its answer; a stray stays as it is.
 fn answer_with(item: &mut Item, bytes: Vec<u8>)
     ensures { (request : List ℕ) → item_value item.old ≡ exchange request None
         → item_value item.new ≡ exchange request (Some bytes.items) }

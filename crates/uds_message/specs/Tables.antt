@@ -14,12 +14,15 @@ pub record Code : Type 0 where
   pub code : ℕ
   pub name : List ℕ
 
+-- a row of a service with a sub-function
 abbrev pub with_sub_function : ℕ → List ℕ → Service
 with_sub_function sid name = record { sid = sid; name = name; has_sub_function = true }
 
+-- a row of a service without one
 abbrev pub without_sub_function : ℕ → List ℕ → Service
 without_sub_function sid name = record { sid = sid; name = name; has_sub_function = false }
 
+-- a row of a code and its name
 abbrev pub code_row : ℕ → List ℕ → Code
 code_row code name = record { code = code; name = name }
 
@@ -87,6 +90,7 @@ abbrev pub service_row_in : List Service → ℕ → Option Service
 service_row_in [] sid = None
 service_row_in (row ∷ rows) sid = if sid == row.sid then Some row else service_row_in rows sid
 
+-- its row in the table of services
 abbrev pub service_row : ℕ → Option Service
 service_row sid = service_row_in services sid
 
@@ -99,5 +103,6 @@ abbrev pub code_name_in : List Code → ℕ → Option (List ℕ)
 code_name_in [] code = None
 code_name_in (row ∷ rows) code = if code == row.code then Some row.name else code_name_in rows code
 
+-- its name in the table of response codes
 abbrev pub name_of_code : ℕ → Option (List ℕ)
 name_of_code code = code_name_in response_codes code

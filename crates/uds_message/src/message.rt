@@ -97,6 +97,7 @@ pub fn suppresses(message: &[u8]) -> bool
     }
 }
 
+/// Whether bit 6 is set, which tells the identifiers of responses.
 fn is_response_sid(sid: u8) -> bool
     ensures { result ≡ has_response_bit sid }
 {
