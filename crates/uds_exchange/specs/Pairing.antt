@@ -1,20 +1,10 @@
 -- Devices of proof: a meaning that grows by one message, and what the code keeps of it.
 use Rattle.std.specs.Prelude.{◌≡◌, ℕ, suc, not, ◌&&◌, List, [], ◌∷◌, ◌++◌, map, Option, Some, None, option_map, if◌then◌else◌, slice_set}
 use Rattle.uds_message.specs.Message.{sid, is_final_for, is_pending_for}
-use Rattle.uds_exchange.specs.declared.item.Item.{Item}
-use Rattle.uds_exchange.specs.declared.item.Item.TheVariants as item
 use Rattle.uds_exchange.specs.declared.roles.Role.{Role as RoleInCode}
 use Rattle.uds_exchange.specs.declared.roles.Role.TheVariants as role
 use Rattle.uds_exchange.specs.Meaning.{Message, ItemValue, exchange, stray, stray_of, is_from_tester, is_tester_request, is_answer_to, is_pending_reply_to}
 use Rattle.uds_exchange.specs.Order.{has_exchange}
-
--- an item without where it lies in memory
-abbrev pub item_value : Item → ItemValue
-item_value (item.Exchange request answer) = exchange request.items (option_map (λ v. v.items) answer)
-item_value (item.Stray dir bytes) = stray dir bytes.items
-
-abbrev pub item_values : List Item → List ItemValue
-item_values items = map item_value items
 
 abbrev pub one_later : Option (ℕ × List ℕ) → Option (ℕ × List ℕ)
 one_later None = None
