@@ -1,5 +1,5 @@
 -- Devices of proof: a meaning that grows by one message, and what the code keeps of it.
-use Rattle.std.specs.Prelude.{◌≡◌, ℕ, suc, not, ◌&&◌, List, [], ◌∷◌, ◌++◌, map, Option, Some, None, option_map, if◌then◌else◌, slice_set}
+use Rattle.std.specs.Prelude.{◌≡◌, ℕ, suc, not, ◌&&◌, List, [], ◌∷◌, ◌++◌, Option, Some, None, option_map, if◌then◌else◌, slice_set}
 use Rattle.uds_message.specs.Message.{sid, is_final_for, is_pending_for}
 use Rattle.uds_exchange.specs.declared.roles.Role.{Role as RoleInCode}
 use Rattle.uds_exchange.specs.declared.roles.Role.TheVariants as role
