@@ -21,3 +21,5 @@ pub mod RefusedPlaces
 pub mod ScannerSteps
 pub mod LogReads
 pub mod LegalOrRefused
+pub mod RecordedBytes
+pub mod Promises

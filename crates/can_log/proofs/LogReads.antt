@@ -9,6 +9,7 @@ use Rattle.can_log.specs.Refused.{NoLineFeed}
 use Rattle.can_log.specs.Log.{log_lines, LinesMean, LogMeans, ended_lines}
 use Rattle.can_log.specs.Scanning.{Standing, Scans, ScansOn, ScansFrom, Finishes, FinishesOn, FinishesFrom}
 use Rattle.can_log.specs.WholeLog.{at_start, StandsAfter, IsRefusedBehind, ReadsOn, ReadsEnd, ScansAll, Told, line, refused, told, lines_from, TellsLog}
+use Rattle.can_log.specs.Laws.{LogMeansAtMostOne}
 use Rattle.can_log.proofs.LineFeeds.{line_clean}
 use Rattle.can_log.proofs.LogLines.{log_lines-rest, mean_together}
 use Rattle.can_log.proofs.RefusedPlaces.{lines_first, lines_before_are_one, refused_place_is_one, refused_log_means_nothing}
@@ -187,6 +188,9 @@ lines_mean_one (first ∷ lines) [] others m n = absurd m
 lines_mean_one (first ∷ lines) (what ∷ whats) [] m n = absurd n
 lines_mean_one (first ∷ lines) (what ∷ whats) (other ∷ others) m n =
     ap (λ (z : Option Stamped). z ∷ whats) (one_meaning first what other m.0 n.0) ∙ ap (λ (z : List (Option Stamped)). other ∷ z) (lines_mean_one lines whats others m.1 n.1)
+
+pub log_means_at_most_one : LogMeansAtMostOne
+log_means_at_most_one log = lines_mean_one (log_lines log)
 
 pub log_tells_one : (log : List ℕ) (report other : List Told) → TellsLog log report → TellsLog log other → report ≡ other
 log_tells_one log report other (inl (whats, means, is)) (inl (whats2, means2, is2)) =

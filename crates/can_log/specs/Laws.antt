@@ -1,6 +1,6 @@
 -- What holds of lines and logs, whoever reads them.
-use Rattle.std.specs.Prelude.{◌≡◌, ℕ, ◌≤◌, ◌⊎◌, List, [], ◌∷◌, ◌++◌, Option, length}
-use Rattle.std.specs.List.{concat}
+use Rattle.std.specs.Prelude.{◌≡◌, ℕ, ◌<◌, ◌≤◌, ◌⊎◌, List, [], ◌∷◌, ◌++◌, Option, Some, length}
+use Rattle.std.specs.List.{AllByRecursion, concat}
 use Rattle.can_log.specs.declared.scanner.Scan.{Scan}
 use Rattle.can_log.specs.declared.frame.Stamped.{Stamped}
 use Rattle.can_log.specs.Line.{LineMeans}
@@ -21,6 +21,10 @@ LineHasNoLineFeed = (bytes : List ℕ) (what : Option Stamped) → LineMeans byt
 abbrev pub LineIsShort : Type 0
 LineIsShort = (bytes : List ℕ) (what : Option Stamped) → LineMeans bytes what → length bytes ≤ 223
 
+-- what a line records are bytes
+abbrev pub LineRecordsBytes : Type 0
+LineRecordsBytes = (bytes : List ℕ) (stamped : Stamped) → LineMeans bytes (Some stamped) → AllByRecursion (λ b. b < 256) stamped.frame.bytes
+
 -- each front of bytes that have a completion has one
 abbrev pub FrontHasCompletion : Type 0
 FrontHasCompletion = (front more : List ℕ) → HasCompletion (front ++ more) → HasCompletion front
@@ -37,6 +41,10 @@ RefusedPlaceIsOne = (log : List ℕ) (line column other_line other_column : ℕ)
 -- a log means something, or it has a refused place
 abbrev pub LogIsLegalOrRefused : Type 0
 LogIsLegalOrRefused = (log : List ℕ) → ((whats : List (Option Stamped)) × LogMeans log whats) ⊎ ((line : ℕ) × (column : ℕ) × IsRefusedIn log line column)
+
+-- a log means at most one thing
+abbrev pub LogMeansAtMostOne : Type 0
+LogMeansAtMostOne = (log : List ℕ) (whats others : List (Option Stamped)) → LogMeans log whats → LogMeans log others → whats ≡ others
 
 -- a log with a refused place has no meaning
 abbrev pub RefusedLogMeansNothing : Type 0

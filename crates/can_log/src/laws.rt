@@ -1,6 +1,6 @@
 //! What holds of lines and logs. A law is a call without a body: a proof that needs it calls it, and nothing runs.
 
-ghost use Rattle.can_log.specs.Laws.{LineMeansAtMostOne, LineHasNoLineFeed, LineIsShort, FrontHasCompletion, SixteenAreEnough, RefusedPlaceIsOne, LogIsLegalOrRefused, RefusedLogMeansNothing, StartStands, ScanReadsOn, FinishReadsEnd, ScanningReadsTheLog, LogTellsOne};
+ghost use Rattle.can_log.specs.Laws.{LineMeansAtMostOne, LineHasNoLineFeed, LineIsShort, LineRecordsBytes, FrontHasCompletion, SixteenAreEnough, RefusedPlaceIsOne, LogIsLegalOrRefused, LogMeansAtMostOne, RefusedLogMeansNothing, StartStands, ScanReadsOn, FinishReadsEnd, ScanningReadsTheLog, LogTellsOne};
 ghost use Rattle.can_log.specs.CanonicalLaws.{CanonicalLineMeans, CanonicalTextIsOneLine, CanonicalLineLength};
 ghost use Rattle.can_log.specs.LogLaws.{LogLinesOfParts, LinesMeanInParts, LineIsLog, LogsJoin};
 
@@ -17,6 +17,11 @@ pub fn line_has_no_line_feed()
 /// A line, with its carriage return, has at most 223 bytes.
 pub fn line_is_short()
     ensures { LineIsShort }
+{}
+
+/// The data of the frame that a line records are bytes: each number is below 256.
+pub fn line_records_bytes()
+    ensures { LineRecordsBytes }
 {}
 
 /// Each front of bytes that have a completion has one.
@@ -37,6 +42,11 @@ pub fn refused_place_is_one()
 /// A log means something, or it has a refused place.
 pub fn log_is_legal_or_refused()
     ensures { LogIsLegalOrRefused }
+{}
+
+/// A log means at most one thing.
+pub fn log_means_at_most_one()
+    ensures { LogMeansAtMostOne }
 {}
 
 /// A log with a refused place has no meaning.

@@ -1,5 +1,5 @@
--- What a CAN frame says under ISO 15765-2:2016: each layout as the bytes that it spells, and then the same as a function.
--- Sections are of that standard.
+-- What a CAN frame says under ISO 15765-2:2016, section 9.6: each layout as the bytes that it spells, and then the same as
+-- a function. Sections are of that standard.
 use Rattle.std.specs.Prelude.{◌≡◌, ◌≢◌, ℕ, ◌+◌, ◌-◌, ◌*◌, ◌/◌, ◌%◌, ◌^◌, ◌<◌, ◌≤◌, ◌⊎◌, Bool, ◌&&◌, ◌||◌, ◌==◌, nat_lt, nat_le, IsTrue, List, [], ◌∷◌, ◌++◌, length, drop, slice_index, slice_range, Result, Ok, Err, true, ⊤, if◌then◌else◌}
 use Rattle.can_log.specs.Frame.{FrameValue}
 use Rattle.can_log.specs.declared.frame.Kind.{Kind}

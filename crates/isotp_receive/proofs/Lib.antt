@@ -22,3 +22,4 @@ pub mod Clean
 pub mod Certified
 pub mod Fits
 pub mod MessagesOfMore
+pub mod Promises

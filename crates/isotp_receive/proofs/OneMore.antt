@@ -10,13 +10,13 @@ use Rattle.isotp_pdu.specs.Layout.{Layout, layout_of, IsSoundLayout}
 use Rattle.isotp_pdu.specs.Layout as layout
 use Rattle.isotp_pdu.specs.declared.PduFault.{PduFault}
 use Rattle.isotp_pdu.specs.declared.Status.TheVariants.{Continue, Wait, Overflow}
-use Rattle.isotp_pdu.proofs.EveryFrame.{sound}
 use Rattle.isotp_receive.specs.Trace.{own_role, other_role, same_direction, Entry, FirstFrame, Role, single, first, consecutive, continue_or_wait, overflow, no_part, role}
 use Rattle.isotp_receive.specs.OnTime.{n_cr}
 use Rattle.isotp_receive.specs.Places.{consecutive_by, consecutive_count}
 use Rattle.isotp_receive.specs.Standing.{carried_by, carried, referred, reference, carried_after, fits_length, keeps_by, keep, is_open, Standing, standing_of, since, or_else, stands}
 use Rattle.isotp_receive.specs.Machine.{continued_by, continued, continue, after}
 use Rattle.isotp_receive.specs.declared.reception.Judged.TheVariants as judged_as
+use Rattle.isotp_receive.proofs.Places.{sound_reading}
 
 pub taken-snoc : (d : Dir) (es : List Entry) (e : Entry) → consecutive_count d (es ++ e ∷ []) ≡ consecutive_count d es + consecutive_by (role d e)
 taken-snoc d [] e = omega arith
@@ -108,7 +108,7 @@ other_length (Err f) = tt
 
 pub role-length : (d : Dir) (e : Entry) → HasItsLength (role d e)
 unfolding role
-role-length d e = cond_both (same_direction d e.dir) _ _ HasItsLength (λ _. own_length e.line e.micros _ (sound e.frame)) (λ _. other_length (layout_of e.frame))
+role-length d e = cond_both (same_direction d e.dir) _ _ HasItsLength (λ _. own_length e.line e.micros _ (sound_reading e.frame (layout_of e.frame) refl)) (λ _. other_length (layout_of e.frame))
 
 pub more : (n a b c : ℕ) → n + a * c ≤ n + (a + b) * c
 more n a b c = omega arith

@@ -10,7 +10,7 @@ use Rattle.isotp_pdu.specs.declared.PduFault.{PduFault}
 use Rattle.isotp_pdu.specs.declared.Status.TheVariants.{Continue, Wait, Overflow}
 use Rattle.isotp_pdu.specs.Layout.{Layout, layout_of, is_can_dl, least_first, SpellsFirst, Spells, IsSoundLayout}
 use Rattle.isotp_pdu.specs.Layout as layout
-use Rattle.isotp_pdu.proofs.EveryFrame.{layout_is_read, layout_is_sound}
+use Rattle.isotp_pdu.proofs.Promises.{layout_is_read, layout_is_sound}
 use Rattle.isotp_receive.specs.Trace.{Entry, FirstFrame, Role, single, first, consecutive, continue_or_wait, overflow, no_part, role, own_role, other_role, same_direction, At}
 use Rattle.isotp_receive.specs.Places.{bytes_in_first}
 
@@ -55,6 +55,11 @@ spelled_lies x (layout.flow_control s) spelled sound_one = tt
 can_dl_high : (n : ℕ) → IsTrue (is_can_dl n) → n ≤ 64
 can_dl_high n h = grind (arith, nat_tests)
 
+-- the numbers of a reading are in their ranges
+pub sound_reading : (f : FrameValue) (r : Result Layout PduFault) → layout_of f ≡ r → IfOk r IsSoundLayout
+sound_reading f (Ok found) is = layout_is_sound f found ((layout_is_read f found).1 is)
+sound_reading f (Err fault) is = tt
+
 -- what is known of a reading
 record IsFrom (x : List ℕ) (found : Layout) : Type 0 where
   lies : LiesIn x found
@@ -64,7 +69,7 @@ record IsFrom (x : List ℕ) (found : Layout) : Type 0 where
 read_from : (f : FrameValue) (r : Result Layout PduFault) → layout_of f ≡ r → IfOk r (IsFrom f.bytes)
 read_from f (Ok found) is =
     let has = (layout_is_read f found).1 is in
-    let numbers = layout_is_sound f found has in
+    let numbers = sound_reading f (Ok found) is in
     record { lies = spelled_lies f.bytes found has.spelled numbers; few = can_dl_high (length f.bytes) has.frame_length; numbers = numbers }
 read_from f (Err fault) is = tt
 

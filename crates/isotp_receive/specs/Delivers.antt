@@ -1,4 +1,4 @@
--- The messages that a trace delivers, by looking back over the whole trace.
+-- The messages that a trace delivers (ISO 15765-2, section 9.6), by looking back over the whole trace.
 use Rattle.std.specs.Prelude.{◌≡◌, ℕ, ◌+◌, List, length}
 use Rattle.can_log.specs.declared.frame.Dir.{Dir}
 use Rattle.isotp_receive.specs.Trace.{Entry, At, single, consecutive, role}

@@ -1,4 +1,4 @@
--- Receptions that are open (ISO 15765-2, section 9.6), by looking back over the whole trace.
+-- Receptions that are open (ISO 15765-2, sections 9.6 and 9.8), by looking back over the whole trace.
 use Rattle.std.specs.Prelude.{◌≡◌, ◌<◌, ◌≤◌, ℕ, ◌+◌, List, length, ⊤}
 use Rattle.can_log.specs.declared.frame.Dir.{Dir}
 use Rattle.isotp_receive.specs.Trace.{Entry, At, FirstFrame, Role, single, first, consecutive, continue_or_wait, overflow, no_part, role}

@@ -4,20 +4,22 @@ use Rattle.can_log.specs.declared.frame.Dir.{Dir}
 use Rattle.isotp_receive.specs.Trace.{Entry, At, Role, single, first, consecutive, continue_or_wait, overflow, no_part, role}
 
 -- f: how many bytes of its message a first frame of these bytes holds, with 12 bits of length or with the escape
+-- (section 9.6.3)
 abbrev pub bytes_in_first : List ℕ → ℕ
 bytes_in_first x = if (slice_index x 0 % 16) * 256 + slice_index x 1 == 0 then length x - 6 else length x - 2
 
 -- how many bytes of the message stand before consecutive frame k + 1: f in the first frame, and r - 1 in each of k others
+-- (section 9.6.4)
 abbrev pub bytes_before : ℕ → ℕ → ℕ → ℕ
 bytes_before f r k = f + k * (r - 1)
 
--- n: the least number of consecutive frames that hold what the first frame leaves, where RX_DL is r
+-- n: the least number of consecutive frames that hold what the first frame leaves, where RX_DL is r (section 9.6.4)
 pub record IsConsecutiveCount (f r len n : ℕ) : Type 0 where
   pub enough : len ≤ bytes_before f r n
   pub fewer : (k : ℕ) → k < n → bytes_before f r k < len
 
 -- A consecutive frame of this sequence number and CAN_DL fits as number k of n: it is as long as the first frame, or the
--- last one, which holds what is missing and is no longer.
+-- last one, which holds what is missing and is no longer (section 9.6.4).
 pub record FitsAs (f r len n k sequence_number can_dl : ℕ) : Type 0 where
   pub number : sequence_number ≡ k % 16
   pub full : k < n → can_dl ≡ r

@@ -1,5 +1,5 @@
 -- A recording of a list of messages: which positions of a trace each message is given, and what stands there
--- (ISO 15765-2, section 9). Nothing is received here: there is no state, and the trace is looked at as a whole.
+-- (ISO 15765-2, sections 9.6 and 9.8). Nothing is received here: there is no state, and the trace is looked at as a whole.
 use Rattle.std.specs.Prelude.{◌≡◌, ◌<◌, ◌≤◌, ℕ, suc, ◌+◌, ◌-◌, List, [], ◌∷◌, length, map, slice_index, nat_lt, Result, Ok, Err, ⊤, ◌⊎◌, if◌then◌else◌}
 use Rattle.std.specs.List.{AllByRecursion}
 use Rattle.can_log.specs.declared.frame.Dir.{Dir}
@@ -99,7 +99,7 @@ abbrev pub IsGiven : ℕ → List Transfer → Type 0
 IsGiven p [] = ⊥
 IsGiven p (t ∷ ts) = IsIn p t.positions ⊎ IsGiven p ts
 
--- a continue frame, a wait frame or a frame without a reading
+-- a continue frame, a wait frame (section 9.6.5) or a frame without a reading
 abbrev pub IsIdle : Result Layout PduFault → Type 0
 IsIdle (Ok (layout.flow_control Continue)) = ⊤
 IsIdle (Ok (layout.flow_control Wait)) = ⊤

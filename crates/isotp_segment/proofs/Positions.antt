@@ -4,7 +4,6 @@ use Rattle.std.specs.List.{range_with_len}
 use Rattle.std.proofs.lemmas.Bool.{leb-false, ltb-true, ltb-false, cases_Bool}
 use Rattle.isotp_receive.specs.Places.{IsConsecutiveCount}
 use Rattle.isotp_receive.specs.Recording.{IsRisingFrom, IsIn, last_or}
-use Rattle.isotp_receive.proofs.PositionLists.{last-in}
 use Rattle.isotp_segment.specs.CanonicalFrames.{room_in_first, consecutive_count, total_count}
 
 -- one, or that of the first frame and, behind the continue frame, those of the consecutive frames
@@ -32,6 +31,11 @@ position-bounds m n p i = elim (cases_Bool (nat_le (length m) 7)) [
   | inl t ↦ rw t (elim (rw t at i) [ inl e ↦ (omega arith, omega arith) | inr none ↦ absurd none ])
   | inr t ↦ rw t (elim (rw t at i) [ inl e ↦ (omega arith, omega arith) | inr r ↦ (let h = range-bounds p (n + 2) (consecutive_count (length m)) r in (omega arith, omega arith)) ])
 ]
+
+-- the last position is one of them
+last-in : (p : ℕ) (ps : List ℕ) → IsIn (last_or p ps) (p ∷ ps)
+last-in p [] = inl refl
+last-in p (q ∷ qs) = inr (last-in q qs)
 
 pub last-position : (m : List ℕ) (n : ℕ) → IsIn (last_or 0 (positions_of m n)) (positions_of m n)
 last-position m n = elim (cases_Bool (nat_le (length m) 7)) [

@@ -14,10 +14,8 @@ use Rattle.isotp_receive.specs.Trace.{Entry, At, FirstFrame, first, consecutive,
 use Rattle.isotp_receive.specs.OnTime.{RestartsTimer}
 use Rattle.isotp_receive.specs.Recording.{IsConsecutiveFrame, EachNumbered, IsSegmented, unsegmented, segmented, Transfer, IsTransfer, IsIn, last_or, AreApart, EachPair, IsGiven, IsIdle, IsRecording, ended_within}
 use Rattle.isotp_receive.specs.Verdict.{messages}
-use Rattle.isotp_receive.proofs.Delivered.{recording-delivers-behind, delivers-at-last}
+use Rattle.isotp_receive.proofs.Promises.{carried_agrees, recording_delivers_behind, delivers_at_last_position}
 use Rattle.isotp_receive.specs.Places as places
-use Rattle.isotp_receive.proofs.Places.{first_from}
-use Rattle.isotp_receive.proofs.References.{at-same}
 use Rattle.isotp_segment.specs.CanonicalFrames.{consecutive_count, filled, single_control, first_control, consecutive_control, continue_control, room_in_first, place_of, total_count, canonical_frame, canonical_frames}
 use Rattle.isotp_segment.specs.Timed.{timed, HasFrames, all_frames}
 use Rattle.isotp_segment.proofs.Bytes.{filled-holds}
@@ -25,6 +23,10 @@ use Rattle.isotp_segment.proofs.Frames.{frame-single, frame-first, frame-continu
 use Rattle.isotp_segment.proofs.Layouts.{layout-single, layout-first, layout-consecutive, layout-continue}
 use Rattle.isotp_segment.proofs.Positions.{positions_of, rising-range, in-range, position-bounds, last-position, room_in_first-few, count-least, last-position-is}
 use Rattle.isotp_segment.proofs.TimedFrames.{entry, role-own, role-other, length-timed, take-timed, frames-stand}
+
+-- one entry stands at a position
+same-entry : (T : List Entry) (p : ℕ) (e x : Entry) → At T p e → At T p x → e ≡ x
+same-entry T p e x at there = cc
 
 module _ (identifier : Dir → Id) (line micros limit : ℕ) (bits : limit < 2 ^ 32) where
   -- the first frame of a longer message
@@ -86,7 +88,11 @@ module _ (identifier : Dir → Id) (line micros limit : ℕ) (bits : limit < 2 ^
       start = record { line = line + n; micros = micros + n * 1000; len = length m; rx_dl = 8; bytes = b }
 
       held : places.bytes_in_first (filled (first_control (length m)) m) ≡ room_in_first (length m)
-      held = (let h = first_from d (entry identifier line micros n (d, filled (first_control (length m)) m)) _ starts.0 in sym h.1 ∙ starts.1)
+      unfolding start
+      held =
+          let at_none = carried_agrees d _ start 0 starts.0 in
+          let size = starts.1 in
+          omega arith
 
       part : (k : ℕ) → 1 ≤ k → k ≤ consecutive_count (length m) → IsConsecutiveFrame T d m n start (room_in_first (length m)) (consecutive_count (length m)) k (n + (1 + k))
       unfolding start
@@ -176,7 +182,7 @@ module _ (identifier : Dir → Id) (line micros limit : ℕ) (bits : limit < 2 ^
         | inr u ↦ (let le = ltb-false (n + 1) p u in elim (cases_Bool (nat_lt n p)) [
           | inl w ↦ (let lt = ltb-true n p w in let is : p ≡ n + 1 = omega arith in
               let continue_there = at-continue T d m n low high stand (omega arith) in
-              let same_e : e ≡ entry identifier line micros (n + 1) (other_direction d, filled continue_control []) = at-same T (n + 1) e _ (subst (λ j. At T j e) is there) continue_there in
+              let same_e : e ≡ entry identifier line micros (n + 1) (other_direction d, filled continue_control []) = same-entry T (n + 1) e _ (subst (λ j. At T j e) is there) continue_there in
               inr (rw same_e (idle-continue (n + 1) (other_direction d))))
           | inr w ↦ (let le2 = ltb-false n p w in inl (rw t (inl (omega arith))))
         ])
@@ -277,7 +283,7 @@ module _ (limit : ℕ) (identifier : Dir → Id) (line micros : ℕ) (T : List E
   pub frames-deliver : messages limit (T ++ timed identifier line micros (canonical_frames limit d m)) ≡ messages limit T ++ (d, m) ∷ []
   frames-deliver =
       ap (λ frames. messages limit (T ++ timed identifier line micros frames)) (sym alone)
-      ∙ recording-delivers-behind limit T (timed identifier line micros (all_frames limit ((d, m) ∷ []))) ((d, m) ∷ []) (frames-recording identifier line micros limit bits ((d, m) ∷ []) sizes)
+      ∙ recording_delivers_behind limit T (timed identifier line micros (all_frames limit ((d, m) ∷ []))) ((d, m) ∷ []) (frames-recording identifier line micros limit bits ((d, m) ∷ []) sizes)
 
   pub front-delivers : (n : ℕ) → n < length (canonical_frames limit d m)
       → messages limit (T ++ timed identifier line micros (take n (canonical_frames limit d m))) ≡ messages limit T
@@ -285,6 +291,6 @@ module _ (limit : ℕ) (identifier : Dir → Id) (line micros : ℕ) (T : List E
       let inside : n < total_count (length m) = omega (arith, length-canonical_frames limit d m some fits) in
       ap (λ l. messages limit (T ++ l)) (take-timed identifier line micros n (canonical_frames limit d m))
       ∙ ap (λ frames. messages limit (T ++ take n (timed identifier line micros frames))) (sym alone)
-      ∙ delivers-at-last limit T (timed identifier line micros (all_frames limit ((d, m) ∷ []))) ((d, m) ∷ []) (frames-recording identifier line micros limit bits ((d, m) ∷ []) sizes) n
+      ∙ delivers_at_last_position limit T (timed identifier line micros (all_frames limit ((d, m) ∷ []))) ((d, m) ∷ []) (frames-recording identifier line micros limit bits ((d, m) ∷ []) sizes) n
       ∙ ap (λ l. messages limit T ++ l) (frames-ended identifier line micros limit bits d m sizes n inside)
       ∙ append-nil (messages limit T)

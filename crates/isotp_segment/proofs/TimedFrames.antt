@@ -1,5 +1,5 @@
 -- Canonical frames as the entries of a trace: which stands at which position, and what it is to the receptions.
-use Rattle.std.proofs.Common.{◌≡◌, ℕ, zero, suc, ◌+◌, ◌*◌, ◌<◌, ◌≤◌, false, List, [], ◌∷◌, ◌++◌, length, take, Some, Result, refl, ◌∙◌, ap, arith, subst}
+use Rattle.std.proofs.Common.{◌≡◌, ℕ, zero, suc, ◌+◌, ◌*◌, ◌<◌, ◌≤◌, true, false, List, [], ◌∷◌, ◌++◌, length, take, Some, Result, refl, ◌∙◌, ap, arith, subst}
 use Rattle.std.specs.Prelude.{slice_get}
 use Rattle.std.proofs.lemmas.Option.{slice_get-get_or}
 use Rattle.std.proofs.lemmas.List.FromFn.{get_or-map-range_with_len}
@@ -10,13 +10,16 @@ use Rattle.can_log.specs.declared.frame.Id.{Id}
 use Rattle.isotp_pdu.specs.declared.PduFault.{PduFault}
 use Rattle.isotp_pdu.specs.Layout.{Layout, layout_of}
 use Rattle.isotp_receive.specs.Trace.{Entry, At, role, own_role, other_role, same_direction}
-use Rattle.isotp_receive.proofs.ListPositions.{get-left}
-use Rattle.isotp_receive.proofs.Told.{self}
 use Rattle.isotp_segment.specs.CanonicalFrames.{total_count, canonical_frame, canonical_frames}
 use Rattle.isotp_segment.specs.Timed.{timed}
 use Rattle.isotp_segment.proofs.Frames.{frames_of, length-canonical_frames}
 use Rattle.isotp_segment.proofs.Layouts.{classic}
-use Rattle.isotp_segment.proofs.Lists.{get-later}
+use Rattle.isotp_segment.proofs.Lists.{get-within, get-later}
+
+-- a direction is itself, and not the other one
+self : (d : Dir) → same_direction d d ≡ true
+self Tester = refl
+self Unit = refl
 
 not-other : (d : Dir) → same_direction d (other_direction d) ≡ false
 not-other Tester = refl
@@ -80,7 +83,7 @@ frames-stand identifier line micros limit F pre d m rest n split place some fits
     let here : slice_get F (n + j) ≡ Some (canonical_frame d m j) =
     ap (λ l. slice_get l (n + j)) split ∙ ap (λ k. slice_get (pre ++ (canonical_frames limit d m ++ rest)) (k + j)) place
     ∙ get-later pre (canonical_frames limit d m ++ rest) j
-    ∙ get-left (canonical_frames limit d m) rest j (omega (arith, length-canonical_frames limit d m some fits))
+    ∙ get-within (canonical_frames limit d m) rest j (omega (arith, length-canonical_frames limit d m some fits))
     ∙ canonical_frames-at limit d m j some fits below in
     let no_line : line + 0 ≡ line = omega arith in
     let no_time : micros + 0 * 1000 ≡ micros = omega arith in

@@ -34,11 +34,11 @@ consecutive_control number = first_byte 2 (number % 16) ∷ []
 abbrev pub continue_control : List ℕ
 continue_control = first_byte 3 (status_number Continue) ∷ 0 ∷ 0 ∷ []
 
--- how many bytes of the message a first frame holds: what its control information leaves of 8
+-- how many bytes of the message a first frame holds: what its control information leaves of 8 (section 9.6.3)
 abbrev pub room_in_first : ℕ → ℕ
 room_in_first len = if nat_le len 4095 then 6 else 2
 
--- the place in the message where the bytes of consecutive frame `number` begin, counted from 1
+-- the place in the message where the bytes of consecutive frame `number` begin, counted from 1 (section 9.6.4)
 abbrev pub place_of : ℕ → ℕ → ℕ
 place_of len number = bytes_before (room_in_first len) 8 (number - 1)
 

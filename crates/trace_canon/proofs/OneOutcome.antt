@@ -1,8 +1,8 @@
 -- A log comes to one thing.
 use Rattle.std.proofs.Common.{◌≡◌, ℕ, ◌<◌, ◌≤◌, List, length, arith, refl, ap, sym, subst, ◌∙◌, Option, Result, Ok, Err}
-use Rattle.can_log.specs.Log.{log_lines, LogMeans, IsRefusedIn}
+use Rattle.can_log.specs.Log.{LogMeans, IsRefusedIn}
 use Rattle.can_log.specs.declared.frame.Stamped.{Stamped}
-use Rattle.can_log.proofs.RefusedPlaces.{refused_place_is_one, refused_log_means_nothing}
+use Rattle.can_log.proofs.Promises.{log_means_at_most_one, refused_place_is_one, refused_log_means_nothing}
 use Rattle.trace_canon.specs.declared.fault.Fault.{Fault}
 use Rattle.trace_canon.specs.declared.fault.Fault.TheVariants.{BadLine, LogLimit, OutputLimit, Read, Write, Memory}
 use Rattle.trace_canon.specs.declared.summary.Summary.{Summary}
@@ -12,7 +12,6 @@ use Rattle.trace_canon.specs.Messages.{messages}
 use Rattle.trace_canon.specs.CanonicalLog.{canonical_log}
 use Rattle.trace_canon.specs.Outcome.{Accepted, summary_of, HasCanonicalLog, IsOutcome}
 use Rattle.trace_canon.specs.Laws.{OutcomeIsOne}
-use Rattle.trace_canon.proofs.LogLines.{lines_mean_one}
 
 -- the canonical log of lines that mean this
 abbrev pub text_of : Settings → List (Option Stamped) → List ℕ
@@ -44,7 +43,7 @@ refused settings log line column (Err Memory) short place is = absurd is
 pub one_text : (settings : Settings) (log : List ℕ) (first second : List (Option Stamped)) (text : List ℕ) → LogMeans log first
     → HasCanonicalLog settings log second text → text ≡ text_of settings first
 one_text settings log first second text means has =
-    has.spelled ∙ ap (text_of settings) (lines_mean_one (log_lines log) second first has.means means)
+    has.spelled ∙ ap (text_of settings) (log_means_at_most_one log second first has.means means)
 
 accepted_is : (accepted : Accepted) (text : List ℕ) (summary : Summary) → accepted.text ≡ text → accepted.summary ≡ summary
     → accepted ≡ record { text = text; summary = summary }
@@ -68,7 +67,7 @@ legal : (settings : Settings) (log : List ℕ) (whats : List (Option Stamped)) (
     → LogMeans log whats → length (text_of settings whats) ≤ settings.max_bytes → IsOutcome settings log result
     → result ≡ Ok (record { text = text_of settings whats; summary = summary_of settings whats })
 legal settings log whats (Ok accepted) short means fits is =
-    let same = lines_mean_one (log_lines log) is.1.0 whats is.1.1.means means in
+    let same = log_means_at_most_one log is.1.0 whats is.1.1.means means in
     ap Ok (accepted_is accepted (text_of settings whats) (summary_of settings whats) (one_text settings log whats is.1.0 accepted.text means is.1.1)
     (is.1.3 ∙ ap (summary_of settings) same))
 legal settings log whats (Err (BadLine line column)) short means fits is = absurd (refused_log_means_nothing log line column whats is.1 means)

@@ -10,6 +10,7 @@ use Rattle.can_log.specs.declared.frame.Dir.TheVariants as dir
 use Rattle.can_log.specs.declared.frame.Id.{Id}
 use Rattle.can_log.specs.declared.frame.Id.TheVariants as id
 use Rattle.can_log.specs.declared.frame.Stamped.{Stamped}
+use Rattle.can_log.proofs.Promises.{canonical_line_means, log_means_at_most_one}
 use Rattle.trace_canon.specs.declared.summary.Summary.{Summary}
 use Rattle.trace_canon.specs.Settings.{Settings, AreSettings, IsBaseIdentifier, number_of, id_of, direction_of}
 use Rattle.trace_canon.specs.Trace.{trace_from, trace}
@@ -18,10 +19,9 @@ use Rattle.trace_canon.specs.CanonicalLog.{padded_frame, canonical_lines, canoni
 use Rattle.trace_canon.specs.Outcome.{Accepted, summary_of, IsOutcome, Answers}
 use Rattle.trace_canon.specs.Laws.{SameMessagesSameText, IsCanonicalFor, CanonicalIsCanonical}
 use Rattle.trace_canon.proofs.Directions.{direction_of_id}
-use Rattle.trace_canon.proofs.LogLines.{lines_mean_one, ended_lines_mean}
+use Rattle.trace_canon.proofs.LogLines.{ended_lines_mean}
 use Rattle.trace_canon.proofs.OneOutcome.{text_of, one_text}
 use Rattle.trace_canon.proofs.ShortMessages.{IsShort, messages_are_short, length_padded, padded_are_bytes, padded_is_held}
-use Rattle.can_log.proofs.CanonicalLines.{canonical_line_means}
 
 -- ---- the lines of a canonical log
 
@@ -139,7 +139,7 @@ text_of_messages settings log accepted list is are = one_text settings log are.w
 -- a log has its messages alone
 one_list : (settings : Settings) (log : List ℕ) (first second : List Message) → AreMessagesOf settings log first → AreMessagesOf settings log second → first ≡ second
 one_list settings log first second is other =
-    is.found_in ∙ ap (λ w. messages (trace settings w)) (lines_mean_one (log_lines log) is.whats other.whats is.means other.means) ∙ sym other.found_in
+    is.found_in ∙ ap (λ w. messages (trace settings w)) (log_means_at_most_one log is.whats other.whats is.means other.means) ∙ sym other.found_in
 
 pub same_messages_same_text : SameMessagesSameText
 same_messages_same_text settings are a b first second is other = (

@@ -7,7 +7,7 @@ use Rattle.can_log.specs.WholeLog.{StandsAfter}
 use Rattle.can_log.specs.declared.frame.Stamped.{Stamped}
 use Rattle.can_log.specs.declared.scanner.Scan.{Scan}
 use Rattle.can_log.specs.declared.scanner.Scan.TheVariants as scan
-use Rattle.can_log.proofs.LogReads.{scan_reads_on, finish_reads_end}
+use Rattle.can_log.proofs.Promises.{scan_reads_on, finish_reads_end}
 
 -- The scanner took the bytes of the log before this rest, the lines of which mean this.
 pub record HasScanned (log : List ℕ) (standing : Standing) (whats : List (Option Stamped)) (rest : List ℕ) : Type 0 where

@@ -1,48 +1,25 @@
 -- The messages of a log: each has 1 to 7 bytes, and fits a canonical frame.
-use Rattle.std.proofs.Common.{◌≡◌, ℕ, ◌+◌, ◌-◌, ◌<◌, ◌≤◌, List, [], ◌∷◌, ◌++◌, length, replicate, arith, refl, ap, sym, subst, Some, None, Option, length-append}
+use Rattle.std.proofs.Common.{◌≡◌, ℕ, ◌+◌, ◌-◌, ◌<◌, ◌≤◌, List, [], ◌∷◌, ◌++◌, length, replicate, arith, refl, ap, subst, Some, None, Option, length-append}
 use Rattle.std.proofs.lemmas.List.{length-replicate}
-use Rattle.std.specs.Prelude.{IsTrue, option_to_list}
+use Rattle.std.specs.Prelude.{option_to_list}
 use Rattle.std.specs.List.{AllByRecursion, cons_option}
 use Rattle.std.specs.Option.{option_map}
-use Rattle.std.specs.Char.{is_ascii_hexdigit}
 use Rattle.can_log.specs.Frame.{FrameValue}
-use Rattle.can_log.specs.Line.{Body, classic, remote, fd, IsBody, bytes_spelled, data_of, LineMeans}
 use Rattle.can_log.specs.Log.{LinesMean}
 use Rattle.can_log.specs.declared.frame.Dir.{Dir}
 use Rattle.can_log.specs.declared.frame.Id.{Id}
 use Rattle.can_log.specs.declared.frame.Stamped.{Stamped}
 use Rattle.can_log.specs.declared.frame.Kind.TheVariants as kind
-use Rattle.can_log.proofs.AllElements.{AllByRecursion-append}
-use Rattle.can_log.proofs.Spelling.{hex_value}
+use Rattle.can_log.proofs.Promises.{line_records_bytes}
 use Rattle.trace_canon.specs.Settings.{Settings, direction_of}
 use Rattle.trace_canon.specs.Trace.{Entry, trace_from}
 use Rattle.trace_canon.specs.Messages.{Message, single_message, messages}
 use Rattle.trace_canon.specs.CanonicalLog.{padded_frame}
-use Rattle.trace_canon.proofs.EachElement.{AllByRecursion-front, AllByRecursion-replicate}
+use Rattle.trace_canon.proofs.EachElement.{AllByRecursion-append, AllByRecursion-front, AllByRecursion-replicate}
 use Rattle.trace_canon.proofs.SingleFrames.{held, found}
 
 abbrev pub AreBytes : List ℕ → Type 0
 AreBytes bytes = AllByRecursion (λ b. b < 256) bytes
-
--- ---- what a line records are bytes
-
-spelled_are_bytes : (digits : List ℕ) → AllByRecursion (λ b. IsTrue (is_ascii_hexdigit b)) digits → AreBytes (bytes_spelled digits)
-spelled_are_bytes [] each = tt
-spelled_are_bytes (high ∷ []) each = tt
-spelled_are_bytes (high ∷ low ∷ digits) each =
-    let first = (hex_value high each.0).0 in
-    let second = (hex_value low each.1.0).0 in
-    (omega arith, spelled_are_bytes digits each.1.1)
-
-body_has_bytes : (body : Body) → IsBody body → AreBytes (data_of body)
-body_has_bytes (classic digits None) is = spelled_are_bytes digits is.0.each
-body_has_bytes (classic digits (Some raw_dlc)) is = spelled_are_bytes digits is.0.0.each
-body_has_bytes (remote digit raw_dlc) is = tt
-body_has_bytes (fd flags digits) is = spelled_are_bytes digits is.1.0.each
-
-line_has_bytes : (line : List ℕ) (stamped : Stamped) → LineMeans line (Some stamped) → AreBytes stamped.frame.bytes
-line_has_bytes line stamped means =
-    subst (λ (s : Stamped). AreBytes s.frame.bytes) (sym means.3) (body_has_bytes means.0.body means.1.body)
 
 -- ---- messages
 
@@ -87,7 +64,7 @@ messages_are_short settings n [] (what ∷ whats) means = absurd means
 messages_are_short settings n (line ∷ lines) [] means = absurd means
 messages_are_short settings n (line ∷ lines) (None ∷ whats) means = messages_are_short settings (n + 1) lines whats means.1
 messages_are_short settings n (line ∷ lines) (Some stamped ∷ whats) means =
-    one_more_entry settings n stamped (trace_from settings (n + 1) whats) (line_has_bytes line stamped means.0)
+    one_more_entry settings n stamped (trace_from settings (n + 1) whats) (line_records_bytes line stamped means.0)
     (messages_are_short settings (n + 1) lines whats means.1) (direction_of settings stamped.frame.id)
 
 -- ---- canonical frames

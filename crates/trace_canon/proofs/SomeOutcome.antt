@@ -3,7 +3,7 @@ use Rattle.std.proofs.Common.{ℕ, ◌≤◌, List, length, refl, inl, inr, Opti
 use Rattle.std.proofs.lemmas.Bool.{cases_lt}
 use Rattle.can_log.specs.Log.{LogMeans}
 use Rattle.can_log.specs.declared.frame.Stamped.{Stamped}
-use Rattle.can_log.proofs.LegalOrRefused.{legal_or_refused}
+use Rattle.can_log.proofs.Promises.{log_is_legal_or_refused}
 use Rattle.trace_canon.specs.declared.fault.Fault.{Fault}
 use Rattle.trace_canon.specs.declared.fault.Fault.TheVariants.{BadLine, LogLimit, OutputLimit}
 use Rattle.trace_canon.specs.Settings.{Settings}
@@ -22,7 +22,7 @@ legal_comes_to settings log whats short means = elim (cases_lt settings.max_byte
 pub outcome_is_there : OutcomeIsThere
 outcome_is_there settings log = elim (cases_lt settings.max_bytes (length log)) [
   | inl over ↦ (Err LogLimit, over)
-  | inr short ↦ elim (legal_or_refused log) [
+  | inr short ↦ elim (log_is_legal_or_refused log) [
     | inl legal ↦ legal_comes_to settings log legal.0 short legal.1
     | inr refused ↦ (Err (BadLine refused.0 refused.1), (short, refused.2))
   ]

@@ -9,7 +9,8 @@ use Rattle.uds_exchange.specs.declared.item.Item.{Item}
 use Rattle.uds_exchange.specs.declared.roles.Role.{Role}
 use Rattle.uds_exchange.specs.declared.roles.Role.TheVariants as role
 use Rattle.uds_exchange.specs.Meaning.{Message, ItemValue, exchange, stray_of, is_from_tester, is_tester_request, is_answer_to, is_pending_reply_to}
-use Rattle.uds_exchange.specs.Pairing.{item_value, item_values, waiting, waiting_sid, IsOpenAt, role_if_open, role_at, joined_by, joined}
+use Rattle.uds_exchange.specs.ItemSeen.{item_value, item_values}
+use Rattle.uds_exchange.specs.Pairing.{waiting, waiting_sid, IsOpenAt, role_if_open, role_at, joined_by, joined}
 use Rattle.uds_exchange.proofs.Variants.{some_same, some_none}
 use Rattle.uds_exchange.proofs.Waiting.{sid_of, waiting-stray, waiting-request, waiting-at, waiting-answered}
 

@@ -18,3 +18,4 @@ pub mod MustWait
 pub mod Extents
 pub mod Putting
 pub mod NextStep
+pub mod Promises

@@ -1,5 +1,6 @@
 pub mod Meaning
 pub mod Roles
+pub mod ItemSeen
 pub mod Difference
 pub mod Order
 pub mod Sink

@@ -1,23 +1,11 @@
 -- Devices of proof: a meaning that grows by one message, and what the code keeps of it.
-use Rattle.std.specs.Prelude.{◌≡◌, ℕ, suc, not, ◌&&◌, List, [], ◌∷◌, ◌++◌, map, Option, Some, None, option_map, if◌then◌else◌, slice_set}
+use Rattle.std.specs.Prelude.{◌≡◌, ℕ, suc, not, ◌&&◌, List, [], ◌∷◌, ◌++◌, Option, Some, None, option_map, if◌then◌else◌, slice_set}
 use Rattle.uds_message.specs.Message.{sid, is_final_for, is_pending_for}
-use Rattle.uds_exchange.specs.declared.item.Item.{Item}
-use Rattle.uds_exchange.specs.declared.item.Item.TheVariants as item
 use Rattle.uds_exchange.specs.declared.roles.Role.{Role as RoleInCode}
 use Rattle.uds_exchange.specs.declared.roles.Role.TheVariants as role
 use Rattle.uds_exchange.specs.Meaning.{Message, ItemValue, exchange, stray, stray_of, is_from_tester, is_tester_request, is_answer_to, is_pending_reply_to}
 use Rattle.uds_exchange.specs.Order.{has_exchange}
 
--- an item without where it lies in memory
-abbrev pub item_value : Item → ItemValue
-item_value (item.Exchange request answer) = exchange request.items (option_map (λ v. v.items) answer)
-item_value (item.Stray dir bytes) = stray dir bytes.items
-
--- and all of a list
-abbrev pub item_values : List Item → List ItemValue
-item_values items = map item_value items
-
--- the place of an item once another stands in front of the list
 abbrev pub one_later : Option (ℕ × List ℕ) → Option (ℕ × List ℕ)
 one_later None = None
 one_later (Some w) = Some (suc w.0, w.1)
@@ -38,7 +26,7 @@ pub record IsOpenAt (its : List ItemValue) (open_sid : Option ℕ) (last : ℕ) 
   pub first_byte : waiting_sid its ≡ open_sid
   pub place : (w : ℕ × List ℕ) → waiting its ≡ Some w → w.0 ≡ last
 
--- what a message that is no request is, where a request with this first byte is open, or none
+-- what a message is where a request with this first byte is open
 abbrev pub role_if_open : Option ℕ → Message → RoleInCode
 role_if_open None x = role.Stray
 role_if_open (Some s) x =
@@ -46,11 +34,10 @@ role_if_open (Some s) x =
     else if not (is_from_tester x.0) && is_pending_for s x.1 then role.Removed
     else role.Stray
 
--- what a message is there; a request is one in any case
 abbrev pub role_at : Option ℕ → Message → RoleInCode
 role_at open_sid x = if is_tester_request x then role.Request (sid x.1) else role_if_open open_sid x
 
--- the items after one more message that is no request, by the exchange that waits
+-- the items after one more message
 abbrev pub joined_by : Option (ℕ × List ℕ) → List ItemValue → Message → List ItemValue
 joined_by None its x = its ++ stray_of x ∷ []
 joined_by (Some w) its x =
@@ -58,6 +45,5 @@ joined_by (Some w) its x =
     else if is_pending_reply_to w.1 x then its
     else its ++ stray_of x ∷ []
 
--- the items after one more message: a request begins an exchange, and any other goes by what waits
 abbrev pub joined : List ItemValue → Message → List ItemValue
 joined its x = if is_tester_request x then its ++ exchange x.1 None ∷ [] else joined_by (waiting its) its x

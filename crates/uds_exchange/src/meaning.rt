@@ -14,7 +14,7 @@ pub struct Meaning {
 impl Model for Meaning {
     ghost use Rattle.std.specs.Prelude.{List};
     ghost use Rattle.uds_exchange.specs.Meaning.{ItemValue};
-    ghost use Rattle.uds_exchange.specs.Pairing.{item_values};
+    ghost use Rattle.uds_exchange.specs.ItemSeen.{item_values};
 
     ghost Value = { List ItemValue };
 
@@ -22,7 +22,7 @@ impl Model for Meaning {
 }
 
 impl Meaning {
-    ghost use Rattle.uds_exchange.specs.Pairing.{item_value, item_values};
+    ghost use Rattle.uds_exchange.specs.ItemSeen.{item_value, item_values};
     ghost use Rattle.uds_exchange.specs.Difference.{IsFirstDifference};
 
     /// The meaning that these items are.
@@ -72,7 +72,7 @@ impl Meaning {
     }
 }
 
-ghost use Rattle.uds_exchange.specs.Pairing.{item_value as value_of};
+ghost use Rattle.uds_exchange.specs.ItemSeen.{item_value as value_of};
 
 fn is_same_item(a: &Item, b: &Item) -> bool
     ensures { IsTrue result ↔ (value_of a.now ≡ value_of b.now) }

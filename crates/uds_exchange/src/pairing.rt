@@ -2,7 +2,8 @@
 
 ghost use Rattle.std.specs.Prelude.{◌≡◌, ◌<◌, ◌++◌, ◌∷◌, [], List, ℕ, length, Some, None, OnOk, OnErr, IfOk, slice_get, slice_set};
 ghost use Rattle.uds_exchange.specs.Meaning.{Message, meaning, exchange};
-ghost use Rattle.uds_exchange.specs.Pairing.{item_value, item_values, joined};
+ghost use Rattle.uds_exchange.specs.ItemSeen.{item_value, item_values};
+ghost use Rattle.uds_exchange.specs.Pairing.{joined};
 
 use crate::item::Item;
 use crate::meaning::Meaning;
@@ -25,7 +26,8 @@ pub struct Pairing {
 impl Model for Pairing {
     ghost use Rattle.std.specs.Prelude.{List};
     ghost use Rattle.uds_exchange.specs.Meaning.{ItemValue};
-    ghost use Rattle.uds_exchange.specs.Pairing.{item_values, IsOpenAt};
+    ghost use Rattle.uds_exchange.specs.ItemSeen.{item_values};
+    ghost use Rattle.uds_exchange.specs.Pairing.{IsOpenAt};
 
     ghost Value = { List ItemValue };
 

@@ -1,5 +1,5 @@
-use Rattle.isotp_segment.proofs.Recorded.{frames-recording}
+use Rattle.isotp_segment.proofs.Promises.{canonical_frames_are_recording}
 use Rattle.isotp_segment.proofs.laws.canonical_frames_are_a_recording.Goals as goal
 
 pub returns : goal.returns
-returns c = record { recording = λ limit identifier line micros M bits sizes. frames-recording identifier line micros limit bits M sizes }
+returns c = record { recording = canonical_frames_are_recording }

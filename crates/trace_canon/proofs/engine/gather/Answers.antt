@@ -2,7 +2,7 @@ use Rattle.std.proofs.Common.{length, ◌++◌, ◌∷◌, [], sym, subst}
 use Rattle.std.proofs.lemmas.Bool.{eqb-true}
 use Rattle.std.proofs.lemmas.List.{take_rest, nil_from_length}
 use Rattle.can_log.specs.WholeLog.{StandsAfter}
-use Rattle.can_log.proofs.LogReads.{start_stands}
+use Rattle.can_log.proofs.Promises.{start_stands}
 use Rattle.trace_canon.proofs.Scanned.{HasScanned, scanned_none, scanned_line, scanned_all, scanned_bad, finished_line, finished_bad, finished_end}
 use Rattle.trace_canon.proofs.engine.gather.Goals as goal
 

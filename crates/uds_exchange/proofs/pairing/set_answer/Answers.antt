@@ -2,7 +2,7 @@ use Rattle.std.proofs.Common.{◌∙◌, ap, None}
 use Rattle.std.specs.Prelude.{slice_set}
 use Rattle.std.proofs.lemmas.List.{map-set}
 use Rattle.uds_exchange.specs.Meaning.{exchange}
-use Rattle.uds_exchange.specs.Pairing.{item_value, item_values}
+use Rattle.uds_exchange.specs.ItemSeen.{item_value, item_values}
 use Rattle.uds_exchange.proofs.Kept.{value-at}
 use Rattle.uds_exchange.proofs.pairing.set_answer.Goals as goal
 

@@ -1,6 +1,6 @@
 use Rattle.std.proofs.Common.{arith, ap, ◌∙◌, ◌≡◌, length, length-append}
 use Rattle.trace_canon.proofs.CanonicalLogs.{line_is_at, holds_more, holds_over, holds_still}
-use Rattle.can_log.proofs.CanonicalLines.{canonical_line_length}
+use Rattle.can_log.proofs.Promises.{canonical_line_length}
 use Rattle.trace_canon.proofs.gathering.Gathered.put.Goals as goal
 
 pub returns-then-self-clause-holds : goal.returns-then-self-clause-holds

@@ -1,5 +1,5 @@
 use Rattle.std.proofs.Common.{◌≡◌, ◌≢◌, min, Some, length, sym, ◌∙◌, ap, arith, refl}
-use Rattle.uds_exchange.specs.Pairing.{item_value, item_values}
+use Rattle.uds_exchange.specs.ItemSeen.{item_value, item_values}
 use Rattle.uds_exchange.proofs.Kept.{item-at, length-item_values}
 use Rattle.uds_exchange.proofs.Differences.{take-more, shorter-differs}
 use Rattle.uds_exchange.proofs.meaning.Meaning.first_difference.Goals as goal

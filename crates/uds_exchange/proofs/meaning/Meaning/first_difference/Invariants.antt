@@ -1,5 +1,5 @@
 use Rattle.std.proofs.Common.{◌≡◌, take}
-use Rattle.uds_exchange.specs.Pairing.{item_values}
+use Rattle.uds_exchange.specs.ItemSeen.{item_values}
 use Rattle.uds_exchange.proofs.meaning.Meaning.first_difference.Given as goal
 
 abbrev pub invariant-loop-i : goal.invariant-loop-i

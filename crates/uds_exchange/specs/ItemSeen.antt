@@ -1,0 +1,14 @@
+-- What a caller sees of items, without where they lie in memory.
+use Rattle.std.specs.Prelude.{List, map, option_map}
+use Rattle.uds_exchange.specs.declared.item.Item.{Item}
+use Rattle.uds_exchange.specs.declared.item.Item.TheVariants as item
+use Rattle.uds_exchange.specs.Meaning.{ItemValue, exchange, stray}
+
+-- an item without where it lies in memory
+abbrev pub item_value : Item → ItemValue
+item_value (item.Exchange request answer) = exchange request.items (option_map (λ v. v.items) answer)
+item_value (item.Stray dir bytes) = stray dir bytes.items
+
+-- a list of them
+abbrev pub item_values : List Item → List ItemValue
+item_values items = map item_value items
