@@ -149,7 +149,8 @@ fn recordings_of_one_session(rt: HostRuntime) -> Result<(), Fail> {
     Ok(())
 }
 
-/// A session: the frames recorded, a millisecond apart, those of its canonical log, and what it means.
+/// A session of which no frame is lost: the frames recorded, a millisecond apart, those of its canonical log, and what
+/// it means.
 #[derive(Clone, Copy)]
 struct Worked {
     name: &'static str,
@@ -158,7 +159,7 @@ struct Worked {
     items: &'static [&'static str],
 }
 
-const WORKED: [Worked; 14] = [
+const WORKED: [Worked; 11] = [
     Worked {
         name: "no frame",
         frames: &[],
@@ -256,16 +257,6 @@ const WORKED: [Worked; 14] = [
         items: &["unit 62F1904142434445"],
     },
     Worked {
-        name: "a single frame ends a reception",
-        frames: &[
-            "7E8#101462F190574241",
-            "7E8#0462F19041",
-            "7E8#2133413543353045",
-        ],
-        canonical: &["7E8#0462F19041CCCCCC"],
-        items: &["unit 62F19041"],
-    },
-    Worked {
         name: "messages of both sides at once",
         frames: &[
             "7E0#100A2EF190414243",
@@ -327,15 +318,6 @@ const WORKED: [Worked; 14] = [
         ],
     },
     Worked {
-        name: "a frame of CAN FD that is not the last and too short",
-        frames: &[
-            "7E8##01082620102030405060708090A0B0C0D0E0F101112131415161718191A1B1C1D1E1F202122232425262728292A2B2C2D2E2F303132333435363738393A3B3C3D",
-            "7E8##0213E3F404142434445464748494A4B4C4D4E4F505152535455565758595A5B5C5D5E5F606162636465666768696A6B6C",
-        ],
-        canonical: &[],
-        items: &[],
-    },
-    Worked {
         name: "sequence numbers begin again after fifteen",
         frames: &[
             "7E8#1082620102030405",
@@ -385,34 +367,6 @@ const WORKED: [Worked; 14] = [
             "unit 620102030405060708090A0B0C0D0E0F101112131415161718191A1B1C1D1E1F202122232425262728292A2B2C2D2E2F303132333435363738393A3B3C3D3E3F404142434445464748494A4B4C4D4E4F505152535455565758595A5B5C5D5E5F606162636465666768696A6B6C6D6E6F707172737475767778797A7B7C7D7E7F8081",
         ],
     },
-    Worked {
-        name: "a consecutive frame that comes twice",
-        frames: &[
-            "7E8#1082620102030405",
-            "7E0#300000CCCCCCCCCC",
-            "7E8#21060708090A0B0C",
-            "7E8#220D0E0F10111213",
-            "7E8#231415161718191A",
-            "7E8#241B1C1D1E1F2021",
-            "7E8#2522232425262728",
-            "7E8#26292A2B2C2D2E2F",
-            "7E8#2730313233343536",
-            "7E8#283738393A3B3C3D",
-            "7E8#293E3F4041424344",
-            "7E8#2A45464748494A4B",
-            "7E8#2B4C4D4E4F505152",
-            "7E8#2C53545556575859",
-            "7E8#2D5A5B5C5D5E5F60",
-            "7E8#2E61626364656667",
-            "7E8#2F68696A6B6C6D6E",
-            "7E8#2F68696A6B6C6D6E",
-            "7E8#206F707172737475",
-            "7E8#21767778797A7B7C",
-            "7E8#227D7E7F8081CCCC",
-        ],
-        canonical: &[],
-        items: &[],
-    },
 ];
 
 #[test]
@@ -427,6 +381,7 @@ fn canonical_frames_and_meanings(rt: HostRuntime) -> Result<(), Fail> {
             "{}",
             worked.name
         );
+        assert!(rt; session.is_clean(), "{}", worked.name);
         assert_items(&rt, rt.alloc(), &session.meaning, worked.items, worked.name)?;
     }
     Ok(())

@@ -7,7 +7,7 @@ use isotp_receive::{Cause, Ended, Reason};
 use std::test::Fail;
 
 /// A log, and what is lost in it: frames that are dropped, by line, and the line where the reception begun in line 1
-/// ends; then what is left open.
+/// ends; then what is left open, and the frames of the canonical log.
 #[derive(Clone, Copy)]
 struct Lossy {
     name: &'static str,
@@ -15,17 +15,17 @@ struct Lossy {
     drops: &'static [(u64, Reason)],
     ended: Option<(u64, Cause)>,
     open: Option<(u64, u32)>,
-    messages: usize,
+    canonical: &'static [&'static str],
 }
 
-const LOSSY: [Lossy; 9] = [
+const LOSSY: [Lossy; 10] = [
     Lossy {
         name: "a message that never ends",
         frames: &["7E8#101462F190574241"],
         drops: &[],
         ended: None,
         open: Some((1, 20)),
-        messages: 0,
+        canonical: &[],
     },
     Lossy {
         name: "a single frame ends a reception",
@@ -33,7 +33,7 @@ const LOSSY: [Lossy; 9] = [
         drops: &[],
         ended: Some((2, Cause::NewStart)),
         open: None,
-        messages: 1,
+        canonical: &["7E8#0462F19041CCCCCC"],
     },
     Lossy {
         name: "an overflow before the first consecutive frame",
@@ -41,7 +41,7 @@ const LOSSY: [Lossy; 9] = [
         drops: &[(3, Reason::NextUnexpected)],
         ended: Some((2, Cause::Overflow)),
         open: None,
-        messages: 0,
+        canonical: &[],
     },
     Lossy {
         name: "an overflow behind it",
@@ -54,7 +54,20 @@ const LOSSY: [Lossy; 9] = [
         drops: &[(3, Reason::FlowUnexpected)],
         ended: None,
         open: None,
-        messages: 1,
+        canonical: &[
+            "7E8#101462F190574241",
+            "7E0#300000CCCCCCCCCC",
+            "7E8#2133413543353045",
+            "7E8#2246313233343536",
+        ],
+    },
+    Lossy {
+        name: "a consecutive frame that is not the last, and shorter",
+        frames: &["7E8#101462F190574241", "7E8#21334135433530"],
+        drops: &[(2, Reason::NextLength)],
+        ended: Some((2, Cause::Length)),
+        open: None,
+        canonical: &[],
     },
     Lossy {
         name: "a last frame too short for what is missing",
@@ -62,7 +75,7 @@ const LOSSY: [Lossy; 9] = [
         drops: &[(2, Reason::NextLength)],
         ended: Some((2, Cause::Length)),
         open: None,
-        messages: 0,
+        canonical: &[],
     },
     Lossy {
         name: "an escaped length that needs no escape",
@@ -70,7 +83,7 @@ const LOSSY: [Lossy; 9] = [
         drops: &[(1, Reason::Pdu(PduFault::FirstLength))],
         ended: None,
         open: None,
-        messages: 0,
+        canonical: &[],
     },
     Lossy {
         name: "nine bytes are no frame of CAN FD",
@@ -78,7 +91,7 @@ const LOSSY: [Lossy; 9] = [
         drops: &[(1, Reason::Pdu(PduFault::FrameLength))],
         ended: None,
         open: None,
-        messages: 0,
+        canonical: &[],
     },
     Lossy {
         name: "the longest announcement",
@@ -86,7 +99,7 @@ const LOSSY: [Lossy; 9] = [
         drops: &[],
         ended: None,
         open: Some((1, 65_535)),
-        messages: 0,
+        canonical: &[],
     },
     Lossy {
         name: "an announcement of one byte more, behind a foreign frame",
@@ -94,7 +107,7 @@ const LOSSY: [Lossy; 9] = [
         drops: &[(2, Reason::TooLong { announced: 65_536 })],
         ended: None,
         open: None,
-        messages: 0,
+        canonical: &[],
     },
 ];
 
@@ -118,7 +131,12 @@ fn what_is_lost_is_told(rt: HostRuntime) -> Result<(), Fail> {
         let end = lossy.ended.map(|(line, cause)| (line, vin_ends(cause)));
         assert_eq!(rt; session.ends.first().copied(), end, "{name}");
         assert_eq!(rt; session.unfinished, [None, lossy.open], "{name}");
-        assert_eq!(rt; session.counts.messages, lossy.messages, "{name}");
+        let canonical = log_of_frames(rt.alloc(), lossy.canonical)?;
+        assert_eq!(rt;
+            session.canonical.as_slice(),
+            canonical.as_bytes(),
+            "{name}"
+        );
     }
     Ok(())
 }

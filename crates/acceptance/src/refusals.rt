@@ -85,11 +85,11 @@ const SESSION: &[u8] =
 #[test]
 fn a_recording_that_breaks_off(rt: HostRuntime) -> Result<(), Fail> {
     assert_eq!(rt; SESSION.len(), 212);
-    let mut accepted = 0;
+    let mut accepted = 0u32;
     for len in 0..=SESSION.len() {
         let (line, column) = end_of(&SESSION[..len]);
         match run(rt.alloc(), &SESSION[..len])?.0 {
-            Ok(_) => accepted += 1,
+            Ok(_) => accepted = accepted.saturating_add(1),
             Err(fault) => assert_eq!(rt; fault, Fault::BadLine { line, column }),
         }
     }
