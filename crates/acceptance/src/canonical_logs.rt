@@ -125,11 +125,7 @@ fn recordings_of_one_session(rt: HostRuntime) -> Result<(), Fail> {
         } = recording;
         let log = log_of(rt.alloc(), lines)?;
         let session = Session::normalised(&rt, rt.alloc(), log.as_str())?;
-        assert_eq!(rt;
-            session.canonical.as_slice(),
-            canonical.as_bytes(),
-            "{name}"
-        );
+        assert_eq!(rt; session.canonical.as_str(), canonical.as_str(), "{name}");
         let counts = Counts {
             lines: lines.len(),
             frames,
@@ -376,8 +372,8 @@ fn canonical_frames_and_meanings(rt: HostRuntime) -> Result<(), Fail> {
         let session = Session::normalised(&rt, rt.alloc(), log.as_str())?;
         let canonical = log_of_frames(rt.alloc(), worked.canonical)?;
         assert_eq!(rt;
-            session.canonical.as_slice(),
-            canonical.as_bytes(),
+            session.canonical.as_str(),
+            canonical.as_str(),
             "{}",
             worked.name
         );

@@ -173,11 +173,7 @@ fn examples_through_all_layers(rt: HostRuntime) -> Result<(), Fail> {
         assert!(rt; session.is_clean(), "{name}");
         assert_eq!(rt; session.counts.lines, example.lines.len(), "{name}");
         let canonical = log_of_frames(alloc, example.canonical)?;
-        assert_eq!(rt;
-            session.canonical.as_slice(),
-            canonical.as_bytes(),
-            "{name}"
-        );
+        assert_eq!(rt; session.canonical.as_str(), canonical.as_str(), "{name}");
         assert_items(&rt, alloc, &session.meaning, example.items, name)?;
     }
     Ok(())

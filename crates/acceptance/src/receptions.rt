@@ -132,11 +132,7 @@ fn what_is_lost_is_told(rt: HostRuntime) -> Result<(), Fail> {
         assert_eq!(rt; session.ends.first().copied(), end, "{name}");
         assert_eq!(rt; session.unfinished, [None, lossy.open], "{name}");
         let canonical = log_of_frames(rt.alloc(), lossy.canonical)?;
-        assert_eq!(rt;
-            session.canonical.as_slice(),
-            canonical.as_bytes(),
-            "{name}"
-        );
+        assert_eq!(rt; session.canonical.as_str(), canonical.as_str(), "{name}");
     }
     Ok(())
 }

@@ -20,7 +20,7 @@ pub(crate) struct Session {
     /// Line and length of the receptions of the tester and of the unit that the log's end leaves open.
     pub(crate) unfinished: [Option<(u64, u32)>; 2],
     pub(crate) meaning: Meaning,
-    pub(crate) canonical: Vec<u8>,
+    pub(crate) canonical: String,
 }
 
 /// How many there were: lines; frames on the two identifiers; messages, and of them those that are not in the meaning.
@@ -58,15 +58,14 @@ impl Session {
             ends: layers.ends,
             unfinished: [layers.pair.open(Tester), layers.pair.open(Unit)],
             meaning,
-            canonical: canonical.text,
+            canonical: String::from_utf8(canonical.text)?,
         })
     }
 
     /// The same, for a log whose canonical log has to be its own, without a frame lost, and of the same meaning.
     pub(crate) fn normalised(rt: &impl Abort, alloc: Global, log: &str) -> Result<Session, Fail> {
         let session = Session::of(rt, alloc, log)?;
-        let text = str::from_utf8(session.canonical.as_slice())?;
-        let again = Session::of(rt, alloc, text)?;
+        let again = Session::of(rt, alloc, session.canonical.as_str())?;
         assert!(rt; again.canonical == session.canonical, "canonical again");
         assert!(rt; again.is_clean(), "no frame lost");
         assert_eq!(rt; session.meaning.first_difference(&again.meaning), None);
