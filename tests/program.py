@@ -11,10 +11,13 @@ import resource
 import subprocess
 import sys
 import tempfile
+from pathlib import Path
 
 FIRST_LOG = b"(1700000000.000000) can0 7E0#0322F190"
 FIRST_CANONICAL = b"(0000000000.000000) can0 7E0#0322F190CCCCCCCC\n"
 REFUSED = FIRST_LOG + b"\n(1700000000.100000) can0 7E8#0462F1\nx\n"
+
+EXAMPLES = Path(__file__).resolve().parent.parent / "examples"
 
 DONE, WORDS, REFUSAL, DEVICE, MEMORY = 0, 2, 3, 4, 5
 
@@ -81,6 +84,17 @@ def logs():
     case("a log of 10 MB", run(log), DONE, canonical)
     case("its canonical log again", run(canonical), DONE, canonical)
     case("a log of 10 MB that is refused at its end", run(log + b"("), REFUSAL, b"")
+
+
+def examples():
+    """Each log of examples/ comes to the canonical log beside it, and is refused where there is none."""
+    for log in sorted(EXAMPLES.glob("*.log")):
+        found = run(log.read_bytes())
+        canonical = log.with_suffix(".canonical")
+        if canonical.exists():
+            case(f"examples/{log.name}", found, DONE, canonical.read_bytes())
+        else:
+            case(f"examples/{log.name}, refused", found, REFUSAL, b"")
 
 
 def long_log(size):
@@ -165,6 +179,7 @@ def main():
     PROGRAM = os.path.abspath(sys.argv[1])
     words()
     logs()
+    examples()
     devices()
     memory()
     print(f"{passed} passed, {failed} failed")

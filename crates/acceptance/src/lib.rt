@@ -1,0 +1,28 @@
+//! The layers together: a library of tests and of nothing else.
+//!
+//! Each crate below is proved by itself, and its tests show that its own definitions say what was meant. The tests here
+//! take whole logs from text to text, as a program does, so that they show that the layers mean the same by what they
+//! hand to one another: lines, directions, frames, messages, items. A session is written as its frames, beside the
+//! canonical log that it has to become:
+//!
+//! ```text
+//! frames:    7E0#0322F190            canonical: 7E0#0322F190CCCCCCCC
+//!            7E0#023E80                         7E8#0462F19041CCCCCC
+//!            7E8#0462F19041                     7E0#023E80CCCCCCCCCC
+//! ```
+#![tactic(auto)]
+
+#[cfg(test)]
+mod canonical_logs;
+#[cfg(test)]
+mod examples;
+#[cfg(test)]
+mod items;
+#[cfg(test)]
+mod receptions;
+#[cfg(test)]
+mod recordings;
+#[cfg(test)]
+mod refusals;
+#[cfg(test)]
+mod session;
