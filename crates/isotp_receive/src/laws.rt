@@ -1,5 +1,7 @@
 //! Laws of the receptions, for the proofs of callers: functions that do nothing.
 
+ghost use Rattle.std.specs.Prelude.{◌≡◌};
+ghost use Rattle.isotp_receive.specs.declared.TheConstants.{MESSAGE_LIMIT};
 ghost use Rattle.isotp_receive.specs.Laws.{StandsOpen, OpenStands, OneIsOpen, KeepsFewer, MessageDelivers, VerdictIsTabled, CarriedAgrees, FitsAgrees};
 
 /// What stands after a trace is the reception that is open at its end by the positions of its frames.
@@ -32,4 +34,9 @@ pub fn the_verdict_is_tabled()
 pub fn places_agree()
     ensures carried { CarriedAgrees }
     ensures fits { FitsAgrees }
+{}
+
+/// The limit that the contracts of [`Pair`](crate::Pair) name: messages have at most 65,535 bytes.
+pub fn the_message_limit()
+    ensures { MESSAGE_LIMIT ≡ 65535 }
 {}

@@ -32,10 +32,11 @@ StopsDue after_ok after_err M x s t fault.Memory = t ≡ s
 StopsDue after_ok after_err M x s t (fault.Sink e) = (due : List Message) × IsDue M x due × Fails after_ok after_err s due e t
 StopsDue after_ok after_err M x s t fault.Failed = ⊥
 
--- what a fault leaves of the orderer: it is unchanged for want of memory, and has failed after a fault of the sink
+-- what a fault leaves of the orderer: it is unchanged for want of memory; after a fault of the sink it has failed, and
+-- is as before otherwise
 abbrev pub Leaves : {E : Type 0} → Standing → Standing → OrderFault E → Type 0
 Leaves old new fault.Memory = (old.failed ≡ false) × (new ≡ old)
-Leaves old new (fault.Sink e) = (old.failed ≡ false) × (new.failed ≡ true)
+Leaves old new (fault.Sink e) = (old.failed ≡ false) × (new ≡ record old { failed = true })
 Leaves old new fault.Failed = (old.failed ≡ true) × (new ≡ old)
 
 -- the only fault of an orderer that has not failed is the sink's, after a proper prefix of these messages

@@ -37,7 +37,7 @@ next o x = next_for (role_at o.open_sid x) o o.open_sid x
 -- what a fault leaves, where these messages were due
 abbrev pub Stops : {S E : Type 0} → AfterOk S → AfterErr S E → List Message → Standing → S → Standing → S → OrderFault E → Type 0
 Stops after_ok after_err xs o s p t fault.Memory = (o.failed ≡ false) × (p ≡ o) × (t ≡ s)
-Stops after_ok after_err xs o s p t (fault.Sink e) = (o.failed ≡ false) × (p.failed ≡ true) × Fails after_ok after_err s xs e t
+Stops after_ok after_err xs o s p t (fault.Sink e) = (o.failed ≡ false) × (p ≡ record o { failed = true }) × Fails after_ok after_err s xs e t
 Stops after_ok after_err xs o s p t fault.Failed = (o.failed ≡ true) × (p ≡ o) × (t ≡ s)
 
 -- how many bytes the messages have
