@@ -1,5 +1,5 @@
 -- A canonical line: its parts, what it means, its length, and how it is written.
-use Rattle.std.proofs.Common.{◌≡◌, ℕ, ◌+◌, ◌*◌, ◌/◌, ◌%◌, ◌^◌, ◌<◌, ◌≤◌, ◌≢◌, List, [], ◌∷◌, ◌++◌, get_or, length, length-append, refl, ◌∙◌, arith, append_assoc, append-nil, inl, Some, None, true, rules}
+use Rattle.std.proofs.Common.{◌≡◌, ℕ, ◌+◌, ◌*◌, ◌/◌, ◌%◌, ◌^◌, ◌<◌, ◌≢◌, List, [], ◌∷◌, ◌++◌, get_or, length, length-append, refl, ◌∙◌, arith, append_assoc, append-nil, inl, inr, Some, None, true, rules}
 use Rattle.std.specs.Prelude.{codes, IsTrue, ◌==◌, not}
 use Rattle.std.specs.List.{AllByRecursion, flat_map, list_all, replace_range}
 use Rattle.std.specs.Char.{is_ascii_digit, is_ascii_hexdigit}
@@ -8,10 +8,12 @@ use Rattle.std.proofs.lemmas.Bool.{and_parts}
 use Rattle.std.proofs.lemmas.Bool.Decides.{nat_tests}
 use Rattle.std.proofs.lemmas.Int.Digits.{digits_value_push}
 use Rattle.can_log.specs.Digits.{digit, decimal, hexadecimal}
-use Rattle.can_log.specs.Line.{LineSpelling, classic, IsLineSpelling, spell_line, stamped_of}
+use Rattle.can_log.specs.declared.frame.Id.{Id}
+use Rattle.can_log.specs.declared.frame.Id.TheVariants as id
+use Rattle.can_log.specs.Line.{LineSpelling, classic, IsIdentifierText, IsLineSpelling, identifier_of, spell_line, stamped_of}
 use Rattle.can_log.specs.Refused.{NoLineFeed}
 use Rattle.can_log.specs.Log.{LogMeans}
-use Rattle.can_log.specs.Canonical.{canonical_text, canonical_line, canonical_stamped}
+use Rattle.can_log.specs.Canonical.{identifier_text, IsSpellable, canonical_text, canonical_line, canonical_stamped}
 use Rattle.can_log.specs.CanonicalLaws.{CanonicalLineMeans, CanonicalTextIsOneLine, CanonicalLineLength}
 use Rattle.can_log.proofs.AllElements.{AllByRecursion-append, AllByRecursion-at_each}
 use Rattle.can_log.proofs.Replacing.{replace_range-between}
@@ -21,21 +23,21 @@ use Rattle.can_log.proofs.LogLines.{line_is_log}
 
 -- ---- its parts
 
-abbrev canonical_spelling : ℕ → ℕ → List ℕ → LineSpelling
-canonical_spelling n number bytes = record {
+abbrev canonical_spelling : ℕ → Id → List ℕ → LineSpelling
+canonical_spelling n identifier bytes = record {
   seconds = decimal 10 (n / 1000);
   micros = decimal 3 (n % 1000) ++ codes "000";
   gap = codes " ";
   interface = codes "can0";
   second_gap = codes " ";
-  identifier = hexadecimal 3 number;
+  identifier = identifier_text identifier;
   body = classic (flat_map (hexadecimal 2) bytes) None;
   mark = None;
 }
 
-spelling : (n number : ℕ) (bytes : List ℕ) → canonical_text n number bytes ≡ spell_line (canonical_spelling n number bytes)
+spelling : (n : ℕ) (identifier : Id) (bytes : List ℕ) → canonical_text n identifier bytes ≡ spell_line (canonical_spelling n identifier bytes)
 unfolding canonical_text
-spelling n number bytes = simp (append_assoc, append-nil)
+spelling n identifier bytes = simp (append_assoc, append-nil)
 
 abbrev IsDecimal : ℕ → Type 0
 IsDecimal b = IsTrue (is_ascii_digit b)
@@ -55,14 +57,31 @@ micros_value millis small =
     let value = digits_value-digits 10 (omega arith) (omega arith) 3 millis small in
     rw (one, digits_value_push, digits_value_push, digits_value_push, value) (omega arith)
 
-is_spelling : (n number : ℕ) (bytes : List ℕ) → number ≤ 0x7FF → length bytes ≡ 8 → IsLineSpelling (canonical_spelling n number bytes)
-is_spelling n number bytes base eight =
+is_identifier : (identifier : Id) → IsSpellable identifier → IsIdentifierText (identifier_text identifier)
+is_identifier (id.Std number) base =
+    let long = length-digits 16 3 number in
+    let value = digits_value-digits 16 (omega arith) (omega arith) 3 number (omega arith) in
+    (record { each = each_digit IsHexadecimal 16 (omega arith) hexadecimal_digit 3 number; enough = omega arith; few = omega arith }, inl (long, rw value base))
+is_identifier (id.Ext number) small =
+    let long = length-digits 16 8 number in
+    (record { each = each_digit IsHexadecimal 16 (omega arith) hexadecimal_digit 8 number; enough = omega arith; few = omega arith }, inr long)
+
+identifier_back : (identifier : Id) → IsSpellable identifier → identifier_of (identifier_text identifier) ≡ identifier
+identifier_back (id.Std number) base =
+    let long = length-digits 16 3 number in
+    let value = digits_value-digits 16 (omega arith) (omega arith) 3 number (omega arith) in
+    rw (long, value) refl
+identifier_back (id.Ext number) small =
+    let long = length-digits 16 8 number in
+    let value = digits_value-digits 16 (omega arith) (omega arith) 8 number (omega arith) in
+    rw (long, value) refl
+
+is_spelling : (n : ℕ) (identifier : Id) (bytes : List ℕ) → IsSpellable identifier → length bytes ≡ 8 → IsLineSpelling (canonical_spelling n identifier bytes)
+is_spelling n identifier bytes spellable eight =
     let seconds_long = length-digits 10 10 (n / 1000) in
     let millis_long = length-digits 10 3 (n % 1000) in
     let micros_long : length (decimal 3 (n % 1000) ++ codes "000") ≡ 6 = rw (length-append, millis_long) refl in
-    let identifier_long = length-digits 16 3 number in
     let data_long = length-pairs bytes in
-    let identifier_value = digits_value-digits 16 (omega arith) (omega arith) 3 number (omega arith) in
     record {
       seconds = record { each = each_digit IsDecimal 10 (omega arith) decimal_digit 10 (n / 1000); enough = omega arith; few = omega arith };
       micros = record {
@@ -73,36 +92,41 @@ is_spelling n number bytes base eight =
       gap = record { each = search rules; enough = omega arith; few = omega arith };
       interface = record { each = search rules; enough = omega arith; few = omega arith };
       second_gap = record { each = search rules; enough = omega arith; few = omega arith };
-      identifier = (
-        record { each = each_digit IsHexadecimal 16 (omega arith) hexadecimal_digit 3 number; enough = omega arith; few = omega arith },
-        inl (identifier_long, rw identifier_value base),
-      );
+      identifier = is_identifier identifier spellable;
       body = (record { each = each_pair IsHexadecimal hexadecimal_digit bytes; enough = omega arith; few = omega arith }, omega arith);
       mark = tt;
     }
 
-stamped_is : (n number : ℕ) (bytes : List ℕ) → n < 10 ^ 13 → number ≤ 0x7FF → AllByRecursion (λ b. b < 256) bytes
-    → canonical_stamped n number bytes ≡ stamped_of (canonical_spelling n number bytes)
-stamped_is n number bytes small base are_bytes =
+stamped_is : (n : ℕ) (identifier : Id) (bytes : List ℕ) → n < 10 ^ 13 → IsSpellable identifier → AllByRecursion (λ b. b < 256) bytes
+    → canonical_stamped n identifier bytes ≡ stamped_of (canonical_spelling n identifier bytes)
+stamped_is n identifier bytes small spellable are_bytes =
     let seconds = digits_value-digits 10 (omega arith) (omega arith) 10 (n / 1000) (omega arith) in
     let micros = micros_value (n % 1000) (omega arith) in
-    let identifier_long = length-digits 16 3 number in
-    let identifier = digits_value-digits 16 (omega arith) (omega arith) 3 number (omega arith) in
     let time : n * 1000 ≡ n / 1000 * 1000000 + n % 1000 * 1000 = omega arith in
-    rw (seconds, micros, identifier_long, identifier, bytes_spelled-pairs bytes are_bytes, time) refl
+    rw (seconds, micros, identifier_back identifier spellable, bytes_spelled-pairs bytes are_bytes, time) refl
 
 pub canonical_line_means : CanonicalLineMeans
-canonical_line_means n number bytes small base eight are_bytes =
-    (canonical_spelling n number bytes, is_spelling n number bytes base eight, inl (spelling n number bytes), stamped_is n number bytes small base are_bytes)
+canonical_line_means n identifier bytes small spellable eight are_bytes = (
+  canonical_spelling n identifier bytes,
+  is_spelling n identifier bytes spellable eight,
+  inl (spelling n identifier bytes),
+  stamped_is n identifier bytes small spellable are_bytes,
+)
 
 -- ---- its bytes
 
 pub canonical_line_length : CanonicalLineLength
 unfolding canonical_text
-canonical_line_length n number bytes eight =
+canonical_line_length n (id.Std number) bytes eight =
     let seconds = length-digits 10 10 (n / 1000) in
     let millis = length-digits 10 3 (n % 1000) in
-    let identifier = length-digits 16 3 number in
+    let digits = length-digits 16 3 number in
+    let pairs = length-pairs bytes in
+    simp length-append (omega arith)
+canonical_line_length n (id.Ext number) bytes eight =
+    let seconds = length-digits 10 10 (n / 1000) in
+    let millis = length-digits 10 3 (n % 1000) in
+    let digits = length-digits 16 8 number in
     let pairs = length-pairs bytes in
     simp length-append (omega arith)
 
@@ -141,13 +165,17 @@ pairs bytes = record { none = each_pair IsNoFeed digit_is_no_feed bytes }
 joined : {front back : List ℕ} → IsOneLine front → IsOneLine back → IsOneLine (front ++ back)
 joined {front} {back} a b = record { none = AllByRecursion-append IsNoFeed front back a.none b.none }
 
+identifiers : (identifier : Id) → IsOneLine (identifier_text identifier)
+identifiers (id.Std number) = hexadecimals 3 number
+identifiers (id.Ext number) = hexadecimals 8 number
+
 pub canonical_text_is_one_line : CanonicalTextIsOneLine
 unfolding canonical_text
-canonical_text_is_one_line n number bytes =
+canonical_text_is_one_line n identifier bytes =
     let seconds = joined (fixed (codes "(") refl) (decimals 10 (n / 1000)) in
     let millis = joined (joined seconds (fixed (codes ".") refl)) (decimals 3 (n % 1000)) in
-    let identifier = joined (joined millis (fixed (codes "000) can0 ") refl)) (hexadecimals 3 number) in
-    (joined (joined identifier (fixed (codes "#") refl)) (pairs bytes)).none
+    let until_data = joined (joined millis (fixed (codes "000) can0 ") refl)) (identifiers identifier) in
+    (joined (joined until_data (fixed (codes "#") refl)) (pairs bytes)).none
 
 -- ---- how it is written
 
@@ -157,7 +185,7 @@ pub written : (n number : ℕ) (bytes one two three four : List ℕ) → length 
     → two ≡ replace_range one 12 15 (decimal 3 (n % 1000))
     → three ≡ replace_range two 25 28 (hexadecimal 3 number)
     → four ≡ replace_range three 29 45 (flat_map (hexadecimal 2) bytes)
-    → four ≡ canonical_line n number bytes
+    → four ≡ canonical_line n (id.Std number) bytes
 unfolding canonical_text
 written n number bytes one two three four eight first second third fourth =
     let seconds = decimal 10 (n / 1000) in
@@ -188,8 +216,8 @@ written n number bytes one two three four eight first second third fourth =
     ∙ simp append_assoc
 
 -- the line is a log that means its frame
-pub means_its_frame : (n number : ℕ) (bytes line : List ℕ) → n < 10 ^ 13 → number ≤ 0x7FF → length bytes ≡ 8 → ((i : ℕ) → get_or bytes i 0 < 256)
-    → line ≡ canonical_line n number bytes → LogMeans line (Some (canonical_stamped n number bytes) ∷ [])
-means_its_frame n number bytes line small base eight each is =
-    let means = canonical_line_means n number bytes small base eight (AllByRecursion-at_each (λ b. b < 256) bytes (λ i. each i)) in
-    rw is (line_is_log (canonical_text n number bytes) (Some (canonical_stamped n number bytes)) (canonical_text_is_one_line n number bytes) means)
+pub means_its_frame : (n : ℕ) (identifier : Id) (bytes line : List ℕ) → n < 10 ^ 13 → IsSpellable identifier → length bytes ≡ 8 → ((i : ℕ) → get_or bytes i 0 < 256)
+    → line ≡ canonical_line n identifier bytes → LogMeans line (Some (canonical_stamped n identifier bytes) ∷ [])
+means_its_frame n identifier bytes line small spellable eight each is =
+    let means = canonical_line_means n identifier bytes small spellable eight (AllByRecursion-at_each (λ b. b < 256) bytes (λ i. each i)) in
+    rw is (line_is_log (canonical_text n identifier bytes) (Some (canonical_stamped n identifier bytes)) (canonical_text_is_one_line n identifier bytes) means)

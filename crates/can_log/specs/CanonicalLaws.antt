@@ -1,19 +1,20 @@
 -- What a canonical line promises.
-use Rattle.std.specs.Prelude.{◌≡◌, ℕ, ◌^◌, ◌<◌, ◌≤◌, List, length, Some}
+use Rattle.std.specs.Prelude.{◌≡◌, ℕ, ◌^◌, ◌<◌, List, length, Some}
 use Rattle.std.specs.List.{AllByRecursion}
+use Rattle.can_log.specs.declared.frame.Id.{Id}
 use Rattle.can_log.specs.Line.{LineMeans}
 use Rattle.can_log.specs.Refused.{NoLineFeed}
-use Rattle.can_log.specs.Canonical.{canonical_text, canonical_line, canonical_stamped}
+use Rattle.can_log.specs.Canonical.{IsSpellable, canonical_text, canonical_line, canonical_length, canonical_stamped}
 
--- The text of eight bytes means the classic frame with them, at n milliseconds.
+-- The text of eight bytes means the classic frame with them, of a base or an extended identifier, at n milliseconds.
 abbrev pub CanonicalLineMeans : Type 0
-CanonicalLineMeans = (n number : ℕ) (bytes : List ℕ) → n < 10 ^ 13 → number ≤ 0x7FF → length bytes ≡ 8 → AllByRecursion (λ b. b < 256) bytes
-    → LineMeans (canonical_text n number bytes) (Some (canonical_stamped n number bytes))
+CanonicalLineMeans = (n : ℕ) (identifier : Id) (bytes : List ℕ) → n < 10 ^ 13 → IsSpellable identifier → length bytes ≡ 8 → AllByRecursion (λ b. b < 256) bytes
+    → LineMeans (canonical_text n identifier bytes) (Some (canonical_stamped n identifier bytes))
 
 -- The text has no line feed inside.
 abbrev pub CanonicalTextIsOneLine : Type 0
-CanonicalTextIsOneLine = (n number : ℕ) (bytes : List ℕ) → NoLineFeed (canonical_text n number bytes)
+CanonicalTextIsOneLine = (n : ℕ) (identifier : Id) (bytes : List ℕ) → NoLineFeed (canonical_text n identifier bytes)
 
--- The line of eight bytes has 46 bytes.
+-- The line of eight bytes has 46 bytes, and 51 where the identifier is an extended one.
 abbrev pub CanonicalLineLength : Type 0
-CanonicalLineLength = (n number : ℕ) (bytes : List ℕ) → length bytes ≡ 8 → length (canonical_line n number bytes) ≡ 46
+CanonicalLineLength = (n : ℕ) (identifier : Id) (bytes : List ℕ) → length bytes ≡ 8 → length (canonical_line n identifier bytes) ≡ canonical_length identifier

@@ -2,6 +2,7 @@
 ghost use Rattle.std.specs.Prelude.{◌≡◌, ◌+◌, ◌^◌, ◌<◌, ◌≤◌, [], ◌∷◌, Some};
 ghost use Rattle.std.specs.List.{flat_map, replace_range};
 ghost use Rattle.can_log.specs.Digits.{digit, digits, hexadecimal};
+ghost use Rattle.can_log.specs.declared.frame.Id.TheVariants.{Std};
 ghost use Rattle.can_log.specs.Canonical.{canonical_line, canonical_stamped};
 ghost use Rattle.can_log.specs.Log.{LogMeans};
 
@@ -11,8 +12,8 @@ ghost use Rattle.can_log.specs.Log.{LogMeans};
 pub fn line_bytes(n: u64, id: u16, data: &[u8; 8]) -> [u8; 46]
     requires n { n < 10 ^ 13 }
     requires id { id ≤ 0x7FF }
-    ensures bytes { result ≡ canonical_line n id «data».now }
-    ensures means { LogMeans result (Some (canonical_stamped n id «data».now) ∷ []) }
+    ensures bytes { result ≡ canonical_line n (Std id) «data».now }
+    ensures means { LogMeans result (Some (canonical_stamped n (Std id) «data».now) ∷ []) }
 {
     let mut line = *b"(0000000000.000000) can0 000#0000000000000000\n";
     put_digits(&mut line, 1, 10, n / 1000, 10);

@@ -80,7 +80,7 @@ pub fn log_tells_one()
     ensures { LogTellsOne }
 {}
 
-/// The text of a canonical line means the classic frame that it was made of, at its time.
+/// The text of a canonical line means the classic frame that it was made of, of a base or an extended identifier, at its time.
 pub fn canonical_line_means()
     ensures { CanonicalLineMeans }
 {}
@@ -90,7 +90,7 @@ pub fn canonical_text_is_one_line()
     ensures { CanonicalTextIsOneLine }
 {}
 
-/// A canonical line has 46 bytes.
+/// A canonical line has 46 bytes, or 51 where its identifier is an extended one.
 pub fn canonical_line_length()
     ensures { CanonicalLineLength }
 {}

@@ -5,14 +5,14 @@ use Rattle.can_log.specs.Canonical.{canonical_text}
 use Rattle.can_log.specs.declared.frame.Dir.{Dir}
 use Rattle.can_log.specs.declared.frame.Id.TheVariants as id
 use Rattle.can_log.specs.Log.{ended_lines}
-use Rattle.trace_canon.specs.Settings.{Settings, id_of, number_of}
+use Rattle.trace_canon.specs.Settings.{Settings, id_of}
 use Rattle.trace_canon.specs.Messages.{Message}
 use Rattle.trace_canon.specs.CanonicalLog.{padded_frame, canonical_lines, canonical_log}
 use Rattle.trace_canon.specs.Gathering.{HoldsText}
 
 -- the line of a message at n milliseconds, without its line feed
 abbrev pub line_at : Settings → ℕ → Message → List ℕ
-line_at settings n message = canonical_text n (number_of (id_of settings message.dir)) (padded_frame message.bytes)
+line_at settings n message = canonical_text n (id_of settings message.dir) (padded_frame message.bytes)
 
 canonical_lines-append : (settings : Settings) (n : ℕ) (xs ys : List Message)
     → canonical_lines settings n (xs ++ ys) ≡ canonical_lines settings n xs ++ canonical_lines settings (n + length xs) ys
@@ -32,9 +32,9 @@ canonical_log_more settings found message =
 
 -- the line that is spelled for a message
 pub line_is_at : (settings : Settings) (n : ℕ) (d : Dir) (number : ℕ) (frame bytes : List ℕ) → id.Std number ≡ id_of settings d → frame ≡ padded_frame bytes
-    → canonical_text n number frame ++ 10 ∷ [] ≡ line_at settings n (record { dir = d; bytes = bytes }) ++ 10 ∷ []
+    → canonical_text n (id.Std number) frame ++ 10 ∷ [] ≡ line_at settings n (record { dir = d; bytes = bytes }) ++ 10 ∷ []
 line_is_at settings n d number frame bytes id_is frame_is =
-    ap (λ i. canonical_text n i frame ++ 10 ∷ []) (ap number_of id_is) ∙ ap (λ f. canonical_text n (number_of (id_of settings d)) f ++ 10 ∷ []) frame_is
+    ap (λ i. canonical_text n i frame ++ 10 ∷ []) id_is ∙ ap (λ f. canonical_text n (id_of settings d) f ++ 10 ∷ []) frame_is
 
 -- it holds no text yet
 pub holds_none : (settings : Settings) → HoldsText settings [] false 0 []

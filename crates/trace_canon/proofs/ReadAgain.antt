@@ -3,16 +3,14 @@ use Prim.Native.Nat.{suc}
 use Rattle.std.proofs.Common.{◌≡◌, ℕ, ◌+◌, ◌^◌, ◌≤◌, List, [], ◌∷◌, ◌++◌, length, arith, refl, ap, sym, subst, ◌∙◌, Some, Option, Ok, length-append}
 use Rattle.std.specs.List.{AllByRecursion}
 use Rattle.std.proofs.lemmas.List.{append_cancel_left}
-use Rattle.can_log.specs.Canonical.{canonical_stamped}
+use Rattle.can_log.specs.Canonical.{IsSpellable, canonical_stamped}
 use Rattle.can_log.specs.Log.{log_lines, LinesMean, LogMeans, ended_lines}
 use Rattle.can_log.specs.declared.frame.Dir.{Dir}
 use Rattle.can_log.specs.declared.frame.Dir.TheVariants as dir
-use Rattle.can_log.specs.declared.frame.Id.{Id}
-use Rattle.can_log.specs.declared.frame.Id.TheVariants as id
 use Rattle.can_log.specs.declared.frame.Stamped.{Stamped}
 use Rattle.can_log.proofs.Promises.{canonical_line_means, log_means_at_most_one}
 use Rattle.trace_canon.specs.declared.summary.Summary.{Summary}
-use Rattle.trace_canon.specs.Settings.{Settings, AreSettings, IsBaseIdentifier, number_of, id_of, direction_of}
+use Rattle.trace_canon.specs.Settings.{Settings, AreSettings, id_of}
 use Rattle.trace_canon.specs.Trace.{trace_from, trace}
 use Rattle.trace_canon.specs.Messages.{Message, messages, AreMessagesOf}
 use Rattle.trace_canon.specs.CanonicalLog.{padded_frame, canonical_lines, canonical_log}
@@ -25,21 +23,13 @@ use Rattle.trace_canon.proofs.ShortMessages.{IsShort, messages_are_short, length
 
 -- ---- the lines of a canonical log
 
-base_number : (i : Id) → IsBaseIdentifier i → number_of i ≤ 0x7FF
-base_number (id.Std number) is = is
-base_number (id.Ext number) is = absurd is
-
-base_identifier : (i : Id) → IsBaseIdentifier i → id.Std (number_of i) ≡ i
-base_identifier (id.Std number) is = refl
-base_identifier (id.Ext number) is = absurd is
-
-id_is_base : (settings : Settings) (d : Dir) → AreSettings settings → IsBaseIdentifier (id_of settings d)
-id_is_base settings dir.Tester are = are.tester
-id_is_base settings dir.Unit are = are.unit
+spellable : (settings : Settings) (d : Dir) → AreSettings settings → IsSpellable (id_of settings d)
+spellable settings dir.Tester are = are.tester
+spellable settings dir.Unit are = are.unit
 
 -- what the line of a message means
 abbrev stamped_at : Settings → ℕ → Message → Stamped
-stamped_at settings n message = canonical_stamped n (number_of (id_of settings message.dir)) (padded_frame message.bytes)
+stamped_at settings n message = canonical_stamped n (id_of settings message.dir) (padded_frame message.bytes)
 
 abbrev stamped_from : Settings → ℕ → List Message → List (Option Stamped)
 stamped_from settings n [] = []
@@ -50,24 +40,21 @@ canonical_lines_mean : (settings : Settings) (n : ℕ) (list : List Message) →
 unfolding canonical_lines
 canonical_lines_mean settings n [] are short few = tt
 canonical_lines_mean settings n (message ∷ later) are short few = (
-  canonical_line_means n (number_of (id_of settings message.dir)) (padded_frame message.bytes) (omega arith)
-      (base_number (id_of settings message.dir) (id_is_base settings message.dir are)) (length_padded message.bytes short.0.few)
+  canonical_line_means n (id_of settings message.dir) (padded_frame message.bytes) (omega arith)
+      (spellable settings message.dir are) (length_padded message.bytes short.0.few)
       (padded_are_bytes message.bytes short.0.few short.0.bytes),
   canonical_lines_mean settings (n + 1) later are short.1 (omega arith),
 )
 
 -- ---- their messages
 
-directed : (settings : Settings) (d : Dir) → AreSettings settings → direction_of settings (id.Std (number_of (id_of settings d))) ≡ Some d
-directed settings d are = ap (direction_of settings) (base_identifier (id_of settings d) (id_is_base settings d are)) ∙ direction_of_id settings d are
-
 messages_back : (settings : Settings) (line n : ℕ) (list : List Message) → AreSettings settings → AllByRecursion IsShort list
     → messages (trace_from settings line (stamped_from settings n list)) ≡ list
 unfolding messages trace_from
 messages_back settings line n [] are short = refl
 messages_back settings line n (message ∷ later) are short =
-    let direction = directed settings message.dir are in
-    let held = padded_is_held (id.Std (number_of (id_of settings message.dir))) message short.0 in
+    let direction = direction_of_id settings message.dir are in
+    let held = padded_is_held (id_of settings message.dir) message short.0 in
     rw direction (rw held (ap (λ x. message ∷ x) (messages_back settings (line + 1) (n + 1) later are short.1)))
 
 -- ---- a canonical log is a log

@@ -4,18 +4,9 @@ use Rattle.can_log.specs.declared.frame.Dir.{Dir}
 use Rattle.can_log.specs.declared.frame.Dir.TheVariants as dir
 use Rattle.can_log.specs.declared.frame.Id.{Id}
 use Rattle.can_log.specs.declared.frame.Id.TheVariants as id
+use Rattle.can_log.specs.Canonical.{IsSpellable}
 use Rattle.trace_canon.specs.declared.fault.ConfigFault.{ConfigFault}
 use Rattle.trace_canon.specs.declared.fault.ConfigFault.TheVariants.{IdRange, SameId, LimitRange}
-
--- A base identifier (ISO 11898-1), of 11 bits. So far a canonical log spells no other.
-abbrev pub IsBaseIdentifier : Id → Type 0
-IsBaseIdentifier (id.Std number) = number ≤ 0x7FF
-IsBaseIdentifier (id.Ext number) = ⊥
-
--- the number that a line spells for an identifier
-abbrev pub number_of : Id → ℕ
-number_of (id.Std number) = number
-number_of (id.Ext number) = number
 
 -- the identifiers of the two sides, and the most bytes of a log and of its canonical log
 pub record Settings : Type 0 where
@@ -23,10 +14,10 @@ pub record Settings : Type 0 where
   pub unit : Id
   pub max_bytes : ℕ
 
--- both are base identifiers, and not the same one; the limit is 1 to 2^40 bytes
+-- a line can spell both identifiers, and they aren't the same one; the limit is 1 to 2^40 bytes
 pub record AreSettings (settings : Settings) : Type 0 where
-  pub tester : IsBaseIdentifier settings.tester
-  pub unit : IsBaseIdentifier settings.unit
+  pub tester : IsSpellable settings.tester
+  pub unit : IsSpellable settings.unit
   pub apart : settings.tester ≢ settings.unit
   pub least : 1 ≤ settings.max_bytes
   pub most : settings.max_bytes ≤ 2 ^ 40
@@ -35,10 +26,10 @@ pub record AreSettings (settings : Settings) : Type 0 where
 abbrev pub Configures : Id → Id → ℕ → Result Settings ConfigFault → Type 0
 Configures tester unit max_bytes (Ok settings) =
     (settings ≡ record { tester = tester; unit = unit; max_bytes = max_bytes }) × AreSettings settings
-Configures tester unit max_bytes (Err IdRange) = (¬ IsBaseIdentifier tester) ⊎ (¬ IsBaseIdentifier unit)
-Configures tester unit max_bytes (Err SameId) = IsBaseIdentifier tester × IsBaseIdentifier unit × (tester ≡ unit)
+Configures tester unit max_bytes (Err IdRange) = (¬ IsSpellable tester) ⊎ (¬ IsSpellable unit)
+Configures tester unit max_bytes (Err SameId) = IsSpellable tester × IsSpellable unit × (tester ≡ unit)
 Configures tester unit max_bytes (Err LimitRange) =
-    IsBaseIdentifier tester × IsBaseIdentifier unit × (tester ≢ unit) × ((max_bytes ≡ 0) ⊎ (2 ^ 40 < max_bytes))
+    IsSpellable tester × IsSpellable unit × (tester ≢ unit) × ((max_bytes ≡ 0) ⊎ (2 ^ 40 < max_bytes))
 
 -- the identifier of the frames of a direction
 abbrev pub id_of : Settings → Dir → Id
@@ -58,3 +49,8 @@ direction_of settings id =
     if is_same_id id settings.tester then Some dir.Tester
     else if is_same_id id settings.unit then Some dir.Unit
     else None
+
+-- the number of an identifier, which is what a `Config` keeps of it
+abbrev pub number_of : Id → ℕ
+number_of (id.Std number) = number
+number_of (id.Ext number) = number
