@@ -31,6 +31,7 @@ use Rattle.isotp_receive.proofs.Places.{whole_from, first_from, next_from, at_he
 use Rattle.isotp_receive.proofs.HeardByRole.{same, completed, completed_by, at_place, told-by-role}
 use Rattle.isotp_receive.proofs.References.{at-same, still, moved}
 use Rattle.isotp_receive.proofs.PositionLists.{in-append, in-left, in-right, rising-append}
+use Rattle.isotp_receive.proofs.AllElements.{all-append, all-map}
 use Rattle.isotp_receive.proofs.OwnFrames.{IsOwn, own-other, carries-own, none-own}
 use Rattle.isotp_receive.proofs.Told.{self}
 use Rattle.isotp_receive.proofs.Clean.{Turn, t_whole, t_begins, t_more, t_last, t_paces, t_foreign, turn, was-more, was-last}
@@ -367,14 +368,6 @@ module _ (limit : ℕ) (T : List Entry) (d : Dir) (n : ℕ) (e : Entry) (at : At
       keep (Some (record st { reference = e.micros })) (i ∷ cs) (i ∷ cs) (under (waits limit T d n e at st i cs u e.micros n e (moved T d n i e le at (rw kind tt)) at refl)) (λ p a. a) (λ p a. inl a) (λ own. absurd (rw kind at own))
   advance _ _ (under {st = st} {i = i} {cs = cs} u) _ kind t_foreign wide =
       keep (Some st) (i ∷ cs) (i ∷ cs) (under (waits limit T d n e at st i cs u st.reference u.q u.e (still T d n i u.q e at kind u.ref) u.at u.time)) (λ p a. a) (λ p a. inl a) (λ own. absurd (rw kind at own))
-
-all-append : (P : Transfer → Type 0) (xs ys : List Transfer) → AllByRecursion P xs → AllByRecursion P ys → AllByRecursion P (xs ++ ys)
-all-append P [] ys h g = g
-all-append P (x ∷ xs) ys h g = (h.0, all-append P xs ys h.1 g)
-
-all-map : (P Q : Transfer → Type 0) (xs : List Transfer) → AllByRecursion P xs → ((x : Transfer) → P x → Q x) → AllByRecursion Q xs
-all-map P Q [] h f = tt
-all-map P Q (x ∷ xs) h f = (f x h.0, all-map P Q xs h.1 f)
 
 given-left : (p : ℕ) (xs ys : List Transfer) → IsGiven p xs → IsGiven p (xs ++ ys)
 given-left p [] ys i = absurd i

@@ -62,7 +62,7 @@ open-stands limit T rest d i k o =
     (standing_of d o.start w.1, ap (stands limit d) w.2 ∙ open-stands-here limit d w.0 w.1 o.frame o.start o.kind w.4, refl, refl, sym w.5)
 
 -- a first frame leaves no reception open
-no-first : (s x : FirstFrame) (f n j : ℕ) (on : Type 0) (r : Role) → r ≡ first x → LeavesOpen s f n j on r → ⊥
+pub no-first : (s x : FirstFrame) (f n j : ℕ) (on : Type 0) (r : Role) → r ≡ first x → LeavesOpen s f n j on r → ⊥
 no-first s x f n j on r is h = rw is at h
 
 pub one-open : (limit : ℕ) (T : List Entry) (d : Dir) (i k j l p : ℕ) → IsOpenAt limit T d i k p → IsOpenAt limit T d j l p → (i ≡ j) × (k ≡ l)

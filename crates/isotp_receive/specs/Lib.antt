@@ -7,6 +7,7 @@ pub mod Delivers
 pub mod Verdict
 pub mod VerdictTable
 pub mod Recording
+pub mod FramesOf
 pub mod CleanTrace
 pub mod Laws
 pub mod RecordingLaws
