@@ -13,6 +13,7 @@ pub mod Laws
 pub mod RecordingLaws
 pub mod EventSeen
 pub mod Recorded
+pub mod Taken
 pub mod Heard
 pub mod Machine
 pub mod Kept
