@@ -16,9 +16,10 @@ pub record IsConsecutiveCount (f r len n : ℕ) : Type 0 where
   pub enough : len ≤ bytes_before f r n
   pub fewer : (k : ℕ) → k < n → bytes_before f r k < len
 
--- A consecutive frame of this sequence number and CAN_DL fits as number k of n, counted from 1: it is as long as the first
--- frame, or the last one, which holds what is missing and is no longer.
+-- A consecutive frame of this sequence number and CAN_DL fits as number k of n: it is as long as the first frame, or the
+-- last one, which holds what is missing and is no longer.
 pub record FitsAs (f r len n k sequence_number can_dl : ℕ) : Type 0 where
+  -- counted from 1
   pub from_one : 1 ≤ k
   pub to_last : k ≤ n
   pub number : sequence_number ≡ k % 16
