@@ -31,6 +31,7 @@ use Rattle.isotp_receive.proofs.Places.{whole_from, first_from, next_from, at_he
 use Rattle.isotp_receive.proofs.HeardByRole.{same, completed, completed_by, at_place, told-by-role}
 use Rattle.isotp_receive.proofs.References.{at-same, still, moved}
 use Rattle.isotp_receive.proofs.PositionLists.{in-append, in-left, in-right, rising-append}
+use Rattle.isotp_receive.proofs.AllElements.{all-append, all-map}
 use Rattle.isotp_receive.proofs.OwnFrames.{IsOwn, own-other, carries-own, none-own}
 use Rattle.isotp_receive.proofs.Told.{self}
 use Rattle.isotp_receive.proofs.Clean.{Turn, t_whole, t_begins, t_more, t_last, t_paces, t_foreign, turn, was-more, was-last}
@@ -137,7 +138,7 @@ module _ (limit : ℕ) (T : List Entry) (d : Dir) (n : ℕ) (e : Entry) (at : At
             (let le : length st.bytes ≤ length (st.bytes ++ bytes) = omega arith in sym (take-take (length st.bytes) (length (st.bytes ++ bytes)) m le) ∙ ap (take (length st.bytes)) grown ∙ take_at st.bytes bytes (length st.bytes) refl) in
             numbered-snoc (IsConsecutiveFrame T d m i u.start f nn) 1 n cs (u.parts m nn announced (omega arith) old)
             (new-part st i cs u sequence_number can_dl bytes m nn kind w.0
-            (record { number = w.1 ∙ ap (λ j. j % 16) (let e : st.taken + 1 ≡ 1 + length cs = omega arith in e); full = λ _. omega arith; last_low = λ same. absurd (omega arith); last_high = λ same. absurd (omega arith) })
+            (record { from_one = omega arith; to_last = omega arith; number = w.1 ∙ ap (λ j. j % 16) (let e : st.taken + 1 ≡ 1 + length cs = omega arith in e); full = λ _. omega arith; last_low = λ same. absurd (omega arith); last_high = λ same. absurd (omega arith) })
             (λ b inside lt. let sum : length st.bytes + b < length (st.bytes ++ bytes) = omega arith in
             sym (get_or-take (length (st.bytes ++ bytes)) m (length st.bytes + b) 0 sum) ∙ ap (λ l. get_or l (length st.bytes + b) 0) grown ∙ get_or-append-add st.bytes bytes b 0));
         rising = rising-append 0 (i ∷ cs) (n ∷ []) u.rising (omega arith, tt) (λ p q a b. elim b [ inl same_q ↦ (let lt = u.below p a in omega arith) | inr none ↦ absurd none ]) (λ q b. omega arith);
@@ -197,7 +198,7 @@ module _ (limit : ℕ) (T : List Entry) (d : Dir) (n : ℕ) (e : Entry) (at : At
         };
         consecutive_frames = numbered-snoc (IsConsecutiveFrame T d m i u.start f nn) 1 n cs (u.parts m nn (omega arith) (omega arith) old)
             (new-part st i cs u sequence_number can_dl bytes m nn kind w.0
-            (record { number = w.1 ∙ ap (λ j. j % 16) (let e : st.taken + 1 ≡ 1 + length cs = omega arith in e); full = λ less. absurd (omega arith); last_low = λ same. omega arith; last_high = λ same. omega arith })
+            (record { from_one = omega arith; to_last = omega arith; number = w.1 ∙ ap (λ j. j % 16) (let e : st.taken + 1 ≡ 1 + length cs = omega arith in e); full = λ less. absurd (omega arith); last_low = λ same. omega arith; last_high = λ same. omega arith })
             (λ b inside lt. let sum : length st.bytes + b < st.len = omega arith in
             get_or-take st.len (st.bytes ++ bytes) (length st.bytes + b) 0 sum ∙ get_or-append-add st.bytes bytes b 0));
         holds = λ x inside.
@@ -367,14 +368,6 @@ module _ (limit : ℕ) (T : List Entry) (d : Dir) (n : ℕ) (e : Entry) (at : At
       keep (Some (record st { reference = e.micros })) (i ∷ cs) (i ∷ cs) (under (waits limit T d n e at st i cs u e.micros n e (moved T d n i e le at (rw kind tt)) at refl)) (λ p a. a) (λ p a. inl a) (λ own. absurd (rw kind at own))
   advance _ _ (under {st = st} {i = i} {cs = cs} u) _ kind t_foreign wide =
       keep (Some st) (i ∷ cs) (i ∷ cs) (under (waits limit T d n e at st i cs u st.reference u.q u.e (still T d n i u.q e at kind u.ref) u.at u.time)) (λ p a. a) (λ p a. inl a) (λ own. absurd (rw kind at own))
-
-all-append : (P : Transfer → Type 0) (xs ys : List Transfer) → AllByRecursion P xs → AllByRecursion P ys → AllByRecursion P (xs ++ ys)
-all-append P [] ys h g = g
-all-append P (x ∷ xs) ys h g = (h.0, all-append P xs ys h.1 g)
-
-all-map : (P Q : Transfer → Type 0) (xs : List Transfer) → AllByRecursion P xs → ((x : Transfer) → P x → Q x) → AllByRecursion Q xs
-all-map P Q [] h f = tt
-all-map P Q (x ∷ xs) h f = (f x h.0, all-map P Q xs h.1 f)
 
 given-left : (p : ℕ) (xs ys : List Transfer) → IsGiven p xs → IsGiven p (xs ++ ys)
 given-left p [] ys i = absurd i

@@ -70,7 +70,7 @@ cover-of limit T M d r p e _ at = elim (r.others p e at) [
   | inr h ↦ inr (idle-quiet d e h)
 ]
 
-abbrev transfer_place : Transfer → Placed
+abbrev pub transfer_place : Transfer → Placed
 transfer_place g = record { place = last_or 0 g.positions; dir = g.dir; message = g.message }
 
 transfer-rise : (n : ℕ) (gs : List Transfer) → EachPair AreApart gs → ((g : Transfer) (rest : List Transfer) → gs ≡ g ∷ rest → n ≤ last_or 0 g.positions) → Rise n (map transfer_place gs)
@@ -89,7 +89,7 @@ transfer-pairs [] = refl
 transfer-pairs (g ∷ gs) = ap (λ l. (g.dir, g.message) ∷ l) (transfer-pairs gs)
 
 -- what a recording tells behind any trace: each message at the last of its positions
-told-recording : (limit : ℕ) (before T : List Entry) (M : List (Dir × List ℕ)) (r : IsRecording limit T M) → all_told limit 0 before T ≡ map transfer_place r.transfers
+pub told-recording : (limit : ℕ) (before T : List Entry) (M : List (Dir × List ℕ)) (r : IsRecording limit T M) → all_told limit 0 before T ≡ map transfer_place r.transfers
 told-recording limit before T M r =
     merge 0 0 (all_told limit 0 before T) (map transfer_place r.transfers) (told-rise limit 0 before T) (transfer-rise 0 r.transfers r.pairs (λ g rest same. omega arith)) (λ d.
     sym (heard-side limit d 0 before T)

@@ -92,30 +92,30 @@ module _ (limit : ℕ) (d : Dir) (before : List Entry) (e0 : Entry) (s : FirstFr
         bytes = bytes;
         stands = at-of (before ++ e0 ∷ (since ++ last ∷ rest)) (before ++ e0 ∷ since) rest (suc (length before) + length since) last regroup (omega (arith, length-append before (e0 ∷ since)));
         kind = goes;
-        fits = record { number = w.1; full = λ less. absurd (omega arith); last_low = λ same. omega arith; last_high = λ same. high };
+        fits = record { from_one = omega arith; to_last = omega arith; number = w.1; full = λ less. absurd (omega arith); last_low = λ same. omega arith; last_high = λ same. high };
         on_time = on-time-from _ d (length before) _ (reference d s.micros since) last (refers d before e0 s since (last ∷ rest) begins) (le-leb _ _ w.0);
         size = omega (arith, length-take s.len ((s.bytes ++ carried d since) ++ bytes), length-append (s.bytes ++ carried d since) bytes);
         places = whole-at limit d before e0 s since rest begins opens last sequence_number can_dl bytes goes enough short;
       }
 
--- what a frame completes is delivered there
-delivered : (limit : ℕ) (T : List Entry) (d : Dir) (e : Entry) (m : List ℕ) (ms : List (List ℕ)) (r : Role) (o : Option Standing)
-    → role d e ≡ r → stands limit d T ≡ o → completed o e.micros r ≡ m ∷ ms → Delivers limit (T ++ e ∷ []) (length T) d m
-delivered limit T d e m ms (single x) o is now h = in_one_frame e (at_here T [] e) (let same : x ≡ m = cc in is ∙ ap single same)
-delivered limit T d e m ms (consecutive sequence_number can_dl bytes) None is now h = absurd (cc)
-delivered limit T d e m ms (consecutive sequence_number can_dl bytes) (Some st) is now h =
+-- what a frame completes is delivered there, whatever follows
+delivered : (limit : ℕ) (T : List Entry) (d : Dir) (e : Entry) (rest : List Entry) (m : List ℕ) (ms : List (List ℕ)) (r : Role) (o : Option Standing)
+    → role d e ≡ r → stands limit d T ≡ o → completed o e.micros r ≡ m ∷ ms → Delivers limit (T ++ e ∷ rest) (length T) d m
+delivered limit T d e rest m ms (single x) o is now h = in_one_frame e (at_here T rest e) (let same : x ≡ m = cc in is ∙ ap single same)
+delivered limit T d e rest m ms (consecutive sequence_number can_dl bytes) None is now h = absurd (cc)
+delivered limit T d e rest m ms (consecutive sequence_number can_dl bytes) (Some st) is now h =
     let w = found limit d T st now in
     let l = last-judged (judged st e.micros sequence_number can_dl) st bytes m ms h in
     let j : judged (standing_of d w.s w.since) e.micros sequence_number can_dl ≡ judged_as.Last = subst (λ x. judged x e.micros sequence_number can_dl ≡ judged_as.Last) w.is l.0 in
-    let c = completes limit d w.before w.e w.s w.since [] w.begins w.opens e sequence_number can_dl bytes is j in
+    let c = completes limit d w.before w.e w.s w.since rest w.begins w.opens e sequence_number can_dl bytes is j in
     let is_m : take w.s.len ((w.s.bytes ++ carried d w.since) ++ bytes) ≡ m = ap (λ x. take x.len (x.bytes ++ bytes)) (sym w.is) ∙ l.1 in
-    in_frames (subst (Completes limit (T ++ e ∷ []) (length T) d) is_m
-    (subst (λ p. Completes limit (T ++ e ∷ []) p d (take w.s.len ((w.s.bytes ++ carried d w.since) ++ bytes))) (ends-at T w.before w.since w.e w.splits)
-    (subst (λ t. Completes limit t (suc (length w.before) + length w.since) d (take w.s.len ((w.s.bytes ++ carried d w.since) ++ bytes))) (regrouped T (e ∷ []) w.before w.since w.e w.splits) c)))
-delivered limit T d e m ms (first s) o is now h = absurd (cc)
-delivered limit T d e m ms continue_or_wait o is now h = absurd (cc)
-delivered limit T d e m ms overflow o is now h = absurd (cc)
-delivered limit T d e m ms no_part o is now h = absurd (cc)
+    in_frames (subst (Completes limit (T ++ e ∷ rest) (length T) d) is_m
+    (subst (λ p. Completes limit (T ++ e ∷ rest) p d (take w.s.len ((w.s.bytes ++ carried d w.since) ++ bytes))) (ends-at T w.before w.since w.e w.splits)
+    (subst (λ t. Completes limit t (suc (length w.before) + length w.since) d (take w.s.len ((w.s.bytes ++ carried d w.since) ++ bytes))) (regrouped T (e ∷ rest) w.before w.since w.e w.splits) c)))
+delivered limit T d e rest m ms (first s) o is now h = absurd (cc)
+delivered limit T d e rest m ms continue_or_wait o is now h = absurd (cc)
+delivered limit T d e rest m ms overflow o is now h = absurd (cc)
+delivered limit T d e rest m ms no_part o is now h = absurd (cc)
 
 -- what is delivered there, the frame completes
 completed-in : (limit : ℕ) (T : List Entry) (d : Dir) (e : Entry) (m : List ℕ) → Completes limit (T ++ e ∷ []) (length T) d m → completed (stands limit d T) e.micros (role d e) ≡ m ∷ []
@@ -170,12 +170,12 @@ completed-all limit T d e m (in_one_frame x at kind) =
     ap (completed (stands limit d T) e.micros) kind_e
 completed-all limit T d e m (in_frames c) = completed-in limit T d e m c
 
-pub message-delivers : (limit : ℕ) (T : List Entry) (e : Entry) (m : List ℕ) → ((verdict limit T e).told ≡ message m) ↔ Delivers limit (T ++ e ∷ []) (length T) e.dir m
-message-delivers limit T e m = (to, from) where
-  to : (verdict limit T e).told ≡ message m → Delivers limit (T ++ e ∷ []) (length T) e.dir m
-  to h =
-      let w = place-message (completed (stands limit e.dir T) e.micros (role e.dir e)) m (sym (told-at limit T e) ∙ ap (placed 0) h) in
-      delivered limit T e.dir e m w.0 (role e.dir e) (stands limit e.dir T) refl refl w.1
+pub delivers-there : (limit : ℕ) (T rest : List Entry) (e : Entry) (m : List ℕ) → (verdict limit T e).told ≡ message m → Delivers limit (T ++ e ∷ rest) (length T) e.dir m
+delivers-there limit T rest e m h =
+    let w = place-message (completed (stands limit e.dir T) e.micros (role e.dir e)) m (sym (told-at limit T e) ∙ ap (placed 0) h) in
+    delivered limit T e.dir e rest m w.0 (role e.dir e) (stands limit e.dir T) refl refl w.1
 
+pub message-delivers : (limit : ℕ) (T : List Entry) (e : Entry) (m : List ℕ) → ((verdict limit T e).told ≡ message m) ↔ Delivers limit (T ++ e ∷ []) (length T) e.dir m
+message-delivers limit T e m = (delivers-there limit T [] e m, from) where
   from : Delivers limit (T ++ e ∷ []) (length T) e.dir m → (verdict limit T e).told ≡ message m
   from h = placed-message (verdict limit T e).told m (told-at limit T e ∙ ap (at_place 0) (completed-all limit T e.dir e m h))

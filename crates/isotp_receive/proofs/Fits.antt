@@ -35,6 +35,8 @@ module _ (f r len n k sequence_number dl : ℕ) (least : IsConsecutiveCount f r 
   from h =
       let fit = (and_parts (nat_lt (f + k * (r - 1)) len) _ h.1).1 in
       record {
+        from_one = omega arith;
+        to_last = omega arith;
         number = h.0;
         full = λ lt. (let more = least.fewer (k + 1) lt in let t = lt-ltb (f + k * (r - 1) + (r - 1)) len (omega arith) in eqb-true dl r (rw t at fit));
         last_low = λ last. (let product_all = ap (λ j. j * (r - 1)) last in let enough = least.enough in

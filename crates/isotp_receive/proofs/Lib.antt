@@ -15,9 +15,11 @@ pub mod ListPositions
 pub mod References
 pub mod Carried
 pub mod PositionLists
+pub mod AllElements
 pub mod OwnFrames
 pub mod Told
 pub mod Delivered
+pub mod FramesOf
 pub mod Clean
 pub mod Certified
 pub mod Fits

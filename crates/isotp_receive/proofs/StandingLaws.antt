@@ -2,15 +2,16 @@
 use Rattle.std.proofs.Common.{◌≡◌, ℕ, suc, ◌+◌, ◌<◌, ◌≤◌, true, List, ◌∷◌, ◌++◌, length, nat_lt, nat_le, Some, refl, sym, ◌∙◌, ap, arith, inl, inr, subst, append_assoc, length-append}
 use Rattle.std.proofs.lemmas.Bool.{and_parts, ltb-true, ltb-false, leb-true, cases_Bool}
 use Rattle.can_log.specs.declared.frame.Dir.{Dir}
-use Rattle.isotp_receive.specs.Trace.{Entry, FirstFrame, Role, first, role}
-use Rattle.isotp_receive.specs.Places.{consecutive_count, between}
+use Rattle.isotp_receive.specs.Trace.{Entry, At, FirstFrame, Role, first, role}
+use Rattle.isotp_receive.specs.Places.{bytes_in_first, bytes_before, consecutive_count, between, AtPlaces}
+use Rattle.isotp_receive.specs.OnTime.{IsReference}
 use Rattle.isotp_receive.specs.Standing.{carried, carried_after, is_open, Standing, standing_of, stands}
 use Rattle.isotp_receive.specs.OpenReception.{LeavesOpen, IsOpenAt, IsStandingAt}
-use Rattle.isotp_receive.proofs.References.{refers}
+use Rattle.isotp_receive.proofs.References.{at-same, same-reference, refers}
 use Rattle.isotp_receive.proofs.OneMore.{full_of}
 use Rattle.isotp_receive.proofs.OpenLaws.{found, open-stands-here}
 use Rattle.isotp_receive.proofs.OpenPositions.{open-there, stands-there}
-use Rattle.isotp_receive.proofs.BytesAtPlaces.{come-at}
+use Rattle.isotp_receive.proofs.BytesAtPlaces.{come-at, same-message}
 use Rattle.isotp_receive.proofs.Places.{first_from}
 
 -- the trace and the position in the words of where the reception began
@@ -62,7 +63,7 @@ open-stands limit T rest d i k o =
     (standing_of d o.start w.1, ap (stands limit d) w.2 ∙ open-stands-here limit d w.0 w.1 o.frame o.start o.kind w.4, refl, refl, sym w.5)
 
 -- a first frame leaves no reception open
-no-first : (s x : FirstFrame) (f n j : ℕ) (on : Type 0) (r : Role) → r ≡ first x → LeavesOpen s f n j on r → ⊥
+pub no-first : (s x : FirstFrame) (f n j : ℕ) (on : Type 0) (r : Role) → r ≡ first x → LeavesOpen s f n j on r → ⊥
 no-first s x f n j on r is h = rw is at h
 
 pub one-open : (limit : ℕ) (T : List Entry) (d : Dir) (i k j l p : ℕ) → IsOpenAt limit T d i k p → IsOpenAt limit T d j l p → (i ≡ j) × (k ≡ l)
@@ -78,6 +79,46 @@ one-open limit T d i k j l p a b = (same, a.taken ∙ ap (λ q. consecutive_coun
       | inr u ↦ (let x = ltb-false i j t in let y = ltb-false j i u in omega arith)
     ]
   ]
+
+first-same : {s x : FirstFrame} → first s ≡ first x → s ≡ x
+first-same h = cc
+
+same-record : (x y : Standing) → x.line ≡ y.line → x.len ≡ y.len → x.rx_dl ≡ y.rx_dl → x.taken ≡ y.taken → x.bytes ≡ y.bytes → x.reference ≡ y.reference → x ≡ y
+same-record x y line len rx_dl taken bytes reference =
+    ap (λ v. record { line = v; len = x.len; rx_dl = x.rx_dl; taken = x.taken; bytes = x.bytes; reference = x.reference }) line
+    ∙ ap (λ v. record { line = y.line; len = v; rx_dl = x.rx_dl; taken = x.taken; bytes = x.bytes; reference = x.reference }) len
+    ∙ ap (λ v. record { line = y.line; len = y.len; rx_dl = v; taken = x.taken; bytes = x.bytes; reference = x.reference }) rx_dl
+    ∙ ap (λ v. record { line = y.line; len = y.len; rx_dl = y.rx_dl; taken = v; bytes = x.bytes; reference = x.reference }) taken
+    ∙ ap (λ v. record { line = y.line; len = y.len; rx_dl = y.rx_dl; taken = y.taken; bytes = v; reference = x.reference }) bytes
+    ∙ ap (λ v. record { line = y.line; len = y.len; rx_dl = y.rx_dl; taken = y.taken; bytes = y.bytes; reference = v }) reference
+
+-- what is known of the reception that is open is one thing: the frames fix it
+same-standing : (limit : ℕ) (T : List Entry) (d : Dir) (p : ℕ) (x y : Standing) → IsStandingAt limit T d p x → IsStandingAt limit T d p y → x ≡ y
+same-standing limit T d p x y a b =
+    let one = one-open limit T d a.i a.k b.i b.k p a.is_open b.is_open in
+    let frame : a.is_open.frame ≡ b.is_open.frame = at-same T a.i a.is_open.frame b.is_open.frame a.is_open.stands (subst (λ j. At T j b.is_open.frame) (sym one.0) b.is_open.stands) in
+    let start : a.is_open.start ≡ b.is_open.start = first-same (sym a.is_open.kind ∙ ap (role d) frame ∙ b.is_open.kind) in
+    let rx_dl : x.rx_dl ≡ y.rx_dl = a.rx_dl ∙ ap (λ s. s.rx_dl) start ∙ sym b.rx_dl in
+    let size : length x.bytes ≡ length y.bytes =
+    a.size ∙ ap (λ e. bytes_before (bytes_in_first e.frame.bytes) x.rx_dl a.k) frame ∙ ap (λ r. bytes_before (bytes_in_first b.is_open.frame.frame.bytes) r a.k) rx_dl
+    ∙ ap (λ k. bytes_before (bytes_in_first b.is_open.frame.frame.bytes) y.rx_dl k) one.1 ∙ sym b.size in
+    let places : AtPlaces T d a.i a.is_open.frame x.rx_dl y.bytes =
+    subst (λ r. AtPlaces T d a.i a.is_open.frame r y.bytes) (sym rx_dl) (subst (λ e. AtPlaces T d a.i e y.rx_dl y.bytes) (sym frame)
+    (subst (λ i. AtPlaces T d i b.is_open.frame y.rx_dl y.bytes) (sym one.0) b.places)) in
+    let from = first_from d a.is_open.frame a.is_open.start a.is_open.kind in
+    let eight = from.3 in
+    let announced = a.rx_dl in
+    let same_q : a.q ≡ b.q = same-reference T d a.i p a.q b.q a.refers (subst (λ i. IsReference T d i p b.q) (sym one.0) b.refers) in
+    let last : a.last ≡ b.last = at-same T a.q a.last b.last a.stands (subst (λ q. At T q b.last) (sym same_q) b.stands) in
+    same-record x y (a.line ∙ ap (λ s. s.line) start ∙ sym b.line) (a.len ∙ ap (λ s. s.len) start ∙ sym b.len) rx_dl (a.taken ∙ one.1 ∙ sym b.taken)
+    (same-message T d a.i a.is_open.frame x.rx_dl x.bytes y.bytes (omega arith) a.places places size)
+    (a.reference ∙ ap (λ e. e.micros) last ∙ sym b.reference)
+
+-- and so it is what stands
+pub standing-is-fixed : (limit : ℕ) (T rest : List Entry) (d : Dir) (st : Standing) → IsStandingAt limit (T ++ rest) d (length T) st → stands limit d T ≡ Some st
+standing-is-fixed limit T rest d st a =
+    let w = open-stands limit T rest d a.i a.k a.is_open in
+    w.1 ∙ ap Some (same-standing limit (T ++ rest) d (length T) w.0 st (stands-open limit T rest d w.0 w.1) a)
 
 -- what a pair keeps for a direction
 pub kept-bytes : (limit : ℕ) (T : List Entry) (d : Dir) (st : Standing) → stands limit d T ≡ Some st → (st.len ≤ limit) × (length st.bytes < st.len)

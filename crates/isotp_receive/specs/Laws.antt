@@ -18,6 +18,10 @@ abbrev pub OpenStands : Type 0
 OpenStands = (limit : ℕ) (T rest : List Entry) (d : Dir) (i k : ℕ) (o : IsOpenAt limit (T ++ rest) d i k (length T))
     → (st : Standing) × (stands limit d T ≡ Some st) × (st.line ≡ o.start.line) × (st.len ≡ o.start.len) × (st.taken ≡ k)
 
+-- What stands is fixed by its definition: a record of all that is known of the reception that is open there is what stands.
+abbrev pub StandingIsFixed : Type 0
+StandingIsFixed = (limit : ℕ) (T rest : List Entry) (d : Dir) (st : Standing) → IsStandingAt limit (T ++ rest) d (length T) st → stands limit d T ≡ Some st
+
 -- at most one reception of a direction is open at a position
 abbrev pub OneIsOpen : Type 0
 OneIsOpen = (limit : ℕ) (T : List Entry) (d : Dir) (i k j l p : ℕ) → IsOpenAt limit T d i k p → IsOpenAt limit T d j l p → (i ≡ j) × (k ≡ l)

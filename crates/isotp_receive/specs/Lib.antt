@@ -7,11 +7,13 @@ pub mod Delivers
 pub mod Verdict
 pub mod VerdictTable
 pub mod Recording
+pub mod FramesOf
 pub mod CleanTrace
 pub mod Laws
 pub mod RecordingLaws
 pub mod EventSeen
 pub mod Recorded
+pub mod Taken
 pub mod Heard
 pub mod Machine
 pub mod Kept

@@ -21,6 +21,9 @@ pub record IsConsecutiveCount (f r len n : ℕ) : Type 0 where
 -- A consecutive frame of this sequence number and CAN_DL fits as number k of n: it is as long as the first frame, or the
 -- last one, which holds what is missing and is no longer (section 9.6.4).
 pub record FitsAs (f r len n k sequence_number can_dl : ℕ) : Type 0 where
+  -- counted from 1
+  pub from_one : 1 ≤ k
+  pub to_last : k ≤ n
   pub number : sequence_number ≡ k % 16
   pub full : k < n → can_dl ≡ r
   pub last_low : k ≡ n → 1 + (len - bytes_before f r (n - 1)) ≤ can_dl

@@ -4,6 +4,7 @@ use Rattle.can_log.specs.declared.frame.Dir.{Dir}
 use Rattle.isotp_receive.specs.Trace.{Entry}
 use Rattle.isotp_receive.specs.Verdict.{messages}
 use Rattle.isotp_receive.specs.Recording.{IsRecording, ended_within}
+use Rattle.isotp_receive.specs.FramesOf.{AreGivenTheirFrames, EachBelongsOnce}
 use Rattle.isotp_receive.specs.CleanTrace.{IsClean}
 
 -- a recording delivers its messages, in order, and nothing else
@@ -22,7 +23,16 @@ DeliversAtLastPosition =
     (limit : ℕ) (before T : List Entry) (M : List (Dir × List ℕ)) (recording : IsRecording limit T M) (n : ℕ)
     → messages limit (before ++ take n T) ≡ messages limit before ++ ended_within n recording.transfers
 
--- A trace of which nothing is dropped, ended or left over is a recording of what it delivers. The limit is at least the
--- length of the longest frame, since no rule bounds the message of a single frame by it.
+-- it gives each message the positions of the frames that make it, and each frame that carries a message to exactly one
+abbrev pub RecordingGivesFrames : Type 0
+RecordingGivesFrames =
+    (limit : ℕ) (T : List Entry) (M : List (Dir × List ℕ)) (recording : IsRecording limit T M)
+    → AreGivenTheirFrames limit T recording.transfers × EachBelongsOnce T recording.transfers
+
+-- A trace of which nothing is dropped, ended or left over is a recording of what it delivers: each message is given the
+-- positions of the frames that make it, and each single, first and consecutive frame belongs to exactly one. The limit is at
+-- least the length of the longest frame, since no rule bounds the message of a single frame by it.
 abbrev pub CleanTraceIsRecording : Type 0
-CleanTraceIsRecording = (limit : ℕ) (T : List Entry) → 64 ≤ limit → IsClean limit T → IsRecording limit T (messages limit T)
+CleanTraceIsRecording =
+    (limit : ℕ) (T : List Entry) → 64 ≤ limit → IsClean limit T
+    → (recording : IsRecording limit T (messages limit T)) × AreGivenTheirFrames limit T recording.transfers × EachBelongsOnce T recording.transfers

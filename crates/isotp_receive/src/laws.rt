@@ -2,12 +2,14 @@
 
 ghost use Rattle.std.specs.Prelude.{◌≡◌};
 ghost use Rattle.isotp_receive.specs.declared.TheConstants.{MESSAGE_LIMIT};
-ghost use Rattle.isotp_receive.specs.Laws.{StandsOpen, OpenStands, OneIsOpen, KeepsFewer, MessageDelivers, VerdictIsTabled, CarriedAgrees, FitsAgrees};
+ghost use Rattle.isotp_receive.specs.Laws.{StandsOpen, OpenStands, StandingIsFixed, OneIsOpen, KeepsFewer, MessageDelivers, VerdictIsTabled, CarriedAgrees, FitsAgrees};
 
-/// What stands after a trace is the reception that is open at its end by the positions of its frames.
+/// What stands after a trace is the reception that is open at its end by the positions of its frames,
+/// with all that is known of it: line, length, RX_DL, bytes and the time that N_Cr runs from.
 pub fn what_stands_is_open()
     ensures is_open { StandsOpen }
     ensures stands { OpenStands }
+    ensures fixed { StandingIsFixed }
 {}
 
 /// At most one reception of a direction is open at a position.

@@ -34,7 +34,8 @@ impl Model for Pair {
 }
 
 impl Pair {
-    ghost use Rattle.isotp_receive.specs.PairLending.{TakesLayout, TakesFrame};
+    ghost use Rattle.isotp_receive.specs.Taken.{TakesFrame};
+    ghost use Rattle.isotp_receive.specs.PairLending.{TakesLayout};
 
     /// A pair before the first frame. It reserves a buffer of [`MESSAGE_LIMIT`] bytes for each
     /// direction, and takes no memory after that.

@@ -356,36 +356,46 @@ fn open_tells_the_first_frame(rt: HostRuntime) -> Result<(), Fail> {
 
 #[test]
 fn what_has_no_part_leaves_the_reception(rt: HostRuntime) -> Result<(), Fail> {
-    for (dir, data, event) in [
+    let remote = Frame::new(Id::Std(0x7E8), Kind::Remote, &[]).ok_or("no frame")?;
+    for (dir, between, event) in [
+        (Unit, remote, unread(PduFault::Remote)),
         (
             Unit,
-            &[0x21, 0, 0, 0, 0, 0, 0, 0, 0][..],
+            frame(&[0x21, 0, 0, 0, 0, 0, 0, 0, 0])?,
             unread(PduFault::FrameLength),
         ),
-        (Unit, &[], unread(PduFault::Empty)),
-        (Unit, &[0x40], unread(PduFault::UnknownKind)),
-        (Unit, &[0x00], unread(PduFault::SingleLength)),
+        (Unit, frame(&[])?, unread(PduFault::Empty)),
+        (Unit, frame(&[0x40])?, unread(PduFault::UnknownKind)),
+        (Unit, frame(&[0x00])?, unread(PduFault::SingleLength)),
         (
             Unit,
-            &[0x10, 0x07, 0, 0, 0, 0, 0, 0],
+            frame(&[0x10, 0x07, 0, 0, 0, 0, 0, 0])?,
             unread(PduFault::FirstLength),
         ),
-        (Tester, &[0x30, 0], unread(PduFault::FlowShort)),
-        (Tester, &[0x33, 0, 0], unread(PduFault::FlowStatus)),
-        (Unit, CONTINUE, dropped(Reason::FlowUnexpected)),
-        (Unit, WAIT, dropped(Reason::FlowUnexpected)),
-        (Unit, OVERFLOW, dropped(Reason::FlowUnexpected)),
-        (Tester, NUMBER_1, dropped(Reason::NextUnexpected)),
-        (Tester, &[0x01, 0x3E], told(Verdict::Message(&[0x3E]))),
+        (Tester, frame(&[0x30, 0])?, unread(PduFault::FlowShort)),
+        (Tester, frame(&[0x33, 0, 0])?, unread(PduFault::FlowStatus)),
+        (Unit, frame(CONTINUE)?, dropped(Reason::FlowUnexpected)),
+        (Unit, frame(WAIT)?, dropped(Reason::FlowUnexpected)),
+        (Unit, frame(OVERFLOW)?, dropped(Reason::FlowUnexpected)),
+        (Tester, frame(NUMBER_1)?, dropped(Reason::NextUnexpected)),
+        (
+            Tester,
+            frame(&[0x01, 0x3E])?,
+            told(Verdict::Message(&[0x3E])),
+        ),
     ] {
         let late = refuses(Cause::Late, 20, Reason::NextLate);
         for (at, wanted) in [(1_000_000, told(Verdict::Stored)), (1_000_001, late)] {
-            let steps = [
-                Step(0, Unit, FIRST, told(Verdict::Began)),
-                Step(900_000, dir, data, event),
+            let began = Step(0, Unit, FIRST, told(Verdict::Began));
+            let mut pair = follow(&rt, rt.alloc(), "in between", &[began])?;
+            assert_eq!(rt; pair.accept(2, 900_000, dir, &between), event);
+            takes(
+                &rt,
+                &mut pair,
+                3,
                 Step(at, Unit, NUMBER_1, wanted),
-            ];
-            follow(&rt, rt.alloc(), "in between", &steps)?;
+                "after it",
+            )?;
         }
     }
     Ok(())
