@@ -5,7 +5,7 @@ ghost use Rattle.std.specs.Prelude.{◌≤◌, IfOk, vec_len};
 use std::alloc::{AllocError, Global};
 
 /// A message of so many bytes, of 1 where that is no length of a message.
-pub fn message_of(alloc: Global, size: u64) -> Result<Vec<u8>, AllocError>
+pub(crate) fn message_of(alloc: Global, size: u64) -> Result<Vec<u8>, AllocError>
     ensures some { IfOk result (λ message. 1 ≤ vec_len message) }
     ensures limit { IfOk result (λ message. vec_len message ≤ 65535) }
 {
@@ -18,7 +18,7 @@ pub fn message_of(alloc: Global, size: u64) -> Result<Vec<u8>, AllocError>
 }
 
 /// The length and the last byte.
-pub fn sum_of(message: &[u8]) -> u64 {
+pub(crate) fn sum_of(message: &[u8]) -> u64 {
     let last = message.last().copied().unwrap_or(0);
     (message.len() as u64).wrapping_add(last as u64)
 }

@@ -27,7 +27,7 @@ impl MessageSink for Sum {
 }
 
 /// The lengths and the last bytes of the request and of so many messages, added up as they are put.
-pub fn sum_of_messages(alloc: Global, count: u64) -> Result<u64, AllocError> {
+pub(crate) fn sum_of_messages(alloc: Global, count: u64) -> Result<u64, AllocError> {
     let mut put = Sum { sum: 0 };
     let mut orderer = Orderer::new(alloc);
     let mut refused = orderer

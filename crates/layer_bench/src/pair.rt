@@ -6,7 +6,7 @@ use std::alloc::{AllocError, Global};
 use uds_exchange::{Item, Pairing};
 
 /// The lengths and the last bytes of so many messages behind the request, as their meaning has them, added up.
-pub fn sum_of_strays(alloc: Global, count: u64) -> Result<u64, AllocError> {
+pub(crate) fn sum_of_strays(alloc: Global, count: u64) -> Result<u64, AllocError> {
     let mut pairing = Pairing::new(alloc);
     pairing.take(Dir::Tester, &[0x22, 0xF1, 0x90])?;
     for number in 0..count {

@@ -7,7 +7,7 @@ use isotp_segment::Segments;
 use std::alloc::{AllocError, Global};
 
 /// The lengths and the last bytes of all messages that are received, of so many of this size, added up.
-pub fn sum_of_messages(alloc: Global, size: u64, count: u64) -> Result<u64, AllocError> {
+pub(crate) fn sum_of_messages(alloc: Global, size: u64, count: u64) -> Result<u64, AllocError> {
     let frames = frames_of(alloc, size)?;
     let mut pair = Pair::new(alloc)?;
     let mut sum = 0u64;

@@ -12,7 +12,7 @@ const MOST_TAKEN: u64 = 1 << 61;
 
 /// The time stamps and the last bytes of all frames in front of the log's end or its refused place,
 /// added up.
-pub fn sum_of_lines<R: Read>(alloc: Global, log: &mut R) -> io::Result<u64> {
+pub(crate) fn sum_of_lines<R: Read>(alloc: Global, log: &mut R) -> io::Result<u64> {
     let mut buffer = vec![in alloc; 0u8; PIECE]?;
     let mut scanner = Scanner::new();
     let mut sum = 0u64;
