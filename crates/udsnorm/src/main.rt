@@ -8,15 +8,17 @@
 //! how it went: 0 done, 2 wrong words, 3 the log is refused, 4 a read or a write failed, 5 memory was refused.
 #![tactic(auto)]
 
-ghost use Rattle.std.specs.Prelude.{◌≡◌};
+ghost use Rattle.std.specs.Prelude.{◌≡◌, ◌^◌};
+ghost use Rattle.trace_canon.specs.Settings.{number_of};
 ghost use Rattle.udsnorm.specs.Status.{status_of};
+ghost use Rattle.udsnorm.specs.Run.{outcome_of, ask_for_canonical_log};
 
 use std::env::Env;
 use std::io::{BufWriter, ErrorKind, Input, Print};
 use std::process::ExitCode;
 use std::{env, io};
 use trace_canon::{Config, Fault, Summary, normalise};
-use trace_io::{Reading, Target, Writing};
+use trace_io::{DeviceFault, Reading, Target, Writing};
 
 /// The identifiers of the two sides.
 const TESTER: u16 = 0x7E0;
@@ -56,34 +58,63 @@ fn status(outcome: &Result<Summary, Failure>) -> u8
 
 fn run<R: AllocGlobal + Env + Input + Print>(rt: &R) -> Result<Summary, Failure> {
     check_words(rt)?;
-    let config = Config::new(TESTER, UNIT, LIMIT).unwrap();
+    let config = configuration();
     let out = BufWriter::new(rt.alloc(), io::writer(rt)).map_err(|_| Failure::Memory)?;
     let mut reader = Reading::new(rt.reader());
     let mut writer = Writing::new(out);
     let outcome = normalise(rt.alloc(), &config, &mut reader, &mut writer);
-    // What the engine wrote leaves the program, also where the engine ended with a fault; that fault is then the answer.
+    // What the engine wrote leaves the program, also where the engine ended with a fault.
     let flushed = writer.flush();
-    let summary = outcome.map_err(Failure::Engine)?;
+    outcome_of(outcome, flushed)
+}
+
+/// The configuration that the program is built with.
+fn configuration() -> Config
+    ensures tester { number_of result.tester ≡ 0x7E0 }
+    ensures unit { number_of result.unit ≡ 0x7E8 }
+    ensures limit { result.max_bytes ≡ 2 ^ 30 }
+{
+    Config::new(TESTER, UNIT, LIMIT).unwrap()
+}
+
+/// What a run comes to by the engine's answer and by the flush behind it.
+fn outcome_of(
+    answer: Result<Summary, Fault>,
+    flushed: Result<(), DeviceFault>,
+) -> Result<Summary, Failure>
+    ensures { result ≡ outcome_of answer flushed }
+{
+    let summary = answer.map_err(Failure::Engine)?;
     match flushed {
         Ok(()) => Ok(summary),
         Err(_) => Err(Failure::Engine(Fault::Write)),
     }
 }
 
-/// The words ask for a canonical log where there are none, or the one word `normalise`.
-fn check_words<R: Alloc + Env>(rt: &R) -> Result<(), Failure> {
+/// Fails where the words of the command line ask for nothing that the program does.
+fn check_words<R: AllocGlobal + Env>(rt: &R) -> Result<(), Failure> {
     let mut words = env::args(rt).map_err(|error| match error.kind() {
         ErrorKind::OutOfMemory => Failure::Memory,
         _ => Failure::Words,
     })?;
     let _ = words.next();
-    let Some(word) = words.next() else {
-        return Ok(());
-    };
-    if word.as_str() == "normalise" && words.next().is_none() {
+    let word = words.next();
+    let next = words.next();
+    if ask_for_canonical_log(&word, &next) {
         Ok(())
     } else {
         Err(Failure::Words)
+    }
+}
+
+/// Whether the words behind the program's name ask for a canonical log, by the first two of them.
+fn ask_for_canonical_log(word: &Option<String>, next: &Option<String>) -> bool
+    ensures { result ≡ ask_for_canonical_log word.now next.now }
+{
+    match (word, next) {
+        (None, _) => true,
+        (Some(word), None) => word.as_str() == "normalise",
+        (Some(_), Some(_)) => false,
     }
 }
 
