@@ -9,7 +9,7 @@
 #![tactic(auto)]
 
 ghost use Rattle.std.specs.Prelude.{◌≡◌, ◌^◌};
-ghost use Rattle.trace_canon.specs.Settings.{number_of};
+ghost use Rattle.can_log.specs.declared.frame.Id.TheVariants.{Std};
 ghost use Rattle.udsnorm.specs.Status.{status_of};
 ghost use Rattle.udsnorm.specs.Run.{outcome_of, ask_for_canonical_log};
 
@@ -70,8 +70,8 @@ fn run<R: AllocGlobal + Env + Input + Print>(rt: &R) -> Result<Summary, Failure>
 
 /// The configuration that the program is built with.
 fn configuration() -> Config
-    ensures tester { number_of result.tester ≡ 0x7E0 }
-    ensures unit { number_of result.unit ≡ 0x7E8 }
+    ensures tester { result.tester ≡ Std 0x7E0 }
+    ensures unit { result.unit ≡ Std 0x7E8 }
     ensures limit { result.max_bytes ≡ 2 ^ 30 }
 {
     Config::new(TESTER, UNIT, LIMIT).unwrap()
