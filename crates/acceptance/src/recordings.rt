@@ -171,16 +171,16 @@ fn size_and_padding_of_frames_change_nothing(rt: HostRuntime) -> Result<(), Fail
 #[test]
 fn vin_in_four_recordings(rt: HostRuntime) -> Result<(), Fail> {
     let alloc = rt.alloc();
-    let message = b"\x62\xF1\x90WBA3A3T50EF123456";
+    let message = b"\x62\xF1\x90WBA3A5C50EF123456";
     let classic: [(Dir, &[u8]); 4] = [
         (Unit, b"\x10\x14\x62\xF1\x90WBA"),
         (Tester, &[0x30, 0, 0]),
-        (Unit, b"\x213A3T50E"),
+        (Unit, b"\x213A5C50E"),
         (Unit, b"\x22F123456"),
     ];
-    let one_frame: [(Dir, &[u8]); 1] = [(Unit, b"\x00\x14\x62\xF1\x90WBA3A3T50EF123456\xAA\xAA")];
+    let one_frame: [(Dir, &[u8]); 1] = [(Unit, b"\x00\x14\x62\xF1\x90WBA3A5C50EF123456\xAA\xAA")];
     let short_frames: [(Dir, &[u8]); 4] = [
-        (Unit, b"\x10\x14\x62\xF1\x90WBA3A3T"),
+        (Unit, b"\x10\x14\x62\xF1\x90WBA3A5C"),
         (Tester, &[0x31, 0, 0]),
         (Tester, &[0x30, 0, 0]),
         (Unit, b"\x2150EF123456\x99"),
