@@ -21,7 +21,7 @@ use Rattle.isotp_receive.specs.Trace.{Entry, FirstFrame, Role, single, first, co
 use Rattle.isotp_receive.specs.Places.{bytes_in_first, FitsAs}
 use Rattle.isotp_receive.specs.OnTime.{n_cr, IsReference}
 use Rattle.isotp_receive.specs.Standing.{Standing, stands}
-use Rattle.isotp_receive.specs.Verdict.{Told, message, began, stored, flowed, dropped, verdict, told_message, messages, messages_after}
+use Rattle.isotp_receive.specs.Verdict.{VerdictValue, message, began, stored, flowed, dropped, verdict, told_message, messages, messages_after}
 use Rattle.isotp_receive.specs.Recording.{IsConsecutiveFrame, EachNumbered, IsRisingFrom, IsSegmented, Carries, unsegmented, segmented, Transfer, IsTransfer, IsIn, last_or, AreApart, EachPair, IsGiven, IsIdle, IsRecording}
 use Rattle.isotp_receive.specs.CleanTrace.{IsKept, EachClean, IsClean}
 use Rattle.isotp_receive.specs.Heard.{placed}
@@ -437,7 +437,7 @@ record Tail (limit : ℕ) (T : List Entry) (n : ℕ) (past es : List Entry) (pen
   lasts : AllByRecursion (λ g. n ≤ last_or 0 g.positions) gs
   lows : AllByRecursion (λ g. (p : ℕ) → IsIn p g.positions → IsIn p (pend g.dir) ⊎ (n ≤ p)) gs
 
-placed-told : (n : ℕ) (d : Dir) (t : Told) → map {B = Dir × List ℕ} (λ x. (d, x.1)) (placed n t) ≡ told_message d t
+placed-told : (n : ℕ) (d : Dir) (t : VerdictValue) → map {B = Dir × List ℕ} (λ x. (d, x.1)) (placed n t) ≡ told_message d t
 placed-told n d (message m) = refl
 placed-told n d began = refl
 placed-told n d stored = refl

@@ -10,7 +10,7 @@ use Rattle.isotp_receive.specs.Places.{bytes_in_first, bytes_before, consecutive
 use Rattle.isotp_receive.specs.OnTime.{IsOnTime}
 use Rattle.isotp_receive.specs.Standing.{reference, carried, carried_after, fits_length, keep, is_open, Standing, standing_of, stands}
 use Rattle.isotp_receive.specs.Delivers.{Completes, Delivers, in_one_frame, in_frames}
-use Rattle.isotp_receive.specs.Verdict.{Told, message, began, stored, flowed, dropped, verdict, is_on_time, expected, has_length, wants_more}
+use Rattle.isotp_receive.specs.Verdict.{VerdictValue, message, began, stored, flowed, dropped, verdict, is_on_time, expected, has_length, wants_more}
 use Rattle.isotp_receive.specs.Machine.{judged}
 use Rattle.isotp_receive.specs.Heard.{placed}
 use Rattle.isotp_receive.proofs.HeardByRole.{completed, completed_by, at_place, told-by-role}
@@ -31,7 +31,7 @@ use Rattle.isotp_receive.proofs.Places.{first_from, next_from, at_here}
 told-at : (limit : ℕ) (T : List Entry) (e : Entry) → placed 0 (verdict limit T e).told ≡ at_place 0 (completed (stands limit e.dir T) e.micros (role e.dir e))
 told-at limit T e = ap (λ b. cond b (placed 0 (verdict limit T e).told) []) (sym (self e.dir)) ∙ told-by-role limit e.dir 0 T e
 
-placed-message : (t : Told) (m : List ℕ) → placed 0 t ≡ (0, m) ∷ [] → t ≡ message m
+placed-message : (t : VerdictValue) (m : List ℕ) → placed 0 t ≡ (0, m) ∷ [] → t ≡ message m
 placed-message (message x) m h = ap message (ap (λ p. p.1) (cons-head h))
 placed-message began m h = absurd (cc)
 placed-message stored m h = absurd (cc)

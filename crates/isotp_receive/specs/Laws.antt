@@ -6,7 +6,7 @@ use Rattle.isotp_receive.specs.Places.{bytes_in_first, bytes_before, IsConsecuti
 use Rattle.isotp_receive.specs.Standing.{Standing, carried_after, fits_length, stands}
 use Rattle.isotp_receive.specs.OpenReception.{IsOpenAt, IsStandingAt}
 use Rattle.isotp_receive.specs.Delivers.{Delivers}
-use Rattle.isotp_receive.specs.Verdict.{Answer, message, verdict}
+use Rattle.isotp_receive.specs.Verdict.{EventValue, message, verdict}
 use Rattle.isotp_receive.specs.VerdictTable.{HasVerdict}
 
 -- what stands after T is what is known of the reception that is open there, whatever follows
@@ -45,4 +45,4 @@ FitsAgrees = (f r len n k sequence_number can_dl : ℕ) → IsConsecutiveCount f
 
 -- the table has one verdict for each frame, and that is the verdict
 abbrev pub VerdictIsTabled : Type 0
-VerdictIsTabled = (limit : ℕ) (T : List Entry) (e : Entry) (a : Answer) → HasVerdict limit T e a ↔ (verdict limit T e ≡ a)
+VerdictIsTabled = (limit : ℕ) (T : List Entry) (e : Entry) (a : EventValue) → HasVerdict limit T e a ↔ (verdict limit T e ≡ a)
