@@ -16,7 +16,7 @@ use Rattle.isotp_receive.specs.declared.event.Ended.{Ended}
 use Rattle.isotp_receive.specs.declared.event.Cause.TheVariants as cause
 use Rattle.isotp_receive.specs.declared.event.Reason.TheVariants as reason
 use Rattle.isotp_receive.specs.Trace.{single, Entry, consecutive, role, own_role}
-use Rattle.isotp_receive.specs.Places.{bytes_in_first, bytes_before, consecutive_count, FitsAs}
+use Rattle.isotp_receive.specs.Places.{bytes_in_first, bytes_before, consecutive_frames_in, FitsAs}
 use Rattle.isotp_receive.specs.OnTime.{IsOnTime}
 use Rattle.isotp_receive.specs.Standing.{Standing, reference, fits_length, standing_of, stands}
 use Rattle.isotp_receive.specs.OpenReception.{IsOpenAt}
@@ -113,8 +113,8 @@ is-judged limit T e i k sequence_number can_dl bytes goes o =
     let whole : before ++ o.frame ∷ (since ++ e ∷ []) ≡ T ++ e ∷ [] = regrouped T (e ∷ []) before since o.frame w.2 in
     let ends = ends-at T before since o.frame w.2 in
     let size = have limit d before o.frame s since [] o.kind w.4 e sequence_number can_dl bytes goes in
-    let below : consecutive_count d since < o.n = omega arith in
-    let join = fits-join (bytes_in_first o.frame.frame.bytes) s.rx_dl s.len o.n (consecutive_count d since) sequence_number can_dl o.count below in
+    let below : consecutive_frames_in d since < o.n = omega arith in
+    let join = fits-join (bytes_in_first o.frame.frame.bytes) s.rx_dl s.len o.n (consecutive_frames_in d since) sequence_number can_dl o.count below in
     let ref = refers d before o.frame s since (e ∷ []) o.kind in
     let on_to : IsOnTime (T ++ e ∷ []) d i (length T) e → is_on_time st e.micros ≡ true =
     λ on. on-time-to (before ++ o.frame ∷ (since ++ e ∷ [])) d (length before) (suc (length before) + length since) (reference d s.micros since) e ref
@@ -126,7 +126,7 @@ is-judged limit T e i k sequence_number can_dl bytes goes o =
     (subst (λ p. IsOnTime (before ++ o.frame ∷ (since ++ e ∷ [])) d (length before) p e) ends
     (on-time-from (before ++ o.frame ∷ (since ++ e ∷ [])) d (length before) (suc (length before) + length since) (reference d s.micros since) e ref t))) in
     let same_number : expected st ≡ (k + 1) % 16 = ap (λ j. (j + 1) % 16) (sym taken) in
-    let length_is : has_length st can_dl ≡ fits_length s.len s.rx_dl (bytes_before (bytes_in_first o.frame.frame.bytes) s.rx_dl (consecutive_count d since)) can_dl = ap (λ h. fits_length s.len s.rx_dl h can_dl) size in
+    let length_is : has_length st can_dl ≡ fits_length s.len s.rx_dl (bytes_before (bytes_in_first o.frame.frame.bytes) s.rx_dl (consecutive_frames_in d since)) can_dl = ap (λ h. fits_length s.len s.rx_dl h can_dl) size in
     record {
       late = λ off. is ∙ first-of (is_on_time st e.micros) (sequence_number == expected st) (has_length st can_dl) (wants_more st) _ _ _ _ _ (not-true (is_on_time st e.micros) (λ t. off (on_from t)));
       number = λ on apart. is ∙ second-of (is_on_time st e.micros) (sequence_number == expected st) (has_length st can_dl) (wants_more st) _ _ _ _ _ (on_to on)
@@ -146,7 +146,7 @@ is-judged limit T e i k sequence_number can_dl bytes goes o =
         | inr t ↦ (_, next_late sequence_number can_dl bs i k h o (λ on. false≢true (sym t ∙ on_to on)))
         | inl t ↦ elim (cases_Bool (sequence_number == expected st)) [
           | inr q ↦ (_, wrong_number sequence_number can_dl bs i k h o (on_from t) (λ same. false≢true (sym q ∙ eq-eqb sequence_number (expected st) (same ∙ sym same_number))))
-          | inl q ↦ (let number : sequence_number ≡ (consecutive_count d since + 1) % 16 = eqb-true sequence_number (expected st) q in
+          | inl q ↦ (let number : sequence_number ≡ (consecutive_frames_in d since + 1) % 16 = eqb-true sequence_number (expected st) q in
               elim (cases_Bool (has_length st can_dl)) [
                 | inr f ↦ (
                   _,

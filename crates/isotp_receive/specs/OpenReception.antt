@@ -2,7 +2,7 @@
 use Rattle.std.specs.Prelude.{◌≡◌, ◌<◌, ◌≤◌, ℕ, ◌+◌, List, length, ⊤}
 use Rattle.can_log.specs.declared.frame.Dir.{Dir}
 use Rattle.isotp_receive.specs.Trace.{Entry, At, FirstFrame, Role, single, first, consecutive, continue_or_wait, overflow, no_part, role}
-use Rattle.isotp_receive.specs.Places.{bytes_in_first, bytes_before, IsConsecutiveCount, FitsAs, consecutive_count, between, AtPlaces}
+use Rattle.isotp_receive.specs.Places.{bytes_in_first, bytes_before, IsConsecutiveCount, FitsAs, consecutive_frames_in, between, AtPlaces}
 use Rattle.isotp_receive.specs.OnTime.{IsReference, IsOnTime}
 use Rattle.isotp_receive.specs.Standing.{Standing}
 
@@ -32,9 +32,9 @@ pub record IsOpenAt (limit : ℕ) (T : List Entry) (d : Dir) (i k p : ℕ) : Typ
   pub count : IsConsecutiveCount (bytes_in_first frame.frame.bytes) start.rx_dl start.len n
   -- each frame strictly between leaves the reception open
   pub each : (c : ℕ) (e : Entry) → i < c → c < p → At T c e
-      → LeavesOpen start (bytes_in_first frame.frame.bytes) n (consecutive_count d (between T i c)) (IsOnTime T d i c e) (role d e)
+      → LeavesOpen start (bytes_in_first frame.frame.bytes) n (consecutive_frames_in d (between T i c)) (IsOnTime T d i c e) (role d e)
   -- k of them are consecutive frames of d, and more are to come
-  pub taken : k ≡ consecutive_count d (between T i p)
+  pub taken : k ≡ consecutive_frames_in d (between T i p)
   pub more : k < n
 
 -- at the end of T

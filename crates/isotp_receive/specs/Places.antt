@@ -39,9 +39,9 @@ consecutive_by overflow = 0
 consecutive_by no_part = 0
 
 -- how many of the frames are consecutive frames of d
-abbrev pub consecutive_count : Dir → List Entry → ℕ
-consecutive_count d [] = 0
-consecutive_count d (e ∷ es) = consecutive_by (role d e) + consecutive_count d es
+abbrev pub consecutive_frames_in : Dir → List Entry → ℕ
+consecutive_frames_in d [] = 0
+consecutive_frames_in d (e ∷ es) = consecutive_by (role d e) + consecutive_frames_in d es
 
 -- the frames strictly between two positions
 abbrev pub between : List Entry → ℕ → ℕ → List Entry
@@ -52,7 +52,7 @@ pub record IsConsecutive (T : List Entry) (d : Dir) (i k c : ℕ) (e : Entry) : 
   pub later : i < c
   pub stands : At T c e
   pub kind : consecutive_by (role d e) ≡ 1
-  pub number : k ≡ consecutive_count d (between T i c) + 1
+  pub number : k ≡ consecutive_frames_in d (between T i c) + 1
 
 -- Each byte of m stands at its place, where at i stands the first frame e of CAN_DL r: the first f of them behind its
 -- length, the others in the consecutive frames of d after it, r - 1 in each, behind the sequence number.
