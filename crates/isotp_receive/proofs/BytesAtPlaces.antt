@@ -140,7 +140,7 @@ module _ (limit : ℕ) (d : Dir) (before : List Entry) (e0 : Entry) (s : FirstFr
         later = omega arith;
         stands = at-of (before ++ e0 ∷ (since ++ rest)) (before ++ e0 ∷ h.b) (h.after ++ rest) (suc (length before) + length h.b) h.x (split ∙ regroup) (omega (arith, length-append before (e0 ∷ h.b)));
         kind = ap consecutive_by h.kind;
-        number = (let here : between (before ++ e0 ∷ (since ++ rest)) (length before) (suc (length before) + length h.b) ≡ h.b =
+        counted = (let here : between (before ++ e0 ∷ (since ++ rest)) (length before) (suc (length before) + length h.b) ≡ h.b =
             ap (λ l. between l (length before) (suc (length before) + length h.b)) split ∙ range-behind before e0 h.b (h.x ∷ (h.after ++ rest)) in
             let count = ap (consecutive_frames_in d) here in let n = h.number in omega arith);
       }
@@ -207,7 +207,7 @@ module _ (limit : ℕ) (d : Dir) (before : List Entry) (e0 : Entry) (s : FirstFr
                   later = omega arith;
                   stands = at-of (before ++ e0 ∷ (since ++ last ∷ rest)) (before ++ e0 ∷ since) rest (suc (length before) + length since) last regroup (omega (arith, length-append before (e0 ∷ since)));
                   kind = ap consecutive_by goes;
-                  number = (let count = ap (consecutive_frames_in d) (range-behind before e0 since (last ∷ rest)) in omega arith);
+                  counted = (let count = ap (consecutive_frames_in d) (range-behind before e0 since (last ∷ rest)) in omega arith);
                 },
                 get_or-take s.len ((s.bytes ++ carried d since) ++ bytes) _ 0 (omega arith) ∙ ap (λ j. get_or ((s.bytes ++ carried d since) ++ bytes) j 0) place
                     ∙ get_or-append-add (s.bytes ++ carried d since) bytes b 0 ∙ ap (λ l. get_or l b 0) held_by.0 ∙ get_or_after_one last.frame.bytes b 0,
@@ -227,7 +227,7 @@ number-rises T d i k c k' c' x x' h g less =
     let later = h.later in
     let there : slice_get (drop (i + 1) T) (c - (i + 1)) ≡ Some x = sym (get-drop (i + 1) T (c - (i + 1)) c (omega arith)) ∙ h.stands in
     let rises = count-rises d (drop (i + 1) T) (c - (i + 1)) (c' - (i + 1)) x (omega arith) there h.kind in
-    let a = h.number in let b = g.number in omega arith
+    let a = h.counted in let b = g.counted in omega arith
 
 same-number : (T : List Entry) (d : Dir) (i k c c' : ℕ) (x x' : Entry) → IsConsecutive T d i k c x → IsConsecutive T d i k c' x' → x ≡ x'
 same-number T d i k c c' x x' h g = elim (cases_Bool (nat_lt c c')) [

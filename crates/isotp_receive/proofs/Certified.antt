@@ -138,7 +138,7 @@ module _ (limit : ℕ) (T : List Entry) (d : Dir) (n : ℕ) (e : Entry) (at : At
             (let le : length st.bytes ≤ length (st.bytes ++ bytes) = omega arith in sym (take-take (length st.bytes) (length (st.bytes ++ bytes)) m le) ∙ ap (take (length st.bytes)) grown ∙ take_at st.bytes bytes (length st.bytes) refl) in
             numbered-snoc (IsConsecutiveFrame T d m i u.start f nn) 1 n cs (u.parts m nn announced (omega arith) old)
             (new-part st i cs u sequence_number can_dl bytes m nn kind w.0
-            (record { from_one = omega arith; to_last = omega arith; number = w.1 ∙ ap (λ j. j % 16) (let e : st.taken + 1 ≡ 1 + length cs = omega arith in e); full = λ _. omega arith; last_low = λ same. absurd (omega arith); last_high = λ same. absurd (omega arith) })
+            (record { from_one = omega arith; to_last = omega arith; in_sequence = w.1 ∙ ap (λ j. j % 16) (let e : st.taken + 1 ≡ 1 + length cs = omega arith in e); full = λ _. omega arith; last_low = λ same. absurd (omega arith); last_high = λ same. absurd (omega arith) })
             (λ b inside lt. let sum : length st.bytes + b < length (st.bytes ++ bytes) = omega arith in
             sym (get_or-take (length (st.bytes ++ bytes)) m (length st.bytes + b) 0 sum) ∙ ap (λ l. get_or l (length st.bytes + b) 0) grown ∙ get_or-append-add st.bytes bytes b 0));
         rising = rising-append 0 (i ∷ cs) (n ∷ []) u.rising (omega arith, tt) (λ p q a b. elim b [ inl same_q ↦ (let lt = u.below p a in omega arith) | inr none ↦ absurd none ]) (λ q b. omega arith);
@@ -198,7 +198,7 @@ module _ (limit : ℕ) (T : List Entry) (d : Dir) (n : ℕ) (e : Entry) (at : At
         };
         consecutive_frames = numbered-snoc (IsConsecutiveFrame T d m i u.start f nn) 1 n cs (u.parts m nn (omega arith) (omega arith) old)
             (new-part st i cs u sequence_number can_dl bytes m nn kind w.0
-            (record { from_one = omega arith; to_last = omega arith; number = w.1 ∙ ap (λ j. j % 16) (let e : st.taken + 1 ≡ 1 + length cs = omega arith in e); full = λ less. absurd (omega arith); last_low = λ same. omega arith; last_high = λ same. omega arith })
+            (record { from_one = omega arith; to_last = omega arith; in_sequence = w.1 ∙ ap (λ j. j % 16) (let e : st.taken + 1 ≡ 1 + length cs = omega arith in e); full = λ less. absurd (omega arith); last_low = λ same. omega arith; last_high = λ same. omega arith })
             (λ b inside lt. let sum : length st.bytes + b < st.len = omega arith in
             get_or-take st.len (st.bytes ++ bytes) (length st.bytes + b) 0 sum ∙ get_or-append-add st.bytes bytes b 0));
         holds = λ x inside.

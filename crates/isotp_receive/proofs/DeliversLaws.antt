@@ -92,7 +92,7 @@ module _ (limit : ℕ) (d : Dir) (before : List Entry) (e0 : Entry) (s : FirstFr
         bytes = bytes;
         stands = at-of (before ++ e0 ∷ (since ++ last ∷ rest)) (before ++ e0 ∷ since) rest (suc (length before) + length since) last regroup (omega (arith, length-append before (e0 ∷ since)));
         kind = goes;
-        fits = record { from_one = omega arith; to_last = omega arith; number = w.1; full = λ less. absurd (omega arith); last_low = λ same. omega arith; last_high = λ same. high };
+        fits = record { from_one = omega arith; to_last = omega arith; in_sequence = w.1; full = λ less. absurd (omega arith); last_low = λ same. omega arith; last_high = λ same. high };
         on_time = on-time-from _ d (length before) _ (reference d s.micros since) last (refers d before e0 s since (last ∷ rest) begins) (le-leb _ _ w.0);
         size = omega (arith, length-take s.len ((s.bytes ++ carried d since) ++ bytes), length-append (s.bytes ++ carried d since) bytes);
         places = whole-at limit d before e0 s since rest begins opens last sequence_number can_dl bytes goes enough short;

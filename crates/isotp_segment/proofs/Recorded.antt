@@ -109,7 +109,7 @@ module _ (identifier : Dir → Id) (line micros limit : ℕ) (bits : limit < 2 ^
             bytes = drop 1 (filled (consecutive_control k) bytes);
             stands = at-consecutive k one below;
             kind = consecutive-role (n + (1 + k)) k bytes;
-            fits = record { from_one = one; to_last = most; number = refl; full = λ _. refl; last_low = λ last. omega arith; last_high = λ _. omega arith };
+            fits = record { from_one = one; to_last = most; in_sequence = refl; full = λ _. refl; last_low = λ last. omega arith; last_high = λ _. omega arith };
             on_time = (n + k, w.0, record { from = omega arith; below = omega arith; restarts = inr (w.0, w.1, w.2); greatest = λ p x above under there _. absurd (omega arith) }, w.1, (let t = w.3 in omega arith));
             holds = λ c lt inside.
                 sym (get_or-drop (place_of (length m) k) m c 0)
