@@ -38,10 +38,12 @@ AMessageIsDelivered = (limit : ℕ) (T : List Entry) (e : Entry) (m : List ℕ) 
 abbrev pub PlacesAgreeOnBytes : Type 0
 PlacesAgreeOnBytes = (d : Dir) (e : Entry) (s : FirstFrame) (k : ℕ) → role d e ≡ first s → carried_after s k ≡ bytes_before (bytes_in_first e.frame.bytes) s.rx_dl k
 
--- a consecutive frame fits as number k where it has the sequence number and a length that the reception takes
+-- a consecutive frame fits as the next after `number` others where it has the sequence number and a length that the
+-- reception takes
 abbrev pub PlacesAgreeOnFit : Type 0
-PlacesAgreeOnFit = (f r len n k sequence_number can_dl : ℕ) → IsConsecutiveCount f r len n → k < n →
-    FitsAs f r len n (k + 1) sequence_number can_dl ↔ (sequence_number ≡ (k + 1) % 16) × IsTrue (fits_length len r (bytes_before f r k) can_dl)
+PlacesAgreeOnFit = (in_first rx_dl len count number sequence_number can_dl : ℕ) → IsConsecutiveCount in_first rx_dl len count → number < count →
+    FitsAs in_first rx_dl len count (number + 1) sequence_number can_dl
+    ↔ (sequence_number ≡ (number + 1) % 16) × IsTrue (fits_length len rx_dl (bytes_before in_first rx_dl number) can_dl)
 
 -- the table has one verdict for each frame, and that is the verdict
 abbrev pub TheVerdictIsTabled : Type 0
