@@ -7,7 +7,7 @@ use Rattle.can_log.specs.declared.frame.Kind.TheVariants as kind
 use Rattle.isotp_pdu.specs.declared.PduFault.{PduFault}
 use Rattle.isotp_pdu.specs.declared.PduFault.TheVariants as fault
 use Rattle.isotp_pdu.specs.Layout.{Layout, single, first, consecutive, flow_control, Spells, HasLayout, is_can_dl, status_number}
-use Rattle.isotp_pdu.specs.Fault.{number_of, Begins, Applies, IsFault}
+use Rattle.isotp_pdu.specs.Fault.{precedence, Begins, Applies, IsFault}
 use Rattle.isotp_pdu.proofs.FirstByte.{kind_number, status_few, begins, begins_once}
 
 fault_numbered : ℕ → PduFault
@@ -21,7 +21,7 @@ fault_numbered n =
     else if n == 7 then fault.FlowShort
     else fault.FlowStatus
 
-numbered : (e : PduFault) → fault_numbered (number_of e) ≡ e
+numbered : (e : PduFault) → fault_numbered (precedence e) ≡ e
 unfolding fault_numbered
 numbered fault.Remote = refl
 numbered fault.FrameLength = refl
@@ -32,19 +32,19 @@ numbered fault.FirstLength = refl
 numbered fault.FlowShort = refl
 numbered fault.FlowStatus = refl
 
-pub same_fault : (a b : PduFault) → number_of a ≡ number_of b → a ≡ b
+pub same_fault : (a b : PduFault) → precedence a ≡ precedence b → a ≡ b
 same_fault a b same = (let left = numbered a in let right = numbered b in cc)
 
 pub at_most_one_fault : (frame : FrameValue) (a b : PduFault) → IsFault a frame → IsFault b frame → a ≡ b
 at_most_one_fault frame a b left right = (let up = left.lowest b right.applies in let down = right.lowest a left.applies in same_fault a b (omega arith))
 
 -- each fault that applies is above one that doesn't, and not below it
-passes : (frame : FrameValue) (e g : PduFault) → number_of e ≤ number_of g → ¬ Applies e frame → Applies g frame → number_of e + 1 ≤ number_of g
+passes : (frame : FrameValue) (e g : PduFault) → precedence e ≤ precedence g → ¬ Applies e frame → Applies g frame → precedence e + 1 ≤ precedence g
 passes frame e g most absent here =
-    let other : number_of e ≢ number_of g = λ same. absent (subst (λ f. Applies f frame) (sym (same_fault e g same)) here) in
+    let other : precedence e ≢ precedence g = λ same. absent (subst (λ f. Applies f frame) (sym (same_fault e g same)) here) in
     omega arith
 
-pub at_least_one : (g : PduFault) → 1 ≤ number_of g
+pub at_least_one : (g : PduFault) → 1 ≤ precedence g
 at_least_one fault.Remote = omega arith
 at_least_one fault.FrameLength = omega arith
 at_least_one fault.Empty = omega arith
@@ -54,10 +54,10 @@ at_least_one fault.FirstLength = omega arith
 at_least_one fault.FlowShort = omega arith
 at_least_one fault.FlowStatus = omega arith
 
-pub from_length : (frame : FrameValue) → frame.kind ≢ kind.Remote → (g : PduFault) → Applies g frame → 2 ≤ number_of g
+pub from_length : (frame : FrameValue) → frame.kind ≢ kind.Remote → (g : PduFault) → Applies g frame → 2 ≤ precedence g
 from_length frame data_frame g here = passes frame fault.Remote g (at_least_one g) data_frame here
 
-pub from_empty : (frame : FrameValue) → frame.kind ≢ kind.Remote → IsTrue (is_can_dl (length frame.bytes)) → (g : PduFault) → Applies g frame → 3 ≤ number_of g
+pub from_empty : (frame : FrameValue) → frame.kind ≢ kind.Remote → IsTrue (is_can_dl (length frame.bytes)) → (g : PduFault) → Applies g frame → 3 ≤ precedence g
 from_empty frame data_frame fits g here =
     passes frame fault.FrameLength g (from_length frame data_frame g here) (λ applied. both_ways (is_can_dl (length frame.bytes)) applied fits) here
 
@@ -70,26 +70,26 @@ pub record IsBegun (frame : FrameValue) (number low : ℕ) : Type 0 where
 not_empty : (frame : FrameValue) (k l : ℕ) → Begins k l frame.bytes → ¬ (frame.bytes ≡ [])
 not_empty frame k l b empty = (let parts = b.parts in cc)
 
-pub from_kind : (frame : FrameValue) (k l : ℕ) → IsBegun frame k l → (g : PduFault) → Applies g frame → 4 ≤ number_of g
+pub from_kind : (frame : FrameValue) (k l : ℕ) → IsBegun frame k l → (g : PduFault) → Applies g frame → 4 ≤ precedence g
 from_kind frame k l h g here =
     passes frame fault.Empty g (from_empty frame h.data_frame h.fits g here) (not_empty frame k l h.begun) here
 
-pub from_single : (frame : FrameValue) (k l : ℕ) → k ≤ 3 → IsBegun frame k l → (g : PduFault) → Applies g frame → 5 ≤ number_of g
+pub from_single : (frame : FrameValue) (k l : ℕ) → k ≤ 3 → IsBegun frame k l → (g : PduFault) → Applies g frame → 5 ≤ precedence g
 from_single frame k l few h g here =
     passes frame fault.UnknownKind g (from_kind frame k l h g here)
     (λ applied. let same = begins_once frame.bytes h.begun applied.3 in absurd (omega (arith, applied.2))) here
 
-pub from_first : (frame : FrameValue) (k l : ℕ) → 1 ≤ k → k ≤ 3 → IsBegun frame k l → (g : PduFault) → Applies g frame → 6 ≤ number_of g
+pub from_first : (frame : FrameValue) (k l : ℕ) → 1 ≤ k → k ≤ 3 → IsBegun frame k l → (g : PduFault) → Applies g frame → 6 ≤ precedence g
 from_first frame k l some few h g here =
     passes frame fault.SingleLength g (from_single frame k l few h g here)
     (λ applied. let same = begins_once frame.bytes h.begun applied.1 in absurd (omega arith)) here
 
-pub from_flow : (frame : FrameValue) (k l : ℕ) → 2 ≤ k → k ≤ 3 → IsBegun frame k l → (g : PduFault) → Applies g frame → 7 ≤ number_of g
+pub from_flow : (frame : FrameValue) (k l : ℕ) → 2 ≤ k → k ≤ 3 → IsBegun frame k l → (g : PduFault) → Applies g frame → 7 ≤ precedence g
 from_flow frame k l some few h g here =
     passes frame fault.FirstLength g (from_first frame k l (omega arith) few h g here)
     (λ applied. let same = begins_once frame.bytes h.begun applied.1 in absurd (omega arith)) here
 
-pub from_status : (frame : FrameValue) (l : ℕ) → 3 ≤ length frame.bytes → IsBegun frame 3 l → (g : PduFault) → Applies g frame → 8 ≤ number_of g
+pub from_status : (frame : FrameValue) (l : ℕ) → 3 ≤ length frame.bytes → IsBegun frame 3 l → (g : PduFault) → Applies g frame → 8 ≤ precedence g
 from_status frame l long h g here =
     passes frame fault.FlowShort g (from_flow frame 3 l (omega arith) (omega arith) h g here) (λ applied. absurd (omega (arith, applied.2))) here
 

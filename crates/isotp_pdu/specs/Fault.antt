@@ -6,16 +6,16 @@ use Rattle.isotp_pdu.specs.declared.PduFault.{PduFault}
 use Rattle.isotp_pdu.specs.declared.PduFault.TheVariants as fault
 use Rattle.isotp_pdu.specs.Layout.{Spells, is_can_dl, first_byte, least_first, single, first}
 
--- the lower is answered
-abbrev pub number_of : PduFault → ℕ
-number_of fault.Remote = 1
-number_of fault.FrameLength = 2
-number_of fault.Empty = 3
-number_of fault.UnknownKind = 4
-number_of fault.SingleLength = 5
-number_of fault.FirstLength = 6
-number_of fault.FlowShort = 7
-number_of fault.FlowStatus = 8
+-- the place of a fault in that order: the lower is answered
+abbrev pub precedence : PduFault → ℕ
+precedence fault.Remote = 1
+precedence fault.FrameLength = 2
+precedence fault.Empty = 3
+precedence fault.UnknownKind = 4
+precedence fault.SingleLength = 5
+precedence fault.FirstLength = 6
+precedence fault.FlowShort = 7
+precedence fault.FlowStatus = 8
 
 -- the first byte has this kind in its high bits, and this number in its low ones
 pub record Begins (kind low : ℕ) (bytes : List ℕ) : Type 0 where
@@ -58,4 +58,4 @@ AnnouncesWrongly bytes =
 -- the fault that the frame is answered with
 pub record IsFault (e : PduFault) (frame : FrameValue) : Type 0 where
   pub applies : Applies e frame
-  pub lowest : (other : PduFault) → Applies other frame → number_of e ≤ number_of other
+  pub lowest : (other : PduFault) → Applies other frame → precedence e ≤ precedence other

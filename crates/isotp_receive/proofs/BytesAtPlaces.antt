@@ -8,7 +8,7 @@ use Rattle.std.proofs.lemmas.Grind.{get_or_after_one}
 use Rattle.std.proofs.lemmas.Bool.{and_parts, ltb-true, ltb-false, cases_Bool}
 use Rattle.can_log.specs.declared.frame.Dir.{Dir}
 use Rattle.isotp_receive.specs.Trace.{Entry, At, FirstFrame, Role, single, first, consecutive, continue_or_wait, overflow, no_part, role}
-use Rattle.isotp_receive.specs.Places.{bytes_in_first, consecutive_by, consecutive_count, between, IsConsecutive, AtPlaces}
+use Rattle.isotp_receive.specs.Places.{bytes_in_first, consecutive_by, consecutive_frames_in, between, IsConsecutive, AtPlaces}
 use Rattle.isotp_receive.specs.Standing.{carried_by, carried, carried_after, keeps_by, keep, is_open}
 use Rattle.isotp_receive.proofs.Products.{product-below}
 use Rattle.isotp_receive.proofs.ListPositions.{range-behind, get-drop}
@@ -28,7 +28,7 @@ pub record Carrier (d : Dir) (es : List Entry) (q : ℕ) : Type 0 where
   pub bytes : List ℕ
   pub splits : es ≡ b ++ x ∷ after
   pub kind : role d x ≡ consecutive sequence_number can_dl bytes
-  pub number : consecutive_count d b ≡ q
+  pub number : consecutive_frames_in d b ≡ q
 
 -- each consecutive frame carries w bytes
 AllFull : Dir → ℕ → List Entry → Type 0
@@ -90,11 +90,11 @@ carries-here d x es w b sequence_number can_dl bytes kind inside = record {
       ap (λ r. get_or (carried_by r ++ carried d es) (0 * w + b) 0) kind ∙ ap (λ j. get_or (bytes ++ carried d es) j 0) place ∙ get_or_append_left bytes (carried d es) 0 b inside);
 }
 
-carries : (d : Dir) (w : ℕ) (es : List Entry) (q b : ℕ) → AllFull d w es → b < w → q < consecutive_count d es → CarriesByte d es w q b
+carries : (d : Dir) (w : ℕ) (es : List Entry) (q b : ℕ) → AllFull d w es → b < w → q < consecutive_frames_in d es → CarriesByte d es w q b
 carries d w [] q b full inside below = absurd (omega arith)
 carries d w (x ∷ es) q b full inside below = by_role (role d x) q refl below (carries d w es) where
-  by_role : (r : Role) (q : ℕ) → role d x ≡ r → q < consecutive_by (role d x) + consecutive_count d es
-      → ((q b : ℕ) → AllFull d w es → b < w → q < consecutive_count d es → CarriesByte d es w q b) → CarriesByte d (x ∷ es) w q b
+  by_role : (r : Role) (q : ℕ) → role d x ≡ r → q < consecutive_by (role d x) + consecutive_frames_in d es
+      → ((q b : ℕ) → AllFull d w es → b < w → q < consecutive_frames_in d es → CarriesByte d es w q b) → CarriesByte d (x ∷ es) w q b
   by_role (consecutive sequence_number can_dl bytes) zero kind less rest =
       carries-here d x es w b sequence_number can_dl bytes kind (let size = full-here d w x es sequence_number can_dl bytes full kind in omega arith)
   by_role (consecutive sequence_number can_dl bytes) (suc q) kind less rest =
@@ -107,16 +107,16 @@ carries d w (x ∷ es) q b full inside below = by_role (role d x) q refl below (
   by_role no_part q kind less rest = carries-later d x es w q b (ap carried_by kind) (ap consecutive_by kind) (rest q b (full-later d w x es full) inside (let one : consecutive_by (role d x) ≡ 0 = ap consecutive_by kind in omega arith))
 
 -- the consecutive frames of a reception that is open are full
-all-full : (d : Dir) (s : FirstFrame) (es : List Entry) → keep d s [] es ≡ true → carried_after s (consecutive_count d es) < s.len → AllFull d (s.rx_dl - 1) es
+all-full : (d : Dir) (s : FirstFrame) (es : List Entry) → keep d s [] es ≡ true → carried_after s (consecutive_frames_in d es) < s.len → AllFull d (s.rx_dl - 1) es
 unfolding AllFull
 all-full d s es kept room b after x sequence_number can_dl bytes splits kind =
     let here : keeps_by d s b x.micros (consecutive sequence_number can_dl bytes) ≡ true = rw kind at (kept-at d s es kept b after x splits) in
-    let fits = (and_parts (sequence_number == (consecutive_count d b + 1) % 16) _ (and_parts (nat_le x.micros _) _ here).1).1 in
-    let count = ap (consecutive_count d) splits ∙ taken-append d b (x ∷ after) in
+    let fits = (and_parts (sequence_number == (consecutive_frames_in d b + 1) % 16) _ (and_parts (nat_le x.micros _) _ here).1).1 in
+    let count = ap (consecutive_frames_in d) splits ∙ taken-append d b (x ∷ after) in
     let one : consecutive_by (role d x) ≡ 1 = ap consecutive_by kind in
-    let sum : consecutive_count d es ≡ consecutive_count d b + 1 + consecutive_count d after = omega arith in
+    let sum : consecutive_frames_in d es ≡ consecutive_frames_in d b + 1 + consecutive_frames_in d after = omega arith in
     let product = ap (λ k. k * (s.rx_dl - 1)) sum in
-    let full : can_dl ≡ s.rx_dl = fits_full s.len s.rx_dl (carried_after s (consecutive_count d b)) can_dl fits (omega arith) in
+    let full : can_dl ≡ s.rx_dl = fits_full s.len s.rx_dl (carried_after s (consecutive_frames_in d b)) can_dl fits (omega arith) in
     let own : length bytes + 1 ≡ can_dl = rw kind at (role-length d x) in
     omega arith
 
@@ -126,10 +126,10 @@ module _ (limit : ℕ) (d : Dir) (before : List Entry) (e0 : Entry) (s : FirstFr
   f = bytes_in_first e0.frame.bytes
 
   kept : keep d s [] since ≡ true
-  kept = (and_parts (nat_lt (carried_after s (consecutive_count d since)) s.len) _ (and_parts (nat_le s.len limit) _ opens).1).1
+  kept = (and_parts (nat_lt (carried_after s (consecutive_frames_in d since)) s.len) _ (and_parts (nat_le s.len limit) _ opens).1).1
 
-  room : carried_after s (consecutive_count d since) < s.len
-  room = ltb-true _ _ (and_parts (nat_lt (carried_after s (consecutive_count d since)) s.len) _ (and_parts (nat_le s.len limit) _ opens).1).0
+  room : carried_after s (consecutive_frames_in d since) < s.len
+  room = ltb-true _ _ (and_parts (nat_lt (carried_after s (consecutive_frames_in d since)) s.len) _ (and_parts (nat_le s.len limit) _ opens).1).0
 
   -- a consecutive frame by its carrier
   number-at : (q : ℕ) (h : Carrier d since q) → IsConsecutive (before ++ e0 ∷ (since ++ rest)) d (length before) (q + 1) (suc (length before) + length h.b) h.x
@@ -140,9 +140,9 @@ module _ (limit : ℕ) (d : Dir) (before : List Entry) (e0 : Entry) (s : FirstFr
         later = omega arith;
         stands = at-of (before ++ e0 ∷ (since ++ rest)) (before ++ e0 ∷ h.b) (h.after ++ rest) (suc (length before) + length h.b) h.x (split ∙ regroup) (omega (arith, length-append before (e0 ∷ h.b)));
         kind = ap consecutive_by h.kind;
-        number = (let here : between (before ++ e0 ∷ (since ++ rest)) (length before) (suc (length before) + length h.b) ≡ h.b =
+        counted = (let here : between (before ++ e0 ∷ (since ++ rest)) (length before) (suc (length before) + length h.b) ≡ h.b =
             ap (λ l. between l (length before) (suc (length before) + length h.b)) split ∙ range-behind before e0 h.b (h.x ∷ (h.after ++ rest)) in
-            let count = ap (consecutive_count d) here in let n = h.number in omega arith);
+            let count = ap (consecutive_frames_in d) here in let n = h.number in omega arith);
       }
 
   pub come-at : AtPlaces (before ++ e0 ∷ (since ++ rest)) d (length before) e0 s.rx_dl (s.bytes ++ carried d since)
@@ -155,7 +155,7 @@ module _ (limit : ℕ) (d : Dir) (before : List Entry) (e0 : Entry) (s : FirstFr
         in_consecutive = λ q b wide inside.
             let full = full_of d s since kept room in
             let size = length-append s.bytes (carried d since) in
-            let below = product-below q (consecutive_count d since) b (s.rx_dl - 1) (omega arith) in
+            let below = product-below q (consecutive_frames_in d since) b (s.rx_dl - 1) (omega arith) in
             let h = carries d (s.rx_dl - 1) since q b (all-full d s since kept room) wide below in
             let place : bytes_in_first e0.frame.bytes + (q * (s.rx_dl - 1) + b) ≡ length s.bytes + (q * (s.rx_dl - 1) + b) = omega arith in
             let held_by = next_from d h.carrier.x h.carrier.sequence_number h.carrier.can_dl h.carrier.bytes h.carrier.kind in (
@@ -171,7 +171,7 @@ module _ (limit : ℕ) (d : Dir) (before : List Entry) (e0 : Entry) (s : FirstFr
 module _ (limit : ℕ) (d : Dir) (before : List Entry) (e0 : Entry) (s : FirstFrame) (since rest : List Entry) (begins : role d e0 ≡ first s) (opens : is_open limit d s since ≡ true)
     (last : Entry) (sequence_number can_dl : ℕ) (bytes : List ℕ) (goes : role d last ≡ consecutive sequence_number can_dl bytes)
     (enough : s.len ≤ length (s.bytes ++ carried d since) + length bytes) (short : s.len ≤ length (s.bytes ++ carried d since) + (s.rx_dl - 1)) where
-  have : length (s.bytes ++ carried d since) ≡ bytes_in_first e0.frame.bytes + consecutive_count d since * (s.rx_dl - 1)
+  have : length (s.bytes ++ carried d since) ≡ bytes_in_first e0.frame.bytes + consecutive_frames_in d since * (s.rx_dl - 1)
   have = (let from = first_from d e0 s begins in let held = from.1 in let full = full_of d s since (kept limit d before e0 s since rest begins opens) (room limit d before e0 s since rest begins opens) in omega (arith, length-append s.bytes (carried d since)))
 
   pub whole-at : AtPlaces (before ++ e0 ∷ (since ++ last ∷ rest)) d (length before) e0 s.rx_dl (take s.len ((s.bytes ++ carried d since) ++ bytes))
@@ -179,7 +179,7 @@ module _ (limit : ℕ) (d : Dir) (before : List Entry) (e0 : Entry) (s : FirstFr
       let m = take s.len ((s.bytes ++ carried d since) ++ bytes) in
       let come = come-at limit d before e0 s since (last ∷ rest) begins opens in
       let w = s.rx_dl - 1 in
-      let k = consecutive_count d since in
+      let k = consecutive_frames_in d since in
       let cut = length-take s.len ((s.bytes ++ carried d since) ++ bytes) in
       let size = have in
       record {
@@ -207,7 +207,7 @@ module _ (limit : ℕ) (d : Dir) (before : List Entry) (e0 : Entry) (s : FirstFr
                   later = omega arith;
                   stands = at-of (before ++ e0 ∷ (since ++ last ∷ rest)) (before ++ e0 ∷ since) rest (suc (length before) + length since) last regroup (omega (arith, length-append before (e0 ∷ since)));
                   kind = ap consecutive_by goes;
-                  number = (let count = ap (consecutive_count d) (range-behind before e0 since (last ∷ rest)) in omega arith);
+                  counted = (let count = ap (consecutive_frames_in d) (range-behind before e0 since (last ∷ rest)) in omega arith);
                 },
                 get_or-take s.len ((s.bytes ++ carried d since) ++ bytes) _ 0 (omega arith) ∙ ap (λ j. get_or ((s.bytes ++ carried d since) ++ bytes) j 0) place
                     ∙ get_or-append-add (s.bytes ++ carried d since) bytes b 0 ∙ ap (λ l. get_or l b 0) held_by.0 ∙ get_or_after_one last.frame.bytes b 0,
@@ -216,7 +216,7 @@ module _ (limit : ℕ) (d : Dir) (before : List Entry) (e0 : Entry) (s : FirstFr
       }
 
 -- the number of a consecutive frame fixes the frame
-count-rises : (d : Dir) (l : List Entry) (j k : ℕ) (x : Entry) → j < k → slice_get l j ≡ Some x → consecutive_by (role d x) ≡ 1 → consecutive_count d (take j l) + 1 ≤ consecutive_count d (take k l)
+count-rises : (d : Dir) (l : List Entry) (j k : ℕ) (x : Entry) → j < k → slice_get l j ≡ Some x → consecutive_by (role d x) ≡ 1 → consecutive_frames_in d (take j l) + 1 ≤ consecutive_frames_in d (take k l)
 count-rises d [] j k x less at one = absurd (cc)
 count-rises d (y ∷ l) j zero x less at one = absurd (omega arith)
 count-rises d (y ∷ l) zero (suc k) x less at one = (let same : y ≡ x = cc in let by : consecutive_by (role d y) ≡ 1 = ap (λ z. consecutive_by (role d z)) same ∙ one in omega arith)
@@ -227,7 +227,7 @@ number-rises T d i k c k' c' x x' h g less =
     let later = h.later in
     let there : slice_get (drop (i + 1) T) (c - (i + 1)) ≡ Some x = sym (get-drop (i + 1) T (c - (i + 1)) c (omega arith)) ∙ h.stands in
     let rises = count-rises d (drop (i + 1) T) (c - (i + 1)) (c' - (i + 1)) x (omega arith) there h.kind in
-    let a = h.number in let b = g.number in omega arith
+    let a = h.counted in let b = g.counted in omega arith
 
 same-number : (T : List Entry) (d : Dir) (i k c c' : ℕ) (x x' : Entry) → IsConsecutive T d i k c x → IsConsecutive T d i k c' x' → x ≡ x'
 same-number T d i k c c' x x' h g = elim (cases_Bool (nat_lt c c')) [

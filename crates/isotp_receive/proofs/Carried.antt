@@ -171,7 +171,7 @@ module _ (limit : ℕ) (T : List Entry) (d : Dir) (n : ℕ) (e : Entry) (at : At
         have = ap length s.bytes ∙ omega (arith, length-take (s.f + s.k * (s.start.rx_dl - 1)) m);
         below = below;
         on_time = le-leb _ _ (rw s.time late_e);
-        number = eq-eqb _ _ (rw s.taken P.fits.number);
+        number = eq-eqb _ _ (rw s.taken P.fits.in_sequence);
         carried = from.1;
         fits = P.fits;
         grown = chunk m st.bytes P.bytes (s.f + s.k * (s.start.rx_dl - 1)) s.bytes (omega arith) (λ b lt in_m.

@@ -21,7 +21,7 @@ use Rattle.isotp_receive.specs.Trace.{Entry, FirstFrame, Role, single, first, co
 use Rattle.isotp_receive.specs.Places.{bytes_in_first, FitsAs}
 use Rattle.isotp_receive.specs.OnTime.{n_cr, IsReference}
 use Rattle.isotp_receive.specs.Standing.{Standing, stands}
-use Rattle.isotp_receive.specs.Verdict.{Told, message, began, stored, flowed, dropped, verdict, told_message, messages, messages_after}
+use Rattle.isotp_receive.specs.Verdict.{VerdictValue, message, began, stored, flowed, dropped, verdict, told_message, messages, messages_after}
 use Rattle.isotp_receive.specs.Recording.{IsConsecutiveFrame, EachNumbered, IsRisingFrom, IsSegmented, Carries, unsegmented, segmented, Transfer, IsTransfer, IsIn, last_or, AreApart, EachPair, IsGiven, IsIdle, IsRecording}
 use Rattle.isotp_receive.specs.CleanTrace.{IsKept, EachClean, IsClean}
 use Rattle.isotp_receive.specs.Heard.{placed}
@@ -138,7 +138,7 @@ module _ (limit : ℕ) (T : List Entry) (d : Dir) (n : ℕ) (e : Entry) (at : At
             (let le : length st.bytes ≤ length (st.bytes ++ bytes) = omega arith in sym (take-take (length st.bytes) (length (st.bytes ++ bytes)) m le) ∙ ap (take (length st.bytes)) grown ∙ take_at st.bytes bytes (length st.bytes) refl) in
             numbered-snoc (IsConsecutiveFrame T d m i u.start f nn) 1 n cs (u.parts m nn announced (omega arith) old)
             (new-part st i cs u sequence_number can_dl bytes m nn kind w.0
-            (record { from_one = omega arith; to_last = omega arith; number = w.1 ∙ ap (λ j. j % 16) (let e : st.taken + 1 ≡ 1 + length cs = omega arith in e); full = λ _. omega arith; last_low = λ same. absurd (omega arith); last_high = λ same. absurd (omega arith) })
+            (record { from_one = omega arith; to_last = omega arith; in_sequence = w.1 ∙ ap (λ j. j % 16) (let e : st.taken + 1 ≡ 1 + length cs = omega arith in e); full = λ _. omega arith; last_low = λ same. absurd (omega arith); last_high = λ same. absurd (omega arith) })
             (λ b inside lt. let sum : length st.bytes + b < length (st.bytes ++ bytes) = omega arith in
             sym (get_or-take (length (st.bytes ++ bytes)) m (length st.bytes + b) 0 sum) ∙ ap (λ l. get_or l (length st.bytes + b) 0) grown ∙ get_or-append-add st.bytes bytes b 0));
         rising = rising-append 0 (i ∷ cs) (n ∷ []) u.rising (omega arith, tt) (λ p q a b. elim b [ inl same_q ↦ (let lt = u.below p a in omega arith) | inr none ↦ absurd none ]) (λ q b. omega arith);
@@ -198,7 +198,7 @@ module _ (limit : ℕ) (T : List Entry) (d : Dir) (n : ℕ) (e : Entry) (at : At
         };
         consecutive_frames = numbered-snoc (IsConsecutiveFrame T d m i u.start f nn) 1 n cs (u.parts m nn (omega arith) (omega arith) old)
             (new-part st i cs u sequence_number can_dl bytes m nn kind w.0
-            (record { from_one = omega arith; to_last = omega arith; number = w.1 ∙ ap (λ j. j % 16) (let e : st.taken + 1 ≡ 1 + length cs = omega arith in e); full = λ less. absurd (omega arith); last_low = λ same. omega arith; last_high = λ same. omega arith })
+            (record { from_one = omega arith; to_last = omega arith; in_sequence = w.1 ∙ ap (λ j. j % 16) (let e : st.taken + 1 ≡ 1 + length cs = omega arith in e); full = λ less. absurd (omega arith); last_low = λ same. omega arith; last_high = λ same. omega arith })
             (λ b inside lt. let sum : length st.bytes + b < st.len = omega arith in
             get_or-take st.len (st.bytes ++ bytes) (length st.bytes + b) 0 sum ∙ get_or-append-add st.bytes bytes b 0));
         holds = λ x inside.
@@ -437,7 +437,7 @@ record Tail (limit : ℕ) (T : List Entry) (n : ℕ) (past es : List Entry) (pen
   lasts : AllByRecursion (λ g. n ≤ last_or 0 g.positions) gs
   lows : AllByRecursion (λ g. (p : ℕ) → IsIn p g.positions → IsIn p (pend g.dir) ⊎ (n ≤ p)) gs
 
-placed-told : (n : ℕ) (d : Dir) (t : Told) → map {B = Dir × List ℕ} (λ x. (d, x.1)) (placed n t) ≡ told_message d t
+placed-told : (n : ℕ) (d : Dir) (t : VerdictValue) → map {B = Dir × List ℕ} (λ x. (d, x.1)) (placed n t) ≡ told_message d t
 placed-told n d (message m) = refl
 placed-told n d began = refl
 placed-told n d stored = refl

@@ -6,11 +6,11 @@ use Rattle.can_log.specs.declared.frame.Dir.{Dir}
 use Rattle.isotp_receive.specs.declared.reception.Judged.{Judged}
 use Rattle.isotp_receive.specs.declared.reception.Judged.TheVariants as judged_as
 use Rattle.isotp_receive.specs.Trace.{Entry, FirstFrame, Role, single, first, consecutive, continue_or_wait, overflow, no_part, role}
-use Rattle.isotp_receive.specs.Places.{bytes_in_first, bytes_before, consecutive_count, FitsAs, AtPlaces}
+use Rattle.isotp_receive.specs.Places.{bytes_in_first, bytes_before, consecutive_frames_in, FitsAs, AtPlaces}
 use Rattle.isotp_receive.specs.OnTime.{IsOnTime}
 use Rattle.isotp_receive.specs.Standing.{reference, carried, carried_after, fits_length, keep, is_open, Standing, standing_of, stands}
 use Rattle.isotp_receive.specs.Delivers.{Completes, Delivers, in_one_frame, in_frames}
-use Rattle.isotp_receive.specs.Verdict.{Told, message, began, stored, flowed, dropped, verdict, is_on_time, expected, has_length, wants_more}
+use Rattle.isotp_receive.specs.Verdict.{VerdictValue, message, began, stored, flowed, dropped, verdict, is_on_time, expected, has_length, wants_more}
 use Rattle.isotp_receive.specs.Machine.{judged}
 use Rattle.isotp_receive.specs.Heard.{placed}
 use Rattle.isotp_receive.proofs.HeardByRole.{completed, completed_by, at_place, told-by-role}
@@ -31,7 +31,7 @@ use Rattle.isotp_receive.proofs.Places.{first_from, next_from, at_here}
 told-at : (limit : ℕ) (T : List Entry) (e : Entry) → placed 0 (verdict limit T e).told ≡ at_place 0 (completed (stands limit e.dir T) e.micros (role e.dir e))
 told-at limit T e = ap (λ b. cond b (placed 0 (verdict limit T e).told) []) (sym (self e.dir)) ∙ told-by-role limit e.dir 0 T e
 
-placed-message : (t : Told) (m : List ℕ) → placed 0 t ≡ (0, m) ∷ [] → t ≡ message m
+placed-message : (t : VerdictValue) (m : List ℕ) → placed 0 t ≡ (0, m) ∷ [] → t ≡ message m
 placed-message (message x) m h = ap message (ap (λ p. p.1) (cons-head h))
 placed-message began m h = absurd (cc)
 placed-message stored m h = absurd (cc)
@@ -52,10 +52,10 @@ last-judged judged_as.Length st bytes m ms h = absurd (cc)
 -- the last consecutive frame of what stands
 module _ (limit : ℕ) (d : Dir) (before : List Entry) (e0 : Entry) (s : FirstFrame) (since rest : List Entry) (begins : role d e0 ≡ first s) (opens : is_open limit d s since ≡ true)
     (last : Entry) (sequence_number can_dl : ℕ) (bytes : List ℕ) (goes : role d last ≡ consecutive sequence_number can_dl bytes) where
-  kept : (keep d s [] since ≡ true) × (carried_after s (consecutive_count d since) < s.len)
-  kept = (let more = and_parts (nat_lt (carried_after s (consecutive_count d since)) s.len) _ (and_parts (nat_le s.len limit) _ opens).1 in (more.1, ltb-true _ _ more.0))
+  kept : (keep d s [] since ≡ true) × (carried_after s (consecutive_frames_in d since) < s.len)
+  kept = (let more = and_parts (nat_lt (carried_after s (consecutive_frames_in d since)) s.len) _ (and_parts (nat_le s.len limit) _ opens).1 in (more.1, ltb-true _ _ more.0))
 
-  pub have : length (s.bytes ++ carried d since) ≡ bytes_before (bytes_in_first e0.frame.bytes) s.rx_dl (consecutive_count d since)
+  pub have : length (s.bytes ++ carried d since) ≡ bytes_before (bytes_in_first e0.frame.bytes) s.rx_dl (consecutive_frames_in d since)
   have = (let from = first_from d e0 s begins in let held = from.1 in let full = full_of d s since kept.0 kept.1 in omega (arith, length-append s.bytes (carried d since)))
 
   completes : judged (standing_of d s since) last.micros sequence_number can_dl ≡ judged_as.Last
@@ -70,7 +70,7 @@ module _ (limit : ℕ) (d : Dir) (before : List Entry) (e0 : Entry) (s : FirstFr
       let held_by = next_from d last sequence_number can_dl bytes goes in
       let carried_by = held_by.1 in
       let o = open-there limit d before e0 s since (last ∷ rest) begins opens in
-      let k = consecutive_count d since in
+      let k = consecutive_frames_in d since in
       let more = o.more in
       let next : bytes_before (bytes_in_first e0.frame.bytes) s.rx_dl (k + 1) ≡ bytes_before (bytes_in_first e0.frame.bytes) s.rx_dl k + (s.rx_dl - 1) = omega arith in
       let n_is : k + 1 ≡ o.n = elim (cases_Bool (nat_lt (k + 1) o.n)) [
@@ -92,7 +92,7 @@ module _ (limit : ℕ) (d : Dir) (before : List Entry) (e0 : Entry) (s : FirstFr
         bytes = bytes;
         stands = at-of (before ++ e0 ∷ (since ++ last ∷ rest)) (before ++ e0 ∷ since) rest (suc (length before) + length since) last regroup (omega (arith, length-append before (e0 ∷ since)));
         kind = goes;
-        fits = record { from_one = omega arith; to_last = omega arith; number = w.1; full = λ less. absurd (omega arith); last_low = λ same. omega arith; last_high = λ same. high };
+        fits = record { from_one = omega arith; to_last = omega arith; in_sequence = w.1; full = λ less. absurd (omega arith); last_low = λ same. omega arith; last_high = λ same. high };
         on_time = on-time-from _ d (length before) _ (reference d s.micros since) last (refers d before e0 s since (last ∷ rest) begins) (le-leb _ _ w.0);
         size = omega (arith, length-take s.len ((s.bytes ++ carried d since) ++ bytes), length-append (s.bytes ++ carried d since) bytes);
         places = whole-at limit d before e0 s since rest begins opens last sequence_number can_dl bytes goes enough short;
@@ -134,9 +134,9 @@ completed-in limit T d e m c =
     let size = have limit d before o.frame s since [] o.kind opens e c.sequence_number c.can_dl c.bytes goes in
     let taken = w.5 in
     let last = c.last in
-    let below : consecutive_count d since < o.n = omega arith in
+    let below : consecutive_frames_in d since < o.n = omega arith in
     let product = ap (λ j. j * (s.rx_dl - 1)) taken in
-    let fit = (fits-join (bytes_in_first o.frame.frame.bytes) s.rx_dl s.len o.n (consecutive_count d since) c.sequence_number c.can_dl o.count below).0
+    let fit = (fits-join (bytes_in_first o.frame.frame.bytes) s.rx_dl s.len o.n (consecutive_frames_in d since) c.sequence_number c.can_dl o.count below).0
     (subst (λ k. FitsAs (bytes_in_first o.frame.frame.bytes) s.rx_dl s.len o.n (k + 1) c.sequence_number c.can_dl) taken c.fits) in
     let on : IsOnTime (before ++ o.frame ∷ (since ++ e ∷ [])) d (length before) (suc (length before) + length since) e =
     subst (λ x. IsOnTime (before ++ o.frame ∷ (since ++ e ∷ [])) d (length before) (suc (length before) + length since) x) is_e
@@ -144,7 +144,7 @@ completed-in limit T d e m c =
     (subst (λ i. IsOnTime (before ++ o.frame ∷ (since ++ e ∷ [])) d i (length T) c.frame) (sym w.3)
     (subst (λ t. IsOnTime t d c.i (length T) c.frame) whole c.on_time))) in
     let on_time = on-time-to _ d (length before) _ (reference d s.micros since) e (refers d before o.frame s since (e ∷ []) o.kind) on in
-    let all : o.n ≡ consecutive_count d since + 1 = omega arith in
+    let all : o.n ≡ consecutive_frames_in d since + 1 = omega arith in
     let product_all = ap (λ j. j * (s.rx_dl - 1)) all in
     let enough = o.count.enough in
     let st = standing_of d s since in

@@ -22,7 +22,7 @@ room-join d e s k h = (let from = first_from d e s h in let size = from.1 in ome
 module _ (f r len n k sequence_number dl : ℕ) (least : IsConsecutiveCount f r len n) (below : k < n) where
   to : FitsAs f r len n (k + 1) sequence_number dl → (sequence_number ≡ (k + 1) % 16) × (fits_length len r (f + k * (r - 1)) dl ≡ true)
   to h = (
-    h.number,
+    h.in_sequence,
     (let have = least.fewer k below in elim (cases_Bool (nat_lt (k + 1) n)) [
       | inl t ↦ (let lt = ltb-true (k + 1) n t in let full = h.full lt in let more = least.fewer (k + 1) lt in fits-more len r (f + k * (r - 1)) dl have (omega arith) full)
       | inr t ↦ (let le = ltb-false (k + 1) n t in let last : k + 1 ≡ n = omega arith in let low = h.last_low last in let high = h.last_high last in
@@ -37,7 +37,7 @@ module _ (f r len n k sequence_number dl : ℕ) (least : IsConsecutiveCount f r 
       record {
         from_one = omega arith;
         to_last = omega arith;
-        number = h.0;
+        in_sequence = h.0;
         full = λ lt. (let more = least.fewer (k + 1) lt in let t = lt-ltb (f + k * (r - 1) + (r - 1)) len (omega arith) in eqb-true dl r (rw t at fit));
         last_low = λ last. (let product_all = ap (λ j. j * (r - 1)) last in let enough = least.enough in
             let t = le-ltb (f + k * (r - 1) + (r - 1)) len (omega arith) in

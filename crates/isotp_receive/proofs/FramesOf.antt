@@ -10,7 +10,7 @@ use Rattle.isotp_pdu.specs.Layout as layout
 use Rattle.isotp_receive.specs.Trace.{Entry, FirstFrame, Role, single, first, consecutive, continue_or_wait, overflow, no_part, role, same_direction, At}
 use Rattle.isotp_receive.specs.Places.{consecutive_by}
 use Rattle.isotp_receive.specs.Delivers.{Completes, Delivers, in_one_frame, in_frames}
-use Rattle.isotp_receive.specs.Verdict.{Told, message, began, stored, flowed, dropped, verdict}
+use Rattle.isotp_receive.specs.Verdict.{VerdictValue, message, began, stored, flowed, dropped, verdict}
 use Rattle.isotp_receive.specs.Recording.{IsConsecutiveFrame, EachNumbered, IsRisingFrom, IsSegmented, Carries, unsegmented, segmented, Transfer, IsTransfer, IsIn, last_or, AllBefore, AreApart, EachPair, IsGiven, IsIdle, IsRecording}
 use Rattle.isotp_receive.specs.FramesOf.{IsConsecutiveWithin, AreFramesOf, alone, together, AreGivenTheirFrames, CarriesMessage, IsGivenOnce, EachBelongsOnce}
 use Rattle.isotp_receive.specs.Heard.{placed}
@@ -28,7 +28,7 @@ use Rattle.isotp_receive.proofs.StandingLaws.{no-first}
 DeliveredAt : ℕ → List Entry → Placed → Type 0
 DeliveredAt limit T x = Delivers limit T x.place x.dir x.message
 
-one-delivered : (limit : ℕ) (W past rest : List Entry) (e : Entry) (n : ℕ) (t : Told) → (verdict limit past e).told ≡ t → n ≡ length past → W ≡ past ++ e ∷ rest
+one-delivered : (limit : ℕ) (W past rest : List Entry) (e : Entry) (n : ℕ) (t : VerdictValue) → (verdict limit past e).told ≡ t → n ≡ length past → W ≡ past ++ e ∷ rest
     → AllByRecursion (DeliveredAt limit W) (tag e.dir (placed n t))
 unfolding DeliveredAt
 one-delivered limit W past rest e n (message m) is place whole =

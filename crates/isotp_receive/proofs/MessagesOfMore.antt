@@ -9,7 +9,7 @@ use Rattle.isotp_receive.specs.declared.event.Verdict.{Verdict}
 use Rattle.isotp_receive.specs.declared.event.Verdict.TheVariants as as_told
 use Rattle.isotp_receive.specs.Trace.{Entry}
 use Rattle.isotp_receive.specs.Standing.{Receptions, receptions_after}
-use Rattle.isotp_receive.specs.Verdict.{Answer, messages, messages_after, told_message, verdict}
+use Rattle.isotp_receive.specs.Verdict.{EventValue, messages, messages_after, told_message, verdict}
 use Rattle.isotp_receive.specs.EventSeen.{seen_verdict}
 use Rattle.isotp_receive.specs.Recorded.{entries, entry_of, sent}
 
@@ -32,7 +32,7 @@ module _ (limit : ℕ) (rs : List Recorded) (i : ℕ) (r : Recorded) (is : r ≡
       → q ≡ receptions_after limit (entries (take (i + 1) rs))
   stands_next p q h step = step (entries (take i rs)) h ∙ ap (receptions_after limit) (sym (more_entries rs i r is below))
 
-  pub found_next : (p : Receptions) (found : List (Dir × List ℕ)) (answer : Answer) → p ≡ receptions_after limit (entries (take i rs))
+  pub found_next : (p : Receptions) (found : List (Dir × List ℕ)) (answer : EventValue) → p ≡ receptions_after limit (entries (take i rs))
       → ((T : List Entry) → p ≡ receptions_after limit T → answer ≡ verdict limit T (entry_of r))
       → found ≡ messages limit (entries (take i rs))
       → found ++ told_message r.dir answer.told ≡ messages limit (entries (take (i + 1) rs))

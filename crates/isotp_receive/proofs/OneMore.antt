@@ -12,13 +12,13 @@ use Rattle.isotp_pdu.specs.declared.PduFault.{PduFault}
 use Rattle.isotp_pdu.specs.declared.Status.TheVariants.{Continue, Wait, Overflow}
 use Rattle.isotp_receive.specs.Trace.{own_role, other_role, same_direction, Entry, FirstFrame, Role, single, first, consecutive, continue_or_wait, overflow, no_part, role}
 use Rattle.isotp_receive.specs.OnTime.{n_cr}
-use Rattle.isotp_receive.specs.Places.{consecutive_by, consecutive_count}
+use Rattle.isotp_receive.specs.Places.{consecutive_by, consecutive_frames_in}
 use Rattle.isotp_receive.specs.Standing.{carried_by, carried, referred, reference, carried_after, fits_length, keeps_by, keep, is_open, Standing, standing_of, since, or_else, stands}
 use Rattle.isotp_receive.specs.Machine.{continued_by, continued, continue, after}
 use Rattle.isotp_receive.specs.declared.reception.Judged.TheVariants as judged_as
 use Rattle.isotp_receive.proofs.Places.{sound_reading}
 
-pub taken-snoc : (d : Dir) (es : List Entry) (e : Entry) → consecutive_count d (es ++ e ∷ []) ≡ consecutive_count d es + consecutive_by (role d e)
+pub taken-snoc : (d : Dir) (es : List Entry) (e : Entry) → consecutive_frames_in d (es ++ e ∷ []) ≡ consecutive_frames_in d es + consecutive_by (role d e)
 taken-snoc d [] e = omega arith
 taken-snoc d (x ∷ es) e = omega (arith, taken-snoc d es e)
 
@@ -77,7 +77,7 @@ none_both : (c : Bool) → ◌≡◌ {A = Option Standing} None (cond c None Non
 none_both true = refl
 none_both false = refl
 
-pub taken-append : (d : Dir) (xs ys : List Entry) → consecutive_count d (xs ++ ys) ≡ consecutive_count d xs + consecutive_count d ys
+pub taken-append : (d : Dir) (xs ys : List Entry) → consecutive_frames_in d (xs ++ ys) ≡ consecutive_frames_in d xs + consecutive_frames_in d ys
 taken-append d [] ys = omega arith
 taken-append d (x ∷ xs) ys = omega (arith, taken-append d xs ys)
 
@@ -121,12 +121,12 @@ fits_full len rx_dl have can_dl h below =
 
 -- what one more frame carries
 carried-one : (d : Dir) (s : FirstFrame) (past : List Entry) (micros : ℕ) (r : Role) → HasItsLength r → keeps_by d s past micros r ≡ true
-    → carried_after s (consecutive_count d past + consecutive_by r) < s.len
-    → length (carried d past) ≡ consecutive_count d past * (s.rx_dl - 1)
-    → length (carried d past ++ carried_by r) ≡ (consecutive_count d past + consecutive_by r) * (s.rx_dl - 1)
+    → carried_after s (consecutive_frames_in d past + consecutive_by r) < s.len
+    → length (carried d past) ≡ consecutive_frames_in d past * (s.rx_dl - 1)
+    → length (carried d past ++ carried_by r) ≡ (consecutive_frames_in d past + consecutive_by r) * (s.rx_dl - 1)
 carried-one d s past micros (consecutive sequence_number can_dl bytes) own h below full =
-    let fits = (and_parts (sequence_number == (consecutive_count d past + 1) % 16) _ (and_parts (nat_le micros (reference d s.micros past + n_cr)) _ h).1).1 in
-    let whole_frame : can_dl ≡ s.rx_dl = fits_full s.len s.rx_dl (carried_after s (consecutive_count d past)) can_dl fits (omega arith) in
+    let fits = (and_parts (sequence_number == (consecutive_frames_in d past + 1) % 16) _ (and_parts (nat_le micros (reference d s.micros past + n_cr)) _ h).1).1 in
+    let whole_frame : can_dl ≡ s.rx_dl = fits_full s.len s.rx_dl (carried_after s (consecutive_frames_in d past)) can_dl fits (omega arith) in
     simp length-append (omega arith)
 carried-one d s past micros (single m) own h below full = absurd (false≢true h)
 carried-one d s past micros (first f) own h below full = absurd (false≢true h)
@@ -136,26 +136,26 @@ carried-one d s past micros no_part own h below full = simp length-append (omega
 
 -- what the frames of a reception carry, each of full length
 carried-full : (d : Dir) (s : FirstFrame) (past es : List Entry)
-    → keep d s past es ≡ true → carried_after s (consecutive_count d (past ++ es)) < s.len
-    → length (carried d past) ≡ consecutive_count d past * (s.rx_dl - 1)
-    → length (carried d (past ++ es)) ≡ consecutive_count d (past ++ es) * (s.rx_dl - 1)
+    → keep d s past es ≡ true → carried_after s (consecutive_frames_in d (past ++ es)) < s.len
+    → length (carried d past) ≡ consecutive_frames_in d past * (s.rx_dl - 1)
+    → length (carried d (past ++ es)) ≡ consecutive_frames_in d (past ++ es) * (s.rx_dl - 1)
 carried-full d s past [] h below full = rw append-nil full
 carried-full d s past (e ∷ es) h below full =
     let parts = and_parts (keeps_by d s past e.micros (role d e)) (keep d s (past ++ e ∷ []) es) h in
     let regroup : (past ++ e ∷ []) ++ es ≡ past ++ e ∷ es = append_assoc past (e ∷ []) es in
-    let below_all : carried_after s (consecutive_count d ((past ++ e ∷ []) ++ es)) < s.len = rw regroup below in
-    let below_one : carried_after s (consecutive_count d past + consecutive_by (role d e)) < s.len =
+    let below_all : carried_after s (consecutive_frames_in d ((past ++ e ∷ []) ++ es)) < s.len = rw regroup below in
+    let below_one : carried_after s (consecutive_frames_in d past + consecutive_by (role d e)) < s.len =
     omega (
       arith,
       below_all,
-      more (length s.bytes) (consecutive_count d past + consecutive_by (role d e)) (consecutive_count d es) (s.rx_dl - 1),
+      more (length s.bytes) (consecutive_frames_in d past + consecutive_by (role d e)) (consecutive_frames_in d es) (s.rx_dl - 1),
       taken-append d (past ++ e ∷ []) es,
       taken-snoc d past e,
       ap (λ k. k * (s.rx_dl - 1)) (taken-append d (past ++ e ∷ []) es),
-      ap (λ k. (k + consecutive_count d es) * (s.rx_dl - 1)) (taken-snoc d past e),
+      ap (λ k. (k + consecutive_frames_in d es) * (s.rx_dl - 1)) (taken-snoc d past e),
     ) in
     let one = carried-one d s past e.micros (role d e) (role-length d e) parts.0 below_one full in
-    let full_one : length (carried d (past ++ e ∷ [])) ≡ consecutive_count d (past ++ e ∷ []) * (s.rx_dl - 1) = rw (carried-snoc d past e, taken-snoc d past e) one in
+    let full_one : length (carried d (past ++ e ∷ [])) ≡ consecutive_frames_in d (past ++ e ∷ []) * (s.rx_dl - 1) = rw (carried-snoc d past e, taken-snoc d past e) one in
     rw (← regroup) (carried-full d s (past ++ e ∷ []) es parts.1 below_all full_one)
 
 and_none : (o q f b : Bool) (y : Standing) → false ≡ b → ◌≡◌ {A = Option Standing} None (cond (o && (q && (f && b))) (Some y) None)
@@ -201,29 +201,29 @@ stop_zero a b k (suc n) x y e =
     let q : (suc n == 0) ≡ false = ne_eqb (suc n) 0 (λ h. omega (arith, h)) in
     rw (p, q) (quiet a b k x y e)
 
-module _ (limit : ℕ) (d : Dir) (s : FirstFrame) (es : List Entry) (micros : ℕ) (full : keep d s [] es ≡ true → carried_after s (consecutive_count d es) < s.len → length (carried d es) ≡ consecutive_count d es * (s.rx_dl - 1)) where
+module _ (limit : ℕ) (d : Dir) (s : FirstFrame) (es : List Entry) (micros : ℕ) (full : keep d s [] es ≡ true → carried_after s (consecutive_frames_in d es) < s.len → length (carried d es) ≡ consecutive_frames_in d es * (s.rx_dl - 1)) where
   begun : (r : Role)
-      → cond (nat_le s.len limit && (nat_lt (carried_after s (consecutive_count d es + consecutive_by r)) s.len && (keep d s [] es && keeps_by d s es micros r)))
-      (Some (record { line = s.line; len = s.len; rx_dl = s.rx_dl; taken = consecutive_count d es + consecutive_by r; bytes = s.bytes ++ (carried d es ++ carried_by r); reference = referred r micros (reference d s.micros es) })) None
+      → cond (nat_le s.len limit && (nat_lt (carried_after s (consecutive_frames_in d es + consecutive_by r)) s.len && (keep d s [] es && keeps_by d s es micros r)))
+      (Some (record { line = s.line; len = s.len; rx_dl = s.rx_dl; taken = consecutive_frames_in d es + consecutive_by r; bytes = s.bytes ++ (carried d es ++ carried_by r); reference = referred r micros (reference d s.micros es) })) None
       ≡ continue (since limit d (first s) es) micros r
-  begun (single m) = closed (nat_le s.len limit) (nat_lt (carried_after s (consecutive_count d es + 0)) s.len) (keep d s [] es) _ ∙ none_both (is_open limit d s es) ∙ sym (pull (is_open limit d s es) (standing_of d s es) micros (single m))
-  begun (first f) = closed (nat_le s.len limit) (nat_lt (carried_after s (consecutive_count d es + 0)) s.len) (keep d s [] es) _ ∙ none_both (is_open limit d s es) ∙ sym (pull (is_open limit d s es) (standing_of d s es) micros (first f))
+  begun (single m) = closed (nat_le s.len limit) (nat_lt (carried_after s (consecutive_frames_in d es + 0)) s.len) (keep d s [] es) _ ∙ none_both (is_open limit d s es) ∙ sym (pull (is_open limit d s es) (standing_of d s es) micros (single m))
+  begun (first f) = closed (nat_le s.len limit) (nat_lt (carried_after s (consecutive_frames_in d es + 0)) s.len) (keep d s [] es) _ ∙ none_both (is_open limit d s es) ∙ sym (pull (is_open limit d s es) (standing_of d s es) micros (first f))
   begun (consecutive sequence_number can_dl bytes) =
-      going (nat_le s.len limit) (nat_lt (carried_after s (consecutive_count d es)) s.len) (nat_lt (carried_after s (consecutive_count d es + 1)) s.len) (nat_lt (length (s.bytes ++ carried d es) + (s.rx_dl - 1)) s.len) (keep d s [] es)
-      (nat_le micros (reference d s.micros es + n_cr)) (sequence_number == (consecutive_count d es + 1) % 16)
-      (fits_length s.len s.rx_dl (carried_after s (consecutive_count d es)) can_dl) (fits_length s.len s.rx_dl (length (s.bytes ++ carried d es)) can_dl) _ _
-      (λ h. lt-ltb _ _ (omega (arith, ltb-true (carried_after s (consecutive_count d es + 1)) s.len h)))
+      going (nat_le s.len limit) (nat_lt (carried_after s (consecutive_frames_in d es)) s.len) (nat_lt (carried_after s (consecutive_frames_in d es + 1)) s.len) (nat_lt (length (s.bytes ++ carried d es) + (s.rx_dl - 1)) s.len) (keep d s [] es)
+      (nat_le micros (reference d s.micros es + n_cr)) (sequence_number == (consecutive_frames_in d es + 1) % 16)
+      (fits_length s.len s.rx_dl (carried_after s (consecutive_frames_in d es)) can_dl) (fits_length s.len s.rx_dl (length (s.bytes ++ carried d es)) can_dl) _ _
+      (λ h. lt-ltb _ _ (omega (arith, ltb-true (carried_after s (consecutive_frames_in d es + 1)) s.len h)))
       (λ ha hb hk.
-      let have : length (s.bytes ++ carried d es) ≡ carried_after s (consecutive_count d es) = simp length-append (omega (arith, full hk (ltb-true _ _ hb))) in
+      let have : length (s.bytes ++ carried d es) ≡ carried_after s (consecutive_frames_in d es) = simp length-append (omega (arith, full hk (ltb-true _ _ hb))) in
       (ap (λ n. fits_length s.len s.rx_dl n can_dl) (sym have), ap (λ n. nat_lt n s.len) (omega (arith, have))))
-      (ap (λ b. record { line = s.line; len = s.len; rx_dl = s.rx_dl; taken = consecutive_count d es + 1; bytes = b; reference = micros }) (sym (append_assoc s.bytes (carried d es) bytes)))
+      (ap (λ b. record { line = s.line; len = s.len; rx_dl = s.rx_dl; taken = consecutive_frames_in d es + 1; bytes = b; reference = micros }) (sym (append_assoc s.bytes (carried d es) bytes)))
       ∙ ap (λ o. cond (is_open limit d s es) o None) (sym (goes_if (standing_of d s es) micros sequence_number can_dl bytes))
       ∙ sym (pull (is_open limit d s es) (standing_of d s es) micros (consecutive sequence_number can_dl bytes))
-  begun continue_or_wait = rw (add-zero, append-nil) (quiet (nat_le s.len limit) (nat_lt (carried_after s (consecutive_count d es)) s.len) (keep d s [] es) _ _ refl ∙ sym (pull (is_open limit d s es) (standing_of d s es) micros continue_or_wait))
-  begun overflow = rw (add-zero, append-nil) (stop_zero (nat_le s.len limit) (nat_lt (carried_after s (consecutive_count d es)) s.len) (keep d s [] es) (consecutive_count d es) _ _ refl ∙ sym (pull (is_open limit d s es) (standing_of d s es) micros overflow))
-  begun no_part = rw (add-zero, append-nil) (quiet (nat_le s.len limit) (nat_lt (carried_after s (consecutive_count d es)) s.len) (keep d s [] es) _ _ refl ∙ sym (pull (is_open limit d s es) (standing_of d s es) micros no_part))
+  begun continue_or_wait = rw (add-zero, append-nil) (quiet (nat_le s.len limit) (nat_lt (carried_after s (consecutive_frames_in d es)) s.len) (keep d s [] es) _ _ refl ∙ sym (pull (is_open limit d s es) (standing_of d s es) micros continue_or_wait))
+  begun overflow = rw (add-zero, append-nil) (stop_zero (nat_le s.len limit) (nat_lt (carried_after s (consecutive_frames_in d es)) s.len) (keep d s [] es) (consecutive_frames_in d es) _ _ refl ∙ sym (pull (is_open limit d s es) (standing_of d s es) micros overflow))
+  begun no_part = rw (add-zero, append-nil) (quiet (nat_le s.len limit) (nat_lt (carried_after s (consecutive_frames_in d es)) s.len) (keep d s [] es) _ _ refl ∙ sym (pull (is_open limit d s es) (standing_of d s es) micros no_part))
 
-pub full_of : (d : Dir) (s : FirstFrame) (es : List Entry) → keep d s [] es ≡ true → carried_after s (consecutive_count d es) < s.len → length (carried d es) ≡ consecutive_count d es * (s.rx_dl - 1)
+pub full_of : (d : Dir) (s : FirstFrame) (es : List Entry) → keep d s [] es ≡ true → carried_after s (consecutive_frames_in d es) < s.len → length (carried d es) ≡ consecutive_frames_in d es * (s.rx_dl - 1)
 full_of d s es h below = carried-full d s [] es h below (omega arith)
 
 pub since-snoc : (limit : ℕ) (d : Dir) (r : Role) (es : List Entry) (e : Entry) → since limit d r (es ++ e ∷ []) ≡ continue (since limit d r es) e.micros (role d e)
@@ -240,7 +240,7 @@ some_test false x y h = cc
 
 pub since-alone : (limit : ℕ) (d : Dir) (r : Role) (es : List Entry) (st : Standing) → since limit d r es ≡ Some st → stands limit d es ≡ None
 since-alone limit d (first s) es st h =
-    alone limit d s [] es (and_parts (nat_lt (carried_after s (consecutive_count d es)) s.len) _ (and_parts (nat_le s.len limit) _ (some_test (is_open limit d s es) (standing_of d s es) st h)).1).1
+    alone limit d s [] es (and_parts (nat_lt (carried_after s (consecutive_frames_in d es)) s.len) _ (and_parts (nat_le s.len limit) _ (some_test (is_open limit d s es) (standing_of d s es) st h)).1).1
 since-alone limit d (single m) es st h = cc
 since-alone limit d (consecutive sequence_number can_dl bytes) es st h = cc
 since-alone limit d continue_or_wait es st h = cc
@@ -287,4 +287,4 @@ one_more limit d T e = one_step limit d T e ∙ by_step limit d (stands limit d 
 
 pub is_open-alone : (limit : ℕ) (d : Dir) (s : FirstFrame) (es : List Entry) → is_open limit d s es ≡ true → stands limit d es ≡ None
 is_open-alone limit d s es h =
-    alone limit d s [] es (and_parts (nat_lt (carried_after s (consecutive_count d es)) s.len) _ (and_parts (nat_le s.len limit) _ h).1).1
+    alone limit d s [] es (and_parts (nat_lt (carried_after s (consecutive_frames_in d es)) s.len) _ (and_parts (nat_le s.len limit) _ h).1).1

@@ -3,7 +3,7 @@ use Rattle.std.proofs.Common.{◌≡◌, ℕ, zero, suc, ◌+◌, ◌-◌, ◌*�
 use Rattle.std.proofs.lemmas.Bool.{and_parts, and_from, ltb-true, ltb-false, lt-ltb, leb-true, le-leb, eqb-true, eq-eqb, cases_Bool, false≢true}
 use Rattle.can_log.specs.declared.frame.Dir.{Dir}
 use Rattle.isotp_receive.specs.Trace.{Entry, At, FirstFrame, Role, single, first, consecutive, continue_or_wait, overflow, no_part, role}
-use Rattle.isotp_receive.specs.Places.{bytes_in_first, IsConsecutiveCount, consecutive_count, between}
+use Rattle.isotp_receive.specs.Places.{bytes_in_first, IsConsecutiveCount, consecutive_frames_in, between}
 use Rattle.isotp_receive.specs.OnTime.{n_cr, IsOnTime}
 use Rattle.isotp_receive.specs.Standing.{reference, carried_after, fits_length, keeps_by, is_open}
 use Rattle.isotp_receive.specs.OpenReception.{LeavesOpen, IsOpenAt}
@@ -54,32 +54,32 @@ module _ (d : Dir) (before : List Entry) (e0 : Entry) (s : FirstFrame) (begins :
   -- a frame x behind the frames b
   module _ (b : List Entry) (x : Entry) (after : List Entry) where
     pub leaves-by : (r : Role) → keeps_by d s b x.micros r ≡ true
-        → LeavesOpen s (bytes_in_first e0.frame.bytes) n (consecutive_count d b) (IsOnTime (before ++ e0 ∷ (b ++ x ∷ after)) d (length before) (suc (length before) + length b) x) r
+        → LeavesOpen s (bytes_in_first e0.frame.bytes) n (consecutive_frames_in d b) (IsOnTime (before ++ e0 ∷ (b ++ x ∷ after)) d (length before) (suc (length before) + length b) x) r
     leaves-by (consecutive sequence_number can_dl bytes) h =
         let on = and_parts (nat_le x.micros (reference d s.micros b + n_cr)) _ h in
-        let number = and_parts (sequence_number == (consecutive_count d b + 1) % 16) _ on.1 in
-        let fits : fits_length s.len s.rx_dl (bytes_in_first e0.frame.bytes + consecutive_count d b * (s.rx_dl - 1)) can_dl ≡ true = subst (λ h. fits_length s.len s.rx_dl h can_dl ≡ true) (size (consecutive_count d b)) number.1 in
-        let below = below-count (bytes_in_first e0.frame.bytes) s.rx_dl s.len n (consecutive_count d b) count (ltb-true _ _ (and_parts (nat_lt _ s.len) _ fits).0) in (
-          (fits-join (bytes_in_first e0.frame.bytes) s.rx_dl s.len n (consecutive_count d b) sequence_number can_dl count below).1 (eqb-true _ _ number.0, fits),
+        let number = and_parts (sequence_number == (consecutive_frames_in d b + 1) % 16) _ on.1 in
+        let fits : fits_length s.len s.rx_dl (bytes_in_first e0.frame.bytes + consecutive_frames_in d b * (s.rx_dl - 1)) can_dl ≡ true = subst (λ h. fits_length s.len s.rx_dl h can_dl ≡ true) (size (consecutive_frames_in d b)) number.1 in
+        let below = below-count (bytes_in_first e0.frame.bytes) s.rx_dl s.len n (consecutive_frames_in d b) count (ltb-true _ _ (and_parts (nat_lt _ s.len) _ fits).0) in (
+          (fits-join (bytes_in_first e0.frame.bytes) s.rx_dl s.len n (consecutive_frames_in d b) sequence_number can_dl count below).1 (eqb-true _ _ number.0, fits),
           on-time-from _ d (length before) _ (reference d s.micros b) x (refers d before e0 s b (x ∷ after) begins) on.0,
         )
     leaves-by (single m) h = absurd (false≢true h)
     leaves-by (first f) h = absurd (false≢true h)
     leaves-by continue_or_wait h = tt
-    leaves-by overflow h = ltb-true 0 (consecutive_count d b) h
+    leaves-by overflow h = ltb-true 0 (consecutive_frames_in d b) h
     leaves-by no_part h = tt
 
-    keeps-from : (r : Role) → consecutive_count d b < n
-        → LeavesOpen s (bytes_in_first e0.frame.bytes) n (consecutive_count d b) (IsOnTime (before ++ e0 ∷ (b ++ x ∷ after)) d (length before) (suc (length before) + length b) x) r
+    keeps-from : (r : Role) → consecutive_frames_in d b < n
+        → LeavesOpen s (bytes_in_first e0.frame.bytes) n (consecutive_frames_in d b) (IsOnTime (before ++ e0 ∷ (b ++ x ∷ after)) d (length before) (suc (length before) + length b) x) r
         → keeps_by d s b x.micros r ≡ true
     keeps-from (consecutive sequence_number can_dl bytes) below h =
-        let fit = (fits-join (bytes_in_first e0.frame.bytes) s.rx_dl s.len n (consecutive_count d b) sequence_number can_dl count below).0 h.0 in
+        let fit = (fits-join (bytes_in_first e0.frame.bytes) s.rx_dl s.len n (consecutive_frames_in d b) sequence_number can_dl count below).0 h.0 in
         and_from _ _ (on-time-to _ d (length before) _ (reference d s.micros b) x (refers d before e0 s b (x ∷ after) begins) h.1)
-        (and_from _ _ (eq-eqb _ _ fit.0) (subst (λ h. fits_length s.len s.rx_dl h can_dl ≡ true) (sym (size (consecutive_count d b))) fit.1))
+        (and_from _ _ (eq-eqb _ _ fit.0) (subst (λ h. fits_length s.len s.rx_dl h can_dl ≡ true) (sym (size (consecutive_frames_in d b))) fit.1))
     keeps-from (single m) below h = absurd h
     keeps-from (first f) below h = absurd h
     keeps-from continue_or_wait below h = refl
-    keeps-from overflow below h = lt-ltb 0 (consecutive_count d b) h
+    keeps-from overflow below h = lt-ltb 0 (consecutive_frames_in d b) h
     keeps-from no_part below h = refl
 
 pub at-of : (T before after : List Entry) (c : ℕ) (x : Entry) → T ≡ before ++ x ∷ after → c ≡ length before → At T c x
@@ -117,10 +117,10 @@ behind before e0 since rest c x later within at =
 
 -- what stands is open at its place, whatever follows
 unfoldable pub open-there : (limit : ℕ) (d : Dir) (before : List Entry) (e0 : Entry) (s : FirstFrame) (since rest : List Entry) → role d e0 ≡ first s → is_open limit d s since ≡ true
-    → IsOpenAt limit (before ++ e0 ∷ (since ++ rest)) d (length before) (consecutive_count d since) (suc (length before) + length since)
+    → IsOpenAt limit (before ++ e0 ∷ (since ++ rest)) d (length before) (consecutive_frames_in d since) (suc (length before) + length since)
 open-there limit d before e0 s since rest begins opens =
     let parts = and_parts (nat_le s.len limit) _ opens in
-    let more = and_parts (nat_lt (carried_after s (consecutive_count d since)) s.len) _ parts.1 in
+    let more = and_parts (nat_lt (carried_after s (consecutive_frames_in d since)) s.len) _ parts.1 in
     let from = first_from d e0 s begins in
     let eight = from.3 in
     let found = count-exists (bytes_in_first e0.frame.bytes) s.rx_dl s.len (omega arith) in
@@ -141,14 +141,14 @@ open-there limit d before e0 s since rest begins opens =
           let here : between (before ++ e0 ∷ (since ++ rest)) (length before) c ≡ w.b =
           ap (λ l. between l (length before) c) w.whole ∙ ap (between (before ++ e0 ∷ (w.b ++ x ∷ (w.after ++ rest))) (length before)) w.place ∙ range-behind before e0 w.b (x ∷ (w.after ++ rest)) in
           let leaves = leaves-by d before e0 s begins found.0 found.1 w.b x (w.after ++ rest) (role d x) kept in
-          same-leaves d s _ found.0 (length before) (length before) _ _ _ c _ _ x (role d x) (ap (consecutive_count d) (sym here)) (sym w.whole) refl (sym w.place) leaves;
-      taken = ap (consecutive_count d) (sym (range-behind before e0 since rest));
-      more = below-count (bytes_in_first e0.frame.bytes) s.rx_dl s.len found.0 (consecutive_count d since) found.1 (let same = size d before e0 s begins found.0 found.1 (consecutive_count d since) in omega arith);
+          same-leaves d s _ found.0 (length before) (length before) _ _ _ c _ _ x (role d x) (ap (consecutive_frames_in d) (sym here)) (sym w.whole) refl (sym w.place) leaves;
+      taken = ap (consecutive_frames_in d) (sym (range-behind before e0 since rest));
+      more = below-count (bytes_in_first e0.frame.bytes) s.rx_dl s.len found.0 (consecutive_frames_in d since) found.1 (let same = size d before e0 s begins found.0 found.1 (consecutive_frames_in d since) in omega arith);
     }
 
 -- what is open at a place stands there
 pub stands-there : (limit : ℕ) (d : Dir) (T rest : List Entry) (i k : ℕ) (o : IsOpenAt limit (T ++ rest) d i k (length T))
-    → (before : List Entry) × (since : List Entry) × (T ≡ before ++ o.frame ∷ since) × (length before ≡ i) × (is_open limit d o.start since ≡ true) × (k ≡ consecutive_count d since)
+    → (before : List Entry) × (since : List Entry) × (T ≡ before ++ o.frame ∷ since) × (length before ≡ i) × (is_open limit d o.start since ≡ true) × (k ≡ consecutive_frames_in d since)
 stands-there limit d T rest i k o =
     let later = o.later in
     let there : At T i o.frame = sym (get-left T rest i later) ∙ o.stands in
@@ -158,23 +158,23 @@ stands-there limit d T rest i k o =
     let place = w.3 in
     let whole : T ++ rest ≡ before ++ o.frame ∷ (since ++ rest) = ap (λ l. l ++ rest) w.2 ∙ append_assoc before (o.frame ∷ since) rest in
     let ends : length T ≡ suc (length before) + length since = ap length w.2 ∙ omega (arith, length-append before (o.frame ∷ since)) in
-    let taken : k ≡ consecutive_count d since =
-    o.taken ∙ ap (consecutive_count d) (ap (λ l. between l i (length T)) whole ∙ ap (λ j. between (before ++ o.frame ∷ (since ++ rest)) j (length T)) (sym place)
+    let taken : k ≡ consecutive_frames_in d since =
+    o.taken ∙ ap (consecutive_frames_in d) (ap (λ l. between l i (length T)) whole ∙ ap (λ j. between (before ++ o.frame ∷ (since ++ rest)) j (length T)) (sym place)
     ∙ ap (between (before ++ o.frame ∷ (since ++ rest)) (length before)) ends ∙ range-behind before o.frame since rest) in
     let kept = keep-from-each d o.start since (λ b after x splits.
     let c = suc (length before) + length b in
     let size_since = ap length splits ∙ length-append b (x ∷ after) in
-    let count_since = ap (consecutive_count d) splits ∙ taken-append d b (x ∷ after) in
+    let count_since = ap (consecutive_frames_in d) splits ∙ taken-append d b (x ∷ after) in
     let whole_x : T ++ rest ≡ before ++ o.frame ∷ (b ++ x ∷ (after ++ rest)) = whole ∙ ap (λ l. before ++ o.frame ∷ l) (ap (λ l. l ++ rest) splits ∙ append_assoc b (x ∷ after) rest) in
     let regroup : before ++ o.frame ∷ (b ++ x ∷ (after ++ rest)) ≡ (before ++ o.frame ∷ b) ++ x ∷ (after ++ rest) = sym (append_assoc before (o.frame ∷ b) (x ∷ (after ++ rest))) in
     let at = at-of (T ++ rest) (before ++ o.frame ∷ b) (after ++ rest) c x (whole_x ∙ regroup) (omega (arith, length-append before (o.frame ∷ b))) in
     let leaves = o.each c x (omega arith) (omega arith) at in
     let here : between (T ++ rest) i c ≡ b =
     ap (λ l. between l i c) whole_x ∙ ap (λ j. between (before ++ o.frame ∷ (b ++ x ∷ (after ++ rest))) j c) (sym place) ∙ range-behind before o.frame b (x ∷ (after ++ rest)) in
-    let below : consecutive_count d b < o.n = (let more = o.more in omega arith) in
+    let below : consecutive_frames_in d b < o.n = (let more = o.more in omega arith) in
     keeps-from d before o.frame o.start o.kind o.n o.count b x (after ++ rest) (role d x) below
-    (same-leaves d o.start _ o.n i (length before) _ _ c c _ _ x (role d x) (ap (consecutive_count d) here) whole_x (sym place) refl leaves)) in
-    let room : carried_after o.start (consecutive_count d since) < o.start.len =
-    (let less = o.count.fewer (consecutive_count d since) (subst (λ j. j < o.n) taken o.more) in
-    let same = size d before o.frame o.start o.kind o.n o.count (consecutive_count d since) in omega arith) in
+    (same-leaves d o.start _ o.n i (length before) _ _ c c _ _ x (role d x) (ap (consecutive_frames_in d) here) whole_x (sym place) refl leaves)) in
+    let room : carried_after o.start (consecutive_frames_in d since) < o.start.len =
+    (let less = o.count.fewer (consecutive_frames_in d since) (subst (λ j. j < o.n) taken o.more) in
+    let same = size d before o.frame o.start o.kind o.n o.count (consecutive_frames_in d since) in omega arith) in
     (before, since, w.2, w.3, and_from _ _ (le-leb _ _ o.fits) (and_from _ _ (lt-ltb _ _ room) kept), taken)

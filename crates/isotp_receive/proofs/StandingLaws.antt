@@ -3,7 +3,7 @@ use Rattle.std.proofs.Common.{◌≡◌, ℕ, suc, ◌+◌, ◌<◌, ◌≤◌, 
 use Rattle.std.proofs.lemmas.Bool.{and_parts, ltb-true, ltb-false, leb-true, cases_Bool}
 use Rattle.can_log.specs.declared.frame.Dir.{Dir}
 use Rattle.isotp_receive.specs.Trace.{Entry, At, FirstFrame, Role, first, role}
-use Rattle.isotp_receive.specs.Places.{bytes_in_first, bytes_before, consecutive_count, between, AtPlaces}
+use Rattle.isotp_receive.specs.Places.{bytes_in_first, bytes_before, consecutive_frames_in, between, AtPlaces}
 use Rattle.isotp_receive.specs.OnTime.{IsReference}
 use Rattle.isotp_receive.specs.Standing.{carried, carried_after, is_open, Standing, standing_of, stands}
 use Rattle.isotp_receive.specs.OpenReception.{LeavesOpen, IsOpenAt, IsStandingAt}
@@ -26,14 +26,14 @@ standing-here : (limit : ℕ) (d : Dir) (before : List Entry) (e0 : Entry) (s : 
     → IsStandingAt limit (before ++ e0 ∷ (since ++ rest)) d (suc (length before) + length since) (standing_of d s since)
 unfolding open-there
 standing-here limit d before e0 s since rest begins opens =
-    let more = and_parts (nat_lt (carried_after s (consecutive_count d since)) s.len) _ (and_parts (nat_le s.len limit) _ opens).1 in
+    let more = and_parts (nat_lt (carried_after s (consecutive_frames_in d since)) s.len) _ (and_parts (nat_le s.len limit) _ opens).1 in
     let from = first_from d e0 s begins in
     let held = from.1 in
     let full = full_of d s since more.1 (ltb-true _ _ more.0) in
     let ref = refers d before e0 s since rest begins in
     record {
       i = length before;
-      k = consecutive_count d since;
+      k = consecutive_frames_in d since;
       is_open = open-there limit d before e0 s since rest begins opens;
       line = refl;
       len = refl;
@@ -67,7 +67,7 @@ pub no-first : (s x : FirstFrame) (f n j : ℕ) (on : Type 0) (r : Role) → r �
 no-first s x f n j on r is h = rw is at h
 
 pub one-open : (limit : ℕ) (T : List Entry) (d : Dir) (i k j l p : ℕ) → IsOpenAt limit T d i k p → IsOpenAt limit T d j l p → (i ≡ j) × (k ≡ l)
-one-open limit T d i k j l p a b = (same, a.taken ∙ ap (λ q. consecutive_count d (between T q p)) same ∙ sym b.taken) where
+one-open limit T d i k j l p a b = (same, a.taken ∙ ap (λ q. consecutive_frames_in d (between T q p)) same ∙ sym b.taken) where
   apart : (i k j l : ℕ) → IsOpenAt limit T d i k p → IsOpenAt limit T d j l p → i < j → ⊥
   apart i k j l a b less = no-first a.start b.start _ _ _ _ (role d b.frame) b.kind (a.each j b.frame less b.later b.stands)
 
@@ -125,7 +125,7 @@ pub kept-bytes : (limit : ℕ) (T : List Entry) (d : Dir) (st : Standing) → st
 kept-bytes limit T d st h =
     let w = found limit d T st h in
     let parts = and_parts (nat_le w.s.len limit) _ w.opens in
-    let more = and_parts (nat_lt (carried_after w.s (consecutive_count d w.since)) w.s.len) _ parts.1 in
+    let more = and_parts (nat_lt (carried_after w.s (consecutive_frames_in d w.since)) w.s.len) _ parts.1 in
     let full = full_of d w.s w.since more.1 (ltb-true _ _ more.0) in
     let within = leb-true w.s.len limit parts.0 in
     let room = ltb-true _ _ more.0 in

@@ -7,7 +7,7 @@ use Rattle.std.proofs.lemmas.Bool.{cases_Bool, le-ltb, lt-ltb, ltb-true, ltb-fal
 use Rattle.can_log.specs.declared.frame.Dir.{Dir}
 use Rattle.can_log.specs.declared.frame.Dir.TheVariants.{Tester, Unit}
 use Rattle.isotp_receive.specs.Trace.{Entry, same_direction}
-use Rattle.isotp_receive.specs.Verdict.{Told, message, began, stored, flowed, dropped, verdict, told_message, messages_after}
+use Rattle.isotp_receive.specs.Verdict.{VerdictValue, message, began, stored, flowed, dropped, verdict, told_message, messages_after}
 use Rattle.isotp_receive.specs.Heard.{placed, heard}
 use Rattle.isotp_receive.proofs.ListPositions.{cons-head}
 use Rattle.isotp_receive.proofs.HeardByRole.{same}
@@ -41,7 +41,7 @@ either : (b : Bool) (xs : List (ℕ × List ℕ)) → cond b [] [] ++ xs ≡ xs
 either true xs = refl
 either false xs = refl
 
-one-side : (n : ℕ) (d x : Dir) (t : Told) (xs : List Placed) → cond (same_direction d x) (placed n t) [] ++ side d xs ≡ side d (tag x (placed n t) ++ xs)
+one-side : (n : ℕ) (d x : Dir) (t : VerdictValue) (xs : List Placed) → cond (same_direction d x) (placed n t) [] ++ side d xs ≡ side d (tag x (placed n t) ++ xs)
 one-side n d x (message m) xs = elim (cases_Bool (same_direction d x)) [ inl t ↦ rw t refl | inr t ↦ rw t refl ]
 one-side n d x began xs = either (same_direction d x) (side d xs)
 one-side n d x stored xs = either (same_direction d x) (side d xs)
@@ -57,7 +57,7 @@ heard-side limit d n past (e ∷ es) =
 abbrev pub pair : Placed → Dir × List ℕ
 pair x = (x.dir, x.message)
 
-one-message : (n : ℕ) (x : Dir) (t : Told) (xs : List Placed) → told_message x t ++ map pair xs ≡ map pair (tag x (placed n t) ++ xs)
+one-message : (n : ℕ) (x : Dir) (t : VerdictValue) (xs : List Placed) → told_message x t ++ map pair xs ≡ map pair (tag x (placed n t) ++ xs)
 one-message n x (message m) xs = refl
 one-message n x began xs = refl
 one-message n x stored xs = refl
@@ -74,7 +74,7 @@ weaken : (n k : ℕ) (xs : List Placed) → n ≤ k → Rise k xs → Rise n xs
 weaken n k [] le h = tt
 weaken n k (x ∷ xs) le h = (let a = h.0 in omega arith, h.1)
 
-one-rise : (n : ℕ) (x : Dir) (t : Told) (xs : List Placed) → Rise (suc n) xs → Rise n (tag x (placed n t) ++ xs)
+one-rise : (n : ℕ) (x : Dir) (t : VerdictValue) (xs : List Placed) → Rise (suc n) xs → Rise n (tag x (placed n t) ++ xs)
 one-rise n x (message m) xs h = (omega arith, h)
 one-rise n x began xs h = weaken n (suc n) xs (omega arith) h
 one-rise n x stored xs h = weaken n (suc n) xs (omega arith) h
@@ -162,7 +162,7 @@ within-later k n (x ∷ xs) le h =
     let past : nat_lt x.place k ≡ false = le-ltb x.place k (let a = h.0 in omega arith) in
     rw past (within-later k (suc x.place) xs (let a = h.0 in omega arith) h.1)
 
-within-one : (k n : ℕ) (d : Dir) (t : Told) → n < k → told_within k (tag d (placed n t)) ≡ tag d (placed n t)
+within-one : (k n : ℕ) (d : Dir) (t : VerdictValue) → n < k → told_within k (tag d (placed n t)) ≡ tag d (placed n t)
 within-one k n d (message m) below = (let inside : nat_lt n k ≡ true = lt-ltb n k below in rw inside refl)
 within-one k n d began below = refl
 within-one k n d stored below = refl

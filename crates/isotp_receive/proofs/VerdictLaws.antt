@@ -16,11 +16,11 @@ use Rattle.isotp_receive.specs.declared.event.Ended.{Ended}
 use Rattle.isotp_receive.specs.declared.event.Cause.TheVariants as cause
 use Rattle.isotp_receive.specs.declared.event.Reason.TheVariants as reason
 use Rattle.isotp_receive.specs.Trace.{single, Entry, consecutive, role, own_role}
-use Rattle.isotp_receive.specs.Places.{bytes_in_first, bytes_before, consecutive_count, FitsAs}
+use Rattle.isotp_receive.specs.Places.{bytes_in_first, bytes_before, consecutive_frames_in, FitsAs}
 use Rattle.isotp_receive.specs.OnTime.{IsOnTime}
 use Rattle.isotp_receive.specs.Standing.{Standing, reference, fits_length, standing_of, stands}
 use Rattle.isotp_receive.specs.OpenReception.{IsOpenAt}
-use Rattle.isotp_receive.specs.Verdict.{Answer, Told, message, began, stored, flowed, dropped, refused, ended_as, on_overflow, verdict, on_layout, on_consecutive, is_on_time, expected, has_length, wants_more}
+use Rattle.isotp_receive.specs.Verdict.{EventValue, VerdictValue, message, began, stored, flowed, dropped, refused, ended_as, on_overflow, verdict, on_layout, on_consecutive, is_on_time, expected, has_length, wants_more}
 use Rattle.isotp_receive.specs.VerdictTable.{IsOpenBefore, NothingOpen, ended_by, EndsByNewStart, HasVerdict, no_layout, single_frame, first_frame, too_long, next_unexpected, next_late, wrong_number, wrong_length, stored_frame, last_frame, flow_unexpected, flow, overflow_in_time, overflow_too_late}
 use Rattle.isotp_receive.proofs.Told.{self}
 use Rattle.isotp_receive.proofs.References.{at-same, refers, on-time-from, on-time-to}
@@ -52,23 +52,23 @@ on-own limit T e sequence_number can_dl bytes h =
     let read = read-consecutive e.line e.micros sequence_number can_dl bytes (layout_of e.frame) own in
     rw read refl
 
-abbrev by_tests : Bool → Bool → Bool → Bool → Answer → Answer → Answer → Answer → Answer → Answer
+abbrev by_tests : Bool → Bool → Bool → Bool → EventValue → EventValue → EventValue → EventValue → EventValue → EventValue
 by_tests on_time number fits more a b c x y =
     cond (not on_time) a (cond (not number) b (cond (not fits) c (cond more x y)))
 
-first-of : (on_time : Bool) (number fits more : Bool) (a b c x y : Answer) → on_time ≡ false → by_tests on_time number fits more a b c x y ≡ a
+first-of : (on_time : Bool) (number fits more : Bool) (a b c x y : EventValue) → on_time ≡ false → by_tests on_time number fits more a b c x y ≡ a
 first-of on_time number fits more a b c x y h = rw h refl
 
-second-of : (on_time number fits more : Bool) (a b c x y : Answer) → on_time ≡ true → number ≡ false → by_tests on_time number fits more a b c x y ≡ b
+second-of : (on_time number fits more : Bool) (a b c x y : EventValue) → on_time ≡ true → number ≡ false → by_tests on_time number fits more a b c x y ≡ b
 second-of on_time number fits more a b c x y h g = rw (h, g) refl
 
-third-of : (on_time number fits more : Bool) (a b c x y : Answer) → on_time ≡ true → number ≡ true → fits ≡ false → by_tests on_time number fits more a b c x y ≡ c
+third-of : (on_time number fits more : Bool) (a b c x y : EventValue) → on_time ≡ true → number ≡ true → fits ≡ false → by_tests on_time number fits more a b c x y ≡ c
 third-of on_time number fits more a b c x y h g f = rw (h, g, f) refl
 
-fourth-of : (on_time number fits more : Bool) (a b c x y : Answer) → on_time ≡ true → number ≡ true → fits ≡ true → more ≡ true → by_tests on_time number fits more a b c x y ≡ x
+fourth-of : (on_time number fits more : Bool) (a b c x y : EventValue) → on_time ≡ true → number ≡ true → fits ≡ true → more ≡ true → by_tests on_time number fits more a b c x y ≡ x
 fourth-of on_time number fits more a b c x y h g f m = rw (h, g, f, m) refl
 
-fifth-of : (on_time number fits more : Bool) (a b c x y : Answer) → on_time ≡ true → number ≡ true → fits ≡ true → more ≡ false → by_tests on_time number fits more a b c x y ≡ y
+fifth-of : (on_time number fits more : Bool) (a b c x y : EventValue) → on_time ≡ true → number ≡ true → fits ≡ true → more ≡ false → by_tests on_time number fits more a b c x y ≡ y
 fifth-of on_time number fits more a b c x y h g f m = rw (h, g, f, m) refl
 
 not-true : (b : Bool) → (b ≡ true → ⊥) → b ≡ false
@@ -86,11 +86,11 @@ record IsJudged (limit : ℕ) (T : List Entry) (e : Entry) (i k sequence_number 
   kept : IsOnTime (T ++ e ∷ []) e.dir i (length T) e
       → FitsAs (bytes_in_first o.frame.frame.bytes) o.start.rx_dl o.start.len o.n (k + 1) sequence_number can_dl → k + 1 < o.n
       → verdict limit T e ≡ record { ended = None; told = stored }
-  covered : (bytes : List ℕ) → layout_of e.frame ≡ Ok (layout.consecutive sequence_number can_dl bytes) → (a : Answer) × HasVerdict limit T e a
+  covered : (bytes : List ℕ) → layout_of e.frame ≡ Ok (layout.consecutive sequence_number can_dl bytes) → (a : EventValue) × HasVerdict limit T e a
 
 -- the row of the last consecutive frame
 last-row : (limit : ℕ) (T : List Entry) (e : Entry) (sequence_number can_dl : ℕ) (bytes m : List ℕ) → role e.dir e ≡ consecutive sequence_number can_dl bytes
-    → Delivers limit (T ++ e ∷ []) (length T) e.dir m → (a : Answer) × HasVerdict limit T e a
+    → Delivers limit (T ++ e ∷ []) (length T) e.dir m → (a : EventValue) × HasVerdict limit T e a
 last-row limit T e sequence_number can_dl bytes m goes (in_frames c) = (record { ended = None; told = message m }, last_frame m c)
 last-row limit T e sequence_number can_dl bytes m goes (in_one_frame x at kind) =
     let is_e : x ≡ e = at-same (T ++ e ∷ []) (length T) x e at (at_here T [] e) in
@@ -113,8 +113,8 @@ is-judged limit T e i k sequence_number can_dl bytes goes o =
     let whole : before ++ o.frame ∷ (since ++ e ∷ []) ≡ T ++ e ∷ [] = regrouped T (e ∷ []) before since o.frame w.2 in
     let ends = ends-at T before since o.frame w.2 in
     let size = have limit d before o.frame s since [] o.kind w.4 e sequence_number can_dl bytes goes in
-    let below : consecutive_count d since < o.n = omega arith in
-    let join = fits-join (bytes_in_first o.frame.frame.bytes) s.rx_dl s.len o.n (consecutive_count d since) sequence_number can_dl o.count below in
+    let below : consecutive_frames_in d since < o.n = omega arith in
+    let join = fits-join (bytes_in_first o.frame.frame.bytes) s.rx_dl s.len o.n (consecutive_frames_in d since) sequence_number can_dl o.count below in
     let ref = refers d before o.frame s since (e ∷ []) o.kind in
     let on_to : IsOnTime (T ++ e ∷ []) d i (length T) e → is_on_time st e.micros ≡ true =
     λ on. on-time-to (before ++ o.frame ∷ (since ++ e ∷ [])) d (length before) (suc (length before) + length since) (reference d s.micros since) e ref
@@ -126,7 +126,7 @@ is-judged limit T e i k sequence_number can_dl bytes goes o =
     (subst (λ p. IsOnTime (before ++ o.frame ∷ (since ++ e ∷ [])) d (length before) p e) ends
     (on-time-from (before ++ o.frame ∷ (since ++ e ∷ [])) d (length before) (suc (length before) + length since) (reference d s.micros since) e ref t))) in
     let same_number : expected st ≡ (k + 1) % 16 = ap (λ j. (j + 1) % 16) (sym taken) in
-    let length_is : has_length st can_dl ≡ fits_length s.len s.rx_dl (bytes_before (bytes_in_first o.frame.frame.bytes) s.rx_dl (consecutive_count d since)) can_dl = ap (λ h. fits_length s.len s.rx_dl h can_dl) size in
+    let length_is : has_length st can_dl ≡ fits_length s.len s.rx_dl (bytes_before (bytes_in_first o.frame.frame.bytes) s.rx_dl (consecutive_frames_in d since)) can_dl = ap (λ h. fits_length s.len s.rx_dl h can_dl) size in
     record {
       late = λ off. is ∙ first-of (is_on_time st e.micros) (sequence_number == expected st) (has_length st can_dl) (wants_more st) _ _ _ _ _ (not-true (is_on_time st e.micros) (λ t. off (on_from t)));
       number = λ on apart. is ∙ second-of (is_on_time st e.micros) (sequence_number == expected st) (has_length st can_dl) (wants_more st) _ _ _ _ _ (on_to on)
@@ -146,7 +146,7 @@ is-judged limit T e i k sequence_number can_dl bytes goes o =
         | inr t ↦ (_, next_late sequence_number can_dl bs i k h o (λ on. false≢true (sym t ∙ on_to on)))
         | inl t ↦ elim (cases_Bool (sequence_number == expected st)) [
           | inr q ↦ (_, wrong_number sequence_number can_dl bs i k h o (on_from t) (λ same. false≢true (sym q ∙ eq-eqb sequence_number (expected st) (same ∙ sym same_number))))
-          | inl q ↦ (let number : sequence_number ≡ (consecutive_count d since + 1) % 16 = eqb-true sequence_number (expected st) q in
+          | inl q ↦ (let number : sequence_number ≡ (consecutive_frames_in d since + 1) % 16 = eqb-true sequence_number (expected st) q in
               elim (cases_Bool (has_length st can_dl)) [
                 | inr f ↦ (
                   _,
@@ -201,7 +201,7 @@ ends-so limit T e (Some x) h =
     let w = some-open limit T e e.dir h.0 h.1 cause.NewStart h.2 in
     ap (ended_as cause.NewStart e.dir) w.1 ∙ w.2 ∙ ap Some (sym h.3)
 
-both : (a : Answer) (x : Option Ended) (t : Told) → a.ended ≡ x → a.told ≡ t → a ≡ record { ended = x; told = t }
+both : (a : EventValue) (x : Option Ended) (t : VerdictValue) → a.ended ≡ x → a.told ≡ t → a ≡ record { ended = x; told = t }
 both a x t h g = ap (λ y. record { ended = y; told = a.told }) h ∙ ap (λ y. record { ended = x; told = y }) g
 
 -- a consecutive frame that completes a message ends nothing
@@ -230,7 +230,7 @@ moves-on limit d own others micros Continue st apart h = rw h refl
 moves-on limit d own others micros Wait st apart h = rw h refl
 moves-on limit d own others micros Overflow st apart h = absurd (apart refl)
 
-pub tabled : (limit : ℕ) (T : List Entry) (e : Entry) (a : Answer) → HasVerdict limit T e a → verdict limit T e ≡ a
+pub tabled : (limit : ℕ) (T : List Entry) (e : Entry) (a : EventValue) → HasVerdict limit T e a → verdict limit T e ≡ a
 tabled limit T e _ (no_layout f h) = verdict-by limit T e (Err f) h
 tabled limit T e _ (single_frame m x h ends) = verdict-by limit T e _ h ∙ ap (λ y. record { ended = y; told = message m }) (ends-so limit T e x ends)
 tabled limit T e _ (first_frame len rx_dl bytes x h fits ends) =
@@ -274,24 +274,24 @@ new-start limit T e None is = (None, nothing-open limit T e e.dir is)
 new-start limit T e (Some st) is = (let s = stands-open limit T (e ∷ []) e.dir st is in (Some (ended_by e.dir s.is_open.start cause.NewStart), (s.i, s.k, s.is_open, refl)))
 
 own-row : (limit : ℕ) (T : List Entry) (e : Entry) (sequence_number can_dl : ℕ) (bytes : List ℕ) (o : Option Standing) → layout_of e.frame ≡ Ok (layout.consecutive sequence_number can_dl bytes)
-    → stands limit e.dir T ≡ o → (a : Answer) × HasVerdict limit T e a
+    → stands limit e.dir T ≡ o → (a : EventValue) × HasVerdict limit T e a
 own-row limit T e sequence_number can_dl bytes None h is = (refused None reason.NextUnexpected, next_unexpected sequence_number can_dl bytes h (nothing-open limit T e e.dir is))
 own-row limit T e sequence_number can_dl bytes (Some st) h is =
     let s = stands-open limit T (e ∷ []) e.dir st is in
     (is-judged limit T e s.i s.k sequence_number can_dl bytes (role-by e sequence_number can_dl bytes h) s.is_open).covered bytes h
 
-overflow-row : (limit : ℕ) (T : List Entry) (e : Entry) (i k : ℕ) → layout_of e.frame ≡ Ok (layout.flow_control Overflow) → IsOpenBefore limit T e (other_direction e.dir) i k → (a : Answer) × HasVerdict limit T e a
+overflow-row : (limit : ℕ) (T : List Entry) (e : Entry) (i k : ℕ) → layout_of e.frame ≡ Ok (layout.flow_control Overflow) → IsOpenBefore limit T e (other_direction e.dir) i k → (a : EventValue) × HasVerdict limit T e a
 overflow-row limit T e i zero h o = (_, overflow_in_time i h o)
 overflow-row limit T e i (suc k) h o = (refused None reason.FlowUnexpected, overflow_too_late i (suc k) h o (omega arith))
 
 flow-row : (limit : ℕ) (T : List Entry) (e : Entry) (s : Status) (o : Option Standing) → layout_of e.frame ≡ Ok (layout.flow_control s) → stands limit (other_direction e.dir) T ≡ o
-    → (a : Answer) × HasVerdict limit T e a
+    → (a : EventValue) × HasVerdict limit T e a
 flow-row limit T e s None h is = (refused None reason.FlowUnexpected, flow_unexpected s h (nothing-open limit T e (other_direction e.dir) is))
 flow-row limit T e Continue (Some st) h is = (let w = stands-open limit T (e ∷ []) (other_direction e.dir) st is in (record { ended = None; told = flowed }, flow Continue w.i w.k h (λ same. cc) w.is_open))
 flow-row limit T e Wait (Some st) h is = (let w = stands-open limit T (e ∷ []) (other_direction e.dir) st is in (record { ended = None; told = flowed }, flow Wait w.i w.k h (λ same. cc) w.is_open))
 flow-row limit T e Overflow (Some st) h is = (let w = stands-open limit T (e ∷ []) (other_direction e.dir) st is in overflow-row limit T e w.i w.k h w.is_open)
 
-row : (limit : ℕ) (T : List Entry) (e : Entry) (x : Result Layout PduFault) → layout_of e.frame ≡ x → (a : Answer) × HasVerdict limit T e a
+row : (limit : ℕ) (T : List Entry) (e : Entry) (x : Result Layout PduFault) → layout_of e.frame ≡ x → (a : EventValue) × HasVerdict limit T e a
 row limit T e (Err f) h = (refused None (reason.Pdu f), no_layout f h)
 row limit T e (Ok (layout.single m)) h = (let w = new-start limit T e (stands limit e.dir T) refl in (record { ended = w.0; told = message m }, single_frame m w.0 h w.1))
 row limit T e (Ok (layout.first len rx_dl bytes)) h =
@@ -303,5 +303,5 @@ row limit T e (Ok (layout.first len rx_dl bytes)) h =
 row limit T e (Ok (layout.consecutive sequence_number can_dl bytes)) h = own-row limit T e sequence_number can_dl bytes (stands limit e.dir T) h refl
 row limit T e (Ok (layout.flow_control s)) h = flow-row limit T e s (stands limit (other_direction e.dir) T) h refl
 
-pub table-is-verdict : (limit : ℕ) (T : List Entry) (e : Entry) (a : Answer) → HasVerdict limit T e a ↔ (verdict limit T e ≡ a)
+pub table-is-verdict : (limit : ℕ) (T : List Entry) (e : Entry) (a : EventValue) → HasVerdict limit T e a ↔ (verdict limit T e ≡ a)
 table-is-verdict limit T e a = (tabled limit T e a, λ is. (let w = row limit T e (layout_of e.frame) refl in subst (HasVerdict limit T e) (sym (tabled limit T e w.0 w.1) ∙ is) w.1))

@@ -3,10 +3,10 @@ use Rattle.std.specs.Prelude.{None, ◌≡◌, ℕ, List, [], ◌∷◌, ◌++�
 use Rattle.can_log.specs.declared.frame.Dir.{Dir}
 use Rattle.isotp_receive.specs.Trace.{Entry}
 use Rattle.isotp_receive.specs.Standing.{stands}
-use Rattle.isotp_receive.specs.Verdict.{Told, message, began, stored, flowed, dropped, Answer, verdict}
+use Rattle.isotp_receive.specs.Verdict.{VerdictValue, message, began, stored, flowed, dropped, EventValue, verdict}
 
 -- the frame was not dropped
-abbrev pub IsKept : Told → Type 0
+abbrev pub IsKept : VerdictValue → Type 0
 IsKept (dropped r) = ⊥
 IsKept (message m) = ⊤
 IsKept began = ⊤
@@ -14,14 +14,14 @@ IsKept stored = ⊤
 IsKept flowed = ⊤
 
 -- the frame was not dropped, and no reception ended without its message
-pub record IsCleanAnswer (answer : Answer) : Type 0 where
+pub record IsCleanEvent (answer : EventValue) : Type 0 where
   pub goes_on : answer.ended ≡ None
   pub kept : IsKept answer.told
 
 -- each of the frames is answered so, where `past` stands before them
 abbrev pub EachClean : ℕ → List Entry → List Entry → Type 0
 EachClean limit past [] = ⊤
-EachClean limit past (e ∷ es) = IsCleanAnswer (verdict limit past e) × EachClean limit (past ++ e ∷ []) es
+EachClean limit past (e ∷ es) = IsCleanEvent (verdict limit past e) × EachClean limit (past ++ e ∷ []) es
 
 -- No frame of the trace is dropped, none ends a reception, and nothing stands at its end.
 pub record IsClean (limit : ℕ) (T : List Entry) : Type 0 where

@@ -6,26 +6,26 @@ use Rattle.isotp_receive.specs.Places.{bytes_in_first, FitsAs, AtPlaces}
 use Rattle.isotp_receive.specs.OnTime.{IsOnTime}
 use Rattle.isotp_receive.specs.OpenReception.{IsOpenAt}
 
--- at p stands the last consecutive frame of the reception that is open there, and m is its message
-pub record Completes (limit : ℕ) (T : List Entry) (p : ℕ) (d : Dir) (m : List ℕ) : Type 0 where
+-- at `position` stands the last consecutive frame of the reception that is open there, and this is its message
+pub record Completes (limit : ℕ) (T : List Entry) (position : ℕ) (d : Dir) (message : List ℕ) : Type 0 where
   pub i : ℕ
   pub k : ℕ
-  pub is_open : IsOpenAt limit T d i k p
+  pub is_open : IsOpenAt limit T d i k position
   pub last : k + 1 ≡ is_open.n
   -- the frame fits as the last, and is on time
   pub frame : Entry
   pub sequence_number : ℕ
   pub can_dl : ℕ
   pub bytes : List ℕ
-  pub stands : At T p frame
+  pub stands : At T position frame
   pub kind : role d frame ≡ consecutive sequence_number can_dl bytes
   pub fits : FitsAs (bytes_in_first is_open.frame.frame.bytes) is_open.start.rx_dl is_open.start.len is_open.n (k + 1) sequence_number can_dl
-  pub on_time : IsOnTime T d i p frame
-  -- m has the announced length, and its bytes stand at their places
-  pub size : length m ≡ is_open.start.len
-  pub places : AtPlaces T d i is_open.frame is_open.start.rx_dl m
+  pub on_time : IsOnTime T d i position frame
+  -- the message has the announced length, and its bytes stand at their places
+  pub size : length message ≡ is_open.start.len
+  pub places : AtPlaces T d i is_open.frame is_open.start.rx_dl message
 
--- the frame at p delivers the message m of d: a single frame that holds it, or the last frame of its reception
-pub data Delivers (limit : ℕ) (T : List Entry) (p : ℕ) (d : Dir) (m : List ℕ) : Type 0 where
-  in_one_frame : (e : Entry) → At T p e → role d e ≡ single m → Delivers limit T p d m
-  in_frames : Completes limit T p d m → Delivers limit T p d m
+-- the frame at `position` delivers the message of d: a single frame that holds it, or the last frame of its reception
+pub data Delivers (limit : ℕ) (T : List Entry) (position : ℕ) (d : Dir) (message : List ℕ) : Type 0 where
+  in_one_frame : (entry : Entry) → At T position entry → role d entry ≡ single message → Delivers limit T position d message
+  in_frames : Completes limit T position d message → Delivers limit T position d message

@@ -2,10 +2,10 @@
 use Rattle.std.specs.Prelude.{ℕ, suc, List, [], ◌∷◌, ◌++◌, if◌then◌else◌}
 use Rattle.can_log.specs.declared.frame.Dir.{Dir}
 use Rattle.isotp_receive.specs.Trace.{Entry, same_direction}
-use Rattle.isotp_receive.specs.Verdict.{Told, message, began, stored, flowed, dropped, verdict}
+use Rattle.isotp_receive.specs.Verdict.{VerdictValue, message, began, stored, flowed, dropped, verdict}
 
 -- the message that a frame at position n completes, with the position
-abbrev pub placed : ℕ → Told → List (ℕ × List ℕ)
+abbrev pub placed : ℕ → VerdictValue → List (ℕ × List ℕ)
 placed n (message m) = (n, m) ∷ []
 placed n began = []
 placed n stored = []

@@ -9,7 +9,7 @@ use Rattle.isotp_receive.specs.declared.reception.Judged.{Judged}
 use Rattle.isotp_receive.specs.declared.reception.Judged.TheVariants as judged_as
 use Rattle.isotp_receive.specs.declared.event.Cause.TheVariants as cause
 use Rattle.isotp_receive.specs.declared.event.Reason.TheVariants as reason
-use Rattle.isotp_receive.specs.Verdict.{Answer, stored, message, refused, ended_as, is_on_time, expected, has_length, wants_more}
+use Rattle.isotp_receive.specs.Verdict.{EventValue, stored, message, refused, ended_as, is_on_time, expected, has_length, wants_more}
 use Rattle.isotp_receive.specs.Trace.{FirstFrame, Role, single, first, consecutive, continue_or_wait, overflow, no_part, own_role, other_role}
 use Rattle.isotp_receive.specs.Standing.{Standing, Receptions}
 
@@ -23,7 +23,7 @@ judged s micros sequence_number can_dl =
     else judged_as.Late
 
 -- the answer to a consecutive frame that was judged so
-abbrev pub on_judged : Dir → Standing → Judged → ℕ → List ℕ → Answer
+abbrev pub on_judged : Dir → Standing → Judged → ℕ → List ℕ → EventValue
 on_judged d s judged_as.Late sequence_number bytes = refused (ended_as cause.Late d (Some s)) reason.NextLate
 on_judged d s judged_as.Sequence sequence_number bytes = refused (ended_as cause.Sequence d (Some s)) (reason.NextSequence (expected s) sequence_number)
 on_judged d s judged_as.Length sequence_number bytes = refused (ended_as cause.Length d (Some s)) reason.NextLength

@@ -11,18 +11,20 @@ n_cr = 1000000
 abbrev pub RestartsTimer : Role → Type 0
 RestartsTimer (consecutive sequence_number can_dl bytes) = ⊤
 RestartsTimer continue_or_wait = ⊤
-RestartsTimer (single m) = ⊥
-RestartsTimer (first s) = ⊥
+RestartsTimer (single message) = ⊥
+RestartsTimer (first start) = ⊥
 RestartsTimer overflow = ⊥
 RestartsTimer no_part = ⊥
 
--- q is the position of the reference frame of c: the greatest before c that is i, or later than i and holds such a frame
-pub record IsReference (T : List Entry) (d : Dir) (i c q : ℕ) : Type 0 where
-  pub from : i ≤ q
-  pub below : q < c
-  pub restarts : (q ≡ i) ⊎ ((e : Entry) × At T q e × RestartsTimer (role d e))
-  pub greatest : (p : ℕ) (e : Entry) → q < p → p < c → At T p e → RestartsTimer (role d e) → ⊥
+-- `reference` is the position of the reference frame of the frame at `position`: the greatest before it that is `begun`,
+-- or later than `begun` and holds such a frame
+pub record IsReference (T : List Entry) (d : Dir) (begun position reference : ℕ) : Type 0 where
+  pub from : begun ≤ reference
+  pub below : reference < position
+  pub restarts : (reference ≡ begun) ⊎ ((entry : Entry) × At T reference entry × RestartsTimer (role d entry))
+  pub greatest : (later : ℕ) (entry : Entry) → reference < later → later < position → At T later entry → RestartsTimer (role d entry) → ⊥
 
--- the consecutive frame x at c is on time, after a first frame at i
+-- the consecutive frame at `position` is on time, after a first frame at `begun`
 abbrev pub IsOnTime : List Entry → Dir → ℕ → ℕ → Entry → Type 0
-IsOnTime T d i c x = (q : ℕ) × (e : Entry) × IsReference T d i c q × At T q e × (x.micros ≤ e.micros + n_cr)
+IsOnTime T d begun position entry =
+    (reference : ℕ) × (last : Entry) × IsReference T d begun position reference × At T reference last × (entry.micros ≤ last.micros + n_cr)

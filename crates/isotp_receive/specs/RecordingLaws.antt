@@ -18,21 +18,21 @@ RecordingDeliversBehind =
     → messages limit (before ++ T) ≡ messages limit before ++ M
 
 -- each message is delivered at the last of its positions
-abbrev pub DeliversAtLastPosition : Type 0
-DeliversAtLastPosition =
+abbrev pub RecordingDeliversAtLastPosition : Type 0
+RecordingDeliversAtLastPosition =
     (limit : ℕ) (before T : List Entry) (M : List (Dir × List ℕ)) (recording : IsRecording limit T M) (n : ℕ)
     → messages limit (before ++ take n T) ≡ messages limit before ++ ended_within n recording.transfers
 
 -- it gives each message the positions of the frames that make it, and each frame that carries a message to exactly one
-abbrev pub RecordingGivesFrames : Type 0
-RecordingGivesFrames =
+abbrev pub RecordingDeliversByFrames : Type 0
+RecordingDeliversByFrames =
     (limit : ℕ) (T : List Entry) (M : List (Dir × List ℕ)) (recording : IsRecording limit T M)
     → AreGivenTheirFrames limit T recording.transfers × EachBelongsOnce T recording.transfers
 
 -- A trace of which nothing is dropped, ended or left over is a recording of what it delivers: each message is given the
 -- positions of the frames that make it, and each single, first and consecutive frame belongs to exactly one. The limit is at
 -- least the length of the longest frame, since no rule bounds the message of a single frame by it.
-abbrev pub CleanTraceIsRecording : Type 0
-CleanTraceIsRecording =
+abbrev pub CleanTraceIsARecording : Type 0
+CleanTraceIsARecording =
     (limit : ℕ) (T : List Entry) → 64 ≤ limit → IsClean limit T
     → (recording : IsRecording limit T (messages limit T)) × AreGivenTheirFrames limit T recording.transfers × EachBelongsOnce T recording.transfers

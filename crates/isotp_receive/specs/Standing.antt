@@ -4,7 +4,7 @@ use Rattle.std.specs.Prelude.{ℕ, ◌+◌, ◌-◌, ◌%◌, Bool, true, false,
 use Rattle.can_log.specs.declared.frame.Dir.{Dir}
 use Rattle.can_log.specs.declared.frame.Dir.TheVariants.{Tester, Unit}
 use Rattle.isotp_receive.specs.Trace.{Entry, FirstFrame, Role, single, first, consecutive, continue_or_wait, overflow, no_part, role}
-use Rattle.isotp_receive.specs.Places.{bytes_before, consecutive_count}
+use Rattle.isotp_receive.specs.Places.{bytes_before, consecutive_frames_in}
 use Rattle.isotp_receive.specs.OnTime.{n_cr}
 
 -- the bytes that the consecutive frames of the direction carry
@@ -50,8 +50,8 @@ fits_length len rx_dl have can_dl =
 abbrev pub keeps_by : Dir → FirstFrame → List Entry → ℕ → Role → Bool
 keeps_by d s past micros (consecutive sequence_number can_dl bytes) =
     nat_le micros (reference d s.micros past + n_cr)
-    && (sequence_number == (consecutive_count d past + 1) % 16 && fits_length s.len s.rx_dl (carried_after s (consecutive_count d past)) can_dl)
-keeps_by d s past micros overflow = nat_lt 0 (consecutive_count d past)
+    && (sequence_number == (consecutive_frames_in d past + 1) % 16 && fits_length s.len s.rx_dl (carried_after s (consecutive_frames_in d past)) can_dl)
+keeps_by d s past micros overflow = nat_lt 0 (consecutive_frames_in d past)
 keeps_by d s past micros (single m) = false
 keeps_by d s past micros (first f) = false
 keeps_by d s past micros continue_or_wait = true
@@ -64,7 +64,7 @@ keep d s past (e ∷ es) = keeps_by d s past e.micros (role d e) && keep d s (pa
 
 -- a reception that began with s is open after these frames, and not complete
 abbrev pub is_open : ℕ → Dir → FirstFrame → List Entry → Bool
-is_open limit d s es = nat_le s.len limit && (nat_lt (carried_after s (consecutive_count d es)) s.len && keep d s [] es)
+is_open limit d s es = nat_le s.len limit && (nat_lt (carried_after s (consecutive_frames_in d es)) s.len && keep d s [] es)
 
 -- what is known of a reception: line, length and CAN_DL of its first frame, how many consecutive frames it took, the
 -- bytes that have come, and the time that N_Cr runs from
@@ -78,7 +78,7 @@ pub record Standing : Type 0 where
 
 -- of the one that began with s, after these frames
 abbrev pub standing_of : Dir → FirstFrame → List Entry → Standing
-standing_of d s es = record { line = s.line; len = s.len; rx_dl = s.rx_dl; taken = consecutive_count d es; bytes = s.bytes ++ carried d es; reference = reference d s.micros es }
+standing_of d s es = record { line = s.line; len = s.len; rx_dl = s.rx_dl; taken = consecutive_frames_in d es; bytes = s.bytes ++ carried d es; reference = reference d s.micros es }
 
 -- the one that began with a frame of this role, and is open after these frames
 abbrev pub since : ℕ → Dir → Role → List Entry → Option Standing

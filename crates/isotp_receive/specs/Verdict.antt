@@ -17,17 +17,17 @@ use Rattle.isotp_receive.specs.OnTime.{n_cr}
 use Rattle.isotp_receive.specs.Standing.{Standing, fits_length, stands}
 
 -- what becomes of a frame: it completes a message, begins a reception, is stored, is flow control, or is dropped
-pub data Told : Type 0 where
-  message : List ℕ → Told
-  began : Told
-  stored : Told
-  flowed : Told
-  dropped : Reason → Told
+pub data VerdictValue : Type 0 where
+  message : List ℕ → VerdictValue
+  began : VerdictValue
+  stored : VerdictValue
+  flowed : VerdictValue
+  dropped : Reason → VerdictValue
 
 -- the reception that the frame ends, if it ends one, and what becomes of the frame
-pub record Answer : Type 0 where
+pub record EventValue : Type 0 where
   pub ended : Option Ended
-  pub told : Told
+  pub told : VerdictValue
 
 -- what ends for this cause, where o stands for d
 abbrev pub ended_as : Cause → Dir → Option Standing → Option Ended
@@ -35,7 +35,7 @@ ended_as cause d None = None
 ended_as cause d (Some s) = Some (record { dir = d; begun_line = s.line; len = s.len; cause = cause })
 
 -- a frame that is refused, and ends this
-abbrev pub refused : Option Ended → Reason → Answer
+abbrev pub refused : Option Ended → Reason → EventValue
 refused ended r = record { ended = ended; told = dropped r }
 
 -- a consecutive frame of this time is on time
@@ -55,7 +55,7 @@ abbrev pub wants_more : Standing → Bool
 wants_more s = nat_lt (length s.bytes + (s.rx_dl - 1)) s.len
 
 -- a consecutive frame, where this stands: the first that holds of late, wrong number, wrong length; else it is stored, or the last
-abbrev pub on_consecutive : Dir → Option Standing → ℕ → ℕ → ℕ → List ℕ → Answer
+abbrev pub on_consecutive : Dir → Option Standing → ℕ → ℕ → ℕ → List ℕ → EventValue
 on_consecutive d None micros sequence_number can_dl bytes = refused None reason.NextUnexpected
 on_consecutive d (Some s) micros sequence_number can_dl bytes =
     if not (is_on_time s micros) then refused (ended_as cause.Late d (Some s)) reason.NextLate
@@ -65,23 +65,23 @@ on_consecutive d (Some s) micros sequence_number can_dl bytes =
     else record { ended = None; told = message (take s.len (s.bytes ++ bytes)) }
 
 -- a continue or wait frame is expected where this stands for the other direction
-abbrev pub on_continue_or_wait : Option Standing → Answer
+abbrev pub on_continue_or_wait : Option Standing → EventValue
 on_continue_or_wait None = refused None (reason.FlowUnexpected)
 on_continue_or_wait (Some s) = record { ended = None; told = flowed }
 
 -- an overflow frame, where that took no consecutive frame yet, and then ends it
-abbrev pub on_overflow : Dir → Option Standing → Answer
+abbrev pub on_overflow : Dir → Option Standing → EventValue
 on_overflow other None = refused None (reason.FlowUnexpected)
 on_overflow other (Some s) = if s.taken == 0 then record { ended = ended_as cause.Overflow other (Some s); told = flowed } else refused None reason.FlowUnexpected
 
 -- a flow control frame by its status
-abbrev pub on_flow_control : Dir → Option Standing → Status → Answer
+abbrev pub on_flow_control : Dir → Option Standing → Status → EventValue
 on_flow_control other o Continue = on_continue_or_wait o
 on_flow_control other o Wait = on_continue_or_wait o
 on_flow_control other o Overflow = on_overflow other o
 
 -- a frame of direction d with this layout or fault, at this time, where own stands for d and others for the other direction
-abbrev pub on_layout : ℕ → Dir → Option Standing → Option Standing → ℕ → Result Layout PduFault → Answer
+abbrev pub on_layout : ℕ → Dir → Option Standing → Option Standing → ℕ → Result Layout PduFault → EventValue
 on_layout limit d own others micros (Err f) = refused None (reason.Pdu f)
 on_layout limit d own others micros (Ok (layout.single m)) = record { ended = ended_as cause.NewStart d own; told = message m }
 on_layout limit d own others micros (Ok (layout.first len rx_dl bytes)) =
@@ -90,11 +90,11 @@ on_layout limit d own others micros (Ok (layout.consecutive sequence_number can_
 on_layout limit d own others micros (Ok (layout.flow_control s)) = on_flow_control (other_direction d) others s
 
 -- what the frame e does after the frames T
-unfoldable pub verdict : ℕ → List Entry → Entry → Answer
+unfoldable pub verdict : ℕ → List Entry → Entry → EventValue
 verdict limit T e = on_layout limit e.dir (stands limit e.dir T) (stands limit (other_direction e.dir) T) e.micros (layout_of e.frame)
 
--- the message of an answer, with its direction
-abbrev pub told_message : Dir → Told → List (Dir × List ℕ)
+-- the message of a verdict, with its direction
+abbrev pub told_message : Dir → VerdictValue → List (Dir × List ℕ)
 told_message d (message m) = (d, m) ∷ []
 told_message d began = []
 told_message d stored = []

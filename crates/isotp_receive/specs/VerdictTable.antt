@@ -16,7 +16,7 @@ use Rattle.isotp_receive.specs.Places.{bytes_in_first, FitsAs}
 use Rattle.isotp_receive.specs.OnTime.{IsOnTime}
 use Rattle.isotp_receive.specs.OpenReception.{IsOpenAt}
 use Rattle.isotp_receive.specs.Delivers.{Completes}
-use Rattle.isotp_receive.specs.Verdict.{Answer, message, began, stored, flowed, refused}
+use Rattle.isotp_receive.specs.Verdict.{EventValue, message, began, stored, flowed, refused}
 
 -- after T the frame e comes, and the reception of d that is open then began at i and took k consecutive frames
 abbrev pub IsOpenBefore : ℕ → List Entry → Entry → Dir → ℕ → ℕ → Type 0
@@ -44,7 +44,7 @@ abbrev pub FitsNext : (limit : ℕ) (T : List Entry) (e : Entry) (i k sequence_n
 FitsNext limit T e i k sequence_number can_dl o = FitsAs (bytes_in_first o.frame.frame.bytes) o.start.rx_dl o.start.len o.n (k + 1) sequence_number can_dl
 
 -- the verdict on the frame e after the frames T
-pub data HasVerdict (limit : ℕ) (T : List Entry) (e : Entry) : Answer → Type 0 where
+pub data HasVerdict (limit : ℕ) (T : List Entry) (e : Entry) : EventValue → Type 0 where
   -- a frame without a layout
   no_layout : (f : PduFault) → layout_of e.frame ≡ Err f → HasVerdict limit T e (refused None (reason.Pdu f))
   -- a single frame

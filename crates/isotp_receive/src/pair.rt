@@ -58,6 +58,17 @@ impl Pair {
         }
     }
 
+    /// Takes one more frame of the direction. A finished message is lent until the next call, out of
+    /// the pair's buffer, or out of the frame where that is a single frame. `line` is recorded only;
+    /// `micros` may be any number, and may go backwards.
+    pub fn accept<'a>(&'a mut self, line: u64, micros: u64, dir: Dir, frame: &'a Frame) -> Event<'a>
+        ensures* stands { sem 𝓛 (TakesFrame MESSAGE_LIMIT self.entry (record { line = line; micros = micros; dir = dir; frame = frame.now })) }
+        ensures verdict { (T : List Entry) → self.old ≡ receptions_after MESSAGE_LIMIT T →
+            seen_event result ≡ verdict MESSAGE_LIMIT T (record { line = line; micros = micros; dir = dir; frame = frame.now }) }
+    {
+        self.take(line, micros, dir, read_pdu(frame))
+    }
+
     /// Takes a frame that was read, as the direction's own or as flow control for the other one.
     fn take<'a>(
         &'a mut self,
@@ -137,16 +148,5 @@ impl Pair {
             ended,
             verdict: Verdict::Began,
         }
-    }
-
-    /// Takes one more frame of the direction. A finished message is lent until the next call, out of
-    /// the pair's buffer, or out of the frame where that is a single frame. `line` is recorded only;
-    /// `micros` may be any number, and may go backwards.
-    pub fn accept<'a>(&'a mut self, line: u64, micros: u64, dir: Dir, frame: &'a Frame) -> Event<'a>
-        ensures* stands { sem 𝓛 (TakesFrame MESSAGE_LIMIT self.entry (record { line = line; micros = micros; dir = dir; frame = frame.now })) }
-        ensures verdict { (T : List Entry) → self.old ≡ receptions_after MESSAGE_LIMIT T →
-            seen_event result ≡ verdict MESSAGE_LIMIT T (record { line = line; micros = micros; dir = dir; frame = frame.now }) }
-    {
-        self.take(line, micros, dir, read_pdu(frame))
     }
 }

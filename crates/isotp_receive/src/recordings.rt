@@ -5,7 +5,7 @@
 //! says nothing of how the frames are paced within the time-out, how long they are, or what they are
 //! padded with: so these can't change what is read.
 
-ghost use Rattle.isotp_receive.specs.RecordingLaws.{RecordingDelivers, RecordingDeliversBehind, DeliversAtLastPosition, RecordingGivesFrames, CleanTraceIsRecording};
+ghost use Rattle.isotp_receive.specs.RecordingLaws.{RecordingDelivers, RecordingDeliversBehind, RecordingDeliversAtLastPosition, RecordingDeliversByFrames, CleanTraceIsARecording};
 
 /// A recording delivers exactly its messages, in order, each at the last of its frames; behind any
 /// trace too, even where a reception stands there. Each message is given the positions of the frames
@@ -13,8 +13,8 @@ ghost use Rattle.isotp_receive.specs.RecordingLaws.{RecordingDelivers, Recording
 pub fn recording_delivers()
     ensures alone { RecordingDelivers }
     ensures behind_any_trace { RecordingDeliversBehind }
-    ensures at_last_position { DeliversAtLastPosition }
-    ensures frames { RecordingGivesFrames }
+    ensures at_last_position { RecordingDeliversAtLastPosition }
+    ensures frames { RecordingDeliversByFrames }
 {}
 
 /// A trace of which nothing is dropped, ended or left over is a recording of what it delivers. Each
@@ -22,5 +22,5 @@ pub fn recording_delivers()
 /// frame and all consecutive frames since. Each single, first and consecutive frame of the trace
 /// belongs to exactly one delivered message.
 pub fn clean_trace_is_a_recording()
-    ensures certificate { CleanTraceIsRecording }
+    ensures certificate { CleanTraceIsARecording }
 {}

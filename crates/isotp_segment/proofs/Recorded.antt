@@ -14,7 +14,7 @@ use Rattle.isotp_receive.specs.Trace.{Entry, At, FirstFrame, first, consecutive,
 use Rattle.isotp_receive.specs.OnTime.{RestartsTimer}
 use Rattle.isotp_receive.specs.Recording.{IsConsecutiveFrame, EachNumbered, IsSegmented, unsegmented, segmented, Transfer, IsTransfer, IsIn, last_or, AreApart, EachPair, IsGiven, IsIdle, IsRecording, ended_within}
 use Rattle.isotp_receive.specs.Verdict.{messages}
-use Rattle.isotp_receive.proofs.Promises.{carried_agrees, recording_delivers_behind, delivers_at_last_position}
+use Rattle.isotp_receive.proofs.Promises.{places_agree_on_bytes, recording_delivers_behind, recording_delivers_at_last_position}
 use Rattle.isotp_receive.specs.Places as places
 use Rattle.isotp_segment.specs.CanonicalFrames.{consecutive_count, filled, single_control, first_control, consecutive_control, continue_control, room_in_first, place_of, total_count, canonical_frame, canonical_frames}
 use Rattle.isotp_segment.specs.Timed.{timed, HasFrames, all_frames}
@@ -90,7 +90,7 @@ module _ (identifier : Dir → Id) (line micros limit : ℕ) (bits : limit < 2 ^
       held : places.bytes_in_first (filled (first_control (length m)) m) ≡ room_in_first (length m)
       unfolding start
       held =
-          let at_none = carried_agrees d _ start 0 starts.0 in
+          let at_none = places_agree_on_bytes d _ start 0 starts.0 in
           let size = starts.1 in
           omega arith
 
@@ -109,7 +109,7 @@ module _ (identifier : Dir → Id) (line micros limit : ℕ) (bits : limit < 2 ^
             bytes = drop 1 (filled (consecutive_control k) bytes);
             stands = at-consecutive k one below;
             kind = consecutive-role (n + (1 + k)) k bytes;
-            fits = record { from_one = one; to_last = most; number = refl; full = λ _. refl; last_low = λ last. omega arith; last_high = λ _. omega arith };
+            fits = record { from_one = one; to_last = most; in_sequence = refl; full = λ _. refl; last_low = λ last. omega arith; last_high = λ _. omega arith };
             on_time = (n + k, w.0, record { from = omega arith; below = omega arith; restarts = inr (w.0, w.1, w.2); greatest = λ p x above under there _. absurd (omega arith) }, w.1, (let t = w.3 in omega arith));
             holds = λ c lt inside.
                 sym (get_or-drop (place_of (length m) k) m c 0)
@@ -291,6 +291,6 @@ module _ (limit : ℕ) (identifier : Dir → Id) (line micros : ℕ) (T : List E
       let inside : n < total_count (length m) = omega (arith, length-canonical_frames limit d m some fits) in
       ap (λ l. messages limit (T ++ l)) (take-timed identifier line micros n (canonical_frames limit d m))
       ∙ ap (λ frames. messages limit (T ++ take n (timed identifier line micros frames))) (sym alone)
-      ∙ delivers_at_last_position limit T (timed identifier line micros (all_frames limit ((d, m) ∷ []))) ((d, m) ∷ []) (frames-recording identifier line micros limit bits ((d, m) ∷ []) sizes) n
+      ∙ recording_delivers_at_last_position limit T (timed identifier line micros (all_frames limit ((d, m) ∷ []))) ((d, m) ∷ []) (frames-recording identifier line micros limit bits ((d, m) ∷ []) sizes) n
       ∙ ap (λ l. messages limit T ++ l) (frames-ended identifier line micros limit bits d m sizes n inside)
       ∙ append-nil (messages limit T)

@@ -11,22 +11,22 @@ use Rattle.isotp_segment.specs.CanonicalFrames.{room_in_first, consecutive_count
 use Rattle.isotp_segment.specs.Timed.{timed, HasFrames, all_frames}
 
 -- the count of a message's consecutive frames is the least that holds what the first frame leaves
-abbrev pub CountIsLeast : Type 0
-CountIsLeast = (len : ℕ) → 7 < len → IsConsecutiveCount (room_in_first len) 8 len (consecutive_count len)
+abbrev pub ConsecutiveCountIsLeast : Type 0
+ConsecutiveCountIsLeast = (len : ℕ) → 7 < len → IsConsecutiveCount (room_in_first len) 8 len (consecutive_count len)
 
 -- the canonical frames of any messages, a millisecond apart, are a recording of them
-abbrev pub CanonicalFramesAreRecording : Type 0
-CanonicalFramesAreRecording = (limit : ℕ) (identifier : Dir → Id) (line micros : ℕ) (M : List (Dir × List ℕ))
+abbrev pub CanonicalFramesAreARecording : Type 0
+CanonicalFramesAreARecording = (limit : ℕ) (identifier : Dir → Id) (line micros : ℕ) (M : List (Dir × List ℕ))
     → limit < 2 ^ 32 → AllByRecursion (HasFrames limit) M → IsRecording limit (timed identifier line micros (all_frames limit M)) M
 
 -- received after any trace they deliver the message, and nothing else
-abbrev pub FramesDeliver : Type 0
-FramesDeliver = (limit : ℕ) (identifier : Dir → Id) (line micros : ℕ) (T : List Entry) (d : Dir) (m : List ℕ)
+abbrev pub SegmentsDeliver : Type 0
+SegmentsDeliver = (limit : ℕ) (identifier : Dir → Id) (line micros : ℕ) (T : List Entry) (d : Dir) (m : List ℕ)
     → limit < 2 ^ 32 → 1 ≤ length m → length m ≤ limit
     → messages limit (T ++ timed identifier line micros (canonical_frames limit d m)) ≡ messages limit T ++ (d, m) ∷ []
 
 -- it is the last of them that does: the frames before it deliver nothing
-abbrev pub FrontsDeliverNothing : Type 0
-FrontsDeliverNothing = (limit : ℕ) (identifier : Dir → Id) (line micros : ℕ) (T : List Entry) (d : Dir) (m : List ℕ) (n : ℕ)
+abbrev pub SegmentsDeliverNothingBefore : Type 0
+SegmentsDeliverNothingBefore = (limit : ℕ) (identifier : Dir → Id) (line micros : ℕ) (T : List Entry) (d : Dir) (m : List ℕ) (n : ℕ)
     → limit < 2 ^ 32 → 1 ≤ length m → length m ≤ limit → n < length (canonical_frames limit d m)
     → messages limit (T ++ timed identifier line micros (take n (canonical_frames limit d m))) ≡ messages limit T

@@ -1,21 +1,21 @@
 //! Laws of canonical frames, for the proofs of callers: functions that do nothing.
 
-ghost use Rattle.isotp_segment.specs.Laws.{CountIsLeast, CanonicalFramesAreRecording, FramesDeliver, FrontsDeliverNothing};
+ghost use Rattle.isotp_segment.specs.Laws.{ConsecutiveCountIsLeast, CanonicalFramesAreARecording, SegmentsDeliver, SegmentsDeliverNothingBefore};
 
 /// The consecutive frames of a message are as many as its bytes ask for, and no more.
 pub fn consecutive_count_is_least()
-    ensures least { CountIsLeast }
+    ensures least { ConsecutiveCountIsLeast }
 {}
 
 /// The canonical frames of any messages, each a millisecond after the one before, are a recording of
 /// these messages: from any line and time on, and under any two identifiers.
 pub fn canonical_frames_are_a_recording()
-    ensures recording { CanonicalFramesAreRecording }
+    ensures recording { CanonicalFramesAreARecording }
 {}
 
 /// Received after any trace, the canonical frames of a message deliver it at the last of them, and
 /// nothing before.
 pub fn segments_deliver()
-    ensures message { FramesDeliver }
-    ensures nothing_before { FrontsDeliverNothing }
+    ensures message { SegmentsDeliver }
+    ensures nothing_before { SegmentsDeliverNothingBefore }
 {}
