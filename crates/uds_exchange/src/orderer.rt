@@ -104,10 +104,7 @@ impl Orderer {
         }
         let role = role_of(self.open_sid, dir, message);
         if let (Role::Stray, Some(_)) = (role, self.open_sid) {
-            return match self.held.push(dir, message) {
-                Ok(()) => Ok(()),
-                Err(_) => Err(OrderFault::Memory),
-            };
+            return self.held.push(dir, message).map_err(|_| OrderFault::Memory);
         }
         if let Err(fault) = put_due(role, &self.held, dir, message, sink) {
             self.failed = true;
@@ -140,10 +137,7 @@ impl Orderer {
         if self.failed {
             return Err(OrderFault::Failed);
         }
-        match self.held.put_all(sink) {
-            Ok(()) => Ok(()),
-            Err(fault) => Err(OrderFault::Sink(fault)),
-        }
+        self.held.put_all(sink).map_err(OrderFault::Sink)
     }
 }
 
@@ -178,9 +172,7 @@ fn put_behind<S: MessageSink>(
     ensures err { IfErr result (λ e. Fails S.after_ok S.after_err sink.old
         (held.now ++ (dir, message.now) ∷ []) e sink.new) }
 {
-    if let Err(fault) = held.put_all(sink) {
-        return Err(fault);
-    }
+    held.put_all(sink)?;
     sink.put(dir, message)
 }
 
@@ -195,8 +187,6 @@ fn put_before<S: MessageSink>(
     ensures err { IfErr result (λ e. Fails S.after_ok S.after_err sink.old
         ((dir, message.now) ∷ held.now) e sink.new) }
 {
-    if let Err(fault) = sink.put(dir, message) {
-        return Err(fault);
-    }
+    sink.put(dir, message)?;
     held.put_all(sink)
 }

@@ -55,8 +55,7 @@ impl Pairing {
             → self.new ≡ meaning (M ++ (dir, message.now) ∷ [])) }
         ensures err { OnErr result (self.new ≡ self.old) }
     {
-        self.join(dir, message)?;
-        Ok(())
+        self.join(dir, message)
     }
 
     /// Takes one more message, by the items and the open request alone.
