@@ -87,6 +87,22 @@ impl Orderer {
         self.advance(dir, message, sink)
     }
 
+    /// Puts what is held. It takes no memory.
+    pub fn finish<S: MessageSink>(self, sink: &mut S) -> Result<(), OrderFault<S::Fault>>
+        ensures puts { OnOk result ((M : List Message) → self ≡ stands_after M
+            → Puts S.after_ok sink.old (held_after M) sink.new) }
+        ensures stops { IfErr result (λ fault. (M : List Message) → self ≡ stands_after M
+            → StopsAtEnd S.after_ok S.after_err (held_after M) sink.old sink.new fault) }
+        ensures failed { self.failed ≡ true → (result ≡ Err Failed) × (sink.new ≡ sink.old) }
+        ensures failed_only { result ≡ Err Failed → self.failed ≡ true }
+        ensures never_memory { result ≢ Err Memory }
+    {
+        if self.failed {
+            return Err(OrderFault::Failed);
+        }
+        self.held.put_all(sink).map_err(OrderFault::Sink)
+    }
+
     /// Takes one more message, by the open request and what is held alone.
     fn advance<S: MessageSink>(
         &mut self,
@@ -122,22 +138,6 @@ impl Orderer {
             Role::Removed | Role::Stray => {}
         }
         Ok(())
-    }
-
-    /// Puts what is held. It takes no memory.
-    pub fn finish<S: MessageSink>(self, sink: &mut S) -> Result<(), OrderFault<S::Fault>>
-        ensures puts { OnOk result ((M : List Message) → self ≡ stands_after M
-            → Puts S.after_ok sink.old (held_after M) sink.new) }
-        ensures stops { IfErr result (λ fault. (M : List Message) → self ≡ stands_after M
-            → StopsAtEnd S.after_ok S.after_err (held_after M) sink.old sink.new fault) }
-        ensures failed { self.failed ≡ true → (result ≡ Err Failed) × (sink.new ≡ sink.old) }
-        ensures failed_only { result ≡ Err Failed → self.failed ≡ true }
-        ensures never_memory { result ≢ Err Memory }
-    {
-        if self.failed {
-            return Err(OrderFault::Failed);
-        }
-        self.held.put_all(sink).map_err(OrderFault::Sink)
     }
 }
 

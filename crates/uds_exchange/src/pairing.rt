@@ -58,6 +58,13 @@ impl Pairing {
         self.join(dir, message)
     }
 
+    /// The meaning of the messages that were taken. It takes no memory.
+    pub fn finish(self) -> Meaning
+        ensures { result ≡ self }
+    {
+        Meaning::of(self.items)
+    }
+
     /// Takes one more message, by the items and the open request alone.
     fn join(&mut self, dir: Dir, message: &[u8]) -> Result<(), AllocError>
         ensures ok { OnOk result (self.new ≡ joined self.old (dir, message.now)) }
@@ -88,13 +95,6 @@ impl Pairing {
                 Ok(())
             }
         }
-    }
-
-    /// The meaning of the messages that were taken. It takes no memory.
-    pub fn finish(self) -> Meaning
-        ensures { result ≡ self }
-    {
-        Meaning::of(self.items)
     }
 }
 
