@@ -1,5 +1,6 @@
 -- The table of hexadecimal digits.
 use Rattle.std.proofs.Common.{◌≡◌, ℕ, ◌<◌, Bool, true, false, map, cond, get_or, ltb, refl, ap, ◌∙◌, arith}
+use Rattle.std.proofs.lemmas.Bool.{lt-ltb}
 use Rattle.std.proofs.lemmas.List.FromFn.{get_or-map-range_with_len}
 use Rattle.std.specs.List.{range_with_len}
 use Rattle.std.specs.Char.{is_ascii_hexdigit, digit_value}
@@ -15,9 +16,6 @@ table_is = refl
 
 marked : (b : ℕ) → b < 256 → get_or DIGIT_VALUES b 0 ≡ mark b
 marked b h = ap (λ t. get_or t b 0) table_is ∙ get_or-map-range_with_len mark 0 256 b b 0 h (omega arith)
-
-lt-ltb : (a b : ℕ) → a < b → ltb a b ≡ true
-lt-ltb a b h = search arith
 
 pub is_digit : (b : ℕ) → b < 256 → ltb (get_or DIGIT_VALUES b 0) 16 ≡ is_ascii_hexdigit b
 is_digit b h = ap (λ (n : ℕ). ltb n 16) (marked b h) ∙ by (is_ascii_hexdigit b) refl

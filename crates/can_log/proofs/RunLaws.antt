@@ -1,8 +1,8 @@
 -- The law of one byte, and of a run of bytes.
-use Rattle.std.proofs.Common.{◌≡◌, ℕ, zero, suc, ◌-◌, ◌<◌, ◌≤◌, Bool, true, false, cond, ltb, List, [], ◌∷◌, ◌++◌, length, Ok, Err, refl, sym, ap, subst, ◌∙◌, arith, inl, inr, ◌⊎◌, length-append, rules}
+use Rattle.std.proofs.Common.{◌≡◌, ℕ, zero, suc, ◌-◌, ◌<◌, ◌≤◌, Bool, true, false, cond, ltb, List, [], ◌∷◌, ◌++◌, length, Ok, Err, refl, sym, ap, subst, ◌∙◌, arith, inl, inr, ◌⊎◌, length-append}
 use Rattle.std.specs.Prelude.{◌==◌, replicate}
 use Rattle.std.specs.List.{AllByRecursion}
-use Rattle.std.proofs.lemmas.Bool.{eqb-true, ltb-true, ltb-false, le-ltb}
+use Rattle.std.proofs.lemmas.Bool.{eqb-true, eq-eqb, ltb-true, ltb-false, le-ltb, lt-ltb}
 use Rattle.std.proofs.lemmas.List.{append-nil, take_at, drop_at, length-replicate}
 use Rattle.can_log.specs.declared.field.Class.{Class}
 use Rattle.can_log.specs.FieldReader.{short, refused, FieldRead, is_in, stop_at, run_len, run_at, byte_at}
@@ -33,12 +33,9 @@ refused_is a b e = cc
 
 -- ---- one byte
 
-eqb-self : (n : ℕ) → (n == n) ≡ true
-eqb-self n = search rules
-
 pub byte_is : (c : ℕ) (rest : List ℕ) → byte_at c (c ∷ rest) ≡ Ok (tt, rest)
 unfolding byte_at
-byte_is c rest = rw (eqb-self c) refl
+byte_is c rest = rw (eq-eqb c c refl) refl
 
 byte_other : (c b : ℕ) (rest : List ℕ) → (b == c) ≡ false → byte_at c (b ∷ rest) ≡ Err (refused (b ∷ rest))
 unfolding byte_at
@@ -151,9 +148,6 @@ run_is class least most text rest e = rw (e, take_at text rest (length text) ref
 
 pub run_ok : (class : Class) (least most : ℕ) (text rest : List ℕ) → run_len class most (text ++ rest) ≡ length text → least ≤ length text → run_at class least most (text ++ rest) ≡ Ok (text, rest)
 run_ok class least most text rest e h = run_is class least most text rest e ∙ rw (le-ltb (length text) least h) refl
-
-lt-ltb : (a b : ℕ) → a < b → ltb a b ≡ true
-lt-ltb a b h = search rules
 
 run_few : (class : Class) (least most : ℕ) (text rest : List ℕ) → run_len class most (text ++ rest) ≡ length text → length text < least → run_at class least most (text ++ rest) ≡ Err (stop_at rest)
 run_few class least most text rest e h = run_is class least most text rest e ∙ rw (lt-ltb (length text) least h) refl

@@ -1,7 +1,7 @@
 -- How a run of bytes goes on.
-use Rattle.std.proofs.Common.{◌≡◌, ℕ, zero, suc, ◌+◌, ◌-◌, ◌<◌, ◌≤◌, Bool, true, false, List, [], ◌∷◌, length, get_or, drop, refl, ap, ◌∙◌, arith}
-use Rattle.std.specs.Prelude.{◌&&◌}
+use Rattle.std.proofs.Common.{◌≡◌, ℕ, zero, suc, ◌+◌, ◌-◌, ◌<◌, ◌≤◌, true, false, List, [], ◌∷◌, length, get_or, drop, refl, ap, ◌∙◌, arith}
 use Rattle.std.specs.List.{list_all}
+use Rattle.std.proofs.lemmas.Bool.{and_parts}
 use Rattle.std.proofs.Math.Seq.{drop-cons, drop-length}
 use Rattle.can_log.specs.declared.field.Class.{Class}
 use Rattle.can_log.specs.FieldReader.{is_in, run_len}
@@ -24,17 +24,12 @@ unfolding run_len
 run_len-out class zero b bytes h = refl
 run_len-out class (suc most) b bytes h = rw h refl
 
-both_true : (t u : Bool) → (t && u) ≡ true → (t ≡ true) × (u ≡ true)
-both_true true true e = (refl, refl)
-both_true true false e = absurd cc
-both_true false u e = absurd cc
-
 -- all the bytes are of the class
 pub whole_run : (class : Class) (most : ℕ) (bytes : List ℕ) → list_all (is_in class) bytes ≡ true → length bytes ≤ most → run_len class most bytes ≡ length bytes
 whole_run class most [] all few = run_len-nil class most
 whole_run class zero (b ∷ bytes) all few = absurd (omega arith)
 whole_run class (suc most) (b ∷ bytes) all few =
-    let each = both_true (is_in class b) (list_all (is_in class) bytes) all in
+    let each = and_parts (is_in class b) (list_all (is_in class) bytes) all in
     run_len-in class most b bytes each.0 ∙ ap suc (whole_run class most bytes each.1 (omega arith))
 
 -- one more byte of the class

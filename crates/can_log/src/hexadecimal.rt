@@ -40,7 +40,7 @@ pub(crate) fn are_hex_digits(bytes: &[u8]) -> bool
 {
     let mut all = true;
     for b in bytes {
-        all = all & b.is_ascii_hexdigit();
+        all &= b.is_ascii_hexdigit();
     }
     all
 }

@@ -1,6 +1,10 @@
 //! What holds of lines and logs. A law is a call without a body: a proof that needs it calls it, and nothing runs.
 
-ghost use Rattle.can_log.specs.Laws.{LineMeansAtMostOne, LineHasNoLineFeed, LineIsShort, LineRecordsBytes, FrontHasCompletion, SixteenAreEnough, RefusedPlaceIsOne, LogIsLegalOrRefused, LogMeansAtMostOne, RefusedLogMeansNothing, StartStands, ScanReadsOn, FinishReadsEnd, ScanningReadsTheLog, LogTellsOne};
+ghost use Rattle.can_log.specs.Laws.{LineMeansAtMostOne, LineHasNoLineFeed, LineIsShort, LineRecordsBytes};
+ghost use Rattle.can_log.specs.Laws.{FrontHasCompletion, SixteenAreEnough};
+ghost use Rattle.can_log.specs.Laws.{RefusedPlaceIsOne, RefusedLogMeansNothing};
+ghost use Rattle.can_log.specs.Laws.{LogIsLegalOrRefused, LogMeansAtMostOne, LogTellsOne};
+ghost use Rattle.can_log.specs.Laws.{StartStands, ScanReadsOn, FinishReadsEnd, ScanningReadsTheLog};
 ghost use Rattle.can_log.specs.CanonicalLaws.{CanonicalLineMeans, CanonicalTextIsOneLine, CanonicalLineLength};
 ghost use Rattle.can_log.specs.LogLaws.{LogLinesOfParts, LinesMeanInParts, LineIsLog, LogsJoin};
 

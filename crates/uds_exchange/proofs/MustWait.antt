@@ -3,7 +3,8 @@ use Rattle.std.proofs.Common.{◌≡◌, ◌≢◌, ℕ, ◌+◌, true, false, �
 use Rattle.std.specs.Prelude.{slice_set}
 use Rattle.std.specs.List.{list_any}
 use Rattle.std.proofs.lemmas.List.{append-nil}
-use Rattle.std.proofs.lemmas.Bool.{cases_Bool, false≢true}
+use Rattle.std.proofs.lemmas.Bool.{cases_Bool, false≢true, eq-eqb}
+use Rattle.std.proofs.Math.Bool.{or-true}
 use Rattle.uds_message.specs.Message.{is_request, is_response_sid}
 use Rattle.uds_exchange.specs.Meaning.{Message, ItemValue, exchange, stray, is_tester_request, is_answer_to, is_pending_reply_to, meaning, flattened, removed_messages}
 use Rattle.uds_exchange.specs.Roles.{IsOpenBehind}
@@ -11,7 +12,7 @@ use Rattle.uds_exchange.specs.Order.{has_exchange, open_request_in, open_request
 use Rattle.uds_exchange.specs.Pairing.{waiting, joined_by, joined}
 use Rattle.uds_exchange.proofs.Counts.{none-lost}
 use Rattle.uds_exchange.proofs.Waiting.{request_of, same-request, waiting-stray, waiting-answered}
-use Rattle.uds_exchange.proofs.Bools.{or-true, same-number, any-append, any-first}
+use Rattle.uds_exchange.proofs.Bools.{any-append, any-first}
 use Rattle.uds_exchange.proofs.Variants.{some_same, some_none}
 use Rattle.uds_exchange.proofs.OneMore.{meaning-append}
 use Rattle.uds_exchange.proofs.OpenRequests.{opens, waits-open}
@@ -82,7 +83,7 @@ rejects [] h = absurd (false≢true h)
 rejects (s ∷ bytes) h =
     elim (cases_Bool (is_response_sid s)) [
       | inl e ↦ absurd (false≢true (rw e at h))
-      | inr e ↦ rw (e, same-number s) (or-true (0x7F == s + 0x40 && false))
+      | inr e ↦ rw (e, eq-eqb s s refl) (or-true (0x7F == s + 0x40 && false))
     ]
 
 -- an answer goes before what is held

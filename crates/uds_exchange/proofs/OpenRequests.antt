@@ -2,12 +2,12 @@
 use Rattle.std.proofs.Common.{◌≡◌, ℕ, true, false, List, [], ◌∷◌, ◌++◌, length, Option, Some, None, refl, sym, ◌∙◌, ap, subst, inl, inr, append_assoc}
 use Rattle.std.specs.List.{list_any}
 use Rattle.std.proofs.lemmas.List.{append-nil}
-use Rattle.std.proofs.lemmas.Bool.{cases_Bool}
+use Rattle.std.proofs.lemmas.Bool.{or_parts, cases_Bool}
 use Rattle.can_log.specs.declared.frame.Dir.TheVariants.{Tester}
 use Rattle.uds_exchange.specs.Meaning.{Message, ItemValue, is_tester_request, is_answer_to, is_pending_reply_to, meaning}
 use Rattle.uds_exchange.specs.Roles.{IsOpenBehind}
 use Rattle.uds_exchange.specs.Pairing.{waiting, joined_by, joined}
-use Rattle.uds_exchange.proofs.Bools.{neither, any-append}
+use Rattle.uds_exchange.proofs.Bools.{any-append}
 use Rattle.uds_exchange.proofs.Variants.{some_same, some_none}
 use Rattle.uds_exchange.proofs.Waiting.{waiting-stray, waiting-request, waiting-answered}
 use Rattle.uds_exchange.proofs.OneMore.{meaning-append}
@@ -24,8 +24,8 @@ still-waits its w x h r a =
 waits-over : (past since : List Message) (w : ℕ × List ℕ) → waiting (meaning past) ≡ Some w → list_any is_tester_request since ≡ false → list_any (is_answer_to w.1) since ≡ false → waiting (meaning (past ++ since)) ≡ Some w
 waits-over past [] w h r a = rw append-nil h
 waits-over past (x ∷ xs) w h r a =
-    let r' = neither (is_tester_request x) (list_any is_tester_request xs) r in
-    let a' = neither (is_answer_to w.1 x) (list_any (is_answer_to w.1) xs) a in
+    let r' = or_parts (is_tester_request x) (list_any is_tester_request xs) r in
+    let a' = or_parts (is_answer_to w.1 x) (list_any (is_answer_to w.1) xs) a in
     rw (← append_assoc past (x ∷ []) xs)
     (waits-over (past ++ x ∷ []) xs w (ap waiting (meaning-append past x) ∙ still-waits (meaning past) w x h r'.0 a'.0) r'.1 a'.1)
 

@@ -1,5 +1,6 @@
 -- Options and results, by their variants.
-use Rattle.std.proofs.Common.{◌≡◌, Option, Some, None, Result, Ok, Err, IfErr, OnOk}
+use Rattle.std.proofs.Common.{◌≡◌, Option, Some, None, Result, Ok, Err, IfErr, OnOk, sym, subst}
+use Rattle.std.specs.Prelude.{IsErrAnd}
 
 pub some_same : {X : Type 0} {x y : X} → Some x ≡ Some y → x ≡ y
 some_same h = cc
@@ -14,3 +15,8 @@ if_err_along (Err e) P Q f h = f e h
 pub on_ok_along : {T E : Type 0} (r : Result T E) (P Q : Type 0) → (P → Q) → OnOk r P → OnOk r Q
 on_ok_along (Ok x) P Q f h = f h
 on_ok_along (Err e) P Q f h = tt
+
+-- the error that a `?` hands on
+pub handed_on : {T E : Type 0} (r : Result T E) (fault : E) (P : E → Type 0) → IsErrAnd r (λ e. e ≡ fault) → P fault → IfErr r P
+handed_on (Ok x) fault P is h = absurd is
+handed_on (Err e) fault P is h = subst P (sym is) h

@@ -112,9 +112,7 @@ fn put_each<S: MessageSink>(extents: &[Extent], bytes: &[u8], sink: &mut S) -> R
     let mut rest = bytes;
     for extent in extents {
         let (message, more) = rest.split_at(extent.len);
-        if let Err(fault) = sink.put(extent.dir, message) {
-            return Err(fault);
-        }
+        sink.put(extent.dir, message)?;
         rest = more;
     }
     Ok(())

@@ -1,6 +1,8 @@
 //! What a list of messages means.
 
 ghost use Rattle.std.specs.Prelude.{◌≡◌, ◌↔◌, IsTrue, [], length, option_map, slice_get};
+ghost use Rattle.uds_exchange.specs.ItemSeen.{item_value, item_values};
+ghost use Rattle.uds_exchange.specs.Difference.{IsFirstDifference};
 
 use crate::item::Item;
 use std::marker::Model;
@@ -22,9 +24,6 @@ impl Model for Meaning {
 }
 
 impl Meaning {
-    ghost use Rattle.uds_exchange.specs.ItemSeen.{item_value, item_values};
-    ghost use Rattle.uds_exchange.specs.Difference.{IsFirstDifference};
-
     /// The meaning that these items are.
     pub(crate) fn of(items: Vec<Item>) -> Meaning
         ensures { result ≡ item_values items.items }
@@ -72,10 +71,8 @@ impl Meaning {
     }
 }
 
-ghost use Rattle.uds_exchange.specs.ItemSeen.{item_value as value_of};
-
 fn is_same_item(a: &Item, b: &Item) -> bool
-    ensures { IsTrue result ↔ (value_of a.now ≡ value_of b.now) }
+    ensures { IsTrue result ↔ (item_value a.now ≡ item_value b.now) }
 {
     *a == *b
 }

@@ -87,6 +87,22 @@ impl Orderer {
         self.advance(dir, message, sink)
     }
 
+    /// Puts what is held. It takes no memory.
+    pub fn finish<S: MessageSink>(self, sink: &mut S) -> Result<(), OrderFault<S::Fault>>
+        ensures puts { OnOk result ((M : List Message) → self ≡ stands_after M
+            → Puts S.after_ok sink.old (held_after M) sink.new) }
+        ensures stops { IfErr result (λ fault. (M : List Message) → self ≡ stands_after M
+            → StopsAtEnd S.after_ok S.after_err (held_after M) sink.old sink.new fault) }
+        ensures failed { self.failed ≡ true → (result ≡ Err Failed) × (sink.new ≡ sink.old) }
+        ensures failed_only { result ≡ Err Failed → self.failed ≡ true }
+        ensures never_memory { result ≢ Err Memory }
+    {
+        if self.failed {
+            return Err(OrderFault::Failed);
+        }
+        self.held.put_all(sink).map_err(OrderFault::Sink)
+    }
+
     /// Takes one more message, by the open request and what is held alone.
     fn advance<S: MessageSink>(
         &mut self,
@@ -104,10 +120,7 @@ impl Orderer {
         }
         let role = role_of(self.open_sid, dir, message);
         if let (Role::Stray, Some(_)) = (role, self.open_sid) {
-            return match self.held.push(dir, message) {
-                Ok(()) => Ok(()),
-                Err(_) => Err(OrderFault::Memory),
-            };
+            return self.held.push(dir, message).map_err(|_| OrderFault::Memory);
         }
         if let Err(fault) = put_due(role, &self.held, dir, message, sink) {
             self.failed = true;
@@ -125,25 +138,6 @@ impl Orderer {
             Role::Removed | Role::Stray => {}
         }
         Ok(())
-    }
-
-    /// Puts what is held. It takes no memory.
-    pub fn finish<S: MessageSink>(self, sink: &mut S) -> Result<(), OrderFault<S::Fault>>
-        ensures puts { OnOk result ((M : List Message) → self ≡ stands_after M
-            → Puts S.after_ok sink.old (held_after M) sink.new) }
-        ensures stops { IfErr result (λ fault. (M : List Message) → self ≡ stands_after M
-            → StopsAtEnd S.after_ok S.after_err (held_after M) sink.old sink.new fault) }
-        ensures failed { self.failed ≡ true → (result ≡ Err Failed) × (sink.new ≡ sink.old) }
-        ensures failed_only { result ≡ Err Failed → self.failed ≡ true }
-        ensures never_memory { result ≢ Err Memory }
-    {
-        if self.failed {
-            return Err(OrderFault::Failed);
-        }
-        match self.held.put_all(sink) {
-            Ok(()) => Ok(()),
-            Err(fault) => Err(OrderFault::Sink(fault)),
-        }
     }
 }
 
@@ -178,9 +172,7 @@ fn put_behind<S: MessageSink>(
     ensures err { IfErr result (λ e. Fails S.after_ok S.after_err sink.old
         (held.now ++ (dir, message.now) ∷ []) e sink.new) }
 {
-    if let Err(fault) = held.put_all(sink) {
-        return Err(fault);
-    }
+    held.put_all(sink)?;
     sink.put(dir, message)
 }
 
@@ -195,8 +187,6 @@ fn put_before<S: MessageSink>(
     ensures err { IfErr result (λ e. Fails S.after_ok S.after_err sink.old
         ((dir, message.now) ∷ held.now) e sink.new) }
 {
-    if let Err(fault) = sink.put(dir, message) {
-        return Err(fault);
-    }
+    sink.put(dir, message)?;
     held.put_all(sink)
 }

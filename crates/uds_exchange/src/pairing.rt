@@ -55,8 +55,14 @@ impl Pairing {
             → self.new ≡ meaning (M ++ (dir, message.now) ∷ [])) }
         ensures err { OnErr result (self.new ≡ self.old) }
     {
-        self.join(dir, message)?;
-        Ok(())
+        self.join(dir, message)
+    }
+
+    /// The meaning of the messages that were taken. It takes no memory.
+    pub fn finish(self) -> Meaning
+        ensures { result ≡ self }
+    {
+        Meaning::of(self.items)
     }
 
     /// Takes one more message, by the items and the open request alone.
@@ -89,13 +95,6 @@ impl Pairing {
                 Ok(())
             }
         }
-    }
-
-    /// The meaning of the messages that were taken. It takes no memory.
-    pub fn finish(self) -> Meaning
-        ensures { result ≡ self }
-    {
-        Meaning::of(self.items)
     }
 }
 
