@@ -22,6 +22,7 @@ pub mod Delivered
 pub mod FramesOf
 pub mod Clean
 pub mod Certified
+pub mod FrameLaws
 pub mod Fits
 pub mod MessagesOfMore
 pub mod Promises
