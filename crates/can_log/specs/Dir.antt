@@ -1,4 +1,5 @@
--- The two directions of a diagnostic session.
+-- The two directions of a diagnostic session, and a message of one of them.
+use Rattle.std.specs.Prelude.{ℕ, List}
 use Rattle.can_log.specs.declared.frame.Dir.{Dir}
 use Rattle.can_log.specs.declared.frame.Dir.TheVariants as dir
 
@@ -6,3 +7,7 @@ use Rattle.can_log.specs.declared.frame.Dir.TheVariants as dir
 abbrev pub other_direction : Dir → Dir
 other_direction dir.Tester = dir.Unit
 other_direction dir.Unit = dir.Tester
+
+-- a message and the side that sent it
+abbrev pub Message : Type 0
+Message = Dir × List ℕ

@@ -12,7 +12,7 @@ use Rattle.isotp_pdu.specs.Layout.{Layout, layout_of}
 use Rattle.isotp_pdu.specs.Layout as layout
 use Rattle.isotp_receive.specs.declared.reception.Judged.TheVariants as judged_as
 use Rattle.isotp_receive.specs.declared.reception.Judged.{Judged}
-use Rattle.can_log.specs.Dir.{other_direction}
+use Rattle.can_log.specs.Dir.{other_direction, Message}
 use Rattle.can_log.specs.declared.frame.Dir.TheVariants.{Tester, Unit}
 use Rattle.std.proofs.lemmas.List.{map-append}
 use Rattle.std.proofs.lemmas.Option.{slice_get_within}
@@ -263,7 +263,7 @@ record Advanced (limit : ℕ) (T : List Entry) (d : Dir) (n : ℕ) (e : Entry) (
   left : List ℕ
   state : Pending limit T d (suc n) next left
   out : List Transfer
-  told_out : map {B = Dir × List ℕ} (λ g. (g.dir, g.message)) out ≡ map {B = Dir × List ℕ} (λ m. (d, m)) told
+  told_out : map {B = Message} (λ g. (g.dir, g.message)) out ≡ map {B = Message} (λ m. (d, m)) told
   each : AllByRecursion (IsTransfer limit T) out
   keeps : (p : ℕ) → IsIn p ps → IsIn p left ⊎ IsGiven p out
   lows : (p : ℕ) → IsIn p left → IsIn p ps ⊎ (p ≡ n)
@@ -429,7 +429,7 @@ module _ (limit : ℕ) (T : List Entry) (n : ℕ) (pend : Dir → List ℕ) wher
 -- the messages that are completed from n on, where these positions are under way
 record Tail (limit : ℕ) (T : List Entry) (n : ℕ) (past es : List Entry) (pend : Dir → List ℕ) : Type 0 where
   gs : List Transfer
-  told : map {B = Dir × List ℕ} (λ g. (g.dir, g.message)) gs ≡ messages_after limit past es
+  told : map {B = Message} (λ g. (g.dir, g.message)) gs ≡ messages_after limit past es
   each : AllByRecursion (IsTransfer limit T) gs
   pairs : EachPair AreApart gs
   others : (p : ℕ) (x : Entry) → n ≤ p → At T p x → IsGiven p gs ⊎ IsIdle (layout_of x.frame)
@@ -437,14 +437,14 @@ record Tail (limit : ℕ) (T : List Entry) (n : ℕ) (past es : List Entry) (pen
   lasts : AllByRecursion (λ g. n ≤ last_or 0 g.positions) gs
   lows : AllByRecursion (λ g. (p : ℕ) → IsIn p g.positions → IsIn p (pend g.dir) ⊎ (n ≤ p)) gs
 
-placed-told : (n : ℕ) (d : Dir) (t : VerdictValue) → map {B = Dir × List ℕ} (λ x. (d, x.1)) (placed n t) ≡ told_message d t
+placed-told : (n : ℕ) (d : Dir) (t : VerdictValue) → map {B = Message} (λ x. (d, x.1)) (placed n t) ≡ told_message d t
 placed-told n d (message m) = refl
 placed-told n d began = refl
 placed-told n d stored = refl
 placed-told n d flowed = refl
 placed-told n d (dropped r) = refl
 
-at_place-told : (n : ℕ) (d : Dir) (ms : List ℕ) (rest : List (List ℕ)) → map {B = Dir × List ℕ} (λ x. (d, x.1)) (at_place n []) ≡ []
+at_place-told : (n : ℕ) (d : Dir) (ms : List ℕ) (rest : List (List ℕ)) → map {B = Message} (λ x. (d, x.1)) (at_place n []) ≡ []
 at_place-told n d ms rest = refl
 
 own-idle : (limit : ℕ) (o : Option Standing) (line micros : ℕ) (r : Result Layout PduFault) → Turn limit o micros (other_role r) → IsOwn (own_role line micros r) ⊎ IsIdle r
@@ -457,7 +457,7 @@ own-idle limit o line micros (Ok (layout.flow_control Wait)) t = inr tt
 own-idle limit o line micros (Ok (layout.flow_control Overflow)) t = elim t [ ]
 
 one-judged : (n : ℕ) (d : Dir) (j : Judged) (s : Standing) (bytes : List ℕ)
-    → map {B = Dir × List ℕ} (λ x. (d, x.1)) (at_place n (completed_by j s bytes)) ≡ map {B = Dir × List ℕ} (λ m. (d, m)) (completed_by j s bytes)
+    → map {B = Message} (λ x. (d, x.1)) (at_place n (completed_by j s bytes)) ≡ map {B = Message} (λ m. (d, m)) (completed_by j s bytes)
 one-judged n d judged_as.Last s bytes = refl
 one-judged n d judged_as.More s bytes = refl
 one-judged n d judged_as.Late s bytes = refl
@@ -465,7 +465,7 @@ one-judged n d judged_as.Sequence s bytes = refl
 one-judged n d judged_as.Length s bytes = refl
 
 one-completed : (n : ℕ) (d : Dir) (o : Option Standing) (micros : ℕ) (r : Role)
-    → map {B = Dir × List ℕ} (λ x. (d, x.1)) (at_place n (completed o micros r)) ≡ map {B = Dir × List ℕ} (λ m. (d, m)) (completed o micros r)
+    → map {B = Message} (λ x. (d, x.1)) (at_place n (completed o micros r)) ≡ map {B = Message} (λ m. (d, m)) (completed o micros r)
 one-completed n d o micros (single m) = refl
 one-completed n d None micros (consecutive sequence_number can_dl bytes) = refl
 one-completed n d (Some s) micros (consecutive sequence_number can_dl bytes) = one-judged n d (judged s micros sequence_number can_dl) s bytes
@@ -495,11 +495,11 @@ idle-here limit past e h k =
 module _ (limit : ℕ) (T : List Entry) (n : ℕ) (past es : List Entry) (e : Entry) (at : At T n e) (ended : (verdict limit past e).ended ≡ None) (kept : IsKept (verdict limit past e).told)
     (pend : Dir → List ℕ) (adv : (d : Dir) → Advanced limit T d n e (after limit (stands limit d past) e.micros (role d e)) (pend d) (completed (stands limit d past) e.micros (role d e)))
     (tail : Tail limit T (suc n) (past ++ e ∷ []) es (λ d. (adv d).left)) where
-  out_told : map {B = Dir × List ℕ} (λ g. (g.dir, g.message)) (adv e.dir).out ≡ told_message e.dir (verdict limit past e).told
+  out_told : map {B = Message} (λ g. (g.dir, g.message)) (adv e.dir).out ≡ told_message e.dir (verdict limit past e).told
   out_told =
       let by_role = rw (self e.dir) at (told-by-role limit e.dir n past e) in
       (adv e.dir).told_out ∙ sym (one-completed n e.dir (stands limit e.dir past) e.micros (role e.dir e))
-      ∙ ap (map {B = Dir × List ℕ} (λ x. (e.dir, x.1))) (sym by_role) ∙ placed-told n e.dir (verdict limit past e).told
+      ∙ ap (map {B = Message} (λ x. (e.dir, x.1))) (sym by_role) ∙ placed-told n e.dir (verdict limit past e).told
 
   pairs-join : EachPair AreApart ((adv e.dir).out ++ tail.gs)
   pairs-join = elim (adv e.dir).shape [
@@ -546,8 +546,8 @@ module _ (limit : ℕ) (T : List Entry) (n : ℕ) (past es : List Entry) (e : En
   join : Tail limit T n past (e ∷ es) pend
   join = record {
     gs = (adv e.dir).out ++ tail.gs;
-    told = map-append {B = Dir × List ℕ} (λ g. (g.dir, g.message)) (adv e.dir).out tail.gs
-        ∙ ap (λ l. l ++ map {B = Dir × List ℕ} (λ g. (g.dir, g.message)) tail.gs) out_told ∙ ap (λ l. told_message e.dir (verdict limit past e).told ++ l) tail.told;
+    told = map-append {B = Message} (λ g. (g.dir, g.message)) (adv e.dir).out tail.gs
+        ∙ ap (λ l. l ++ map {B = Message} (λ g. (g.dir, g.message)) tail.gs) out_told ∙ ap (λ l. told_message e.dir (verdict limit past e).told ++ l) tail.told;
     each = all-append (IsTransfer limit T) (adv e.dir).out tail.gs (adv e.dir).each tail.each;
     pairs = pairs-join;
     others = others-join;

@@ -3,6 +3,7 @@ use Rattle.std.proofs.Common.{◌≡◌, ℕ, suc, ◌≤◌, take, nat_lt, List
 use Rattle.std.specs.Prelude.{◌⊎◌}
 use Rattle.std.specs.List.{AllByRecursion}
 use Rattle.std.proofs.lemmas.Bool.{cases_Bool}
+use Rattle.can_log.specs.Dir.{Message}
 use Rattle.can_log.specs.declared.frame.Dir.{Dir}
 use Rattle.isotp_receive.specs.Trace.{Entry, role, same_direction, At}
 use Rattle.isotp_receive.specs.Verdict.{messages}
@@ -64,7 +65,7 @@ covered limit T d (g ∷ gs) p e each at (inr i) = elim (covered limit T d gs p 
   | inr q ↦ inr q
 ]
 
-cover-of : (limit : ℕ) (T : List Entry) (M : List (Dir × List ℕ)) (d : Dir) (r : IsRecording limit T M) → IsCovered T d 0 (all_positions (of_dir d r.transfers))
+cover-of : (limit : ℕ) (T : List Entry) (M : List Message) (d : Dir) (r : IsRecording limit T M) → IsCovered T d 0 (all_positions (of_dir d r.transfers))
 cover-of limit T M d r p e _ at = elim (r.others p e at) [
   | inl i ↦ covered limit T d r.transfers p e r.each at i
   | inr h ↦ inr (idle-quiet d e h)
@@ -89,14 +90,14 @@ transfer-pairs [] = refl
 transfer-pairs (g ∷ gs) = ap (λ l. (g.dir, g.message) ∷ l) (transfer-pairs gs)
 
 -- what a recording tells behind any trace: each message at the last of its positions
-pub told-recording : (limit : ℕ) (before T : List Entry) (M : List (Dir × List ℕ)) (r : IsRecording limit T M) → all_told limit 0 before T ≡ map transfer_place r.transfers
+pub told-recording : (limit : ℕ) (before T : List Entry) (M : List Message) (r : IsRecording limit T M) → all_told limit 0 before T ≡ map transfer_place r.transfers
 told-recording limit before T M r =
     merge 0 0 (all_told limit 0 before T) (map transfer_place r.transfers) (told-rise limit 0 before T) (transfer-rise 0 r.transfers r.pairs (λ g rest same. omega arith)) (λ d.
     sym (heard-side limit d 0 before T)
     ∙ direction-heard limit before T d (of_dir d r.transfers) (goods-of limit T d r.transfers r.each) (rising-of limit T d r.transfers r.each r.pairs) (cover-of limit T M d r)
     ∙ sym (transfer-side d r.transfers))
 
-pub recording-delivers-behind : (limit : ℕ) (before T : List Entry) (M : List (Dir × List ℕ)) → IsRecording limit T M → messages limit (before ++ T) ≡ messages limit before ++ M
+pub recording-delivers-behind : (limit : ℕ) (before T : List Entry) (M : List Message) → IsRecording limit T M → messages limit (before ++ T) ≡ messages limit before ++ M
 recording-delivers-behind limit before T M r =
     messages-append limit [] before T
     ∙ ap (λ l. messages limit before ++ l) (
@@ -105,7 +106,7 @@ recording-delivers-behind limit before T M r =
     ∙ transfer-pairs r.transfers
     ∙ r.messages)
 
-pub recording-delivers : (limit : ℕ) (T : List Entry) (M : List (Dir × List ℕ)) → IsRecording limit T M → messages limit T ≡ M
+pub recording-delivers : (limit : ℕ) (T : List Entry) (M : List Message) → IsRecording limit T M → messages limit T ≡ M
 recording-delivers limit T M r = recording-delivers-behind limit [] T M r
 
 within-transfers : (k : ℕ) (ts : List Transfer) → map pair (told_within k (map transfer_place ts)) ≡ ended_within k ts
@@ -115,7 +116,7 @@ within-transfers k (t ∷ ts) = elim (cases_Bool (nat_lt (last_or 0 t.positions)
   | inr b ↦ rw b (within-transfers k ts)
 ]
 
-pub delivers-at-last : (limit : ℕ) (before T : List Entry) (M : List (Dir × List ℕ)) (r : IsRecording limit T M) (n : ℕ)
+pub delivers-at-last : (limit : ℕ) (before T : List Entry) (M : List Message) (r : IsRecording limit T M) (n : ℕ)
     → messages limit (before ++ take n T) ≡ messages limit before ++ ended_within n r.transfers
 delivers-at-last limit before T M r n =
     messages-append limit [] before (take n T)

@@ -3,6 +3,7 @@ use Rattle.std.proofs.Common.{◌≡◌, ℕ, suc, ◌+◌, ◌≤◌, List, [],
 use Rattle.std.specs.Prelude.{◌⊎◌}
 use Rattle.std.specs.List.{AllByRecursion}
 use Rattle.std.proofs.lemmas.Bool.{cases_Bool, ltb-true, ltb-false}
+use Rattle.can_log.specs.Dir.{Message}
 use Rattle.can_log.specs.declared.frame.Dir.{Dir}
 use Rattle.isotp_pdu.specs.declared.PduFault.{PduFault}
 use Rattle.isotp_pdu.specs.Layout.{Layout, layout_of}
@@ -53,7 +54,7 @@ unfolding DeliveredAt AtItsLast
 by-transfer limit T [] h = tt
 by-transfer limit T (t ∷ ts) h = (h.0, by-transfer limit T ts h.1)
 
-delivered-at-last : (limit : ℕ) (T : List Entry) (M : List (Dir × List ℕ)) (r : IsRecording limit T M) → AllByRecursion (AtItsLast limit T) r.transfers
+delivered-at-last : (limit : ℕ) (T : List Entry) (M : List Message) (r : IsRecording limit T M) → AllByRecursion (AtItsLast limit T) r.transfers
 delivered-at-last limit T M r =
     by-transfer limit T r.transfers (subst (AllByRecursion (DeliveredAt limit T)) (told-recording limit [] T M r) (told-delivered limit T 0 [] T refl refl))
 
@@ -197,7 +198,7 @@ frames-of limit T ts d m _ (unsegmented e at kind) rising delivers mine = alone 
 frames-of limit T ts d m _ (segmented {i = i} {cs = cs} l) rising delivers mine =
     segmented-frames limit T ts d m i cs l rising (λ x e low high at own. mine i (last_or i cs) x e (inl refl) (last-in i cs) low high at own) delivers
 
-pub gives-frames : (limit : ℕ) (T : List Entry) (M : List (Dir × List ℕ)) (r : IsRecording limit T M) → AreGivenTheirFrames limit T r.transfers
+pub gives-frames : (limit : ℕ) (T : List Entry) (M : List Message) (r : IsRecording limit T M) → AreGivenTheirFrames limit T r.transfers
 unfolding AtItsLast
 gives-frames limit T M r =
     let all = all-join (IsTransfer limit T) (Shares limit T r.transfers) (λ t. IsTransfer limit T t × Shares limit T r.transfers t) r.transfers r.each (shares limit T r.transfers r.each r.pairs) (λ t h g. (h, g)) in
@@ -232,7 +233,7 @@ carries-idle (Ok (layout.first len rx_dl bytes)) h idle = idle
 carries-idle (Ok (layout.consecutive sequence_number can_dl bytes)) h idle = idle
 carries-idle (Ok (layout.flow_control s)) h idle = h
 
-pub gives-once : (limit : ℕ) (T : List Entry) (M : List (Dir × List ℕ)) (r : IsRecording limit T M) → EachBelongsOnce T r.transfers
+pub gives-once : (limit : ℕ) (T : List Entry) (M : List Message) (r : IsRecording limit T M) → EachBelongsOnce T r.transfers
 gives-once limit T M r p e at carries = elim (r.others p e at) [
   | inl given ↦ given-once p r.transfers r.pairs given
   | inr idle ↦ absurd (carries-idle (layout_of e.frame) carries idle)

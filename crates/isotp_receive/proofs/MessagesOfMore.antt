@@ -2,6 +2,7 @@
 use Rattle.std.proofs.Common.{◌≡◌, ℕ, ◌+◌, ◌<◌, List, [], ◌∷◌, ◌++◌, length, take, get_or, refl, sym, ◌∙◌, ap, append_assoc}
 use Rattle.std.proofs.lemmas.List.{append-nil, take_more, map-append}
 use Rattle.std.specs.Borrow.{Bor}
+use Rattle.can_log.specs.Dir.{Message}
 use Rattle.can_log.specs.declared.frame.Dir.{Dir}
 use Rattle.isotp_receive.specs.declared.messages.Message.{Message}
 use Rattle.isotp_receive.specs.declared.messages.Recorded.{Recorded}
@@ -32,7 +33,7 @@ module _ (limit : ℕ) (rs : List Recorded) (i : ℕ) (r : Recorded) (is : r ≡
       → q ≡ receptions_after limit (entries (take (i + 1) rs))
   stands_next p q h step = step (entries (take i rs)) h ∙ ap (receptions_after limit) (sym (more_entries rs i r is below))
 
-  pub found_next : (p : Receptions) (found : List (Dir × List ℕ)) (answer : EventValue) → p ≡ receptions_after limit (entries (take i rs))
+  pub found_next : (p : Receptions) (found : List Message) (answer : EventValue) → p ≡ receptions_after limit (entries (take i rs))
       → ((T : List Entry) → p ≡ receptions_after limit T → answer ≡ verdict limit T (entry_of r))
       → found ≡ messages limit (entries (take i rs))
       → found ++ told_message r.dir answer.told ≡ messages limit (entries (take (i + 1) rs))

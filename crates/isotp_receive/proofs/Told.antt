@@ -4,6 +4,7 @@ use Rattle.std.specs.Prelude.{⊤, ◌⊎◌}
 use Rattle.std.proofs.Math.ListN.{drop_of_length-le}
 use Rattle.std.proofs.lemmas.List.{append-nil, take-append-drop}
 use Rattle.std.proofs.lemmas.Bool.{cases_Bool, le-ltb, lt-ltb, ltb-true, ltb-false}
+use Rattle.can_log.specs.Dir.{Message}
 use Rattle.can_log.specs.declared.frame.Dir.{Dir}
 use Rattle.can_log.specs.declared.frame.Dir.TheVariants.{Tester, Unit}
 use Rattle.isotp_receive.specs.Trace.{Entry, same_direction}
@@ -54,7 +55,7 @@ heard-side limit d n past (e ∷ es) =
     ap (λ l. cond (same_direction d e.dir) (placed n (verdict limit past e).told) [] ++ l) (heard-side limit d (suc n) (past ++ e ∷ []) es)
     ∙ one-side n d e.dir (verdict limit past e).told (all_told limit (suc n) (past ++ e ∷ []) es)
 
-abbrev pub pair : Placed → Dir × List ℕ
+abbrev pub pair : Placed → Message
 pair x = (x.dir, x.message)
 
 one-message : (n : ℕ) (x : Dir) (t : VerdictValue) (xs : List Placed) → told_message x t ++ map pair xs ≡ map pair (tag x (placed n t) ++ xs)

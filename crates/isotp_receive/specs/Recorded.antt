@@ -1,8 +1,8 @@
 -- Recorded frames as a trace, and messages without where they lie in memory.
 use Rattle.std.specs.Prelude.{ℕ, List, map}
-use Rattle.can_log.specs.declared.frame.Dir.{Dir}
+use Rattle.can_log.specs.Dir.{Message}
 use Rattle.isotp_receive.specs.Trace.{Entry}
-use Rattle.isotp_receive.specs.declared.messages.Message.{Message}
+use Rattle.isotp_receive.specs.declared.messages.Message.{Message as OwnedMessage}
 use Rattle.isotp_receive.specs.declared.messages.Recorded.{Recorded}
 
 -- a recorded frame as an entry of a trace
@@ -14,5 +14,5 @@ abbrev pub entries : List Recorded → List Entry
 entries rs = map entry_of rs
 
 -- messages with their directions
-abbrev pub sent : List Message → List (Dir × List ℕ)
+abbrev pub sent : List OwnedMessage → List Message
 sent ms = map (λ m. (m.dir, m.bytes.items)) ms

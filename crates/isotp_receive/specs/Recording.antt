@@ -2,6 +2,7 @@
 -- (ISO 15765-2, sections 9.6 and 9.8). Nothing is received here: there is no state, and the trace is looked at as a whole.
 use Rattle.std.specs.Prelude.{◌≡◌, ◌<◌, ◌≤◌, ℕ, suc, ◌+◌, ◌-◌, List, [], ◌∷◌, length, map, slice_index, nat_lt, Result, Ok, Err, ⊤, ◌⊎◌, if◌then◌else◌}
 use Rattle.std.specs.List.{AllByRecursion}
+use Rattle.can_log.specs.Dir.{Message}
 use Rattle.can_log.specs.declared.frame.Dir.{Dir}
 use Rattle.isotp_pdu.specs.Layout.{Layout, layout_of}
 use Rattle.isotp_pdu.specs.Layout as layout
@@ -111,7 +112,7 @@ IsIdle (Err f) = ⊤
 
 -- The trace is a recording of the messages: each is given positions whose frames carry it, no position is given twice, and
 -- every other position holds a frame that carries nothing.
-pub record IsRecording (limit : ℕ) (T : List Entry) (M : List (Dir × List ℕ)) : Type 0 where
+pub record IsRecording (limit : ℕ) (T : List Entry) (M : List Message) : Type 0 where
   pub transfers : List Transfer
   pub messages : map (λ t. (t.dir, t.message)) transfers ≡ M
   pub each : AllByRecursion (IsTransfer limit T) transfers
@@ -119,6 +120,6 @@ pub record IsRecording (limit : ℕ) (T : List Entry) (M : List (Dir × List ℕ
   pub others : (p : ℕ) (e : Entry) → At T p e → IsGiven p transfers ⊎ IsIdle (layout_of e.frame)
 
 -- the messages that end at one of the first n positions
-abbrev pub ended_within : ℕ → List Transfer → List (Dir × List ℕ)
+abbrev pub ended_within : ℕ → List Transfer → List Message
 ended_within n [] = []
 ended_within n (t ∷ ts) = if nat_lt (last_or 0 t.positions) n then (t.dir, t.message) ∷ ended_within n ts else ended_within n ts

@@ -1,6 +1,6 @@
 -- What the public laws of recordings say.
 use Rattle.std.specs.Prelude.{◌≡◌, ◌≤◌, ℕ, List, ◌++◌, take}
-use Rattle.can_log.specs.declared.frame.Dir.{Dir}
+use Rattle.can_log.specs.Dir.{Message}
 use Rattle.isotp_receive.specs.Trace.{Entry}
 use Rattle.isotp_receive.specs.Verdict.{messages}
 use Rattle.isotp_receive.specs.Recording.{IsRecording, ended_within}
@@ -9,24 +9,24 @@ use Rattle.isotp_receive.specs.CleanTrace.{IsClean}
 
 -- a recording delivers its messages, in order, and nothing else
 abbrev pub RecordingDelivers : Type 0
-RecordingDelivers = (limit : ℕ) (T : List Entry) (M : List (Dir × List ℕ)) → IsRecording limit T M → messages limit T ≡ M
+RecordingDelivers = (limit : ℕ) (T : List Entry) (M : List Message) → IsRecording limit T M → messages limit T ≡ M
 
 -- it does so behind any trace, whatever stands there
 abbrev pub RecordingDeliversBehind : Type 0
 RecordingDeliversBehind =
-    (limit : ℕ) (before T : List Entry) (M : List (Dir × List ℕ)) → IsRecording limit T M
+    (limit : ℕ) (before T : List Entry) (M : List Message) → IsRecording limit T M
     → messages limit (before ++ T) ≡ messages limit before ++ M
 
 -- each message is delivered at the last of its positions
 abbrev pub RecordingDeliversAtLastPosition : Type 0
 RecordingDeliversAtLastPosition =
-    (limit : ℕ) (before T : List Entry) (M : List (Dir × List ℕ)) (recording : IsRecording limit T M) (n : ℕ)
+    (limit : ℕ) (before T : List Entry) (M : List Message) (recording : IsRecording limit T M) (n : ℕ)
     → messages limit (before ++ take n T) ≡ messages limit before ++ ended_within n recording.transfers
 
 -- it gives each message the positions of the frames that make it, and each frame that carries a message to exactly one
 abbrev pub RecordingDeliversByFrames : Type 0
 RecordingDeliversByFrames =
-    (limit : ℕ) (T : List Entry) (M : List (Dir × List ℕ)) (recording : IsRecording limit T M)
+    (limit : ℕ) (T : List Entry) (M : List Message) (recording : IsRecording limit T M)
     → AreGivenTheirFrames limit T recording.transfers × EachBelongsOnce T recording.transfers
 
 -- A trace of which nothing is dropped, ended or left over is a recording of what it delivers: each message is given the

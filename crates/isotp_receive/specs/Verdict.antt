@@ -1,6 +1,6 @@
 -- What a frame does after the frames before it, and the messages of a trace.
 use Rattle.std.specs.Prelude.{ℕ, ◌+◌, ◌-◌, ◌%◌, Bool, List, [], ◌∷◌, ◌++◌, length, take, not, nat_lt, nat_le, ◌==◌, if◌then◌else◌, Option, Some, None, Result, Ok, Err}
-use Rattle.can_log.specs.Dir.{other_direction}
+use Rattle.can_log.specs.Dir.{other_direction, Message}
 use Rattle.can_log.specs.declared.frame.Dir.{Dir}
 use Rattle.isotp_pdu.specs.Layout.{Layout, layout_of}
 use Rattle.isotp_pdu.specs.Layout as layout
@@ -94,7 +94,7 @@ unfoldable pub verdict : ℕ → List Entry → Entry → EventValue
 verdict limit T e = on_layout limit e.dir (stands limit e.dir T) (stands limit (other_direction e.dir) T) e.micros (layout_of e.frame)
 
 -- the message of a verdict, with its direction
-abbrev pub told_message : Dir → VerdictValue → List (Dir × List ℕ)
+abbrev pub told_message : Dir → VerdictValue → List Message
 told_message d (message m) = (d, m) ∷ []
 told_message d began = []
 told_message d stored = []
@@ -102,10 +102,10 @@ told_message d flowed = []
 told_message d (dropped r) = []
 
 -- the messages that these frames deliver after the frames past
-abbrev pub messages_after : ℕ → List Entry → List Entry → List (Dir × List ℕ)
+abbrev pub messages_after : ℕ → List Entry → List Entry → List Message
 messages_after limit past [] = []
 messages_after limit past (e ∷ es) = told_message e.dir (verdict limit past e).told ++ messages_after limit (past ++ e ∷ []) es
 
 -- the messages that a trace delivers, in order
-abbrev pub messages : ℕ → List Entry → List (Dir × List ℕ)
+abbrev pub messages : ℕ → List Entry → List Message
 messages limit T = messages_after limit [] T

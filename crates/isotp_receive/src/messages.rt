@@ -1,7 +1,7 @@
 //! The messages of a whole trace.
 
 ghost use Rattle.std.specs.Prelude.{◌≡◌, ℕ, List, IfOk};
-ghost use Rattle.can_log.specs.declared.frame.Dir.{Dir};
+ghost use Rattle.can_log.specs.Dir.{Message as MessageValue};
 ghost use Rattle.isotp_receive.specs.Verdict.{messages};
 ghost use Rattle.isotp_receive.specs.Recording.{IsRecording};
 ghost use Rattle.isotp_receive.specs.Recorded.{entries, sent};
@@ -38,7 +38,7 @@ pub struct Message {
 pub fn messages_of(alloc: Global, trace: &[Recorded]) -> Result<Vec<Message>, AllocError>
     ensures messages { IfOk result (λ found.
         sent found.items ≡ messages MESSAGE_LIMIT (entries trace.now)) }
-    ensures recording { (M : List (Dir × List ℕ)) → IsRecording MESSAGE_LIMIT (entries trace.now) M →
+    ensures recording { (M : List MessageValue) → IsRecording MESSAGE_LIMIT (entries trace.now) M →
         IfOk result (λ found. sent found.items ≡ M) }
 {
     let mut pair = Pair::new(alloc)?;

@@ -6,7 +6,7 @@ use Rattle.std.proofs.lemmas.Bool.{lt-leb, le-ltb, leb-true, leb-false, ltb-true
 use Rattle.std.proofs.lemmas.List.{append-nil, get_or-drop, length-drop}
 use Rattle.std.proofs.lemmas.List.FromFn.{length-range_with_len}
 use Rattle.std.proofs.lemmas.Option.{slice_get_within}
-use Rattle.can_log.specs.Dir.{other_direction}
+use Rattle.can_log.specs.Dir.{other_direction, Message}
 use Rattle.can_log.specs.declared.frame.Dir.{Dir}
 use Rattle.can_log.specs.declared.frame.Id.{Id}
 use Rattle.isotp_pdu.specs.Layout.{layout_of}
@@ -190,12 +190,12 @@ module _ (identifier : Dir → Id) (line micros limit : ℕ) (bits : limit < 2 ^
     ]
 
   -- the messages, each with the positions of its frames, the first of which is n
-  abbrev pub transfers_from : ℕ → List (Dir × List ℕ) → List Transfer
+  abbrev pub transfers_from : ℕ → List Message → List Transfer
   transfers_from n [] = []
   transfers_from n (x ∷ M) = record { dir = x.0; message = x.1; positions = positions_of x.1 n } ∷ transfers_from (n + total_count (length x.1)) M
 
   -- a message before position k, and all that begin from there on
-  later-apart : (t : Transfer) (k : ℕ) → ((p : ℕ) → IsIn p t.positions → p < k) → last_or 0 t.positions < k → (M : List (Dir × List ℕ)) (n : ℕ) → k ≤ n
+  later-apart : (t : Transfer) (k : ℕ) → ((p : ℕ) → IsIn p t.positions → p < k) → last_or 0 t.positions < k → (M : List Message) (n : ℕ) → k ≤ n
       → AllByRecursion (AreApart t) (transfers_from n M)
   later-apart t k below last [] n le = tt
   later-apart t k below last (x ∷ M) n le = (
@@ -207,7 +207,7 @@ module _ (identifier : Dir → Id) (line micros limit : ℕ) (bits : limit < 2 ^
     later-apart t k below last M (n + total_count (length x.1)) (omega arith),
   )
 
-  each-pair : (M : List (Dir × List ℕ)) (n : ℕ) → EachPair AreApart (transfers_from n M)
+  each-pair : (M : List Message) (n : ℕ) → EachPair AreApart (transfers_from n M)
   each-pair [] n = tt
   each-pair (x ∷ M) n = (
     later-apart (record { dir = x.0; message = x.1; positions = positions_of x.1 n }) (n + total_count (length x.1)) (λ p i. (position-bounds x.1 n p i).1)
@@ -215,20 +215,20 @@ module _ (identifier : Dir → Id) (line micros limit : ℕ) (bits : limit < 2 ^
     each-pair M (n + total_count (length x.1)),
   )
 
-  messages-same : (M : List (Dir × List ℕ)) (n : ℕ) → map {B = Dir × List ℕ} (λ t. (t.dir, t.message)) (transfers_from n M) ≡ M
+  messages-same : (M : List Message) (n : ℕ) → map {B = Message} (λ t. (t.dir, t.message)) (transfers_from n M) ≡ M
   messages-same [] n = refl
   messages-same (x ∷ M) n = ap (λ l. x ∷ l) (messages-same M (n + total_count (length x.1)))
 
   module _ (F : List (Dir × List ℕ)) where
-    next-split : (pre : List (Dir × List ℕ)) (x : Dir × List ℕ) (M : List (Dir × List ℕ)) → F ≡ pre ++ all_frames limit (x ∷ M)
+    next-split : (pre : List (Dir × List ℕ)) (x : Message) (M : List Message) → F ≡ pre ++ all_frames limit (x ∷ M)
         → F ≡ (pre ++ canonical_frames limit x.0 x.1) ++ all_frames limit M
     next-split pre x M split = split ∙ sym (append_assoc pre (canonical_frames limit x.0 x.1) (all_frames limit M))
 
-    next-place : (pre : List (Dir × List ℕ)) (x : Dir × List ℕ) (n : ℕ) → n ≡ length pre → HasFrames limit x
+    next-place : (pre : List (Dir × List ℕ)) (x : Message) (n : ℕ) → n ≡ length pre → HasFrames limit x
         → n + total_count (length x.1) ≡ length (pre ++ canonical_frames limit x.0 x.1)
     next-place pre x n place has = omega (arith, length-append pre (canonical_frames limit x.0 x.1), length-canonical_frames limit x.0 x.1 has.some has.fits)
 
-    each-transfer : (M : List (Dir × List ℕ)) (pre : List (Dir × List ℕ)) (n : ℕ) → F ≡ pre ++ all_frames limit M → n ≡ length pre → AllByRecursion (HasFrames limit) M
+    each-transfer : (M : List Message) (pre : List (Dir × List ℕ)) (n : ℕ) → F ≡ pre ++ all_frames limit M → n ≡ length pre → AllByRecursion (HasFrames limit) M
         → AllByRecursion (IsTransfer limit (timed identifier line micros F)) (transfers_from n M)
     each-transfer [] pre n split place sizes = tt
     each-transfer (x ∷ M) pre n split place sizes = (
@@ -237,7 +237,7 @@ module _ (identifier : Dir → Id) (line micros limit : ℕ) (bits : limit < 2 ^
       each-transfer M (pre ++ canonical_frames limit x.0 x.1) (n + total_count (length x.1)) (next-split pre x M split) (next-place pre x n place sizes.0) sizes.1,
     )
 
-    all-others : (M : List (Dir × List ℕ)) (pre : List (Dir × List ℕ)) (n : ℕ) → F ≡ pre ++ all_frames limit M → n ≡ length pre → AllByRecursion (HasFrames limit) M
+    all-others : (M : List Message) (pre : List (Dir × List ℕ)) (n : ℕ) → F ≡ pre ++ all_frames limit M → n ≡ length pre → AllByRecursion (HasFrames limit) M
         → (p : ℕ) (e : Entry) → n ≤ p → At (timed identifier line micros F) p e → IsGiven p (transfers_from n M) ⊎ IsIdle (layout_of e.frame)
     all-others [] pre n split place sizes p e above there =
         absurd (let inside = slice_get_within (timed identifier line micros F) p e there in let a = length-timed identifier line micros F in let b = ap length (split ∙ append-nil pre) in omega arith)
@@ -254,7 +254,7 @@ module _ (identifier : Dir → Id) (line micros limit : ℕ) (bits : limit < 2 ^
           ]
     ]
 
-  pub frames-recording : (M : List (Dir × List ℕ)) → AllByRecursion (HasFrames limit) M → IsRecording limit (timed identifier line micros (all_frames limit M)) M
+  pub frames-recording : (M : List Message) → AllByRecursion (HasFrames limit) M → IsRecording limit (timed identifier line micros (all_frames limit M)) M
   frames-recording M sizes = record {
     transfers = transfers_from 0 M;
     messages = messages-same M 0;

@@ -1,6 +1,7 @@
 -- What the public laws of canonical frames say.
 use Rattle.std.specs.Prelude.{◌≡◌, ◌<◌, ◌≤◌, ◌^◌, ℕ, List, [], ◌∷◌, ◌++◌, length, take}
 use Rattle.std.specs.List.{AllByRecursion}
+use Rattle.can_log.specs.Dir.{Message}
 use Rattle.can_log.specs.declared.frame.Dir.{Dir}
 use Rattle.can_log.specs.declared.frame.Id.{Id}
 use Rattle.isotp_receive.specs.Trace.{Entry}
@@ -16,7 +17,7 @@ ConsecutiveCountIsLeast = (len : ℕ) → 7 < len → IsConsecutiveCount (room_i
 
 -- the canonical frames of any messages, a millisecond apart, are a recording of them
 abbrev pub CanonicalFramesAreARecording : Type 0
-CanonicalFramesAreARecording = (limit : ℕ) (identifier : Dir → Id) (line micros : ℕ) (M : List (Dir × List ℕ))
+CanonicalFramesAreARecording = (limit : ℕ) (identifier : Dir → Id) (line micros : ℕ) (M : List Message)
     → limit < 2 ^ 32 → AllByRecursion (HasFrames limit) M → IsRecording limit (timed identifier line micros (all_frames limit M)) M
 
 -- received after any trace they deliver the message, and nothing else

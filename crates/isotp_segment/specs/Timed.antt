@@ -1,6 +1,7 @@
 -- Canonical frames as a trace: in lines one after another, each a millisecond after the one before.
 use Rattle.std.specs.Prelude.{ℕ, ◌+◌, ◌≤◌, List, [], ◌∷◌, length}
 use Rattle.std.specs.List.{flat_map}
+use Rattle.can_log.specs.Dir.{Message}
 use Rattle.can_log.specs.declared.frame.Dir.{Dir}
 use Rattle.can_log.specs.declared.frame.Id.{Id}
 use Rattle.can_log.specs.declared.frame.Kind.TheVariants.{Classic}
@@ -15,10 +16,10 @@ timed identifier line micros (frame ∷ frames) =
     ∷ timed identifier (line + 1) (micros + 1000) frames
 
 -- a message that has canonical frames
-pub record HasFrames (limit : ℕ) (message : Dir × List ℕ) : Type 0 where
+pub record HasFrames (limit : ℕ) (message : Message) : Type 0 where
   pub some : 1 ≤ length message.1
   pub fits : length message.1 ≤ limit
 
 -- the frames of messages, one message after another
-abbrev pub all_frames : ℕ → List (Dir × List ℕ) → List (Dir × List ℕ)
+abbrev pub all_frames : ℕ → List Message → List (Dir × List ℕ)
 all_frames limit messages = flat_map (λ message. canonical_frames limit message.0 message.1) messages

@@ -5,9 +5,10 @@ use Rattle.std.specs.List.{flat_map}
 use Rattle.std.proofs.lemmas.List.{append-nil}
 use Rattle.std.proofs.lemmas.Grind.{flat_map-append}
 use Rattle.std.proofs.lemmas.Bool.{cond_both, cases_Bool, false≢true}
+use Rattle.can_log.specs.Dir.{Message}
 use Rattle.can_log.specs.declared.frame.Dir.TheVariants.{Tester, Unit}
 use Rattle.uds_message.specs.Message.{is_request}
-use Rattle.uds_exchange.specs.Meaning.{Message, is_tester_request, is_answer_to, is_pending_reply_to, before_requests, Part, part, parts, answer, strays_in, ItemValue, exchange, stray_of, items_of, meaning, messages_of, flattened}
+use Rattle.uds_exchange.specs.Meaning.{is_tester_request, is_answer_to, is_pending_reply_to, before_requests, Part, part, parts, answer, strays_in, ItemValue, exchange, stray_of, items_of, meaning, messages_of, flattened}
 use Rattle.uds_exchange.proofs.Variants.{some_none}
 use Rattle.uds_exchange.proofs.Replies.{request-bytes}
 

@@ -3,8 +3,9 @@ use Rattle.std.proofs.Common.{◌≡◌, ℕ, ◌+◌, List, [], ◌∷◌, ◌+
 use Rattle.std.specs.List.{flat_map}
 use Rattle.std.proofs.lemmas.Grind.{flat_map-append}
 use Rattle.std.proofs.lemmas.Bool.{cases_Bool}
+use Rattle.can_log.specs.Dir.{Message}
 use Rattle.can_log.specs.declared.frame.Dir.TheVariants.{Tester}
-use Rattle.uds_exchange.specs.Meaning.{Message, is_tester_request, is_answer_to, is_pending_reply_to, before_requests, Part, parts, answer, strays_in, removed, removed_of, removed_messages, stray_of, items_of, meaning, messages_of, flattened}
+use Rattle.uds_exchange.specs.Meaning.{is_tester_request, is_answer_to, is_pending_reply_to, before_requests, Part, parts, answer, strays_in, removed, removed_of, removed_messages, stray_of, items_of, meaning, messages_of, flattened}
 use Rattle.uds_exchange.proofs.Again.{kept, stays, flattened-exchange, flattened-strays}
 
 -- one more stray is one more message that stays

@@ -2,9 +2,9 @@
 use Rattle.std.proofs.Common.{◌≡◌, ℕ, ◌+◌, ◌<◌, ◌≤◌, List, [], ◌∷◌, ◌++◌, length, take, drop, get_or, refl, ◌∙◌, ap, arith, length-drop, sum_by}
 use Rattle.std.proofs.lemmas.List.{drop_more, length-take-le, take-append-le, drop-append-le, take_all}
 use Rattle.std.proofs.lemmas.List.Sums.{sum_by-cons}
+use Rattle.can_log.specs.Dir.{Message}
 use Rattle.can_log.specs.declared.frame.Dir.{Dir}
 use Rattle.uds_exchange.specs.declared.held.Extent.{Extent}
-use Rattle.uds_exchange.specs.Meaning.{Message}
 use Rattle.uds_exchange.specs.Steps.{total_length, cut_from}
 
 pub cut_from-drop : (hs : List Extent) (i : ℕ) (d : Extent) (bs m more : List ℕ) → i < length hs → m ≡ take (get_or hs i d).len bs → more ≡ drop (get_or hs i d).len bs

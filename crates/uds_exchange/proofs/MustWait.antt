@@ -5,8 +5,9 @@ use Rattle.std.specs.List.{list_any}
 use Rattle.std.proofs.lemmas.List.{append-nil}
 use Rattle.std.proofs.lemmas.Bool.{cases_Bool, false≢true, eq-eqb}
 use Rattle.std.proofs.Math.Bool.{or-true}
+use Rattle.can_log.specs.Dir.{Message}
 use Rattle.uds_message.specs.Message.{is_request, is_response_sid}
-use Rattle.uds_exchange.specs.Meaning.{Message, ItemValue, exchange, stray, is_tester_request, is_answer_to, is_pending_reply_to, meaning, flattened, removed_messages}
+use Rattle.uds_exchange.specs.Meaning.{ItemValue, exchange, stray, is_tester_request, is_answer_to, is_pending_reply_to, meaning, flattened, removed_messages}
 use Rattle.uds_exchange.specs.Roles.{IsOpenBehind}
 use Rattle.uds_exchange.specs.Order.{has_exchange, open_request_in, open_request, held_in, held, early, rejection_of}
 use Rattle.uds_exchange.specs.Pairing.{waiting, joined_by, joined}

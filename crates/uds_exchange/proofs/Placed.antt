@@ -4,9 +4,10 @@ use Rattle.std.proofs.Common.{◌≡◌, ℕ, true, false, List, [], ◌∷◌, 
 use Rattle.std.specs.Prelude.{slice_set}
 use Rattle.std.specs.List.{flat_map, list_any}
 use Rattle.std.proofs.lemmas.Bool.{cases_Bool}
+use Rattle.can_log.specs.Dir.{Message}
 use Rattle.can_log.specs.declared.frame.Dir.TheVariants.{Tester, Unit}
 use Rattle.uds_message.specs.Message.{is_request}
-use Rattle.uds_exchange.specs.Meaning.{Message, is_tester_request, is_answer_to, is_pending_reply_to, before_requests, Part, parts, strays_in, ItemValue, exchange, stray, stray_of, items_of, meaning, flattened}
+use Rattle.uds_exchange.specs.Meaning.{is_tester_request, is_answer_to, is_pending_reply_to, before_requests, Part, parts, strays_in, ItemValue, exchange, stray, stray_of, items_of, meaning, flattened}
 use Rattle.uds_exchange.specs.Roles.{behind_last_request, placed}
 use Rattle.uds_exchange.specs.Order.{has_exchange}
 use Rattle.uds_exchange.specs.Pairing.{waiting, joined_by}

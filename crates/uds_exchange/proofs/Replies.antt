@@ -1,9 +1,10 @@
 -- A message of the unit is not both final and pending for a request, and a request is no message of the unit.
 use Rattle.std.proofs.Common.{◌≡◌, ℕ, ◌+◌, Bool, true, false, not, ◌&&◌, ◌||◌, ◌==◌, List, [], ◌∷◌, refl}
 use Rattle.std.proofs.lemmas.Bool.{false≢true}
+use Rattle.can_log.specs.Dir.{Message}
 use Rattle.can_log.specs.declared.frame.Dir.TheVariants.{Tester, Unit}
 use Rattle.uds_message.specs.Message.{sid, is_request, is_response_sid, is_final_for, is_pending_for}
-use Rattle.uds_exchange.specs.Meaning.{Message, is_tester_request, is_answer_to, is_pending_reply_to}
+use Rattle.uds_exchange.specs.Meaning.{is_tester_request, is_answer_to, is_pending_reply_to}
 
 -- t: the sid is a request's; p: the byte of a positive response; n, s: those of a negative one; c: the code is pending
 exclusive : (t p n s c : Bool) → (t && (n && (s && c))) ≡ true → (t && ((p && not n) || (n && (s && not c)))) ≡ false

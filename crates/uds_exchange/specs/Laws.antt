@@ -1,7 +1,8 @@
 -- The laws of meanings, over the definitions alone.
 use Rattle.std.specs.Prelude.{◌≡◌, ◌≢◌, ◌↔◌, ℕ, ◌+◌, Bool, true, List, [], ◌∷◌, ◌++◌, Some, None, length}
 use Rattle.std.specs.List.{list_all}
-use Rattle.uds_exchange.specs.Meaning.{Message, meaning, flattened, removed_messages}
+use Rattle.can_log.specs.Dir.{Message}
+use Rattle.uds_exchange.specs.Meaning.{meaning, flattened, removed_messages}
 use Rattle.uds_exchange.specs.Roles.{Role, IsOpenBehind, HasRole, AreRoles, arranged, those_removed}
 use Rattle.uds_exchange.specs.Order.{open_request, held, early, rejection_of}
 

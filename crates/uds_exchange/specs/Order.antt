@@ -1,8 +1,9 @@
 -- Which messages of a meaning have their place before the list of messages has ended, and which must wait.
 use Rattle.std.specs.Prelude.{ℕ, ◌-◌, Bool, true, false, List, [], ◌∷◌, length, take, Option, Some, None, if◌then◌else◌}
+use Rattle.can_log.specs.Dir.{Message}
 use Rattle.can_log.specs.declared.frame.Dir.TheVariants as dir
 use Rattle.uds_message.specs.Message.{sid}
-use Rattle.uds_exchange.specs.Meaning.{Message, ItemValue, exchange, stray, meaning, flattened}
+use Rattle.uds_exchange.specs.Meaning.{ItemValue, exchange, stray, meaning, flattened}
 
 -- whether one of the items is an exchange
 abbrev pub has_exchange : List ItemValue → Bool

@@ -1,9 +1,10 @@
 -- Devices of proof: a meaning that grows by one message, and what the code keeps of it.
 use Rattle.std.specs.Prelude.{◌≡◌, ℕ, suc, not, ◌&&◌, List, [], ◌∷◌, ◌++◌, Option, Some, None, option_map, if◌then◌else◌, slice_set}
+use Rattle.can_log.specs.Dir.{Message}
 use Rattle.uds_message.specs.Message.{sid, is_final_for, is_pending_for}
 use Rattle.uds_exchange.specs.declared.roles.Role.{Role as RoleInCode}
 use Rattle.uds_exchange.specs.declared.roles.Role.TheVariants as role
-use Rattle.uds_exchange.specs.Meaning.{Message, ItemValue, exchange, stray, stray_of, is_from_tester, is_tester_request, is_answer_to, is_pending_reply_to}
+use Rattle.uds_exchange.specs.Meaning.{ItemValue, exchange, stray, stray_of, is_from_tester, is_tester_request, is_answer_to, is_pending_reply_to}
 use Rattle.uds_exchange.specs.Order.{has_exchange}
 
 abbrev pub one_later : Option (ℕ × List ℕ) → Option (ℕ × List ℕ)

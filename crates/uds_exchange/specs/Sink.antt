@@ -1,7 +1,7 @@
 -- Messages put into a sink, whose implementation says which values of it may follow an Ok and an Err of `put`.
 use Rattle.std.specs.Prelude.{◌≡◌, ℕ, List, [], ◌∷◌, ◌++◌}
+use Rattle.can_log.specs.Dir.{Message}
 use Rattle.can_log.specs.declared.frame.Dir.{Dir}
-use Rattle.uds_exchange.specs.Meaning.{Message}
 
 -- the values t of a sink that may follow an Ok of a `put` of a message to the value s
 abbrev pub AfterOk : Type 0 → Type 1

@@ -1,11 +1,11 @@
 -- Devices of proof: what an orderer does with one more message, from what it holds, and messages that lie end to end.
 use Rattle.std.specs.Prelude.{ℕ, ◌+◌, List, [], ◌∷◌, ◌++◌, Option, Some, None, take, drop, ◌≡◌, true, false}
+use Rattle.can_log.specs.Dir.{Message}
 use Rattle.uds_exchange.specs.declared.held.Extent.{Extent}
 use Rattle.uds_exchange.specs.declared.roles.Role.{Role}
 use Rattle.uds_exchange.specs.declared.roles.Role.TheVariants as role
 use Rattle.uds_exchange.specs.declared.orderer.OrderFault.{OrderFault}
 use Rattle.uds_exchange.specs.declared.orderer.OrderFault.TheVariants as fault
-use Rattle.uds_exchange.specs.Meaning.{Message}
 use Rattle.uds_exchange.specs.Pairing.{role_at}
 use Rattle.uds_exchange.specs.Sink.{AfterOk, AfterErr, Fails}
 use Rattle.uds_exchange.specs.Orderer.{Standing}

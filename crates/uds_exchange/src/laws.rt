@@ -1,7 +1,8 @@
 //! What holds of meanings, whatever computes them. Each law is its contract; a call does nothing.
 
 ghost use Rattle.std.specs.Prelude.{List, [], ◌∷◌, ◌++◌};
-ghost use Rattle.uds_exchange.specs.Meaning.{Message, meaning, flattened};
+ghost use Rattle.can_log.specs.Dir.{Message};
+ghost use Rattle.uds_exchange.specs.Meaning.{meaning, flattened};
 ghost use Rattle.uds_exchange.specs.Order.{early, held};
 ghost use Rattle.uds_exchange.specs.Sink.{Puts};
 ghost use Rattle.uds_exchange.specs.Orderer.{PutsDue};

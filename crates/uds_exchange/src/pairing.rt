@@ -1,7 +1,8 @@
 //! Requests with their answers, as the messages come.
 
 ghost use Rattle.std.specs.Prelude.{◌≡◌, ◌<◌, ◌++◌, ◌∷◌, [], List, ℕ, length, Some, None, OnOk, OnErr, IfOk, slice_get, slice_set};
-ghost use Rattle.uds_exchange.specs.Meaning.{Message, meaning, exchange};
+ghost use Rattle.can_log.specs.Dir.{Message};
+ghost use Rattle.uds_exchange.specs.Meaning.{meaning, exchange};
 ghost use Rattle.uds_exchange.specs.ItemSeen.{item_value, item_values};
 ghost use Rattle.uds_exchange.specs.Pairing.{joined};
 

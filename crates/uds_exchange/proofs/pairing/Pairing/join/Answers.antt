@@ -1,8 +1,9 @@
 use Rattle.std.proofs.Common.{◌≡◌, ◌++◌, ◌∷◌, [], sym, ◌∙◌, ap, subst, arith, Some, None, ℕ, List}
 use Rattle.std.specs.Prelude.{slice_set}
+use Rattle.can_log.specs.Dir.{Message}
 use Rattle.uds_message.specs.Message.{sid}
 use Rattle.uds_exchange.specs.declared.item.Item.TheVariants as item
-use Rattle.uds_exchange.specs.Meaning.{Message, ItemValue, exchange, stray}
+use Rattle.uds_exchange.specs.Meaning.{ItemValue, exchange, stray}
 use Rattle.uds_exchange.specs.ItemSeen.{item_values}
 use Rattle.uds_exchange.specs.Pairing.{IsOpenAt}
 use Rattle.uds_exchange.proofs.Kept.{item_values-push, length-item_values, joins-request, request-sid, joins-stray, joins-answer, answered-at, answered-below, answered-exchange, kept-request, kept-stray, kept-answer}
