@@ -4,7 +4,7 @@ use Rattle.std.proofs.lemmas.List.{append-nil, take_more, map-append}
 use Rattle.std.specs.Borrow.{Bor}
 use Rattle.can_log.specs.Dir.{Message}
 use Rattle.can_log.specs.declared.frame.Dir.{Dir}
-use Rattle.isotp_receive.specs.declared.messages.Message.{Message}
+use Rattle.isotp_receive.specs.declared.messages.Message.{Message as OwnedMessage}
 use Rattle.isotp_receive.specs.declared.messages.Recorded.{Recorded}
 use Rattle.isotp_receive.specs.declared.event.Verdict.{Verdict}
 use Rattle.isotp_receive.specs.declared.event.Verdict.TheVariants as as_told
@@ -48,5 +48,5 @@ told_none d as_told.Stored h = refl
 told_none d as_told.Flow h = refl
 told_none d (as_told.Dropped r) h = refl
 
-pub sent-snoc : (ms : List Message) (m : Message) → sent (ms ++ m ∷ []) ≡ sent ms ++ (m.dir, m.bytes.items) ∷ []
+pub sent-snoc : (ms : List OwnedMessage) (m : OwnedMessage) → sent (ms ++ m ∷ []) ≡ sent ms ++ (m.dir, m.bytes.items) ∷ []
 sent-snoc ms m = map-append (λ m. (m.dir, m.bytes.items)) ms (m ∷ [])

@@ -1,7 +1,6 @@
 //! Messages that wait, end to end in one buffer.
 
 ghost use Rattle.std.specs.Prelude.{◌≡◌, ◌++◌, ◌∷◌, [], length, OnOk, OnErr, IfErr, sum_by};
-ghost use Rattle.can_log.specs.Dir.{Message};
 ghost use Rattle.uds_exchange.specs.Sink.{Puts, Fails};
 ghost use Rattle.uds_exchange.specs.Steps.{total_length, cut_from};
 
@@ -26,6 +25,7 @@ pub(crate) struct Held {
 
 impl Model for Held {
     ghost use Rattle.std.specs.Prelude.{List, ◌≡◌, length};
+    ghost use Rattle.can_log.specs.Dir.{Message};
     ghost use Rattle.uds_exchange.specs.Steps.{total_length, cut_from};
 
     ghost Value = { List Message };
