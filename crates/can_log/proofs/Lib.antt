@@ -12,6 +12,7 @@ pub mod SmallFields
 pub mod LineFields
 pub mod Spelling
 pub mod LineReads
+pub mod PlainLines
 pub mod Judging
 pub mod HexTable
 pub mod DigitValues

@@ -148,7 +148,7 @@ is_id_of (a ∷ b ∷ c ∷ []) each (inl h) = elim (tells (nat_lt a 56)) [
 ]
 is_id_of (a ∷ b ∷ c ∷ d ∷ ds) each (inl h) = absurd (omega arith)
 
-id_to : {v text : List ℕ} → IdForm v text → IsIdentifierText v
+pub id_to : {v text : List ℕ} → IdForm v text → IsIdentifierText v
 id_to {v} f = (run_of f.0, id_is v f.0.each f.1)
 
 id_from : {ds : List ℕ} → IsIdentifierText ds → IdForm ds ds
