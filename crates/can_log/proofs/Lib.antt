@@ -16,6 +16,7 @@ pub mod PlainLines
 pub mod Judging
 pub mod HexTable
 pub mod DigitValues
+pub mod SpelledBytes
 pub mod LineLength
 pub mod LineFeeds
 pub mod RefusedPlaces
