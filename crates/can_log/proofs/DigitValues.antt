@@ -1,13 +1,12 @@
 -- The values of digits, and the bytes of pairs of them.
-use Rattle.std.proofs.Common.{◌≡◌, ℕ, zero, suc, ◌+◌, ◌-◌, ◌*◌, ◌%◌, ◌/◌, ◌<◌, ◌≤◌, true, false, List, [], ◌∷◌, ◌++◌, length, get_or, take, Some, Ok, refl, sym, ap, arith}
+use Rattle.std.proofs.Common.{◌≡◌, ℕ, zero, suc, ◌+◌, ◌-◌, ◌*◌, ◌%◌, ◌<◌, ◌≤◌, true, false, List, [], ◌∷◌, ◌++◌, length, get_or, take, Some, Ok, refl, sym, ap, arith}
 use Rattle.std.specs.Char.{is_ascii_digit, is_ascii_hexdigit, digit_value}
 use Rattle.std.specs.Str.Parse.{digits_value, digits_value_after}
 use Rattle.std.specs.List.{AllByRecursion}
 use Rattle.std.proofs.lemmas.Bool.Decides.{nat_tests}
 use Rattle.std.proofs.lemmas.List.{length-take, take_more}
 use Rattle.std.specs.Prelude.{◌==◌}
-use Rattle.std.proofs.lemmas.Bool.{eq-eqb}
-use Rattle.hex.specs.Hex.{hex_digit_value, pair_value, decode_pairs, decode_sized}
+use Rattle.hex.specs.Hex.{hex_digit_value, pair_value, decode_pairs, decode_of}
 use Rattle.can_log.specs.Line.{bytes_spelled}
 use Rattle.can_log.proofs.Lists.{all_map, all_take}
 use Rattle.can_log.proofs.Spelling.{hex_value}
@@ -111,11 +110,11 @@ decode_all i [] each even = refl
 decode_all i (h ∷ []) each even = absurd (omega arith)
 decode_all i (h ∷ l ∷ ds) each even = rw (pair_is h l i each.0 each.1.0, decode_all (i + 2) ds each.1.1 (omega arith)) refl
 
-pub decode_fits : (ds : List ℕ) (n : ℕ) → AreHex ds → length ds % 2 ≡ 0 → n ≡ length ds / 2 → decode_sized ds n ≡ Ok (bytes_spelled ds)
-decode_fits ds n each even e =
+-- what the digits of whole bytes spell is what `hex` decodes of them
+pub decoded_is_spelled : (ds : List ℕ) → AreHex ds → length ds % 2 ≡ 0 → decode_of ds ≡ Ok (bytes_spelled ds)
+decoded_is_spelled ds each even =
     let odd : (length ds % 2 == 1) ≡ false = ap (λ (z : ℕ). z == 1) even in
-    let size : (length ds / 2 == n) ≡ true = eq-eqb (length ds / 2) n (sym e) in
-    rw (odd, size) (decode_all 0 ds each even)
+    rw odd (decode_all 0 ds each even)
 
 pub bytes_len : (ds : List ℕ) → length ds % 2 ≡ 0 → 2 * length (bytes_spelled ds) ≡ length ds
 bytes_len [] even = refl

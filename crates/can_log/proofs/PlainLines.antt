@@ -1,5 +1,5 @@
 -- The fields of a line of plain form are those of a line, where each has bytes of its kind alone.
-use Rattle.std.proofs.Common.{◌≡◌, ℕ, ◌≤◌, Bool, true, List, [], ◌∷◌, length, refl, arith}
+use Rattle.std.proofs.Common.{◌≡◌, ℕ, ◌≤◌, true, List, [], ◌∷◌, length, refl, arith}
 use Rattle.std.specs.Prelude.{◌%◌, nat_lt, slice_index}
 use Rattle.std.specs.List.{list_all}
 use Rattle.std.proofs.lemmas.Bool.{and_parts}
@@ -8,7 +8,6 @@ use Rattle.can_log.specs.declared.field.Class.{Class}
 use Rattle.can_log.specs.declared.field.Class.TheVariants.{Digit, Hex, Visible}
 use Rattle.can_log.specs.Line.{IsRunOf, IsIdentifierText, IsLineSpelling}
 use Rattle.can_log.specs.FieldReader.{is_in}
-use Rattle.can_log.specs.LineReader.{is_identifier}
 use Rattle.can_log.specs.Plain.{HavePlainWidths, spelling_of}
 use Rattle.can_log.proofs.RunLaws.{AllIn}
 use Rattle.can_log.proofs.Spelling.{id_to}

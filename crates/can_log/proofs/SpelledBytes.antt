@@ -1,5 +1,5 @@
 -- The bytes that pairs of digits spell, one pair after another.
-use Rattle.std.proofs.Common.{◌≡◌, ℕ, zero, suc, ◌+◌, ◌*◌, ◌%◌, ◌<◌, ◌≤◌, List, [], ◌∷◌, ◌++◌, length, get_or, take, length-take-le, refl, ap, arith}
+use Rattle.std.proofs.Common.{◌≡◌, ℕ, zero, suc, ◌+◌, ◌*◌, ◌<◌, ◌≤◌, List, [], ◌∷◌, ◌++◌, length, get_or, take, length-take-le, refl, ap, arith}
 use Rattle.std.specs.Char.{digit_value}
 use Rattle.can_log.specs.Line.{bytes_spelled}
 use Rattle.can_log.proofs.DigitValues.{bytes_len}

@@ -57,7 +57,8 @@ fn hex_number(digits: &[u8]) -> u32
     n
 }
 
-/// The bytes that pairs of digits spell.
+/// The bytes that pairs of digits spell. Digits are looked up, since a test of ranges, as the crate `hex` makes for each,
+/// is a branch that the processor can't foresee; the law `data_is_what_hex_decodes` says that both give the same.
 #[inline(always)]
 fn data_of(digits: &[u8]) -> ArrayVec<u8, 64>
     requires { IsDataText 128 digits.now }

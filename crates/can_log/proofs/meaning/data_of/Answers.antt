@@ -11,4 +11,4 @@ pub loop-i-preserved : goal.loop-i-preserved
 loop-i-preserved c =
     c.push.ensures.items
     ∙ rw (c.loop-i.invariant, c.hex_digit_value-high.ensures.value, c.hex_digit_value-low.ensures.value)
-      (sym (one_more_pair c.loop-i.i c.args.digits.now (omega arith)))
+    (sym (one_more_pair c.loop-i.i c.args.digits.now (omega arith)))

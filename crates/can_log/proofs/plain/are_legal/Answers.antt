@@ -1,4 +1,4 @@
-use Rattle.std.proofs.Common.{◌≡◌, true, sym, ◌∙◌}
+use Rattle.std.proofs.Common.{sym, ◌∙◌}
 use Rattle.std.proofs.lemmas.Bool.{and_parts}
 use Rattle.can_log.proofs.PlainLines.{plain_is_line}
 use Rattle.can_log.proofs.plain.are_legal.Goals as goal
