@@ -8,7 +8,8 @@ use Rattle.std.proofs.lemmas.Grind.{get_or_after_one}
 use Rattle.can_log.specs.declared.frame.Dir.{Dir}
 use Rattle.isotp_pdu.specs.declared.PduFault.{PduFault}
 use Rattle.isotp_pdu.specs.declared.Status.TheVariants.{Continue, Wait, Overflow}
-use Rattle.isotp_pdu.specs.Layout.{Layout, layout_of}
+use Rattle.isotp_pdu.specs.Layout.{Layout}
+use Rattle.isotp_pdu.specs.Reading.{layout_of}
 use Rattle.isotp_pdu.specs.Layout as layout
 use Rattle.isotp_receive.specs.declared.reception.Judged.TheVariants as judged_as
 use Rattle.isotp_receive.specs.declared.reception.Judged.{Judged}

@@ -6,7 +6,8 @@ use Rattle.std.proofs.lemmas.Bool.{cases_Bool, ltb-true, ltb-false}
 use Rattle.can_log.specs.Dir.{Message}
 use Rattle.can_log.specs.declared.frame.Dir.{Dir}
 use Rattle.isotp_pdu.specs.declared.PduFault.{PduFault}
-use Rattle.isotp_pdu.specs.Layout.{Layout, layout_of}
+use Rattle.isotp_pdu.specs.Layout.{Layout}
+use Rattle.isotp_pdu.specs.Reading.{layout_of}
 use Rattle.isotp_pdu.specs.Layout as layout
 use Rattle.isotp_receive.specs.Trace.{Entry, FirstFrame, Role, single, first, consecutive, continue_or_wait, overflow, no_part, role, same_direction, At}
 use Rattle.isotp_receive.specs.Places.{consecutive_by}

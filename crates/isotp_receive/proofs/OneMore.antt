@@ -6,7 +6,8 @@ use Rattle.std.proofs.Math.Bool.{and-true}
 use Rattle.can_log.specs.declared.frame.Dir.{Dir}
 use Rattle.std.proofs.Common.{Result, Ok, Err}
 use Rattle.std.specs.Prelude.{IfOk}
-use Rattle.isotp_pdu.specs.Layout.{Layout, layout_of, IsSoundLayout}
+use Rattle.isotp_pdu.specs.Layout.{Layout, IsSoundLayout}
+use Rattle.isotp_pdu.specs.Reading.{layout_of}
 use Rattle.isotp_pdu.specs.Layout as layout
 use Rattle.isotp_pdu.specs.declared.PduFault.{PduFault}
 use Rattle.isotp_pdu.specs.declared.Status.TheVariants.{Continue, Wait, Overflow}

@@ -8,7 +8,8 @@ use Rattle.can_log.specs.Frame.{FrameValue}
 use Rattle.can_log.specs.declared.frame.Dir.{Dir}
 use Rattle.isotp_pdu.specs.declared.PduFault.{PduFault}
 use Rattle.isotp_pdu.specs.declared.Status.TheVariants.{Continue, Wait, Overflow}
-use Rattle.isotp_pdu.specs.Layout.{Layout, layout_of, is_can_dl, least_first, SpellsFirst, Spells, IsSoundLayout}
+use Rattle.isotp_pdu.specs.Layout.{Layout, is_can_dl, least_first, SpellsFirst, Spells, IsSoundLayout}
+use Rattle.isotp_pdu.specs.Reading.{layout_of}
 use Rattle.isotp_pdu.specs.Layout as layout
 use Rattle.isotp_pdu.proofs.Promises.{layout_is_read, layout_is_sound}
 use Rattle.isotp_receive.specs.Trace.{Entry, FirstFrame, Role, single, first, consecutive, continue_or_wait, overflow, no_part, role, own_role, other_role, same_direction, At}

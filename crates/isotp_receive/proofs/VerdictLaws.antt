@@ -3,7 +3,8 @@ use Rattle.std.proofs.Common.{zero, inl, inr, take, nat_le, Option, ◌≡◌, �
 use Rattle.std.specs.Prelude.{◌↔◌, ◌≢◌, not}
 use Rattle.std.proofs.lemmas.Bool.{lt-ltb, ltb-true, eq-eqb, eqb-true, ne_eqb, le-leb, lt-leb, leb-true, leb-false, cases_Bool, false≢true}
 use Rattle.can_log.specs.declared.frame.Dir.{Dir}
-use Rattle.isotp_pdu.specs.Layout.{Layout, layout_of}
+use Rattle.isotp_pdu.specs.Layout.{Layout}
+use Rattle.isotp_pdu.specs.Reading.{layout_of}
 use Rattle.isotp_pdu.specs.Layout as layout
 use Rattle.isotp_pdu.specs.declared.PduFault.{PduFault}
 use Rattle.can_log.specs.Dir.{other_direction}

@@ -2,7 +2,8 @@
 use Rattle.std.specs.Prelude.{◌≡◌, ◌<◌, ◌≤◌, ◌↔◌, ℕ, List, [], ◌∷◌, ◌++◌, Result, Ok, Err, ⊤}
 use Rattle.std.specs.List.{AllByRecursion}
 use Rattle.can_log.specs.declared.frame.Dir.{Dir}
-use Rattle.isotp_pdu.specs.Layout.{Layout, layout_of}
+use Rattle.isotp_pdu.specs.Layout.{Layout}
+use Rattle.isotp_pdu.specs.Reading.{layout_of}
 use Rattle.isotp_pdu.specs.Layout as layout
 use Rattle.isotp_pdu.specs.declared.PduFault.{PduFault}
 use Rattle.isotp_receive.specs.Trace.{Entry, At, single, role}

@@ -9,7 +9,7 @@ use Rattle.std.proofs.lemmas.Option.{slice_get_within}
 use Rattle.can_log.specs.Dir.{other_direction, Message}
 use Rattle.can_log.specs.declared.frame.Dir.{Dir}
 use Rattle.can_log.specs.declared.frame.Id.{Id}
-use Rattle.isotp_pdu.specs.Layout.{layout_of}
+use Rattle.isotp_pdu.specs.Reading.{layout_of}
 use Rattle.isotp_receive.specs.Trace.{Entry, At, FirstFrame, first, consecutive, role}
 use Rattle.isotp_receive.specs.OnTime.{RestartsTimer}
 use Rattle.isotp_receive.specs.Recording.{IsConsecutiveFrame, EachNumbered, IsSegmented, unsegmented, segmented, Transfer, IsTransfer, IsIn, last_or, AreApart, EachPair, IsGiven, IsIdle, IsRecording, ended_within}
