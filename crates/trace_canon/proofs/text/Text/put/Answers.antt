@@ -2,14 +2,13 @@ use Rattle.std.proofs.Common.{◌≡◌, ℕ, List, [], ◌∷◌, ◌++◌, ap,
 use Rattle.can_log.specs.declared.frame.Dir.{Dir}
 use Rattle.isotp_receive.specs.declared.TheConstants.{MESSAGE_LIMIT}
 use Rattle.isotp_segment.specs.CanonicalFrames.{canonical_frames}
-use Rattle.isotp_segment.specs.FramesLeft.{frames_left}
 use Rattle.trace_canon.specs.Gathering.{HoldsText}
 use Rattle.trace_canon.proofs.text.Text.put.Goals as goal
 
 pub frames-init : goal.frames-init
 frames-init c = record {
   holds = λ frames holds. subst (HoldsText c.args.config.now c.args.self.now) (sym (append-nil frames)) holds;
-  left = ap frames_left c.into_iter-sender-iterator.ensures.into_iter_gives ∙ c.new-sender-items.ensures.frames;
+  left = c.into_iter-sender-iterator.ensures.into_iter_gives ∙ c.new-sender-items.ensures.frames;
 }
 
 pub frames-preserved : goal.frames-preserved
@@ -18,7 +17,7 @@ frames-preserved c =
     record {
       holds = λ frames holds. subst (HoldsText c.args.config.now c.put_frame.new.self) (append_assoc frames c.frames.yielded (frame ∷ []))
           (c.in_ok-put_frame.ensures (frames ++ c.frames.yielded) (c.frames.invariant.holds frames holds));
-      left = append_assoc c.frames.yielded (frame ∷ []) (frames_left c.next.new.self)
+      left = append_assoc c.frames.yielded (frame ∷ []) c.next.new.self
           ∙ ap (λ left. c.frames.yielded ++ left) (sym c.in-Some.ensures.steps) ∙ c.frames.invariant.left;
     }
 
