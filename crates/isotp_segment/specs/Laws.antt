@@ -24,19 +24,19 @@ pub record IsFullFrame (frame : Dir × List ℕ) : Type 0 where
 
 -- each canonical frame of a message of bytes has 8 bytes
 abbrev pub CanonicalFramesAreFull : Type 0
-CanonicalFramesAreFull = (limit : ℕ) (d : Dir) (m : List ℕ)
-    → limit < 2 ^ 32 → AllByRecursion (λ b. b < 256) m → AllByRecursion IsFullFrame (canonical_frames limit d m)
+CanonicalFramesAreFull = (limit : ℕ) (d : Dir) (message : List ℕ)
+    → limit < 2 ^ 32 → AllByRecursion (λ b. b < 256) message → AllByRecursion IsFullFrame (canonical_frames limit d message)
 
 -- the frames of the message are one, of the same side: a single frame that holds it, under any identifier
-pub record AreOneSingleFrame (d : Dir) (m : List ℕ) (frames : List (Dir × List ℕ)) : Type 0 where
+pub record AreOneSingleFrame (d : Dir) (message : List ℕ) (frames : List (Dir × List ℕ)) : Type 0 where
   pub bytes : List ℕ
   pub alone : frames ≡ (d, bytes) ∷ []
-  pub holds : (id : Id) → HasLayout (record { id = id; kind = Classic; bytes = bytes }) (single m)
+  pub holds : (id : Id) → HasLayout (record { id = id; kind = Classic; bytes = bytes }) (single message)
 
 -- a message of at most 7 bytes has one canonical frame
 abbrev pub ShortMessageIsOneFrame : Type 0
-ShortMessageIsOneFrame = (limit : ℕ) (d : Dir) (m : List ℕ)
-    → 1 ≤ length m → length m ≤ 7 → length m ≤ limit → AreOneSingleFrame d m (canonical_frames limit d m)
+ShortMessageIsOneFrame = (limit : ℕ) (d : Dir) (message : List ℕ)
+    → 1 ≤ length message → length message ≤ 7 → length message ≤ limit → AreOneSingleFrame d message (canonical_frames limit d message)
 
 -- the canonical frames of any messages, a millisecond apart, are a recording of them
 abbrev pub CanonicalFramesAreARecording : Type 0
