@@ -6,7 +6,7 @@ use Rattle.std.specs.Char.{is_ascii_hexdigit}
 use Rattle.can_log.specs.declared.frame.Stamped.{Stamped}
 use Rattle.can_log.specs.Line.{Body, classic, remote, fd, IsBody, bytes_spelled, data_of}
 use Rattle.can_log.specs.Laws.{LineRecordsBytes}
-use Rattle.can_log.proofs.Spelling.{hex_value}
+use Rattle.can_log.proofs.DigitValues.{hex_value}
 
 abbrev AreBytes : List ℕ → Type 0
 AreBytes bytes = AllByRecursion (λ b. b < 256) bytes

@@ -1,6 +1,6 @@
 use Rattle.std.proofs.Common.{◌≡◌, ◌*◌, ◌∙◌, length, arith}
 use Rattle.can_log.specs.Line.{bytes_spelled}
-use Rattle.can_log.proofs.Lists.{from_ok}
+use Rattle.can_log.proofs.Results.{from_ok}
 use Rattle.can_log.proofs.DigitValues.{bytes_len}
 use Rattle.can_log.proofs.meaning.data_of.Goals as goal
 

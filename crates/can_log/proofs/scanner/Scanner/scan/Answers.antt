@@ -2,10 +2,10 @@ use Rattle.std.proofs.Common.{◌≡◌, ◌++◌, take, List, ℕ, arith, subst
 use Rattle.can_log.specs.Line.{LineMeans}
 use Rattle.can_log.specs.Refused.{NoLineFeed, HasCompletion, IsRefusedPlace}
 use Rattle.can_log.specs.Scanning.{Standing}
-use Rattle.can_log.proofs.Lists.{from_ok}
+use Rattle.can_log.proofs.Results.{from_ok}
 use Rattle.can_log.proofs.LineLength.{becomes_length}
-use Rattle.can_log.proofs.LineFeeds.{clean_append}
-use Rattle.can_log.proofs.ScannerSteps.{clean_before, clean_all, scan_means, scan_refuses, scan_goes_on, place_in, none_seen}
+use Rattle.can_log.proofs.LineFeeds.{clean_append, clean_before, clean_all}
+use Rattle.can_log.proofs.ScannerSteps.{scan_means, scan_refuses, scan_goes_on, place_in, none_seen}
 use Rattle.can_log.proofs.scanner.Scanner.scan.Goals as goal
 
 pub ended-requires-clause-clean : goal.ended-requires-clause-clean
