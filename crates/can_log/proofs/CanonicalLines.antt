@@ -6,7 +6,6 @@ use Rattle.std.specs.Prelude.{codes, IsTrue, ◌==◌, not}
 use Rattle.std.specs.List.{AllByRecursion, flat_map, list_all, replace_range}
 use Rattle.std.specs.Char.{is_ascii_digit, is_ascii_hexdigit}
 use Rattle.std.specs.Str.Parse.{digits_value}
-use Rattle.std.proofs.lemmas.Bool.{and_parts}
 use Rattle.std.proofs.lemmas.Bool.Decides.{nat_tests}
 use Rattle.std.proofs.lemmas.Int.Digits.{digits_value_push}
 use Rattle.std.proofs.lemmas.List.Elements.{All-from_get_or, recursion_from_All}
@@ -18,7 +17,7 @@ use Rattle.can_log.specs.Refused.{NoLineFeed}
 use Rattle.can_log.specs.Log.{LogMeans}
 use Rattle.can_log.specs.Canonical.{identifier_text, IsSpellable, canonical_text, canonical_line, canonical_stamped}
 use Rattle.can_log.specs.CanonicalLaws.{CanonicalLineMeans, CanonicalTextIsOneLine, CanonicalLineLength}
-use Rattle.can_log.proofs.EachElement.{AllByRecursion-append}
+use Rattle.can_log.proofs.EachElement.{AllByRecursion-append, AllByRecursion-weaker, AllByRecursion-tested}
 use Rattle.can_log.proofs.Replacing.{replace_range-between}
 use Rattle.can_log.proofs.Digits.{length-digits, each_digit, digits_value-digits}
 use Rattle.can_log.proofs.CanonicalData.{length-pairs, each_pair, bytes_spelled-pairs}
@@ -147,10 +146,8 @@ no_feed_here : (b : ℕ) → not (b == code "\n") ≡ true → IsNoFeed b
 no_feed_here b pass = grind (arith, nat_tests)
 
 no_feed_by_test : (text : List ℕ) → list_all (λ b. not (b == code "\n")) text ≡ true → NoLineFeed text
-no_feed_by_test [] pass = tt
-no_feed_by_test (b ∷ text) pass =
-    let parts = and_parts (not (b == code "\n")) (list_all (λ b. not (b == code "\n")) text) pass in
-    (no_feed_here b parts.0, no_feed_by_test text parts.1)
+no_feed_by_test text pass =
+    AllByRecursion-weaker (λ b. not (b == code "\n") ≡ true) IsNoFeed no_feed_here text (AllByRecursion-tested (λ b. not (b == code "\n")) text pass)
 
 -- a text whose bytes are known
 fixed : (text : List ℕ) → list_all (λ b. not (b == code "\n")) text ≡ true → IsOneLine text

@@ -1,18 +1,14 @@
--- The values of digits, how large a number of so many digits is, and the bytes of pairs of digits.
+-- The values of digits, and how large a number of so many digits is.
 use Prim.Native.Char.{code}
-use Rattle.std.proofs.Common.{◌≡◌, ℕ, ◌+◌, ◌-◌, ◌*◌, ◌%◌, ◌/◌, ◌^◌, ◌<◌, ◌≤◌, Bool, true, false, refl, sym, ap, arith}
-use Rattle.std.proofs.Common.{List, [], ◌∷◌, length, get_or, take, Some, Ok}
-use Rattle.std.specs.Prelude.{◌==◌}
+use Rattle.std.proofs.Common.{◌≡◌, ℕ, ◌+◌, ◌-◌, ◌*◌, ◌^◌, ◌<◌, ◌≤◌, Bool, true, sym, arith}
+use Rattle.std.proofs.Common.{List, [], ◌∷◌, length, get_or, take}
 use Rattle.std.specs.List.{AllByRecursion}
 use Rattle.std.specs.Char.{is_ascii_digit, is_ascii_hexdigit, digit_value}
 use Rattle.std.specs.Str.Parse.{digits_value, AllDigits}
 use Rattle.std.proofs.Math.Nat.{pow-le-pow_right}
-use Rattle.std.proofs.lemmas.Bool.{eq-eqb}
 use Rattle.std.proofs.lemmas.Bool.Decides.{nat_tests}
 use Rattle.std.proofs.lemmas.Int.Digits.{digits_value-lt, digits_value_more}
 use Rattle.std.proofs.lemmas.List.{length-take, take_more}
-use Rattle.hex.specs.Hex.{hex_digit_value, pair_value, decode_pairs, decode_sized}
-use Rattle.can_log.specs.Line.{bytes_spelled}
 use Rattle.can_log.proofs.EachElement.{AllByRecursion-append, AllByRecursion-take}
 
 -- ---- one digit
@@ -76,30 +72,3 @@ three_high a b c each high h = bound (digit_value a) (digit_value b) (digit_valu
   where
     bound : (x y z : ℕ) → 8 ≤ x → ((0 * 16 + x) * 16 + y) * 16 + z ≤ 0x7FF → ⊥
     bound x y z h k = omega arith
-
--- ---- pairs of digits
-
-hex_is : (b : ℕ) → is_ascii_hexdigit b ≡ true → hex_digit_value b ≡ Some (digit_value b)
-hex_is b h = grind (arith, nat_tests)
-
-pair_is : (h l i : ℕ) → is_ascii_hexdigit h ≡ true → is_ascii_hexdigit l ≡ true → pair_value h l i ≡ Ok (16 * digit_value h + digit_value l)
-pair_is h l i hh hl =
-    let swap : digit_value h * 16 + digit_value l ≡ 16 * digit_value h + digit_value l = omega arith in
-    rw (hex_is h hh, hex_is l hl) (ap (λ (z : ℕ). Ok z) swap)
-
-decode_all : (i : ℕ) (ds : List ℕ) → AreHex ds → length ds % 2 ≡ 0 → decode_pairs i ds ≡ Ok (bytes_spelled ds)
-unfolding decode_pairs
-decode_all i [] each even = refl
-decode_all i (h ∷ []) each even = absurd (omega arith)
-decode_all i (h ∷ l ∷ ds) each even = rw (pair_is h l i each.0 each.1.0, decode_all (i + 2) ds each.1.1 (omega arith)) refl
-
-pub decode_fits : (ds : List ℕ) (n : ℕ) → AreHex ds → length ds % 2 ≡ 0 → n ≡ length ds / 2 → decode_sized ds n ≡ Ok (bytes_spelled ds)
-decode_fits ds n each even e =
-    let odd : (length ds % 2 == 1) ≡ false = ap (λ (z : ℕ). z == 1) even in
-    let size : (length ds / 2 == n) ≡ true = eq-eqb (length ds / 2) n (sym e) in
-    rw (odd, size) (decode_all 0 ds each even)
-
-pub bytes_len : (ds : List ℕ) → length ds % 2 ≡ 0 → 2 * length (bytes_spelled ds) ≡ length ds
-bytes_len [] even = refl
-bytes_len (h ∷ []) even = absurd (omega arith)
-bytes_len (h ∷ l ∷ ds) even = omega (arith, bytes_len ds (omega arith))

@@ -8,6 +8,7 @@ pub mod Results
 -- digits
 pub mod Digits
 pub mod DigitValues
+pub mod SpelledBytes
 pub mod HexTable
 -- a line, field by field
 pub mod Runs
@@ -17,6 +18,7 @@ pub mod SmallFields
 pub mod LineFields
 pub mod Spelling
 pub mod LineReads
+pub mod PlainLines
 pub mod Judging
 -- what holds of lines
 pub mod LineFeeds

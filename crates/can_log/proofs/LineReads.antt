@@ -103,8 +103,8 @@ form_means o bytes (inl (p, f, is)) =
 form_means o bytes (inr (p, e, is)) = subst (λ (o : Option Parts). LineMeans bytes (meaning_by o)) is e
 
 open_paren : (l : LineSpelling) (bytes : List ℕ) → IsLineText (spell_line l) bytes → bytes ≡ code "(" ∷ drop 1 bytes
-open_paren l bytes (inl e) = e ∙ ap (λ (z : List ℕ). (code "(") ∷ drop 1 z) (sym e)
-open_paren l bytes (inr e) = e ∙ ap (λ (z : List ℕ). (code "(") ∷ drop 1 z) (sym e)
+open_paren l bytes (inl e) = e ∙ ap (λ (z : List ℕ). code "(" ∷ drop 1 z) (sym e)
+open_paren l bytes (inr e) = e ∙ ap (λ (z : List ℕ). code "(" ∷ drop 1 z) (sym e)
 
 means_form : (bytes : List ℕ) (s : Option Stamped) → LineMeans bytes s → (o : Option Parts) × LineForm o bytes × (meaning_by o ≡ s)
 means_form bytes None e = (None, inr (tt, e, refl), refl)
@@ -116,7 +116,7 @@ means_form bytes (Some s) (l, is, ends, eq) =
     in
     (Some (parts_in l), inl (subst (Opened (Some (parts_in l))) (sym whole) opened), ap (λ (z : Stamped). Some z) (sym eq))
 
--- ---- what was read, and what was not
+-- ---- what was read
 
 -- What is read is what the line means.
 pub read_means : (bytes : List ℕ) (o : Option Parts) (rest : List ℕ) → line_at bytes ≡ Ok (o, rest) → LineMeans bytes (meaning_by o)
@@ -138,6 +138,28 @@ one_meaning bytes s t m n =
     let a = means_read bytes s m in
     let b = means_read bytes t n in
     sym a.2 ∙ ap meaning_by (value_is a.0 b.0 [] [] (sym a.1 ∙ b.1)) ∙ b.2
+
+fits_body : (b : Body) → IsBody b → FitsBody b
+fits_body (classic ds None) h = h
+fits_body (classic ds (Some d)) h = h.0
+fits_body (remote ds d) h = tt
+fits_body (fd flag ds) h = h.1
+
+form_parts : (o : Option Parts) (bytes : List ℕ) → LineForm o bytes → AreLineParts o
+form_parts o bytes (inl (p, f, is)) =
+    let n = f.second.0 in
+    let t = to_tree n f.back f.second.1 in
+    subst AreLineParts is (subst AreParts f.second.2 (record {
+      identifier = t.0.identifier;
+      body = fits_body n.1.1.1.1.0 t.0.body;
+    }))
+form_parts o bytes (inr (p, e, is)) = subst AreLineParts is tt
+
+-- The parts of a line are of their lengths.
+pub read_parts : (bytes : List ℕ) (o : Option Parts) (rest : List ℕ) → line_at bytes ≡ Ok (o, rest) → AreLineParts o
+read_parts bytes o rest e = let t = line_law.takes bytes o rest e in form_parts o t.text t.form
+
+-- ---- what can become a line
 
 -- what is a line has a completion, by no bytes
 pub means_becomes : (bytes : List ℕ) (what : Option Stamped) → LineMeans bytes what → HasCompletion bytes
@@ -164,7 +186,7 @@ short_becomes bytes e = elim (which (λ b. b == code "(") opened_at empty_at byt
     opened : (bytes : List ℕ) → Starts (λ b. b == code "(") bytes → both (byte_at (code "(")) (λ _. frame_at) bytes ≡ Err short → HasCompletion bytes
     opened [] h k = absurd h
     opened (b ∷ rest) h k =
-        let is : b ≡ (code "(") = eqb-true b (code "(") h in
+        let is : b ≡ code "(" = eqb-true b (code "(") h in
         let c = frame_law.shorts rest (behind_paren rest (ap (λ (z : ℕ). both (byte_at (code "(")) (λ _. frame_at) (z ∷ rest)) (sym is) ∙ k)) in
         form_becomes (b ∷ rest) (record {
           more = c.more;
@@ -177,6 +199,8 @@ open_becomes : (bytes : List ℕ) (r : FieldRead (Option Parts)) → line_at byt
 open_becomes bytes (Ok x) e h = means_becomes bytes (meaning_by x.0) (read_means bytes x.0 x.1 e)
 open_becomes bytes (Err short) e h = short_becomes bytes e
 open_becomes bytes (Err (refused rest)) e h = absurd h
+
+-- ---- what is refused
 
 -- A byte that is refused is the first that no line has there.
 pub refused_first : (bytes rest : List ℕ) → line_at bytes ≡ Err (refused rest) → IsFirstRefused bytes rest
@@ -194,26 +218,6 @@ refused_first bytes rest e =
           let same : line_at ((r.text ++ r.bad ∷ []) ++ more) ≡ Err (refused (r.bad ∷ more)) = ap line_at (append_assoc r.text (r.bad ∷ []) more) ∙ r.for_good more in
           cc (read.1, same);
     }
-
-fits_body : (b : Body) → IsBody b → FitsBody b
-fits_body (classic ds None) h = h
-fits_body (classic ds (Some d)) h = h.0
-fits_body (remote ds d) h = tt
-fits_body (fd flag ds) h = h.1
-
-form_parts : (o : Option Parts) (bytes : List ℕ) → LineForm o bytes → AreLineParts o
-form_parts o bytes (inl (p, f, is)) =
-    let n = f.second.0 in
-    let t = to_tree n f.back f.second.1 in
-    subst AreLineParts is (subst AreParts f.second.2 (record {
-      identifier = t.0.identifier;
-      body = fits_body n.1.1.1.1.0 t.0.body;
-    }))
-form_parts o bytes (inr (p, e, is)) = subst AreLineParts is tt
-
--- The parts of a line are of their lengths.
-pub read_parts : (bytes : List ℕ) (o : Option Parts) (rest : List ℕ) → line_at bytes ≡ Ok (o, rest) → AreLineParts o
-read_parts bytes o rest e = let t = line_law.takes bytes o rest e in form_parts o t.text t.form
 
 -- Each front of what can become a line can become one.
 pub front_legal : (a b : List ℕ) → HasCompletion (a ++ b) → HasCompletion a

@@ -129,7 +129,7 @@ is_id_of (a ∷ b ∷ c ∷ []) each (inl h) = elim (cases_Bool (nat_lt a (code 
 ]
 is_id_of (a ∷ b ∷ c ∷ d ∷ ds) each (inl h) = absurd (omega arith)
 
-id_to : {v text : List ℕ} → IdForm v text → IsIdentifierText v
+pub id_to : {v text : List ℕ} → IdForm v text → IsIdentifierText v
 id_to {v} f = (run_of f.0, id_is v f.0.each f.1)
 
 id_from : {ds : List ℕ} → IsIdentifierText ds → IdForm ds ds
@@ -194,9 +194,9 @@ place_text p text f =
 ends_of : (l : LineSpelling) (text end : List ℕ) → text ≡ read_text l end → IsEnd tt end → IsLineText (spell_line l) (code "(" ∷ text)
 ends_of l text end e (inl none) =
     let spelled : text ≡ drop 1 (spell_line l) = e ∙ read_text-spelled l end ∙ rw none (append-nil (drop 1 (spell_line l))) in
-    inl (ap (λ (z : List ℕ). (code "(") ∷ z) spelled)
+    inl (ap (λ (z : List ℕ). code "(" ∷ z) spelled)
 ends_of l text end e (inr cr) =
-    inr (ap (λ (z : List ℕ). (code "(") ∷ z) (e ∙ read_text-spelled l end ∙ ap (λ (z : List ℕ). drop 1 (spell_line l) ++ z) cr))
+    inr (ap (λ (z : List ℕ). code "(" ∷ z) (e ∙ read_text-spelled l end ∙ ap (λ (z : List ℕ). drop 1 (spell_line l) ++ z) cr))
 
 pub to_tree : (p : Nested) (text : List ℕ) → FrameOn p text → IsLineSpelling (tree_of p) × IsLineText (spell_line (tree_of p)) (code "(" ∷ text)
 to_tree p text f =
@@ -249,7 +249,7 @@ from_tree l text is ends = elim ends [
   | inr e ↦ with_end (codes "\r") (inr refl) e
 ]
   where
-    with_end : (end : List ℕ) → IsEnd tt end → (code "(") ∷ text ≡ spell_line l ++ end → FrameOn (nested_of l) text
+    with_end : (end : List ℕ) → IsEnd tt end → code "(" ∷ text ≡ spell_line l ++ end → FrameOn (nested_of l) text
     with_end end at e =
         let same : text ≡ drop 1 (spell_line l) ++ end = cc in
         subst (FrameOn (nested_of l)) (read_text-spelled l end ∙ sym same) (frame_from l end is at)

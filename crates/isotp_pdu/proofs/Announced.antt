@@ -4,7 +4,8 @@ use Rattle.std.specs.Prelude.{◌⊎◌, IsTrue}
 use Rattle.std.proofs.lemmas.Bool.{and_parts, ltb-true, cases_lt, cases_eq, cases_Bool}
 use Rattle.can_log.specs.Frame.{FrameValue}
 use Rattle.isotp_pdu.specs.declared.PduFault.TheVariants as fault
-use Rattle.isotp_pdu.specs.Layout.{Spells, first, are_bytes, is_can_dl, first_byte, least_first}
+use Rattle.isotp_pdu.specs.Layout.{Spells, first, is_can_dl, first_byte, least_first}
+use Rattle.isotp_pdu.specs.Reading.{are_bytes}
 use Rattle.isotp_pdu.specs.Fault.{IsFault, AnnouncesWrongly}
 use Rattle.isotp_pdu.specs.Laws.{FirstLengthMeans}
 use Rattle.isotp_pdu.proofs.Digits.{digits}

@@ -3,7 +3,8 @@ use Rattle.std.proofs.Common.{◌≡◌, Result, Ok, Err, sym, ◌∙◌, subst,
 use Rattle.std.specs.Prelude.{◌⊎◌, ◌↔◌, IfOk}
 use Rattle.can_log.specs.Frame.{FrameValue}
 use Rattle.isotp_pdu.specs.declared.PduFault.{PduFault}
-use Rattle.isotp_pdu.specs.Layout.{Layout, layout_of, HasLayout, IsSoundLayout}
+use Rattle.isotp_pdu.specs.Layout.{Layout, HasLayout, IsSoundLayout}
+use Rattle.isotp_pdu.specs.Reading.{layout_of}
 use Rattle.isotp_pdu.specs.Fault.{IsFault}
 use Rattle.isotp_pdu.specs.Laws.{LayoutIsRead, FaultIsRead, AtMostOneLayout, AtMostOneFault, LayoutOrFault, LayoutHasNoFault}
 use Rattle.isotp_pdu.proofs.Unique.{at_most_one}

@@ -9,7 +9,8 @@ use Rattle.can_log.specs.declared.frame.Kind.{Kind}
 use Rattle.can_log.specs.declared.frame.Kind.TheVariants as kind
 use Rattle.isotp_pdu.specs.declared.PduFault.{PduFault}
 use Rattle.isotp_pdu.specs.declared.PduFault.TheVariants as fault
-use Rattle.isotp_pdu.specs.Layout.{Layout, single, first, consecutive, layout_of, of_frame, of_bytes, of_kind, single_of, first_of, short_first_of, escaped_first_of, status_of, are_bytes, is_can_dl, least_first, first_byte, Spells, SpellsSingle, HasLayout}
+use Rattle.isotp_pdu.specs.Layout.{Layout, single, first, consecutive, is_can_dl, least_first, first_byte, Spells, SpellsSingle, HasLayout}
+use Rattle.isotp_pdu.specs.Reading.{layout_of, of_frame, of_bytes, of_kind, single_of, first_of, short_first_of, escaped_first_of, status_of, are_bytes}
 use Rattle.isotp_pdu.specs.Fault.{IsFault}
 use Rattle.isotp_pdu.proofs.Precedence.{IsBegun, at_least_one, from_length, from_empty, from_kind, from_single, from_first, from_flow, from_status}
 use Rattle.isotp_pdu.proofs.Digits.{digits}

@@ -3,7 +3,8 @@ use Rattle.std.proofs.Common.{◌≡◌, ℕ, ◌<◌, ◌≤◌, List, length, 
 use Rattle.std.specs.Prelude.{IfOk, Result, Ok, Err}
 use Rattle.can_log.specs.Frame.{FrameValue}
 use Rattle.isotp_pdu.specs.declared.PduFault.{PduFault}
-use Rattle.isotp_pdu.specs.Layout.{Layout, IsSoundLayout, layout_of, single, first, consecutive, flow_control, SpellsFirst}
+use Rattle.isotp_pdu.specs.Layout.{Layout, IsSoundLayout, single, first, consecutive, flow_control, SpellsFirst}
+use Rattle.isotp_pdu.specs.Reading.{layout_of}
 use Rattle.isotp_pdu.specs.Laws.{LayoutIsSound}
 use Rattle.isotp_pdu.proofs.Lengths.{can_dl_few, rx_dl_few, rx_dl_long, least_above}
 use Rattle.isotp_pdu.proofs.Read.{Reads, read}

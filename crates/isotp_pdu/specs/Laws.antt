@@ -3,7 +3,8 @@ use Rattle.std.specs.Prelude.{◌≡◌, ◌⊎◌, ◌↔◌, IsTrue, Ok, Err}
 use Rattle.can_log.specs.Frame.{FrameValue}
 use Rattle.isotp_pdu.specs.declared.PduFault.{PduFault}
 use Rattle.isotp_pdu.specs.declared.PduFault.TheVariants as fault
-use Rattle.isotp_pdu.specs.Layout.{Layout, HasLayout, IsSoundLayout, layout_of, are_bytes}
+use Rattle.isotp_pdu.specs.Layout.{Layout, HasLayout, IsSoundLayout}
+use Rattle.isotp_pdu.specs.Reading.{layout_of, are_bytes}
 use Rattle.isotp_pdu.specs.Fault.{Applies, IsFault, AnnouncesWrongly}
 
 -- the function gives a layout exactly where the frame has it

@@ -19,8 +19,10 @@ pub mod laws;
 mod tests;
 
 ghost use Rattle.std.specs.Prelude.{◌≡◌, ◌↔◌, ◌≤◌, ◌<◌, ◌%◌, length, slice_index, nat_lt, if◌then◌else◌, IfOk};
-ghost use Rattle.isotp_pdu.specs.Layout.{Layout, HasLayout, IsSoundLayout, layout_of, layout_seen};
-ghost use Rattle.isotp_pdu.specs.Layout.{of_bytes, single_of, first_of, short_first_of, escaped_first_of, status_of, is_can_dl, least_first};
+ghost use Rattle.isotp_pdu.specs.Layout.{Layout, HasLayout, IsSoundLayout, layout_seen};
+ghost use Rattle.isotp_pdu.specs.Reading.{layout_of};
+ghost use Rattle.isotp_pdu.specs.Layout.{is_can_dl, least_first};
+ghost use Rattle.isotp_pdu.specs.Reading.{of_bytes, single_of, first_of, short_first_of, escaped_first_of, status_of};
 ghost use Rattle.isotp_pdu.specs.Fault.{IsFault};
 
 use can_log::{Frame, Kind};
@@ -99,7 +101,7 @@ pub fn read_pdu(frame: &Frame) -> Result<Pdu<'_>, PduFault>
 }
 
 /// The same by the one equation that the other clauses follow from.
-#[tactic(auto, unfolding(crate::specs::Layout::layout_of))]
+#[tactic(auto, unfolding(crate::specs::Reading::layout_of))]
 fn read_frame(frame: &Frame) -> Result<Pdu<'_>, PduFault>
     ensures { layout_seen result ≡ layout_of frame.now }
 {

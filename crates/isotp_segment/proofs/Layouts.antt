@@ -6,7 +6,8 @@ use Rattle.can_log.specs.Frame.{FrameValue}
 use Rattle.can_log.specs.declared.frame.Id.{Id}
 use Rattle.can_log.specs.declared.frame.Kind.TheVariants.{Classic, Remote}
 use Rattle.isotp_pdu.specs.declared.Status.TheVariants.{Continue}
-use Rattle.isotp_pdu.specs.Layout.{Layout, single, first, consecutive, flow_control, first_byte, least_first, Spells, layout_of}
+use Rattle.isotp_pdu.specs.Layout.{Layout, single, first, consecutive, flow_control, first_byte, least_first, Spells}
+use Rattle.isotp_pdu.specs.Reading.{layout_of}
 use Rattle.isotp_pdu.proofs.Promises.{layout_is_read}
 use Rattle.isotp_segment.specs.CanonicalFrames.{filled, padding, single_control, first_control, consecutive_control, continue_control, room_in_first}
 use Rattle.isotp_segment.proofs.Padding.{filled-whole, filled-padded}

@@ -2,6 +2,7 @@
 -- else of proofs/ is for them.
 use Rattle.isotp_segment.specs.Laws.{CanonicalFramesAreARecording, SegmentsDeliver, SegmentsDeliverNothingBefore}
 pub use Rattle.isotp_segment.proofs.Positions.{count-least as consecutive_count_is_least}
+pub use Rattle.isotp_segment.proofs.FullFrames.{canonical_frames_are_full, short_message_is_one_frame}
 use Rattle.isotp_segment.proofs.Recorded.{frames-recording, frames-deliver, front-delivers}
 
 pub canonical_frames_are_a_recording : CanonicalFramesAreARecording

@@ -9,7 +9,7 @@ use Rattle.std.proofs.lemmas.Option.{slice_get_within}
 use Rattle.can_log.specs.Dir.{other_direction, Message}
 use Rattle.can_log.specs.declared.frame.Dir.{Dir}
 use Rattle.can_log.specs.declared.frame.Id.{Id}
-use Rattle.isotp_pdu.specs.Layout.{layout_of}
+use Rattle.isotp_pdu.specs.Reading.{layout_of}
 use Rattle.isotp_receive.specs.Trace.{Entry, At, FirstFrame, first, consecutive, role}
 use Rattle.isotp_receive.specs.OnTime.{RestartsTimer}
 use Rattle.isotp_receive.specs.Recording.{IsConsecutiveFrame, EachNumbered, IsSegmented, unsegmented, segmented, Transfer, IsTransfer, IsIn, last_or, AreApart, EachPair, IsGiven, IsIdle, IsRecording, ended_within}
@@ -136,7 +136,7 @@ module _ (identifier : Dir → Id) (line micros limit : ℕ) (bits : limit < 2 ^
             stands = at-first (omega arith);
             kind = starts.0;
             announces = refl;
-            count = rw (held, count) (count-least (length m) (omega arith));
+            least = rw (held, count) (count-least (length m) (omega arith));
             consecutive_frames = rw (held, count) (parts-from (consecutive_count (length m)) 1 (n + 2) (omega arith) (omega arith) (omega arith));
             holds = λ x inside. (let h = held in first-holds m x _ low (omega arith) (ap (λ j. 8 - j + x) h));
           }

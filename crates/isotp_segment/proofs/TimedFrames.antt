@@ -8,7 +8,8 @@ use Rattle.can_log.specs.declared.frame.Dir.{Dir}
 use Rattle.can_log.specs.declared.frame.Dir.TheVariants.{Tester, Unit}
 use Rattle.can_log.specs.declared.frame.Id.{Id}
 use Rattle.isotp_pdu.specs.declared.PduFault.{PduFault}
-use Rattle.isotp_pdu.specs.Layout.{Layout, layout_of}
+use Rattle.isotp_pdu.specs.Layout.{Layout}
+use Rattle.isotp_pdu.specs.Reading.{layout_of}
 use Rattle.isotp_receive.specs.Trace.{Entry, At, role, own_role, other_role, same_direction}
 use Rattle.isotp_segment.specs.CanonicalFrames.{total_count, canonical_frame, canonical_frames}
 use Rattle.isotp_segment.specs.Timed.{timed}

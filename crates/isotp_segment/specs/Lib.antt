@@ -1,4 +1,4 @@
 pub mod CanonicalFrames
-pub mod FramesLeft
+pub mod Given
 pub mod Timed
 pub mod Laws

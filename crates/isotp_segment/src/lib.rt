@@ -29,6 +29,7 @@ use can_log::Dir;
 use frame::{CONSECUTIVE_ROOM, SINGLE_LIMIT, canonical_frame, room_in_first};
 use isotp_receive::MESSAGE_LIMIT;
 use std::iter::FusedIterator;
+use std::marker::Model;
 
 /// The number of canonical frames of a message of `len` bytes, the continue frame counted.
 pub fn frame_count(len: usize) -> u64
@@ -53,20 +54,29 @@ pub struct Segments<'a> {
     count: usize,
     /// The number of the next one, from 0.
     number: usize,
-    ghost some: { 1 ≤ length message.now },
-    ghost limit: { length message.now ≤ MESSAGE_LIMIT },
-    ghost counted: { count ≡ total_count (length message.now) },
-    ghost within: { number ≤ count },
+}
+
+// A contract sees the frames that it still gives.
+impl<'a> Model for Segments<'a> {
+    ghost use Rattle.std.specs.Prelude.{ℕ, List, drop};
+    ghost use Rattle.can_log.specs.declared.frame.Dir.{Dir};
+    ghost use Rattle.isotp_receive.specs.declared.TheConstants.{MESSAGE_LIMIT};
+    ghost use Rattle.isotp_segment.specs.CanonicalFrames.{canonical_frames};
+    ghost use Rattle.isotp_segment.specs.Given.{AreGiven};
+
+    ghost Value = { List (Dir × List ℕ) };
+
+    ghost view = { λ s. drop s.number (canonical_frames MESSAGE_LIMIT s.dir s.message.now) };
+
+    ghost invariant = { λ s. AreGiven s.message.now s.count s.number };
 }
 
 impl<'a> Segments<'a> {
-    ghost use Rattle.isotp_segment.specs.FramesLeft.{frames_left};
-
     /// The frames of a message that is sent in the direction `dir`.
     pub fn new(dir: Dir, message: &'a [u8]) -> Segments<'a>
         requires some { 1 ≤ length message.now }
         requires limit { length message.now ≤ MESSAGE_LIMIT }
-        ensures frames { frames_left result ≡ canonical_frames MESSAGE_LIMIT dir message.now }
+        ensures frames { result ≡ canonical_frames MESSAGE_LIMIT dir message.now }
     {
         Segments {
             dir,
@@ -81,13 +91,12 @@ impl<'a> Iterator for Segments<'a> {
     type Item = (Dir, [u8; 8]);
 
     ghost use Rattle.std.specs.Prelude.{IfSome};
-    ghost use Rattle.std.specs.Iterator.{UpTo, YieldsFirst, item_count};
+    ghost use Rattle.std.specs.Iterator.{UpTo, YieldsFirst, at_most};
     ghost use Rattle.std.specs.Iterator.SizeHint.{IsWithinCount};
-    ghost use Rattle.isotp_segment.specs.FramesLeft.{frames_left};
 
-    ghost next_gives = { YieldsFirst frames_left };
+    ghost next_gives = { YieldsFirst (λ frames. frames) };
 
-    ghost remaining = { item_count frames_left };
+    ghost remaining = { λ frames. at_most (length frames) };
 
     #[tactic(auto, using(crate::proofs::Frames::drop_canonical_frames, crate::proofs::Frames::drop_at_end))]
     fn next(&mut self) -> Option<(Dir, [u8; 8])> {
@@ -101,10 +110,9 @@ impl<'a> Iterator for Segments<'a> {
 
     #[tactic(auto, using(crate::proofs::Frames::count_left))]
     fn size_hint(&self) -> (usize, Option<usize>)
-        ensures lower { IsWithinCount result.0 (item_count frames_left self.now) }
-        ensures upper { IfSome result.1 (UpTo (item_count frames_left self.now)) }
-        ensures exact { result ≡
-            (length (frames_left self.now), Some (length (frames_left self.now))) }
+        ensures lower { IsWithinCount result.0 (at_most (length self.now)) }
+        ensures upper { IfSome result.1 (UpTo (at_most (length self.now))) }
+        ensures exact { result ≡ (length self.now, Some (length self.now)) }
     {
         let left = self.count - self.number;
         (left, Some(left))
