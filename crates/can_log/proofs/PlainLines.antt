@@ -1,26 +1,20 @@
 -- The fields of a line of plain form are those of a line, where each has bytes of its kind alone.
-use Rattle.std.proofs.Common.{◌≡◌, ℕ, ◌≤◌, true, List, [], ◌∷◌, length, refl, arith}
+use Prim.Native.Char.{code}
+use Rattle.std.proofs.Common.{◌≡◌, ℕ, ◌≤◌, true, List, length, refl, arith}
 use Rattle.std.specs.Prelude.{◌%◌, nat_lt, slice_index}
 use Rattle.std.specs.List.{list_all}
-use Rattle.std.proofs.lemmas.Bool.{and_parts}
 use Rattle.can_log.specs.declared.plain.Fields.{Fields}
 use Rattle.can_log.specs.declared.field.Class.{Class}
 use Rattle.can_log.specs.declared.field.Class.TheVariants.{Digit, Hex, Visible}
 use Rattle.can_log.specs.Line.{IsRunOf, IsIdentifierText, IsLineSpelling}
 use Rattle.can_log.specs.FieldReader.{is_in}
 use Rattle.can_log.specs.Plain.{HavePlainWidths, spelling_of}
-use Rattle.can_log.proofs.RunLaws.{AllIn}
+use Rattle.can_log.proofs.EachElement.{AllByRecursion-tested}
 use Rattle.can_log.proofs.Spelling.{id_to}
-
-all_are : (class : Class) (bytes : List ℕ) → list_all (is_in class) bytes ≡ true → AllIn class bytes
-all_are class [] all = tt
-all_are class (b ∷ bytes) all =
-    let parts = and_parts (is_in class b) (list_all (is_in class) bytes) all in
-    (parts.0, all_are class bytes parts.1)
 
 run : (class : Class) (least most : ℕ) (bytes : List ℕ) → list_all (is_in class) bytes ≡ true → least ≤ length bytes → length bytes ≤ most
     → IsRunOf (is_in class) least most bytes
-run class least most bytes all enough few = record { each = all_are class bytes all; enough = enough; few = few }
+run class least most bytes all enough few = record { each = AllByRecursion-tested (is_in class) bytes all; enough = enough; few = few }
 
 -- what is tested of the fields
 pub record ArePlain (fields : Fields) : Type 0 where
@@ -28,14 +22,14 @@ pub record ArePlain (fields : Fields) : Type 0 where
   pub micros : list_all (is_in Digit) fields.micros.now ≡ true
   pub interface : list_all (is_in Visible) fields.interface.now ≡ true
   pub identifier : list_all (is_in Hex) fields.identifier.now ≡ true
-  pub low : nat_lt (slice_index fields.identifier.now 0) 56 ≡ true
+  pub low : nat_lt (slice_index fields.identifier.now 0) (code "8") ≡ true
   pub digits : list_all (is_in Hex) fields.digits.now ≡ true
 
 -- three digits, of which the first is below 8
-identifier_is : (digits : List ℕ) → list_all (is_in Hex) digits ≡ true → length digits ≡ 3 → nat_lt (slice_index digits 0) 56 ≡ true → IsIdentifierText digits
+identifier_is : (digits : List ℕ) → list_all (is_in Hex) digits ≡ true → length digits ≡ 3 → nat_lt (slice_index digits 0) (code "8") ≡ true → IsIdentifierText digits
 identifier_is digits all three low =
-    id_to {v = digits} {text = digits}
-    (record { is = refl; each = all_are Hex digits all; enough = omega arith; few = omega arith }, rw (three, low) refl)
+    let each = AllByRecursion-tested (is_in Hex) digits all in
+    id_to {v = digits} {text = digits} (record { is = refl; each = each; enough = omega arith; few = omega arith }, rw (three, low) refl)
 
 even : (digits : List ℕ) → length digits ≡ 16 → length digits % 2 ≡ 0
 even digits e = rw e refl

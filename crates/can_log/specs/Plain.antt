@@ -1,5 +1,5 @@
 -- A device of proof: the fields of a line of plain form, and the spelling that they make.
-use Rattle.std.specs.Prelude.{◌≡◌, ◌≤◌, [], ◌∷◌, length, None}
+use Rattle.std.specs.Prelude.{◌≡◌, ◌≤◌, length, codes, None}
 use Rattle.can_log.specs.declared.plain.Fields.{Fields}
 use Rattle.can_log.specs.Line.{LineSpelling, classic}
 
@@ -8,9 +8,9 @@ abbrev pub spelling_of : Fields → LineSpelling
 spelling_of fields = record {
   seconds = fields.seconds.now;
   micros = fields.micros.now;
-  gap = 32 ∷ [];
+  gap = codes " ";
   interface = fields.interface.now;
-  second_gap = 32 ∷ [];
+  second_gap = codes " ";
   identifier = fields.identifier.now;
   body = classic fields.digits.now None;
   mark = None;
