@@ -5,7 +5,7 @@ use Rattle.std.proofs.lemmas.Grind.{flat_map-append}
 use Rattle.std.proofs.lemmas.List.{take_more, length-take-le}
 use Rattle.can_log.specs.Digits.{digit, digits, hexadecimal}
 use Rattle.can_log.specs.Line.{bytes_spelled}
-use Rattle.can_log.proofs.AllElements.{AllByRecursion-append}
+use Rattle.can_log.proofs.EachElement.{AllByRecursion-append}
 use Rattle.can_log.proofs.Replacing.{replace_range-more}
 use Rattle.can_log.proofs.CanonicalDigits.{length-digits, digit_value-digit, each_digit}
 

@@ -9,7 +9,7 @@ use Rattle.std.proofs.lemmas.Nat.{div-add-mod'}
 use Rattle.std.proofs.lemmas.Bool.Decides.{nat_tests}
 use Rattle.std.proofs.lemmas.Int.Digits.{digits_value_push}
 use Rattle.can_log.specs.Digits.{digit, digits}
-use Rattle.can_log.proofs.AllElements.{AllByRecursion-append}
+use Rattle.can_log.proofs.EachElement.{AllByRecursion-append}
 use Rattle.can_log.proofs.Replacing.{replace_range-nothing, replace_range-set}
 
 pub length-digits : (radix width number : ℕ) → length (digits radix width number) ≡ width

@@ -7,6 +7,7 @@ use Rattle.std.specs.Str.Parse.{digits_value}
 use Rattle.std.proofs.lemmas.Bool.{and_parts}
 use Rattle.std.proofs.lemmas.Bool.Decides.{nat_tests}
 use Rattle.std.proofs.lemmas.Int.Digits.{digits_value_push}
+use Rattle.std.proofs.lemmas.List.Elements.{All-from_get_or, recursion_from_All}
 use Rattle.can_log.specs.Digits.{digit, decimal, hexadecimal}
 use Rattle.can_log.specs.declared.frame.Id.{Id}
 use Rattle.can_log.specs.declared.frame.Id.TheVariants as id
@@ -15,7 +16,7 @@ use Rattle.can_log.specs.Refused.{NoLineFeed}
 use Rattle.can_log.specs.Log.{LogMeans}
 use Rattle.can_log.specs.Canonical.{identifier_text, IsSpellable, canonical_text, canonical_line, canonical_stamped}
 use Rattle.can_log.specs.CanonicalLaws.{CanonicalLineMeans, CanonicalTextIsOneLine, CanonicalLineLength}
-use Rattle.can_log.proofs.AllElements.{AllByRecursion-append, AllByRecursion-at_each}
+use Rattle.can_log.proofs.EachElement.{AllByRecursion-append}
 use Rattle.can_log.proofs.Replacing.{replace_range-between}
 use Rattle.can_log.proofs.CanonicalDigits.{length-digits, each_digit, digits_value-digits}
 use Rattle.can_log.proofs.CanonicalData.{length-pairs, each_pair, bytes_spelled-pairs}
@@ -219,5 +220,5 @@ written n number bytes one two three four eight first second third fourth =
 pub means_its_frame : (n : ℕ) (identifier : Id) (bytes line : List ℕ) → n < 10 ^ 13 → IsSpellable identifier → length bytes ≡ 8 → ((i : ℕ) → get_or bytes i 0 < 256)
     → line ≡ canonical_line n identifier bytes → LogMeans line (Some (canonical_stamped n identifier bytes) ∷ [])
 means_its_frame n identifier bytes line small spellable eight each is =
-    let means = canonical_line_means n identifier bytes small spellable eight (AllByRecursion-at_each (λ b. b < 256) bytes (λ i. each i)) in
+    let means = canonical_line_means n identifier bytes small spellable eight (recursion_from_All (λ b. b < 256) bytes (All-from_get_or (λ b. b < 256) bytes 0 (λ i inside. each i))) in
     rw is (line_is_log (canonical_text n identifier bytes) (Some (canonical_stamped n identifier bytes)) (canonical_text_is_one_line n identifier bytes) means)

@@ -9,7 +9,7 @@ use Rattle.std.specs.Prelude.{◌==◌}
 use Rattle.std.proofs.lemmas.Bool.{eq-eqb}
 use Rattle.hex.specs.Hex.{hex_digit_value, pair_value, decode_pairs, decode_sized}
 use Rattle.can_log.specs.Line.{bytes_spelled}
-use Rattle.can_log.proofs.Lists.{all_map, all_take}
+use Rattle.can_log.proofs.EachElement.{AllByRecursion-append, AllByRecursion-take, AllByRecursion-weaker}
 use Rattle.can_log.proofs.Spelling.{hex_value}
 
 pub after_push : (r n : ℕ) (ds : List ℕ) (c : ℕ) → digits_value_after r n (ds ++ c ∷ []) ≡ digits_value_after r n ds * r + digit_value c
@@ -62,13 +62,13 @@ abbrev AreHex : List ℕ → Type 0
 AreHex = AllByRecursion (λ b. is_ascii_hexdigit b ≡ true)
 
 pub ten_digits : (ds : List ℕ) → AreDigits ds → length ds ≤ 10 → digits_value 10 ds < 10000000000
-ten_digits ds each few = below_ten 0 10 ds (all_map (λ b. is_ascii_digit b ≡ true) (λ b. digit_value b < 10) digit_below ds each) few
+ten_digits ds each few = below_ten 0 10 ds (AllByRecursion-weaker (λ b. is_ascii_digit b ≡ true) (λ b. digit_value b < 10) digit_below ds each) few
 
 pub nine_digits : (ds : List ℕ) → AreDigits ds → length ds ≤ 9 → digits_value 10 ds < 1000000000
-nine_digits ds each few = below_ten 0 9 ds (all_map (λ b. is_ascii_digit b ≡ true) (λ b. digit_value b < 10) digit_below ds each) few
+nine_digits ds each few = below_ten 0 9 ds (AllByRecursion-weaker (λ b. is_ascii_digit b ≡ true) (λ b. digit_value b < 10) digit_below ds each) few
 
 pub seven_hex : (ds : List ℕ) → AreHex ds → length ds ≤ 7 → digits_value 16 ds < 0x10000000
-seven_hex ds each few = below_sixteen 0 7 ds (all_map (λ b. is_ascii_hexdigit b ≡ true) (λ b. digit_value b < 16) (λ b h. (hex_value b h).0) ds each) few
+seven_hex ds each few = below_sixteen 0 7 ds (AllByRecursion-weaker (λ b. is_ascii_hexdigit b ≡ true) (λ b. digit_value b < 16) (λ b h. (hex_value b h).0) ds each) few
 
 pub digit_is : (b : ℕ) → is_ascii_digit b ≡ true → (b - 48 ≡ digit_value b) × (digit_value b < 10) × (48 ≤ b)
 digit_is b h = grind (arith, nat_tests)
@@ -80,12 +80,8 @@ digits_so_far bytes n value each few e = rw e (nine_digits (take n bytes) each (
 pub digits_in_all : (bytes : List ℕ) (n value : ℕ) → AreDigits (take n bytes) → n ≤ 10 → value ≡ digits_value 10 (take n bytes) → value < 10000000000
 digits_in_all bytes n value each few e = rw e (ten_digits (take n bytes) each (omega (arith, length-take n bytes)))
 
-digits_push : (digits : List ℕ) (b : ℕ) → AreDigits digits → is_ascii_digit b ≡ true → AreDigits (digits ++ b ∷ [])
-digits_push [] b each h = (h, tt)
-digits_push (d ∷ digits) b each h = (each.0, digits_push digits b each.1 h)
-
 pub digits_more : (bytes : List ℕ) (n : ℕ) → n < length bytes → AreDigits (take n bytes) → is_ascii_digit (get_or bytes n 0) ≡ true → AreDigits (take (n + 1) bytes)
-digits_more bytes n lt each h = rw (take_more bytes n 0 lt) (digits_push (take n bytes) (get_or bytes n 0) each h)
+digits_more bytes n lt each h = rw (take_more bytes n 0 lt) (AllByRecursion-append (λ b. is_ascii_digit b ≡ true) (take n bytes) (get_or bytes n 0 ∷ []) each (h, tt))
 
 pub one_more : (r : ℕ) (ds : List ℕ) (i n d : ℕ) → i < length ds → n ≡ digits_value r (take i ds) → d ≡ digit_value (get_or ds i 0) → n * r + d ≡ digits_value r (take (i + 1) ds)
 one_more r ds i n d lt e k =
@@ -93,7 +89,7 @@ one_more r ds i n d lt e k =
     rw (s, e, k) (sym (after_push r 0 (take i ds) (get_or ds i 0)))
 
 pub next_hex : (ds : List ℕ) (i n : ℕ) → AreHex ds → length ds ≤ 8 → i < length ds → n ≡ digits_value 16 (take i ds) → n < 0x10000000
-next_hex ds i n each few lt e = rw e (seven_hex (take i ds) (all_take (λ b. is_ascii_hexdigit b ≡ true) i ds each) (omega (arith, length-take i ds)))
+next_hex ds i n each few lt e = rw e (seven_hex (take i ds) (AllByRecursion-take (λ b. is_ascii_hexdigit b ≡ true) i ds each) (omega (arith, length-take i ds)))
 
 -- ---- pairs of digits
 

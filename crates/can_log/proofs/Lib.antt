@@ -1,4 +1,4 @@
-pub mod AllElements
+pub mod EachElement
 pub mod Replacing
 pub mod CanonicalDigits
 pub mod CanonicalData

@@ -5,24 +5,21 @@ use Rattle.std.specs.List.{AllByRecursion}
 use Rattle.can_log.specs.declared.frame.Stamped.{Stamped}
 use Rattle.can_log.specs.Line.{Body, classic, remote, fd, LineSpelling, IsRunOf, IsBody, IsMark, IsLineSpelling, IsLineText, LineMeans, spell_body, spell_mark, spell_line}
 use Rattle.can_log.specs.Refused.{NoLineFeed, HasCompletion}
-use Rattle.can_log.proofs.AllElements.{AllByRecursion-append}
+use Rattle.can_log.proofs.EachElement.{AllByRecursion-append, AllByRecursion-front, AllByRecursion-back, AllByRecursion-weaker}
 
 pub clean_append : (a b : List ℕ) → NoLineFeed a → NoLineFeed b → NoLineFeed (a ++ b)
 clean_append = AllByRecursion-append (λ b. b ≢ 10)
 
 pub clean_front : (a b : List ℕ) → NoLineFeed (a ++ b) → NoLineFeed a
-clean_front [] b h = tt
-clean_front (x ∷ a) b h = (h.0, clean_front a b h.1)
+clean_front = AllByRecursion-front (λ b. b ≢ 10)
 
 pub clean_at : (a : List ℕ) (x : ℕ) (b : List ℕ) → NoLineFeed (a ++ x ∷ b) → x ≢ 10
-clean_at [] x b h = h.0
-clean_at (y ∷ a) x b h = clean_at a x b h.1
+clean_at a x b h = (AllByRecursion-back (λ b. b ≢ 10) a (x ∷ b) h).0
 
 -- ---- a line has none
 
 passes : (test : ℕ → Bool) (bytes : List ℕ) → test 10 ≡ false → AllByRecursion (λ b. IsTrue (test b)) bytes → NoLineFeed bytes
-passes test [] h each = tt
-passes test (b ∷ bytes) h each = (λ e. absurd (fails (test b) each.0 (ap test e ∙ h)), passes test bytes h each.1)
+passes test bytes h each = AllByRecursion-weaker (λ b. IsTrue (test b)) (λ b. b ≢ 10) (λ b passed is. fails (test b) passed (ap test is ∙ h)) bytes each
   where
     fails : (t : Bool) → t ≡ true → t ≡ false → ⊥
     fails t is is_not = cc

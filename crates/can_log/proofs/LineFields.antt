@@ -8,6 +8,7 @@ use Rattle.can_log.specs.declared.field.Class.TheVariants.{Digit, Hex, Space, Vi
 use Rattle.can_log.specs.FieldReader.{short, is_in, run_at, byte_at, both, only}
 use Rattle.can_log.specs.Line.{Body, classic, remote, fd}
 use Rattle.can_log.specs.LineReader.{stamp_at, place_at, is_identifier, identifier_at, is_even, data_at, raw_dlc_at, is_eight, classic_at, remote_at, fd_at, body_at, mark_at, end_at, Parts, frame_at}
+use Rattle.can_log.proofs.EachElement.{AllByRecursion-front}
 use Rattle.can_log.proofs.FieldLaws.{Follows, CanEnd, Law, Both, both_law, Either, Starts, Misses, either_law}
 use Rattle.can_log.proofs.RunLaws.{AnyByte, tells, OneByte, byte_law, IsRun, AllIn, NotIn, run_law, run_shorts, run_takes, all_more}
 use Rattle.can_log.proofs.SmallFields.{weaken, Seen, seen_law, Only, only_law, only_short, Nothing, nothing_law, Never, IsEnd, end_law, exact_law}
@@ -125,10 +126,6 @@ place_law = both_law (run_law Space 1 16 32 refl (omega arith)) (λ _. interface
 abbrev pub IdForm : List ℕ → List ℕ → Type 0
 IdForm = Only is_identifier (IsRun Hex 3 8)
 
-all_front : (class : Class) (a b : List ℕ) → AllIn class (a ++ b) → AllIn class a
-all_front class [] b h = tt
-all_front class (x ∷ a) b h = (h.0, all_front class a b h.1)
-
 pub eight_is_id : (ds : List ℕ) → length ds ≡ 8 → is_identifier ds ≡ true
 eight_is_id ds h = rw h refl
 
@@ -149,7 +146,7 @@ run_so_far : (class : Class) (least most w : ℕ) → is_in class w ≡ true →
 run_so_far class least most w h room test bytes e = elim (only_short test (run_at class least most) bytes e) [
   | inl fell ↦
       let c = run_shorts class least most w h room bytes fell in
-      (all_front class bytes c.more (subst (AllIn class) (sym c.form.is) c.form.each), omega (arith, length-append bytes c.more, ap (λ (z : List ℕ). length z) c.form.is, c.form.few))
+      (AllByRecursion-front (λ b. is_in class b ≡ true) bytes c.more (subst (AllIn class) (sym c.form.is) c.form.each), omega (arith, length-append bytes c.more, ap (λ (z : List ℕ). length z) c.form.is, c.form.few))
   | inr all ↦
       let t = run_takes class least most bytes all.0 [] all.1 in
       let whole : bytes ≡ all.0 = t.parts ∙ append-nil t.text ∙ t.form.is in

@@ -1,23 +1,6 @@
 -- Lemmas on lists and results that say nothing of lines.
-use Rattle.std.proofs.Common.{◌≡◌, ℕ, zero, suc, ◌<◌, List, [], ◌∷◌, ◌++◌, length, get_or, take, Result, Ok, Err, refl, sym, ap, arith, inl, inr, ◌⊎◌}
+use Rattle.std.proofs.Common.{◌≡◌, ℕ, List, [], ◌∷◌, ◌++◌, Result, Ok, Err, refl, sym, ap, inl, inr, ◌⊎◌}
 use Rattle.std.specs.Prelude.{OnOk, IsOk}
-use Rattle.std.specs.List.{AllByRecursion}
-
--- ---- all elements
-
-pub all_map : (P Q : ℕ → Type 0) → ((x : ℕ) → P x → Q x) → (xs : List ℕ) → AllByRecursion P xs → AllByRecursion Q xs
-all_map P Q f [] each = tt
-all_map P Q f (x ∷ xs) each = (f x each.0, all_map P Q f xs each.1)
-
-pub all_at : (P : ℕ → Type 0) (xs : List ℕ) (i : ℕ) → AllByRecursion P xs → i < length xs → P (get_or xs i 0)
-all_at P [] i each h = absurd (omega arith)
-all_at P (x ∷ xs) zero each h = each.0
-all_at P (x ∷ xs) (suc i) each h = all_at P xs i each.1 (omega arith)
-
-pub all_take : (P : ℕ → Type 0) (n : ℕ) (xs : List ℕ) → AllByRecursion P xs → AllByRecursion P (take n xs)
-all_take P zero xs each = tt
-all_take P (suc n) [] each = tt
-all_take P (suc n) (x ∷ xs) each = (each.0, all_take P n xs each.1)
 
 -- ---- lists that are cut at two places
 

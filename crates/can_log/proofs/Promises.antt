@@ -1,5 +1,5 @@
--- The proofs of the public laws, each under the name of its statement in specs/, for the crates above to cite. Nothing
--- else of proofs/ is for them.
+-- The proofs of the public laws, each under the name of its statement in specs/, for the crates above to cite. Of the rest
+-- of proofs/ only `EachElement`, which says nothing of logs, is for them.
 pub use Rattle.can_log.proofs.LineReads.{one_meaning as line_means_at_most_one, front_legal as front_has_completion, sixteen_enough as sixteen_are_enough}
 pub use Rattle.can_log.proofs.LineFeeds.{line_clean as line_has_no_line_feed}
 pub use Rattle.can_log.proofs.LineLength.{means_length as line_is_short}

@@ -6,6 +6,7 @@ use Rattle.std.proofs.lemmas.Bool.{eqb-true, eq-eqb, ltb-true, ltb-false, le-ltb
 use Rattle.std.proofs.lemmas.List.{append-nil, take_at, drop_at, length-replicate}
 use Rattle.can_log.specs.declared.field.Class.{Class}
 use Rattle.can_log.specs.FieldReader.{short, refused, FieldRead, is_in, stop_at, run_len, run_at, byte_at}
+use Rattle.can_log.proofs.EachElement.{AllByRecursion-append, AllByRecursion-replicate}
 use Rattle.can_log.proofs.FieldLaws.{Follows, Takes, Refuses, CanEnd, Law, ok_is}
 use Rattle.can_log.proofs.Runs.{run_len-done, run_len-nil, run_len-in, run_len-out}
 
@@ -198,9 +199,8 @@ run_refuses class least most bytes rest e =
     }
 
 pub all_more : (class : Class) (w : ℕ) (n : ℕ) (text : List ℕ) → is_in class w ≡ true → AllIn class text → AllIn class (text ++ replicate n w)
-all_more class w zero [] h all = tt
-all_more class w (suc n) [] h all = (h, all_more class w n [] h tt)
-all_more class w n (b ∷ text) h all = (all.0, all_more class w n text h all.1)
+all_more class w n text h all =
+    AllByRecursion-append (λ b. is_in class b ≡ true) text (replicate n w) all (AllByRecursion-replicate (λ b. is_in class b ≡ true) n w h)
 
 pub run_shorts : (class : Class) (least most w : ℕ) → is_in class w ≡ true → least ≤ most → (bytes : List ℕ) → run_at class least most bytes ≡ Err short → CanEnd (IsRun class least most) least bytes
 run_shorts class least most w in_class room bytes e =

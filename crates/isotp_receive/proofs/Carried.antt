@@ -309,7 +309,7 @@ module _ (limit : ℕ) (T : List Entry) (d : Dir) (n : ℕ) (e : Entry) (at : At
         f = f;
         nn = length cs;
         k = 0;
-        least = l.count;
+        least = l.least;
         announces = l.announces;
         full = from.3;
         len = refl;
@@ -420,7 +420,7 @@ module _ (limit : ℕ) (T : List Entry) (d : Dir) (n : ℕ) (e : Entry) (at : At
 
     starts_long : (o : Option Standing) (m cs : List ℕ) (bs : List Transfer) → length m ≤ limit → IsSegmented T d m n cs → AreCarried limit T d bs → cs ++ all_positions bs ≡ rest
         → Stepped limit T d n o (after limit o e.micros (role d e)) (completed o e.micros (role d e)) ((last_or n cs, m) ∷ placed_of bs)
-    starts_long o m [] bs fits l goods same = absurd (let from = first_from d l.frame l.start l.kind in let a = from.1 in let b = from.2 in let g = l.count.enough in omega arith)
+    starts_long o m [] bs fits l goods same = absurd (let from = first_from d l.frame l.start l.kind in let a = from.1 in let b = from.2 in let g = l.least.enough in omega arith)
     starts_long o m (c ∷ cs) bs fits l goods same =
         let is_e : l.frame ≡ e = at-same T n l.frame e l.stands at in
         let kind_e : role d e ≡ first l.start = ap (role d) (sym is_e) ∙ l.kind in
@@ -439,8 +439,8 @@ module _ (limit : ℕ) (T : List Entry) (d : Dir) (n : ℕ) (e : Entry) (at : At
 
     starts : (o : Option Standing) (m ps : List ℕ) (bs : List Transfer) → length m ≤ limit → Carries T d m ps → AreCarried limit T d bs → ps ++ all_positions bs ≡ n ∷ rest
         → Stepped limit T d n o (after limit o e.micros (role d e)) (completed o e.micros (role d e)) ((last_or 0 ps, m) ∷ placed_of bs)
-    starts o m _ bs fits (unsegmented {p = p} x there kind) goods same = starts_one o m p bs x there kind (cc) goods (cc)
-    starts o m _ bs fits (segmented {i = i} {cs = cs} l) goods same =
+    starts o m _ bs fits (unsegmented {position = p} x there kind) goods same = starts_one o m p bs x there kind (cc) goods (cc)
+    starts o m _ bs fits (segmented {begun = i} {positions = cs} l) goods same =
         let here : i ≡ n = cc in
         let more : cs ++ all_positions bs ≡ rest = cc in
         rw here (starts_long o m cs bs fits (subst (λ j. IsSegmented T d m j cs) here l) goods more)
@@ -464,8 +464,8 @@ module _ (limit : ℕ) (T : List Entry) (d : Dir) (n : ℕ) (e : Entry) (at : At
         rw now (goes rest above (subst (IsCovered T d n) same cover) st m cs bs (subst (λ j. UnderWay T d n st m (j ∷ cs)) now s) goods more)
 
 has-first : (T : List Entry) (d : Dir) (m ps : List ℕ) → Carries T d m ps → (p : ℕ) × (e : Entry) × (rest : List ℕ) × (ps ≡ p ∷ rest) × At T p e
-has-first T d m _ (unsegmented {p = p} e stands kind) = (p, e, [], refl, stands)
-has-first T d m _ (segmented {i = i} {cs = cs} l) = (i, l.frame, cs, refl, l.stands)
+has-first T d m _ (unsegmented {position = p} e stands kind) = (p, e, [], refl, stands)
+has-first T d m _ (segmented {begun = i} {positions = cs} l) = (i, l.frame, cs, refl, l.stands)
 
 -- nothing is left at the end
 over : (limit : ℕ) (T : List Entry) (d : Dir) (o : Option Standing) (cs : List ℕ) (out : List (ℕ × List ℕ)) (bs : List Transfer) → State T d (length T) o cs out → AreCarried limit T d bs

@@ -190,7 +190,7 @@ module _ (limit : ℕ) (T : List Entry) (d : Dir) (n : ℕ) (e : Entry) (at : At
         stands = u.here;
         kind = u.kind;
         announces = omega arith;
-        count = record {
+        least = record {
           enough = omega arith;
           fewer = λ k less.
               let sum : k + (length cs - k) ≡ length cs = omega arith in
@@ -385,10 +385,10 @@ part-at T d m i s f nn k (c ∷ cs) p h (inl is) = (h.0.frame, subst (λ j. At T
 part-at T d m i s f nn k (c ∷ cs) p h (inr a) = part-at T d m i s f nn (k + 1) cs p h.1 a
 
 carries-at : (T : List Entry) (d : Dir) (m ps : List ℕ) (p : ℕ) → Carries T d m ps → IsIn p ps → (x : Entry) × At T p x
-carries-at T d m _ p (unsegmented {p = q} x there kind) (inl is) = (x, subst (λ j. At T j x) (sym is) there)
-carries-at T d m _ p (unsegmented {p = q} x there kind) (inr none) = absurd none
-carries-at T d m _ p (segmented {i = i} {cs = cs} l) (inl is) = (l.frame, subst (λ j. At T j l.frame) (sym is) l.stands)
-carries-at T d m _ p (segmented {i = i} {cs = cs} l) (inr a) = part-at T d m i l.start _ _ 1 cs p l.consecutive_frames a
+carries-at T d m _ p (unsegmented {position = q} x there kind) (inl is) = (x, subst (λ j. At T j x) (sym is) there)
+carries-at T d m _ p (unsegmented {position = q} x there kind) (inr none) = absurd none
+carries-at T d m _ p (segmented {begun = i} {positions = cs} l) (inl is) = (l.frame, subst (λ j. At T j l.frame) (sym is) l.stands)
+carries-at T d m _ p (segmented {begun = i} {positions = cs} l) (inr a) = part-at T d m i l.start _ _ 1 cs p l.consecutive_frames a
 
 never-own : Role → Type 0
 never-own r = IsOwn r → ⊥

@@ -73,17 +73,17 @@ module _ (limit : ℕ) (d : Dir) (before : List Entry) (e0 : Entry) (s : FirstFr
       let k = consecutive_frames_in d since in
       let more = o.more in
       let next : bytes_before (bytes_in_first e0.frame.bytes) s.rx_dl (k + 1) ≡ bytes_before (bytes_in_first e0.frame.bytes) s.rx_dl k + (s.rx_dl - 1) = omega arith in
-      let n_is : k + 1 ≡ o.n = elim (cases_Bool (nat_lt (k + 1) o.n)) [
-        | inl t ↦ absurd (let less = o.count.fewer (k + 1) (ltb-true (k + 1) o.n t) in omega arith)
-        | inr t ↦ (let ge = ltb-false (k + 1) o.n t in omega arith)
+      let n_is : k + 1 ≡ o.count = elim (cases_Bool (nat_lt (k + 1) o.count)) [
+        | inl t ↦ absurd (let less = o.least.fewer (k + 1) (ltb-true (k + 1) o.count t) in omega arith)
+        | inr t ↦ (let ge = ltb-false (k + 1) o.count t in omega arith)
       ] in
-      let back : o.n - 1 ≡ k = omega arith in
+      let back : o.count - 1 ≡ k = omega arith in
       let product = ap (λ j. j * (s.rx_dl - 1)) back in
       let enough : s.len ≤ length (s.bytes ++ carried d since) + length bytes = omega arith in
       let regroup : before ++ e0 ∷ (since ++ last ∷ rest) ≡ (before ++ e0 ∷ since) ++ last ∷ rest = sym (append_assoc before (e0 ∷ since) (last ∷ rest)) in
       record {
-        i = length before;
-        k = k;
+        begun = length before;
+        number = k;
         is_open = o;
         last = n_is;
         frame = last;
@@ -125,7 +125,7 @@ completed-in limit T d e m c =
     let s = o.start in
     let is_e : c.frame ≡ e = at-same (T ++ e ∷ []) (length T) c.frame e c.stands (at_here T [] e) in
     let goes : role d e ≡ consecutive c.sequence_number c.can_dl c.bytes = ap (role d) (sym is_e) ∙ c.kind in
-    let w = stands-there limit d T (e ∷ []) c.i c.k o in
+    let w = stands-there limit d T (e ∷ []) c.begun c.number o in
     let before = w.0 in
     let since = w.1 in
     let opens = w.4 in
@@ -134,19 +134,19 @@ completed-in limit T d e m c =
     let size = have limit d before o.frame s since [] o.kind opens e c.sequence_number c.can_dl c.bytes goes in
     let taken = w.5 in
     let last = c.last in
-    let below : consecutive_frames_in d since < o.n = omega arith in
+    let below : consecutive_frames_in d since < o.count = omega arith in
     let product = ap (λ j. j * (s.rx_dl - 1)) taken in
-    let fit = (fits-join (bytes_in_first o.frame.frame.bytes) s.rx_dl s.len o.n (consecutive_frames_in d since) c.sequence_number c.can_dl o.count below).0
-    (subst (λ k. FitsAs (bytes_in_first o.frame.frame.bytes) s.rx_dl s.len o.n (k + 1) c.sequence_number c.can_dl) taken c.fits) in
+    let fit = (fits-join (bytes_in_first o.frame.frame.bytes) s.rx_dl s.len o.count (consecutive_frames_in d since) c.sequence_number c.can_dl o.least below).0
+    (subst (λ k. FitsAs (bytes_in_first o.frame.frame.bytes) s.rx_dl s.len o.count (k + 1) c.sequence_number c.can_dl) taken c.fits) in
     let on : IsOnTime (before ++ o.frame ∷ (since ++ e ∷ [])) d (length before) (suc (length before) + length since) e =
     subst (λ x. IsOnTime (before ++ o.frame ∷ (since ++ e ∷ [])) d (length before) (suc (length before) + length since) x) is_e
     (subst (λ p. IsOnTime (before ++ o.frame ∷ (since ++ e ∷ [])) d (length before) p c.frame) (sym (ends-at T before since o.frame w.2))
     (subst (λ i. IsOnTime (before ++ o.frame ∷ (since ++ e ∷ [])) d i (length T) c.frame) (sym w.3)
-    (subst (λ t. IsOnTime t d c.i (length T) c.frame) whole c.on_time))) in
+    (subst (λ t. IsOnTime t d c.begun (length T) c.frame) whole c.on_time))) in
     let on_time = on-time-to _ d (length before) _ (reference d s.micros since) e (refers d before o.frame s since (e ∷ []) o.kind) on in
-    let all : o.n ≡ consecutive_frames_in d since + 1 = omega arith in
+    let all : o.count ≡ consecutive_frames_in d since + 1 = omega arith in
     let product_all = ap (λ j. j * (s.rx_dl - 1)) all in
-    let enough = o.count.enough in
+    let enough = o.least.enough in
     let st = standing_of d s since in
     let short : st.len ≤ length st.bytes + (st.rx_dl - 1) = omega arith in
     let fits : has_length st c.can_dl ≡ true = subst (λ h. fits_length s.len s.rx_dl h c.can_dl ≡ true) (sym size) fit.1 in
@@ -157,7 +157,7 @@ completed-in limit T d e m c =
     let from = first_from d o.frame s o.kind in
     let eight = from.3 in
     let places : AtPlaces (before ++ o.frame ∷ (since ++ e ∷ [])) d (length before) o.frame s.rx_dl m =
-    subst (λ i. AtPlaces (before ++ o.frame ∷ (since ++ e ∷ [])) d i o.frame s.rx_dl m) (sym w.3) (subst (λ t. AtPlaces t d c.i o.frame s.rx_dl m) whole c.places) in
+    subst (λ i. AtPlaces (before ++ o.frame ∷ (since ++ e ∷ [])) d i o.frame s.rx_dl m) (sym w.3) (subst (λ t. AtPlaces t d c.begun o.frame s.rx_dl m) whole c.places) in
     let same : take s.len ((s.bytes ++ carried d since) ++ c.bytes) ≡ m =
     same-message (before ++ o.frame ∷ (since ++ e ∷ [])) d (length before) o.frame s.rx_dl (take s.len ((s.bytes ++ carried d since) ++ c.bytes)) m (omega arith)
     got.places places (got.size ∙ sym c.size) in

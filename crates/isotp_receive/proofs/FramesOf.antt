@@ -149,19 +149,19 @@ module _ (limit : ℕ) (T : List Entry) (ts : List Transfer) (d : Dir) (m : List
   at-cs : (x : ℕ) → IsIn x cs → ConsecutiveAt T d x
   at-cs x j = numbered-at T d m i l.start _ _ 1 cs x l.consecutive_frames j
 
-  started : (c : Completes limit T (last_or i cs) d m) → c.i ≡ i
+  started : (c : Completes limit T (last_or i cs) d m) → c.begun ≡ i
   started c =
       let later = c.is_open.later in
       let low = below-last 0 i i cs rising (inl refl) in
-      elim (cases_Bool (nat_lt c.i i)) [
-        | inl t ↦ absurd (let less = ltb-true c.i i t in elim (cases_Bool (nat_lt i (last_or i cs))) [
+      elim (cases_Bool (nat_lt c.begun i)) [
+        | inl t ↦ absurd (let less = ltb-true c.begun i t in elim (cases_Bool (nat_lt i (last_or i cs))) [
           | inl u ↦ no-first c.is_open.start l.start _ _ _ _ (role d l.frame) l.kind (c.is_open.each i l.frame less (ltb-true i (last_or i cs) u) l.stands)
           | inr u ↦ (let le = ltb-false i (last_or i cs) u in let here : last_or i cs ≡ i = omega arith in
               no-two-firsts T d (last_or i cs) l.frame l.start (subst (λ j. At T j l.frame) (sym here) l.stands) l.kind (record { frame = c.frame; stands = c.stands; kind = ap consecutive_by c.kind }))
         ])
-        | inr t ↦ (let ge = ltb-false c.i i t in elim (mine c.i c.is_open.frame (omega arith) (omega arith) c.is_open.stands (rw c.is_open.kind tt)) [
+        | inr t ↦ (let ge = ltb-false c.begun i t in elim (mine c.begun c.is_open.frame (omega arith) (omega arith) c.is_open.stands (rw c.is_open.kind tt)) [
           | inl is ↦ is
-          | inr j ↦ absurd (no-two-firsts T d c.i c.is_open.frame c.is_open.start c.is_open.stands c.is_open.kind (at-cs c.i j))
+          | inr j ↦ absurd (no-two-firsts T d c.begun c.is_open.frame c.is_open.start c.is_open.stands c.is_open.kind (at-cs c.begun j))
         ])
       ]
 
@@ -196,7 +196,7 @@ module _ (limit : ℕ) (T : List Entry) (ts : List Transfer) (d : Dir) (m : List
 frames-of : (limit : ℕ) (T : List Entry) (ts : List Transfer) (d : Dir) (m ps : List ℕ) → Carries T d m ps → IsRisingFrom 0 ps → Delivers limit T (last_or 0 ps) d m
     → ((i p x : ℕ) (e : Entry) → IsIn i ps → IsIn p ps → i ≤ x → x ≤ p → At T x e → IsOwn (role d e) → IsIn x ps) → AreFramesOf limit T d m ps
 frames-of limit T ts d m _ (unsegmented e at kind) rising delivers mine = alone e at kind
-frames-of limit T ts d m _ (segmented {i = i} {cs = cs} l) rising delivers mine =
+frames-of limit T ts d m _ (segmented {begun = i} {positions = cs} l) rising delivers mine =
     segmented-frames limit T ts d m i cs l rising (λ x e low high at own. mine i (last_or i cs) x e (inl refl) (last-in i cs) low high at own) delivers
 
 pub gives-frames : (limit : ℕ) (T : List Entry) (M : List Message) (r : IsRecording limit T M) → AreGivenTheirFrames limit T r.transfers

@@ -133,8 +133,8 @@ open-there limit d before e0 s since rest begins opens =
       stands = at_here before (since ++ rest) e0;
       kind = begins;
       fits = leb-true _ _ parts.0;
-      n = found.0;
-      count = found.1;
+      count = found.0;
+      least = found.1;
       each = λ c x later within at.
           let w = behind before e0 since rest c x later within at in
           let kept = kept-at d s since more.1 w.b w.after x w.splits in
@@ -171,10 +171,10 @@ stands-there limit d T rest i k o =
     let leaves = o.each c x (omega arith) (omega arith) at in
     let here : between (T ++ rest) i c ≡ b =
     ap (λ l. between l i c) whole_x ∙ ap (λ j. between (before ++ o.frame ∷ (b ++ x ∷ (after ++ rest))) j c) (sym place) ∙ range-behind before o.frame b (x ∷ (after ++ rest)) in
-    let below : consecutive_frames_in d b < o.n = (let more = o.more in omega arith) in
-    keeps-from d before o.frame o.start o.kind o.n o.count b x (after ++ rest) (role d x) below
-    (same-leaves d o.start _ o.n i (length before) _ _ c c _ _ x (role d x) (ap (consecutive_frames_in d) here) whole_x (sym place) refl leaves)) in
+    let below : consecutive_frames_in d b < o.count = (let more = o.more in omega arith) in
+    keeps-from d before o.frame o.start o.kind o.count o.least b x (after ++ rest) (role d x) below
+    (same-leaves d o.start _ o.count i (length before) _ _ c c _ _ x (role d x) (ap (consecutive_frames_in d) here) whole_x (sym place) refl leaves)) in
     let room : carried_after o.start (consecutive_frames_in d since) < o.start.len =
-    (let less = o.count.fewer (consecutive_frames_in d since) (subst (λ j. j < o.n) taken o.more) in
-    let same = size d before o.frame o.start o.kind o.n o.count (consecutive_frames_in d since) in omega arith) in
+    (let less = o.least.fewer (consecutive_frames_in d since) (subst (λ j. j < o.count) taken o.more) in
+    let same = size d before o.frame o.start o.kind o.count o.least (consecutive_frames_in d since) in omega arith) in
     (before, since, w.2, w.3, and_from _ _ (le-leb _ _ o.fits) (and_from _ _ (lt-ltb _ _ room) kept), taken)

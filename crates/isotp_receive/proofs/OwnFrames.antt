@@ -57,16 +57,16 @@ part-own T d m i s f n k (c ∷ cs) p e h (inl is) at =
 part-own T d m i s f n k (c ∷ cs) p e h (inr j) at = part-own T d m i s f n (k + 1) cs p e h.1 j at
 
 pub carries-own : (T : List Entry) (d : Dir) (m ps : List ℕ) (p : ℕ) (e : Entry) → Carries T d m ps → IsIn p ps → At T p e → IsOwn (role d e)
-carries-own T d m _ p e (unsegmented {p = q} x there kind) (inl is) at =
+carries-own T d m _ p e (unsegmented {position = q} x there kind) (inl is) at =
     let here : At T q e = subst (λ y. At T y e) is at in
     let kind_e : role d e ≡ single m = ap (role d) (at-same T q e x here there) ∙ kind in
     rw kind_e tt
-carries-own T d m _ p e (unsegmented {p = q} x there kind) (inr i) at = absurd i
-carries-own T d m _ p e (segmented {i = i} {cs = cs} l) (inl is) at =
+carries-own T d m _ p e (unsegmented {position = q} x there kind) (inr i) at = absurd i
+carries-own T d m _ p e (segmented {begun = i} {positions = cs} l) (inl is) at =
     let here : At T i e = subst (λ y. At T y e) is at in
     let kind_e : role d e ≡ first l.start = ap (role d) (at-same T i e l.frame here l.stands) ∙ l.kind in
     rw kind_e tt
-carries-own T d m _ p e (segmented {i = i} {cs = cs} l) (inr j) at = part-own T d m i l.start _ _ 1 cs p e l.consecutive_frames j at
+carries-own T d m _ p e (segmented {begun = i} {positions = cs} l) (inr j) at = part-own T d m i l.start _ _ 1 cs p e l.consecutive_frames j at
 
 idle-own : (line micros : ℕ) (r : Result Layout PduFault) → IsIdle r → IsQuiet (own_role line micros r)
 idle-own line micros (Err f) h = inl refl

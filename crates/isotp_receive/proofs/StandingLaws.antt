@@ -32,8 +32,8 @@ standing-here limit d before e0 s since rest begins opens =
     let full = full_of d s since more.1 (ltb-true _ _ more.0) in
     let ref = refers d before e0 s since rest begins in
     record {
-      i = length before;
-      k = consecutive_frames_in d since;
+      begun = length before;
+      number = consecutive_frames_in d since;
       is_open = open-there limit d before e0 s since rest begins opens;
       line = refl;
       len = refl;
@@ -41,7 +41,7 @@ standing-here limit d before e0 s since rest begins opens =
       taken = refl;
       size = omega (arith, length-append s.bytes (carried d since));
       places = come-at limit d before e0 s since rest begins opens;
-      q = ref.q;
+      latest = ref.q;
       last = ref.e;
       refers = ref.reference;
       stands = ref.stands;
@@ -95,29 +95,29 @@ same-record x y line len rx_dl taken bytes reference =
 -- what is known of the reception that is open is one thing: the frames fix it
 same-standing : (limit : ℕ) (T : List Entry) (d : Dir) (p : ℕ) (x y : Standing) → IsStandingAt limit T d p x → IsStandingAt limit T d p y → x ≡ y
 same-standing limit T d p x y a b =
-    let one = one-open limit T d a.i a.k b.i b.k p a.is_open b.is_open in
-    let frame : a.is_open.frame ≡ b.is_open.frame = at-same T a.i a.is_open.frame b.is_open.frame a.is_open.stands (subst (λ j. At T j b.is_open.frame) (sym one.0) b.is_open.stands) in
+    let one = one-open limit T d a.begun a.number b.begun b.number p a.is_open b.is_open in
+    let frame : a.is_open.frame ≡ b.is_open.frame = at-same T a.begun a.is_open.frame b.is_open.frame a.is_open.stands (subst (λ j. At T j b.is_open.frame) (sym one.0) b.is_open.stands) in
     let start : a.is_open.start ≡ b.is_open.start = first-same (sym a.is_open.kind ∙ ap (role d) frame ∙ b.is_open.kind) in
     let rx_dl : x.rx_dl ≡ y.rx_dl = a.rx_dl ∙ ap (λ s. s.rx_dl) start ∙ sym b.rx_dl in
     let size : length x.bytes ≡ length y.bytes =
-    a.size ∙ ap (λ e. bytes_before (bytes_in_first e.frame.bytes) x.rx_dl a.k) frame ∙ ap (λ r. bytes_before (bytes_in_first b.is_open.frame.frame.bytes) r a.k) rx_dl
+    a.size ∙ ap (λ e. bytes_before (bytes_in_first e.frame.bytes) x.rx_dl a.number) frame ∙ ap (λ r. bytes_before (bytes_in_first b.is_open.frame.frame.bytes) r a.number) rx_dl
     ∙ ap (λ k. bytes_before (bytes_in_first b.is_open.frame.frame.bytes) y.rx_dl k) one.1 ∙ sym b.size in
-    let places : AtPlaces T d a.i a.is_open.frame x.rx_dl y.bytes =
-    subst (λ r. AtPlaces T d a.i a.is_open.frame r y.bytes) (sym rx_dl) (subst (λ e. AtPlaces T d a.i e y.rx_dl y.bytes) (sym frame)
+    let places : AtPlaces T d a.begun a.is_open.frame x.rx_dl y.bytes =
+    subst (λ r. AtPlaces T d a.begun a.is_open.frame r y.bytes) (sym rx_dl) (subst (λ e. AtPlaces T d a.begun e y.rx_dl y.bytes) (sym frame)
     (subst (λ i. AtPlaces T d i b.is_open.frame y.rx_dl y.bytes) (sym one.0) b.places)) in
     let from = first_from d a.is_open.frame a.is_open.start a.is_open.kind in
     let eight = from.3 in
     let announced = a.rx_dl in
-    let same_q : a.q ≡ b.q = same-reference T d a.i p a.q b.q a.refers (subst (λ i. IsReference T d i p b.q) (sym one.0) b.refers) in
-    let last : a.last ≡ b.last = at-same T a.q a.last b.last a.stands (subst (λ q. At T q b.last) (sym same_q) b.stands) in
+    let same_q : a.latest ≡ b.latest = same-reference T d a.begun p a.latest b.latest a.refers (subst (λ i. IsReference T d i p b.latest) (sym one.0) b.refers) in
+    let last : a.last ≡ b.last = at-same T a.latest a.last b.last a.stands (subst (λ q. At T q b.last) (sym same_q) b.stands) in
     same-record x y (a.line ∙ ap (λ s. s.line) start ∙ sym b.line) (a.len ∙ ap (λ s. s.len) start ∙ sym b.len) rx_dl (a.taken ∙ one.1 ∙ sym b.taken)
-    (same-message T d a.i a.is_open.frame x.rx_dl x.bytes y.bytes (omega arith) a.places places size)
+    (same-message T d a.begun a.is_open.frame x.rx_dl x.bytes y.bytes (omega arith) a.places places size)
     (a.reference ∙ ap (λ e. e.micros) last ∙ sym b.reference)
 
 -- and so it is what stands
 pub standing-is-fixed : (limit : ℕ) (T rest : List Entry) (d : Dir) (st : Standing) → IsStandingAt limit (T ++ rest) d (length T) st → stands limit d T ≡ Some st
 standing-is-fixed limit T rest d st a =
-    let w = open-stands limit T rest d a.i a.k a.is_open in
+    let w = open-stands limit T rest d a.begun a.number a.is_open in
     w.1 ∙ ap Some (same-standing limit (T ++ rest) d (length T) w.0 st (stands-open limit T rest d w.0 w.1) a)
 
 -- what a pair keeps for a direction

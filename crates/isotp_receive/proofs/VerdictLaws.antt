@@ -82,10 +82,10 @@ record IsJudged (limit : ℕ) (T : List Entry) (e : Entry) (i k sequence_number 
   number : IsOnTime (T ++ e ∷ []) e.dir i (length T) e → sequence_number ≢ (k + 1) % 16
       → verdict limit T e ≡ refused (Some (ended_by e.dir o.start cause.Sequence)) (reason.NextSequence ((k + 1) % 16) sequence_number)
   size : IsOnTime (T ++ e ∷ []) e.dir i (length T) e → sequence_number ≡ (k + 1) % 16
-      → (FitsAs (bytes_in_first o.frame.frame.bytes) o.start.rx_dl o.start.len o.n (k + 1) sequence_number can_dl → ⊥)
+      → (FitsAs (bytes_in_first o.frame.frame.bytes) o.start.rx_dl o.start.len o.count (k + 1) sequence_number can_dl → ⊥)
       → verdict limit T e ≡ refused (Some (ended_by e.dir o.start cause.Length)) reason.NextLength
   kept : IsOnTime (T ++ e ∷ []) e.dir i (length T) e
-      → FitsAs (bytes_in_first o.frame.frame.bytes) o.start.rx_dl o.start.len o.n (k + 1) sequence_number can_dl → k + 1 < o.n
+      → FitsAs (bytes_in_first o.frame.frame.bytes) o.start.rx_dl o.start.len o.count (k + 1) sequence_number can_dl → k + 1 < o.count
       → verdict limit T e ≡ record { ended = None; told = stored }
   covered : (bytes : List ℕ) → layout_of e.frame ≡ Ok (layout.consecutive sequence_number can_dl bytes) → (a : EventValue) × HasVerdict limit T e a
 
@@ -114,8 +114,8 @@ is-judged limit T e i k sequence_number can_dl bytes goes o =
     let whole : before ++ o.frame ∷ (since ++ e ∷ []) ≡ T ++ e ∷ [] = regrouped T (e ∷ []) before since o.frame w.2 in
     let ends = ends-at T before since o.frame w.2 in
     let size = have limit d before o.frame s since [] o.kind w.4 e sequence_number can_dl bytes goes in
-    let below : consecutive_frames_in d since < o.n = omega arith in
-    let join = fits-join (bytes_in_first o.frame.frame.bytes) s.rx_dl s.len o.n (consecutive_frames_in d since) sequence_number can_dl o.count below in
+    let below : consecutive_frames_in d since < o.count = omega arith in
+    let join = fits-join (bytes_in_first o.frame.frame.bytes) s.rx_dl s.len o.count (consecutive_frames_in d since) sequence_number can_dl o.least below in
     let ref = refers d before o.frame s since (e ∷ []) o.kind in
     let on_to : IsOnTime (T ++ e ∷ []) d i (length T) e → is_on_time st e.micros ≡ true =
     λ on. on-time-to (before ++ o.frame ∷ (since ++ e ∷ [])) d (length before) (suc (length before) + length since) (reference d s.micros since) e ref
@@ -135,11 +135,11 @@ is-judged limit T e i k sequence_number can_dl bytes goes o =
           ∙ ap (λ x. refused (Some (ended_by d s cause.Sequence)) (reason.NextSequence x sequence_number)) same_number;
       size = λ on number apart. is ∙ third-of (is_on_time st e.micros) (sequence_number == expected st) (has_length st can_dl) (wants_more st) _ _ _ _ _ (on_to on)
           (eq-eqb sequence_number (expected st) (number ∙ sym same_number))
-          (not-true (has_length st can_dl) (λ t. apart (subst (λ j. FitsAs (bytes_in_first o.frame.frame.bytes) s.rx_dl s.len o.n (j + 1) sequence_number can_dl) (sym taken)
+          (not-true (has_length st can_dl) (λ t. apart (subst (λ j. FitsAs (bytes_in_first o.frame.frame.bytes) s.rx_dl s.len o.count (j + 1) sequence_number can_dl) (sym taken)
           (join.1 (number ∙ ap (λ j. (j + 1) % 16) taken, sym length_is ∙ t)))));
       kept = λ on fits less.
-          let fit = join.0 (subst (λ j. FitsAs (bytes_in_first o.frame.frame.bytes) s.rx_dl s.len o.n (j + 1) sequence_number can_dl) taken fits) in
-          let room = o.count.fewer (k + 1) less in
+          let fit = join.0 (subst (λ j. FitsAs (bytes_in_first o.frame.frame.bytes) s.rx_dl s.len o.count (j + 1) sequence_number can_dl) taken fits) in
+          let room = o.least.fewer (k + 1) less in
           let product = ap (λ j. (j + 1) * (s.rx_dl - 1)) taken in
           is ∙ fourth-of (is_on_time st e.micros) (sequence_number == expected st) (has_length st can_dl) (wants_more st) _ _ _ _ _ (on_to on)
           (eq-eqb sequence_number (expected st) fit.0) (length_is ∙ fit.1) (lt-ltb _ _ (omega arith));
@@ -152,17 +152,17 @@ is-judged limit T e i k sequence_number can_dl bytes goes o =
                 | inr f ↦ (
                   _,
                   wrong_length sequence_number can_dl bs i k h o (on_from t) (number ∙ same_number) (λ fits.
-                      let fit = join.0 (subst (λ j. FitsAs (bytes_in_first o.frame.frame.bytes) s.rx_dl s.len o.n (j + 1) sequence_number can_dl) taken fits) in
+                      let fit = join.0 (subst (λ j. FitsAs (bytes_in_first o.frame.frame.bytes) s.rx_dl s.len o.count (j + 1) sequence_number can_dl) taken fits) in
                       false≢true (sym f ∙ length_is ∙ fit.1)),
                 )
                 | inl f ↦ elim (cases_Bool (wants_more st)) [
                   | inl b ↦ (
                     _,
                     stored_frame sequence_number can_dl bs i k h o (on_from t)
-                        (subst (λ j. FitsAs (bytes_in_first o.frame.frame.bytes) s.rx_dl s.len o.n (j + 1) sequence_number can_dl) (sym taken) (join.1 (number, sym length_is ∙ f)))
+                        (subst (λ j. FitsAs (bytes_in_first o.frame.frame.bytes) s.rx_dl s.len o.count (j + 1) sequence_number can_dl) (sym taken) (join.1 (number, sym length_is ∙ f)))
                         (let room = ltb-true (length st.bytes + (st.rx_dl - 1)) st.len b in
                         let product = ap (λ j. (j + 1) * (s.rx_dl - 1)) taken in
-                        below-count (bytes_in_first o.frame.frame.bytes) s.rx_dl s.len o.n (k + 1) o.count (omega arith)),
+                        below-count (bytes_in_first o.frame.frame.bytes) s.rx_dl s.len o.count (k + 1) o.least (omega arith)),
                   )
                   | inr b ↦ last-row limit T e sequence_number can_dl bytes (take s.len (st.bytes ++ bytes)) goes
                       ((message-delivers limit T e (take s.len (st.bytes ++ bytes))).0
@@ -187,7 +187,7 @@ none-open : (limit : ℕ) (T : List Entry) (e : Entry) (d : Dir) → NothingOpen
 none-open limit T e d none = by_case (stands limit d T) refl where
   by_case : (o : Option Standing) → stands limit d T ≡ o → o ≡ None
   by_case None is = refl
-  by_case (Some st) is = absurd (let s = stands-open limit T (e ∷ []) d st is in none s.i s.k s.is_open)
+  by_case (Some st) is = absurd (let s = stands-open limit T (e ∷ []) d st is in none s.begun s.number s.is_open)
 
 -- and where a reception is open it ends so
 some-open : (limit : ℕ) (T : List Entry) (e : Entry) (d : Dir) (i k : ℕ) (c : Cause) (o : IsOpenBefore limit T e d i k)
@@ -272,14 +272,14 @@ nothing-open limit T e d none i k o = (let w = open-stands limit T (e ∷ []) d 
 
 new-start : (limit : ℕ) (T : List Entry) (e : Entry) (o : Option Standing) → stands limit e.dir T ≡ o → (x : Option Ended) × EndsByNewStart limit T e x
 new-start limit T e None is = (None, nothing-open limit T e e.dir is)
-new-start limit T e (Some st) is = (let s = stands-open limit T (e ∷ []) e.dir st is in (Some (ended_by e.dir s.is_open.start cause.NewStart), (s.i, s.k, s.is_open, refl)))
+new-start limit T e (Some st) is = (let s = stands-open limit T (e ∷ []) e.dir st is in (Some (ended_by e.dir s.is_open.start cause.NewStart), (s.begun, s.number, s.is_open, refl)))
 
 own-row : (limit : ℕ) (T : List Entry) (e : Entry) (sequence_number can_dl : ℕ) (bytes : List ℕ) (o : Option Standing) → layout_of e.frame ≡ Ok (layout.consecutive sequence_number can_dl bytes)
     → stands limit e.dir T ≡ o → (a : EventValue) × HasVerdict limit T e a
 own-row limit T e sequence_number can_dl bytes None h is = (refused None reason.NextUnexpected, next_unexpected sequence_number can_dl bytes h (nothing-open limit T e e.dir is))
 own-row limit T e sequence_number can_dl bytes (Some st) h is =
     let s = stands-open limit T (e ∷ []) e.dir st is in
-    (is-judged limit T e s.i s.k sequence_number can_dl bytes (role-by e sequence_number can_dl bytes h) s.is_open).covered bytes h
+    (is-judged limit T e s.begun s.number sequence_number can_dl bytes (role-by e sequence_number can_dl bytes h) s.is_open).covered bytes h
 
 overflow-row : (limit : ℕ) (T : List Entry) (e : Entry) (i k : ℕ) → layout_of e.frame ≡ Ok (layout.flow_control Overflow) → IsOpenBefore limit T e (other_direction e.dir) i k → (a : EventValue) × HasVerdict limit T e a
 overflow-row limit T e i zero h o = (_, overflow_in_time i h o)
@@ -288,9 +288,9 @@ overflow-row limit T e i (suc k) h o = (refused None reason.FlowUnexpected, over
 flow-row : (limit : ℕ) (T : List Entry) (e : Entry) (s : Status) (o : Option Standing) → layout_of e.frame ≡ Ok (layout.flow_control s) → stands limit (other_direction e.dir) T ≡ o
     → (a : EventValue) × HasVerdict limit T e a
 flow-row limit T e s None h is = (refused None reason.FlowUnexpected, flow_unexpected s h (nothing-open limit T e (other_direction e.dir) is))
-flow-row limit T e Continue (Some st) h is = (let w = stands-open limit T (e ∷ []) (other_direction e.dir) st is in (record { ended = None; told = flowed }, flow Continue w.i w.k h (λ same. cc) w.is_open))
-flow-row limit T e Wait (Some st) h is = (let w = stands-open limit T (e ∷ []) (other_direction e.dir) st is in (record { ended = None; told = flowed }, flow Wait w.i w.k h (λ same. cc) w.is_open))
-flow-row limit T e Overflow (Some st) h is = (let w = stands-open limit T (e ∷ []) (other_direction e.dir) st is in overflow-row limit T e w.i w.k h w.is_open)
+flow-row limit T e Continue (Some st) h is = (let w = stands-open limit T (e ∷ []) (other_direction e.dir) st is in (record { ended = None; told = flowed }, flow Continue w.begun w.number h (λ same. cc) w.is_open))
+flow-row limit T e Wait (Some st) h is = (let w = stands-open limit T (e ∷ []) (other_direction e.dir) st is in (record { ended = None; told = flowed }, flow Wait w.begun w.number h (λ same. cc) w.is_open))
+flow-row limit T e Overflow (Some st) h is = (let w = stands-open limit T (e ∷ []) (other_direction e.dir) st is in overflow-row limit T e w.begun w.number h w.is_open)
 
 row : (limit : ℕ) (T : List Entry) (e : Entry) (x : Result Layout PduFault) → layout_of e.frame ≡ x → (a : EventValue) × HasVerdict limit T e a
 row limit T e (Err f) h = (refused None (reason.Pdu f), no_layout f h)

@@ -7,8 +7,8 @@ use Rattle.isotp_receive.specs.Verdict.{VerdictValue, message, began, stored, fl
 
 -- the frame was not dropped
 abbrev pub IsKept : VerdictValue → Type 0
-IsKept (dropped r) = ⊥
-IsKept (message m) = ⊤
+IsKept (dropped reason) = ⊥
+IsKept (message bytes) = ⊤
 IsKept began = ⊤
 IsKept stored = ⊤
 IsKept flowed = ⊤
@@ -21,7 +21,7 @@ pub record IsCleanEvent (answer : EventValue) : Type 0 where
 -- each of the frames is answered so, where `past` stands before them
 abbrev pub EachClean : ℕ → List Entry → List Entry → Type 0
 EachClean limit past [] = ⊤
-EachClean limit past (e ∷ es) = IsCleanEvent (verdict limit past e) × EachClean limit (past ++ e ∷ []) es
+EachClean limit past (e ∷ rest) = IsCleanEvent (verdict limit past e) × EachClean limit (past ++ e ∷ []) rest
 
 -- No frame of the trace is dropped, none ends a reception, and nothing stands at its end.
 pub record IsClean (limit : ℕ) (T : List Entry) : Type 0 where

@@ -1,17 +1,17 @@
 -- What a caller sees of an event, without where a message lies in memory.
 use Rattle.isotp_receive.specs.declared.event.Verdict.{Verdict}
-use Rattle.isotp_receive.specs.declared.event.Verdict.TheVariants as v
+use Rattle.isotp_receive.specs.declared.event.Verdict.TheVariants as as_verdict
 use Rattle.isotp_receive.specs.declared.event.Event.{Event}
 use Rattle.isotp_receive.specs.Verdict.{VerdictValue, message, began, stored, flowed, dropped, EventValue}
 
 -- a verdict
 abbrev pub seen_verdict : Verdict → VerdictValue
-seen_verdict (v.Message m) = message m.now
-seen_verdict v.Began = began
-seen_verdict v.Stored = stored
-seen_verdict v.Flow = flowed
-seen_verdict (v.Dropped r) = dropped r
+seen_verdict (as_verdict.Message lent) = message lent.now
+seen_verdict as_verdict.Began = began
+seen_verdict as_verdict.Stored = stored
+seen_verdict as_verdict.Flow = flowed
+seen_verdict (as_verdict.Dropped reason) = dropped reason
 
 -- an event
 abbrev pub seen_event : Event → EventValue
-seen_event e = record { ended = e.ended; told = seen_verdict e.verdict }
+seen_event event = record { ended = event.ended; told = seen_verdict event.verdict }

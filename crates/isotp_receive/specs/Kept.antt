@@ -5,22 +5,22 @@ use Rattle.isotp_receive.specs.Standing.{Standing}
 
 -- what a caller sees of the two
 abbrev pub stands_as : Head → List ℕ → Standing
-stands_as h bytes = record { line = h.line; len = h.len; rx_dl = h.rx_dl; taken = h.taken; bytes = bytes; reference = h.reference }
+stands_as head bytes = record { line = head.line; len = head.len; rx_dl = head.rx_dl; taken = head.taken; bytes = bytes; reference = head.reference }
 
 -- and where there may be no head
 abbrev pub standing : Option Head → List ℕ → Option Standing
 standing None bytes = None
-standing (Some h) bytes = Some (stands_as h bytes)
+standing (Some head) bytes = Some (stands_as head bytes)
 
 -- what holds of the two between calls
-pub record Fitting (limit : ℕ) (h : Head) (bytes : List ℕ) : Type 0 where
-  pub more : length bytes < h.len
-  pub within : h.len ≤ limit
-  pub low : 8 ≤ h.rx_dl
-  pub high : h.rx_dl ≤ 64
-  pub taken : h.taken ≤ length bytes
+pub record Fitting (limit : ℕ) (head : Head) (bytes : List ℕ) : Type 0 where
+  pub more : length bytes < head.len
+  pub within : head.len ≤ limit
+  pub low : 8 ≤ head.rx_dl
+  pub high : head.rx_dl ≤ 64
+  pub taken : head.taken ≤ length bytes
 
 -- a buffer that nothing is received into may hold the message that was lent last
 abbrev pub IsFitting : ℕ → Option Head → List ℕ → Type 0
 IsFitting limit None bytes = length bytes ≤ limit
-IsFitting limit (Some h) bytes = Fitting limit h bytes
+IsFitting limit (Some head) bytes = Fitting limit head bytes

@@ -29,15 +29,16 @@ pub record IsOpenAt (limit : ℕ) (T : List Entry) (d : Dir) (begun number posit
   pub stands : At T begun frame
   pub kind : role d frame ≡ first start
   pub fits : start.len ≤ limit
-  -- n consecutive frames hold the rest
-  pub n : ℕ
-  pub count : IsConsecutiveCount (bytes_in_first frame.frame.bytes) start.rx_dl start.len n
+  -- so many consecutive frames hold the rest
+  pub count : ℕ
+  pub least : IsConsecutiveCount (bytes_in_first frame.frame.bytes) start.rx_dl start.len count
   -- each frame strictly between leaves the reception open
   pub each : (place : ℕ) (entry : Entry) → begun < place → place < position → At T place entry
-      → LeavesOpen start (bytes_in_first frame.frame.bytes) n (consecutive_frames_in d (between T begun place)) (IsOnTime T d begun place entry) (role d entry)
+      → LeavesOpen start (bytes_in_first frame.frame.bytes) count (consecutive_frames_in d (between T begun place))
+      (IsOnTime T d begun place entry) (role d entry)
   -- `number` of them are consecutive frames of d, and more are to come
   pub taken : number ≡ consecutive_frames_in d (between T begun position)
-  pub more : number < n
+  pub more : number < count
 
 -- at the end of T
 abbrev pub IsOpen : ℕ → List Entry → Dir → ℕ → ℕ → Type 0
@@ -46,18 +47,18 @@ IsOpen limit T d begun number = IsOpenAt limit T d begun number (length T)
 -- What stands at `position` for d: a reception is open there, and this is what is known of it. Its bytes are those that
 -- have come.
 pub record IsStandingAt (limit : ℕ) (T : List Entry) (d : Dir) (position : ℕ) (standing : Standing) : Type 0 where
-  pub i : ℕ
-  pub k : ℕ
-  pub is_open : IsOpenAt limit T d i k position
+  pub begun : ℕ
+  pub number : ℕ
+  pub is_open : IsOpenAt limit T d begun number position
   pub line : standing.line ≡ is_open.start.line
   pub len : standing.len ≡ is_open.start.len
   pub rx_dl : standing.rx_dl ≡ is_open.start.rx_dl
-  pub taken : standing.taken ≡ k
-  pub size : length standing.bytes ≡ bytes_before (bytes_in_first is_open.frame.frame.bytes) standing.rx_dl k
-  pub places : AtPlaces T d i is_open.frame standing.rx_dl standing.bytes
-  -- at q stands the reference frame of what comes next
-  pub q : ℕ
+  pub taken : standing.taken ≡ number
+  pub size : length standing.bytes ≡ bytes_before (bytes_in_first is_open.frame.frame.bytes) standing.rx_dl number
+  pub places : AtPlaces T d begun is_open.frame standing.rx_dl standing.bytes
+  -- at `latest` stands the reference frame of what comes next
+  pub latest : ℕ
   pub last : Entry
-  pub refers : IsReference T d i position q
-  pub stands : At T q last
+  pub refers : IsReference T d begun position latest
+  pub stands : At T latest last
   pub reference : standing.reference ≡ last.micros

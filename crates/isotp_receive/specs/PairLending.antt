@@ -11,4 +11,5 @@ use Rattle.isotp_receive.specs.contracts.pair.Pair.{the_row}
 
 -- once the message is given back, the pair is what the machine's step makes of it
 abbrev pub TakesLayout : ℕ → MutBor Receptions → ℕ → ℕ → Dir → Result Layout PduFault → Fml
-TakesLayout limit s line micros dir x = Rests the_row s (λ new. new ≡ both_after limit s.now line micros dir x)
+TakesLayout limit pair line micros dir reading =
+    Rests the_row pair (λ new. new ≡ both_after limit pair.now line micros dir reading)

@@ -41,7 +41,7 @@ consecutive_by no_part = 0
 -- how many of the frames are consecutive frames of d
 abbrev pub consecutive_frames_in : Dir → List Entry → ℕ
 consecutive_frames_in d [] = 0
-consecutive_frames_in d (e ∷ es) = consecutive_by (role d e) + consecutive_frames_in d es
+consecutive_frames_in d (e ∷ rest) = consecutive_by (role d e) + consecutive_frames_in d rest
 
 -- the frames strictly between two positions
 abbrev pub between : List Entry → ℕ → ℕ → List Entry
@@ -58,8 +58,8 @@ pub record IsConsecutive (T : List Entry) (d : Dir) (begun number position : ℕ
 -- of the bytes in that frame, behind the length, the others in the consecutive frames of d after it, `rx_dl - 1` in each,
 -- behind the sequence number.
 pub record AtPlaces (T : List Entry) (d : Dir) (begun : ℕ) (entry : Entry) (rx_dl : ℕ) (message : List ℕ) : Type 0 where
-  pub in_first : (x : ℕ) → x < length message → x < bytes_in_first entry.frame.bytes
-      → slice_index message x ≡ slice_index entry.frame.bytes (rx_dl - bytes_in_first entry.frame.bytes + x)
+  pub in_first : (place : ℕ) → place < length message → place < bytes_in_first entry.frame.bytes
+      → slice_index message place ≡ slice_index entry.frame.bytes (rx_dl - bytes_in_first entry.frame.bytes + place)
   pub in_consecutive : (before offset : ℕ) → offset < rx_dl - 1
       → bytes_in_first entry.frame.bytes + (before * (rx_dl - 1) + offset) < length message
       → (position : ℕ) × (carrier : Entry) × IsConsecutive T d begun (before + 1) position carrier

@@ -9,5 +9,5 @@ use Rattle.isotp_receive.specs.contracts.reception.Reception.{the_row}
 
 -- once the message is given back, the reception is what the machine's step makes of it
 abbrev pub TakesConsecutive : MutBor (Option Standing) → ℕ → ℕ → ℕ → List ℕ → Fml
-TakesConsecutive s micros sequence_number can_dl bytes =
-    Rests the_row s (λ new. new ≡ continue s.now micros (consecutive sequence_number can_dl bytes))
+TakesConsecutive reception micros sequence_number can_dl bytes =
+    Rests the_row reception (λ new. new ≡ continue reception.now micros (consecutive sequence_number can_dl bytes))

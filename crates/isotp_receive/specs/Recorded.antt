@@ -7,12 +7,12 @@ use Rattle.isotp_receive.specs.declared.messages.Recorded.{Recorded}
 
 -- a recorded frame as an entry of a trace
 abbrev pub entry_of : Recorded → Entry
-entry_of r = record { line = r.line; micros = r.micros; dir = r.dir; frame = r.frame }
+entry_of recorded = record { line = recorded.line; micros = recorded.micros; dir = recorded.dir; frame = recorded.frame }
 
 -- all of a slice
 abbrev pub entries : List Recorded → List Entry
-entries rs = map entry_of rs
+entries recorded = map entry_of recorded
 
 -- messages with their directions
 abbrev pub sent : List OwnedMessage → List Message
-sent ms = map (λ m. (m.dir, m.bytes.items)) ms
+sent messages = map (λ message. (message.dir, message.bytes.items)) messages

@@ -20,8 +20,8 @@ RecordingDeliversBehind =
 -- each message is delivered at the last of its positions
 abbrev pub RecordingDeliversAtLastPosition : Type 0
 RecordingDeliversAtLastPosition =
-    (limit : ℕ) (before T : List Entry) (M : List Message) (recording : IsRecording limit T M) (n : ℕ)
-    → messages limit (before ++ take n T) ≡ messages limit before ++ ended_within n recording.transfers
+    (limit : ℕ) (before T : List Entry) (M : List Message) (recording : IsRecording limit T M) (count : ℕ)
+    → messages limit (before ++ take count T) ≡ messages limit before ++ ended_within count recording.transfers
 
 -- it gives each message the positions of the frames that make it, and each frame that carries a message to exactly one
 abbrev pub RecordingDeliversByFrames : Type 0

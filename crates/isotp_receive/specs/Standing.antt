@@ -10,8 +10,8 @@ use Rattle.isotp_receive.specs.OnTime.{n_cr}
 -- the bytes that the consecutive frames of the direction carry
 abbrev pub carried_by : Role → List ℕ
 carried_by (consecutive sequence_number can_dl bytes) = bytes
-carried_by (single m) = []
-carried_by (first s) = []
+carried_by (single message) = []
+carried_by (first start) = []
 carried_by continue_or_wait = []
 carried_by overflow = []
 carried_by no_part = []
@@ -19,25 +19,25 @@ carried_by no_part = []
 -- and of all in the list, end to end
 abbrev pub carried : Dir → List Entry → List ℕ
 carried d [] = []
-carried d (e ∷ es) = carried_by (role d e) ++ carried d es
+carried d (e ∷ rest) = carried_by (role d e) ++ carried d rest
 
--- the time of the last of the frames that is consecutive, continue or wait, or the time t where there is none
+-- the time that N_Cr runs from after a frame of this role and time, where it ran from `earlier` before
 abbrev pub referred : Role → ℕ → ℕ → ℕ
-referred (consecutive sequence_number can_dl bytes) micros t = micros
-referred continue_or_wait micros t = micros
-referred (single m) micros t = t
-referred (first s) micros t = t
-referred overflow micros t = t
-referred no_part micros t = t
+referred (consecutive sequence_number can_dl bytes) micros earlier = micros
+referred continue_or_wait micros earlier = micros
+referred (single message) micros earlier = earlier
+referred (first start) micros earlier = earlier
+referred overflow micros earlier = earlier
+referred no_part micros earlier = earlier
 
--- the time of the reference of what comes next
+-- and after all in the list: the time of the last of them that is consecutive, continue or wait, if there is one
 abbrev pub reference : Dir → ℕ → List Entry → ℕ
-reference d t [] = t
-reference d t (e ∷ es) = reference d (referred (role d e) e.micros t) es
+reference d earlier [] = earlier
+reference d earlier (e ∷ rest) = reference d (referred (role d e) e.micros earlier) rest
 
--- the bytes of the message that a first frame and k consecutive frames of full length carry
+-- how many bytes of the message a first frame and `number` consecutive frames of full length carry
 abbrev pub carried_after : FirstFrame → ℕ → ℕ
-carried_after s k = bytes_before (length s.bytes) s.rx_dl k
+carried_after start number = bytes_before (length start.bytes) start.rx_dl number
 
 -- A consecutive frame of this length fits where `have` bytes of `len` are there. One that is not the last is
 -- as long as the first frame. The last has what is missing, and is no longer than the first frame.
@@ -46,25 +46,27 @@ fits_length len rx_dl have can_dl =
     nat_lt have len
     && (if nat_lt (have + (rx_dl - 1)) len then can_dl == rx_dl else nat_le (1 + (len - have)) can_dl && nat_le can_dl rx_dl)
 
--- The frame leaves a reception open that began with s, where `past` stands between the two.
+-- The frame leaves a reception open that began with `start`, where `past` stands between the two.
 abbrev pub keeps_by : Dir → FirstFrame → List Entry → ℕ → Role → Bool
-keeps_by d s past micros (consecutive sequence_number can_dl bytes) =
-    nat_le micros (reference d s.micros past + n_cr)
-    && (sequence_number == (consecutive_frames_in d past + 1) % 16 && fits_length s.len s.rx_dl (carried_after s (consecutive_frames_in d past)) can_dl)
-keeps_by d s past micros overflow = nat_lt 0 (consecutive_frames_in d past)
-keeps_by d s past micros (single m) = false
-keeps_by d s past micros (first f) = false
-keeps_by d s past micros continue_or_wait = true
-keeps_by d s past micros no_part = true
+keeps_by d start past micros (consecutive sequence_number can_dl bytes) =
+    nat_le micros (reference d start.micros past + n_cr)
+    && (sequence_number == (consecutive_frames_in d past + 1) % 16
+    && fits_length start.len start.rx_dl (carried_after start (consecutive_frames_in d past)) can_dl)
+keeps_by d start past micros overflow = nat_lt 0 (consecutive_frames_in d past)
+keeps_by d start past micros (single message) = false
+keeps_by d start past micros (first other) = false
+keeps_by d start past micros continue_or_wait = true
+keeps_by d start past micros no_part = true
 
 -- each of the frames does, where `past` stands before them
 abbrev pub keep : Dir → FirstFrame → List Entry → List Entry → Bool
-keep d s past [] = true
-keep d s past (e ∷ es) = keeps_by d s past e.micros (role d e) && keep d s (past ++ e ∷ []) es
+keep d start past [] = true
+keep d start past (e ∷ rest) = keeps_by d start past e.micros (role d e) && keep d start (past ++ e ∷ []) rest
 
--- a reception that began with s is open after these frames, and not complete
+-- a reception that began with `start` is open after these frames, and not complete
 abbrev pub is_open : ℕ → Dir → FirstFrame → List Entry → Bool
-is_open limit d s es = nat_le s.len limit && (nat_lt (carried_after s (consecutive_frames_in d es)) s.len && keep d s [] es)
+is_open limit d start frames =
+    nat_le start.len limit && (nat_lt (carried_after start (consecutive_frames_in d frames)) start.len && keep d start [] frames)
 
 -- what is known of a reception: line, length and CAN_DL of its first frame, how many consecutive frames it took, the
 -- bytes that have come, and the time that N_Cr runs from
@@ -76,28 +78,35 @@ pub record Standing : Type 0 where
   pub bytes : List ℕ
   pub reference : ℕ
 
--- of the one that began with s, after these frames
+-- of the one that began with `start`, after these frames
 abbrev pub standing_of : Dir → FirstFrame → List Entry → Standing
-standing_of d s es = record { line = s.line; len = s.len; rx_dl = s.rx_dl; taken = consecutive_frames_in d es; bytes = s.bytes ++ carried d es; reference = reference d s.micros es }
+standing_of d start frames = record {
+  line = start.line;
+  len = start.len;
+  rx_dl = start.rx_dl;
+  taken = consecutive_frames_in d frames;
+  bytes = start.bytes ++ carried d frames;
+  reference = reference d start.micros frames;
+}
 
 -- the one that began with a frame of this role, and is open after these frames
 abbrev pub since : ℕ → Dir → Role → List Entry → Option Standing
-since limit d (first s) es = if is_open limit d s es then Some (standing_of d s es) else None
-since limit d (single m) es = None
-since limit d (consecutive sequence_number can_dl bytes) es = None
-since limit d continue_or_wait es = None
-since limit d overflow es = None
-since limit d no_part es = None
+since limit d (first start) frames = if is_open limit d start frames then Some (standing_of d start frames) else None
+since limit d (single message) frames = None
+since limit d (consecutive sequence_number can_dl bytes) frames = None
+since limit d continue_or_wait frames = None
+since limit d overflow frames = None
+since limit d no_part frames = None
 
 -- the first of two that is there
 abbrev pub or_else : Option Standing → Option Standing → Option Standing
-or_else (Some s) o = Some s
-or_else None o = o
+or_else (Some standing) other = Some standing
+or_else None other = other
 
 -- the reception of the direction that stands after the frames
 abbrev pub stands : ℕ → Dir → List Entry → Option Standing
 stands limit d [] = None
-stands limit d (e ∷ es) = or_else (since limit d (role d e) es) (stands limit d es)
+stands limit d (e ∷ rest) = or_else (since limit d (role d e) rest) (stands limit d rest)
 
 -- the receptions of the two directions
 pub record Receptions : Type 0 where
@@ -110,5 +119,5 @@ receptions_after limit T = record { tester = stands limit Tester T; unit = stand
 
 -- the one of the direction
 abbrev pub of_direction : Receptions → Dir → Option Standing
-of_direction p Tester = p.tester
-of_direction p Unit = p.unit
+of_direction receptions Tester = receptions.tester
+of_direction receptions Unit = receptions.unit

@@ -8,4 +8,5 @@ use Rattle.isotp_receive.specs.contracts.pair.Pair.{the_row}
 
 -- once the message is given back, the pair stands after T and the frame e, where it stood after T
 abbrev pub TakesFrame : ℕ → MutBor Receptions → Entry → Fml
-TakesFrame limit s e = Rests the_row s (λ new. (T : List Entry) → s.now ≡ receptions_after limit T → new ≡ receptions_after limit (T ++ e ∷ []))
+TakesFrame limit pair e =
+    Rests the_row pair (λ new. (T : List Entry) → pair.now ≡ receptions_after limit T → new ≡ receptions_after limit (T ++ e ∷ []))

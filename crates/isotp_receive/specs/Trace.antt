@@ -16,9 +16,9 @@ pub record Entry : Type 0 where
   pub dir : Dir
   pub frame : FrameValue
 
--- at position p of T stands the frame e
+-- at the position of T stands the frame e
 abbrev pub At : List Entry → ℕ → Entry → Type 0
-At T p e = slice_get T p ≡ Some e
+At T position e = slice_get T position ≡ Some e
 
 -- a first frame: its line and its time, the length that it announces, its CAN_DL, and the bytes of the message that it carries
 pub record FirstFrame : Type 0 where
@@ -52,21 +52,21 @@ same_direction Unit Tester = false
 
 -- to the direction that sent it (ISO 15765-2, section 9.6)
 abbrev pub own_role : ℕ → ℕ → Result Layout PduFault → Role
-own_role line micros (Ok (layout.single m)) = single m
+own_role line micros (Ok (layout.single message)) = single message
 own_role line micros (Ok (layout.first len rx_dl bytes)) = first (record { line = line; micros = micros; len = len; rx_dl = rx_dl; bytes = bytes })
 own_role line micros (Ok (layout.consecutive sequence_number can_dl bytes)) = consecutive sequence_number can_dl bytes
-own_role line micros (Ok (layout.flow_control s)) = no_part
-own_role line micros (Err f) = no_part
+own_role line micros (Ok (layout.flow_control status)) = no_part
+own_role line micros (Err fault) = no_part
 
 -- to the direction that it was sent to: flow control is all that matters
 abbrev pub other_role : Result Layout PduFault → Role
 other_role (Ok (layout.flow_control Continue)) = continue_or_wait
 other_role (Ok (layout.flow_control Wait)) = continue_or_wait
 other_role (Ok (layout.flow_control Overflow)) = overflow
-other_role (Ok (layout.single m)) = no_part
+other_role (Ok (layout.single message)) = no_part
 other_role (Ok (layout.first len rx_dl bytes)) = no_part
 other_role (Ok (layout.consecutive sequence_number can_dl bytes)) = no_part
-other_role (Err f) = no_part
+other_role (Err fault) = no_part
 
 -- what the frame e is to the reception of d
 unfoldable pub role : Dir → Entry → Role

@@ -30,65 +30,69 @@ pub record EventValue : Type 0 where
   pub ended : Option Ended
   pub told : VerdictValue
 
--- what ends for this cause, where o stands for d
+-- what ends for this cause, where this stands for d, if anything does
 abbrev pub ended_as : Cause → Dir → Option Standing → Option Ended
 ended_as cause d None = None
-ended_as cause d (Some s) = Some (record { dir = d; begun_line = s.line; len = s.len; cause = cause })
+ended_as cause d (Some standing) = Some (record { dir = d; begun_line = standing.line; len = standing.len; cause = cause })
 
 -- a frame that is refused, and ends this
 abbrev pub refused : Option Ended → Reason → EventValue
-refused ended r = record { ended = ended; told = dropped r }
+refused ended reason = record { ended = ended; told = dropped reason }
 
 -- a consecutive frame of this time is on time
 abbrev pub is_on_time : Standing → ℕ → Bool
-is_on_time s micros = nat_le micros (s.reference + n_cr)
+is_on_time standing micros = nat_le micros (standing.reference + n_cr)
 
 -- the sequence number of the next consecutive frame
 abbrev pub expected : Standing → ℕ
-expected s = (s.taken + 1) % 16
+expected standing = (standing.taken + 1) % 16
 
 -- a consecutive frame of this CAN_DL is as long as the next one has to be
 abbrev pub has_length : Standing → ℕ → Bool
-has_length s can_dl = fits_length s.len s.rx_dl (length s.bytes) can_dl
+has_length standing can_dl = fits_length standing.len standing.rx_dl (length standing.bytes) can_dl
 
 -- the next consecutive frame isn't the last
 abbrev pub wants_more : Standing → Bool
-wants_more s = nat_lt (length s.bytes + (s.rx_dl - 1)) s.len
+wants_more standing = nat_lt (length standing.bytes + (standing.rx_dl - 1)) standing.len
 
--- a consecutive frame, where this stands: the first that holds of late, wrong number, wrong length; else it is stored, or the last
+-- a consecutive frame, where this stands: the first that holds of late, wrong number, wrong length; else it is stored, or
+-- the last
 abbrev pub on_consecutive : Dir → Option Standing → ℕ → ℕ → ℕ → List ℕ → EventValue
 on_consecutive d None micros sequence_number can_dl bytes = refused None reason.NextUnexpected
-on_consecutive d (Some s) micros sequence_number can_dl bytes =
-    if not (is_on_time s micros) then refused (ended_as cause.Late d (Some s)) reason.NextLate
-    else if not (sequence_number == expected s) then refused (ended_as cause.Sequence d (Some s)) (reason.NextSequence (expected s) sequence_number)
-    else if not (has_length s can_dl) then refused (ended_as cause.Length d (Some s)) reason.NextLength
-    else if wants_more s then record { ended = None; told = stored }
-    else record { ended = None; told = message (take s.len (s.bytes ++ bytes)) }
+on_consecutive d (Some standing) micros sequence_number can_dl bytes =
+    if not (is_on_time standing micros) then refused (ended_as cause.Late d (Some standing)) reason.NextLate
+    else if not (sequence_number == expected standing)
+    then refused (ended_as cause.Sequence d (Some standing)) (reason.NextSequence (expected standing) sequence_number)
+    else if not (has_length standing can_dl) then refused (ended_as cause.Length d (Some standing)) reason.NextLength
+    else if wants_more standing then record { ended = None; told = stored }
+    else record { ended = None; told = message (take standing.len (standing.bytes ++ bytes)) }
 
 -- a continue or wait frame is expected where this stands for the other direction
 abbrev pub on_continue_or_wait : Option Standing → EventValue
-on_continue_or_wait None = refused None (reason.FlowUnexpected)
-on_continue_or_wait (Some s) = record { ended = None; told = flowed }
+on_continue_or_wait None = refused None reason.FlowUnexpected
+on_continue_or_wait (Some standing) = record { ended = None; told = flowed }
 
 -- an overflow frame, where that took no consecutive frame yet, and then ends it
 abbrev pub on_overflow : Dir → Option Standing → EventValue
-on_overflow other None = refused None (reason.FlowUnexpected)
-on_overflow other (Some s) = if s.taken == 0 then record { ended = ended_as cause.Overflow other (Some s); told = flowed } else refused None reason.FlowUnexpected
+on_overflow other None = refused None reason.FlowUnexpected
+on_overflow other (Some standing) =
+    if standing.taken == 0 then record { ended = ended_as cause.Overflow other (Some standing); told = flowed }
+    else refused None reason.FlowUnexpected
 
 -- a flow control frame by its status
 abbrev pub on_flow_control : Dir → Option Standing → Status → EventValue
-on_flow_control other o Continue = on_continue_or_wait o
-on_flow_control other o Wait = on_continue_or_wait o
-on_flow_control other o Overflow = on_overflow other o
+on_flow_control other standing Continue = on_continue_or_wait standing
+on_flow_control other standing Wait = on_continue_or_wait standing
+on_flow_control other standing Overflow = on_overflow other standing
 
 -- a frame of direction d with this layout or fault, at this time, where own stands for d and others for the other direction
 abbrev pub on_layout : ℕ → Dir → Option Standing → Option Standing → ℕ → Result Layout PduFault → EventValue
-on_layout limit d own others micros (Err f) = refused None (reason.Pdu f)
-on_layout limit d own others micros (Ok (layout.single m)) = record { ended = ended_as cause.NewStart d own; told = message m }
+on_layout limit d own others micros (Err fault) = refused None (reason.Pdu fault)
+on_layout limit d own others micros (Ok (layout.single whole)) = record { ended = ended_as cause.NewStart d own; told = message whole }
 on_layout limit d own others micros (Ok (layout.first len rx_dl bytes)) =
     record { ended = ended_as cause.NewStart d own; told = if nat_le len limit then began else dropped (reason.TooLong len) }
 on_layout limit d own others micros (Ok (layout.consecutive sequence_number can_dl bytes)) = on_consecutive d own micros sequence_number can_dl bytes
-on_layout limit d own others micros (Ok (layout.flow_control s)) = on_flow_control (other_direction d) others s
+on_layout limit d own others micros (Ok (layout.flow_control status)) = on_flow_control (other_direction d) others status
 
 -- what the frame e does after the frames T
 unfoldable pub verdict : ℕ → List Entry → Entry → EventValue
@@ -96,16 +100,16 @@ verdict limit T e = on_layout limit e.dir (stands limit e.dir T) (stands limit (
 
 -- the message of a verdict, with its direction
 abbrev pub told_message : Dir → VerdictValue → List Message
-told_message d (message m) = (d, m) ∷ []
+told_message d (message bytes) = (d, bytes) ∷ []
 told_message d began = []
 told_message d stored = []
 told_message d flowed = []
-told_message d (dropped r) = []
+told_message d (dropped reason) = []
 
--- the messages that these frames deliver after the frames past
+-- the messages that these frames deliver after the frames `past`
 abbrev pub messages_after : ℕ → List Entry → List Entry → List Message
 messages_after limit past [] = []
-messages_after limit past (e ∷ es) = told_message e.dir (verdict limit past e).told ++ messages_after limit (past ++ e ∷ []) es
+messages_after limit past (e ∷ rest) = told_message e.dir (verdict limit past e).told ++ messages_after limit (past ++ e ∷ []) rest
 
 -- the messages that a trace delivers, in order
 abbrev pub messages : ℕ → List Entry → List Message

@@ -18,67 +18,88 @@ use Rattle.isotp_receive.specs.OpenReception.{IsOpenAt}
 use Rattle.isotp_receive.specs.Delivers.{Completes}
 use Rattle.isotp_receive.specs.Verdict.{EventValue, message, began, stored, flowed, refused}
 
--- after T the frame e comes, and the reception of d that is open then began at i and took k consecutive frames
+-- after T the frame e comes, and the reception of d that is open then began at `begun` and took so many consecutive frames
 abbrev pub IsOpenBefore : ℕ → List Entry → Entry → Dir → ℕ → ℕ → Type 0
-IsOpenBefore limit T e d i k = IsOpenAt limit (T ++ e ∷ []) d i k (length T)
+IsOpenBefore limit T e d begun number = IsOpenAt limit (T ++ e ∷ []) d begun number (length T)
 
 -- nothing is open for d when e comes
 abbrev pub NothingOpen : ℕ → List Entry → Entry → Dir → Type 0
-NothingOpen limit T e d = (i k : ℕ) → IsOpenBefore limit T e d i k → ⊥
+NothingOpen limit T e d = (begun number : ℕ) → IsOpenBefore limit T e d begun number → ⊥
 
--- the reception of d that the first frame s began, ended so
+-- the reception of d that this first frame began, ended so
 abbrev pub ended_by : Dir → FirstFrame → Cause → Ended
-ended_by d s c = record { dir = d; begun_line = s.line; len = s.len; cause = c }
+ended_by d start cause = record { dir = d; begun_line = start.line; len = start.len; cause = cause }
 
 -- what a new start of d ends
 abbrev pub EndsByNewStart : ℕ → List Entry → Entry → Option Ended → Type 0
 EndsByNewStart limit T e None = NothingOpen limit T e e.dir
-EndsByNewStart limit T e (Some x) = (i : ℕ) × (k : ℕ) × (o : IsOpenBefore limit T e e.dir i k) × (x ≡ ended_by e.dir o.start cause.NewStart)
+EndsByNewStart limit T e (Some ended) =
+    (begun : ℕ) × (number : ℕ) × (reception : IsOpenBefore limit T e e.dir begun number)
+    × (ended ≡ ended_by e.dir reception.start cause.NewStart)
 
--- the consecutive frame e, of a reception that began at i, is on time
+-- the consecutive frame e, of a reception that began at `begun`, is on time
 abbrev pub ComesOnTime : ℕ → List Entry → Entry → ℕ → Type 0
-ComesOnTime limit T e i = IsOnTime (T ++ e ∷ []) e.dir i (length T) e
+ComesOnTime limit T e begun = IsOnTime (T ++ e ∷ []) e.dir begun (length T) e
 
 -- and it fits as the next one of the reception that is open
-abbrev pub FitsNext : (limit : ℕ) (T : List Entry) (e : Entry) (i k sequence_number can_dl : ℕ) → IsOpenBefore limit T e e.dir i k → Type 0
-FitsNext limit T e i k sequence_number can_dl o = FitsAs (bytes_in_first o.frame.frame.bytes) o.start.rx_dl o.start.len o.n (k + 1) sequence_number can_dl
+abbrev pub FitsNext :
+    (limit : ℕ) (T : List Entry) (e : Entry) (begun number sequence_number can_dl : ℕ) → IsOpenBefore limit T e e.dir begun number → Type 0
+FitsNext limit T e begun number sequence_number can_dl reception =
+    FitsAs (bytes_in_first reception.frame.frame.bytes) reception.start.rx_dl reception.start.len
+    reception.count (number + 1) sequence_number can_dl
 
 -- the verdict on the frame e after the frames T
 pub data HasVerdict (limit : ℕ) (T : List Entry) (e : Entry) : EventValue → Type 0 where
   -- a frame without a layout
-  no_layout : (f : PduFault) → layout_of e.frame ≡ Err f → HasVerdict limit T e (refused None (reason.Pdu f))
+  no_layout : (fault : PduFault) → layout_of e.frame ≡ Err fault → HasVerdict limit T e (refused None (reason.Pdu fault))
   -- a single frame
-  single_frame : (m : List ℕ) (x : Option Ended) → layout_of e.frame ≡ Ok (layout.single m) → EndsByNewStart limit T e x
-      → HasVerdict limit T e (record { ended = x; told = message m })
+  single_frame : (whole : List ℕ) (ended : Option Ended) → layout_of e.frame ≡ Ok (layout.single whole) → EndsByNewStart limit T e ended
+      → HasVerdict limit T e (record { ended = ended; told = message whole })
   -- a first frame that announces at most the limit, and one that announces more
-  first_frame : (len rx_dl : ℕ) (bytes : List ℕ) (x : Option Ended) → layout_of e.frame ≡ Ok (layout.first len rx_dl bytes) → len ≤ limit
-      → EndsByNewStart limit T e x → HasVerdict limit T e (record { ended = x; told = began })
-  too_long : (len rx_dl : ℕ) (bytes : List ℕ) (x : Option Ended) → layout_of e.frame ≡ Ok (layout.first len rx_dl bytes) → limit < len
-      → EndsByNewStart limit T e x → HasVerdict limit T e (refused x (reason.TooLong len))
+  first_frame : (len rx_dl : ℕ) (bytes : List ℕ) (ended : Option Ended) → layout_of e.frame ≡ Ok (layout.first len rx_dl bytes)
+      → len ≤ limit → EndsByNewStart limit T e ended
+      → HasVerdict limit T e (record { ended = ended; told = began })
+  too_long : (len rx_dl : ℕ) (bytes : List ℕ) (ended : Option Ended) → layout_of e.frame ≡ Ok (layout.first len rx_dl bytes)
+      → limit < len → EndsByNewStart limit T e ended
+      → HasVerdict limit T e (refused ended (reason.TooLong len))
   -- a consecutive frame where nothing is open, and where a reception is: late, of a wrong number, of a wrong length,
   -- stored, and the last
-  next_unexpected : (sequence_number can_dl : ℕ) (bytes : List ℕ) → layout_of e.frame ≡ Ok (layout.consecutive sequence_number can_dl bytes)
-      → NothingOpen limit T e e.dir → HasVerdict limit T e (refused None reason.NextUnexpected)
-  next_late : (sequence_number can_dl : ℕ) (bytes : List ℕ) (i k : ℕ) → layout_of e.frame ≡ Ok (layout.consecutive sequence_number can_dl bytes)
-      → (o : IsOpenBefore limit T e e.dir i k) → (ComesOnTime limit T e i → ⊥)
-      → HasVerdict limit T e (refused (Some (ended_by e.dir o.start cause.Late)) reason.NextLate)
-  wrong_number : (sequence_number can_dl : ℕ) (bytes : List ℕ) (i k : ℕ) → layout_of e.frame ≡ Ok (layout.consecutive sequence_number can_dl bytes)
-      → (o : IsOpenBefore limit T e e.dir i k) → ComesOnTime limit T e i → sequence_number ≢ (k + 1) % 16
-      → HasVerdict limit T e (refused (Some (ended_by e.dir o.start cause.Sequence)) (reason.NextSequence ((k + 1) % 16) sequence_number))
-  wrong_length : (sequence_number can_dl : ℕ) (bytes : List ℕ) (i k : ℕ) → layout_of e.frame ≡ Ok (layout.consecutive sequence_number can_dl bytes)
-      → (o : IsOpenBefore limit T e e.dir i k) → ComesOnTime limit T e i → sequence_number ≡ (k + 1) % 16 → (FitsNext limit T e i k sequence_number can_dl o → ⊥)
-      → HasVerdict limit T e (refused (Some (ended_by e.dir o.start cause.Length)) reason.NextLength)
-  stored_frame : (sequence_number can_dl : ℕ) (bytes : List ℕ) (i k : ℕ) → layout_of e.frame ≡ Ok (layout.consecutive sequence_number can_dl bytes)
-      → (o : IsOpenBefore limit T e e.dir i k) → ComesOnTime limit T e i → FitsNext limit T e i k sequence_number can_dl o → k + 1 < o.n
+  next_unexpected : (sequence_number can_dl : ℕ) (bytes : List ℕ)
+      → layout_of e.frame ≡ Ok (layout.consecutive sequence_number can_dl bytes) → NothingOpen limit T e e.dir
+      → HasVerdict limit T e (refused None reason.NextUnexpected)
+  next_late : (sequence_number can_dl : ℕ) (bytes : List ℕ) (begun number : ℕ)
+      → layout_of e.frame ≡ Ok (layout.consecutive sequence_number can_dl bytes)
+      → (reception : IsOpenBefore limit T e e.dir begun number) → (ComesOnTime limit T e begun → ⊥)
+      → HasVerdict limit T e (refused (Some (ended_by e.dir reception.start cause.Late)) reason.NextLate)
+  wrong_number : (sequence_number can_dl : ℕ) (bytes : List ℕ) (begun number : ℕ)
+      → layout_of e.frame ≡ Ok (layout.consecutive sequence_number can_dl bytes)
+      → (reception : IsOpenBefore limit T e e.dir begun number) → ComesOnTime limit T e begun → sequence_number ≢ (number + 1) % 16
+      → HasVerdict limit T e
+      (refused (Some (ended_by e.dir reception.start cause.Sequence)) (reason.NextSequence ((number + 1) % 16) sequence_number))
+  wrong_length : (sequence_number can_dl : ℕ) (bytes : List ℕ) (begun number : ℕ)
+      → layout_of e.frame ≡ Ok (layout.consecutive sequence_number can_dl bytes)
+      → (reception : IsOpenBefore limit T e e.dir begun number) → ComesOnTime limit T e begun → sequence_number ≡ (number + 1) % 16
+      → (FitsNext limit T e begun number sequence_number can_dl reception → ⊥)
+      → HasVerdict limit T e (refused (Some (ended_by e.dir reception.start cause.Length)) reason.NextLength)
+  stored_frame : (sequence_number can_dl : ℕ) (bytes : List ℕ) (begun number : ℕ)
+      → layout_of e.frame ≡ Ok (layout.consecutive sequence_number can_dl bytes)
+      → (reception : IsOpenBefore limit T e e.dir begun number) → ComesOnTime limit T e begun
+      → FitsNext limit T e begun number sequence_number can_dl reception → number + 1 < reception.count
       → HasVerdict limit T e (record { ended = None; told = stored })
-  last_frame : (m : List ℕ) → Completes limit (T ++ e ∷ []) (length T) e.dir m → HasVerdict limit T e (record { ended = None; told = message m })
+  last_frame : (whole : List ℕ) → Completes limit (T ++ e ∷ []) (length T) e.dir whole
+      → HasVerdict limit T e (record { ended = None; told = message whole })
   -- flow control where nothing is open for the other direction, and where a reception is: continue or wait, overflow
   -- before its first consecutive frame, and overflow later
-  flow_unexpected : (s : Status) → layout_of e.frame ≡ Ok (layout.flow_control s) → NothingOpen limit T e (other_direction e.dir)
+  flow_unexpected : (status : Status) → layout_of e.frame ≡ Ok (layout.flow_control status)
+      → NothingOpen limit T e (other_direction e.dir)
       → HasVerdict limit T e (refused None reason.FlowUnexpected)
-  flow : (s : Status) (i k : ℕ) → layout_of e.frame ≡ Ok (layout.flow_control s) → s ≢ Overflow → IsOpenBefore limit T e (other_direction e.dir) i k
+  flow : (status : Status) (begun number : ℕ) → layout_of e.frame ≡ Ok (layout.flow_control status) → status ≢ Overflow
+      → IsOpenBefore limit T e (other_direction e.dir) begun number
       → HasVerdict limit T e (record { ended = None; told = flowed })
-  overflow_in_time : (i : ℕ) → layout_of e.frame ≡ Ok (layout.flow_control Overflow) → (o : IsOpenBefore limit T e (other_direction e.dir) i 0)
-      → HasVerdict limit T e (record { ended = Some (ended_by (other_direction e.dir) o.start cause.Overflow); told = flowed })
-  overflow_too_late : (i k : ℕ) → layout_of e.frame ≡ Ok (layout.flow_control Overflow) → IsOpenBefore limit T e (other_direction e.dir) i k → 0 < k
+  overflow_in_time : (begun : ℕ) → layout_of e.frame ≡ Ok (layout.flow_control Overflow)
+      → (reception : IsOpenBefore limit T e (other_direction e.dir) begun 0)
+      → HasVerdict limit T e
+      (record { ended = Some (ended_by (other_direction e.dir) reception.start cause.Overflow); told = flowed })
+  overflow_too_late : (begun number : ℕ) → layout_of e.frame ≡ Ok (layout.flow_control Overflow)
+      → IsOpenBefore limit T e (other_direction e.dir) begun number → 0 < number
       → HasVerdict limit T e (refused None reason.FlowUnexpected)

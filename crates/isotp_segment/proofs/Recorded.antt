@@ -136,7 +136,7 @@ module _ (identifier : Dir → Id) (line micros limit : ℕ) (bits : limit < 2 ^
             stands = at-first (omega arith);
             kind = starts.0;
             announces = refl;
-            count = rw (held, count) (count-least (length m) (omega arith));
+            least = rw (held, count) (count-least (length m) (omega arith));
             consecutive_frames = rw (held, count) (parts-from (consecutive_count (length m)) 1 (n + 2) (omega arith) (omega arith) (omega arith));
             holds = λ x inside. (let h = held in first-holds m x _ low (omega arith) (ap (λ j. 8 - j + x) h));
           }
