@@ -18,30 +18,41 @@ placed_bytes n byte = map byte (range_with_len 0 n)
 
 get_or-padded : (bytes : List ℕ) (n i : ℕ) → i < n → get_or (bytes ++ replicate n padding) i 0 ≡ byte_at bytes i
 get_or-padded bytes n i below = elim (cases_Bool (nat_lt i (length bytes))) [
-  | inl t ↦ (let inside = ltb-true i (length bytes) t in get_or_append_left bytes (replicate n padding) 0 i inside ∙ get_or_default bytes i 0 padding inside)
-  | inr t ↦ (let past = ltb-false i (length bytes) t in
-      get_or-append_right bytes (replicate n padding) i 0 past ∙ get_or-replicate n (i - length bytes) padding 0 (omega arith) ∙ sym (get_or_past bytes i padding past))
+  | inl t ↦
+      (let inside = ltb-true i (length bytes) t in
+      get_or_append_left bytes (replicate n padding) 0 i inside ∙ get_or_default bytes i 0 padding inside)
+  | inr t ↦
+      (let past = ltb-false i (length bytes) t in
+      get_or-append_right bytes (replicate n padding) i 0 past
+      ∙ get_or-replicate n (i - length bytes) padding 0 (omega arith)
+      ∙ sym (get_or_past bytes i padding past))
 ]
 
 take-padded : (n : ℕ) (bytes : List ℕ) → take n (bytes ++ replicate n padding) ≡ placed_bytes n (byte_at bytes)
 take-padded n bytes =
-    let size : length (take n (bytes ++ replicate n padding)) ≡ n = omega (arith, length-take n (bytes ++ replicate n padding), length-append bytes (replicate n padding), length-replicate n padding) in
+    let padded = bytes ++ replicate n padding in
+    let size : length (take n padded) ≡ n =
+    omega (arith, length-take n padded, length-append bytes (replicate n padding), length-replicate n padding) in
     ext_get_or 0 _ _ (omega (arith, size, length-map-range_with_len (byte_at bytes) 0 n)) (λ i below.
     let inside : i < n = omega (arith, size) in
-    get_or-take n (bytes ++ replicate n padding) i 0 inside ∙ get_or-padded bytes n i inside ∙ sym (get_or-map-range_with_len (byte_at bytes) 0 n i i 0 inside (omega arith)))
+    get_or-take n padded i 0 inside
+    ∙ get_or-padded bytes n i inside
+    ∙ sym (get_or-map-range_with_len (byte_at bytes) 0 n i i 0 inside (omega arith)))
 
 pub filled_by_place : (control bytes : List ℕ) → filled control bytes ≡ placed_bytes 8 (byte_at (control ++ bytes))
 unfolding filled
 filled_by_place control bytes = ap (take 8) (sym (append_assoc control bytes (replicate 8 padding))) ∙ take-padded 8 (control ++ bytes)
 
 -- a byte of the message that has room in the frame stands behind the control information
-pub filled-holds : (control bytes : List ℕ) (x i : ℕ) → x < length bytes → i ≡ length control + x → i < 8 → slice_index bytes x ≡ slice_index (filled control bytes) i
-filled-holds control bytes x i inside is room =
-    get_or_default bytes x 0 padding inside
-    ∙ sym (get_or-append-add control bytes x padding)
+pub filled-holds : (control bytes : List ℕ) (place i : ℕ) → place < length bytes → i ≡ length control + place → i < 8
+    → slice_index bytes place ≡ slice_index (filled control bytes) i
+filled-holds control bytes place i inside is room =
+    get_or_default bytes place 0 padding inside
+    ∙ sym (get_or-append-add control bytes place padding)
     ∙ ap (byte_at (control ++ bytes)) (sym is)
     ∙ sym (get_or-map-range_with_len (byte_at (control ++ bytes)) 0 8 i i 0 room (omega arith))
     ∙ ap (λ l. get_or l i 0) (sym (filled_by_place control bytes))
 
 pub length-filled : (control bytes : List ℕ) → length (filled control bytes) ≡ 8
-length-filled control bytes = ap (length {A = ℕ}) (filled_by_place control bytes) ∙ length-map-range_with_len (byte_at (control ++ bytes)) 0 8
+length-filled control bytes =
+    ap (length {A = ℕ}) (filled_by_place control bytes) ∙ length-map-range_with_len (byte_at (control ++ bytes)) 0 8

@@ -11,7 +11,8 @@ use Rattle.isotp_segment.proofs.Lists.{drop-map-range, drop-map-range-end}
 
 -- a message that has frames
 pub frames_of : (limit : ℕ) (direction : Dir) (message : List ℕ) → 1 ≤ length message → length message ≤ limit
-    → canonical_frames limit direction message ≡ map (canonical_frame direction message) (range_with_len 0 (total_count (length message)))
+    → canonical_frames limit direction message
+    ≡ map (canonical_frame direction message) (range_with_len 0 (total_count (length message)))
 unfolding canonical_frames
 frames_of limit direction message some high =
     let fits : (nat_le 1 (length message) && nat_le (length message) limit) ≡ true = and_from _ _ (le-leb _ _ some) (le-leb _ _ high) in
@@ -23,13 +24,16 @@ length-canonical_frames limit direction message some high =
     ap (length {A = Dir × List ℕ}) (frames_of limit direction message some high)
     ∙ length-map-range_with_len (canonical_frame direction message) 0 (total_count (length message))
 
-pub drop_canonical_frames : (limit : ℕ) (direction : Dir) (message : List ℕ) (number : ℕ) → number < total_count (length message) → 1 ≤ length message → length message ≤ limit
-    → drop number (canonical_frames limit direction message) ≡ canonical_frame direction message number ∷ drop (number + 1) (canonical_frames limit direction message)
+pub drop_canonical_frames : (limit : ℕ) (direction : Dir) (message : List ℕ) (number : ℕ)
+    → number < total_count (length message) → 1 ≤ length message → length message ≤ limit
+    → drop number (canonical_frames limit direction message)
+    ≡ canonical_frame direction message number ∷ drop (number + 1) (canonical_frames limit direction message)
 drop_canonical_frames limit direction message number below some high =
     let whole = frames_of limit direction message some high in
     rw whole (drop-map-range (canonical_frame direction message) (total_count (length message)) number below)
 
-pub drop_at_end : (limit : ℕ) (direction : Dir) (message : List ℕ) (number : ℕ) → total_count (length message) ≤ number → 1 ≤ length message → length message ≤ limit
+pub drop_at_end : (limit : ℕ) (direction : Dir) (message : List ℕ) (number : ℕ)
+    → total_count (length message) ≤ number → 1 ≤ length message → length message ≤ limit
     → drop number (canonical_frames limit direction message) ≡ []
 drop_at_end limit direction message number above some high =
     let whole = frames_of limit direction message some high in
@@ -65,7 +69,8 @@ unfolding canonical_frame
 frame-continue direction message long = (let more = lt-leb (length message) 7 long in rw more refl)
 
 pub frame-consecutive : (direction : Dir) (message : List ℕ) (number : ℕ) → 7 < length message → 1 ≤ number
-    → canonical_frame direction message (1 + number) ≡ (direction, filled (consecutive_control number) (drop (place_of (length message) number) message))
+    → canonical_frame direction message (1 + number)
+    ≡ (direction, filled (consecutive_control number) (drop (place_of (length message) number) message))
 unfolding canonical_frame
 frame-consecutive direction message number long one =
     let more = lt-leb (length message) 7 long in

@@ -18,7 +18,8 @@ abbrev pub classic : Id → List ℕ → FrameValue
 classic id bytes = record { id = id; kind = Classic; bytes = bytes }
 
 -- a frame of 8 bytes that spells the layout is read so
-reads : (id : Id) (control bytes : List ℕ) (layout : Layout) → Spells (filled control bytes) layout → layout_of (classic id (filled control bytes)) ≡ Ok layout
+reads : (id : Id) (control bytes : List ℕ) (layout : Layout) → Spells (filled control bytes) layout
+    → layout_of (classic id (filled control bytes)) ≡ Ok layout
 reads id control bytes layout spelled = (layout_is_read (classic id (filled control bytes)) layout).0 (record {
   data_frame = data_frame;
   frame_length = rw (length-filled control bytes) refl;
@@ -27,9 +28,16 @@ reads id control bytes layout spelled = (layout_is_read (classic id (filled cont
   data_frame : Classic ≢ Remote
   data_frame e = cc
 
-pub layout-single : (id : Id) (m : List ℕ) → 1 ≤ length m → length m ≤ 7 → layout_of (classic id (filled (single_control (length m)) m)) ≡ Ok (single m)
-layout-single id m some short = reads id (single_control (length m)) m (single m)
-    (replicate (8 - 1 - length m) padding, some, inl (omega (arith, length-filled (single_control (length m)) m), sym (filled-padded (single_control (length m)) m (omega arith) (omega arith))))
+pub layout-single : (id : Id) (message : List ℕ) → 1 ≤ length message → length message ≤ 7
+    → layout_of (classic id (filled (single_control (length message)) message)) ≡ Ok (single message)
+layout-single id message some short = reads id (single_control (length message)) message (single message) (
+  replicate (8 - 1 - length message) padding,
+  some,
+  inl (
+    omega (arith, length-filled (single_control (length message)) message),
+    sym (filled-padded (single_control (length message)) message (omega arith) (omega arith)),
+  ),
+)
 
 short_control : ℕ → List ℕ
 short_control len = first_byte 1 (len / 2 ^ 8) ∷ (len % 256) ∷ []
@@ -37,30 +45,34 @@ short_control len = first_byte 1 (len / 2 ^ 8) ∷ (len % 256) ∷ []
 escaped_control : ℕ → List ℕ
 escaped_control len = first_byte 1 0 ∷ 0 ∷ (len / 2 ^ 24) ∷ (len / 2 ^ 16 % 256) ∷ (len / 2 ^ 8 % 256) ∷ (len % 256) ∷ []
 
-first_short : (id : Id) (m : List ℕ) → 8 ≤ length m → length m ≤ 4095 → layout_of (classic id (filled (short_control (length m)) m)) ≡ Ok (first (length m) 8 (take 6 m))
+first_short : (id : Id) (message : List ℕ) → 8 ≤ length message → length message ≤ 4095
+    → layout_of (classic id (filled (short_control (length message)) message)) ≡ Ok (first (length message) 8 (take 6 message))
 unfolding short_control
-first_short id m low high =
-    let size = length-filled (short_control (length m)) m in
-    let least : least_first (length (filled (short_control (length m)) m)) ≡ 8 = ap least_first size in
-    reads id (short_control (length m)) m (first (length m) 8 (take 6 m))
-    (refl, sym size, inl (omega arith, high, sym (filled-whole (short_control (length m)) m (omega arith) (omega arith))))
+first_short id message low high =
+    let size = length-filled (short_control (length message)) message in
+    let least : least_first (length (filled (short_control (length message)) message)) ≡ 8 = ap least_first size in
+    reads id (short_control (length message)) message (first (length message) 8 (take 6 message))
+    (refl, sym size, inl (omega arith, high, sym (filled-whole (short_control (length message)) message (omega arith) (omega arith))))
 
-first_escaped : (id : Id) (m : List ℕ) → 4095 < length m → length m < 2 ^ 32 → layout_of (classic id (filled (escaped_control (length m)) m)) ≡ Ok (first (length m) 8 (take 2 m))
+first_escaped : (id : Id) (message : List ℕ) → 4095 < length message → length message < 2 ^ 32
+    → layout_of (classic id (filled (escaped_control (length message)) message)) ≡ Ok (first (length message) 8 (take 2 message))
 unfolding escaped_control
-first_escaped id m low high =
-    let size = length-filled (escaped_control (length m)) m in
-    reads id (escaped_control (length m)) m (first (length m) 8 (take 2 m))
-    (refl, sym size, inr (low, high, sym (filled-whole (escaped_control (length m)) m (omega arith) (omega arith))))
+first_escaped id message low high =
+    let size = length-filled (escaped_control (length message)) message in
+    reads id (escaped_control (length message)) message (first (length message) 8 (take 2 message))
+    (refl, sym size, inr (low, high, sym (filled-whole (escaped_control (length message)) message (omega arith) (omega arith))))
 
-pub layout-first : (id : Id) (m : List ℕ) → 8 ≤ length m → length m < 2 ^ 32
-    → layout_of (classic id (filled (first_control (length m)) m)) ≡ Ok (first (length m) 8 (take (room_in_first (length m)) m))
+pub layout-first : (id : Id) (message : List ℕ) → 8 ≤ length message → length message < 2 ^ 32
+    → layout_of (classic id (filled (first_control (length message)) message))
+    ≡ Ok (first (length message) 8 (take (room_in_first (length message)) message))
 unfolding short_control escaped_control
-layout-first id m low high = elim (cases_Bool (nat_le (length m) 4095)) [
-  | inl t ↦ rw t (first_short id m low (leb-true (length m) 4095 t))
-  | inr t ↦ rw t (first_escaped id m (leb-false (length m) 4095 t) high)
+layout-first id message low high = elim (cases_Bool (nat_le (length message) 4095)) [
+  | inl t ↦ rw t (first_short id message low (leb-true (length message) 4095 t))
+  | inr t ↦ rw t (first_escaped id message (leb-false (length message) 4095 t) high)
 ]
 
-pub layout-consecutive : (id : Id) (number : ℕ) (bytes : List ℕ) → layout_of (classic id (filled (consecutive_control number) bytes))
+pub layout-consecutive : (id : Id) (number : ℕ) (bytes : List ℕ)
+    → layout_of (classic id (filled (consecutive_control number) bytes))
     ≡ Ok (consecutive (number % 16) 8 (drop 1 (filled (consecutive_control number) bytes)))
 layout-consecutive id number bytes = reads id (consecutive_control number) bytes _
     (omega arith, sym (length-filled (consecutive_control number) bytes), rw (filled_by_place (consecutive_control number) bytes) refl)

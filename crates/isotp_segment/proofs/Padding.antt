@@ -1,15 +1,11 @@
 -- The 8 bytes of a frame, as they are copied into it.
-use Rattle.std.proofs.Common.{◌≡◌, ℕ, ◌+◌, ◌-◌, ◌≤◌, List, ◌++◌, length, take, drop, sym, ◌∙◌, ap, arith}
+use Rattle.std.proofs.Common.{◌≡◌, ℕ, ◌-◌, ◌≤◌, List, ◌++◌, length, take, drop, refl, sym, ◌∙◌, ap, arith}
 use Rattle.std.specs.Prelude.{replicate}
-use Rattle.std.proofs.Math.Seq.{take-append-add, take-append_seam, drop-append_seam}
+use Rattle.std.proofs.Math.Seq.{take-append_seam, drop-append_seam}
 use Rattle.std.proofs.lemmas.List.{append-nil, take-append-le, drop-replicate, take-replicate}
+use Rattle.isotp_receive.proofs.Fronts.{take_over}
 use Rattle.isotp_segment.specs.CanonicalFrames.{filled, padding}
 use borrow.Rule.Slice.PartMut.{put_mid}
-
-take-append-from : (n : ℕ) (xs ys : List ℕ) → length xs ≤ n → take n (xs ++ ys) ≡ xs ++ take (n - length xs) ys
-take-append-from n xs ys le =
-    let sum : n ≡ length xs + (n - length xs) = omega arith in
-    ap (λ k. take k (xs ++ ys)) sum ∙ take-append-add xs ys (n - length xs)
 
 -- the bytes leave no room for padding
 pub filled-whole : (control bytes : List ℕ) → length control ≤ 8 → 8 - length control ≤ length bytes
@@ -17,7 +13,7 @@ pub filled-whole : (control bytes : List ℕ) → length control ≤ 8 → 8 - l
 unfolding filled
 filled-whole control bytes fits long =
     ap (λ l. control ++ l) (sym (take-append-le (8 - length control) bytes (replicate 8 padding) long))
-    ∙ sym (take-append-from 8 control (bytes ++ replicate 8 padding) fits)
+    ∙ take_over control (bytes ++ replicate 8 padding) 8 fits
 
 -- they do
 pub filled-padded : (control bytes : List ℕ) → length control ≤ 8 → length bytes ≤ 8 - length control
@@ -25,15 +21,15 @@ pub filled-padded : (control bytes : List ℕ) → length control ≤ 8 → leng
 unfolding filled
 filled-padded control bytes fits short =
     ap (λ l. control ++ (bytes ++ l)) (sym (take-replicate (8 - length control - length bytes) 8 padding (omega arith)))
-    ∙ ap (λ l. control ++ l) (sym (take-append-from (8 - length control) bytes (replicate 8 padding) short))
-    ∙ sym (take-append-from 8 control (bytes ++ replicate 8 padding) fits)
+    ∙ ap (λ l. control ++ l) (take_over bytes (replicate 8 padding) (8 - length control) short)
+    ∙ take_over control (bytes ++ replicate 8 padding) 8 fits
 
 -- bytes that are written into a frame of padding, behind its control information
 put_mid-behind : (control bytes : List ℕ) (size : ℕ)
     → put_mid (length control) size (control ++ drop (length control) (replicate 8 padding)) bytes
     ≡ control ++ (bytes ++ replicate (8 - length control - size) padding)
 put_mid-behind control bytes size =
-    rw (take-append_seam, drop-append_seam, drop-replicate, drop-replicate) (ap (λ n. control ++ (bytes ++ replicate n padding)) (let e : 8 - length control - size ≡ 8 - length control - size = omega arith in e))
+    rw (take-append_seam, drop-append_seam, drop-replicate, drop-replicate) refl
 
 pub put_mid-whole : (control bytes written copied : List ℕ) → length control ≤ 8 → 8 - length control ≤ length bytes
     → written ≡ control → copied ≡ take (8 - length control) bytes

@@ -1,15 +1,21 @@
 -- The proofs of the public laws, each under the name of its statement in specs/, for the crates above to cite. Nothing
 -- else of proofs/ is for them.
-use Rattle.isotp_segment.specs.Laws.{CanonicalFramesAreARecording, SegmentsDeliver, SegmentsDeliverNothingBefore}
-pub use Rattle.isotp_segment.proofs.Positions.{count-least as consecutive_count_is_least}
+use Rattle.isotp_segment.specs.Laws.{CanonicalFramesAreARecording, CanonicalFramesAreClean, SegmentsDeliver, SegmentsDeliverNothingBefore}
+pub use Rattle.isotp_segment.proofs.Counts.{count-least as consecutive_count_is_least}
 pub use Rattle.isotp_segment.proofs.FullFrames.{canonical_frames_are_full, short_message_is_one_frame}
-use Rattle.isotp_segment.proofs.Recorded.{frames-recording, frames-deliver, front-delivers}
+use Rattle.isotp_segment.proofs.Recorded.{frames-recording}
+use Rattle.isotp_segment.proofs.CleanFrames.{frames-clean}
+use Rattle.isotp_segment.proofs.DeliveredMessage.{frames-deliver, front-delivers}
 
 pub canonical_frames_are_a_recording : CanonicalFramesAreARecording
 canonical_frames_are_a_recording limit identifier line micros M bits sizes = frames-recording identifier line micros limit bits M sizes
+
+pub canonical_frames_are_clean : CanonicalFramesAreClean
+canonical_frames_are_clean limit identifier line micros M bits sizes = frames-clean identifier line micros limit bits M sizes
 
 pub segments_deliver : SegmentsDeliver
 segments_deliver = frames-deliver
 
 pub segments_deliver_nothing_before : SegmentsDeliverNothingBefore
-segments_deliver_nothing_before limit identifier line micros T d m n bits some fits below = front-delivers limit identifier line micros T d m bits some fits n below
+segments_deliver_nothing_before limit identifier line micros T d m n bits some fits below =
+    front-delivers limit identifier line micros T d m bits some fits n below

@@ -1,5 +1,5 @@
 -- Canonical frames as the entries of a trace: which stands at which position, and what it is to the receptions.
-use Rattle.std.proofs.Common.{◌≡◌, ℕ, zero, suc, ◌+◌, ◌*◌, ◌<◌, ◌≤◌, true, false, List, [], ◌∷◌, ◌++◌, length, take, Some, Result, refl, ◌∙◌, ap, arith, subst}
+use Rattle.std.proofs.Common.{◌≡◌, ℕ, zero, suc, ◌+◌, ◌*◌, ◌<◌, ◌≤◌, true, false, List, [], ◌∷◌, ◌++◌, length, take, Some, Result, refl, ◌∙◌, ap, arith}
 use Rattle.std.specs.Prelude.{slice_get}
 use Rattle.std.proofs.lemmas.Option.{slice_get-get_or}
 use Rattle.std.proofs.lemmas.List.FromFn.{get_or-map-range_with_len}
@@ -11,11 +11,12 @@ use Rattle.isotp_pdu.specs.declared.PduFault.{PduFault}
 use Rattle.isotp_pdu.specs.Layout.{Layout}
 use Rattle.isotp_pdu.specs.Reading.{layout_of}
 use Rattle.isotp_receive.specs.Trace.{Entry, At, role, own_role, other_role, same_direction}
+use Rattle.isotp_receive.proofs.ListPositions.{get-left}
 use Rattle.isotp_segment.specs.CanonicalFrames.{total_count, canonical_frame, canonical_frames}
 use Rattle.isotp_segment.specs.Timed.{timed}
+use Rattle.isotp_segment.proofs.Lists.{get-later}
 use Rattle.isotp_segment.proofs.Frames.{frames_of, length-canonical_frames}
 use Rattle.isotp_segment.proofs.Layouts.{classic}
-use Rattle.isotp_segment.proofs.Lists.{get-within, get-later}
 
 -- a direction is itself, and not the other one
 self : (d : Dir) → same_direction d d ≡ true
@@ -26,70 +27,87 @@ not-other : (d : Dir) → same_direction d (other_direction d) ≡ false
 not-other Tester = refl
 not-other Unit = refl
 
-canonical_frames-at : (limit : ℕ) (d : Dir) (m : List ℕ) (j : ℕ) → 1 ≤ length m → length m ≤ limit → j < total_count (length m)
-    → slice_get (canonical_frames limit d m) j ≡ Some (canonical_frame d m j)
-canonical_frames-at limit d m j some fits below =
-    let size = length-canonical_frames limit d m some fits in
-    slice_get-get_or (canonical_frames limit d m) j (canonical_frame d m j) (omega arith)
-    ∙ ap Some (rw (frames_of limit d m some fits) (get_or-map-range_with_len (canonical_frame d m) 0 (total_count (length m)) j j (canonical_frame d m j) below (omega arith)))
+canonical_frames-at : (limit : ℕ) (d : Dir) (message : List ℕ) (number : ℕ) → 1 ≤ length message → length message ≤ limit
+    → number < total_count (length message) → slice_get (canonical_frames limit d message) number ≡ Some (canonical_frame d message number)
+canonical_frames-at limit d message number some fits below =
+    let size = length-canonical_frames limit d message some fits in
+    let frame = canonical_frame d message number in
+    slice_get-get_or (canonical_frames limit d message) number frame (omega arith)
+    ∙ ap Some (rw (frames_of limit d message some fits)
+    (get_or-map-range_with_len (canonical_frame d message) 0 (total_count (length message)) number number frame below (omega arith)))
 
-module _ (identifier : Dir → Id) (line micros : ℕ) where
-  -- frame number n of the trace
-  abbrev pub entry : ℕ → Dir × List ℕ → Entry
-  entry n frame = record { line = line + n; micros = micros + n * 1000; dir = frame.0; frame = classic (identifier frame.0) frame.1 }
+-- frame number n of a trace that begins in this line and at this time
+abbrev pub entry : (Dir → Id) → ℕ → ℕ → ℕ → Dir × List ℕ → Entry
+entry identifier line micros n frame = record {
+  line = line + n;
+  micros = micros + n * 1000;
+  dir = frame.0;
+  frame = classic (identifier frame.0) frame.1;
+}
 
-  -- the frames from number n on
-  abbrev pub from_number : ℕ → List (Dir × List ℕ) → List Entry
-  from_number n frames = timed identifier (line + n) (micros + n * 1000) frames
-
-  pub role-own : (d : Dir) (n : ℕ) (bytes : List ℕ) (r : Result Layout PduFault) → layout_of (classic (identifier d) bytes) ≡ r
-      → role d (entry n (d, bytes)) ≡ own_role (line + n) (micros + n * 1000) r
+-- what it is to the direction that sent it, and to the other one
+module _ (identifier : Dir → Id) (line micros : ℕ) (d : Dir) (n : ℕ) (bytes : List ℕ) (r : Result Layout PduFault) where
+  pub role-own : layout_of (classic (identifier d) bytes) ≡ r
+      → role d (entry identifier line micros n (d, bytes)) ≡ own_role (line + n) (micros + n * 1000) r
   unfolding role
-  role-own d n bytes r h = rw (self d, h) refl
+  role-own is = rw (self d, is) refl
 
-  pub role-other : (d : Dir) (n : ℕ) (bytes : List ℕ) (r : Result Layout PduFault) → layout_of (classic (identifier (other_direction d)) bytes) ≡ r
-      → role d (entry n (other_direction d, bytes)) ≡ other_role r
+  pub role-other : layout_of (classic (identifier (other_direction d)) bytes) ≡ r
+      → role d (entry identifier line micros n (other_direction d, bytes)) ≡ other_role r
   unfolding role
-  role-other d n bytes r h = rw (not-other d, h) refl
+  role-other is = rw (not-other d, is) refl
 
-  from_number-cons : (n : ℕ) (x : Dir × List ℕ) (frames : List (Dir × List ℕ)) → from_number n (x ∷ frames) ≡ entry n x ∷ from_number (suc n) frames
-  from_number-cons n x frames =
-      let next_line : line + n + 1 ≡ line + suc n = omega arith in
-      let next_time : micros + n * 1000 + 1000 ≡ micros + suc n * 1000 = omega arith in
-      ap (λ l. entry n x ∷ timed identifier l (micros + n * 1000 + 1000) frames) next_line ∙ ap (λ t. entry n x ∷ timed identifier (line + suc n) t frames) next_time
+module _ (identifier : Dir → Id) where
+  entry-next : (line micros n : ℕ) (frame : Dir × List ℕ)
+      → entry identifier (line + 1) (micros + 1000) n frame ≡ entry identifier line micros (suc n) frame
+  entry-next line micros n frame =
+      let same_line : line + 1 + n ≡ line + suc n = omega arith in
+      let same_time : micros + 1000 + n * 1000 ≡ micros + suc n * 1000 = omega arith in
+      rw (same_line, same_time) refl
 
-  pub from_number-at : (frames : List (Dir × List ℕ)) (n p : ℕ) (x : Dir × List ℕ) → slice_get frames p ≡ Some x → At (from_number n frames) p (entry (n + p) x)
-  from_number-at [] n p x h = absurd (cc)
-  from_number-at (y ∷ frames) n zero x h =
-      (let e : n ≡ n + 0 = omega arith in let same : y ≡ x = cc in ap Some (ap (λ j. entry j y) e ∙ ap (entry (n + 0)) same))
-  from_number-at (y ∷ frames) n (suc p) x h =
-      let e : suc n + p ≡ n + suc p = omega arith in
-      ap (λ l. slice_get l (suc p)) (from_number-cons n y frames)
-      ∙ subst (λ j. At (from_number (suc n) frames) p (entry j x)) e (from_number-at frames (suc n) p x h)
+  entry-first : (line micros : ℕ) (frame other : Dir × List ℕ) → frame ≡ other
+      → record { line = line; micros = micros; dir = frame.0; frame = classic (identifier frame.0) frame.1 } ≡ entry identifier line micros 0 other
+  entry-first line micros frame other same =
+      let same_line : line + 0 ≡ line = omega arith in
+      let same_time : micros + 0 * 1000 ≡ micros = omega arith in
+      rw (same_line, same_time, same) refl
 
-pub length-timed : (identifier : Dir → Id) (line micros : ℕ) (frames : List (Dir × List ℕ)) → length (timed identifier line micros frames) ≡ length frames
-length-timed identifier line micros [] = refl
-length-timed identifier line micros (x ∷ frames) = ap suc (length-timed identifier (line + 1) (micros + 1000) frames)
+  timed-at : (line micros : ℕ) (frames : List (Dir × List ℕ)) (p : ℕ) (frame : Dir × List ℕ) → slice_get frames p ≡ Some frame
+      → At (timed identifier line micros frames) p (entry identifier line micros p frame)
+  timed-at line micros [] p frame there = absurd (cc)
+  timed-at line micros (other ∷ frames) zero frame there = (let same : other ≡ frame = cc in ap Some (entry-first line micros other frame same))
+  timed-at line micros (other ∷ frames) (suc p) frame there =
+      timed-at (line + 1) (micros + 1000) frames p frame there ∙ ap Some (entry-next line micros p frame)
 
-pub take-timed : (identifier : Dir → Id) (line micros n : ℕ) (frames : List (Dir × List ℕ)) → timed identifier line micros (take n frames) ≡ take n (timed identifier line micros frames)
-take-timed identifier line micros zero frames = refl
-take-timed identifier line micros (suc n) [] = refl
-take-timed identifier line micros (suc n) (x ∷ frames) = ap (λ l. record { line = line; micros = micros; dir = x.0; frame = classic (identifier x.0) x.1 } ∷ l) (take-timed identifier (line + 1) (micros + 1000) n frames)
+  pub length-timed : (line micros : ℕ) (frames : List (Dir × List ℕ)) → length (timed identifier line micros frames) ≡ length frames
+  length-timed line micros [] = refl
+  length-timed line micros (frame ∷ frames) = ap suc (length-timed (line + 1) (micros + 1000) frames)
 
--- the frames of a message, where they begin behind the frames `pre` of a trace
-pub frames-stand : (identifier : Dir → Id) (line micros limit : ℕ) (F pre : List (Dir × List ℕ)) (d : Dir) (m : List ℕ) (rest : List (Dir × List ℕ)) (n : ℕ)
-    → F ≡ pre ++ (canonical_frames limit d m ++ rest) → n ≡ length pre → 1 ≤ length m → length m ≤ limit
-    → (j : ℕ) → j < total_count (length m) → At (timed identifier line micros F) (n + j) (entry identifier line micros (n + j) (canonical_frame d m j))
-frames-stand identifier line micros limit F pre d m rest n split place some fits j below =
-    let here : slice_get F (n + j) ≡ Some (canonical_frame d m j) =
-    ap (λ l. slice_get l (n + j)) split ∙ ap (λ k. slice_get (pre ++ (canonical_frames limit d m ++ rest)) (k + j)) place
-    ∙ get-later pre (canonical_frames limit d m ++ rest) j
-    ∙ get-within (canonical_frames limit d m) rest j (omega (arith, length-canonical_frames limit d m some fits))
-    ∙ canonical_frames-at limit d m j some fits below in
-    let no_line : line + 0 ≡ line = omega arith in
-    let no_time : micros + 0 * 1000 ≡ micros = omega arith in
-    let same_place : 0 + (n + j) ≡ n + j = omega arith in
-    subst (λ k. At (timed identifier line micros F) (n + j) (entry identifier line micros k (canonical_frame d m j))) same_place
-    (subst (λ t. At (timed identifier line t F) (n + j) (entry identifier line micros (0 + (n + j)) (canonical_frame d m j))) no_time
-    (subst (λ l. At (timed identifier l (micros + 0 * 1000) F) (n + j) (entry identifier line micros (0 + (n + j)) (canonical_frame d m j))) no_line
-    (from_number-at identifier line micros F 0 (n + j) (canonical_frame d m j) here)))
+  pub take-timed : (line micros n : ℕ) (frames : List (Dir × List ℕ))
+      → timed identifier line micros (take n frames) ≡ take n (timed identifier line micros frames)
+  take-timed line micros zero frames = refl
+  take-timed line micros (suc n) [] = refl
+  take-timed line micros (suc n) (frame ∷ frames) =
+      ap (λ rest. record { line = line; micros = micros; dir = frame.0; frame = classic (identifier frame.0) frame.1 } ∷ rest)
+      (take-timed (line + 1) (micros + 1000) n frames)
+
+  -- the frames of the message stand in the trace from position `begun` on
+  abbrev pub StandFrom : ℕ → ℕ → List Entry → Dir → List ℕ → ℕ → Type 0
+  StandFrom line micros T d message begun =
+      (number : ℕ) → number < total_count (length message)
+      → At T (begun + number) (entry identifier line micros (begun + number) (canonical_frame d message number))
+
+  -- they do where they come behind the frames `before`
+  pub frames-stand : (line micros limit : ℕ) (all before rest : List (Dir × List ℕ)) (d : Dir) (message : List ℕ) (begun : ℕ)
+      → all ≡ before ++ (canonical_frames limit d message ++ rest) → begun ≡ length before
+      → 1 ≤ length message → length message ≤ limit
+      → StandFrom line micros (timed identifier line micros all) d message begun
+  frames-stand line micros limit all before rest d message begun splits place some fits number below =
+      let frames = canonical_frames limit d message in
+      let here : slice_get all (begun + number) ≡ Some (canonical_frame d message number) =
+      ap (λ l. slice_get l (begun + number)) splits
+      ∙ ap (λ k. slice_get (before ++ (frames ++ rest)) (k + number)) place
+      ∙ get-later before (frames ++ rest) number
+      ∙ get-left frames rest number (omega (arith, length-canonical_frames limit d message some fits))
+      ∙ canonical_frames-at limit d message number some fits below in
+      timed-at line micros all (begun + number) (canonical_frame d message number) here

@@ -10,6 +10,7 @@ use Rattle.isotp_receive.specs.Trace.{Entry}
 use Rattle.isotp_receive.specs.Places.{IsConsecutiveCount}
 use Rattle.isotp_receive.specs.Verdict.{messages}
 use Rattle.isotp_receive.specs.Recording.{IsRecording}
+use Rattle.isotp_receive.specs.CleanTrace.{IsClean}
 use Rattle.isotp_segment.specs.CanonicalFrames.{room_in_first, consecutive_count, canonical_frames}
 use Rattle.isotp_segment.specs.Timed.{timed, HasFrames, all_frames}
 
@@ -42,6 +43,11 @@ ShortMessageIsOneFrame = (limit : ℕ) (d : Dir) (message : List ℕ)
 abbrev pub CanonicalFramesAreARecording : Type 0
 CanonicalFramesAreARecording = (limit : ℕ) (identifier : Dir → Id) (line micros : ℕ) (M : List Message)
     → limit < 2 ^ 32 → AllByRecursion (HasFrames limit) M → IsRecording limit (timed identifier line micros (all_frames limit M)) M
+
+-- and a clean trace: none of them is dropped or ends a reception, and nothing stands behind the last
+abbrev pub CanonicalFramesAreClean : Type 0
+CanonicalFramesAreClean = (limit : ℕ) (identifier : Dir → Id) (line micros : ℕ) (M : List Message)
+    → limit < 2 ^ 32 → AllByRecursion (HasFrames limit) M → IsClean limit (timed identifier line micros (all_frames limit M))
 
 -- received after any trace they deliver the message, and nothing else
 abbrev pub SegmentsDeliver : Type 0

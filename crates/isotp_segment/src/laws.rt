@@ -1,6 +1,6 @@
 //! Laws of canonical frames, for the proofs of callers: functions that do nothing.
 
-ghost use Rattle.isotp_segment.specs.Laws.{ConsecutiveCountIsLeast, CanonicalFramesAreFull, ShortMessageIsOneFrame, CanonicalFramesAreARecording, SegmentsDeliver, SegmentsDeliverNothingBefore};
+ghost use Rattle.isotp_segment.specs.Laws.{ConsecutiveCountIsLeast, CanonicalFramesAreFull, ShortMessageIsOneFrame, CanonicalFramesAreARecording, CanonicalFramesAreClean, SegmentsDeliver, SegmentsDeliverNothingBefore};
 
 /// The consecutive frames of a message are as many as its bytes ask for, and no more.
 pub fn consecutive_count_is_least()
@@ -21,6 +21,13 @@ pub fn short_message_is_one_frame()
 /// these messages: from any line and time on, and under any two identifiers.
 pub fn canonical_frames_are_a_recording()
     ensures recording { CanonicalFramesAreARecording }
+{}
+
+/// Such frames are a clean trace: no frame is dropped, none ends a reception, and nothing is left over.
+/// So each stands on the side, in the place and at the time where a receiver waits for it: a continue
+/// frame from the side of the message would be dropped.
+pub fn canonical_frames_are_clean()
+    ensures clean { CanonicalFramesAreClean }
 {}
 
 /// Received after any trace, the canonical frames of a message deliver it at the last of them, and

@@ -1,5 +1,5 @@
-use Rattle.isotp_segment.proofs.Positions.{count-least}
+use Rattle.isotp_segment.proofs.Promises.{consecutive_count_is_least}
 use Rattle.isotp_segment.proofs.laws.consecutive_count_is_least.Goals as goal
 
 pub returns : goal.returns
-returns c = record { least = count-least }
+returns c = record { least = consecutive_count_is_least }

@@ -1,0 +1,133 @@
+-- The verdict on a frame that an open reception waits for, or that begins where none is open, by the public laws of
+-- `isotp_receive`.
+use Rattle.std.proofs.Common.{◌≡◌, ℕ, ◌+◌, ◌%◌, ◌<◌, ◌≤◌, ◌==◌, true, List, ◌++◌, length, nat_le, Option, Some, None, Ok, refl, sym, ◌∙◌, ap, arith, inl, inr, subst}
+use Rattle.std.proofs.lemmas.Bool.{le-leb, eq-eqb, cond_both, cases_lt}
+use Rattle.can_log.specs.Dir.{other_direction}
+use Rattle.can_log.specs.declared.frame.Dir.{Dir}
+use Rattle.isotp_pdu.specs.declared.Status.TheVariants.{Continue}
+use Rattle.isotp_pdu.specs.Layout as layout
+use Rattle.isotp_pdu.specs.Reading.{layout_of}
+use Rattle.isotp_receive.specs.Trace.{Entry, At}
+use Rattle.isotp_receive.specs.Places.{bytes_in_first, bytes_before, FitsAs}
+use Rattle.isotp_receive.specs.OnTime.{n_cr, IsReference, IsOnTime}
+use Rattle.isotp_receive.specs.Standing.{Standing, fits_length, stands}
+use Rattle.isotp_receive.specs.OpenReception.{IsOpenAt}
+use Rattle.isotp_receive.specs.Verdict.{verdict, wants_more}
+use Rattle.isotp_receive.specs.CleanTrace.{IsCleanEvent}
+use Rattle.isotp_receive.proofs.Promises.{what_stands_is_open, what_is_open_stands, one_is_open, places_agree_on_fit}
+use Rattle.isotp_segment.proofs.OpenReceptions.{IsClosedAt, same-entry}
+
+-- a frame has one reference
+no-later-reference : (T : List Entry) (d : Dir) (begun position p q : ℕ)
+    → IsReference T d begun position p → IsReference T d begun position q → p < q → ⊥
+no-later-reference T d begun position p q one other less = elim other.restarts [
+  | inl is ↦ absurd (omega (arith, one.from))
+  | inr (e, at, restarts) ↦ one.greatest q e less other.below at restarts
+]
+
+one-reference : (T : List Entry) (d : Dir) (begun position p q : ℕ)
+    → IsReference T d begun position p → IsReference T d begun position q → p ≡ q
+one-reference T d begun position p q one other = elim (cases_lt p q) [
+  | inl less ↦ absurd (no-later-reference T d begun position p q one other less)
+  | inr most ↦ elim (cases_lt q p) [
+    | inl less ↦ absurd (no-later-reference T d begun position q p other one less)
+    | inr least ↦ omega arith
+  ]
+]
+
+-- Where a reception is open behind T, whatever follows.
+module _ (limit : ℕ) (T rest : List Entry) (d : Dir) (begun number : ℕ)
+    (reception : IsOpenAt limit (T ++ rest) d begun number (length T)) where
+  abbrev in_first : ℕ
+  in_first = bytes_in_first reception.frame.frame.bytes
+
+  -- what is known of it
+  record IsKnown (standing : Standing) : Type 0 where
+    standing_there : stands limit d T ≡ Some standing
+    len : standing.len ≡ reception.start.len
+    rx_dl : standing.rx_dl ≡ reception.start.rx_dl
+    taken : standing.taken ≡ number
+    size : length standing.bytes ≡ bytes_before in_first reception.start.rx_dl number
+    on_time : (e : Entry) → IsOnTime (T ++ rest) d begun (length T) e → e.micros ≤ standing.reference + n_cr
+
+  known : (standing : Standing) × IsKnown standing
+  known =
+      let found = what_is_open_stands limit T rest d begun number reception in
+      let all = what_stands_is_open limit T rest d found.0 found.1 in
+      let same = one_is_open limit (T ++ rest) d all.begun all.number begun number (length T) all.is_open reception in
+      let same_frame : all.is_open.frame ≡ reception.frame =
+      same-entry (T ++ rest) begun _ _ (subst (λ p. At (T ++ rest) p all.is_open.frame) same.0 all.is_open.stands) reception.stands in
+      let same_start : all.is_open.start ≡ reception.start =
+      (let left = all.is_open.kind in let right = reception.kind in cc) in (
+        found.0,
+        record {
+          standing_there = found.1;
+          len = found.3;
+          rx_dl = all.rx_dl ∙ ap (λ s. s.rx_dl) same_start;
+          taken = found.4;
+          size = all.size
+              ∙ ap (λ f. bytes_before (bytes_in_first f.frame.bytes) found.0.rx_dl all.number) same_frame
+              ∙ ap (bytes_before in_first found.0.rx_dl) same.1
+              ∙ ap (λ r. bytes_before in_first r number) (all.rx_dl ∙ ap (λ s. s.rx_dl) same_start);
+          on_time = λ e (latest, last, refers, at, in_time).
+              let here : latest ≡ all.latest =
+              one-reference (T ++ rest) d begun (length T) latest all.latest refers
+              (subst (λ p. IsReference (T ++ rest) d p (length T) all.latest) same.0 all.refers) in
+              let same_last : last ≡ all.last =
+              same-entry (T ++ rest) latest _ _ at (subst (λ p. At (T ++ rest) p all.last) (sym here) all.stands) in
+              let time = all.reference in
+              omega (arith, ap (λ x. x.micros) same_last);
+        },
+      )
+
+  -- the next consecutive frame of it is stored, or completes its message
+  pub consecutive-clean : (e : Entry) (sequence_number can_dl : ℕ) (bytes : List ℕ) → e.dir ≡ d
+      → layout_of e.frame ≡ Ok (layout.consecutive sequence_number can_dl bytes)
+      → FitsAs in_first reception.start.rx_dl reception.start.len reception.count (number + 1) sequence_number can_dl
+      → IsOnTime (T ++ rest) d begun (length T) e → IsCleanEvent (verdict limit T e)
+  unfolding verdict
+  consecutive-clean e sequence_number can_dl bytes own is fits in_time =
+      let standing = known.0 in
+      let k = known.1 in
+      let agree = places_agree_on_fit in_first reception.start.rx_dl reception.start.len reception.count number sequence_number can_dl
+      reception.least reception.more in
+      let fit = agree.0 fits in
+      let time : nat_le e.micros (standing.reference + n_cr) ≡ true = le-leb _ _ (k.on_time e in_time) in
+      let next : (sequence_number == (standing.taken + 1) % 16) ≡ true = eq-eqb _ _ (fit.0 ∙ ap (λ n. (n + 1) % 16) (sym k.taken)) in
+      let size : fits_length standing.len standing.rx_dl (length standing.bytes) can_dl ≡ true = rw (k.len, k.rx_dl, k.size) fit.1 in
+      rw (own, is, k.standing_there, time, next, size)
+      (cond_both (wants_more standing) _ _ IsCleanEvent
+      (λ _. record { goes_on = refl; kept = tt })
+      (λ _. record { goes_on = refl; kept = tt }))
+
+  -- a continue frame of the other side is expected
+  pub continue-clean : (e : Entry) → other_direction e.dir ≡ d → layout_of e.frame ≡ Ok (layout.flow_control Continue)
+      → IsCleanEvent (verdict limit T e)
+  unfolding verdict
+  continue-clean e other is =
+      let k = known.1 in
+      rw (is, other, k.standing_there) (record { goes_on = refl; kept = tt })
+
+-- where none of the direction is open, none stands
+pub closed-stands : (limit : ℕ) (T rest : List Entry) (d : Dir) → IsClosedAt limit (T ++ rest) d (length T) → stands limit d T ≡ None
+closed-stands limit T rest d closed = by_case (stands limit d T) refl where
+  by_case : (known : Option Standing) → stands limit d T ≡ known → stands limit d T ≡ None
+  by_case None is = is
+  by_case (Some standing) is =
+      absurd (let there = what_stands_is_open limit T rest d standing is in closed there.begun there.number there.is_open)
+
+-- Where none of the direction is open, a single frame is a message, and a first frame of at most the limit begins one.
+module _ (limit : ℕ) (T rest : List Entry) (e : Entry) (closed : IsClosedAt limit (T ++ rest) e.dir (length T)) where
+  pub single-clean : (message : List ℕ) → layout_of e.frame ≡ Ok (layout.single message) → IsCleanEvent (verdict limit T e)
+  unfolding verdict
+  single-clean message is =
+      let none = closed-stands limit T rest e.dir closed in
+      rw (is, none) (record { goes_on = refl; kept = tt })
+
+  pub first-clean : (len rx_dl : ℕ) (bytes : List ℕ) → layout_of e.frame ≡ Ok (layout.first len rx_dl bytes) → len ≤ limit
+      → IsCleanEvent (verdict limit T e)
+  unfolding verdict
+  first-clean len rx_dl bytes is fits =
+      let none = closed-stands limit T rest e.dir closed in
+      let within : nat_le len limit ≡ true = le-leb _ _ fits in
+      rw (is, none, within) (record { goes_on = refl; kept = tt })

@@ -1,0 +1,141 @@
+-- Receptions that are open at a position: with which frame they begin, how long they stay open, and what they wait for.
+use Rattle.std.proofs.Common.{◌≡◌, ℕ, ◌+◌, ◌-◌, ◌<◌, ◌≤◌, true, List, drop, Result, Ok, Err, refl, sym, ap, arith, inl, inr, subst}
+use Rattle.std.specs.Prelude.{⊤}
+use Rattle.std.proofs.lemmas.Bool.{cases_lt, cases_Bool, false≢true}
+use Rattle.can_log.specs.declared.frame.Dir.{Dir}
+use Rattle.can_log.specs.declared.frame.Dir.TheVariants.{Tester, Unit}
+use Rattle.isotp_pdu.specs.declared.PduFault.{PduFault}
+use Rattle.isotp_pdu.specs.declared.Status.TheVariants.{Continue, Wait, Overflow}
+use Rattle.isotp_pdu.specs.Layout.{Layout}
+use Rattle.isotp_pdu.specs.Layout as layout
+use Rattle.isotp_pdu.specs.Reading.{layout_of}
+use Rattle.isotp_receive.specs.Trace.{Entry, At, FirstFrame, first, consecutive, role, own_role, other_role, same_direction}
+use Rattle.isotp_receive.specs.Places.{bytes_in_first, FitsAs, IsConsecutiveCount, consecutive_by, consecutive_frames_in, between}
+use Rattle.isotp_receive.specs.OnTime.{IsOnTime}
+use Rattle.isotp_receive.specs.OpenReception.{LeavesOpen, IsOpenAt}
+use Rattle.isotp_receive.specs.Delivers.{Completes}
+use Rattle.isotp_segment.proofs.ConsecutiveCounts.{counted-more, counted-between, one-count}
+
+-- one entry stands at a position
+pub same-entry : (T : List Entry) (position : ℕ) (e other : Entry) → At T position e → At T position other → e ≡ other
+same-entry T position e other at there = cc
+
+-- no reception of d is open at the position
+abbrev pub IsClosedAt : ℕ → List Entry → Dir → ℕ → Type 0
+IsClosedAt limit T d position = (begun number : ℕ) → IsOpenAt limit T d begun number position → ⊥
+
+-- a reception that is open was open at each position since it began
+unfoldable pub open-since : (limit : ℕ) (T : List Entry) (d : Dir) (begun number position : ℕ)
+    (reception : IsOpenAt limit T d begun number position) (place : ℕ)
+    → begun < place → place ≤ position → IsOpenAt limit T d begun (consecutive_frames_in d (between T begun place)) place
+open-since limit T d begun number position reception place later most = record {
+  later = later;
+  inside = omega (arith, reception.inside);
+  frame = reception.frame;
+  start = reception.start;
+  stands = reception.stands;
+  kind = reception.kind;
+  fits = reception.fits;
+  count = reception.count;
+  least = reception.least;
+  each = λ earlier e after before at. reception.each earlier e after (omega arith) at;
+  taken = refl;
+  more = omega (
+    arith,
+    reception.taken,
+    reception.more,
+    counted-more d (place - (begun + 1)) (position - (begun + 1)) (drop (begun + 1) T) (omega arith),
+  );
+}
+
+-- a first frame
+abbrev pub IsFirst : Result Layout PduFault → Type 0
+IsFirst (Ok (layout.first len rx_dl bytes)) = ⊤
+IsFirst (Ok (layout.single message)) = ⊥
+IsFirst (Ok (layout.consecutive sequence_number can_dl bytes)) = ⊥
+IsFirst (Ok (layout.flow_control status)) = ⊥
+IsFirst (Err fault) = ⊥
+
+own-first : (line micros : ℕ) (r : Result Layout PduFault) (start : FirstFrame)
+    → own_role line micros r ≡ first start → IsFirst r
+own-first line micros (Ok (layout.first len rx_dl bytes)) start is = tt
+own-first line micros (Ok (layout.single message)) start is = absurd (cc)
+own-first line micros (Ok (layout.consecutive sequence_number can_dl bytes)) start is = absurd (cc)
+own-first line micros (Ok (layout.flow_control status)) start is = absurd (cc)
+own-first line micros (Err fault) start is = absurd (cc)
+
+not-of-other : (r : Result Layout PduFault) (start : FirstFrame) → other_role r ≡ first start → ⊥
+not-of-other (Ok (layout.first len rx_dl bytes)) start is = cc
+not-of-other (Ok (layout.single message)) start is = cc
+not-of-other (Ok (layout.consecutive sequence_number can_dl bytes)) start is = cc
+not-of-other (Ok (layout.flow_control Continue)) start is = cc
+not-of-other (Ok (layout.flow_control Wait)) start is = cc
+not-of-other (Ok (layout.flow_control Overflow)) start is = cc
+not-of-other (Err fault) start is = cc
+
+same : (d other : Dir) → same_direction d other ≡ true → d ≡ other
+same Tester Tester is = refl
+same Unit Unit is = refl
+same Tester Unit is = absurd (false≢true is)
+same Unit Tester is = absurd (false≢true is)
+
+-- only a first frame of the direction begins a reception
+pub begins-reception : (d : Dir) (e : Entry) (start : FirstFrame) → role d e ≡ first start → (d ≡ e.dir) × IsFirst (layout_of e.frame)
+unfolding role
+begins-reception d e start is = elim (cases_Bool (same_direction d e.dir)) [
+  | inl t ↦ (same d e.dir t, own-first e.line e.micros (layout_of e.frame) start (rw t at is))
+  | inr t ↦ absurd (not-of-other (layout_of e.frame) start (rw t at is))
+]
+
+-- Where the frame at `position` completes a message: what each consecutive frame since its first one was waited for as.
+module _ (limit : ℕ) (T : List Entry) (d : Dir) (position : ℕ) (message : List ℕ) (completed : Completes limit T position d message) where
+  -- as the next of the reception, on time
+  abbrev pub IsNext : ℕ → Entry → ℕ → ℕ → Type 0
+  IsNext place e sequence_number can_dl =
+      FitsAs (bytes_in_first completed.is_open.frame.frame.bytes) completed.is_open.start.rx_dl completed.is_open.start.len completed.is_open.count
+      (consecutive_frames_in d (between T completed.begun place) + 1) sequence_number can_dl
+      × IsOnTime T d completed.begun place e
+
+  next-at-end : (e : Entry) (sequence_number can_dl : ℕ) (bytes : List ℕ) → At T position e → role d e ≡ consecutive sequence_number can_dl bytes
+      → IsNext position e sequence_number can_dl
+  next-at-end e sequence_number can_dl bytes at is =
+      let same = same-entry T position e completed.frame at completed.stands in
+      let kind = completed.kind in
+      let same_number : completed.sequence_number ≡ sequence_number = cc in
+      let same_length : completed.can_dl ≡ can_dl = cc in
+      rw (same, ← same_number, ← same_length, ← completed.is_open.taken) (completed.fits, completed.on_time)
+
+  pub next-since : (place : ℕ) (e : Entry) (sequence_number can_dl : ℕ) (bytes : List ℕ) → completed.begun < place → place ≤ position → At T place e
+      → role d e ≡ consecutive sequence_number can_dl bytes → IsNext place e sequence_number can_dl
+  next-since place e sequence_number can_dl bytes later most at is = elim (cases_lt place position) [
+    | inl before ↦
+        subst (LeavesOpen completed.is_open.start (bytes_in_first completed.is_open.frame.frame.bytes) completed.is_open.count
+        (consecutive_frames_in d (between T completed.begun place)) (IsOnTime T d completed.begun place e)) is
+        (completed.is_open.each place e later before at)
+    | inr least ↦
+        (let last : position ≡ place = omega arith in
+        subst (λ p. IsNext p e sequence_number can_dl) last
+        (next-at-end e sequence_number can_dl bytes (subst (λ p. At T p e) (sym last) at) is))
+  ]
+
+  -- behind that frame the reception is open no more
+  pub closed-behind : (number later : ℕ) → position < later → IsOpenAt limit T d completed.begun number later → ⊥
+  closed-behind number later behind reception =
+      let its = completed.is_open in
+      let same_frame : reception.frame ≡ its.frame = same-entry T completed.begun reception.frame its.frame reception.stands its.stands in
+      let same_start : reception.start ≡ its.start = (let one = reception.kind in let two = its.kind in cc) in
+      let same_count = one-count (bytes_in_first its.frame.frame.bytes) its.start.rx_dl its.start.len reception.count its.count
+      (subst (λ s. IsConsecutiveCount (bytes_in_first its.frame.frame.bytes) s.rx_dl s.len reception.count) same_start
+      (subst (λ f. IsConsecutiveCount (bytes_in_first f.frame.bytes) reception.start.rx_dl reception.start.len reception.count) same_frame reception.least))
+      its.least in
+      let counts : consecutive_by (role d completed.frame) ≡ 1 = ap consecutive_by completed.kind in
+      absurd (omega (
+        arith,
+        same_count,
+        counts,
+        reception.taken,
+        reception.more,
+        its.taken,
+        completed.last,
+        counted-between d T completed.begun position later completed.frame its.later behind completed.stands,
+      ))
