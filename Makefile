@@ -20,7 +20,7 @@ run: build
 # The tests of the built program, each growth of memory refused in turn, and then the gate: every proof from nothing, every test, every wrong body refused.
 test: build
 	@python3 tests/program.py $(PROGRAM)
-	@python3 tests/refused_memory.py
+	@python3 tests/refused_memory.py $(PROGRAM)
 	@rt ci
 
 install: build

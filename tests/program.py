@@ -1,5 +1,5 @@
 #!/usr/bin/env python3
-"""Tests of the built program: what only a process can show.
+"""Tests of the built program, what only a process can show; and that the logs in the text of a test are those of examples/.
 
     tests/program.py crates/udsnorm/out/udsnorm
 
@@ -7,6 +7,7 @@ Prints a line for each case and ends with `N passed, M failed`; its status is 1 
 """
 
 import os
+import re
 import resource
 import subprocess
 import sys
@@ -17,7 +18,9 @@ FIRST_LOG = b"(1700000000.000000) can0 7E0#0322F190"
 FIRST_CANONICAL = b"(0000000000.000000) can0 7E0#0322F190CCCCCCCC\n"
 REFUSED = FIRST_LOG + b"\n(1700000000.100000) can0 7E8#0462F1\nx\n"
 
-EXAMPLES = Path(__file__).resolve().parent.parent / "examples"
+TOP = Path(__file__).resolve().parent.parent
+EXAMPLES = TOP / "examples"
+COPIES = TOP / "crates" / "acceptance" / "src" / "examples.rt"
 
 DONE, WORDS, REFUSAL, DEVICE, MEMORY = 0, 2, 3, 4, 5
 
@@ -35,9 +38,19 @@ def run(log=b"", words=(), **options):
     return done.returncode, done.stdout, done.stderr
 
 
+def report(name, wrong):
+    """A case passed where nothing is wrong."""
+    global passed, failed
+    if wrong:
+        failed += 1
+        print(f"FAILED {name}: {'; '.join(wrong)}")
+    else:
+        passed += 1
+        print(f"ok {name}")
+
+
 def case(name, found, want_status, want_output):
     """Compares a run with its status and output. Nothing is ever written to standard error."""
-    global passed, failed
     status, output, error = found
     wrong = []
     if status != want_status:
@@ -46,12 +59,7 @@ def case(name, found, want_status, want_output):
         wrong.append(f"standard output {output[:100]!r}, not {want_output[:100]!r}")
     if error:
         wrong.append(f"standard error {error[:100]!r}")
-    if wrong:
-        failed += 1
-        print(f"FAILED {name}: {'; '.join(wrong)}")
-    else:
-        passed += 1
-        print(f"ok {name}")
+    report(name, wrong)
 
 
 def words():
@@ -95,6 +103,16 @@ def examples():
             case(f"examples/{log.name}", found, DONE, canonical.read_bytes())
         else:
             case(f"examples/{log.name}, refused", found, REFUSAL, b"")
+
+
+def copies():
+    """The tests of `acceptance` can't read files: each log that they have in their text is one of examples/, byte for byte."""
+    found = re.findall(r'name: "([^"]+\.log)",\s+lines: &\[(.*?)\]', COPIES.read_text(), re.DOTALL)
+    report("logs in the tests of acceptance", [] if found else ["none was found"])
+    for name, lines in found:
+        copy = "".join(line + "\n" for line in re.findall(r'"(.*)"', lines))
+        same = copy.encode() == (EXAMPLES / name).read_bytes()
+        report(f"examples/{name} in the tests of acceptance", [] if same else ["another text"])
 
 
 def long_log(size):
@@ -180,6 +198,7 @@ def main():
     words()
     logs()
     examples()
+    copies()
     devices()
     memory()
     print(f"{passed} passed, {failed} failed")

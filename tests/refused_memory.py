@@ -1,65 +1,122 @@
 #!/usr/bin/env python3
 """Refuses each growth of memory in turn.
 
-The program, over a sample log: whichever growth is refused, it ends with status 5 and has written nothing; with none
-refused it writes the canonical log. The tests of the libraries whose calls leave a value standing after a refusal: each
-makes the refused call again, and passes.
+    tests/refused_memory.py crates/udsnorm/out/udsnorm
 
-`rt try --fail-alloc N` refuses growth number N. Prints a line for each case and ends with `N passed, M failed`; the status
-is 1 where a case failed.
+The built program, over each log of examples/ and a long one: whichever growth is refused, it ends with status 5 and has
+written nothing. The calls of the libraries that take memory, by the tests `refused_memory` of the crate `acceptance`: a
+call that is refused memory says so, and the same call made again gives what it gives otherwise.
+
+Prints a line for each case and ends with `N passed, M failed`; its status is 1 where a case failed.
 """
 
-import pathlib
+import concurrent.futures
+import os
+import re
 import subprocess
 import sys
+import tempfile
+from pathlib import Path
 
-TOP = pathlib.Path(__file__).resolve().parent.parent
-LOG = TOP / "examples" / "first.log"
-CANONICAL = b"(0000000000.000000) can0 7E0#0322F190CCCCCCCC\n"
-MOST_GROWTHS = 60
-LIBRARIES = {"uds_exchange": 12}
+TESTS = Path(__file__).resolve().parent
+EXAMPLES = TESTS.parent / "examples"
+ACCEPTANCE = TESTS.parent / "crates" / "acceptance"
+LONG_LOG = b"(1700000000.000000) can0 7E0#0322F190\n" * 30_000
+
+MEMORY = 5
+MOST_GROWTHS = 100
+TRIES_AT_ONCE = min(4, os.cpu_count() or 1)
+
+# How a test says that its own call was refused memory.
+REFUSALS = ("error: AllocError", "error: Memory")
 
 passed = 0
 failed = 0
-
-
-def attempt(crate, words, log=None):
-    """Runs a crate with no proof: its status and standard output."""
-    with open(log or "/dev/null", "rb") as given:
-        done = subprocess.run(
-            ["rt", "try", *words], cwd=TOP / "crates" / crate, stdin=given, capture_output=True, timeout=300
-        )
-    return done.returncode, done.stdout
 
 
 def case(name, holds, seen):
     global passed, failed
     if holds:
         passed += 1
-        print(f"ok {name}")
+        print(f"ok {name}", flush=True)
     else:
         failed += 1
-        print(f"FAILED {name}: {seen}")
+        print(f"FAILED {name}: {seen}", flush=True)
 
 
-def program():
+def build_refuser(folder):
+    """The library that refuses a growth to the process that loads it, built by the kit's own compiler."""
+    guide = subprocess.run(["rt", "doc"], capture_output=True, text=True, check=True).stdout.strip()
+    toolchain = Path(guide).parent / "toolchain"
+    refuser = Path(folder) / "refuse_growth.so"
+    words = [toolchain / "bin" / "clang", "--target=x86_64-unknown-linux-gnu", f"--sysroot={toolchain}"]
+    words += ["-O1", "-fPIC", "-shared", "-nostdlib", "-fuse-ld=lld", "-o", refuser, TESTS / "refuse_growth.c"]
+    subprocess.run(words, check=True)
+    return refuser
+
+
+def run(program, log, refuser, growth):
+    """Status and output of the program, and whether a growth was refused. It writes nothing else to standard error."""
+    refusing = {"LD_PRELOAD": str(refuser), "REFUSED_GROWTH": str(growth)}
+    done = subprocess.run([program], input=log, capture_output=True, timeout=60, env={**os.environ, **refusing})
+    return done.returncode, done.stdout, done.stderr == b"refused\n"
+
+
+def program_over(program, refuser, name, log):
+    ample = subprocess.run([program], input=log, capture_output=True, timeout=60)
     for growth in range(1, MOST_GROWTHS):
-        status, output = attempt("udsnorm", ["--fail-alloc", str(growth)], LOG)
-        if status == 0:
-            case(f"the program with none of its {growth - 1} growths refused", output == CANONICAL, output[:100])
+        status, output, is_refused = run(program, log, refuser, growth)
+        if not is_refused:
+            holds = growth > 1 and (status, output) == (ample.returncode, ample.stdout)
+            case(f"the program over {name}, each of {growth - 1} growths refused", holds, (status, output[:100]))
             return
-        case(f"the program, growth {growth} refused", (status, output) == (5, b""), (status, output[:100]))
-    case("the program comes to an end of its growths", False, MOST_GROWTHS)
+        if (status, output) != (MEMORY, b""):
+            case(f"the program over {name}, growth {growth} refused", False, (status, output[:100]))
+            return
+    case(f"the program over {name} comes to an end of its growths", False, MOST_GROWTHS)
 
 
-def libraries():
-    for crate, growths in LIBRARIES.items():
-        for growth in range(1, growths + 1):
-            status, output = attempt(crate, ["--test", "--fail-alloc", str(growth)])
-            case(f"the tests of {crate}, growth {growth} refused", status == 0, output[-300:])
+def the_program(program):
+    with tempfile.TemporaryDirectory() as folder:
+        refuser = build_refuser(folder)
+        for log in sorted(EXAMPLES.glob("*.log")):
+            program_over(program, refuser, f"examples/{log.name}", log.read_bytes())
+        program_over(program, refuser, "a log of 1 MB", LONG_LOG)
 
 
-program()
-libraries()
-print(f"{passed} passed, {failed} failed")
-sys.exit(1 if failed else 0)
+def tests_with_refused(growth):
+    """What became of each test `refused_memory` with this growth refused: `ok`, or the error that it ended with."""
+    words = ["rt", "try", "--test", "--fail-alloc", str(growth)]
+    tried = subprocess.run(words, cwd=ACCEPTANCE, stdin=subprocess.DEVNULL, capture_output=True, text=True, timeout=600)
+    became = re.findall(r"^test refused_memory::(\w+) \.\.\. (?:(ok)|FAILED\n *(.*))$", tried.stdout, re.M)
+    return {name: ok or error for name, ok, error in became}
+
+
+def the_libraries():
+    """Growth after growth, until none is left in any call that is made once."""
+    with concurrent.futures.ThreadPoolExecutor(TRIES_AT_ONCE) as tries:
+        for first in range(1, MOST_GROWTHS, TRIES_AT_ONCE):
+            growths = range(first, first + TRIES_AT_ONCE)
+            for growth, became in zip(growths, tries.map(tests_with_refused, growths)):
+                once = {name: what for name, what in became.items() if name.endswith("_once")}
+                again = {name: what for name, what in became.items() if name.endswith("_again")}
+                holds = once and len(once) == len(again) and set(again.values()) == {"ok"}
+                holds = holds and all(what == "ok" or what in REFUSALS for what in once.values())
+                refused = [name for name, what in once.items() if what != "ok"]
+                name = f"the libraries, growth {growth} refused in {len(refused)} of {len(once)} tests"
+                case(name, holds, became)
+                if not refused or not holds:
+                    return
+    case("the libraries come to an end of their growths", False, MOST_GROWTHS)
+
+
+def main():
+    if len(sys.argv) != 2:
+        sys.exit(__doc__)
+    the_program(os.path.abspath(sys.argv[1]))
+    the_libraries()
+    print(f"{passed} passed, {failed} failed")
+    sys.exit(1 if failed else 0)
+
+
+main()

@@ -1,7 +1,7 @@
 //! Whole sessions: their canonical logs, and what they mean.
 
 use crate::items::assert_items;
-use crate::session::{Counts, Session, log_of, log_of_frames};
+use crate::session::{Counts, Session, VIN_LINES, log_of, log_of_frames};
 use std::test::Fail;
 
 /// A vehicle identification number, read from a unit: the canonical log.
@@ -26,13 +26,7 @@ struct Recording {
 const RECORDINGS: [Recording; 7] = [
     Recording {
         name: "five classic frames",
-        lines: &[
-            "(1700000000.000000) can0 7E0#0322F190",
-            "(1700000000.012000) can0 7E8#101462F190574241",
-            "(1700000000.012300) can0 7E0#300000",
-            "(1700000000.020000) can0 7E8#2133413543353045",
-            "(1700000000.030000) can0 7E8#2246313233343536",
-        ],
+        lines: &VIN_LINES,
         frames: 5,
         pending: 0,
     },
@@ -113,7 +107,7 @@ const RECORDINGS: [Recording; 7] = [
 ];
 
 #[test]
-fn recordings_of_one_session(rt: HostRuntime) -> Result<(), Fail> {
+fn seven_recordings_of_a_session_have_one_canonical_log(rt: HostRuntime) -> Result<(), Fail> {
     let canonical = log_of(rt.alloc(), VIN)?;
     assert_eq!(rt; canonical.len(), 230);
     for recording in RECORDINGS {
@@ -284,7 +278,10 @@ const WORKED: [Worked; 11] = [
             "7E0#2144454647CCCCCC",
         ],
         items: &[
-            "unit 000102030405060708090A0B0C0D0E0F101112131415161718191A1B1C1D1E1F202122232425262728292A2B2C2D2E2F303132333435363738393A3B3C3D3E3F404142434445464748494A4B4C4D4E4F505152535455565758595A5B5C5D5E5F60616263",
+            "unit 000102030405060708090A0B0C0D0E0F101112131415161718191A1B1C1D1E1F\
+             202122232425262728292A2B2C2D2E2F303132333435363738393A3B3C3D3E3F\
+             404142434445464748494A4B4C4D4E4F505152535455565758595A5B5C5D5E5F\
+             60616263",
             "2EF19041424344454647",
         ],
     },
@@ -360,13 +357,17 @@ const WORKED: [Worked; 11] = [
             "7E8#227D7E7F8081CCCC",
         ],
         items: &[
-            "unit 620102030405060708090A0B0C0D0E0F101112131415161718191A1B1C1D1E1F202122232425262728292A2B2C2D2E2F303132333435363738393A3B3C3D3E3F404142434445464748494A4B4C4D4E4F505152535455565758595A5B5C5D5E5F606162636465666768696A6B6C6D6E6F707172737475767778797A7B7C7D7E7F8081",
+            "unit 620102030405060708090A0B0C0D0E0F101112131415161718191A1B1C1D1E1F\
+             202122232425262728292A2B2C2D2E2F303132333435363738393A3B3C3D3E3F\
+             404142434445464748494A4B4C4D4E4F505152535455565758595A5B5C5D5E5F\
+             606162636465666768696A6B6C6D6E6F707172737475767778797A7B7C7D7E7F\
+             8081",
         ],
     },
 ];
 
 #[test]
-fn canonical_frames_and_meanings(rt: HostRuntime) -> Result<(), Fail> {
+fn each_session_has_its_canonical_frames_and_meaning(rt: HostRuntime) -> Result<(), Fail> {
     for worked in WORKED {
         let log = log_of_frames(rt.alloc(), worked.frames)?;
         let session = Session::normalised(&rt, rt.alloc(), log.as_str())?;

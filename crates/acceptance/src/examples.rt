@@ -4,7 +4,7 @@ use crate::items::assert_items;
 use crate::session::{Session, log_of, log_of_frames};
 use std::test::Fail;
 
-/// A log as the folder has it, the frames of its canonical log, and what it means.
+/// A log as the folder has it (`tests/program.py` compares), the frames of its canonical log, and what it means.
 #[derive(Clone, Copy)]
 struct Example {
     name: &'static str,
@@ -164,7 +164,7 @@ const EXAMPLES: [Example; 5] = [
 ];
 
 #[test]
-fn examples_through_all_layers(rt: HostRuntime) -> Result<(), Fail> {
+fn each_example_has_its_canonical_log_and_meaning(rt: HostRuntime) -> Result<(), Fail> {
     let alloc = rt.alloc();
     for example in EXAMPLES {
         let name = example.name;

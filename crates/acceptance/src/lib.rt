@@ -25,4 +25,6 @@ mod recordings;
 #[cfg(test)]
 mod refusals;
 #[cfg(test)]
+mod refused_memory;
+#[cfg(test)]
 mod session;

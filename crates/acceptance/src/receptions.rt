@@ -258,7 +258,7 @@ fn frames_of_one_byte_are_all_dropped(rt: HostRuntime) -> Result<(), Fail> {
 }
 
 #[test]
-fn a_thousand_first_frames(rt: HostRuntime) -> Result<(), Fail> {
+fn each_first_frame_ends_the_one_before(rt: HostRuntime) -> Result<(), Fail> {
     let mut log = String::new(rt.alloc());
     for _ in 0..1000 {
         log.push_str("(1.000000) can0 7E8#1FFF414243444546\n")?;

@@ -64,7 +64,7 @@ fn read_back(rt: &impl Abort, alloc: Global, dir: Dir, message: &[u8]) -> Result
 }
 
 #[test]
-fn canonical_frames_are_received(rt: HostRuntime) -> Result<(), Fail> {
+fn canonical_frames_deliver_their_message(rt: HostRuntime) -> Result<(), Fail> {
     let alloc = rt.alloc();
     for len in [1, 7, 8, 13, 14, 4095, 4096, 65_535] {
         let message = message_of(alloc, len)?;
@@ -135,41 +135,55 @@ impl Style {
     }
 }
 
+/// The sizes of frames, and the length of the shortest message that takes more than one of them.
+const SIZES: [(u8, usize); 8] = [
+    (8, 8),
+    (12, 11),
+    (16, 15),
+    (20, 19),
+    (24, 23),
+    (32, 31),
+    (48, 47),
+    (64, 63),
+];
+
 #[test]
 fn size_and_padding_of_frames_change_nothing(rt: HostRuntime) -> Result<(), Fail> {
-    let alloc = rt.alloc();
-    for rx_dl in [8u8, 12, 16, 20, 24, 32, 48, 64] {
-        let least = if rx_dl == 8 { 8 } else { rx_dl as usize - 1 };
-        for len in [least, 4094, 4095, 4096, 65_535] {
-            let message = message_of(alloc, len)?;
-            for padding in [0x00, 0xFF] {
-                for long_last in [false, true] {
-                    let style = Style {
-                        rx_dl,
-                        padding,
-                        long_last,
-                    };
-                    let delivered = style.read(alloc, message.as_slice())?;
-                    assert_eq!(rt;
-                        delivered.as_slice(),
-                        message.as_slice(),
-                        "{len} bytes, {style:?}"
-                    );
-                    let canonical = read_back(&rt, alloc, Unit, delivered.as_slice())?;
-                    assert_eq!(rt;
-                        canonical.as_slice(),
-                        message.as_slice(),
-                        "{len} bytes, {style:?}"
-                    );
-                }
-            }
-        }
+    for (rx_dl, shortest) in SIZES {
+        assert_lengths(&rt, rt.alloc(), rx_dl, shortest)?;
+    }
+    Ok(())
+}
+
+/// Messages of several lengths are read as they were sent, in frames of this size.
+fn assert_lengths(rt: &impl Abort, alloc: Global, rx_dl: u8, shortest: usize) -> Result<(), Fail> {
+    for len in [shortest, 4094, 4095, 4096, 65_535] {
+        let message = message_of(alloc, len)?;
+        assert_styles(rt, alloc, rx_dl, message.as_slice())?;
+    }
+    Ok(())
+}
+
+/// The message is read as it was sent, however its last frame is filled up, and so are the canonical frames of what
+/// was read.
+fn assert_styles(rt: &impl Abort, alloc: Global, rx_dl: u8, message: &[u8]) -> Result<(), Fail> {
+    for (padding, long_last) in [(0x00, false), (0x00, true), (0xFF, false), (0xFF, true)] {
+        let style = Style {
+            rx_dl,
+            padding,
+            long_last,
+        };
+        let len = message.len();
+        let delivered = style.read(alloc, message)?;
+        assert_eq!(rt; delivered.as_slice(), message, "{len} bytes, {style:?}");
+        let canonical = read_back(rt, alloc, Unit, delivered.as_slice())?;
+        assert_eq!(rt; canonical.as_slice(), message, "{len} bytes, {style:?}");
     }
     Ok(())
 }
 
 #[test]
-fn vin_in_four_recordings(rt: HostRuntime) -> Result<(), Fail> {
+fn four_recordings_deliver_the_same_message(rt: HostRuntime) -> Result<(), Fail> {
     let alloc = rt.alloc();
     let message = b"\x62\xF1\x90WBA3A5C50EF123456";
     let classic: [(Dir, &[u8]); 4] = [

@@ -1,5 +1,6 @@
 //! Which logs are accepted, and where the others are refused.
 
+use crate::session::{VIN_LINES, log_of};
 use std::alloc::Global;
 use std::test::Fail;
 use trace_canon::{Config, Fault, Summary, normalise};
@@ -69,7 +70,7 @@ const LEGAL: [&str; 5] = [
 ];
 
 #[test]
-fn legal_lines_without_a_message(rt: HostRuntime) -> Result<(), Fail> {
+fn legal_lines_without_a_message_are_accepted(rt: HostRuntime) -> Result<(), Fail> {
     for log in LEGAL {
         let (answer, text) = run(rt.alloc(), log.as_bytes())?;
         assert_eq!(rt; answer.map(|summary| summary.lines), Ok(1), "{log}");
@@ -78,17 +79,15 @@ fn legal_lines_without_a_message(rt: HostRuntime) -> Result<(), Fail> {
     Ok(())
 }
 
-/// A session of 212 bytes.
-const SESSION: &[u8] =
-    b"(1700000000.000000) can0 7E0#0322F190\n(1700000000.012000) can0 7E8#101462F190574241\n(1700000000.012300) can0 7E0#300000\n(1700000000.020000) can0 7E8#2133413543353045\n(1700000000.030000) can0 7E8#2246313233343536\n";
-
 #[test]
-fn a_recording_that_breaks_off(rt: HostRuntime) -> Result<(), Fail> {
-    assert_eq!(rt; SESSION.len(), 212);
+fn a_recording_that_breaks_off_is_refused_at_its_end(rt: HostRuntime) -> Result<(), Fail> {
+    let log = log_of(rt.alloc(), &VIN_LINES)?;
+    assert_eq!(rt; log.len(), 212);
     let mut accepted = 0u32;
-    for len in 0..=SESSION.len() {
-        let (line, column) = end_of(&SESSION[..len]);
-        match run(rt.alloc(), &SESSION[..len])?.0 {
+    for len in 0..=log.len() {
+        let front = &log.as_bytes()[..len];
+        let (line, column) = end_of(front);
+        match run(rt.alloc(), front)?.0 {
             Ok(_) => accepted = accepted.saturating_add(1),
             Err(fault) => assert_eq!(rt; fault, Fault::BadLine { line, column }),
         }

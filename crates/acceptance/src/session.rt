@@ -44,7 +44,7 @@ impl Session {
         layers.orderer.finish(&mut layers.put)?;
         let meaning = layers.pairing.finish();
         let mut canonical = CanonicalLog::new(alloc);
-        let kept = canonical.put_meaning(&meaning)?;
+        let kept = put_meaning(&meaning, &mut canonical)?;
         assert!(rt; canonical.text == layers.put.text, "the orderer's text");
         assert!(rt; kept <= layers.messages);
         Ok(Session {
@@ -213,29 +213,6 @@ impl CanonicalLog {
         }
         Ok(())
     }
-
-    /// Puts the messages of a meaning in order: how many there are.
-    fn put_meaning(&mut self, meaning: &Meaning) -> Result<usize, Unwritten> {
-        let mut count = 0usize;
-        for i in 0..meaning.len() {
-            match meaning.item(i) {
-                Some(Item::Exchange { request, answer }) => {
-                    self.put_message(Tester, request)?;
-                    count = count.saturating_add(1);
-                    if let Some(answer) = answer {
-                        self.put_message(Unit, answer)?;
-                        count = count.saturating_add(1);
-                    }
-                }
-                Some(Item::Stray { dir, bytes }) => {
-                    self.put_message(*dir, bytes)?;
-                    count = count.saturating_add(1);
-                }
-                None => {}
-            }
-        }
-        Ok(count)
-    }
 }
 
 impl MessageSink for CanonicalLog {
@@ -251,6 +228,41 @@ impl MessageSink for CanonicalLog {
         self.put_message(dir, message)
     }
 }
+
+/// Puts the messages of a meaning in order: how many there are.
+pub(crate) fn put_meaning<S: MessageSink>(
+    meaning: &Meaning,
+    sink: &mut S,
+) -> Result<usize, S::Fault> {
+    let mut count = 0usize;
+    for i in 0..meaning.len() {
+        match meaning.item(i) {
+            Some(Item::Exchange { request, answer }) => {
+                sink.put(Tester, request)?;
+                count = count.saturating_add(1);
+                if let Some(answer) = answer {
+                    sink.put(Unit, answer)?;
+                    count = count.saturating_add(1);
+                }
+            }
+            Some(Item::Stray { dir, bytes }) => {
+                sink.put(*dir, bytes)?;
+                count = count.saturating_add(1);
+            }
+            None => {}
+        }
+    }
+    Ok(count)
+}
+
+/// A vehicle identification number, read in five classic frames.
+pub(crate) const VIN_LINES: [&str; 5] = [
+    "(1700000000.000000) can0 7E0#0322F190",
+    "(1700000000.012000) can0 7E8#101462F190574241",
+    "(1700000000.012300) can0 7E0#300000",
+    "(1700000000.020000) can0 7E8#2133413543353045",
+    "(1700000000.030000) can0 7E8#2246313233343536",
+];
 
 /// A log of these lines.
 pub(crate) fn log_of(alloc: Global, lines: &[&str]) -> Result<String, Fail> {

@@ -1,5 +1,6 @@
 -- The data of a canonical line: two digits for each byte.
-use Rattle.std.proofs.Common.{◌≡◌, ℕ, ◌+◌, ◌*◌, ◌/◌, ◌%◌, ◌<◌, ◌≤◌, List, [], ◌∷◌, ◌++◌, length, take, get_or, length-append, refl, ◌∙◌, arith, append-nil}
+use Rattle.std.proofs.Common.{◌≡◌, ℕ, ◌+◌, ◌*◌, ◌/◌, ◌%◌, ◌<◌, ◌≤◌, refl, ◌∙◌, arith}
+use Rattle.std.proofs.Common.{List, [], ◌∷◌, ◌++◌, length, take, get_or, length-append, append-nil}
 use Rattle.std.specs.List.{AllByRecursion, flat_map, replace_range}
 use Rattle.std.proofs.lemmas.Grind.{flat_map-append}
 use Rattle.std.proofs.lemmas.List.{take_more, length-take-le}
@@ -7,7 +8,7 @@ use Rattle.can_log.specs.Digits.{digit, digits, hexadecimal}
 use Rattle.can_log.specs.Line.{bytes_spelled}
 use Rattle.can_log.proofs.EachElement.{AllByRecursion-append}
 use Rattle.can_log.proofs.Replacing.{replace_range-more}
-use Rattle.can_log.proofs.CanonicalDigits.{length-digits, digit_value-digit, each_digit}
+use Rattle.can_log.proofs.Digits.{length-digits, digit_value-digit, each_digit}
 
 pub length-pairs : (bytes : List ℕ) → length (flat_map (hexadecimal 2) bytes) ≡ 2 * length bytes
 length-pairs [] = refl

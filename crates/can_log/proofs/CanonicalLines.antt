@@ -1,10 +1,11 @@
 -- A canonical line: its parts, what it means, its length, and how it is written.
-use Rattle.std.proofs.Common.{◌≡◌, ℕ, ◌+◌, ◌*◌, ◌/◌, ◌%◌, ◌^◌, ◌<◌, ◌≢◌, List, [], ◌∷◌, ◌++◌, get_or, length, length-append, refl, ◌∙◌, arith, append_assoc, append-nil, inl, inr, Some, None, true, rules}
+use Prim.Native.Char.{code}
+use Rattle.std.proofs.Common.{◌≡◌, ◌≢◌, ℕ, ◌+◌, ◌*◌, ◌/◌, ◌%◌, ◌^◌, ◌<◌, true, refl, ◌∙◌, arith, rules, inl, inr}
+use Rattle.std.proofs.Common.{List, [], ◌∷◌, ◌++◌, get_or, length, length-append, append_assoc, append-nil, Some, None}
 use Rattle.std.specs.Prelude.{codes, IsTrue, ◌==◌, not}
 use Rattle.std.specs.List.{AllByRecursion, flat_map, list_all, replace_range}
 use Rattle.std.specs.Char.{is_ascii_digit, is_ascii_hexdigit}
 use Rattle.std.specs.Str.Parse.{digits_value}
-use Rattle.std.proofs.lemmas.Bool.{and_parts}
 use Rattle.std.proofs.lemmas.Bool.Decides.{nat_tests}
 use Rattle.std.proofs.lemmas.Int.Digits.{digits_value_push}
 use Rattle.std.proofs.lemmas.List.Elements.{All-from_get_or, recursion_from_All}
@@ -16,9 +17,9 @@ use Rattle.can_log.specs.Refused.{NoLineFeed}
 use Rattle.can_log.specs.Log.{LogMeans}
 use Rattle.can_log.specs.Canonical.{identifier_text, IsSpellable, canonical_text, canonical_line, canonical_stamped}
 use Rattle.can_log.specs.CanonicalLaws.{CanonicalLineMeans, CanonicalTextIsOneLine, CanonicalLineLength}
-use Rattle.can_log.proofs.EachElement.{AllByRecursion-append}
+use Rattle.can_log.proofs.EachElement.{AllByRecursion-append, AllByRecursion-weaker, AllByRecursion-tested}
 use Rattle.can_log.proofs.Replacing.{replace_range-between}
-use Rattle.can_log.proofs.CanonicalDigits.{length-digits, each_digit, digits_value-digits}
+use Rattle.can_log.proofs.Digits.{length-digits, each_digit, digits_value-digits}
 use Rattle.can_log.proofs.CanonicalData.{length-pairs, each_pair, bytes_spelled-pairs}
 use Rattle.can_log.proofs.LogLines.{line_is_log}
 
@@ -54,7 +55,7 @@ hexadecimal_digit d small = grind (arith, nat_tests)
 
 micros_value : (millis : ℕ) → millis < 1000 → digits_value 10 (decimal 3 millis ++ codes "000") ≡ millis * 1000
 micros_value millis small =
-    let one : decimal 3 millis ++ codes "000" ≡ ((decimal 3 millis ++ 48 ∷ []) ++ 48 ∷ []) ++ 48 ∷ [] = simp append_assoc in
+    let one : decimal 3 millis ++ codes "000" ≡ ((decimal 3 millis ++ codes "0") ++ codes "0") ++ codes "0" = simp append_assoc in
     let value = digits_value-digits 10 (omega arith) (omega arith) 3 millis small in
     rw (one, digits_value_push, digits_value_push, digits_value_push, value) (omega arith)
 
@@ -132,7 +133,7 @@ canonical_line_length n (id.Ext number) bytes eight =
     simp length-append (omega arith)
 
 abbrev IsNoFeed : ℕ → Type 0
-IsNoFeed b = b ≢ 10
+IsNoFeed b = b ≢ code "\n"
 
 digit_is_no_feed : (d : ℕ) → d < 16 → IsNoFeed (digit d)
 digit_is_no_feed d small = grind (arith, nat_tests)
@@ -141,17 +142,15 @@ digit_is_no_feed d small = grind (arith, nat_tests)
 record IsOneLine (text : List ℕ) : Type 0 where
   none : NoLineFeed text
 
-no_feed_here : (b : ℕ) → not (b == 10) ≡ true → IsNoFeed b
+no_feed_here : (b : ℕ) → not (b == code "\n") ≡ true → IsNoFeed b
 no_feed_here b pass = grind (arith, nat_tests)
 
-no_feed_by_test : (text : List ℕ) → list_all (λ b. not (b == 10)) text ≡ true → NoLineFeed text
-no_feed_by_test [] pass = tt
-no_feed_by_test (b ∷ text) pass =
-    let parts = and_parts (not (b == 10)) (list_all (λ b. not (b == 10)) text) pass in
-    (no_feed_here b parts.0, no_feed_by_test text parts.1)
+no_feed_by_test : (text : List ℕ) → list_all (λ b. not (b == code "\n")) text ≡ true → NoLineFeed text
+no_feed_by_test text pass =
+    AllByRecursion-weaker (λ b. not (b == code "\n") ≡ true) IsNoFeed no_feed_here text (AllByRecursion-tested (λ b. not (b == code "\n")) text pass)
 
 -- a text whose bytes are known
-fixed : (text : List ℕ) → list_all (λ b. not (b == 10)) text ≡ true → IsOneLine text
+fixed : (text : List ℕ) → list_all (λ b. not (b == code "\n")) text ≡ true → IsOneLine text
 fixed text pass = record { none = no_feed_by_test text pass }
 
 decimals : (width number : ℕ) → IsOneLine (decimal width number)
@@ -182,7 +181,7 @@ canonical_text_is_one_line n identifier bytes =
 
 -- the parts that change are written over a template
 pub written : (n number : ℕ) (bytes one two three four : List ℕ) → length bytes ≡ 8
-    → one ≡ replace_range (codes "(0000000000.000000) can0 000#0000000000000000" ++ 10 ∷ []) 1 11 (decimal 10 (n / 1000))
+    → one ≡ replace_range (codes "(0000000000.000000) can0 000#0000000000000000" ++ codes "\n") 1 11 (decimal 10 (n / 1000))
     → two ≡ replace_range one 12 15 (decimal 3 (n % 1000))
     → three ≡ replace_range two 25 28 (hexadecimal 3 number)
     → four ≡ replace_range three 29 45 (flat_map (hexadecimal 2) bytes)
@@ -195,25 +194,25 @@ written n number bytes one two three four eight first second third fourth =
     let seconds_long : length seconds ≡ 10 = length-digits 10 10 (n / 1000) in
     let millis_long : length millis ≡ 3 = length-digits 10 3 (n % 1000) in
     let identifier_long : length identifier ≡ 3 = length-digits 16 3 number in
-    let one_is : one ≡ (codes "(" ++ (seconds ++ codes ".")) ++ (codes "000" ++ (codes "000) can0 000#0000000000000000" ++ 10 ∷ [])) =
-    first ∙ replace_range-between (codes "(") (codes "0000000000") (codes ".000000) can0 000#0000000000000000" ++ 10 ∷ []) seconds 1 11 refl refl
+    let one_is : one ≡ (codes "(" ++ (seconds ++ codes ".")) ++ (codes "000" ++ (codes "000) can0 000#0000000000000000" ++ codes "\n")) =
+    first ∙ replace_range-between (codes "(") (codes "0000000000") (codes ".000000) can0 000#0000000000000000" ++ codes "\n") seconds 1 11 refl refl
     ∙ simp append_assoc
     in
     let until_millis = codes "(" ++ (seconds ++ codes ".") in
-    let two_is : two ≡ (codes "(" ++ (seconds ++ (codes "." ++ (millis ++ codes "000) can0 ")))) ++ (codes "000" ++ (codes "#0000000000000000" ++ 10 ∷ [])) =
+    let two_is : two ≡ (codes "(" ++ (seconds ++ (codes "." ++ (millis ++ codes "000) can0 ")))) ++ (codes "000" ++ (codes "#0000000000000000" ++ codes "\n")) =
     rw one_is at second
-    ∙ replace_range-between until_millis (codes "000") (codes "000) can0 000#0000000000000000" ++ 10 ∷ []) millis 12 15 (simp length-append (omega arith)) refl
+    ∙ replace_range-between until_millis (codes "000") (codes "000) can0 000#0000000000000000" ++ codes "\n") millis 12 15 (simp length-append (omega arith)) refl
     ∙ simp append_assoc
     in
     let until_identifier = codes "(" ++ (seconds ++ (codes "." ++ (millis ++ codes "000) can0 "))) in
-    let three_is : three ≡ (until_identifier ++ (identifier ++ codes "#")) ++ (codes "0000000000000000" ++ 10 ∷ []) =
+    let three_is : three ≡ (until_identifier ++ (identifier ++ codes "#")) ++ (codes "0000000000000000" ++ codes "\n") =
     rw two_is at third
-    ∙ replace_range-between until_identifier (codes "000") (codes "#0000000000000000" ++ 10 ∷ []) identifier 25 28 (simp length-append (omega arith)) refl
+    ∙ replace_range-between until_identifier (codes "000") (codes "#0000000000000000" ++ codes "\n") identifier 25 28 (simp length-append (omega arith)) refl
     ∙ simp append_assoc
     in
     let until_data = until_identifier ++ (identifier ++ codes "#") in
     rw three_is at fourth
-    ∙ replace_range-between until_data (codes "0000000000000000") (10 ∷ []) (flat_map (hexadecimal 2) bytes) 29 45 (simp length-append (omega arith)) refl
+    ∙ replace_range-between until_data (codes "0000000000000000") (codes "\n") (flat_map (hexadecimal 2) bytes) 29 45 (simp length-append (omega arith)) refl
     ∙ simp append_assoc
 
 -- the line is a log that means its frame

@@ -1,119 +1,74 @@
--- The values of digits, and the bytes of pairs of them.
-use Rattle.std.proofs.Common.{◌≡◌, ℕ, zero, suc, ◌+◌, ◌-◌, ◌*◌, ◌%◌, ◌/◌, ◌<◌, ◌≤◌, true, false, List, [], ◌∷◌, ◌++◌, length, get_or, take, Some, Ok, refl, sym, ap, arith}
-use Rattle.std.specs.Char.{is_ascii_digit, is_ascii_hexdigit, digit_value}
-use Rattle.std.specs.Str.Parse.{digits_value, digits_value_after}
+-- The values of digits, and how large a number of so many digits is.
+use Prim.Native.Char.{code}
+use Rattle.std.proofs.Common.{◌≡◌, ℕ, ◌+◌, ◌-◌, ◌*◌, ◌^◌, ◌<◌, ◌≤◌, Bool, true, sym, arith}
+use Rattle.std.proofs.Common.{List, [], ◌∷◌, length, get_or, take}
 use Rattle.std.specs.List.{AllByRecursion}
+use Rattle.std.specs.Char.{is_ascii_digit, is_ascii_hexdigit, digit_value}
+use Rattle.std.specs.Str.Parse.{digits_value, AllDigits}
+use Rattle.std.proofs.Math.Nat.{pow-le-pow_right}
 use Rattle.std.proofs.lemmas.Bool.Decides.{nat_tests}
+use Rattle.std.proofs.lemmas.Int.Digits.{digits_value-lt, digits_value_more}
 use Rattle.std.proofs.lemmas.List.{length-take, take_more}
-use Rattle.std.specs.Prelude.{◌==◌}
-use Rattle.std.proofs.lemmas.Bool.{eq-eqb}
-use Rattle.hex.specs.Hex.{hex_digit_value, pair_value, decode_pairs, decode_sized}
-use Rattle.can_log.specs.Line.{bytes_spelled}
-use Rattle.can_log.proofs.EachElement.{AllByRecursion-append, AllByRecursion-take, AllByRecursion-weaker}
-use Rattle.can_log.proofs.Spelling.{hex_value}
+use Rattle.can_log.proofs.EachElement.{AllByRecursion-append, AllByRecursion-take}
 
-pub after_push : (r n : ℕ) (ds : List ℕ) (c : ℕ) → digits_value_after r n (ds ++ c ∷ []) ≡ digits_value_after r n ds * r + digit_value c
-after_push r n [] c = refl
-after_push r n (d ∷ ds) c = after_push r (n * r + digit_value d) ds c
+-- ---- one digit
 
-digit_below : (b : ℕ) → is_ascii_digit b ≡ true → digit_value b < 10
-digit_below b h = grind (arith, nat_tests)
+pub digit_is : (b : ℕ) → is_ascii_digit b ≡ true → (b - code "0" ≡ digit_value b) × (digit_value b < 10) × (code "0" ≤ b)
+digit_is b h = grind (arith, nat_tests)
 
--- one more than the largest number of so many digits behind n
-abbrev bound_ten : ℕ → ℕ → ℕ
-bound_ten zero n = n + 1
-bound_ten (suc k) n = bound_ten k (n * 10 + 9)
+-- a digit is at most 7 where it stands before `8`
+pub hex_value : (b : ℕ) → is_ascii_hexdigit b ≡ true → (digit_value b < 16) × (b < code "8" → digit_value b ≤ 7) × (code "8" ≤ b → 8 ≤ digit_value b)
+hex_value b h = grind (arith, nat_tests)
 
-bound_ten-le : (k a b : ℕ) → a ≤ b → bound_ten k a ≤ bound_ten k b
-bound_ten-le zero a b h = omega arith
-bound_ten-le (suc k) a b h = bound_ten-le k (a * 10 + 9) (b * 10 + 9) (omega arith)
-
-bound_ten-lt : (k n : ℕ) → n < bound_ten k n
-bound_ten-lt zero n = omega arith
-bound_ten-lt (suc k) n = omega (arith, bound_ten-lt k (n * 10 + 9))
-
-below_ten : (n k : ℕ) (ds : List ℕ) → AllByRecursion (λ b. digit_value b < 10) ds → length ds ≤ k → digits_value_after 10 n ds < bound_ten k n
-below_ten n k [] each few = bound_ten-lt k n
-below_ten n zero (d ∷ ds) each few = absurd (omega arith)
-below_ten n (suc k) (d ∷ ds) each few = omega (arith, below_ten (n * 10 + digit_value d) k ds each.1 (omega arith), bound_ten-le k (n * 10 + digit_value d) (n * 10 + 9) (omega (arith, each.0)))
-
--- one more than the largest number of so many digits behind n
-abbrev bound_sixteen : ℕ → ℕ → ℕ
-bound_sixteen zero n = n + 1
-bound_sixteen (suc k) n = bound_sixteen k (n * 16 + 15)
-
-bound_sixteen-le : (k a b : ℕ) → a ≤ b → bound_sixteen k a ≤ bound_sixteen k b
-bound_sixteen-le zero a b h = omega arith
-bound_sixteen-le (suc k) a b h = bound_sixteen-le k (a * 16 + 15) (b * 16 + 15) (omega arith)
-
-bound_sixteen-lt : (k n : ℕ) → n < bound_sixteen k n
-bound_sixteen-lt zero n = omega arith
-bound_sixteen-lt (suc k) n = omega (arith, bound_sixteen-lt k (n * 16 + 15))
-
-below_sixteen : (n k : ℕ) (ds : List ℕ) → AllByRecursion (λ b. digit_value b < 16) ds → length ds ≤ k → digits_value_after 16 n ds < bound_sixteen k n
-below_sixteen n k [] each few = bound_sixteen-lt k n
-below_sixteen n zero (d ∷ ds) each few = absurd (omega arith)
-below_sixteen n (suc k) (d ∷ ds) each few = omega (arith, below_sixteen (n * 16 + digit_value d) k ds each.1 (omega arith), bound_sixteen-le k (n * 16 + digit_value d) (n * 16 + 15) (omega (arith, each.0)))
+-- ---- digits in a row
 
 abbrev pub AreDigits : List ℕ → Type 0
 AreDigits = AllByRecursion (λ b. is_ascii_digit b ≡ true)
 
-abbrev AreHex : List ℕ → Type 0
+abbrev pub AreHex : List ℕ → Type 0
 AreHex = AllByRecursion (λ b. is_ascii_hexdigit b ≡ true)
 
-pub ten_digits : (ds : List ℕ) → AreDigits ds → length ds ≤ 10 → digits_value 10 ds < 10000000000
-ten_digits ds each few = below_ten 0 10 ds (AllByRecursion-weaker (λ b. is_ascii_digit b ≡ true) (λ b. digit_value b < 10) digit_below ds each) few
+-- at most so many digits of a base make a number below that power of the base
+module _ (base : ℕ) (is_digit : ℕ → Bool) (is_below : (b : ℕ) → is_digit b ≡ true → digit_value b < base) where
+  all_digits : (digits : List ℕ) → AllByRecursion (λ b. is_digit b ≡ true) digits → AllDigits base digits
+  all_digits [] each = tt
+  all_digits (d ∷ digits) each = (is_below d each.0, all_digits digits each.1)
 
-pub nine_digits : (ds : List ℕ) → AreDigits ds → length ds ≤ 9 → digits_value 10 ds < 1000000000
-nine_digits ds each few = below_ten 0 9 ds (AllByRecursion-weaker (λ b. is_ascii_digit b ≡ true) (λ b. digit_value b < 10) digit_below ds each) few
+  digits_value-below : 0 < base → (most : ℕ) (digits : List ℕ) → AllByRecursion (λ b. is_digit b ≡ true) digits → length digits ≤ most
+      → digits_value base digits < base ^ most
+  digits_value-below some most digits each few = omega (arith, digits_value-lt base digits (all_digits digits each), pow-le-pow_right some few)
 
-pub seven_hex : (ds : List ℕ) → AreHex ds → length ds ≤ 7 → digits_value 16 ds < 0x10000000
-seven_hex ds each few = below_sixteen 0 7 ds (AllByRecursion-weaker (λ b. is_ascii_hexdigit b ≡ true) (λ b. digit_value b < 16) (λ b h. (hex_value b h).0) ds each) few
+pub digits_so_far : (bytes : List ℕ) (n value : ℕ) → AreDigits (take n bytes) → n < 10 → value ≡ digits_value 10 (take n bytes) → value < 10 ^ 9
+digits_so_far bytes n value each few e =
+    rw e (digits_value-below 10 is_ascii_digit (λ b h. (digit_is b h).1) (omega arith) 9 (take n bytes) each (omega (arith, length-take n bytes)))
 
-pub digit_is : (b : ℕ) → is_ascii_digit b ≡ true → (b - 48 ≡ digit_value b) × (digit_value b < 10) × (48 ≤ b)
-digit_is b h = grind (arith, nat_tests)
+pub digits_in_all : (bytes : List ℕ) (n value : ℕ) → AreDigits (take n bytes) → n ≤ 10 → value ≡ digits_value 10 (take n bytes) → value < 10 ^ 10
+digits_in_all bytes n value each few e =
+    rw e (digits_value-below 10 is_ascii_digit (λ b h. (digit_is b h).1) (omega arith) 10 (take n bytes) each (omega (arith, length-take n bytes)))
 
--- the value of digits that are one fewer than ten
-pub digits_so_far : (bytes : List ℕ) (n value : ℕ) → AreDigits (take n bytes) → n < 10 → value ≡ digits_value 10 (take n bytes) → value < 1000000000
-digits_so_far bytes n value each few e = rw e (nine_digits (take n bytes) each (omega (arith, length-take n bytes)))
-
-pub digits_in_all : (bytes : List ℕ) (n value : ℕ) → AreDigits (take n bytes) → n ≤ 10 → value ≡ digits_value 10 (take n bytes) → value < 10000000000
-digits_in_all bytes n value each few e = rw e (ten_digits (take n bytes) each (omega (arith, length-take n bytes)))
+-- digits before the last of eight
+pub next_hex : (ds : List ℕ) (i n : ℕ) → AreHex ds → length ds ≤ 8 → i < length ds → n ≡ digits_value 16 (take i ds) → n < 16 ^ 7
+next_hex ds i n each few lt e =
+    let front = AllByRecursion-take (λ b. is_ascii_hexdigit b ≡ true) i ds each in
+    rw e (digits_value-below 16 is_ascii_hexdigit (λ b h. (hex_value b h).0) (omega arith) 7 (take i ds) front (omega (arith, length-take i ds)))
 
 pub digits_more : (bytes : List ℕ) (n : ℕ) → n < length bytes → AreDigits (take n bytes) → is_ascii_digit (get_or bytes n 0) ≡ true → AreDigits (take (n + 1) bytes)
-digits_more bytes n lt each h = rw (take_more bytes n 0 lt) (AllByRecursion-append (λ b. is_ascii_digit b ≡ true) (take n bytes) (get_or bytes n 0 ∷ []) each (h, tt))
+digits_more bytes n lt each h =
+    rw (take_more bytes n 0 lt) (AllByRecursion-append (λ b. is_ascii_digit b ≡ true) (take n bytes) (get_or bytes n 0 ∷ []) each (h, tt))
 
-pub one_more : (r : ℕ) (ds : List ℕ) (i n d : ℕ) → i < length ds → n ≡ digits_value r (take i ds) → d ≡ digit_value (get_or ds i 0) → n * r + d ≡ digits_value r (take (i + 1) ds)
-one_more r ds i n d lt e k =
-    let s : take (i + 1) ds ≡ take i ds ++ get_or ds i 0 ∷ [] = take_more ds i 0 lt in
-    rw (s, e, k) (sym (after_push r 0 (take i ds) (get_or ds i 0)))
+pub one_more : (r : ℕ) (ds : List ℕ) (i n d : ℕ) → i < length ds → n ≡ digits_value r (take i ds) → d ≡ digit_value (get_or ds i 0)
+    → n * r + d ≡ digits_value r (take (i + 1) ds)
+one_more r ds i n d lt e k = rw (e, k) (sym (digits_value_more r ds i lt))
 
-pub next_hex : (ds : List ℕ) (i n : ℕ) → AreHex ds → length ds ≤ 8 → i < length ds → n ≡ digits_value 16 (take i ds) → n < 0x10000000
-next_hex ds i n each few lt e = rw e (seven_hex (take i ds) (AllByRecursion-take (λ b. is_ascii_hexdigit b ≡ true) i ds each) (omega (arith, length-take i ds)))
+-- three digits spell at most 7FF where the first is at most 7, and more where it is not
+pub three_low : (a b c : ℕ) → AreHex (a ∷ b ∷ c ∷ []) → a < code "8" → digits_value 16 (a ∷ b ∷ c ∷ []) ≤ 0x7FF
+three_low a b c each low = bound (digit_value a) (digit_value b) (digit_value c) ((hex_value a each.0).1 low) (hex_value b each.1.0).0 (hex_value c each.1.1.0).0
+  where
+    bound : (x y z : ℕ) → x ≤ 7 → y < 16 → z < 16 → ((0 * 16 + x) * 16 + y) * 16 + z ≤ 0x7FF
+    bound x y z h k l = omega arith
 
--- ---- pairs of digits
-
-hex_is : (b : ℕ) → is_ascii_hexdigit b ≡ true → hex_digit_value b ≡ Some (digit_value b)
-hex_is b h = grind (arith, nat_tests)
-
-pair_is : (h l i : ℕ) → is_ascii_hexdigit h ≡ true → is_ascii_hexdigit l ≡ true → pair_value h l i ≡ Ok (16 * digit_value h + digit_value l)
-pair_is h l i hh hl =
-    let swap : digit_value h * 16 + digit_value l ≡ 16 * digit_value h + digit_value l = omega arith in
-    rw (hex_is h hh, hex_is l hl) (ap (λ (z : ℕ). Ok z) swap)
-
-decode_all : (i : ℕ) (ds : List ℕ) → AreHex ds → length ds % 2 ≡ 0 → decode_pairs i ds ≡ Ok (bytes_spelled ds)
-unfolding decode_pairs
-decode_all i [] each even = refl
-decode_all i (h ∷ []) each even = absurd (omega arith)
-decode_all i (h ∷ l ∷ ds) each even = rw (pair_is h l i each.0 each.1.0, decode_all (i + 2) ds each.1.1 (omega arith)) refl
-
-pub decode_fits : (ds : List ℕ) (n : ℕ) → AreHex ds → length ds % 2 ≡ 0 → n ≡ length ds / 2 → decode_sized ds n ≡ Ok (bytes_spelled ds)
-decode_fits ds n each even e =
-    let odd : (length ds % 2 == 1) ≡ false = ap (λ (z : ℕ). z == 1) even in
-    let size : (length ds / 2 == n) ≡ true = eq-eqb (length ds / 2) n (sym e) in
-    rw (odd, size) (decode_all 0 ds each even)
-
-pub bytes_len : (ds : List ℕ) → length ds % 2 ≡ 0 → 2 * length (bytes_spelled ds) ≡ length ds
-bytes_len [] even = refl
-bytes_len (h ∷ []) even = absurd (omega arith)
-bytes_len (h ∷ l ∷ ds) even = omega (arith, bytes_len ds (omega arith))
+pub three_high : (a b c : ℕ) → AreHex (a ∷ b ∷ c ∷ []) → code "8" ≤ a → digits_value 16 (a ∷ b ∷ c ∷ []) ≤ 0x7FF → ⊥
+three_high a b c each high h = bound (digit_value a) (digit_value b) (digit_value c) ((hex_value a each.0).2 high) h
+  where
+    bound : (x y z : ℕ) → 8 ≤ x → ((0 * 16 + x) * 16 + y) * 16 + z ≤ 0x7FF → ⊥
+    bound x y z h k = omega arith

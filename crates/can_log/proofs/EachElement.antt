@@ -1,7 +1,8 @@
 -- What holds of each element of a list: std's lemmas on `All`, for `AllByRecursion`.
 use Prim.Native.Nat.{zero, suc}
-use Rattle.std.proofs.Common.{ℕ, List, [], ◌∷◌, ◌++◌, drop, take, replicate, subst, sym}
-use Rattle.std.specs.List.{AllByRecursion}
+use Rattle.std.proofs.Common.{◌≡◌, ℕ, Bool, true, List, [], ◌∷◌, ◌++◌, drop, take, replicate, subst, sym}
+use Rattle.std.specs.List.{AllByRecursion, list_all}
+use Rattle.std.proofs.lemmas.Bool.{and_parts}
 use Rattle.std.proofs.lemmas.List.{take-append-drop}
 
 module _ {X : Type 0} (P : X → Type 0) where
@@ -34,3 +35,10 @@ module _ {X : Type 0} (P : X → Type 0) where
   pub AllByRecursion-both : (Q R : X → Type 0) → ((x : X) → P x → Q x → R x) → (xs : List X) → AllByRecursion P xs → AllByRecursion Q xs → AllByRecursion R xs
   AllByRecursion-both Q R implies [] each other = tt
   AllByRecursion-both Q R implies (x ∷ xs) each other = (implies x each.0 other.0, AllByRecursion-both Q R implies xs each.1 other.1)
+
+-- where a test passes on each element
+pub AllByRecursion-tested : {X : Type 0} (test : X → Bool) (xs : List X) → list_all test xs ≡ true → AllByRecursion (λ x. test x ≡ true) xs
+AllByRecursion-tested test [] all = tt
+AllByRecursion-tested test (x ∷ xs) all =
+    let parts = and_parts (test x) (list_all test xs) all in
+    (parts.0, AllByRecursion-tested test xs parts.1)

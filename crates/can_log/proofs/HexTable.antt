@@ -5,7 +5,7 @@ use Rattle.std.proofs.lemmas.List.FromFn.{get_or-map-range_with_len}
 use Rattle.std.specs.List.{range_with_len}
 use Rattle.std.specs.Char.{is_ascii_hexdigit, digit_value}
 use Rattle.can_log.specs.declared.hexadecimal.TheConstants.{DIGIT_VALUES}
-use Rattle.can_log.proofs.Spelling.{hex_value}
+use Rattle.can_log.proofs.DigitValues.{hex_value}
 
 abbrev mark : ℕ → ℕ
 mark b = cond (is_ascii_hexdigit b) (digit_value b) 255

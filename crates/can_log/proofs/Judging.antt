@@ -11,7 +11,7 @@ use Rattle.can_log.specs.Judging.{IsFirstRefused}
 use Rattle.can_log.specs.FieldReader.{Gives}
 use Rattle.can_log.specs.LineReader.{line_at, meaning_by, AreLineParts}
 use Rattle.can_log.specs.Views.{line_parts_of, OnShort, OnRefused}
-use Rattle.can_log.proofs.RunLaws.{value_is}
+use Rattle.can_log.proofs.Results.{value_is}
 use Rattle.can_log.proofs.LineReads.{read_means, means_read, short_becomes, refused_first, read_parts}
 
 abbrev pub Judges : Result (Option Parts) Stop → List ℕ → Type 0

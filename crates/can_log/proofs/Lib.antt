@@ -1,10 +1,16 @@
+-- general lemmas
 pub mod EachElement
-pub mod Replacing
-pub mod CanonicalDigits
-pub mod CanonicalData
-pub mod LogLines
-pub mod CanonicalLines
 pub mod Lists
+pub mod Cuts
+pub mod Replacing
+pub mod FirstBytes
+pub mod Results
+-- digits
+pub mod Digits
+pub mod DigitValues
+pub mod SpelledBytes
+pub mod HexTable
+-- a line, field by field
 pub mod Runs
 pub mod FieldLaws
 pub mod RunLaws
@@ -12,14 +18,22 @@ pub mod SmallFields
 pub mod LineFields
 pub mod Spelling
 pub mod LineReads
+pub mod PlainLines
 pub mod Judging
-pub mod HexTable
-pub mod DigitValues
-pub mod LineLength
+-- what holds of lines
 pub mod LineFeeds
+pub mod LineLength
+pub mod RecordedBytes
+-- logs
+pub mod LogLines
 pub mod RefusedPlaces
+pub mod RefusedLogs
+pub mod LegalOrRefused
+-- the scanner
 pub mod ScannerSteps
 pub mod LogReads
-pub mod LegalOrRefused
-pub mod RecordedBytes
+-- canonical lines
+pub mod CanonicalData
+pub mod CanonicalLines
+-- what the crates above may cite, besides EachElement
 pub mod Promises

@@ -1,5 +1,7 @@
 -- How long a line is, and what that says of the bytes so far.
-use Rattle.std.proofs.Common.{◌≡◌, ℕ, ◌+◌, ◌-◌, ◌≤◌, List, [], ◌∷◌, ◌++◌, length, take, drop, Option, Some, None, sym, ap, subst, ◌∙◌, append_assoc, arith, inl, inr, length-append}
+use Rattle.std.proofs.Common.{◌≡◌, ℕ, ◌+◌, ◌-◌, ◌≤◌, sym, ap, subst, ◌∙◌, arith, inl, inr}
+use Rattle.std.proofs.Common.{List, ◌∷◌, ◌++◌, length, take, drop, append_assoc, length-append, Option, Some, None}
+use Rattle.std.specs.Prelude.{codes}
 use Rattle.std.proofs.lemmas.List.{length-take, take-append-drop, take_all}
 use Rattle.std.proofs.lemmas.Bool.{cases_lt}
 use Rattle.can_log.specs.declared.scanner.Verdict.{Verdict}
@@ -8,6 +10,7 @@ use Rattle.can_log.specs.Line.{Body, classic, remote, fd, LineSpelling, spell_bo
 use Rattle.can_log.specs.declared.frame.Stamped.{Stamped}
 use Rattle.can_log.specs.Refused.{HasCompletion}
 use Rattle.can_log.specs.Judging.{Judged, IsRefusedAt, IsFirstRefused}
+use Rattle.can_log.proofs.Lists.{parts_more}
 
 body_length : (b : Body) → IsBody b → length (spell_body b) ≤ 130
 body_length (classic ds None) h = simp length-append (omega (arith, h.0.few))
@@ -31,19 +34,24 @@ pub means_length : (bytes : List ℕ) (s : Option Stamped) → LineMeans bytes s
 means_length bytes None (inl e) = omega (arith, ap (λ (z : List ℕ). length z) e)
 means_length bytes None (inr e) = omega (arith, ap (λ (z : List ℕ). length z) e)
 means_length bytes (Some s) (l, is, inl e, eq) = omega (arith, ap (λ (z : List ℕ). length z) e, spelling_length l is)
-means_length bytes (Some s) (l, is, inr e, eq) = omega (arith, ap (λ (z : List ℕ). length z) e, spelling_length l is, length-append (spell_line l) (13 ∷ []))
+means_length bytes (Some s) (l, is, inr e, eq) = omega (arith, ap (λ (z : List ℕ). length z) e, spelling_length l is, length-append (spell_line l) (codes "\r"))
 
 pub becomes_length : (bytes : List ℕ) → HasCompletion bytes → length bytes ≤ 223
 becomes_length bytes (more, s, few, m) = omega (arith, means_length (bytes ++ more) s m, length-append bytes more)
 
-pub refused_column : (bytes rest : List ℕ) → IsFirstRefused bytes rest → (length bytes - length rest + 1 ≤ 224) × IsRefusedAt bytes (length bytes - length rest + 1)
+-- the column of a refused byte, by how many bytes are left
+pub refused_column : (bytes rest : List ℕ) → IsFirstRefused bytes rest
+    → (length bytes - length rest + 1 ≤ 224) × IsRefusedAt bytes (length bytes - length rest + 1)
 refused_column bytes rest r =
     let whole : length bytes ≡ length r.text + (length r.after + 1) = omega (arith, ap (λ (z : List ℕ). length z) r.parts, length-append r.text (r.bad ∷ r.after)) in
     let left : length rest ≡ length r.after + 1 = omega (arith, ap (λ (z : List ℕ). length z) r.at) in
-    (omega (arith, whole, left, becomes_length r.text r.legal), record { text = r.text; bad = r.bad; after = r.after; parts = r.parts; at = omega (arith, whole, left); legal = r.legal; hopeless = r.hopeless })
+    let at : length bytes - length rest + 1 ≡ length r.text + 1 = omega (arith, whole, left) in (
+      omega (arith, at, becomes_length r.text r.legal),
+      record { text = r.text; bad = r.bad; after = r.after; parts = r.parts; at = at; legal = r.legal; hopeless = r.hopeless },
+    )
 
 -- a verdict on 224 bytes is one on all
-pub joined_judged : (line bytes : List ℕ) (n : ℕ) (v : Verdict) → length line + n ≡ 224 → n ≤ length bytes → Judged (line ++ take n bytes) v → Judged (line ++ bytes) v
+joined_judged : (line bytes : List ℕ) (n : ℕ) (v : Verdict) → length line + n ≡ 224 → n ≤ length bytes → Judged (line ++ take n bytes) v → Judged (line ++ bytes) v
 joined_judged line bytes n v size long h = by v h
   where
     len : length (line ++ take n bytes) ≡ 224
@@ -58,7 +66,7 @@ joined_judged line bytes n v size long h = by v h
       after = r.after ++ drop n bytes;
       parts =
           ap (λ (z : List ℕ). line ++ z) (sym (take-append-drop n bytes)) ∙ sym (append_assoc line (take n bytes) (drop n bytes))
-          ∙ ap (λ (z : List ℕ). z ++ drop n bytes) r.parts ∙ append_assoc r.text (r.bad ∷ r.after) (drop n bytes);
+          ∙ parts_more r.text (r.bad ∷ r.after) r.parts (drop n bytes);
       at = r.at;
       legal = r.legal;
       hopeless = r.hopeless;

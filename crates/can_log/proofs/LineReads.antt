@@ -1,6 +1,8 @@
 -- What is read of a line is what it means, and a byte is refused exactly where no line begins so.
-use Rattle.std.proofs.Common.{◌≡◌, ℕ, Bool, List, [], ◌∷◌, ◌++◌, drop, Option, Some, None, Ok, Err, refl, sym, ap, subst, ◌∙◌, append_assoc, arith, inl, inr}
-use Rattle.std.specs.Prelude.{◌==◌}
+use Prim.Native.Char.{code}
+use Rattle.std.proofs.Common.{◌≡◌, ℕ, Bool, refl, sym, ap, subst, ◌∙◌, arith, inl, inr}
+use Rattle.std.proofs.Common.{List, [], ◌∷◌, ◌++◌, drop, append_assoc, Option, Some, None, Ok, Err}
+use Rattle.std.specs.Prelude.{◌==◌, codes}
 use Rattle.std.proofs.lemmas.Bool.{eqb-true}
 use Rattle.std.proofs.lemmas.List.{append-nil}
 use Rattle.can_log.specs.Line.{Body, classic, remote, fd, IsBody, LineSpelling, spell_line, IsLineText, LineMeans}
@@ -8,15 +10,21 @@ use Rattle.can_log.specs.declared.frame.Stamped.{Stamped}
 use Rattle.can_log.specs.Refused.{HasCompletion, HasNoCompletion}
 use Rattle.can_log.specs.Judging.{IsFirstRefused}
 use Rattle.can_log.specs.FieldReader.{short, refused, FieldRead, ◌>>=◌, byte_at, both, either, seen}
-use Rattle.can_log.specs.LineReader.{Parts, stamp_at, place_at, identifier_at, body_at, mark_at, end_at, frame_at, line_at, stamped_by, meaning_by, AreParts, AreLineParts, FitsBody}
-use Rattle.can_log.proofs.FieldLaws.{IsOpen, CanEnd, Law, Both, both_law, Either, Starts, Misses, either_law, which, bind_ok, bind_err, both_is}
-use Rattle.can_log.proofs.RunLaws.{OneByte, byte_law, byte_is, rest_is, value_is}
+use Rattle.can_log.specs.LineReader.{Parts, stamp_at, place_at, identifier_at, body_at, mark_at, end_at, frame_at, line_at}
+use Rattle.can_log.specs.LineReader.{stamped_by, meaning_by, AreParts, AreLineParts, FitsBody}
+use Rattle.can_log.proofs.Lists.{parts_more}
+use Rattle.can_log.proofs.FirstBytes.{Starts, Misses, any_follows}
+use Rattle.can_log.proofs.Results.{bind_ok, bind_err, value_is, rest_is}
+use Rattle.can_log.proofs.FieldLaws.{Reader, IsOpen, CanEnd, can_end_as, Law, Both, both_of, both_is, both_law, Either, which, either_law}
+use Rattle.can_log.proofs.RunLaws.{OneByte, byte_law, byte_is, both_starts}
 use Rattle.can_log.proofs.SmallFields.{Never, IsEnd, end_law, Seen, seen_law, seen_failed, end_done}
-use Rattle.can_log.proofs.LineFields.{FrameOn, parts_of, frame_law, any_follows, both_starts, frame_on_begins}
+use Rattle.can_log.proofs.LineFields.{FrameOn, parts_of, frame_law, frame_begins}
 use Rattle.can_log.proofs.Spelling.{parts_in, tree_of, nested_of, to_tree, from_tree}
 
+-- ---- the law of a line
+
 abbrev Opened : Option Parts → List ℕ → Type 0
-Opened = Seen (λ p. Some p.1) (Both (OneByte 40) (λ _. Seen parts_of FrameOn))
+Opened = Seen (λ p. Some p.1) (Both (OneByte (code "(")) (λ _. Seen parts_of FrameOn))
 
 abbrev Empty : Option Parts → List ℕ → Type 0
 Empty = Seen (λ _. None) IsEnd
@@ -24,48 +32,64 @@ Empty = Seen (λ _. None) IsEnd
 abbrev LineForm : Option Parts → List ℕ → Type 0
 LineForm = Either Opened Empty
 
-opened_law : Law (seen (λ p. Some p.1) (both (byte_at 40) (λ _. frame_at))) Opened Never 17
-opened_law = seen_law (λ p. Some p.1) (both_law (byte_law 40) (λ _. frame_law) 16 17 (record { follows = λ v w text rest form after. any_follows (text ++ rest); begins = λ _. frame_on_begins }) (omega arith) (omega arith))
+-- what stands behind the `(`, and behind nothing
+abbrev opened_at : Reader (Option Parts)
+opened_at = seen (λ p. Some p.1) (both (byte_at (code "(")) (λ _. frame_at))
+
+abbrev empty_at : Reader (Option Parts)
+empty_at = seen (λ _. None) end_at
+
+opened_law : Law opened_at Opened Never 17
+opened_law = seen_law (λ p. Some p.1) (both_law (byte_law (code "(")) (λ _. frame_law) 16 17 (omega arith) (omega arith) (record {
+  follows = λ v w text rest form after. any_follows (text ++ rest);
+  begins = λ _. frame_begins;
+}))
+
+empty_law : Law empty_at Empty Never 0
+empty_law = seen_law (λ _. None) end_law
 
 line_law : Law line_at LineForm Never 17
-line_law = either_law (λ b. b == 40) opened_law (seen_law (λ _. None) end_law) 17 (record {
-  starts = λ v text (p, f, is). both_starts (λ b. b == 40) 40 refl text f;
-  misses = λ v text (p, f, is). elim f [ inl none ↦ subst (Misses (λ b. b == 40)) (sym none) tt | inr cr ↦ subst (Misses (λ b. b == 40)) (sym cr) refl ];
+line_law = either_law (λ b. b == code "(") opened_law empty_law 17 (omega arith) (omega arith) (record {
+  starts = λ v text (p, f, is). both_starts (λ b. b == code "(") (code "(") refl text f;
+  misses = λ v text (p, f, is). elim f [
+    | inl none ↦ subst (Misses (λ b. b == code "(")) (sym none) tt
+    | inr cr ↦ subst (Misses (λ b. b == code "(")) (sym cr) refl
+  ];
   after = λ b h. absurd h;
-}) (omega arith) (omega arith)
+})
 
 -- ---- nothing stands behind a line
 
-abbrev Whole : {V : Type 0} → (List ℕ → FieldRead V) → Type 0
+abbrev Whole : {V : Type 0} → Reader V → Type 0
 Whole {V} read = (bytes : List ℕ) (v : V) (rest : List ℕ) → read bytes ≡ Ok (v, rest) → rest ≡ []
 
-both_whole : {V W : Type 0} (read : List ℕ → FieldRead V) (next : V → List ℕ → FieldRead W) → ((v : V) → Whole (next v)) → Whole (both read next)
+both_whole : {V W : Type 0} (read : Reader V) (next : V → Reader W) → ((v : V) → Whole (next v)) → Whole (both read next)
 unfolding both
-both_whole {V} {W} read next whole bytes p rest e =
+both_whole read next whole bytes p rest e =
     let x = bind_ok (read bytes) (λ x. next x.0 x.1 >>= λ y. Ok ((x.0, y.0), y.1)) (p, rest) e in
     let y = bind_ok (next x.0.0 x.0.1) (λ y. Ok ((x.0.0, y.0), y.1)) (p, rest) x.2 in
     sym (rest_is (x.0.0, y.0.0) p y.0.1 rest y.2) ∙ whole x.0.0 x.0.1 y.0.0 y.0.1 y.1
 
-seen_whole : {V W : Type 0} (view : V → W) (read : List ℕ → FieldRead V) → Whole read → Whole (seen view read)
+seen_whole : {V W : Type 0} (view : V → W) (read : Reader V) → Whole read → Whole (seen view read)
 unfolding seen
-seen_whole {V} {W} view read whole bytes w rest e =
+seen_whole view read whole bytes w rest e =
     let x = bind_ok (read bytes) (λ x. Ok (view x.0, x.1)) (w, rest) e in
     sym (rest_is (view x.0.0) w x.0.1 rest x.2) ∙ whole bytes x.0.0 x.0.1 x.1
 
-either_whole : {V : Type 0} (test : ℕ → Bool) (one other : List ℕ → FieldRead V) → Whole one → Whole other → Whole (either test one other)
-either_whole test one other w1 w2 bytes v rest e = elim (which test one other bytes) [
-  | inl (h, is) ↦ w1 bytes v rest (sym is ∙ e)
-  | inr (h, is) ↦ w2 bytes v rest (sym is ∙ e)
+either_whole : {V : Type 0} (test : ℕ → Bool) (one other : Reader V) → Whole one → Whole other → Whole (either test one other)
+either_whole test one other one_whole other_whole bytes v rest e = elim (which test one other bytes) [
+  | inl (h, is) ↦ one_whole bytes v rest (sym is ∙ e)
+  | inr (h, is) ↦ other_whole bytes v rest (sym is ∙ e)
 ]
 
-end_whole : Whole end_at
-end_whole bytes v rest e = end_done bytes v rest e
+frame_whole : Whole frame_at
+frame_whole =
+    seen_whole parts_of _ (both_whole stamp_at _ (λ _. both_whole place_at _ (λ _. both_whole identifier_at _ (λ _. both_whole (byte_at (code "#")) _
+    (λ _. both_whole body_at _ (λ _. both_whole mark_at (λ _. end_at) (λ _. end_done)))))))
 
 line_whole : Whole line_at
-line_whole = either_whole (λ b. b == 40) (seen (λ p. Some p.1) (both (byte_at 40) (λ _. frame_at))) (seen (λ _. None) end_at)
-    (seen_whole (λ p. Some p.1) (both (byte_at 40) (λ _. frame_at)) (both_whole (byte_at 40) (λ _. frame_at) (λ _. seen_whole parts_of _
-    (both_whole stamp_at _ (λ _. both_whole place_at _ (λ _. both_whole identifier_at _ (λ _. both_whole (byte_at 35) _ (λ _. both_whole body_at _ (λ _. both_whole mark_at _ (λ _. end_whole))))))))))
-    (seen_whole (λ _. None) end_at end_whole)
+line_whole = either_whole (λ b. b == code "(") opened_at empty_at (seen_whole (λ p. Some p.1) _ (both_whole (byte_at (code "(")) (λ _. frame_at) (λ _. frame_whole)))
+    (seen_whole (λ _. None) end_at end_done)
 
 -- ---- forms and meanings
 
@@ -73,29 +97,34 @@ form_means : (o : Option Parts) (bytes : List ℕ) → LineForm o bytes → Line
 form_means o bytes (inl (p, f, is)) =
     let n = f.second.0 in
     let t = to_tree n f.back f.second.1 in
-    let whole : bytes ≡ 40 ∷ f.back = f.is ∙ ap (λ (z : List ℕ). z ++ f.back) f.first in
-    subst (λ (o : Option Parts). LineMeans bytes (meaning_by o)) is (tree_of n, t.0, subst (IsLineText (spell_line (tree_of n))) (sym whole) t.1, ap stamped_by (sym f.second.2))
+    let whole : bytes ≡ code "(" ∷ f.back = f.is ∙ ap (λ (z : List ℕ). z ++ f.back) f.first in
+    let text = subst (IsLineText (spell_line (tree_of n))) (sym whole) t.1 in
+    subst (λ (o : Option Parts). LineMeans bytes (meaning_by o)) is (tree_of n, t.0, text, ap stamped_by (sym f.second.2))
 form_means o bytes (inr (p, e, is)) = subst (λ (o : Option Parts). LineMeans bytes (meaning_by o)) is e
 
-open_paren : (l : LineSpelling) (bytes : List ℕ) → IsLineText (spell_line l) bytes → bytes ≡ 40 ∷ drop 1 bytes
-open_paren l bytes (inl e) = e ∙ ap (λ (z : List ℕ). 40 ∷ drop 1 z) (sym e)
-open_paren l bytes (inr e) = e ∙ ap (λ (z : List ℕ). 40 ∷ drop 1 z) (sym e)
+open_paren : (l : LineSpelling) (bytes : List ℕ) → IsLineText (spell_line l) bytes → bytes ≡ code "(" ∷ drop 1 bytes
+open_paren l bytes (inl e) = e ∙ ap (λ (z : List ℕ). code "(" ∷ drop 1 z) (sym e)
+open_paren l bytes (inr e) = e ∙ ap (λ (z : List ℕ). code "(" ∷ drop 1 z) (sym e)
 
 means_form : (bytes : List ℕ) (s : Option Stamped) → LineMeans bytes s → (o : Option Parts) × LineForm o bytes × (meaning_by o ≡ s)
 means_form bytes None e = (None, inr (tt, e, refl), refl)
 means_form bytes (Some s) (l, is, ends, eq) =
     let whole = open_paren l bytes ends in
     let f = from_tree l (drop 1 bytes) is (subst (IsLineText (spell_line l)) whole ends) in
-    (Some (parts_in l), inl ((tt, parts_in l), record { front = 40 ∷ []; back = drop 1 bytes; first = refl; second = (nested_of l, f, refl); is = whole }, refl), ap (λ (z : Stamped). Some z) (sym eq))
+    let opened : Opened (Some (parts_in l)) (code "(" ∷ drop 1 bytes) =
+    ((tt, parts_in l), both_of (codes "(") (drop 1 bytes) refl (nested_of l, f, refl), refl)
+    in
+    (Some (parts_in l), inl (subst (Opened (Some (parts_in l))) (sym whole) opened), ap (λ (z : Stamped). Some z) (sym eq))
 
--- ---- what was read, and what was not
+-- ---- what was read
 
 -- What is read is what the line means.
 pub read_means : (bytes : List ℕ) (o : Option Parts) (rest : List ℕ) → line_at bytes ≡ Ok (o, rest) → LineMeans bytes (meaning_by o)
 read_means bytes o rest e =
     let t = line_law.takes bytes o rest e in
     let none = line_whole bytes o rest e in
-    subst (λ (z : List ℕ). LineMeans z (meaning_by o)) (sym (t.parts ∙ ap (λ (z : List ℕ). t.text ++ z) none ∙ append-nil t.text)) (form_means o t.text t.form)
+    let whole : bytes ≡ t.text = t.parts ∙ ap (λ (z : List ℕ). t.text ++ z) none ∙ append-nil t.text in
+    subst (λ (z : List ℕ). LineMeans z (meaning_by o)) (sym whole) (form_means o t.text t.form)
 
 -- What a line means is read.
 pub means_read : (bytes : List ℕ) (s : Option Stamped) → LineMeans bytes s → (o : Option Parts) × (line_at bytes ≡ Ok (o, [])) × (meaning_by o ≡ s)
@@ -109,53 +138,6 @@ one_meaning bytes s t m n =
     let a = means_read bytes s m in
     let b = means_read bytes t n in
     sym a.2 ∙ ap meaning_by (value_is a.0 b.0 [] [] (sym a.1 ∙ b.1)) ∙ b.2
-
-form_becomes : (bytes : List ℕ) → CanEnd LineForm 16 bytes → HasCompletion bytes
-form_becomes bytes c = (c.more, meaning_by c.value, c.few, form_means c.value (bytes ++ c.more) c.form)
-
--- A line that falls short can be completed.
-pub short_becomes : (bytes : List ℕ) → line_at bytes ≡ Err short → HasCompletion bytes
-short_becomes bytes e = elim (which (λ b. b == 40) (seen (λ p. Some p.1) (both (byte_at 40) (λ _. frame_at))) (seen (λ _. None) end_at) bytes) [
-  | inl (h, is) ↦ opened bytes h (seen_failed (λ p. Some p.1) (both (byte_at 40) (λ _. frame_at)) bytes short (sym is ∙ e))
-  | inr (h, is) ↦ let c = (seen_law (λ _. None) end_law).shorts bytes (sym is ∙ e) in form_becomes bytes (record { more = c.more; value = c.value; few = omega (arith, c.few); form = inr c.form })
-]
-  where
-    opened : (bytes : List ℕ) → Starts (λ b. b == 40) bytes → both (byte_at 40) (λ _. frame_at) bytes ≡ Err short → HasCompletion bytes
-    opened [] h k = absurd h
-    opened (b ∷ rest) h k =
-        let is : b ≡ 40 = eqb-true b 40 h in
-        let c = frame_law.shorts rest (after_paren rest (ap (λ (z : ℕ). both (byte_at 40) (λ _. frame_at) (z ∷ rest)) (sym is) ∙ k)) in
-        form_becomes (b ∷ rest) (record {
-          more = c.more;
-          value = Some c.value;
-          few = c.few;
-          form = inl ((tt, c.value), record { front = 40 ∷ []; back = rest ++ c.more; first = refl; second = c.form; is = ap (λ (z : ℕ). z ∷ (rest ++ c.more)) is }, refl);
-        })
-      where
-        after_paren : (rest : List ℕ) → both (byte_at 40) (λ _. frame_at) (40 ∷ rest) ≡ Err short → frame_at rest ≡ Err short
-        after_paren rest k = elim (bind_err (frame_at rest) (λ y. Ok ((tt {0}, y.0), y.1)) short (sym (both_is (byte_at 40) (λ _. frame_at) (40 ∷ rest) tt rest (byte_is 40 rest)) ∙ k)) [ inl failed ↦ failed | inr worked ↦ absurd cc ]
-
-open_becomes : (bytes : List ℕ) (r : FieldRead (Option Parts)) → line_at bytes ≡ r → IsOpen r → HasCompletion bytes
-open_becomes bytes (Ok x) e h = ([], meaning_by x.0, omega arith, subst (λ (z : List ℕ). LineMeans z (meaning_by x.0)) (sym (append-nil bytes)) (read_means bytes x.0 x.1 e))
-open_becomes bytes (Err short) e h = short_becomes bytes e
-open_becomes bytes (Err (refused rest)) e h = absurd h
-
--- A byte that is refused is the first that no line has there.
-pub refused_first : (bytes rest : List ℕ) → line_at bytes ≡ Err (refused rest) → IsFirstRefused bytes rest
-refused_first bytes rest e =
-    let r = line_law.refuses bytes rest e in
-    record {
-      text = r.text;
-      bad = r.bad;
-      after = r.after;
-      parts = r.parts;
-      at = r.at;
-      legal = open_becomes r.text (line_at r.text) refl r.so_far;
-      hopeless = λ more s m.
-          let read = means_read ((r.text ++ r.bad ∷ []) ++ more) s m in
-          let same : line_at ((r.text ++ r.bad ∷ []) ++ more) ≡ Err (refused (r.bad ∷ more)) = ap line_at (append_assoc r.text (r.bad ∷ []) more) ∙ r.for_good more in
-          cc (read.1, same);
-    }
 
 fits_body : (b : Body) → IsBody b → FitsBody b
 fits_body (classic ds None) h = h
@@ -177,20 +159,85 @@ form_parts o bytes (inr (p, e, is)) = subst AreLineParts is tt
 pub read_parts : (bytes : List ℕ) (o : Option Parts) (rest : List ℕ) → line_at bytes ≡ Ok (o, rest) → AreLineParts o
 read_parts bytes o rest e = let t = line_law.takes bytes o rest e in form_parts o t.text t.form
 
+-- ---- what can become a line
+
+-- what is a line has a completion, by no bytes
+pub means_becomes : (bytes : List ℕ) (what : Option Stamped) → LineMeans bytes what → HasCompletion bytes
+means_becomes bytes what m = ([], what, omega arith, subst (λ (z : List ℕ). LineMeans z what) (sym (append-nil bytes)) m)
+
+pub empty_legal : HasCompletion []
+empty_legal = means_becomes [] None (inl refl)
+
+form_becomes : (bytes : List ℕ) → CanEnd LineForm 16 bytes → HasCompletion bytes
+form_becomes bytes c = (c.more, meaning_by c.value, c.few, form_means c.value (bytes ++ c.more) c.form)
+
+-- A line that falls short can be completed.
+pub short_becomes : (bytes : List ℕ) → line_at bytes ≡ Err short → HasCompletion bytes
+short_becomes bytes e = elim (which (λ b. b == code "(") opened_at empty_at bytes) [
+  | inl (h, is) ↦ opened bytes h (seen_failed (λ p. Some p.1) (both (byte_at (code "(")) (λ _. frame_at)) bytes short (sym is ∙ e))
+  | inr (h, is) ↦ form_becomes bytes (can_end_as (λ o. o) (λ o text form. inr form) 16 (omega arith) (empty_law.shorts bytes (sym is ∙ e)))
+]
+  where
+    behind_paren : (rest : List ℕ) → both (byte_at (code "(")) (λ _. frame_at) (code "(" ∷ rest) ≡ Err short → frame_at rest ≡ Err short
+    behind_paren rest k =
+        let reads = both_is (byte_at (code "(")) (λ _. frame_at) (code "(" ∷ rest) tt rest (byte_is (code "(") rest) in
+        elim (bind_err (frame_at rest) (λ y. Ok ((tt {0}, y.0), y.1)) short (sym reads ∙ k)) [ inl failed ↦ failed | inr worked ↦ absurd cc ]
+
+    opened : (bytes : List ℕ) → Starts (λ b. b == code "(") bytes → both (byte_at (code "(")) (λ _. frame_at) bytes ≡ Err short → HasCompletion bytes
+    opened [] h k = absurd h
+    opened (b ∷ rest) h k =
+        let is : b ≡ code "(" = eqb-true b (code "(") h in
+        let c = frame_law.shorts rest (behind_paren rest (ap (λ (z : ℕ). both (byte_at (code "(")) (λ _. frame_at) (z ∷ rest)) (sym is) ∙ k)) in
+        form_becomes (b ∷ rest) (record {
+          more = c.more;
+          value = Some c.value;
+          few = c.few;
+          form = inl ((tt, c.value), record { front = codes "("; back = rest ++ c.more; first = refl; second = c.form; is = ap (λ (z : ℕ). z ∷ (rest ++ c.more)) is }, refl);
+        })
+
+open_becomes : (bytes : List ℕ) (r : FieldRead (Option Parts)) → line_at bytes ≡ r → IsOpen r → HasCompletion bytes
+open_becomes bytes (Ok x) e h = means_becomes bytes (meaning_by x.0) (read_means bytes x.0 x.1 e)
+open_becomes bytes (Err short) e h = short_becomes bytes e
+open_becomes bytes (Err (refused rest)) e h = absurd h
+
+-- ---- what is refused
+
+-- A byte that is refused is the first that no line has there.
+pub refused_first : (bytes rest : List ℕ) → line_at bytes ≡ Err (refused rest) → IsFirstRefused bytes rest
+refused_first bytes rest e =
+    let r = line_law.refuses bytes rest e in
+    record {
+      text = r.text;
+      bad = r.bad;
+      after = r.after;
+      parts = r.parts;
+      at = r.at;
+      legal = open_becomes r.text (line_at r.text) refl r.so_far;
+      hopeless = λ more s m.
+          let read = means_read ((r.text ++ r.bad ∷ []) ++ more) s m in
+          let same : line_at ((r.text ++ r.bad ∷ []) ++ more) ≡ Err (refused (r.bad ∷ more)) = ap line_at (append_assoc r.text (r.bad ∷ []) more) ∙ r.for_good more in
+          cc (read.1, same);
+    }
+
 -- Each front of what can become a line can become one.
 pub front_legal : (a b : List ℕ) → HasCompletion (a ++ b) → HasCompletion a
 front_legal a b (more, s, few, m) = by (line_at a) refl
   where
     by : (r : FieldRead (Option Parts)) → line_at a ≡ r → HasCompletion a
-    by (Ok x) e = ([], meaning_by x.0, omega arith, subst (λ (z : List ℕ). LineMeans z (meaning_by x.0)) (sym (append-nil a)) (read_means a x.0 x.1 e))
+    by (Ok x) e = means_becomes a (meaning_by x.0) (read_means a x.0 x.1 e)
     by (Err short) e = short_becomes a e
     by (Err (refused rest)) e =
         let r = refused_first a rest e in
-        absurd (r.hopeless (r.after ++ (b ++ more)) s (subst (λ (z : List ℕ). LineMeans z s)
-        (append_assoc a b more ∙ ap (λ (z : List ℕ). z ++ (b ++ more)) r.parts ∙ append_assoc r.text (r.bad ∷ r.after) (b ++ more) ∙ sym (append_assoc r.text (r.bad ∷ []) (r.after ++ (b ++ more)))) m))
+        let whole : (a ++ b) ++ more ≡ (r.text ++ r.bad ∷ []) ++ (r.after ++ (b ++ more)) =
+        append_assoc a b more ∙ parts_more r.text (r.bad ∷ r.after) r.parts (b ++ more) ∙ sym (append_assoc r.text (r.bad ∷ []) (r.after ++ (b ++ more)))
+        in
+        absurd (r.hopeless (r.after ++ (b ++ more)) s (subst (λ (z : List ℕ). LineMeans z s) whole m))
+
+pub fronts_legal : (text : List ℕ) → HasCompletion text → (front more : List ℕ) → text ≡ front ++ more → HasCompletion front
+fronts_legal text legal front more e = front_legal front more (subst HasCompletion e legal)
 
 -- Bytes that no completion of at most 16 makes a line, no completion does.
 pub sixteen_enough : (bytes : List ℕ) → HasNoCompletion bytes → (more : List ℕ) (what : Option Stamped) → LineMeans (bytes ++ more) what → ⊥
 sixteen_enough bytes none more what m =
-    let c = front_legal bytes more ([], what, omega arith, subst (λ (z : List ℕ). LineMeans z what) (sym (append-nil (bytes ++ more))) m) in
+    let c = front_legal bytes more (means_becomes (bytes ++ more) what m) in
     none c.0 c.1 c.2 c.3

@@ -1,28 +1,40 @@
--- Lemmas on lists and results that say nothing of lines.
-use Rattle.std.proofs.Common.{◌≡◌, ℕ, List, [], ◌∷◌, ◌++◌, Result, Ok, Err, refl, sym, ap, inl, inr, ◌⊎◌}
-use Rattle.std.specs.Prelude.{OnOk, IsOk}
+-- Lists: the parts of one, whether it is empty, and lists of lists of which the first one grows.
+use Rattle.std.proofs.Common.{◌≡◌, ℕ, ◌<◌, Bool, true, false, List, [], ◌∷◌, ◌++◌, length, append_assoc, refl, sym, ap, ◌∙◌, arith}
+use Rattle.std.specs.Prelude.{◌==◌}
+use Rattle.std.specs.List.{onto_first}
+use Rattle.std.proofs.lemmas.Bool.{eqb-true}
+use Rattle.std.proofs.lemmas.List.{nil_from_length}
 
--- ---- lists that are cut at two places
+-- ---- parts
 
--- where one list is cut at two bytes, the cuts are one, or one is before the other
-abbrev pub TwoCuts : List ℕ → ℕ → List ℕ → ℕ → List ℕ → List ℕ → Type 0
-TwoCuts a x b y p q = ((a ≡ b) × (x ≡ y) × (p ≡ q)) ⊎ (((z : List ℕ) × (b ≡ a ++ x ∷ z)) ⊎ ((z : List ℕ) × (a ≡ b ++ y ∷ z)))
+-- each part is another list
+pub parts_are : {X : Type 0} {whole front rest a b : List X} → whole ≡ front ++ rest → front ≡ a → rest ≡ b → whole ≡ a ++ b
+parts_are parts e f = cc
 
-pub two_cuts : (a : List ℕ) (x : ℕ) (p b : List ℕ) (y : ℕ) (q : List ℕ) → a ++ x ∷ p ≡ b ++ y ∷ q → TwoCuts a x b y p q
-two_cuts [] x p [] y q e = inl (refl, cc, cc)
-two_cuts [] x p (c ∷ b) y q e = inr (inl (b, let same : x ≡ c = cc in ap (λ (z : ℕ). z ∷ b) (sym same)))
-two_cuts (c ∷ a) x p [] y q e = inr (inr (a, let same : c ≡ y = cc in ap (λ (z : ℕ). z ∷ a) same))
-two_cuts (c ∷ a) x p (d ∷ b) y q e =
-    let same : c ≡ d = cc in
-    let rest : a ++ x ∷ p ≡ b ++ y ∷ q = cc in
-    elim (two_cuts a x p b y q rest) [
-      | inl (h, k, l) ↦ inl (cc, k, l)
-      | inr (inl (z, h)) ↦ inr (inl (z, cc))
-      | inr (inr (z, h)) ↦ inr (inr (z, cc))
-    ]
+-- more stands behind the whole
+pub parts_more : {X : Type 0} {whole : List X} (front rest : List X) → whole ≡ front ++ rest → (more : List X) → whole ++ more ≡ front ++ (rest ++ more)
+parts_more {X} front rest parts more = ap (λ (z : List X). z ++ more) parts ∙ append_assoc front rest more
 
--- ---- results
+-- the second part has parts of its own
+pub parts_again : {X : Type 0} {whole rest : List X} (front middle back : List X) → whole ≡ front ++ rest → rest ≡ middle ++ back
+    → whole ≡ (front ++ middle) ++ back
+parts_again {X} front middle back parts e = parts ∙ ap (λ (z : List X). front ++ z) e ∙ sym (append_assoc front middle back)
 
-pub from_ok : {A E P : Type 0} (r : Result A E) → OnOk r P → IsOk r → P
-from_ok (Ok x) h ok = h
-from_ok (Err e) h ok = absurd cc
+-- ---- whether a list is empty
+
+pub nil_of : (xs : List ℕ) (is_empty : Bool) → is_empty ≡ (length xs == 0) → is_empty ≡ true → xs ≡ []
+nil_of xs is_empty tells empty = nil_from_length xs (eqb-true (length xs) 0 (sym tells ∙ empty))
+
+pub nonempty : (xs : List ℕ) (is_empty : Bool) → is_empty ≡ (length xs == 0) → is_empty ≡ false → 0 < length xs
+nonempty [] is_empty tells some = absurd cc
+nonempty (x ∷ xs) is_empty tells some = omega arith
+
+-- ---- the first of several lists grows
+
+pub onto_first-append : {X : Type 0} (x : X) (parts more : List (List X)) → 0 < length parts → onto_first x (parts ++ more) ≡ onto_first x parts ++ more
+onto_first-append x [] more some = absurd (omega arith)
+onto_first-append x (part ∷ parts) more some = refl
+
+pub length-onto_first : {X : Type 0} (x : X) (parts : List (List X)) → 0 < length (onto_first x parts)
+length-onto_first x [] = omega arith
+length-onto_first x (part ∷ parts) = omega arith

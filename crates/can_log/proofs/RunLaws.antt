@@ -1,84 +1,64 @@
 -- The law of one byte, and of a run of bytes.
-use Rattle.std.proofs.Common.{◌≡◌, ℕ, zero, suc, ◌-◌, ◌<◌, ◌≤◌, Bool, true, false, cond, ltb, List, [], ◌∷◌, ◌++◌, length, Ok, Err, refl, sym, ap, subst, ◌∙◌, arith, inl, inr, ◌⊎◌, length-append}
-use Rattle.std.specs.Prelude.{◌==◌, replicate}
+use Rattle.std.proofs.Common.{◌≡◌, ℕ, zero, suc, ◌-◌, ◌<◌, ◌≤◌, Bool, true, false, cond, ltb, refl, sym, ap, subst, ◌∙◌, arith, inl, inr}
+use Rattle.std.proofs.Common.{List, [], ◌∷◌, ◌++◌, length, length-append, Ok, Err}
+use Rattle.std.specs.Prelude.{◌≢◌, ◌==◌, replicate}
 use Rattle.std.specs.List.{AllByRecursion}
-use Rattle.std.proofs.lemmas.Bool.{eqb-true, eq-eqb, ltb-true, ltb-false, le-ltb, lt-ltb}
+use Rattle.std.proofs.lemmas.Bool.{cases_Bool, cases_eq, cases_lt, eqb-true, eq-eqb, ne_eqb, le-ltb, lt-ltb}
 use Rattle.std.proofs.lemmas.List.{append-nil, take_at, drop_at, length-replicate}
 use Rattle.can_log.specs.declared.field.Class.{Class}
 use Rattle.can_log.specs.FieldReader.{short, refused, FieldRead, is_in, stop_at, run_len, run_at, byte_at}
 use Rattle.can_log.proofs.EachElement.{AllByRecursion-append, AllByRecursion-replicate}
-use Rattle.can_log.proofs.FieldLaws.{Follows, Takes, Refuses, CanEnd, Law, ok_is}
+use Rattle.can_log.proofs.FirstBytes.{Follows, Starts, AnyByte, follows_first, starts_first}
+use Rattle.can_log.proofs.Results.{ok_is, rest_is, refused_is}
+use Rattle.can_log.proofs.FieldLaws.{Takes, Refuses, CanEnd, Law, Both}
 use Rattle.can_log.proofs.Runs.{run_len-done, run_len-nil, run_len-in, run_len-out}
 
--- any byte may follow
-abbrev pub AnyByte : ℕ → Type 0
-AnyByte b = Unit {0}
+-- ---- one byte
 
 abbrev pub OneByte : ℕ → Unit {0} → List ℕ → Type 0
 OneByte c v text = text ≡ c ∷ []
-
--- how a test went
-pub tells : (b : Bool) → (b ≡ true) ⊎ (b ≡ false)
-tells true = inl refl
-tells false = inr refl
-
--- the bytes after what was read
-pub rest_is : {V : Type 0} (v w : V) (a b : List ℕ) → ◌≡◌ {A = FieldRead V} (Ok (v, a)) (Ok (w, b)) → a ≡ b
-rest_is {V} v w a b e = ap (λ (q : V × List ℕ). q.1) (ok_is (v, a) (w, b) e)
-
-pub value_is : {V : Type 0} (v w : V) (a b : List ℕ) → ◌≡◌ {A = FieldRead V} (Ok (v, a)) (Ok (w, b)) → v ≡ w
-value_is {V} v w a b e = ap (λ (q : V × List ℕ). q.0) (ok_is (v, a) (w, b) e)
-
-pub refused_is : {V : Type 0} (a b : List ℕ) → ◌≡◌ {A = FieldRead V} (Err (refused a)) (Err (refused b)) → a ≡ b
-refused_is a b e = cc
-
--- ---- one byte
 
 pub byte_is : (c : ℕ) (rest : List ℕ) → byte_at c (c ∷ rest) ≡ Ok (tt, rest)
 unfolding byte_at
 byte_is c rest = rw (eq-eqb c c refl) refl
 
-byte_other : (c b : ℕ) (rest : List ℕ) → (b == c) ≡ false → byte_at c (b ∷ rest) ≡ Err (refused (b ∷ rest))
+byte_other : (c b : ℕ) (rest : List ℕ) → b ≢ c → byte_at c (b ∷ rest) ≡ Err (refused (b ∷ rest))
 unfolding byte_at
-byte_other c b rest h = rw h refl
+byte_other c b rest other = rw (ne_eqb b c other) refl
 
 byte_end : (c : ℕ) → byte_at c [] ≡ Err short
 unfolding byte_at
 byte_end c = refl
 
--- the byte, or another
-byte_cases : (c b : ℕ) → (b ≡ c) ⊎ ((b == c) ≡ false)
-byte_cases c b = elim (tells (b == c)) [ inl h ↦ inl (eqb-true b c h) | inr h ↦ inr h ]
-
 byte_takes : (c : ℕ) (bytes : List ℕ) (v : Unit {0}) (rest : List ℕ) → byte_at c bytes ≡ Ok (v, rest) → Takes (byte_at c) (OneByte c) bytes v rest
 byte_takes c [] v rest e = absurd (cc (byte_end c))
-byte_takes c (b ∷ bytes) v rest e = elim (byte_cases c b) [
+byte_takes c (b ∷ bytes) v rest e = elim (cases_eq b c) [
   | inl is ↦
       let same : bytes ≡ rest = rest_is tt v bytes rest (sym (byte_is c bytes) ∙ ap (λ (z : ℕ). byte_at c (z ∷ bytes)) (sym is) ∙ e) in
       record { text = c ∷ []; parts = cc; form = refl; peeks = λ d after other eq. byte_is c (d ∷ other) }
-  | inr h ↦ absurd (cc (byte_other c b bytes h))
+  | inr other ↦ absurd (cc (byte_other c b bytes other))
 ]
 
 byte_refuses : (c : ℕ) (bytes rest : List ℕ) → byte_at c bytes ≡ Err (refused rest) → Refuses (byte_at c) bytes rest
 byte_refuses c [] rest e = absurd (cc (byte_end c))
-byte_refuses c (b ∷ bytes) rest e = elim (byte_cases c b) [
+byte_refuses c (b ∷ bytes) rest e = elim (cases_eq b c) [
   | inl is ↦ absurd (cc (byte_is c bytes))
-  | inr h ↦ record {
+  | inr other ↦ record {
     text = [];
     bad = b;
     after = bytes;
     parts = refl;
-    at = cc (byte_other c b bytes h);
-    for_good = λ other. byte_other c b other h;
+    at = cc (byte_other c b bytes other);
+    for_good = λ more. byte_other c b more other;
     so_far = rw (byte_end c) tt;
   }
 ]
 
 byte_shorts : (c : ℕ) (bytes : List ℕ) → byte_at c bytes ≡ Err short → CanEnd (OneByte c) 1 bytes
 byte_shorts c [] e = record { more = c ∷ []; value = tt; few = omega arith; form = refl }
-byte_shorts c (b ∷ bytes) e = elim (byte_cases c b) [
+byte_shorts c (b ∷ bytes) e = elim (cases_eq b c) [
   | inl is ↦ absurd (cc (byte_is c bytes))
-  | inr h ↦ absurd (cc (byte_other c b bytes h))
+  | inr other ↦ absurd (cc (byte_other c b bytes other))
 ]
 
 pub byte_law : (c : ℕ) → Law (byte_at c) (OneByte c) AnyByte 1
@@ -94,142 +74,245 @@ byte_law c = record {
 abbrev pub AllIn : Class → List ℕ → Type 0
 AllIn class bytes = AllByRecursion (λ b. is_in class b ≡ true) bytes
 
+abbrev pub NotIn : Class → ℕ → Type 0
+NotIn class b = is_in class b ≡ false
+
 pub record IsRun (class : Class) (least most : ℕ) (v text : List ℕ) : Type 0 where
   pub is : text ≡ v
   pub each : AllIn class v
   pub enough : least ≤ length v
   pub few : length v ≤ most
 
-abbrev pub NotIn : Class → ℕ → Type 0
-NotIn class b = is_in class b ≡ false
-
--- the run at the front, and the bytes after it
-record Parts (class : Class) (most : ℕ) (bytes : List ℕ) : Type 0 where
-  pub text : List ℕ
-  pub rest : List ℕ
-  pub parts : bytes ≡ text ++ rest
-  pub len : run_len class most bytes ≡ length text
-  pub each : AllIn class text
-  pub few : length text ≤ most
-
-parts_of : (class : Class) (most : ℕ) (bytes : List ℕ) → Parts class most bytes
-parts_of class zero bytes = record { text = []; rest = bytes; parts = refl; len = run_len-done class bytes; each = tt; few = omega arith }
-parts_of class (suc most) [] = record { text = []; rest = []; parts = refl; len = run_len-nil class (suc most); each = tt; few = omega arith }
-parts_of class (suc most) (b ∷ bytes) = elim (tells (is_in class b)) [
-  | inl h ↦
-      let p = parts_of class most bytes in
-      record { text = b ∷ p.text; rest = p.rest; parts = ap (λ (z : List ℕ). b ∷ z) p.parts; len = run_len-in class most b bytes h ∙ ap suc p.len; each = (h, p.each); few = omega (arith, p.few) }
-  | inr h ↦ record { text = []; rest = b ∷ bytes; parts = refl; len = run_len-out class (suc most) b bytes h; each = tt; few = omega arith }
-]
-
--- a run that stops before one byte stops there whatever follows it
-len_peeks : (class : Class) (most : ℕ) (text : List ℕ) (b : ℕ) (after other : List ℕ) → run_len class most (text ++ b ∷ after) ≡ length text → run_len class most (text ++ b ∷ other) ≡ length text
-len_peeks class zero text b after other e = run_len-done class (text ++ b ∷ other) ∙ sym (run_len-done class (text ++ b ∷ after)) ∙ e
-len_peeks class (suc most) [] b after other e = elim (tells (is_in class b)) [
-  | inl h ↦ absurd (omega (arith, run_len-in class most b after h, e))
-  | inr h ↦ run_len-out class (suc most) b other h
-]
-len_peeks class (suc most) (c ∷ text) b after other e = elim (tells (is_in class c)) [
-  | inl h ↦
-      let tail : run_len class most (text ++ b ∷ after) ≡ length text = omega (arith, run_len-in class most c (text ++ b ∷ after) h, e) in
-      run_len-in class most c (text ++ b ∷ other) h ∙ ap suc (len_peeks class most text b after other tail)
-  | inr h ↦ absurd (omega (arith, run_len-out class (suc most) c (text ++ b ∷ after) h, e))
-]
-
-len_of : (class : Class) (most : ℕ) (text rest : List ℕ) → AllIn class text → length text ≤ most → Follows (NotIn class) rest → run_len class most (text ++ rest) ≡ length text
-len_of class zero [] rest all few after = run_len-done class rest
-len_of class zero (b ∷ text) rest all few after = absurd (omega arith)
-len_of class (suc most) [] [] all few after = run_len-nil class (suc most)
-len_of class (suc most) [] (b ∷ rest) all few after = run_len-out class (suc most) b rest after
-len_of class (suc most) (b ∷ text) rest all few after = run_len-in class most b (text ++ rest) all.0 ∙ ap suc (len_of class most text rest all.1 (omega arith) after)
-
-run_is : (class : Class) (least most : ℕ) (text rest : List ℕ) → run_len class most (text ++ rest) ≡ length text → run_at class least most (text ++ rest) ≡ cond (ltb (length text) least) (Err (stop_at rest)) (Ok (text, rest))
-unfolding run_at
-run_is class least most text rest e = rw (e, take_at text rest (length text) refl, drop_at text rest (length text) refl) refl
-
-pub run_ok : (class : Class) (least most : ℕ) (text rest : List ℕ) → run_len class most (text ++ rest) ≡ length text → least ≤ length text → run_at class least most (text ++ rest) ≡ Ok (text, rest)
-run_ok class least most text rest e h = run_is class least most text rest e ∙ rw (le-ltb (length text) least h) refl
-
-run_few : (class : Class) (least most : ℕ) (text rest : List ℕ) → run_len class most (text ++ rest) ≡ length text → length text < least → run_at class least most (text ++ rest) ≡ Err (stop_at rest)
-run_few class least most text rest e h = run_is class least most text rest e ∙ rw (lt-ltb (length text) least h) refl
-
--- the run is long enough, or not
-enough : (a b : ℕ) → (b ≤ a) ⊎ (a < b)
-enough a b = elim (tells (ltb a b)) [ inl h ↦ inr (ltb-true a b h) | inr h ↦ inl (ltb-false a b h) ]
-
-len_at : {class : Class} {most : ℕ} {bytes : List ℕ} → (p : Parts class most bytes) → run_len class most (p.text ++ p.rest) ≡ length p.text
-len_at {class} {most} p = ap (run_len class most) (sym p.parts) ∙ p.len
-
-pub run_takes : (class : Class) (least most : ℕ) (bytes v rest : List ℕ) → run_at class least most bytes ≡ Ok (v, rest) → Takes (run_at class least most) (IsRun class least most) bytes v rest
-run_takes class least most bytes v rest e =
-    let p = parts_of class most bytes in
-    elim (enough (length p.text) least) [
-      | inl h ↦
-          let is = sym (run_ok class least most p.text p.rest (len_at p) h) ∙ ap (run_at class least most) (sym p.parts) ∙ e in
-          subst (λ (q : List ℕ × List ℕ). Takes (run_at class least most) (IsRun class least most) bytes q.0 q.1) (ok_is (p.text, p.rest) (v, rest) is) (record {
-            text = p.text;
-            parts = p.parts;
-            form = record { is = refl; each = p.each; enough = h; few = p.few };
-            peeks = λ b after other eq. run_ok class least most p.text (b ∷ other) (len_peeks class most p.text b after other (ap (λ (z : List ℕ). run_len class most (p.text ++ z)) (sym eq) ∙ len_at p)) h;
-          })
-      | inr h ↦ absurd (cc (run_few class least most p.text p.rest (len_at p) h, ap (run_at class least most) p.parts))
-    ]
-
-pub run_refuses : (class : Class) (least most : ℕ) (bytes rest : List ℕ) → run_at class least most bytes ≡ Err (refused rest) → Refuses (run_at class least most) bytes rest
-run_refuses class least most bytes rest e =
-    let p = parts_of class most bytes in
-    elim (enough (length p.text) least) [
-      | inl h ↦ absurd (cc (run_ok class least most p.text p.rest (len_at p) h, ap (run_at class least most) p.parts))
-      | inr h ↦ at_rest p.text p.rest p.parts p.each p.few (len_at p) h (sym (run_few class least most p.text p.rest (len_at p) h) ∙ ap (run_at class least most) (sym p.parts) ∙ e)
-    ]
-  where
-    at_rest : (text end : List ℕ) → bytes ≡ text ++ end → AllIn class text → length text ≤ most → run_len class most (text ++ end) ≡ length text → length text < least
-        → ◌≡◌ {A = FieldRead (List ℕ)} (Err (stop_at end)) (Err (refused rest)) → Refuses (run_at class least most) bytes rest
-    at_rest text [] parts each few len h is = absurd cc
-    at_rest text (b ∷ after) parts each few len h is = record {
-      text = text;
-      bad = b;
-      after = after;
-      parts = parts;
-      at = sym (refused_is {V = List ℕ} (b ∷ after) rest is);
-      for_good = λ other. run_few class least most text (b ∷ other) (len_peeks class most text b after other len) h;
-      so_far =
-          let all : run_at class least most text ≡ Err short = ap (run_at class least most) (sym (append-nil text)) ∙ run_few class least most text [] (len_of class most text [] each few tt) h in
-          rw all tt;
-    }
-
+-- as many bytes of the class more
 pub all_more : (class : Class) (w : ℕ) (n : ℕ) (text : List ℕ) → is_in class w ≡ true → AllIn class text → AllIn class (text ++ replicate n w)
 all_more class w n text h all =
     AllByRecursion-append (λ b. is_in class b ≡ true) text (replicate n w) all (AllByRecursion-replicate (λ b. is_in class b ≡ true) n w h)
 
-pub run_shorts : (class : Class) (least most w : ℕ) → is_in class w ≡ true → least ≤ most → (bytes : List ℕ) → run_at class least most bytes ≡ Err short → CanEnd (IsRun class least most) least bytes
-run_shorts class least most w in_class room bytes e =
-    let p = parts_of class most bytes in
-    elim (enough (length p.text) least) [
-      | inl h ↦ absurd (cc (run_ok class least most p.text p.rest (len_at p) h, ap (run_at class least most) p.parts))
-      | inr h ↦ at_rest p.text p.rest p.parts p.each h (sym (run_few class least most p.text p.rest (len_at p) h) ∙ ap (run_at class least most) (sym p.parts) ∙ e)
-    ]
-  where
-    at_rest : (text end : List ℕ) → bytes ≡ text ++ end → AllIn class text → length text < least
-        → ◌≡◌ {A = FieldRead (List ℕ)} (Err (stop_at end)) (Err short) → CanEnd (IsRun class least most) least bytes
-    at_rest text [] parts each h is =
-        let whole : bytes ≡ text = parts ∙ append-nil text in
-        let n = least - length text in
-        let len : length (text ++ replicate n w) ≡ least = omega (arith, length-append text (replicate n w), length-replicate n w) in
-        record {
-          more = replicate n w;
-          value = text ++ replicate n w;
-          few = omega (arith, length-replicate n w);
-          form = record { is = ap (λ (z : List ℕ). z ++ replicate n w) whole; each = all_more class w n text in_class each; enough = omega (arith, len); few = omega (arith, len) };
-        }
-    at_rest text (b ∷ after) parts each h is = absurd cc
+-- ---- how long the run at the front is
+
+-- the run, and the bytes after it
+record FrontRun (class : Class) (most : ℕ) (bytes : List ℕ) : Type 0 where
+  pub text : List ℕ
+  pub rest : List ℕ
+  pub parts : bytes ≡ text ++ rest
+  pub len : run_len class most (text ++ rest) ≡ length text
+  pub each : AllIn class text
+  pub few : length text ≤ most
+
+front_run : (class : Class) (most : ℕ) (bytes : List ℕ) → FrontRun class most bytes
+front_run class zero bytes = record { text = []; rest = bytes; parts = refl; len = run_len-done class bytes; each = tt; few = omega arith }
+front_run class (suc most) [] = record { text = []; rest = []; parts = refl; len = run_len-nil class (suc most); each = tt; few = omega arith }
+front_run class (suc most) (b ∷ bytes) = elim (cases_Bool (is_in class b)) [
+  | inl into ↦
+      let p = front_run class most bytes in
+      record {
+        text = b ∷ p.text;
+        rest = p.rest;
+        parts = ap (λ (z : List ℕ). b ∷ z) p.parts;
+        len = run_len-in class most b (p.text ++ p.rest) into ∙ ap suc p.len;
+        each = (into, p.each);
+        few = omega (arith, p.few);
+      }
+  | inr out ↦ record { text = []; rest = b ∷ bytes; parts = refl; len = run_len-out class (suc most) b bytes out; each = tt; few = omega arith }
+]
+
+-- a run that stops before one byte stops there whatever follows it
+len_peeks : (class : Class) (most : ℕ) (text : List ℕ) (b : ℕ) (after other : List ℕ) → run_len class most (text ++ b ∷ after) ≡ length text
+    → run_len class most (text ++ b ∷ other) ≡ length text
+len_peeks class zero text b after other e = run_len-done class (text ++ b ∷ other) ∙ sym (run_len-done class (text ++ b ∷ after)) ∙ e
+len_peeks class (suc most) [] b after other e = elim (cases_Bool (is_in class b)) [
+  | inl into ↦ absurd (omega (arith, run_len-in class most b after into, e))
+  | inr out ↦ run_len-out class (suc most) b other out
+]
+len_peeks class (suc most) (c ∷ text) b after other e = elim (cases_Bool (is_in class c)) [
+  | inl into ↦
+      let tail : run_len class most (text ++ b ∷ after) ≡ length text = omega (arith, run_len-in class most c (text ++ b ∷ after) into, e) in
+      run_len-in class most c (text ++ b ∷ other) into ∙ ap suc (len_peeks class most text b after other tail)
+  | inr out ↦ absurd (omega (arith, run_len-out class (suc most) c (text ++ b ∷ after) out, e))
+]
+
+len_of : (class : Class) (most : ℕ) (text rest : List ℕ) → AllIn class text → length text ≤ most → Follows (NotIn class) rest
+    → run_len class most (text ++ rest) ≡ length text
+len_of class zero [] rest all few after = run_len-done class rest
+len_of class zero (b ∷ text) rest all few after = absurd (omega arith)
+len_of class (suc most) [] [] all few after = run_len-nil class (suc most)
+len_of class (suc most) [] (b ∷ rest) all few after = run_len-out class (suc most) b rest after
+len_of class (suc most) (b ∷ text) rest all few after =
+    run_len-in class most b (text ++ rest) all.0 ∙ ap suc (len_of class most text rest all.1 (omega arith) after)
+
+-- a run of the most bytes, which any byte may follow
+len_full : (class : Class) (most : ℕ) (text rest : List ℕ) → AllIn class text → length text ≡ most → run_len class most (text ++ rest) ≡ length text
+len_full class zero [] rest all full = run_len-done class rest
+len_full class zero (b ∷ text) rest all full = absurd (omega arith)
+len_full class (suc most) [] rest all full = absurd (omega arith)
+len_full class (suc most) (b ∷ text) rest all full =
+    run_len-in class most b (text ++ rest) all.0 ∙ ap suc (len_full class most text rest all.1 (omega arith))
+
+-- ---- how it is read
+
+module _ (class : Class) (least most : ℕ) where
+  run_is : (text rest : List ℕ) → run_len class most (text ++ rest) ≡ length text
+      → run_at class least most (text ++ rest) ≡ cond (ltb (length text) least) (Err (stop_at rest)) (Ok (text, rest))
+  unfolding run_at
+  run_is text rest e = rw (e, take_at text rest (length text) refl, drop_at text rest (length text) refl) refl
+
+  run_ok : (text rest : List ℕ) → run_len class most (text ++ rest) ≡ length text → least ≤ length text
+      → run_at class least most (text ++ rest) ≡ Ok (text, rest)
+  run_ok text rest e enough = run_is text rest e ∙ rw (le-ltb (length text) least enough) refl
+
+  run_few : (text rest : List ℕ) → run_len class most (text ++ rest) ≡ length text → length text < least
+      → run_at class least most (text ++ rest) ≡ Err (stop_at rest)
+  run_few text rest e few = run_is text rest e ∙ rw (lt-ltb (length text) least few) refl
+
+  -- the run at the front is long enough and was read, or it is not and was not
+  data RunRead (bytes : List ℕ) : Type 0 where
+    long_enough : (p : FrontRun class most bytes) → least ≤ length p.text → run_at class least most bytes ≡ Ok (p.text, p.rest) → RunRead bytes
+    too_short : (p : FrontRun class most bytes) → length p.text < least → run_at class least most bytes ≡ Err (stop_at p.rest) → RunRead bytes
+
+  run_read : (bytes : List ℕ) → RunRead bytes
+  run_read bytes =
+      let p = front_run class most bytes in
+      elim (cases_lt (length p.text) least) [
+        | inl few ↦ too_short p few (ap (run_at class least most) p.parts ∙ run_few p.text p.rest p.len few)
+        | inr enough ↦ long_enough p enough (ap (run_at class least most) p.parts ∙ run_ok p.text p.rest p.len enough)
+      ]
+
+  pub run_takes : (bytes v rest : List ℕ) → run_at class least most bytes ≡ Ok (v, rest)
+      → Takes (run_at class least most) (IsRun class least most) bytes v rest
+  run_takes bytes v rest e = elim (run_read bytes) [
+    | long_enough p enough is ↦
+        subst (λ (q : List ℕ × List ℕ). Takes (run_at class least most) (IsRun class least most) bytes q.0 q.1) (ok_is (p.text, p.rest) (v, rest) (sym is ∙ e)) (record {
+          text = p.text;
+          parts = p.parts;
+          form = record { is = refl; each = p.each; enough = enough; few = p.few };
+          peeks = λ b after other eq.
+              let len = ap (λ (z : List ℕ). run_len class most (p.text ++ z)) (sym eq) ∙ p.len in
+              run_ok p.text (b ∷ other) (len_peeks class most p.text b after other len) enough;
+        })
+    | too_short p few is ↦ absurd (cc (is, e))
+  ]
+
+  refused_behind : (bytes rest text end : List ℕ) → bytes ≡ text ++ end → AllIn class text → length text ≤ most
+      → run_len class most (text ++ end) ≡ length text → length text < least
+      → ◌≡◌ {A = FieldRead (List ℕ)} (Err (stop_at end)) (Err (refused rest)) → Refuses (run_at class least most) bytes rest
+  refused_behind bytes rest text [] parts each within len few is = absurd cc
+  refused_behind bytes rest text (b ∷ after) parts each within len few is = record {
+    text = text;
+    bad = b;
+    after = after;
+    parts = parts;
+    at = sym (refused_is {V = List ℕ} (b ∷ after) rest is);
+    for_good = λ other. run_few text (b ∷ other) (len_peeks class most text b after other len) few;
+    so_far =
+        let alone : run_at class least most text ≡ Err short =
+        ap (run_at class least most) (sym (append-nil text)) ∙ run_few text [] (len_of class most text [] each within tt) few
+        in
+        rw alone tt;
+  }
+
+  run_refuses : (bytes rest : List ℕ) → run_at class least most bytes ≡ Err (refused rest) → Refuses (run_at class least most) bytes rest
+  run_refuses bytes rest e = elim (run_read bytes) [
+    | long_enough p enough is ↦ absurd (cc (is, e))
+    | too_short p few is ↦ refused_behind bytes rest p.text p.rest p.parts p.each p.few p.len few (sym is ∙ e)
+  ]
+
+  short_behind : (w : ℕ) → is_in class w ≡ true → least ≤ most → (bytes text end : List ℕ) → bytes ≡ text ++ end → AllIn class text
+      → length text < least → ◌≡◌ {A = FieldRead (List ℕ)} (Err (stop_at end)) (Err short) → CanEnd (IsRun class least most) least bytes
+  short_behind w in_class room bytes text [] parts each few is =
+      let whole : bytes ≡ text = parts ∙ append-nil text in
+      let n = least - length text in
+      let len : length (text ++ replicate n w) ≡ least = omega (arith, length-append text (replicate n w), length-replicate n w) in
+      record {
+        more = replicate n w;
+        value = text ++ replicate n w;
+        few = omega (arith, length-replicate n w);
+        form = record {
+          is = ap (λ (z : List ℕ). z ++ replicate n w) whole;
+          each = all_more class w n text in_class each;
+          enough = omega (arith, len);
+          few = omega (arith, len);
+        };
+      }
+  short_behind w in_class room bytes text (b ∷ after) parts each few is = absurd cc
+
+  -- a byte w of the class can end it
+  pub run_shorts : (w : ℕ) → is_in class w ≡ true → least ≤ most → (bytes : List ℕ) → run_at class least most bytes ≡ Err short
+      → CanEnd (IsRun class least most) least bytes
+  run_shorts w in_class room bytes e = elim (run_read bytes) [
+    | long_enough p enough is ↦ absurd (cc (is, e))
+    | too_short p few is ↦ short_behind w in_class room bytes p.text p.rest p.parts p.each few (sym is ∙ e)
+  ]
 
 -- the law of a run of a class that some byte w is of
-pub run_law : (class : Class) (least most w : ℕ) → is_in class w ≡ true → least ≤ most → Law (run_at class least most) (IsRun class least most) (NotIn class) least
+pub run_law : (class : Class) (least most w : ℕ) → is_in class w ≡ true → least ≤ most
+    → Law (run_at class least most) (IsRun class least most) (NotIn class) least
 run_law class least most w in_class room = record {
   takes = run_takes class least most;
   again = λ v text rest form after.
-      ap (λ (z : List ℕ). run_at class least most (z ++ rest)) form.is ∙ run_ok class least most v rest (len_of class most v rest form.each form.few after) form.enough;
+      ap (λ (z : List ℕ). run_at class least most (z ++ rest)) form.is
+      ∙ run_ok class least most v rest (len_of class most v rest form.each form.few after) form.enough;
   refuses = run_refuses class least most;
   shorts = run_shorts class least most w in_class room;
 }
+
+-- the law of a run of a fixed length, which any byte may follow
+pub exact_law : (class : Class) (n w : ℕ) → is_in class w ≡ true → Law (run_at class n n) (IsRun class n n) AnyByte n
+exact_law class n w in_class = record {
+  takes = run_takes class n n;
+  again = λ v text rest form after.
+      let full : length v ≡ n = omega (arith, form.enough, form.few) in
+      ap (λ (z : List ℕ). run_at class n n (z ++ rest)) form.is ∙ run_ok class n n v rest (len_full class n v rest form.each full) form.enough;
+  refuses = run_refuses class n n;
+  shorts = run_shorts class n n w in_class (omega arith);
+}
+
+-- ---- what a byte, and a run, begin with
+
+-- how many bytes are wanted where nothing was read
+pub byte_begins : (c : ℕ) → CanEnd (OneByte c) 1 []
+byte_begins c = record { more = c ∷ []; value = tt; few = omega arith; form = refl }
+
+pub run_begins : (class : Class) (least most w : ℕ) → is_in class w ≡ true → least ≤ most → CanEnd (IsRun class least most) least []
+run_begins class least most w h room =
+    let long = length-replicate {A = ℕ} least w in
+    record {
+      more = replicate least w;
+      value = replicate least w;
+      few = omega (arith, long);
+      form = record { is = refl; each = all_more class w least [] h tt; enough = omega (arith, long); few = omega (arith, long) };
+    }
+
+-- a run that is not empty has a first byte, of the class
+run_first : (class : Class) (least most : ℕ) (v text : List ℕ) → IsRun class least most v text → 1 ≤ least
+    → (b : ℕ) × (after : List ℕ) × (text ≡ b ∷ after) × (is_in class b ≡ true)
+run_first class least most [] text r some = absurd (omega (arith, r.enough))
+run_first class least most (b ∷ v) text r some = (b, v, r.is, r.each.0)
+
+pub run_head : (P : ℕ → Type 0) (class : Class) (least most : ℕ) (v text rest : List ℕ) → IsRun class least most v text → 1 ≤ least
+    → ((b : ℕ) → is_in class b ≡ true → P b) → Follows P (text ++ rest)
+run_head P class least most v text rest r some holds =
+    let first = run_first class least most v text r some in
+    follows_first P text rest first.0 first.1 first.2 (holds first.0 first.3)
+
+pub run_starts : (test : ℕ → Bool) (class : Class) (least most : ℕ) (v text : List ℕ) → IsRun class least most v text → 1 ≤ least
+    → ((b : ℕ) → is_in class b ≡ true → test b ≡ true) → Starts test text
+run_starts test class least most v text r some passes =
+    let first = run_first class least most v text r some in
+    starts_first test text first.0 first.1 first.2 (passes first.0 first.3)
+
+-- a byte, and what stands behind it
+pub both_starts : (test : ℕ → Bool) (c : ℕ) → test c ≡ true → {W : Type 0} {Next : Unit {0} → W → List ℕ → Type 0} {p : Unit {0} × W} (text : List ℕ)
+    → Both (OneByte c) Next p text → Starts test text
+both_starts test c h text f = starts_first test text c f.back (f.is ∙ ap (λ (z : List ℕ). z ++ f.back) f.first) h
+
+-- ---- bytes that are not of a class
+
+-- a byte is not of a class, where it is of one without the byte c
+pub apart_from : (class : Class) (b c : ℕ) → is_in class c ≡ false → is_in class b ≡ true → (b == c) ≡ false
+apart_from class b c out into = elim (cases_Bool (b == c)) [
+  | inl same ↦ absurd (cc (ap (is_in class) (eqb-true b c same)))
+  | inr other ↦ other
+]
+
+pub is_not : (class : Class) (b c : ℕ) → is_in class c ≡ false → b ≡ c → is_in class b ≡ false
+is_not class b c out e = ap (is_in class) e ∙ out

@@ -38,7 +38,9 @@ pub goes_on : (class : Class) (most n : ℕ) (bytes : List ℕ) (total : ℕ) �
 goes_on class most n bytes total below within h so_far =
     let k : most - n ≡ suc (most - (n + 1)) = omega arith in
     let s : n + 1 ≡ suc n = omega arith in
-    let one : run_len class (most - n) (drop n bytes) ≡ suc (run_len class (most - (n + 1)) (drop (n + 1) bytes)) = rw (k, drop-cons bytes n 0 within, s) (run_len-in class (most - suc n) (get_or bytes n 0) (drop (suc n) bytes) h) in
+    let one : run_len class (most - n) (drop n bytes) ≡ suc (run_len class (most - (n + 1)) (drop (n + 1) bytes)) =
+    rw (k, drop-cons bytes n 0 within, s) (run_len-in class (most - suc n) (get_or bytes n 0) (drop (suc n) bytes) h)
+    in
     omega (arith, one)
 
 pub stops : (class : Class) (most n : ℕ) (bytes : List ℕ) (total : ℕ) → n < length bytes → is_in class (get_or bytes n 0) ≡ false

@@ -1,5 +1,5 @@
 -- The one spelling of a frame in a canonical log, as `candump -L` (can-utils) would have written it.
-use Rattle.std.specs.Prelude.{ℕ, ◌*◌, ◌/◌, ◌%◌, ◌^◌, ◌<◌, ◌≤◌, List, [], ◌∷◌, ◌++◌, codes}
+use Rattle.std.specs.Prelude.{ℕ, ◌*◌, ◌/◌, ◌%◌, ◌^◌, ◌<◌, ◌≤◌, List, ◌++◌, codes}
 use Rattle.std.specs.List.{flat_map}
 use Rattle.can_log.specs.declared.frame.Id.{Id}
 use Rattle.can_log.specs.declared.frame.Id.TheVariants as id
@@ -26,7 +26,7 @@ canonical_text n identifier bytes =
 
 -- the text and its line feed
 abbrev pub canonical_line : ℕ → Id → List ℕ → List ℕ
-canonical_line n identifier bytes = canonical_text n identifier bytes ++ 10 ∷ []
+canonical_line n identifier bytes = canonical_text n identifier bytes ++ codes "\n"
 
 -- how long the line of eight bytes is
 abbrev pub canonical_length : Id → ℕ

@@ -1,9 +1,10 @@
 -- What holds of lines and logs, whoever reads them.
-use Rattle.std.specs.Prelude.{◌≡◌, ℕ, ◌<◌, ◌≤◌, ◌⊎◌, List, [], ◌∷◌, ◌++◌, Option, Some, length}
+use Rattle.std.specs.Prelude.{◌≡◌, ℕ, ◌<◌, ◌≤◌, ◌⊎◌, List, [], ◌∷◌, ◌++◌, Option, Some, Ok, length}
 use Rattle.std.specs.List.{AllByRecursion, concat}
 use Rattle.can_log.specs.declared.scanner.Scan.{Scan}
 use Rattle.can_log.specs.declared.frame.Stamped.{Stamped}
-use Rattle.can_log.specs.Line.{LineMeans}
+use Rattle.hex.specs.Hex.{decode_of}
+use Rattle.can_log.specs.Line.{IsDataText, LineMeans, bytes_spelled}
 use Rattle.can_log.specs.Refused.{NoLineFeed, HasCompletion, HasNoCompletion}
 use Rattle.can_log.specs.Log.{LogMeans, IsRefusedIn}
 use Rattle.can_log.specs.Scanning.{Standing, Scans, Finishes}
@@ -24,6 +25,10 @@ LineIsShort = (bytes : List ℕ) (what : Option Stamped) → LineMeans bytes wha
 -- what a line records are bytes
 abbrev pub LineRecordsBytes : Type 0
 LineRecordsBytes = (bytes : List ℕ) (stamped : Stamped) → LineMeans bytes (Some stamped) → AllByRecursion (λ b. b < 256) stamped.frame.bytes
+
+-- the bytes that the digits of data spell are those that the crate `hex` decodes of them
+abbrev pub DataIsWhatHexDecodes : Type 0
+DataIsWhatHexDecodes = (digits : List ℕ) → IsDataText 128 digits → decode_of digits ≡ Ok (bytes_spelled digits)
 
 -- each front of bytes that have a completion has one
 abbrev pub FrontHasCompletion : Type 0

@@ -12,5 +12,6 @@ pub mod WholeLog
 pub mod FieldReader
 pub mod LineReader
 pub mod Views
+pub mod Plain
 pub mod Judging
 pub mod Laws

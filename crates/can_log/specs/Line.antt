@@ -1,6 +1,8 @@
 -- A line of a candump log (can-utils, `candump -l` and `-L`): its parts as they are spelled, their bytes, which parts
 -- are legal, and what a line means.
-use Rattle.std.specs.Prelude.{◌≡◌, ℕ, ◌+◌, ◌*◌, ◌≤◌, ◌%◌, ◌⊎◌, ◌==◌, ◌||◌, ◌&&◌, Bool, nat_le, IsTrue, List, [], ◌∷◌, ◌++◌, length, Option, Some, None, ⊤, codes, if◌then◌else◌}
+use Prim.Native.Char.{code}
+use Rattle.std.specs.Prelude.{◌≡◌, ℕ, ◌+◌, ◌*◌, ◌≤◌, ◌%◌, ◌⊎◌, ◌==◌, ◌||◌, Bool, IsTrue, if◌then◌else◌}
+use Rattle.std.specs.Prelude.{List, [], ◌∷◌, ◌++◌, length, codes, Option, Some, None, ⊤}
 use Rattle.std.specs.List.{AllByRecursion}
 use Rattle.std.specs.Char.{is_ascii_digit, is_ascii_hexdigit, digit_value}
 use Rattle.std.specs.Int.{is_in_range}
@@ -61,7 +63,7 @@ pub record IsRunOf (test : ℕ → Bool) (least most : ℕ) (bytes : List ℕ) :
 
 -- 1 to 16 spaces
 abbrev pub IsGap : List ℕ → Type 0
-IsGap = IsRunOf (λ b. b == 32) 1 16
+IsGap = IsRunOf (λ b. b == code " ") 1 16
 
 -- three hexadecimal digits of value at most 7FF, or eight of any value
 abbrev pub IsIdentifierText : List ℕ → Type 0
@@ -73,27 +75,27 @@ IsDataText most digits = IsRunOf is_ascii_hexdigit 0 most digits × (length digi
 
 -- a digit 9 to F
 abbrev pub is_raw_dlc : ℕ → Bool
-is_raw_dlc b = b == 57 || is_in_range 65 70 b || is_in_range 97 102 b
+is_raw_dlc b = b == code "9" || is_in_range (code "A") (code "F") b || is_in_range (code "a") (code "f") b
 
 -- A raw length code stands only behind 8 bytes of data, or behind the length 8 of a remote frame.
 abbrev pub IsBody : Body → Type 0
 IsBody (classic digits None) = IsDataText 16 digits
 IsBody (classic digits (Some raw_dlc)) = IsDataText 16 digits × (length digits ≡ 16) × IsRunOf is_raw_dlc 1 1 raw_dlc
-IsBody (remote digit None) = IsRunOf (is_in_range 48 56) 0 1 digit
+IsBody (remote digit None) = IsRunOf (is_in_range (code "0") (code "8")) 0 1 digit
 IsBody (remote digit (Some raw_dlc)) = (digit ≡ codes "8") × IsRunOf is_raw_dlc 1 1 raw_dlc
 IsBody (fd flags digits) = IsRunOf is_ascii_hexdigit 1 1 flags × IsDataText 128 digits
 
 -- a gap, and `R` for a received frame or `T` for a sent one
 abbrev pub IsMark : Option (List ℕ × List ℕ) → Type 0
 IsMark None = ⊤
-IsMark (Some mark) = IsGap mark.0 × IsRunOf (λ b. b == 82 || b == 84) 1 1 mark.1
+IsMark (Some mark) = IsGap mark.0 × IsRunOf (λ b. b == code "R" || b == code "T") 1 1 mark.1
 
 -- the parts are those of a line
 pub record IsLineSpelling (line : LineSpelling) : Type 0 where
   pub seconds : IsRunOf is_ascii_digit 1 10 line.seconds
   pub micros : IsRunOf is_ascii_digit 6 6 line.micros
   pub gap : IsGap line.gap
-  pub interface : IsRunOf (λ b. nat_le 33 b && nat_le b 126) 1 15 line.interface
+  pub interface : IsRunOf (is_in_range (code "!") (code "~")) 1 15 line.interface
   pub second_gap : IsGap line.second_gap
   pub identifier : IsIdentifierText line.identifier
   pub body : IsBody line.body
@@ -130,7 +132,7 @@ stamped_of line = record {
 
 -- the text, with one carriage return behind it or none
 abbrev pub IsLineText : List ℕ → List ℕ → Type 0
-IsLineText text bytes = (bytes ≡ text) ⊎ (bytes ≡ text ++ 13 ∷ [])
+IsLineText text bytes = (bytes ≡ text) ⊎ (bytes ≡ text ++ codes "\r")
 
 -- What the bytes of a line mean: nothing where there are none, else the frame that their parts record.
 abbrev pub LineMeans : List ℕ → Option Stamped → Type 0

@@ -1,5 +1,6 @@
 -- A log is cut into lines at its line feeds; what they mean, and where a log is refused.
-use Rattle.std.specs.Prelude.{◌≡◌, ℕ, ◌+◌, ◌==◌, ◌⊎◌, List, [], ◌∷◌, ◌++◌, length, Option, ⊤, if◌then◌else◌}
+use Prim.Native.Char.{code}
+use Rattle.std.specs.Prelude.{◌≡◌, ℕ, ◌+◌, ◌==◌, ◌⊎◌, List, [], ◌∷◌, ◌++◌, length, codes, Option, ⊤, if◌then◌else◌}
 use Rattle.std.specs.List.{flat_map, onto_first}
 use Rattle.can_log.specs.declared.frame.Stamped.{Stamped}
 use Rattle.can_log.specs.Line.{LineMeans}
@@ -8,7 +9,7 @@ use Rattle.can_log.specs.Refused.{IsRefusedPlace, IsUnfinishedAt}
 -- the lines without their line feeds; a last part without bytes is no line
 abbrev pub log_lines : List ℕ → List (List ℕ)
 log_lines [] = []
-log_lines (b ∷ bytes) = if b == 10 then [] ∷ log_lines bytes else onto_first b (log_lines bytes)
+log_lines (b ∷ bytes) = if b == code "\n" then [] ∷ log_lines bytes else onto_first b (log_lines bytes)
 
 -- what the lines mean, one after another
 abbrev pub LinesMean : List (List ℕ) → List (Option Stamped) → Type 0
@@ -23,7 +24,7 @@ LogMeans log whats = LinesMean (log_lines log) whats
 
 -- lines, each with its line feed
 abbrev pub ended_lines : List (List ℕ) → List ℕ
-ended_lines lines = flat_map (λ line. line ++ 10 ∷ []) lines
+ended_lines lines = flat_map (λ line. line ++ codes "\n") lines
 
 -- The refused place of a log: legal lines stand before it, and the bytes behind them are refused at this column.
 pub record IsRefusedIn (log : List ℕ) (line column : ℕ) : Type 0 where

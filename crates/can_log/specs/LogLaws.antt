@@ -1,5 +1,5 @@
 -- What the lines of a log promise: how they come out of its bytes, and how a log grows.
-use Rattle.std.specs.Prelude.{◌≡◌, ◌↔◌, ℕ, List, [], ◌∷◌, ◌++◌, Option}
+use Rattle.std.specs.Prelude.{◌≡◌, ◌↔◌, ℕ, List, [], ◌∷◌, ◌++◌, codes, Option}
 use Rattle.std.specs.List.{AllByRecursion}
 use Rattle.can_log.specs.declared.frame.Stamped.{Stamped}
 use Rattle.can_log.specs.Line.{LineMeans}
@@ -24,7 +24,7 @@ LinesMeanInParts = (lines more : List (List ℕ)) (whats : List (Option Stamped)
 
 -- A line with its line feed is a log that means one thing.
 abbrev pub LineIsLog : Type 0
-LineIsLog = (line : List ℕ) (what : Option Stamped) → NoLineFeed line → LineMeans line what → LogMeans (line ++ 10 ∷ []) (what ∷ [])
+LineIsLog = (line : List ℕ) (what : Option Stamped) → NoLineFeed line → LineMeans line what → LogMeans (line ++ codes "\n") (what ∷ [])
 
 -- A log behind one whose lines are all ended is one log, that means what the one means and then what the other means.
 abbrev pub LogsJoin : Type 0

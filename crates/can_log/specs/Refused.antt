@@ -1,4 +1,5 @@
 -- Where the bytes of a line are refused: at the first byte after which no line begins so.
+use Prim.Native.Char.{code}
 use Rattle.std.specs.Prelude.{◌≡◌, ◌≢◌, ℕ, ◌+◌, ◌≤◌, List, [], ◌∷◌, ◌++◌, length, Option}
 use Rattle.std.specs.List.{AllByRecursion}
 use Rattle.can_log.specs.declared.frame.Stamped.{Stamped}
@@ -6,7 +7,7 @@ use Rattle.can_log.specs.Line.{LineMeans, MeansNothing}
 
 -- no byte is a line feed
 abbrev pub NoLineFeed : List ℕ → Type 0
-NoLineFeed bytes = AllByRecursion (λ b. b ≢ 10) bytes
+NoLineFeed bytes = AllByRecursion (λ b. b ≢ code "\n") bytes
 
 -- some bytes, 16 at most, make a line of it: what is missing of `(0.000000) a 000#` behind its first byte
 abbrev pub HasCompletion : List ℕ → Type 0
@@ -25,8 +26,8 @@ pub record IsRefusedPlace (bytes : List ℕ) (column : ℕ) : Type 0 where
   pub parts : bytes ≡ text ++ bad ∷ after
   pub at : column ≡ length text + 1
   pub legal : (front more : List ℕ) → text ≡ front ++ more → HasCompletion front
-  pub line_feed : bad ≡ 10 → MeansNothing text
-  pub other : bad ≢ 10 → HasNoCompletion (text ++ bad ∷ [])
+  pub line_feed : bad ≡ code "\n" → MeansNothing text
+  pub other : bad ≢ code "\n" → HasNoCompletion (text ++ bad ∷ [])
 
 -- Every byte passes, and yet the bytes are no line: the place is behind the last one.
 pub record IsUnfinishedAt (bytes : List ℕ) (column : ℕ) : Type 0 where

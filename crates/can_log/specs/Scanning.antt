@@ -1,5 +1,5 @@
 -- How a scanner stands between two pieces of a log, and what it answers on the next piece.
-use Rattle.std.specs.Prelude.{◌≡◌, ℕ, ◌+◌, ◌<◌, List, [], ◌∷◌, ◌++◌, length, Option, Some, None}
+use Rattle.std.specs.Prelude.{◌≡◌, ℕ, ◌+◌, ◌<◌, List, [], ◌++◌, length, codes, Option, Some, None}
 use Rattle.can_log.specs.declared.scanner.Scan.{Scan}
 use Rattle.can_log.specs.declared.scanner.Scan.TheVariants as scan
 use Rattle.can_log.specs.Line.{LineMeans}
@@ -23,7 +23,7 @@ ScansOn old piece scan.NeedMore new =
     NoLineFeed piece × HasCompletion (old.line ++ piece)
     × (new ≡ record old { line = old.line ++ piece; taken = old.taken + length piece })
 ScansOn old piece (scan.Line used line what) new =
-    (front : List ℕ) × (after : List ℕ) × (piece ≡ front ++ 10 ∷ after) × NoLineFeed front × (used ≡ length front + 1)
+    (front : List ℕ) × (after : List ℕ) × (piece ≡ front ++ (codes "\n" ++ after)) × NoLineFeed front × (used ≡ length front + 1)
     × (line ≡ old.lines + 1) × LineMeans (old.line ++ front) what
     × (new ≡ record old { lines = line; line = []; taken = old.taken + used })
 ScansOn old piece (scan.Bad line column) new =

@@ -1,6 +1,6 @@
 //! What holds of lines and logs. A law is a call without a body: a proof that needs it calls it, and nothing runs.
 
-ghost use Rattle.can_log.specs.Laws.{LineMeansAtMostOne, LineHasNoLineFeed, LineIsShort, LineRecordsBytes};
+ghost use Rattle.can_log.specs.Laws.{LineMeansAtMostOne, LineHasNoLineFeed, LineIsShort, LineRecordsBytes, DataIsWhatHexDecodes};
 ghost use Rattle.can_log.specs.Laws.{FrontHasCompletion, SixteenAreEnough};
 ghost use Rattle.can_log.specs.Laws.{RefusedPlaceIsOne, RefusedLogMeansNothing};
 ghost use Rattle.can_log.specs.Laws.{LogIsLegalOrRefused, LogMeansAtMostOne, LogTellsOne};
@@ -26,6 +26,11 @@ pub fn line_is_short()
 /// The data of the frame that a line records are bytes: each number is below 256.
 pub fn line_records_bytes()
     ensures { LineRecordsBytes }
+{}
+
+/// The bytes that the digits of data spell are those that [`hex::decode`] gives of them.
+pub fn data_is_what_hex_decodes()
+    ensures { DataIsWhatHexDecodes }
 {}
 
 /// Each front of bytes that have a completion has one.

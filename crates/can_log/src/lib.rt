@@ -22,6 +22,7 @@ mod hexadecimal;
 pub mod laws;
 mod line;
 mod meaning;
+mod plain;
 mod scanner;
 
 pub use canonical::line_bytes;

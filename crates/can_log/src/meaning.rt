@@ -57,29 +57,18 @@ fn hex_number(digits: &[u8]) -> u32
     n
 }
 
-/// The bytes that pairs of digits spell.
+/// The bytes that pairs of digits spell. Digits are looked up, since a test of ranges, as the crate `hex` makes for each,
+/// is a branch that the processor can't foresee; the law `data_is_what_hex_decodes` says that both give the same.
 #[inline(always)]
 fn data_of(digits: &[u8]) -> ArrayVec<u8, 64>
     requires { IsDataText 128 digits.now }
     ensures { result.items ≡ bytes_spelled digits.now }
 {
-    let mut buffer = [0u8; 64];
     let mut bytes = ArrayVec::new();
-    let n = digits.len() / 2;
-    let target = &mut buffer[..n];
-    decode(digits, target);
-    // There is room: 128 digits spell 64 bytes.
-    let _ = bytes.try_extend_from_slice(target);
+    for i in 0..digits.len() / 2 {
+        let high = hex_digit_value(digits[2 * i]);
+        let low = hex_digit_value(digits[2 * i + 1]);
+        bytes.push(16 * high + low);
+    }
     bytes
-}
-
-/// Puts the bytes that the digits spell into a slice of just that length.
-#[inline(always)]
-fn decode(digits: &[u8], out: &mut [u8])
-    requires digits { IsDataText 128 digits.now }
-    requires room { length out.old ≡ length digits.now / 2 }
-    ensures { out.new ≡ bytes_spelled digits.now }
-{
-    // It can't fail: these are pairs of digits, and `out` has a byte for each.
-    let _ = hex::decode_to_slice(digits, out);
 }

@@ -13,17 +13,20 @@ use Rattle.isotp_receive.specs.Verdict.{on_layout, verdict}
 use Rattle.isotp_receive.specs.Machine.{both_after}
 use Rattle.isotp_receive.proofs.OneMore.{one_more}
 
-entry : ℕ → ℕ → Dir → FrameValue → Entry
+abbrev entry : ℕ → ℕ → Dir → FrameValue → Entry
 entry line micros dir frame = record { line = line; micros = micros; dir = dir; frame = frame }
 
 pub both_more : (limit : ℕ) (T : List Entry) (line micros : ℕ) (dir : Dir) (frame : FrameValue) (x : Result Layout PduFault) → x ≡ layout_of frame
-    → both_after limit (receptions_after limit T) line micros dir x ≡ receptions_after limit (T ++ record { line = line; micros = micros; dir = dir; frame = frame } ∷ [])
+    → both_after limit (receptions_after limit T) line micros dir x ≡ receptions_after limit (T ++ entry line micros dir frame ∷ [])
 unfolding role
-both_more limit T line micros Tester frame x h = rw (h, one_more limit Tester T (record { line = line; micros = micros; dir = Tester; frame = frame }), one_more limit Unit T (record { line = line; micros = micros; dir = Tester; frame = frame })) refl
-both_more limit T line micros Unit frame x h = rw (h, one_more limit Tester T (record { line = line; micros = micros; dir = Unit; frame = frame }), one_more limit Unit T (record { line = line; micros = micros; dir = Unit; frame = frame })) refl
+both_more limit T line micros Tester frame x h =
+    rw (h, one_more limit Tester T (entry line micros Tester frame), one_more limit Unit T (entry line micros Tester frame)) refl
+both_more limit T line micros Unit frame x h =
+    rw (h, one_more limit Tester T (entry line micros Unit frame), one_more limit Unit T (entry line micros Unit frame)) refl
 
 pub verdict_of : (limit : ℕ) (T : List Entry) (line micros : ℕ) (dir : Dir) (frame : FrameValue) (x : Result Layout PduFault) → x ≡ layout_of frame
-    → on_layout limit dir (of_direction (receptions_after limit T) dir) (of_direction (receptions_after limit T) (other_direction dir)) micros x ≡ verdict limit T (record { line = line; micros = micros; dir = dir; frame = frame })
+    → on_layout limit dir (of_direction (receptions_after limit T) dir) (of_direction (receptions_after limit T) (other_direction dir)) micros x
+    ≡ verdict limit T (entry line micros dir frame)
 unfolding verdict
 verdict_of limit T line micros Tester frame x h = rw h refl
 verdict_of limit T line micros Unit frame x h = rw h refl

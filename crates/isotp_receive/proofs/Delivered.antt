@@ -5,32 +5,36 @@ use Rattle.std.specs.List.{AllByRecursion}
 use Rattle.std.proofs.lemmas.Bool.{cases_Bool}
 use Rattle.can_log.specs.Dir.{Message}
 use Rattle.can_log.specs.declared.frame.Dir.{Dir}
+use Rattle.can_log.proofs.EachElement.{AllByRecursion-weaker}
 use Rattle.isotp_receive.specs.Trace.{Entry, role, same_direction, At}
 use Rattle.isotp_receive.specs.Verdict.{messages}
 use Rattle.isotp_receive.specs.Recording.{IsRisingFrom, Carries, Transfer, IsTransfer, IsIn, last_or, AllBefore, AreApart, EachPair, IsGiven, IsRecording, ended_within}
-use Rattle.isotp_receive.proofs.Carried.{IsQuiet, all_positions, placed_of, AreCarried, IsCovered, direction-heard}
-use Rattle.isotp_receive.proofs.HeardByRole.{same}
+use Rattle.isotp_receive.proofs.Carried.{all_positions, placed_of, AreCarried, IsCovered, direction-heard}
+use Rattle.isotp_receive.proofs.Directions.{same}
+use Rattle.isotp_receive.proofs.MessagesOfMore.{messages-append}
 use Rattle.isotp_receive.proofs.PositionLists.{in-append, in-left, in-right, rising-append, last-is-in}
-use Rattle.isotp_receive.proofs.OwnFrames.{own-other, carries-own, idle-quiet}
-use Rattle.isotp_receive.proofs.Told.{Placed, side, all_told, Rise, heard-side, pair, messages-told, told-rise, merge, messages-append, told_within, told-take}
+use Rattle.isotp_receive.proofs.OwnFrames.{IsQuiet, own-other, carries-own, idle-quiet}
+use Rattle.isotp_receive.proofs.Told.{Placed, side, all_told, Rise, heard-side, pair, messages-told, told-rise, merge, told_within, told-take}
 
-before : (g h : Transfer) → AreApart g h → g.dir ≡ h.dir → AllBefore g.positions h.positions
-before g h a same_side p q i j = elim (a.apart same_side) [
-  | inl b ↦ b p q i j
-  | inr b ↦ absurd (let lt = b (last_or 0 h.positions) (last_or 0 g.positions) (last-is-in q h.positions j) (last-is-in p g.positions i) in let o = a.order in omega arith)
-]
-
--- the messages of a direction
+-- ---- the messages of a direction
 
 abbrev of_dir : Dir → List Transfer → List Transfer
 of_dir d [] = []
 of_dir d (g ∷ gs) = cond (same_direction d g.dir) (g ∷ of_dir d gs) (of_dir d gs)
 
-goods-of : (limit : ℕ) (T : List Entry) (d : Dir) (gs : List Transfer) → AllByRecursion (IsTransfer limit T) gs → AreCarried limit T d (of_dir d gs)
-goods-of limit T d [] h = tt
-goods-of limit T d (g ∷ gs) h = elim (cases_Bool (same_direction d g.dir)) [
-  | inl t ↦ rw t ((h.0.fits, subst (λ x. Carries T x g.message g.positions) (sym (same d g.dir t)) h.0.carried), goods-of limit T d gs h.1)
-  | inr t ↦ rw t (goods-of limit T d gs h.1)
+carried-of : (limit : ℕ) (T : List Entry) (d : Dir) (gs : List Transfer) → AllByRecursion (IsTransfer limit T) gs → AreCarried limit T d (of_dir d gs)
+carried-of limit T d [] h = tt
+carried-of limit T d (g ∷ gs) h = elim (cases_Bool (same_direction d g.dir)) [
+  | inl t ↦ rw t ((h.0.fits, subst (λ x. Carries T x g.message g.positions) (sym (same d g.dir t)) h.0.carried), carried-of limit T d gs h.1)
+  | inr t ↦ rw t (carried-of limit T d gs h.1)
+]
+
+-- all positions of a message come before those of a later one of its direction
+before : (g h : Transfer) → AreApart g h → g.dir ≡ h.dir → AllBefore g.positions h.positions
+before g h a same_side p q i j = elim (a.apart same_side) [
+  | inl b ↦ b p q i j
+  | inr b ↦ absurd (let lt = b (last_or 0 h.positions) (last_or 0 g.positions) (last-is-in q h.positions j) (last-is-in p g.positions i) in
+      let order = a.order in omega arith)
 ]
 
 before-rest : (d : Dir) (g : Transfer) (gs : List Transfer) → d ≡ g.dir → AllByRecursion (AreApart g) gs → AllBefore g.positions (all_positions (of_dir d gs))
@@ -43,10 +47,12 @@ before-rest d g (x ∷ gs) is h p q i j = elim (cases_Bool (same_direction d x.d
   | inr t ↦ (let k = rw t at j in before-rest d g gs is h.1 p q i k)
 ]
 
-rising-of : (limit : ℕ) (T : List Entry) (d : Dir) (gs : List Transfer) → AllByRecursion (IsTransfer limit T) gs → EachPair AreApart gs → IsRisingFrom 0 (all_positions (of_dir d gs))
+rising-of : (limit : ℕ) (T : List Entry) (d : Dir) (gs : List Transfer) → AllByRecursion (IsTransfer limit T) gs → EachPair AreApart gs
+    → IsRisingFrom 0 (all_positions (of_dir d gs))
 rising-of limit T d [] each pairs = tt
 rising-of limit T d (g ∷ gs) each pairs = elim (cases_Bool (same_direction d g.dir)) [
-  | inl t ↦ rw t (rising-append 0 g.positions (all_positions (of_dir d gs)) each.0.rising (rising-of limit T d gs each.1 pairs.1) (before-rest d g gs (same d g.dir t) pairs.0) (λ q i. omega arith))
+  | inl t ↦ rw t (rising-append 0 g.positions (all_positions (of_dir d gs)) each.0.rising (rising-of limit T d gs each.1 pairs.1)
+      (before-rest d g gs (same d g.dir t) pairs.0) (λ q i. omega arith))
   | inr t ↦ rw t (rising-of limit T d gs each.1 pairs.1)
 ]
 
@@ -71,12 +77,16 @@ cover-of limit T M d r p e _ at = elim (r.others p e at) [
   | inr h ↦ inr (idle-quiet d e h)
 ]
 
+-- ---- what a recording tells behind any trace: each message at the last of its positions
+
 abbrev pub transfer_place : Transfer → Placed
 transfer_place g = record { place = last_or 0 g.positions; dir = g.dir; message = g.message }
 
-transfer-rise : (n : ℕ) (gs : List Transfer) → EachPair AreApart gs → ((g : Transfer) (rest : List Transfer) → gs ≡ g ∷ rest → n ≤ last_or 0 g.positions) → Rise n (map transfer_place gs)
-transfer-rise n [] pairs h = tt
-transfer-rise n (g ∷ gs) pairs h = (h g gs refl, transfer-rise (suc (last_or 0 g.positions)) gs pairs.1 (λ x rest same. let a = subst (AllByRecursion (AreApart g)) same pairs.0 in let o = a.0.order in omega arith))
+transfer-rise : (n : ℕ) (gs : List Transfer) → AllByRecursion (λ g. n ≤ last_or 0 g.positions) gs → EachPair AreApart gs → Rise n (map transfer_place gs)
+transfer-rise n [] least pairs = tt
+transfer-rise n (g ∷ gs) least pairs =
+    let later = AllByRecursion-weaker (AreApart g) (λ x. suc (last_or 0 g.positions) ≤ last_or 0 x.positions) (λ x a. (let order = a.order in omega arith)) gs pairs.0 in
+    (least.0, transfer-rise (suc (last_or 0 g.positions)) gs later pairs.1)
 
 transfer-side : (d : Dir) (gs : List Transfer) → side d (map transfer_place gs) ≡ placed_of (of_dir d gs)
 transfer-side d [] = refl
@@ -89,13 +99,15 @@ transfer-pairs : (gs : List Transfer) → map pair (map transfer_place gs) ≡ m
 transfer-pairs [] = refl
 transfer-pairs (g ∷ gs) = ap (λ l. (g.dir, g.message) ∷ l) (transfer-pairs gs)
 
--- what a recording tells behind any trace: each message at the last of its positions
 pub told-recording : (limit : ℕ) (before T : List Entry) (M : List Message) (r : IsRecording limit T M) → all_told limit 0 before T ≡ map transfer_place r.transfers
 told-recording limit before T M r =
-    merge 0 0 (all_told limit 0 before T) (map transfer_place r.transfers) (told-rise limit 0 before T) (transfer-rise 0 r.transfers r.pairs (λ g rest same. omega arith)) (λ d.
+    let least = AllByRecursion-weaker (IsTransfer limit T) (λ g. 0 ≤ last_or 0 g.positions) (λ g h. omega arith) r.transfers r.each in
+    merge 0 0 (all_told limit 0 before T) (map transfer_place r.transfers) (told-rise limit 0 before T) (transfer-rise 0 r.transfers least r.pairs) (λ d.
     sym (heard-side limit d 0 before T)
-    ∙ direction-heard limit before T d (of_dir d r.transfers) (goods-of limit T d r.transfers r.each) (rising-of limit T d r.transfers r.each r.pairs) (cover-of limit T M d r)
+    ∙ direction-heard limit before T d (of_dir d r.transfers) (carried-of limit T d r.transfers r.each) (rising-of limit T d r.transfers r.each r.pairs) (cover-of limit T M d r)
     ∙ sym (transfer-side d r.transfers))
+
+-- ---- and so its messages
 
 pub recording-delivers-behind : (limit : ℕ) (before T : List Entry) (M : List Message) → IsRecording limit T M → messages limit (before ++ T) ≡ messages limit before ++ M
 recording-delivers-behind limit before T M r =

@@ -1,35 +1,35 @@
 -- A frame's verdict is a message exactly where the trace delivers it there.
-use Rattle.std.proofs.Common.{◌≡◌, ℕ, suc, ◌+◌, ◌-◌, ◌*◌, ◌<◌, ◌≤◌, true, List, [], ◌∷◌, ◌++◌, length, take, nat_lt, nat_le, ◌==◌, Option, Some, None, refl, sym, ◌∙◌, ap, arith, cond, inl, inr, subst, append_assoc, length-append, length-take}
+use Rattle.std.proofs.Common.{◌≡◌, ℕ, suc, ◌+◌, ◌-◌, ◌*◌, ◌<◌, ◌≤◌, true, List, [], ◌∷◌, ◌++◌, length, take, nat_lt, Option, Some, None, refl, sym}
+use Rattle.std.proofs.Common.{◌∙◌, ap, arith, cond, inl, inr, subst, append_assoc, length-append, length-take}
 use Rattle.std.specs.Prelude.{◌↔◌}
-use Rattle.std.proofs.lemmas.Bool.{and_parts, ltb-true, ltb-false, le-ltb, le-leb, eq-eqb, cases_Bool}
+use Rattle.std.proofs.lemmas.Bool.{ltb-true, ltb-false, le-ltb, le-leb, eq-eqb, cases_Bool}
 use Rattle.can_log.specs.declared.frame.Dir.{Dir}
 use Rattle.isotp_receive.specs.declared.reception.Judged.{Judged}
 use Rattle.isotp_receive.specs.declared.reception.Judged.TheVariants as judged_as
 use Rattle.isotp_receive.specs.Trace.{Entry, FirstFrame, Role, single, first, consecutive, continue_or_wait, overflow, no_part, role}
 use Rattle.isotp_receive.specs.Places.{bytes_in_first, bytes_before, consecutive_frames_in, FitsAs, AtPlaces}
 use Rattle.isotp_receive.specs.OnTime.{IsOnTime}
-use Rattle.isotp_receive.specs.Standing.{reference, carried, carried_after, fits_length, keep, is_open, Standing, standing_of, stands}
+use Rattle.isotp_receive.specs.Standing.{reference, carried, fits_length, is_open, Standing, standing_of, stands}
 use Rattle.isotp_receive.specs.Delivers.{Completes, Delivers, in_one_frame, in_frames}
-use Rattle.isotp_receive.specs.Verdict.{VerdictValue, message, began, stored, flowed, dropped, verdict, is_on_time, expected, has_length, wants_more}
+use Rattle.isotp_receive.specs.Verdict.{VerdictValue, message, began, stored, flowed, dropped, verdict, has_length}
 use Rattle.isotp_receive.specs.Machine.{judged}
 use Rattle.isotp_receive.specs.Heard.{placed}
-use Rattle.isotp_receive.proofs.HeardByRole.{completed, completed_by, at_place, told-by-role}
-use Rattle.isotp_receive.proofs.Told.{self}
-use Rattle.isotp_receive.proofs.Clean.{was-last}
-use Rattle.isotp_receive.proofs.ListPositions.{cons-head}
-use Rattle.isotp_receive.proofs.Judgement.{judged-fit}
-use Rattle.isotp_receive.proofs.References.{at-same, refers, on-time-from, on-time-to}
+use Rattle.isotp_receive.proofs.ListPositions.{cons-head, get-same, get-here, get-behind, regrouped, split-length}
+use Rattle.isotp_receive.proofs.Directions.{same-self}
+use Rattle.isotp_receive.proofs.Readings.{first_from, next_from}
 use Rattle.isotp_receive.proofs.Fits.{fits-join}
-use Rattle.isotp_receive.proofs.OneMore.{full_of}
+use Rattle.isotp_receive.proofs.Judgement.{is-last, was-last}
 use Rattle.isotp_receive.proofs.OpenLaws.{found, open-stands-here}
-use Rattle.isotp_receive.proofs.OpenPositions.{at-of, open-there, stands-there}
-use Rattle.isotp_receive.proofs.BytesAtPlaces.{whole-at, same-message}
-use Rattle.isotp_receive.proofs.StandingLaws.{regrouped, ends-at}
-use Rattle.isotp_receive.proofs.Places.{first_from, next_from, at_here}
+use Rattle.isotp_receive.proofs.References.{refers, on-time-same, on-time-from, on-time-to}
+use Rattle.isotp_receive.proofs.OpenPositions.{open-there, stands-there}
+use Rattle.isotp_receive.proofs.BytesAtPlaces.{come-by-places, whole-at}
+use Rattle.isotp_receive.proofs.SameMessage.{same-message}
+use Rattle.isotp_receive.proofs.HeardByRole.{completed, completed_by, at_place, told-by-role}
 
--- what the verdict tells is what the frame completes
+-- ---- what the verdict tells is what the frame completes
+
 told-at : (limit : ℕ) (T : List Entry) (e : Entry) → placed 0 (verdict limit T e).told ≡ at_place 0 (completed (stands limit e.dir T) e.micros (role e.dir e))
-told-at limit T e = ap (λ b. cond b (placed 0 (verdict limit T e).told) []) (sym (self e.dir)) ∙ told-by-role limit e.dir 0 T e
+told-at limit T e = ap (λ b. cond b (placed 0 (verdict limit T e).told) []) (sym (same-self e.dir)) ∙ told-by-role limit e.dir 0 T e
 
 placed-message : (t : VerdictValue) (m : List ℕ) → placed 0 t ≡ (0, m) ∷ [] → t ≡ message m
 placed-message (message x) m h = ap message (ap (λ p. p.1) (cons-head h))
@@ -42,38 +42,33 @@ place-message : (c : List (List ℕ)) (m : List ℕ) → at_place 0 c ≡ (0, m)
 place-message [] m h = absurd (cc)
 place-message (x ∷ ms) m h = (ms, ap (λ y. y ∷ ms) (ap (λ p. p.1) (cons-head h)))
 
-last-judged : (j : Judged) (st : Standing) (bytes m : List ℕ) (ms : List (List ℕ)) → completed_by j st bytes ≡ m ∷ ms → (j ≡ judged_as.Last) × (take st.len (st.bytes ++ bytes) ≡ m)
+last-judged : (j : Judged) (st : Standing) (bytes m : List ℕ) (ms : List (List ℕ)) → completed_by j st bytes ≡ m ∷ ms
+    → (j ≡ judged_as.Last) × (take st.len (st.bytes ++ bytes) ≡ m)
 last-judged judged_as.Last st bytes m ms h = (refl, cc)
 last-judged judged_as.More st bytes m ms h = absurd (cc)
 last-judged judged_as.Late st bytes m ms h = absurd (cc)
 last-judged judged_as.Sequence st bytes m ms h = absurd (cc)
 last-judged judged_as.Length st bytes m ms h = absurd (cc)
 
+-- ---- what a frame completes is delivered there, whatever follows
+
 -- the last consecutive frame of what stands
 module _ (limit : ℕ) (d : Dir) (before : List Entry) (e0 : Entry) (s : FirstFrame) (since rest : List Entry) (begins : role d e0 ≡ first s) (opens : is_open limit d s since ≡ true)
     (last : Entry) (sequence_number can_dl : ℕ) (bytes : List ℕ) (goes : role d last ≡ consecutive sequence_number can_dl bytes) where
-  kept : (keep d s [] since ≡ true) × (carried_after s (consecutive_frames_in d since) < s.len)
-  kept = (let more = and_parts (nat_lt (carried_after s (consecutive_frames_in d since)) s.len) _ (and_parts (nat_le s.len limit) _ opens).1 in (more.1, ltb-true _ _ more.0))
-
-  pub have : length (s.bytes ++ carried d since) ≡ bytes_before (bytes_in_first e0.frame.bytes) s.rx_dl (consecutive_frames_in d since)
-  have = (let from = first_from d e0 s begins in let held = from.1 in let full = full_of d s since kept.0 kept.1 in omega (arith, length-append s.bytes (carried d since)))
-
   completes : judged (standing_of d s since) last.micros sequence_number can_dl ≡ judged_as.Last
       → Completes limit (before ++ e0 ∷ (since ++ last ∷ rest)) (suc (length before) + length since) d (take s.len ((s.bytes ++ carried d since) ++ bytes))
   unfolding open-there
   completes j =
       let w = was-last (standing_of d s since) last.micros sequence_number can_dl j in
-      let low = w.2 in
-      let high = w.3 in
-      let short = w.4 in
-      let size = have in
+      let low = w.low in
+      let ends = w.ends in
+      let size = come-by-places limit d e0 s since begins opens in
       let held_by = next_from d last sequence_number can_dl bytes goes in
-      let carried_by = held_by.1 in
       let o = open-there limit d before e0 s since (last ∷ rest) begins opens in
       let k = consecutive_frames_in d since in
       let more = o.more in
       let next : bytes_before (bytes_in_first e0.frame.bytes) s.rx_dl (k + 1) ≡ bytes_before (bytes_in_first e0.frame.bytes) s.rx_dl k + (s.rx_dl - 1) = omega arith in
-      let n_is : k + 1 ≡ o.count = elim (cases_Bool (nat_lt (k + 1) o.count)) [
+      let all_came : k + 1 ≡ o.count = elim (cases_Bool (nat_lt (k + 1) o.count)) [
         | inl t ↦ absurd (let less = o.least.fewer (k + 1) (ltb-true (k + 1) o.count t) in omega arith)
         | inr t ↦ (let ge = ltb-false (k + 1) o.count t in omega arith)
       ] in
@@ -85,90 +80,101 @@ module _ (limit : ℕ) (d : Dir) (before : List Entry) (e0 : Entry) (s : FirstFr
         begun = length before;
         number = k;
         is_open = o;
-        last = n_is;
+        last = all_came;
         frame = last;
         sequence_number = sequence_number;
         can_dl = can_dl;
         bytes = bytes;
-        stands = at-of (before ++ e0 ∷ (since ++ last ∷ rest)) (before ++ e0 ∷ since) rest (suc (length before) + length since) last regroup (omega (arith, length-append before (e0 ∷ since)));
+        stands = get-behind (before ++ e0 ∷ (since ++ last ∷ rest)) (before ++ e0 ∷ since) rest (suc (length before) + length since) last regroup
+            (omega (arith, length-append before (e0 ∷ since)));
         kind = goes;
-        fits = record { from_one = omega arith; to_last = omega arith; in_sequence = w.1; full = λ less. absurd (omega arith); last_low = λ same. omega arith; last_high = λ same. high };
-        on_time = on-time-from _ d (length before) _ (reference d s.micros since) last (refers d before e0 s since (last ∷ rest) begins) (le-leb _ _ w.0);
+        fits = record {
+          from_one = omega arith;
+          to_last = omega arith;
+          in_sequence = w.number;
+          full = λ less. absurd (omega arith);
+          last_low = λ same. omega arith;
+          last_high = λ same. w.high;
+        };
+        on_time = on-time-from _ d (length before) _ (reference d s.micros since) last (refers d before e0 s since (last ∷ rest) begins) (le-leb _ _ w.on_time);
         size = omega (arith, length-take s.len ((s.bytes ++ carried d since) ++ bytes), length-append (s.bytes ++ carried d since) bytes);
-        places = whole-at limit d before e0 s since rest begins opens last sequence_number can_dl bytes goes enough short;
+        places = whole-at limit d before e0 s since begins opens rest last sequence_number can_dl bytes goes enough ends;
       }
 
--- what a frame completes is delivered there, whatever follows
 delivered : (limit : ℕ) (T : List Entry) (d : Dir) (e : Entry) (rest : List Entry) (m : List ℕ) (ms : List (List ℕ)) (r : Role) (o : Option Standing)
     → role d e ≡ r → stands limit d T ≡ o → completed o e.micros r ≡ m ∷ ms → Delivers limit (T ++ e ∷ rest) (length T) d m
-delivered limit T d e rest m ms (single x) o is now h = in_one_frame e (at_here T rest e) (let same : x ≡ m = cc in is ∙ ap single same)
+delivered limit T d e rest m ms (single x) o is now h = in_one_frame e (get-here T rest e) (let same : x ≡ m = cc in is ∙ ap single same)
 delivered limit T d e rest m ms (consecutive sequence_number can_dl bytes) None is now h = absurd (cc)
 delivered limit T d e rest m ms (consecutive sequence_number can_dl bytes) (Some st) is now h =
     let w = found limit d T st now in
     let l = last-judged (judged st e.micros sequence_number can_dl) st bytes m ms h in
-    let j : judged (standing_of d w.s w.since) e.micros sequence_number can_dl ≡ judged_as.Last = subst (λ x. judged x e.micros sequence_number can_dl ≡ judged_as.Last) w.is l.0 in
+    let j : judged (standing_of d w.s w.since) e.micros sequence_number can_dl ≡ judged_as.Last =
+    subst (λ x. judged x e.micros sequence_number can_dl ≡ judged_as.Last) w.is l.0 in
     let c = completes limit d w.before w.e w.s w.since rest w.begins w.opens e sequence_number can_dl bytes is j in
     let is_m : take w.s.len ((w.s.bytes ++ carried d w.since) ++ bytes) ≡ m = ap (λ x. take x.len (x.bytes ++ bytes)) (sym w.is) ∙ l.1 in
     in_frames (subst (Completes limit (T ++ e ∷ rest) (length T) d) is_m
-    (subst (λ p. Completes limit (T ++ e ∷ rest) p d (take w.s.len ((w.s.bytes ++ carried d w.since) ++ bytes))) (ends-at T w.before w.since w.e w.splits)
-    (subst (λ t. Completes limit t (suc (length w.before) + length w.since) d (take w.s.len ((w.s.bytes ++ carried d w.since) ++ bytes))) (regrouped T (e ∷ rest) w.before w.since w.e w.splits) c)))
+    (subst (λ p. Completes limit (T ++ e ∷ rest) p d (take w.s.len ((w.s.bytes ++ carried d w.since) ++ bytes))) (split-length T w.before w.since w.e w.splits)
+    (subst (λ t. Completes limit t (suc (length w.before) + length w.since) d (take w.s.len ((w.s.bytes ++ carried d w.since) ++ bytes)))
+    (regrouped T (e ∷ rest) w.before w.since w.e w.splits) c)))
 delivered limit T d e rest m ms (first s) o is now h = absurd (cc)
 delivered limit T d e rest m ms continue_or_wait o is now h = absurd (cc)
 delivered limit T d e rest m ms overflow o is now h = absurd (cc)
 delivered limit T d e rest m ms no_part o is now h = absurd (cc)
 
--- what is delivered there, the frame completes
-completed-in : (limit : ℕ) (T : List Entry) (d : Dir) (e : Entry) (m : List ℕ) → Completes limit (T ++ e ∷ []) (length T) d m → completed (stands limit d T) e.micros (role d e) ≡ m ∷ []
+-- ---- what is delivered there, the frame completes
+
+completed-in : (limit : ℕ) (T : List Entry) (d : Dir) (e : Entry) (m : List ℕ) → Completes limit (T ++ e ∷ []) (length T) d m
+    → completed (stands limit d T) e.micros (role d e) ≡ m ∷ []
 unfolding completes
 completed-in limit T d e m c =
     let o = c.is_open in
     let s = o.start in
-    let is_e : c.frame ≡ e = at-same (T ++ e ∷ []) (length T) c.frame e c.stands (at_here T [] e) in
+    let is_e : c.frame ≡ e = get-same (T ++ e ∷ []) (length T) c.frame e c.stands (get-here T [] e) in
     let goes : role d e ≡ consecutive c.sequence_number c.can_dl c.bytes = ap (role d) (sym is_e) ∙ c.kind in
     let w = stands-there limit d T (e ∷ []) c.begun c.number o in
-    let before = w.0 in
-    let since = w.1 in
-    let opens = w.4 in
-    let now : stands limit d T ≡ Some (standing_of d s since) = ap (stands limit d) w.2 ∙ open-stands-here limit d before since o.frame s o.kind opens in
-    let whole : T ++ e ∷ [] ≡ before ++ o.frame ∷ (since ++ e ∷ []) = sym (regrouped T (e ∷ []) before since o.frame w.2) in
-    let size = have limit d before o.frame s since [] o.kind opens e c.sequence_number c.can_dl c.bytes goes in
-    let taken = w.5 in
+    let before = w.before in
+    let since = w.since in
+    let taken = w.taken in
+    let st = standing_of d s since in
+    let now : stands limit d T ≡ Some st = ap (stands limit d) w.splits ∙ open-stands-here limit d before since o.frame s o.kind w.opens in
+    let whole : T ++ e ∷ [] ≡ before ++ o.frame ∷ (since ++ e ∷ []) = sym (regrouped T (e ∷ []) before since o.frame w.splits) in
+    let ends = split-length T before since o.frame w.splits in
+    let size = come-by-places limit d o.frame s since o.kind w.opens in
     let last = c.last in
     let below : consecutive_frames_in d since < o.count = omega arith in
     let product = ap (λ j. j * (s.rx_dl - 1)) taken in
     let fit = (fits-join (bytes_in_first o.frame.frame.bytes) s.rx_dl s.len o.count (consecutive_frames_in d since) c.sequence_number c.can_dl o.least below).0
     (subst (λ k. FitsAs (bytes_in_first o.frame.frame.bytes) s.rx_dl s.len o.count (k + 1) c.sequence_number c.can_dl) taken c.fits) in
     let on : IsOnTime (before ++ o.frame ∷ (since ++ e ∷ [])) d (length before) (suc (length before) + length since) e =
-    subst (λ x. IsOnTime (before ++ o.frame ∷ (since ++ e ∷ [])) d (length before) (suc (length before) + length since) x) is_e
-    (subst (λ p. IsOnTime (before ++ o.frame ∷ (since ++ e ∷ [])) d (length before) p c.frame) (sym (ends-at T before since o.frame w.2))
-    (subst (λ i. IsOnTime (before ++ o.frame ∷ (since ++ e ∷ [])) d i (length T) c.frame) (sym w.3)
-    (subst (λ t. IsOnTime t d c.begun (length T) c.frame) whole c.on_time))) in
+    on-time-same d _ _ _ _ _ _ _ _ whole (sym w.place) (sym ends) is_e c.on_time in
     let on_time = on-time-to _ d (length before) _ (reference d s.micros since) e (refers d before o.frame s since (e ∷ []) o.kind) on in
     let all : o.count ≡ consecutive_frames_in d since + 1 = omega arith in
     let product_all = ap (λ j. j * (s.rx_dl - 1)) all in
     let enough = o.least.enough in
-    let st = standing_of d s since in
     let short : st.len ≤ length st.bytes + (st.rx_dl - 1) = omega arith in
     let fits : has_length st c.can_dl ≡ true = subst (λ h. fits_length s.len s.rx_dl h c.can_dl ≡ true) (sym size) fit.1 in
     let j : judged st e.micros c.sequence_number c.can_dl ≡ judged_as.Last =
-    judged-fit (is_on_time st e.micros) (c.sequence_number == expected st) (has_length st c.can_dl) (wants_more st) on_time (eq-eqb _ _ fit.0) fits
-    ∙ ap (λ b. cond b judged_as.More judged_as.Last) (le-ltb _ _ short) in
-    let got = completes limit d before o.frame s since [] o.kind opens e c.sequence_number c.can_dl c.bytes goes j in
+    is-last st e.micros c.sequence_number c.can_dl on_time (eq-eqb _ _ fit.0) fits (le-ltb _ _ short) in
+    let got = completes limit d before o.frame s since [] o.kind w.opens e c.sequence_number c.can_dl c.bytes goes j in
     let from = first_from d o.frame s o.kind in
-    let eight = from.3 in
     let places : AtPlaces (before ++ o.frame ∷ (since ++ e ∷ [])) d (length before) o.frame s.rx_dl m =
-    subst (λ i. AtPlaces (before ++ o.frame ∷ (since ++ e ∷ [])) d i o.frame s.rx_dl m) (sym w.3) (subst (λ t. AtPlaces t d c.begun o.frame s.rx_dl m) whole c.places) in
+    subst (λ i. AtPlaces (before ++ o.frame ∷ (since ++ e ∷ [])) d i o.frame s.rx_dl m) (sym w.place)
+    (subst (λ t. AtPlaces t d c.begun o.frame s.rx_dl m) whole c.places) in
     let same : take s.len ((s.bytes ++ carried d since) ++ c.bytes) ≡ m =
-    same-message (before ++ o.frame ∷ (since ++ e ∷ [])) d (length before) o.frame s.rx_dl (take s.len ((s.bytes ++ carried d since) ++ c.bytes)) m (omega arith)
-    got.places places (got.size ∙ sym c.size) in
-    ap (λ x. completed x e.micros (role d e)) now ∙ ap (completed (Some st) e.micros) goes ∙ ap (λ j. completed_by j st c.bytes) j ∙ ap (λ x. x ∷ []) same
+    same-message (before ++ o.frame ∷ (since ++ e ∷ [])) d (length before) o.frame s.rx_dl (take s.len ((s.bytes ++ carried d since) ++ c.bytes)) m
+    (omega arith) got.places places (got.size ∙ sym c.size) in
+    let told : completed_by (judged st e.micros c.sequence_number c.can_dl) st c.bytes ≡ m ∷ [] = ap (λ j. completed_by j st c.bytes) j ∙ ap (λ x. x ∷ []) same in
+    ap (λ x. completed x e.micros (role d e)) now ∙ ap (completed (Some st) e.micros) goes ∙ told
 
-completed-all : (limit : ℕ) (T : List Entry) (d : Dir) (e : Entry) (m : List ℕ) → Delivers limit (T ++ e ∷ []) (length T) d m → completed (stands limit d T) e.micros (role d e) ≡ m ∷ []
+completed-all : (limit : ℕ) (T : List Entry) (d : Dir) (e : Entry) (m : List ℕ) → Delivers limit (T ++ e ∷ []) (length T) d m
+    → completed (stands limit d T) e.micros (role d e) ≡ m ∷ []
 completed-all limit T d e m (in_one_frame x at kind) =
-    let is_e : x ≡ e = at-same (T ++ e ∷ []) (length T) x e at (at_here T [] e) in
+    let is_e : x ≡ e = get-same (T ++ e ∷ []) (length T) x e at (get-here T [] e) in
     let kind_e : role d e ≡ single m = ap (role d) (sym is_e) ∙ kind in
     ap (completed (stands limit d T) e.micros) kind_e
 completed-all limit T d e m (in_frames c) = completed-in limit T d e m c
+
+-- ---- both together
 
 pub delivers-there : (limit : ℕ) (T rest : List Entry) (e : Entry) (m : List ℕ) → (verdict limit T e).told ≡ message m → Delivers limit (T ++ e ∷ rest) (length T) e.dir m
 delivers-there limit T rest e m h =

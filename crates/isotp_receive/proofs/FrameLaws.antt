@@ -2,7 +2,7 @@
 use Rattle.isotp_receive.specs.Verdict.{messages}
 use Rattle.isotp_receive.specs.RecordingLaws.{RecordingDeliversByFrames, CleanTraceIsARecording}
 use Rattle.isotp_receive.proofs.FramesOf.{gives-frames, gives-once}
-use Rattle.isotp_receive.proofs.Certified.{clean-records}
+use Rattle.isotp_receive.proofs.CleanTraces.{clean-records}
 
 pub by-frames : RecordingDeliversByFrames
 by-frames limit T M r = (gives-frames limit T M r, gives-once limit T M r)

@@ -1,51 +1,57 @@
 -- A recording gives each message the positions of the frames that make it, and each such frame to one message.
-use Rattle.std.proofs.Common.{◌≡◌, ℕ, suc, ◌+◌, ◌≤◌, List, [], ◌∷◌, ◌++◌, length, map, nat_lt, Result, Ok, Err, refl, sym, ◌∙◌, ap, arith, inl, inr, subst, append_assoc, length-append}
+use Rattle.std.proofs.Common.{◌≡◌, ℕ, suc, ◌≤◌, List, [], ◌∷◌, ◌++◌, length, map, nat_lt, Result, Ok, Err, refl, sym, ◌∙◌, ap, arith, inl, inr, subst}
+use Rattle.std.proofs.Common.{append_assoc, length-append}
 use Rattle.std.specs.Prelude.{◌⊎◌}
 use Rattle.std.specs.List.{AllByRecursion}
 use Rattle.std.proofs.lemmas.Bool.{cases_Bool, ltb-true, ltb-false}
 use Rattle.can_log.specs.Dir.{Message}
 use Rattle.can_log.specs.declared.frame.Dir.{Dir}
+use Rattle.can_log.proofs.EachElement.{AllByRecursion-append, AllByRecursion-both}
 use Rattle.isotp_pdu.specs.declared.PduFault.{PduFault}
 use Rattle.isotp_pdu.specs.Layout.{Layout}
-use Rattle.isotp_pdu.specs.Reading.{layout_of}
 use Rattle.isotp_pdu.specs.Layout as layout
+use Rattle.isotp_pdu.specs.Reading.{layout_of}
 use Rattle.isotp_receive.specs.Trace.{Entry, FirstFrame, Role, single, first, consecutive, continue_or_wait, overflow, no_part, role, same_direction, At}
 use Rattle.isotp_receive.specs.Places.{consecutive_by}
 use Rattle.isotp_receive.specs.Delivers.{Completes, Delivers, in_one_frame, in_frames}
 use Rattle.isotp_receive.specs.Verdict.{VerdictValue, message, began, stored, flowed, dropped, verdict}
-use Rattle.isotp_receive.specs.Recording.{IsConsecutiveFrame, EachNumbered, IsRisingFrom, IsSegmented, Carries, unsegmented, segmented, Transfer, IsTransfer, IsIn, last_or, AllBefore, AreApart, EachPair, IsGiven, IsIdle, IsRecording}
+use Rattle.isotp_receive.specs.Recording.{IsConsecutiveFrame, IsRisingFrom, IsSegmented, Carries, unsegmented, segmented, Transfer, IsTransfer, IsIn, last_or, AllBefore, AreApart, EachPair}
+use Rattle.isotp_receive.specs.Recording.{IsGiven, IsIdle, IsRecording}
 use Rattle.isotp_receive.specs.FramesOf.{IsConsecutiveWithin, AreFramesOf, alone, together, AreGivenTheirFrames, CarriesMessage, IsGivenOnce, EachBelongsOnce}
 use Rattle.isotp_receive.specs.Heard.{placed}
-use Rattle.isotp_receive.proofs.AllElements.{all-append, all-join}
-use Rattle.isotp_receive.proofs.HeardByRole.{same}
-use Rattle.isotp_receive.proofs.References.{at-same}
-use Rattle.isotp_receive.proofs.PositionLists.{last-in}
-use Rattle.isotp_receive.proofs.OwnFrames.{IsOwn, own-other, carries-own, idle-quiet}
-use Rattle.isotp_receive.proofs.Told.{Placed, tag, all_told}
-use Rattle.isotp_receive.proofs.Delivered.{transfer_place, told-recording}
-use Rattle.isotp_receive.proofs.DeliversLaws.{delivers-there}
+use Rattle.isotp_receive.proofs.ListPositions.{get-same}
+use Rattle.isotp_receive.proofs.PositionLists.{above-least, below-last, last-in, numbered-in}
+use Rattle.isotp_receive.proofs.Directions.{same}
 use Rattle.isotp_receive.proofs.StandingLaws.{no-first}
+use Rattle.isotp_receive.proofs.DeliversLaws.{delivers-there}
+use Rattle.isotp_receive.proofs.Told.{Placed, tag, all_told}
+use Rattle.isotp_receive.proofs.OwnFrames.{IsOwn, own-other, carries-own, idle-own}
+use Rattle.isotp_receive.proofs.Delivered.{transfer_place, told-recording}
 
--- what is told is delivered there
+-- ---- each message is delivered at the last of its positions
+
 DeliveredAt : ℕ → List Entry → Placed → Type 0
 DeliveredAt limit T x = Delivers limit T x.place x.dir x.message
 
-one-delivered : (limit : ℕ) (W past rest : List Entry) (e : Entry) (n : ℕ) (t : VerdictValue) → (verdict limit past e).told ≡ t → n ≡ length past → W ≡ past ++ e ∷ rest
-    → AllByRecursion (DeliveredAt limit W) (tag e.dir (placed n t))
+one-delivered : (limit : ℕ) (T past rest : List Entry) (e : Entry) (n : ℕ) (t : VerdictValue) → (verdict limit past e).told ≡ t → n ≡ length past → T ≡ past ++ e ∷ rest
+    → AllByRecursion (DeliveredAt limit T) (tag e.dir (placed n t))
 unfolding DeliveredAt
-one-delivered limit W past rest e n (message m) is place whole =
-    (subst (λ w. Delivers limit w n e.dir m) (sym whole) (subst (λ p. Delivers limit (past ++ e ∷ rest) p e.dir m) (sym place) (delivers-there limit past rest e m is)), tt)
-one-delivered limit W past rest e n began is place whole = tt
-one-delivered limit W past rest e n stored is place whole = tt
-one-delivered limit W past rest e n flowed is place whole = tt
-one-delivered limit W past rest e n (dropped r) is place whole = tt
+one-delivered limit T past rest e n (message m) is place whole = (
+  subst (λ w. Delivers limit w n e.dir m) (sym whole)
+      (subst (λ p. Delivers limit (past ++ e ∷ rest) p e.dir m) (sym place) (delivers-there limit past rest e m is)),
+  tt,
+)
+one-delivered limit T past rest e n began is place whole = tt
+one-delivered limit T past rest e n stored is place whole = tt
+one-delivered limit T past rest e n flowed is place whole = tt
+one-delivered limit T past rest e n (dropped r) is place whole = tt
 
-told-delivered : (limit : ℕ) (W : List Entry) (n : ℕ) (past es : List Entry) → n ≡ length past → W ≡ past ++ es → AllByRecursion (DeliveredAt limit W) (all_told limit n past es)
-told-delivered limit W n past [] place whole = tt
-told-delivered limit W n past (e ∷ es) place whole =
-    all-append (DeliveredAt limit W) (tag e.dir (placed n (verdict limit past e).told)) (all_told limit (suc n) (past ++ e ∷ []) es)
-    (one-delivered limit W past es e n (verdict limit past e).told refl place whole)
-    (told-delivered limit W (suc n) (past ++ e ∷ []) es (omega (arith, length-append past (e ∷ []))) (whole ∙ sym (append_assoc past (e ∷ []) es)))
+told-delivered : (limit : ℕ) (T : List Entry) (n : ℕ) (past es : List Entry) → n ≡ length past → T ≡ past ++ es → AllByRecursion (DeliveredAt limit T) (all_told limit n past es)
+told-delivered limit T n past [] place whole = tt
+told-delivered limit T n past (e ∷ es) place whole =
+    AllByRecursion-append (DeliveredAt limit T) (tag e.dir (placed n (verdict limit past e).told)) (all_told limit (suc n) (past ++ e ∷ []) es)
+    (one-delivered limit T past es e n (verdict limit past e).told refl place whole)
+    (told-delivered limit T (suc n) (past ++ e ∷ []) es (omega (arith, length-append past (e ∷ []))) (whole ∙ sym (append_assoc past (e ∷ []) es)))
 
 AtItsLast : ℕ → List Entry → Transfer → Type 0
 AtItsLast limit T t = Delivers limit T (last_or 0 t.positions) t.dir t.message
@@ -59,6 +65,8 @@ delivered-at-last : (limit : ℕ) (T : List Entry) (M : List Message) (r : IsRec
 delivered-at-last limit T M r =
     by-transfer limit T r.transfers (subst (AllByRecursion (DeliveredAt limit T)) (told-recording limit [] T M r) (told-delivered limit T 0 [] T refl refl))
 
+-- ---- a frame of the direction between the first and the last frame of a message is one of them
+
 -- another message that was given the position
 record Other (limit : ℕ) (T : List Entry) (t : Transfer) (p : ℕ) : Type 0 where
   x : Transfer
@@ -70,7 +78,8 @@ record Other (limit : ℕ) (T : List Entry) (t : Transfer) (p : ℕ) : Type 0 wh
 Shares : ℕ → List Entry → List Transfer → Transfer → Type 0
 Shares limit T ts t = (p : ℕ) → IsGiven p ts → IsIn p t.positions ⊎ Other limit T t p
 
-later-other : (limit : ℕ) (T : List Entry) (t : Transfer) (p : ℕ) (ts : List Transfer) → AllByRecursion (IsTransfer limit T) ts → AllByRecursion (AreApart t) ts → IsGiven p ts → Other limit T t p
+later-other : (limit : ℕ) (T : List Entry) (t : Transfer) (p : ℕ) (ts : List Transfer)
+    → AllByRecursion (IsTransfer limit T) ts → AllByRecursion (AreApart t) ts → IsGiven p ts → Other limit T t p
 later-other limit T t p [] each apart given = absurd given
 later-other limit T t p (x ∷ ts) each apart (inl i) = record { x = x; is = each.0; given = i; apart = apart.0.apart }
 later-other limit T t p (x ∷ ts) each apart (inr g) = later-other limit T t p ts each.1 apart.1 g
@@ -80,16 +89,12 @@ unfolding Shares
 shares limit T [] each pairs = tt
 shares limit T (t ∷ ts) each pairs = (
   λ p given. elim given [ inl i ↦ inl i | inr g ↦ inr (later-other limit T t p ts each.1 pairs.0 g) ],
-  all-join (Shares limit T ts) (AreApart t) (Shares limit T (t ∷ ts)) ts (shares limit T ts each.1 pairs.1) pairs.0 (λ x h a p given. elim given [
+  AllByRecursion-both (Shares limit T ts) (AreApart t) (Shares limit T (t ∷ ts)) (λ x h a p given. elim given [
     | inl i ↦ inr (record { x = t; is = each.0; given = i; apart = λ one. elim (a.apart (sym one)) [ inl b ↦ inr b | inr b ↦ inl b ] })
     | inr g ↦ h p g
-  ]),
+  ]) ts (shares limit T ts each.1 pairs.1) pairs.0,
 )
 
-idle-own : (d : Dir) (e : Entry) → IsIdle (layout_of e.frame) → IsOwn (role d e) → ⊥
-idle-own d e idle own = elim (idle-quiet d e idle) [ inl q ↦ absurd (rw q at own) | inr q ↦ absurd (rw q at own) ]
-
--- a frame of the direction between the first and the last frame of a message is one of them
 own-within : (limit : ℕ) (T : List Entry) (ts : List Transfer) (t : Transfer) → Shares limit T ts t → ((p : ℕ) (e : Entry) → At T p e → IsGiven p ts ⊎ IsIdle (layout_of e.frame))
     → (i p x : ℕ) (e : Entry) → IsIn i t.positions → IsIn p t.positions → i ≤ x → x ≤ p → At T x e → IsOwn (role t.dir e) → IsIn x t.positions
 unfolding Shares
@@ -102,32 +107,18 @@ own-within limit T ts t shared others i p x e first_in last_in low high at own =
         | inl b ↦ absurd (let less = b p x last_in other.given in omega arith)
         | inr b ↦ absurd (let less = b x i other.given first_in in omega arith)
       ]
-      | inr s ↦ absurd (let none = own-other t.dir other.x.dir e s (carries-own T other.x.dir other.x.message other.x.positions x e other.is.carried other.given at) in rw none at own)
+      | inr s ↦ absurd (let its = carries-own T other.x.dir other.x.message other.x.positions x e other.is.carried other.given at in
+          let none = own-other t.dir other.x.dir e s its in rw none at own)
     ]
   ]
 ]
 
-above : (n p : ℕ) (ps : List ℕ) → IsRisingFrom n ps → IsIn p ps → n ≤ p
-above n p [] h i = absurd i
-above n p (q ∷ qs) h (inl is) = (let a = h.0 in omega arith)
-above n p (q ∷ qs) h (inr i) = (let a = h.0 in let b = above (suc q) p qs h.1 i in omega arith)
+-- ---- the frames of a segmented message
 
-below-last : (n p q : ℕ) (qs : List ℕ) → IsRisingFrom n (q ∷ qs) → IsIn p (q ∷ qs) → p ≤ last_or q qs
-below-last n p q [] h (inl is) = omega arith
-below-last n p q [] h (inr i) = absurd i
-below-last n p q (r ∷ qs) h (inl is) = (let a = h.1.0 in let b = below-last (suc q) r r qs h.1 (inl refl) in omega arith)
-below-last n p q (r ∷ qs) h (inr i) = below-last (suc q) p r qs h.1 i
-
--- at each of these positions stands a consecutive frame
 record ConsecutiveAt (T : List Entry) (d : Dir) (p : ℕ) : Type 0 where
   frame : Entry
   stands : At T p frame
   kind : consecutive_by (role d frame) ≡ 1
-
-numbered-at : (T : List Entry) (d : Dir) (m : List ℕ) (i : ℕ) (s : FirstFrame) (f n k : ℕ) (cs : List ℕ) (p : ℕ) → EachNumbered (IsConsecutiveFrame T d m i s f n) k cs → IsIn p cs → ConsecutiveAt T d p
-numbered-at T d m i s f n k [] p h a = absurd a
-numbered-at T d m i s f n k (c ∷ cs) p h (inl is) = record { frame = h.0.frame; stands = subst (λ j. At T j h.0.frame) (sym is) h.0.stands; kind = ap consecutive_by h.0.kind }
-numbered-at T d m i s f n k (c ∷ cs) p h (inr a) = numbered-at T d m i s f n (k + 1) cs p h.1 a
 
 consecutive-own : (r : Role) → consecutive_by r ≡ 1 → IsOwn r
 consecutive-own (consecutive sequence_number can_dl bytes) h = tt
@@ -137,18 +128,21 @@ consecutive-own continue_or_wait h = absurd (omega arith)
 consecutive-own overflow h = absurd (omega arith)
 consecutive-own no_part h = absurd (omega arith)
 
-no-two-firsts : (T : List Entry) (d : Dir) (p : ℕ) (e : Entry) (s : FirstFrame) → At T p e → role d e ≡ first s → ConsecutiveAt T d p → ⊥
-no-two-firsts T d p e s at kind c =
-    let is_e : c.frame ≡ e = at-same T p c.frame e c.stands at in
-    let zero_by : consecutive_by (role d c.frame) ≡ 0 = ap (λ x. consecutive_by (role d x)) is_e ∙ ap consecutive_by kind in
-    let one_by = c.kind in omega arith
+-- no other frame stands there
+not-consecutive : (T : List Entry) (d : Dir) (p : ℕ) (e : Entry) → At T p e → consecutive_by (role d e) ≡ 0 → ConsecutiveAt T d p → ⊥
+not-consecutive T d p e at zero_by c =
+    let is_e : c.frame ≡ e = get-same T p c.frame e c.stands at in
+    let zero : consecutive_by (role d c.frame) ≡ 0 = ap (λ x. consecutive_by (role d x)) is_e ∙ zero_by in
+    let one = c.kind in omega arith
 
--- the frames of a segmented message
-module _ (limit : ℕ) (T : List Entry) (ts : List Transfer) (d : Dir) (m : List ℕ) (i : ℕ) (cs : List ℕ) (l : IsSegmented T d m i cs) (rising : IsRisingFrom 0 (i ∷ cs))
+module _ (limit : ℕ) (T : List Entry) (d : Dir) (m : List ℕ) (i : ℕ) (cs : List ℕ) (l : IsSegmented T d m i cs) (rising : IsRisingFrom 0 (i ∷ cs))
     (mine : (x : ℕ) (e : Entry) → i ≤ x → x ≤ last_or i cs → At T x e → IsOwn (role d e) → IsIn x (i ∷ cs)) where
   at-cs : (x : ℕ) → IsIn x cs → ConsecutiveAt T d x
-  at-cs x j = numbered-at T d m i l.start _ _ 1 cs x l.consecutive_frames j
+  at-cs x j =
+      let w = numbered-in (IsConsecutiveFrame T d m i l.start _ _) 1 x cs l.consecutive_frames j in
+      record { frame = w.1.frame; stands = w.1.stands; kind = ap consecutive_by w.1.kind }
 
+  -- the reception that the last of them completes began with the first
   started : (c : Completes limit T (last_or i cs) d m) → c.begun ≡ i
   started c =
       let later = c.is_open.later in
@@ -157,18 +151,19 @@ module _ (limit : ℕ) (T : List Entry) (ts : List Transfer) (d : Dir) (m : List
         | inl t ↦ absurd (let less = ltb-true c.begun i t in elim (cases_Bool (nat_lt i (last_or i cs))) [
           | inl u ↦ no-first c.is_open.start l.start _ _ _ _ (role d l.frame) l.kind (c.is_open.each i l.frame less (ltb-true i (last_or i cs) u) l.stands)
           | inr u ↦ (let le = ltb-false i (last_or i cs) u in let here : last_or i cs ≡ i = omega arith in
-              no-two-firsts T d (last_or i cs) l.frame l.start (subst (λ j. At T j l.frame) (sym here) l.stands) l.kind (record { frame = c.frame; stands = c.stands; kind = ap consecutive_by c.kind }))
+              not-consecutive T d (last_or i cs) l.frame (subst (λ j. At T j l.frame) (sym here) l.stands) (ap consecutive_by l.kind)
+              (record { frame = c.frame; stands = c.stands; kind = ap consecutive_by c.kind }))
         ])
         | inr t ↦ (let ge = ltb-false c.begun i t in elim (mine c.begun c.is_open.frame (omega arith) (omega arith) c.is_open.stands (rw c.is_open.kind tt)) [
           | inl is ↦ is
-          | inr j ↦ absurd (no-two-firsts T d c.begun c.is_open.frame c.is_open.start c.is_open.stands c.is_open.kind (at-cs c.begun j))
+          | inr j ↦ absurd (not-consecutive T d c.begun c.is_open.frame c.is_open.stands (ap consecutive_by c.is_open.kind) (at-cs c.begun j))
         ])
       ]
 
   within-of : (x : ℕ) → IsIn x cs → IsConsecutiveWithin T d i (last_or i cs) x
   within-of x j =
       let c = at-cs x j in
-      record { later = above (suc i) x cs rising.1 j; within = below-last 0 x i cs rising (inr j); frame = c.frame; stands = c.stands; kind = c.kind }
+      record { later = above-least (suc i) x cs rising.1 j; within = below-last 0 x i cs rising (inr j); frame = c.frame; stands = c.stands; kind = c.kind }
 
   of-within : (x : ℕ) → IsConsecutiveWithin T d i (last_or i cs) x → IsIn x cs
   of-within x w =
@@ -178,13 +173,12 @@ module _ (limit : ℕ) (T : List Entry) (ts : List Transfer) (d : Dir) (m : List
         | inr j ↦ j
       ]
 
+  -- the last of them is no single frame
   last-kind : (e : Entry) → At T (last_or i cs) e → role d e ≡ single m → ⊥
   last-kind e at kind = elim (last-in i cs) [
-    | inl is ↦ (let there : At T i e = subst (λ j. At T j e) is at in let is_e : e ≡ l.frame = at-same T i e l.frame there l.stands in
+    | inl is ↦ (let there : At T i e = subst (λ j. At T j e) is at in let is_e : e ≡ l.frame = get-same T i e l.frame there l.stands in
         apart m l.start (sym kind ∙ ap (role d) is_e ∙ l.kind))
-    | inr j ↦ (let c = at-cs (last_or i cs) j in let is_e : c.frame ≡ e = at-same T (last_or i cs) c.frame e c.stands at in
-        let zero_by : consecutive_by (role d c.frame) ≡ 0 = ap (λ x. consecutive_by (role d x)) is_e ∙ ap consecutive_by kind in
-        let one_by = c.kind in absurd (omega arith))
+    | inr j ↦ not-consecutive T d (last_or i cs) e at (ap consecutive_by kind) (at-cs (last_or i cs) j)
   ] where
     apart : (m : List ℕ) (s : FirstFrame) → single m ≡ first s → ⊥
     apart m s h = cc
@@ -193,20 +187,26 @@ module _ (limit : ℕ) (T : List Entry) (ts : List Transfer) (d : Dir) (m : List
   segmented-frames (in_one_frame e at kind) = absurd (last-kind e at kind)
   segmented-frames (in_frames c) = together c (started c) (λ x. (within-of x, of-within x))
 
-frames-of : (limit : ℕ) (T : List Entry) (ts : List Transfer) (d : Dir) (m ps : List ℕ) → Carries T d m ps → IsRisingFrom 0 ps → Delivers limit T (last_or 0 ps) d m
+-- ---- each message is given the positions of its frames
+
+frames-of : (limit : ℕ) (T : List Entry) (d : Dir) (m ps : List ℕ) → Carries T d m ps → IsRisingFrom 0 ps → Delivers limit T (last_or 0 ps) d m
     → ((i p x : ℕ) (e : Entry) → IsIn i ps → IsIn p ps → i ≤ x → x ≤ p → At T x e → IsOwn (role d e) → IsIn x ps) → AreFramesOf limit T d m ps
-frames-of limit T ts d m _ (unsegmented e at kind) rising delivers mine = alone e at kind
-frames-of limit T ts d m _ (segmented {begun = i} {positions = cs} l) rising delivers mine =
-    segmented-frames limit T ts d m i cs l rising (λ x e low high at own. mine i (last_or i cs) x e (inl refl) (last-in i cs) low high at own) delivers
+frames-of limit T d m _ (unsegmented e at kind) rising delivers mine = alone e at kind
+frames-of limit T d m _ (segmented {begun = i} {positions = cs} l) rising delivers mine =
+    segmented-frames limit T d m i cs l rising (λ x e low high at own. mine i (last_or i cs) x e (inl refl) (last-in i cs) low high at own) delivers
 
 pub gives-frames : (limit : ℕ) (T : List Entry) (M : List Message) (r : IsRecording limit T M) → AreGivenTheirFrames limit T r.transfers
 unfolding AtItsLast
 gives-frames limit T M r =
-    let all = all-join (IsTransfer limit T) (Shares limit T r.transfers) (λ t. IsTransfer limit T t × Shares limit T r.transfers t) r.transfers r.each (shares limit T r.transfers r.each r.pairs) (λ t h g. (h, g)) in
-    all-join (λ t. IsTransfer limit T t × Shares limit T r.transfers t) (AtItsLast limit T) (λ t. AreFramesOf limit T t.dir t.message t.positions) r.transfers all (delivered-at-last limit T M r)
-    (λ t h delivers. frames-of limit T r.transfers t.dir t.message t.positions h.0.carried h.0.rising delivers (own-within limit T r.transfers t h.1 r.others))
+    AllByRecursion-both (λ t. IsTransfer limit T t × Shares limit T r.transfers t) (AtItsLast limit T) (λ t. AreFramesOf limit T t.dir t.message t.positions)
+    (λ t h delivers. frames-of limit T t.dir t.message t.positions h.0.carried h.0.rising delivers (own-within limit T r.transfers t h.1 r.others))
+    r.transfers
+    (AllByRecursion-both (IsTransfer limit T) (Shares limit T r.transfers) (λ t. IsTransfer limit T t × Shares limit T r.transfers t) (λ t h g. (h, g))
+    r.transfers r.each (shares limit T r.transfers r.each r.pairs))
+    (delivered-at-last limit T M r)
 
--- no position is given twice
+-- ---- and each frame is given to one message
+
 not-shared : (p : ℕ) (t : Transfer) (ts : List Transfer) → AllByRecursion (AreApart t) ts → IsIn p t.positions → IsGiven p ts → ⊥
 not-shared p t [] apart i given = given
 not-shared p t (x ∷ ts) apart i (inl j) = apart.0.shared p i j
@@ -214,7 +214,15 @@ not-shared p t (x ∷ ts) apart i (inr g) = not-shared p t ts apart.1 i g
 
 given-once : (p : ℕ) (ts : List Transfer) → EachPair AreApart ts → IsGiven p ts → IsGivenOnce p ts
 given-once p [] pairs given = absurd given
-given-once p (t ∷ ts) pairs (inl i) = record { before = []; transfer = t; after = ts; splits = refl; given = i; none_before = λ none. none; none_after = not-shared p t ts pairs.0 i }
+given-once p (t ∷ ts) pairs (inl i) = record {
+  before = [];
+  transfer = t;
+  after = ts;
+  splits = refl;
+  given = i;
+  none_before = λ none. none;
+  none_after = not-shared p t ts pairs.0 i;
+}
 given-once p (t ∷ ts) pairs (inr g) =
     let w = given-once p ts pairs.1 g in
     record {

@@ -1,9 +1,8 @@
 -- What a frame tells a direction, by the role that it has for it: the message that it completes, or nothing.
-use Rattle.std.proofs.Common.{◌≡◌, ℕ, true, List, [], ◌∷◌, ◌++◌, take, nat_le, ◌==◌, Option, Some, None, Result, Ok, Err, refl, sym, ◌∙◌, ap, cond}
-use Rattle.std.proofs.lemmas.Bool.{cases_Bool, false≢true}
+use Rattle.std.proofs.Common.{◌≡◌, ℕ, List, [], ◌∷◌, ◌++◌, take, nat_le, ◌==◌, Option, Some, None, Result, Ok, Err, refl, sym, ◌∙◌, ap, cond, inl, inr}
+use Rattle.std.proofs.lemmas.Bool.{cases_Bool}
 use Rattle.can_log.specs.Dir.{other_direction}
 use Rattle.can_log.specs.declared.frame.Dir.{Dir}
-use Rattle.can_log.specs.declared.frame.Dir.TheVariants.{Tester, Unit}
 use Rattle.isotp_pdu.specs.Layout.{Layout}
 use Rattle.isotp_pdu.specs.Reading.{layout_of}
 use Rattle.isotp_pdu.specs.Layout as layout
@@ -12,12 +11,12 @@ use Rattle.isotp_pdu.specs.declared.Status.TheVariants.{Continue, Wait, Overflow
 use Rattle.isotp_receive.specs.declared.reception.Judged.TheVariants as judged_as
 use Rattle.isotp_receive.specs.declared.reception.Judged.{Judged}
 use Rattle.isotp_receive.specs.declared.event.Reason.TheVariants as as_reason
-use Rattle.std.proofs.Common.{inl, inr}
 use Rattle.isotp_receive.specs.Trace.{Entry, Role, single, first, consecutive, continue_or_wait, overflow, no_part, role, own_role, other_role, same_direction}
 use Rattle.isotp_receive.specs.Standing.{Standing, stands}
 use Rattle.isotp_receive.specs.Verdict.{began, dropped, verdict, on_layout, on_continue_or_wait, on_overflow}
 use Rattle.isotp_receive.specs.Heard.{placed}
 use Rattle.isotp_receive.specs.Machine.{judged, on_judged}
+use Rattle.isotp_receive.proofs.Directions.{same}
 use Rattle.isotp_receive.proofs.Judgement.{on-judged}
 
 -- the message that a frame of this role completes, where this stands
@@ -41,7 +40,8 @@ abbrev pub at_place : ℕ → List (List ℕ) → List (ℕ × List ℕ)
 at_place n [] = []
 at_place n (m ∷ ms) = (n, m) ∷ []
 
-placed-judged : (n : ℕ) (d : Dir) (s : Standing) (j : Judged) (sequence_number : ℕ) (bytes : List ℕ) → placed n (on_judged d s j sequence_number bytes).told ≡ at_place n (completed_by j s bytes)
+placed-judged : (n : ℕ) (d : Dir) (s : Standing) (j : Judged) (sequence_number : ℕ) (bytes : List ℕ)
+    → placed n (on_judged d s j sequence_number bytes).told ≡ at_place n (completed_by j s bytes)
 placed-judged n d s judged_as.Last sequence_number bytes = refl
 placed-judged n d s judged_as.More sequence_number bytes = refl
 placed-judged n d s judged_as.Late sequence_number bytes = refl
@@ -80,12 +80,6 @@ nothing-else o micros (Ok (layout.consecutive sequence_number can_dl bytes)) = r
 nothing-else o micros (Ok (layout.flow_control Continue)) = refl
 nothing-else o micros (Ok (layout.flow_control Wait)) = refl
 nothing-else o micros (Ok (layout.flow_control Overflow)) = refl
-
-pub same : (d e : Dir) → same_direction d e ≡ true → d ≡ e
-same Tester Tester h = refl
-same Unit Unit h = refl
-same Tester Unit h = absurd (false≢true h)
-same Unit Tester h = absurd (false≢true h)
 
 -- what a frame tells a direction, by its role
 pub told-by-role : (limit : ℕ) (d : Dir) (n : ℕ) (past : List Entry) (e : Entry)

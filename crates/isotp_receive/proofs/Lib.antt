@@ -1,28 +1,49 @@
+-- lists, numbers and tests
+pub mod Products
+pub mod Choices
+pub mod Fronts
+pub mod ListPositions
+pub mod PositionLists
+-- a frame, and what is known of it
+pub mod Directions
+pub mod Readings
+pub mod Fits
+-- what stands after one more frame, as the code keeps it
+pub mod CountedFrames
+pub mod FullFrames
+pub mod StandsAlone
+pub mod Judgement
 pub mod OneMore
 pub mod BothDirections
-pub mod Fronts
-pub mod Products
-pub mod Judgement
+-- what stands, and what is open by the positions of a trace
 pub mod OpenLaws
-pub mod OpenPositions
-pub mod BytesAtPlaces
-pub mod StandingLaws
-pub mod DeliversLaws
-pub mod HeardByRole
-pub mod VerdictLaws
-pub mod Places
-pub mod ListPositions
 pub mod References
-pub mod Carried
-pub mod PositionLists
-pub mod AllElements
-pub mod OwnFrames
+pub mod ConsecutiveCounts
+pub mod OpenPositions
+pub mod CarriedBytes
+pub mod BytesAtPlaces
+pub mod SameMessage
+pub mod StandingLaws
+-- verdicts
+pub mod HeardByRole
+pub mod DeliversLaws
+pub mod JudgedFrames
+pub mod VerdictLaws
+-- the messages of a trace
+pub mod MessagesOfMore
 pub mod Told
+-- recordings
+pub mod OwnFrames
+pub mod UnderWay
+pub mod NextFrames
+pub mod Carried
 pub mod Delivered
 pub mod FramesOf
-pub mod Clean
-pub mod Certified
+-- clean traces
+pub mod CleanFrames
+pub mod Gathered
+pub mod CleanSteps
+pub mod CleanTraces
 pub mod FrameLaws
-pub mod Fits
-pub mod MessagesOfMore
+-- what the crates above may cite
 pub mod Promises

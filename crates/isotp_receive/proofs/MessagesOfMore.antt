@@ -1,4 +1,4 @@
--- The messages of a trace with one more frame.
+-- The messages of a trace that goes on.
 use Rattle.std.proofs.Common.{◌≡◌, ℕ, ◌+◌, ◌<◌, List, [], ◌∷◌, ◌++◌, length, take, get_or, refl, sym, ◌∙◌, ap, append_assoc}
 use Rattle.std.proofs.lemmas.List.{append-nil, take_more, map-append}
 use Rattle.std.specs.Borrow.{Bor}
@@ -14,19 +14,25 @@ use Rattle.isotp_receive.specs.Verdict.{EventValue, messages, messages_after, to
 use Rattle.isotp_receive.specs.EventSeen.{seen_verdict}
 use Rattle.isotp_receive.specs.Recorded.{entries, entry_of, sent}
 
+-- ---- of two lists of frames
+
+pub messages-append : (limit : ℕ) (past xs ys : List Entry) → messages_after limit past (xs ++ ys) ≡ messages_after limit past xs ++ messages_after limit (past ++ xs) ys
+messages-append limit past [] ys = ap (λ l. messages_after limit l ys) (sym (append-nil past))
+messages-append limit past (e ∷ xs) ys =
+    ap (λ l. told_message e.dir (verdict limit past e).told ++ l) (messages-append limit (past ++ e ∷ []) xs ys
+    ∙ ap (λ l. messages_after limit (past ++ e ∷ []) xs ++ messages_after limit l ys) (append_assoc past (e ∷ []) xs))
+    ∙ sym (append_assoc (told_message e.dir (verdict limit past e).told) (messages_after limit (past ++ e ∷ []) xs) (messages_after limit (past ++ (e ∷ xs)) ys))
+
+pub messages-snoc : (limit : ℕ) (past es : List Entry) (e : Entry)
+    → messages_after limit past (es ++ e ∷ []) ≡ messages_after limit past es ++ told_message e.dir (verdict limit (past ++ es) e).told
+messages-snoc limit past es e = messages-append limit past es (e ∷ []) ∙ ap (λ l. messages_after limit past es ++ l) (append-nil _)
+
+-- ---- of a slice with one more frame
+
 more_entries : (rs : List Recorded) (i : ℕ) (r : Recorded) → r ≡ get_or rs i r → i < length rs → entries (take (i + 1) rs) ≡ entries (take i rs) ++ entry_of r ∷ []
 more_entries rs i r e h =
     ap entries (take_more rs i r h) ∙ map-append entry_of (take i rs) (get_or rs i r ∷ []) ∙ ap (λ x. entries (take i rs) ++ entry_of x ∷ []) (sym e)
 
-pub messages-snoc : (limit : ℕ) (past es : List Entry) (e : Entry)
-    → messages_after limit past (es ++ e ∷ []) ≡ messages_after limit past es ++ told_message e.dir (verdict limit (past ++ es) e).told
-messages-snoc limit past [] e = append-nil _ ∙ ap (λ p. told_message e.dir (verdict limit p e).told) (sym (append-nil past))
-messages-snoc limit past (x ∷ es) e =
-    ap (λ ms. told_message x.dir (verdict limit past x).told ++ ms)
-    (messages-snoc limit (past ++ x ∷ []) es e ∙ ap (λ p. messages_after limit (past ++ x ∷ []) es ++ told_message e.dir (verdict limit p e).told) (append_assoc past (x ∷ []) es))
-    ∙ sym (append_assoc (told_message x.dir (verdict limit past x).told) (messages_after limit (past ++ x ∷ []) es) (told_message e.dir (verdict limit (past ++ x ∷ es) e).told))
-
--- what holds after one more frame of the slice
 module _ (limit : ℕ) (rs : List Recorded) (i : ℕ) (r : Recorded) (is : r ≡ get_or rs i r) (below : i < length rs) where
   pub stands_next : (p q : Receptions) → p ≡ receptions_after limit (entries (take i rs))
       → ((T : List Entry) → p ≡ receptions_after limit T → q ≡ receptions_after limit (T ++ entry_of r ∷ []))

@@ -1,16 +1,20 @@
 -- What stands after a list of frames: where it began, and that each frame since leaves it open.
-use Rattle.std.proofs.Common.{inl, inr, ◌≡◌, ℕ, true, List, [], ◌∷◌, ◌++◌, Option, Some, None, refl, sym, ◌∙◌, ap, append_assoc, subst}
+use Rattle.std.proofs.Common.{◌≡◌, ℕ, true, List, [], ◌∷◌, ◌++◌, Option, Some, None, refl, sym, ◌∙◌, ap, append_assoc, subst}
 use Rattle.std.specs.Prelude.{IsTrue}
 use Rattle.std.proofs.lemmas.List.{append-nil}
-use Rattle.std.proofs.lemmas.Bool.{cases_Bool, and_parts, and_from}
+use Rattle.std.proofs.lemmas.Bool.{and_parts, and_from}
+use Rattle.std.proofs.lemmas.Option.{none-some, cond_some}
 use Rattle.can_log.specs.declared.frame.Dir.{Dir}
 use Rattle.isotp_receive.specs.Trace.{Entry, FirstFrame, Role, single, first, consecutive, continue_or_wait, overflow, no_part, role}
 use Rattle.isotp_receive.specs.Standing.{keeps_by, keep, is_open, Standing, standing_of, since, or_else, stands}
-use Rattle.isotp_receive.proofs.ListPositions.{cons-head}
-use Rattle.isotp_receive.proofs.OneMore.{since-alone}
+use Rattle.isotp_receive.proofs.ListPositions.{cons-head, cons-tail}
+use Rattle.isotp_receive.proofs.StandsAlone.{since-alone}
+
+-- ---- each frame since leaves it open
 
 Each : Dir → FirstFrame → List Entry → List Entry → Type 0
-Each d s past es = (between after : List Entry) (e : Entry) → es ≡ between ++ e ∷ after → keeps_by d s (past ++ between) e.micros (role d e) ≡ true
+Each d s past es =
+    (between after : List Entry) (e : Entry) → es ≡ between ++ e ∷ after → keeps_by d s (past ++ between) e.micros (role d e) ≡ true
 
 keep-from : (d : Dir) (s : FirstFrame) (past es : List Entry) → Each d s past es → keep d s past es ≡ true
 unfolding Each
@@ -23,9 +27,6 @@ pub keep-from-each : (d : Dir) (s : FirstFrame) (es : List Entry)
     → ((between after : List Entry) (e : Entry) → es ≡ between ++ e ∷ after → IsTrue (keeps_by d s between e.micros (role d e))) → keep d s [] es ≡ true
 unfolding Each
 keep-from-each d s es h = keep-from d s [] es h
-
-cons-tail : {X : Type 0} {x y : X} {xs ys : List X} → x ∷ xs ≡ y ∷ ys → xs ≡ ys
-cons-tail h = cc
 
 keep-each : (d : Dir) (s : FirstFrame) (past es : List Entry) → keep d s past es ≡ true → Each d s past es
 unfolding Each
@@ -42,9 +43,10 @@ pub kept-at : (d : Dir) (s : FirstFrame) (es : List Entry) → keep d s [] es �
 unfolding Each
 kept-at d s es h = keep-each d s [] es h
 
--- what is open stands
-pub open-stands-here : (limit : ℕ) (d : Dir) (before es : List Entry) (e : Entry) (s : FirstFrame) → role d e ≡ first s → is_open limit d s es ≡ true
-    → stands limit d (before ++ e ∷ es) ≡ Some (standing_of d s es)
+-- ---- what is open stands
+
+pub open-stands-here : (limit : ℕ) (d : Dir) (before es : List Entry) (e : Entry) (s : FirstFrame) → role d e ≡ first s
+    → is_open limit d s es ≡ true → stands limit d (before ++ e ∷ es) ≡ Some (standing_of d s es)
 open-stands-here limit d [] es e s h open_test = rw (h, open_test) refl
 open-stands-here limit d (x ∷ before) es e s h open_test =
     let later = open-stands-here limit d before es e s h open_test in
@@ -52,11 +54,10 @@ open-stands-here limit d (x ∷ before) es e s h open_test =
       first-none : (a : Option Standing) → stands limit d (before ++ e ∷ es) ≡ Some (standing_of d s es)
           → ((st : Standing) → a ≡ Some st → stands limit d (before ++ e ∷ es) ≡ None) → or_else a (stands limit d (before ++ e ∷ es)) ≡ Some (standing_of d s es)
       first-none None later alone = later
-      first-none (Some st) later alone = absurd (some-none (sym later ∙ alone st refl)) where
-        some-none : {st : Standing} → ◌≡◌ {A = Option Standing} (Some st) None → ⊥
-        some-none q = cc
+      first-none (Some st) later alone = absurd (none-some (standing_of d s es) (sym (alone st refl) ∙ later))
 
--- what stands began somewhere, and is open since
+-- ---- what stands began somewhere, and is open since
+
 pub record Found (limit : ℕ) (d : Dir) (T : List Entry) (st : Standing) : Type 0 where
   pub before : List Entry
   pub e : Entry
@@ -68,10 +69,9 @@ pub record Found (limit : ℕ) (d : Dir) (T : List Entry) (st : Standing) : Type
   pub is : st ≡ standing_of d s since
 
 found-here : (limit : ℕ) (d : Dir) (e : Entry) (es : List Entry) (r : Role) (st : Standing) → role d e ≡ r → since limit d r es ≡ Some st → Found limit d (e ∷ es) st
-found-here limit d e es (first s) st is h = elim (cases_Bool (is_open limit d s es)) [
-  | inl t ↦ record { before = []; e = e; since = es; s = s; splits = refl; begins = is; opens = t; is = (let f = rw t at h in cc) }
-  | inr t ↦ absurd (let f = rw t at h in cc)
-]
+found-here limit d e es (first s) st is h =
+    let w = cond_some (is_open limit d s es) (standing_of d s es) st h in
+    record { before = []; e = e; since = es; s = s; splits = refl; begins = is; opens = w.0; is = sym w.1 }
 found-here limit d e es (single m) st is h = absurd (cc)
 found-here limit d e es (consecutive sequence_number can_dl bytes) st is h = absurd (cc)
 found-here limit d e es continue_or_wait st is h = absurd (cc)
@@ -81,7 +81,8 @@ found-here limit d e es no_part st is h = absurd (cc)
 pub found : (limit : ℕ) (d : Dir) (T : List Entry) (st : Standing) → stands limit d T ≡ Some st → Found limit d T st
 found limit d [] st h = absurd (cc)
 found limit d (e ∷ es) st h = by_head (since limit d (role d e) es) refl h (found limit d es st) where
-  by_head : (o : Option Standing) → since limit d (role d e) es ≡ o → or_else o (stands limit d es) ≡ Some st → (stands limit d es ≡ Some st → Found limit d es st) → Found limit d (e ∷ es) st
+  by_head : (o : Option Standing) → since limit d (role d e) es ≡ o → or_else o (stands limit d es) ≡ Some st
+      → (stands limit d es ≡ Some st → Found limit d es st) → Found limit d (e ∷ es) st
   by_head (Some x) is h further = found-here limit d e es (role d e) st refl (is ∙ h)
   by_head None is h further =
       let w = further h in

@@ -1,27 +1,33 @@
 -- Which frames carry messages, and which carry nothing, to the reception of a direction.
-use Rattle.std.proofs.Common.{◌≡◌, ℕ, ◌+◌, false, List, [], ◌∷◌, Result, Ok, Err, refl, ◌∙◌, ap, inl, inr, subst}
-use Rattle.std.specs.Prelude.{⊤}
+use Rattle.std.proofs.Common.{◌≡◌, ℕ, false, List, Result, Ok, Err, refl, sym, inl, inr, subst}
+use Rattle.std.specs.Prelude.{⊤, ◌⊎◌}
 use Rattle.std.proofs.lemmas.Bool.{cases_Bool}
 use Rattle.can_log.specs.declared.frame.Dir.{Dir}
 use Rattle.isotp_pdu.specs.declared.PduFault.{PduFault}
 use Rattle.isotp_pdu.specs.declared.Status.TheVariants.{Continue, Wait, Overflow}
 use Rattle.isotp_pdu.specs.Layout.{Layout}
-use Rattle.isotp_pdu.specs.Reading.{layout_of}
 use Rattle.isotp_pdu.specs.Layout as layout
-use Rattle.isotp_receive.specs.Trace.{Entry, FirstFrame, Role, single, first, consecutive, continue_or_wait, overflow, no_part, role, own_role, other_role, same_direction, At}
-use Rattle.isotp_receive.specs.Recording.{IsConsecutiveFrame, EachNumbered, Carries, unsegmented, segmented, IsIn, IsIdle}
-use Rattle.isotp_receive.proofs.Carried.{IsQuiet}
-use Rattle.isotp_receive.proofs.References.{at-same}
-use Rattle.isotp_receive.proofs.HeardByRole.{same}
+use Rattle.isotp_pdu.specs.Reading.{layout_of}
+use Rattle.isotp_receive.specs.Trace.{Entry, Role, single, first, consecutive, continue_or_wait, overflow, no_part, role, own_role, other_role, same_direction, At}
+use Rattle.isotp_receive.specs.Recording.{IsConsecutiveFrame, Carries, unsegmented, segmented, IsIn, IsIdle}
+use Rattle.isotp_receive.proofs.ListPositions.{get-same}
+use Rattle.isotp_receive.proofs.PositionLists.{numbered-in}
+use Rattle.isotp_receive.proofs.Directions.{same}
 
--- what a message's frame is to the other direction
+-- a frame of the direction that carries a message
 abbrev pub IsOwn : Role → Type 0
-IsOwn (single m) = ⊤
-IsOwn (first s) = ⊤
+IsOwn (single message) = ⊤
+IsOwn (first start) = ⊤
 IsOwn (consecutive sequence_number can_dl bytes) = ⊤
 IsOwn continue_or_wait = ⊥
 IsOwn overflow = ⊥
 IsOwn no_part = ⊥
+
+-- a frame that neither carries one nor ends one
+abbrev pub IsQuiet : Role → Type 0
+IsQuiet r = (r ≡ no_part) ⊎ (r ≡ continue_or_wait)
+
+-- ---- a message's frame has no part in the other direction
 
 pub none-own : (r : Result Layout PduFault) → IsOwn (other_role r) → ⊥
 none-own (Err f) h = h
@@ -47,43 +53,43 @@ own-other d x e apart h = elim (cases_Bool (same_direction x e.dir)) [
   | inr t ↦ (let own = rw t at h in absurd (none-own (layout_of e.frame) own))
 ]
 
-part-own : (T : List Entry) (d : Dir) (m : List ℕ) (i : ℕ) (s : FirstFrame) (f n k : ℕ) (cs : List ℕ) (p : ℕ) (e : Entry)
-    → EachNumbered (IsConsecutiveFrame T d m i s f n) k cs → IsIn p cs → At T p e → IsOwn (role d e)
-part-own T d m i s f n k [] p e h j at = absurd j
-part-own T d m i s f n k (c ∷ cs) p e h (inl is) at =
-    let there : At T c e = subst (λ x. At T x e) is at in
-    let kind : role d e ≡ consecutive h.0.sequence_number h.0.can_dl h.0.bytes = ap (role d) (at-same T c e h.0.frame there h.0.stands) ∙ h.0.kind in
-    rw kind tt
-part-own T d m i s f n k (c ∷ cs) p e h (inr j) at = part-own T d m i s f n (k + 1) cs p e h.1 j at
+-- ---- the frames that carry a message are its own
+
+pub own-at : (T : List Entry) (d : Dir) (m ps : List ℕ) (p : ℕ) → Carries T d m ps → IsIn p ps → (x : Entry) × At T p x × IsOwn (role d x)
+own-at T d m _ p (unsegmented x there kind) (inl is) = (x, subst (λ j. At T j x) (sym is) there, rw kind tt)
+own-at T d m _ p (unsegmented x there kind) (inr none) = absurd none
+own-at T d m _ p (segmented l) (inl is) = (l.frame, subst (λ j. At T j l.frame) (sym is) l.stands, rw l.kind tt)
+own-at T d m _ p (segmented {begun = begun} {positions = positions} l) (inr i) =
+    let w = numbered-in (IsConsecutiveFrame T d m begun l.start _ _) 1 p positions l.consecutive_frames i in
+    (w.1.frame, w.1.stands, rw w.1.kind tt)
 
 pub carries-own : (T : List Entry) (d : Dir) (m ps : List ℕ) (p : ℕ) (e : Entry) → Carries T d m ps → IsIn p ps → At T p e → IsOwn (role d e)
-carries-own T d m _ p e (unsegmented {position = q} x there kind) (inl is) at =
-    let here : At T q e = subst (λ y. At T y e) is at in
-    let kind_e : role d e ≡ single m = ap (role d) (at-same T q e x here there) ∙ kind in
-    rw kind_e tt
-carries-own T d m _ p e (unsegmented {position = q} x there kind) (inr i) at = absurd i
-carries-own T d m _ p e (segmented {begun = i} {positions = cs} l) (inl is) at =
-    let here : At T i e = subst (λ y. At T y e) is at in
-    let kind_e : role d e ≡ first l.start = ap (role d) (at-same T i e l.frame here l.stands) ∙ l.kind in
-    rw kind_e tt
-carries-own T d m _ p e (segmented {begun = i} {positions = cs} l) (inr j) at = part-own T d m i l.start _ _ 1 cs p e l.consecutive_frames j at
+carries-own T d m ps p e carried i at = (let w = own-at T d m ps p carried i in subst (λ x. IsOwn (role d x)) (get-same T p w.0 e w.1 at) w.2)
 
-idle-own : (line micros : ℕ) (r : Result Layout PduFault) → IsIdle r → IsQuiet (own_role line micros r)
-idle-own line micros (Err f) h = inl refl
-idle-own line micros (Ok (layout.single m)) h = absurd h
-idle-own line micros (Ok (layout.first len rx_dl bytes)) h = absurd h
-idle-own line micros (Ok (layout.consecutive sequence_number can_dl bytes)) h = absurd h
-idle-own line micros (Ok (layout.flow_control s)) h = inl refl
+-- ---- what carries nothing is quiet
 
-idle-other : (r : Result Layout PduFault) → IsIdle r → IsQuiet (other_role r)
-idle-other (Err f) h = inl refl
-idle-other (Ok (layout.single m)) h = absurd h
-idle-other (Ok (layout.first len rx_dl bytes)) h = absurd h
-idle-other (Ok (layout.consecutive sequence_number can_dl bytes)) h = absurd h
-idle-other (Ok (layout.flow_control Continue)) h = inr refl
-idle-other (Ok (layout.flow_control Wait)) h = inr refl
-idle-other (Ok (layout.flow_control Overflow)) h = absurd h
+own-quiet : (line micros : ℕ) (r : Result Layout PduFault) → IsIdle r → IsQuiet (own_role line micros r)
+own-quiet line micros (Err f) h = inl refl
+own-quiet line micros (Ok (layout.single m)) h = absurd h
+own-quiet line micros (Ok (layout.first len rx_dl bytes)) h = absurd h
+own-quiet line micros (Ok (layout.consecutive sequence_number can_dl bytes)) h = absurd h
+own-quiet line micros (Ok (layout.flow_control s)) h = inl refl
+
+other-quiet : (r : Result Layout PduFault) → IsIdle r → IsQuiet (other_role r)
+other-quiet (Err f) h = inl refl
+other-quiet (Ok (layout.single m)) h = absurd h
+other-quiet (Ok (layout.first len rx_dl bytes)) h = absurd h
+other-quiet (Ok (layout.consecutive sequence_number can_dl bytes)) h = absurd h
+other-quiet (Ok (layout.flow_control Continue)) h = inr refl
+other-quiet (Ok (layout.flow_control Wait)) h = inr refl
+other-quiet (Ok (layout.flow_control Overflow)) h = absurd h
 
 pub idle-quiet : (d : Dir) (e : Entry) → IsIdle (layout_of e.frame) → IsQuiet (role d e)
 unfolding role
-idle-quiet d e h = elim (cases_Bool (same_direction d e.dir)) [ inl t ↦ rw t (idle-own e.line e.micros (layout_of e.frame) h) | inr t ↦ rw t (idle-other (layout_of e.frame) h) ]
+idle-quiet d e h = elim (cases_Bool (same_direction d e.dir)) [
+  | inl t ↦ rw t (own-quiet e.line e.micros (layout_of e.frame) h)
+  | inr t ↦ rw t (other-quiet (layout_of e.frame) h)
+]
+
+pub idle-own : (d : Dir) (e : Entry) → IsIdle (layout_of e.frame) → IsOwn (role d e) → ⊥
+idle-own d e idle own = elim (idle-quiet d e idle) [ inl q ↦ absurd (rw q at own) | inr q ↦ absurd (rw q at own) ]

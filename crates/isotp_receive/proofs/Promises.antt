@@ -1,8 +1,10 @@
 -- The proofs of the public laws, each under the name of its statement in specs/, for the crates above to cite. Nothing
 -- else of proofs/ is for them.
-pub use Rattle.isotp_receive.proofs.StandingLaws.{stands-open as what_stands_is_open, open-stands as what_is_open_stands, standing-is-fixed as what_stands_is_fixed, one-open as one_is_open, kept-bytes as keeps_fewer_bytes}
+pub use Rattle.isotp_receive.proofs.StandingLaws.{stands-open as what_stands_is_open, open-stands as what_is_open_stands, standing-is-fixed as what_stands_is_fixed, one-open as one_is_open}
+pub use Rattle.isotp_receive.proofs.StandingLaws.{kept-bytes as keeps_fewer_bytes}
 pub use Rattle.isotp_receive.proofs.DeliversLaws.{message-delivers as a_message_is_delivered}
 pub use Rattle.isotp_receive.proofs.VerdictLaws.{table-is-verdict as the_verdict_is_tabled}
 pub use Rattle.isotp_receive.proofs.Fits.{room-join as places_agree_on_bytes, fits-join as places_agree_on_fit}
-pub use Rattle.isotp_receive.proofs.Delivered.{recording-delivers as recording_delivers, recording-delivers-behind as recording_delivers_behind, delivers-at-last as recording_delivers_at_last_position}
+pub use Rattle.isotp_receive.proofs.Delivered.{recording-delivers as recording_delivers, recording-delivers-behind as recording_delivers_behind}
+pub use Rattle.isotp_receive.proofs.Delivered.{delivers-at-last as recording_delivers_at_last_position}
 pub use Rattle.isotp_receive.proofs.FrameLaws.{by-frames as recording_delivers_by_frames, certificate as clean_trace_is_a_recording}

@@ -1,15 +1,14 @@
 -- The reference frame of a consecutive frame: how it moves from one position to the next, and that there is one only.
-use Rattle.std.proofs.Common.{◌≡◌, ℕ, suc, ◌+◌, ◌<◌, ◌≤◌, true, List, [], ◌∷◌, ◌++◌, length, nat_lt, nat_le, refl, sym, ◌∙◌, ap, arith, inl, inr, subst, append_assoc, length-append}
+use Rattle.std.proofs.Common.{◌≡◌, ℕ, suc, ◌+◌, ◌<◌, ◌≤◌, true, List, [], ◌∷◌, ◌++◌, length, nat_lt, nat_le, refl, sym, ◌∙◌, ap, arith, inl, inr, subst}
+use Rattle.std.proofs.Common.{append_assoc, length-append}
 use Rattle.std.specs.Prelude.{◌⊎◌}
 use Rattle.std.proofs.lemmas.Bool.{ltb-false, ltb-true, cases_Bool, leb-true, le-leb}
 use Rattle.can_log.specs.declared.frame.Dir.{Dir}
 use Rattle.isotp_receive.specs.Trace.{Entry, At, FirstFrame, Role, single, first, consecutive, continue_or_wait, overflow, no_part, role}
 use Rattle.isotp_receive.specs.Standing.{referred, reference}
 use Rattle.isotp_receive.specs.OnTime.{n_cr, RestartsTimer, IsReference, IsOnTime}
-use Rattle.isotp_receive.proofs.Places.{first_from, at_here}
-
-pub at-same : (T : List Entry) (p : ℕ) (e x : Entry) → At T p e → At T p x → e ≡ x
-at-same T p e x h g = cc
+use Rattle.isotp_receive.proofs.ListPositions.{get-same, get-here}
+use Rattle.isotp_receive.proofs.Readings.{first_from}
 
 -- a frame that restarts no timer leaves the reference
 pub stays : (T : List Entry) (d : Dir) (n i q : ℕ) (e : Entry) → At T n e → (RestartsTimer (role d e) → ⊥) → IsReference T d i n q → IsReference T d i (suc n) q
@@ -20,7 +19,7 @@ stays T d n i q e at quiet ref = record {
   greatest = λ p x above below there restarts. elim (cases p below) [
     | inl lt ↦ ref.greatest p x above lt there restarts
     | inr same ↦ (let there_n : At T n x = subst (λ j. At T j x) same there in
-        let is_e : x ≡ e = at-same T n x e there_n at in
+        let is_e : x ≡ e = get-same T n x e there_n at in
         quiet (rw is_e at restarts))
   ];
 } where
@@ -77,7 +76,7 @@ refers-after : (T : List Entry) (d : Dir) (i n t : ℕ) (before todo rest : List
     → RefersTo T d i n t → RefersTo T d i (n + length todo) (reference d t todo)
 refers-after T d i n t before [] rest split size from h = (let same : n + 0 ≡ n = omega arith in subst (λ j. RefersTo T d i j t) (sym same) h)
 refers-after T d i n t before (x ∷ todo) rest split size from h =
-    let at : At T n x = rw (split, size) (at_here before (todo ++ rest) x) in
+    let at : At T n x = rw (split, size) (get-here before (todo ++ rest) x) in
     let next = refers-next T d i n t x (role d x) from at refl h in
     let split_next : T ≡ (before ++ x ∷ []) ++ (todo ++ rest) = split ∙ sym (append_assoc before (x ∷ []) (todo ++ rest)) in
     let size_next : suc n ≡ length (before ++ x ∷ []) = omega (arith, length-append before (x ∷ [])) in
@@ -93,9 +92,15 @@ refers d before e s b rest is =
     let from = first_from d e s is in
     refers-after T d (length before) (suc (length before)) s.micros (before ++ e ∷ []) b rest (sym (append_assoc before (e ∷ []) (b ++ rest)))
     (omega (arith, length-append before (e ∷ []))) (omega arith)
-    (record { q = length before; e = e; reference = begins-at T d (length before); stands = at_here before (b ++ rest) e; time = from.4 })
+    (record { q = length before; e = e; reference = begins-at T d (length before); stands = get-here before (b ++ rest) e; time = from.time })
 
--- on time is what the times say
+-- ---- on time is what the times say
+
+-- the same said of the same frame in another spelling of the trace
+pub on-time-same : (d : Dir) (T T' : List Entry) (i i' n n' : ℕ) (x x' : Entry) → T ≡ T' → i ≡ i' → n ≡ n' → x ≡ x' → IsOnTime T d i n x → IsOnTime T' d i' n' x'
+on-time-same d T T' i i' n n' x x' whole begun place frame on =
+    subst (λ y. IsOnTime T' d i' n' y) frame (subst (λ j. IsOnTime T' d i' j x) place (subst (λ j. IsOnTime T' d j n x) begun (subst (λ l. IsOnTime l d i n x) whole on)))
+
 pub on-time-from : (T : List Entry) (d : Dir) (i n t : ℕ) (x : Entry) → RefersTo T d i n t → nat_le x.micros (t + n_cr) ≡ true → IsOnTime T d i n x
 on-time-from T d i n t x h test = (h.q, h.e, h.reference, h.stands, (let le = leb-true x.micros (t + n_cr) test in let time = h.time in omega arith))
 
@@ -103,6 +108,6 @@ pub on-time-to : (T : List Entry) (d : Dir) (i n t : ℕ) (x : Entry) → Refers
 on-time-to T d i n t x h on =
     let same_q : on.0 ≡ h.q = same-reference T d i n on.0 h.q on.2 h.reference in
     let there : At T h.q on.1 = subst (λ j. At T j on.1) same_q on.3 in
-    let same_e : on.1 ≡ h.e = at-same T h.q on.1 h.e there h.stands in
+    let same_e : on.1 ≡ h.e = get-same T h.q on.1 h.e there h.stands in
     let time : t ≡ on.1.micros = h.time ∙ ap (λ e. e.micros) (sym same_e) in
     le-leb x.micros (t + n_cr) (let late = on.4 in omega arith)

@@ -1,35 +1,27 @@
 -- What stands is what is known of the reception that is open, and at most one is open.
-use Rattle.std.proofs.Common.{◌≡◌, ℕ, suc, ◌+◌, ◌<◌, ◌≤◌, true, List, ◌∷◌, ◌++◌, length, nat_lt, nat_le, Some, refl, sym, ◌∙◌, ap, arith, inl, inr, subst, append_assoc, length-append}
-use Rattle.std.proofs.lemmas.Bool.{and_parts, ltb-true, ltb-false, leb-true, cases_Bool}
+use Rattle.std.proofs.Common.{◌≡◌, ℕ, suc, ◌+◌, ◌<◌, ◌≤◌, true, List, ◌∷◌, ◌++◌, length, nat_lt, Some, refl, sym, ◌∙◌, ap, arith, inl, inr, subst}
+use Rattle.std.proofs.lemmas.Bool.{ltb-true, ltb-false, cases_Bool}
 use Rattle.can_log.specs.declared.frame.Dir.{Dir}
 use Rattle.isotp_receive.specs.Trace.{Entry, At, FirstFrame, Role, first, role}
 use Rattle.isotp_receive.specs.Places.{bytes_in_first, bytes_before, consecutive_frames_in, between, AtPlaces}
 use Rattle.isotp_receive.specs.OnTime.{IsReference}
-use Rattle.isotp_receive.specs.Standing.{carried, carried_after, is_open, Standing, standing_of, stands}
+use Rattle.isotp_receive.specs.Standing.{is_open, Standing, standing_of, stands}
 use Rattle.isotp_receive.specs.OpenReception.{LeavesOpen, IsOpenAt, IsStandingAt}
-use Rattle.isotp_receive.proofs.References.{at-same, same-reference, refers}
-use Rattle.isotp_receive.proofs.OneMore.{full_of}
+use Rattle.isotp_receive.proofs.ListPositions.{get-same, regrouped, split-length}
+use Rattle.isotp_receive.proofs.Readings.{first_from}
+use Rattle.isotp_receive.proofs.FullFrames.{open-after, come-so-far}
 use Rattle.isotp_receive.proofs.OpenLaws.{found, open-stands-here}
+use Rattle.isotp_receive.proofs.References.{same-reference, refers}
 use Rattle.isotp_receive.proofs.OpenPositions.{open-there, stands-there}
-use Rattle.isotp_receive.proofs.BytesAtPlaces.{come-at, same-message}
-use Rattle.isotp_receive.proofs.Places.{first_from}
+use Rattle.isotp_receive.proofs.BytesAtPlaces.{come-by-places, come-at}
+use Rattle.isotp_receive.proofs.SameMessage.{same-message}
 
--- the trace and the position in the words of where the reception began
-pub regrouped : (T rest before since : List Entry) (e : Entry) → T ≡ before ++ e ∷ since → before ++ e ∷ (since ++ rest) ≡ T ++ rest
-regrouped T rest before since e splits = sym (ap (λ l. l ++ rest) splits ∙ append_assoc before (e ∷ since) rest)
+-- ---- what stands is open
 
-pub ends-at : (T before since : List Entry) (e : Entry) → T ≡ before ++ e ∷ since → suc (length before) + length since ≡ length T
-ends-at T before since e splits = (let size = ap length splits ∙ length-append before (e ∷ since) in omega arith)
-
--- what stands, whatever follows
 standing-here : (limit : ℕ) (d : Dir) (before : List Entry) (e0 : Entry) (s : FirstFrame) (since rest : List Entry) → role d e0 ≡ first s → is_open limit d s since ≡ true
     → IsStandingAt limit (before ++ e0 ∷ (since ++ rest)) d (suc (length before) + length since) (standing_of d s since)
 unfolding open-there
 standing-here limit d before e0 s since rest begins opens =
-    let more = and_parts (nat_lt (carried_after s (consecutive_frames_in d since)) s.len) _ (and_parts (nat_le s.len limit) _ opens).1 in
-    let from = first_from d e0 s begins in
-    let held = from.1 in
-    let full = full_of d s since more.1 (ltb-true _ _ more.0) in
     let ref = refers d before e0 s since rest begins in
     record {
       begun = length before;
@@ -39,8 +31,8 @@ standing-here limit d before e0 s since rest begins opens =
       len = refl;
       rx_dl = refl;
       taken = refl;
-      size = omega (arith, length-append s.bytes (carried d since));
-      places = come-at limit d before e0 s since rest begins opens;
+      size = come-by-places limit d e0 s since begins opens;
+      places = come-at limit d before e0 s since begins opens rest;
       latest = ref.q;
       last = ref.e;
       refers = ref.reference;
@@ -52,15 +44,24 @@ pub stands-open : (limit : ℕ) (T rest : List Entry) (d : Dir) (st : Standing) 
 stands-open limit T rest d st h =
     let w = found limit d T st h in
     subst (IsStandingAt limit (T ++ rest) d (length T)) (sym w.is)
-    (subst (λ p. IsStandingAt limit (T ++ rest) d p (standing_of d w.s w.since)) (ends-at T w.before w.since w.e w.splits)
+    (subst (λ p. IsStandingAt limit (T ++ rest) d p (standing_of d w.s w.since)) (split-length T w.before w.since w.e w.splits)
     (subst (λ l. IsStandingAt limit l d (suc (length w.before) + length w.since) (standing_of d w.s w.since)) (regrouped T rest w.before w.since w.e w.splits)
     (standing-here limit d w.before w.e w.s w.since rest w.begins w.opens)))
+
+-- ---- what is open stands
 
 pub open-stands : (limit : ℕ) (T rest : List Entry) (d : Dir) (i k : ℕ) (o : IsOpenAt limit (T ++ rest) d i k (length T))
     → (st : Standing) × (stands limit d T ≡ Some st) × (st.line ≡ o.start.line) × (st.len ≡ o.start.len) × (st.taken ≡ k)
 open-stands limit T rest d i k o =
-    let w = stands-there limit d T rest i k o in
-    (standing_of d o.start w.1, ap (stands limit d) w.2 ∙ open-stands-here limit d w.0 w.1 o.frame o.start o.kind w.4, refl, refl, sym w.5)
+    let w = stands-there limit d T rest i k o in (
+      standing_of d o.start w.since,
+      ap (stands limit d) w.splits ∙ open-stands-here limit d w.before w.since o.frame o.start o.kind w.opens,
+      refl,
+      refl,
+      sym w.taken,
+    )
+
+-- ---- at most one is open
 
 -- a first frame leaves no reception open
 pub no-first : (s x : FirstFrame) (f n j : ℕ) (on : Type 0) (r : Role) → r ≡ first x → LeavesOpen s f n j on r → ⊥
@@ -80,6 +81,8 @@ one-open limit T d i k j l p a b = (same, a.taken ∙ ap (λ q. consecutive_fram
     ]
   ]
 
+-- ---- what is known of it is one thing: the frames fix it
+
 first-same : {s x : FirstFrame} → first s ≡ first x → s ≡ x
 first-same h = cc
 
@@ -92,24 +95,26 @@ same-record x y line len rx_dl taken bytes reference =
     ∙ ap (λ v. record { line = y.line; len = y.len; rx_dl = y.rx_dl; taken = y.taken; bytes = v; reference = x.reference }) bytes
     ∙ ap (λ v. record { line = y.line; len = y.len; rx_dl = y.rx_dl; taken = y.taken; bytes = y.bytes; reference = v }) reference
 
--- what is known of the reception that is open is one thing: the frames fix it
 same-standing : (limit : ℕ) (T : List Entry) (d : Dir) (p : ℕ) (x y : Standing) → IsStandingAt limit T d p x → IsStandingAt limit T d p y → x ≡ y
 same-standing limit T d p x y a b =
     let one = one-open limit T d a.begun a.number b.begun b.number p a.is_open b.is_open in
-    let frame : a.is_open.frame ≡ b.is_open.frame = at-same T a.begun a.is_open.frame b.is_open.frame a.is_open.stands (subst (λ j. At T j b.is_open.frame) (sym one.0) b.is_open.stands) in
+    let there : At T a.begun b.is_open.frame = subst (λ j. At T j b.is_open.frame) (sym one.0) b.is_open.stands in
+    let frame : a.is_open.frame ≡ b.is_open.frame = get-same T a.begun a.is_open.frame b.is_open.frame a.is_open.stands there in
     let start : a.is_open.start ≡ b.is_open.start = first-same (sym a.is_open.kind ∙ ap (role d) frame ∙ b.is_open.kind) in
     let rx_dl : x.rx_dl ≡ y.rx_dl = a.rx_dl ∙ ap (λ s. s.rx_dl) start ∙ sym b.rx_dl in
     let size : length x.bytes ≡ length y.bytes =
-    a.size ∙ ap (λ e. bytes_before (bytes_in_first e.frame.bytes) x.rx_dl a.number) frame ∙ ap (λ r. bytes_before (bytes_in_first b.is_open.frame.frame.bytes) r a.number) rx_dl
+    a.size ∙ ap (λ e. bytes_before (bytes_in_first e.frame.bytes) x.rx_dl a.number) frame
+    ∙ ap (λ r. bytes_before (bytes_in_first b.is_open.frame.frame.bytes) r a.number) rx_dl
     ∙ ap (λ k. bytes_before (bytes_in_first b.is_open.frame.frame.bytes) y.rx_dl k) one.1 ∙ sym b.size in
     let places : AtPlaces T d a.begun a.is_open.frame x.rx_dl y.bytes =
-    subst (λ r. AtPlaces T d a.begun a.is_open.frame r y.bytes) (sym rx_dl) (subst (λ e. AtPlaces T d a.begun e y.rx_dl y.bytes) (sym frame)
+    subst (λ r. AtPlaces T d a.begun a.is_open.frame r y.bytes) (sym rx_dl)
+    (subst (λ e. AtPlaces T d a.begun e y.rx_dl y.bytes) (sym frame)
     (subst (λ i. AtPlaces T d i b.is_open.frame y.rx_dl y.bytes) (sym one.0) b.places)) in
     let from = first_from d a.is_open.frame a.is_open.start a.is_open.kind in
-    let eight = from.3 in
     let announced = a.rx_dl in
-    let same_q : a.latest ≡ b.latest = same-reference T d a.begun p a.latest b.latest a.refers (subst (λ i. IsReference T d i p b.latest) (sym one.0) b.refers) in
-    let last : a.last ≡ b.last = at-same T a.latest a.last b.last a.stands (subst (λ q. At T q b.last) (sym same_q) b.stands) in
+    let same_latest : a.latest ≡ b.latest =
+    same-reference T d a.begun p a.latest b.latest a.refers (subst (λ i. IsReference T d i p b.latest) (sym one.0) b.refers) in
+    let last : a.last ≡ b.last = get-same T a.latest a.last b.last a.stands (subst (λ q. At T q b.last) (sym same_latest) b.stands) in
     same-record x y (a.line ∙ ap (λ s. s.line) start ∙ sym b.line) (a.len ∙ ap (λ s. s.len) start ∙ sym b.len) rx_dl (a.taken ∙ one.1 ∙ sym b.taken)
     (same-message T d a.begun a.is_open.frame x.rx_dl x.bytes y.bytes (omega arith) a.places places size)
     (a.reference ∙ ap (λ e. e.micros) last ∙ sym b.reference)
@@ -120,13 +125,11 @@ standing-is-fixed limit T rest d st a =
     let w = open-stands limit T rest d a.begun a.number a.is_open in
     w.1 ∙ ap Some (same-standing limit (T ++ rest) d (length T) w.0 st (stands-open limit T rest d w.0 w.1) a)
 
--- what a pair keeps for a direction
+-- ---- what a pair keeps for a direction
+
 pub kept-bytes : (limit : ℕ) (T : List Entry) (d : Dir) (st : Standing) → stands limit d T ≡ Some st → (st.len ≤ limit) × (length st.bytes < st.len)
 kept-bytes limit T d st h =
     let w = found limit d T st h in
-    let parts = and_parts (nat_le w.s.len limit) _ w.opens in
-    let more = and_parts (nat_lt (carried_after w.s (consecutive_frames_in d w.since)) w.s.len) _ parts.1 in
-    let full = full_of d w.s w.since more.1 (ltb-true _ _ more.0) in
-    let within = leb-true w.s.len limit parts.0 in
-    let room = ltb-true _ _ more.0 in
-    subst (λ x. (x.len ≤ limit) × (length x.bytes < x.len)) (sym w.is) (within, omega (arith, length-append w.s.bytes (carried d w.since)))
+    let after = open-after limit d w.s w.since w.opens in
+    let size = come-so-far limit d w.s w.since w.opens in
+    subst (λ x. (x.len ≤ limit) × (length x.bytes < x.len)) (sym w.is) (after.within, (let room = after.room in omega arith))

@@ -1,59 +1,61 @@
 -- What a trace tells: its messages, each with its direction and the position of the frame that completes it.
-use Rattle.std.proofs.Common.{◌≡◌, ℕ, suc, ◌+◌, ◌<◌, ◌≤◌, length, take, drop, nat_lt, append_assoc, length-take, Bool, true, false, List, [], ◌∷◌, ◌++◌, map, refl, sym, ◌∙◌, ap, arith, cond, inl, inr}
+use Rattle.std.proofs.Common.{◌≡◌, ℕ, suc, ◌+◌, ◌<◌, ◌≤◌, length, take, drop, nat_lt, append_assoc, length-take, true, false, List, [], ◌∷◌, ◌++◌, map, refl}
+use Rattle.std.proofs.Common.{sym, ◌∙◌, ap, arith, cond, inl, inr}
 use Rattle.std.specs.Prelude.{⊤, ◌⊎◌}
 use Rattle.std.proofs.Math.ListN.{drop_of_length-le}
 use Rattle.std.proofs.lemmas.List.{append-nil, take-append-drop}
 use Rattle.std.proofs.lemmas.Bool.{cases_Bool, le-ltb, lt-ltb, ltb-true, ltb-false}
 use Rattle.can_log.specs.Dir.{Message}
 use Rattle.can_log.specs.declared.frame.Dir.{Dir}
-use Rattle.can_log.specs.declared.frame.Dir.TheVariants.{Tester, Unit}
 use Rattle.isotp_receive.specs.Trace.{Entry, same_direction}
 use Rattle.isotp_receive.specs.Verdict.{VerdictValue, message, began, stored, flowed, dropped, verdict, told_message, messages_after}
 use Rattle.isotp_receive.specs.Heard.{placed, heard}
 use Rattle.isotp_receive.proofs.ListPositions.{cons-head}
-use Rattle.isotp_receive.proofs.HeardByRole.{same}
+use Rattle.isotp_receive.proofs.Choices.{none-chosen}
+use Rattle.isotp_receive.proofs.Directions.{same, same-self, apart-flipped}
 
-pub self : (d : Dir) → same_direction d d ≡ true
-self Tester = refl
-self Unit = refl
-
+-- a message with its direction, and the position of the frame that completes it
 pub record Placed : Type 0 where
   pub place : ℕ
   pub dir : Dir
   pub message : List ℕ
 
+-- messages of one direction
 abbrev pub tag : Dir → List (ℕ × List ℕ) → List Placed
 tag d [] = []
 tag d (x ∷ xs) = record { place = x.0; dir = d; message = x.1 } ∷ tag d xs
 
+-- the messages of one direction among all
 abbrev pub side : Dir → List Placed → List (ℕ × List ℕ)
 side d [] = []
 side d (x ∷ xs) = cond (same_direction d x.dir) ((x.place, x.message) ∷ side d xs) (side d xs)
 
+-- the messages that the frames from position n on complete, where `past` stands before them
 abbrev pub all_told : ℕ → ℕ → List Entry → List Entry → List Placed
 all_told limit n past [] = []
 all_told limit n past (e ∷ es) = tag e.dir (placed n (verdict limit past e).told) ++ all_told limit (suc n) (past ++ e ∷ []) es
 
+-- the positions rise, from n on
 abbrev pub Rise : ℕ → List Placed → Type 0
 Rise n [] = ⊤
 Rise n (x ∷ xs) = (n ≤ x.place) × Rise (suc x.place) xs
 
-either : (b : Bool) (xs : List (ℕ × List ℕ)) → cond b [] [] ++ xs ≡ xs
-either true xs = refl
-either false xs = refl
+-- ---- in each direction they are what is heard
 
 one-side : (n : ℕ) (d x : Dir) (t : VerdictValue) (xs : List Placed) → cond (same_direction d x) (placed n t) [] ++ side d xs ≡ side d (tag x (placed n t) ++ xs)
 one-side n d x (message m) xs = elim (cases_Bool (same_direction d x)) [ inl t ↦ rw t refl | inr t ↦ rw t refl ]
-one-side n d x began xs = either (same_direction d x) (side d xs)
-one-side n d x stored xs = either (same_direction d x) (side d xs)
-one-side n d x flowed xs = either (same_direction d x) (side d xs)
-one-side n d x (dropped r) xs = either (same_direction d x) (side d xs)
+one-side n d x began xs = none-chosen (same_direction d x) (side d xs)
+one-side n d x stored xs = none-chosen (same_direction d x) (side d xs)
+one-side n d x flowed xs = none-chosen (same_direction d x) (side d xs)
+one-side n d x (dropped r) xs = none-chosen (same_direction d x) (side d xs)
 
 pub heard-side : (limit : ℕ) (d : Dir) (n : ℕ) (past es : List Entry) → heard limit d n past es ≡ side d (all_told limit n past es)
 heard-side limit d n past [] = refl
 heard-side limit d n past (e ∷ es) =
     ap (λ l. cond (same_direction d e.dir) (placed n (verdict limit past e).told) [] ++ l) (heard-side limit d (suc n) (past ++ e ∷ []) es)
     ∙ one-side n d e.dir (verdict limit past e).told (all_told limit (suc n) (past ++ e ∷ []) es)
+
+-- ---- without their positions they are the messages of the trace
 
 abbrev pub pair : Placed → Message
 pair x = (x.dir, x.message)
@@ -71,6 +73,8 @@ messages-told limit n past (e ∷ es) =
     ap (λ l. told_message e.dir (verdict limit past e).told ++ l) (messages-told limit (suc n) (past ++ e ∷ []) es)
     ∙ one-message n e.dir (verdict limit past e).told (all_told limit (suc n) (past ++ e ∷ []) es)
 
+-- ---- their positions rise
+
 weaken : (n k : ℕ) (xs : List Placed) → n ≤ k → Rise k xs → Rise n xs
 weaken n k [] le h = tt
 weaken n k (x ∷ xs) le h = (let a = h.0 in omega arith, h.1)
@@ -86,10 +90,13 @@ pub told-rise : (limit n : ℕ) (past es : List Entry) → Rise n (all_told limi
 told-rise limit n past [] = tt
 told-rise limit n past (e ∷ es) = one-rise n e.dir (verdict limit past e).told _ (told-rise limit (suc n) (past ++ e ∷ []) es)
 
+-- ---- lists that rise are one where they are one in each direction
+
 same-placed : (x y : Placed) → x.dir ≡ y.dir → ◌≡◌ {A = ℕ × List ℕ} (x.place, x.message) (y.place, y.message) → x ≡ y
 same-placed x y d h =
     ap (λ a. record { place = a.0; dir = x.dir; message = a.1 }) h ∙ ap (λ b. record { place = y.place; dir = b; message = y.message }) d
 
+-- the first of a direction is not before the first of all
 head-above : (k : ℕ) (d : Dir) (p : ℕ) (m : List ℕ) (r : List (ℕ × List ℕ)) (xs : List Placed) → Rise k xs → side d xs ≡ (p, m) ∷ r → k ≤ p
 head-above k d p m r [] h e = absurd (cc)
 head-above k d p m r (x ∷ xs) h e = elim (cases_Bool (same_direction d x.dir)) [
@@ -103,38 +110,25 @@ tails d x xs ys e = elim (cases_Bool (same_direction d x.dir)) [
   | inr t ↦ (let f = rw t at e in f)
 ]
 
--- lists that rise are one where they are one in each direction
 pub merge : (n k : ℕ) (xs ys : List Placed) → Rise n xs → Rise k ys → ((d : Dir) → side d xs ≡ side d ys) → xs ≡ ys
 merge n k [] [] h g e = refl
-merge n k [] (y ∷ ys) h g e = absurd (let f = rw (self y.dir) at (e y.dir) in cc)
-merge n k (x ∷ xs) [] h g e = absurd (let f = rw (self x.dir) at (e x.dir) in cc)
+merge n k [] (y ∷ ys) h g e = absurd (let f = rw (same-self y.dir) at (e y.dir) in cc)
+merge n k (x ∷ xs) [] h g e = absurd (let f = rw (same-self x.dir) at (e x.dir) in cc)
 merge n k (x ∷ xs) (y ∷ ys) h g e = elim (cases_Bool (same_direction x.dir y.dir)) [
-  | inl t ↦ (let f = rw (self x.dir, t) at (e x.dir) in
+  | inl t ↦ (let f = rw (same-self x.dir, t) at (e x.dir) in
       let side_same : x.dir ≡ y.dir = same x.dir y.dir t in
       let heads : x ≡ y = same-placed x y side_same (cons-head f) in
       let rest = (merge (suc x.place) (suc y.place) xs ys h.1 g.1 (λ d. tails d x xs ys (e d ∙ ap (λ z. side d (z ∷ ys)) (sym heads)))) in cc)
   | inr t ↦ absurd (
-      let f = rw (self x.dir, t) at (e x.dir) in
+      let f = rw (same-self x.dir, t) at (e x.dir) in
       let a = head-above (suc y.place) x.dir x.place x.message (side x.dir xs) ys g.1 (sym f) in
-      let u : same_direction y.dir x.dir ≡ false = flipped x.dir y.dir t in
-      let f2 = rw (self y.dir, u) at (e y.dir) in
+      let u : same_direction y.dir x.dir ≡ false = apart-flipped x.dir y.dir t in
+      let f2 = rw (same-self y.dir, u) at (e y.dir) in
       let b = head-above (suc x.place) y.dir y.place y.message (side y.dir ys) xs h.1 f2 in
       omega arith)
-] where
-  flipped : (a b : Dir) → same_direction a b ≡ false → same_direction b a ≡ false
-  flipped Tester Tester t = t
-  flipped Tester Unit t = refl
-  flipped Unit Tester t = refl
-  flipped Unit Unit t = t
+]
 
-pub messages-append : (limit : ℕ) (past xs ys : List Entry) → messages_after limit past (xs ++ ys) ≡ messages_after limit past xs ++ messages_after limit (past ++ xs) ys
-messages-append limit past [] ys = ap (λ l. messages_after limit l ys) (sym (append-nil past))
-messages-append limit past (e ∷ xs) ys =
-    ap (λ l. told_message e.dir (verdict limit past e).told ++ l) (messages-append limit (past ++ e ∷ []) xs ys
-    ∙ ap (λ l. messages_after limit (past ++ e ∷ []) xs ++ messages_after limit l ys) (append_assoc past (e ∷ []) xs))
-    ∙ sym (append_assoc (told_message e.dir (verdict limit past e).told) (messages_after limit (past ++ e ∷ []) xs) (messages_after limit (past ++ (e ∷ xs)) ys))
-
--- what is told of the first frames
+-- ---- what is told of the first frames
 
 told-append : (limit n : ℕ) (past xs ys : List Entry) → all_told limit n past (xs ++ ys) ≡ all_told limit n past xs ++ all_told limit (n + length xs) (past ++ xs) ys
 told-append limit n past [] ys = (let zero_more : n ≡ n + 0 = omega arith in

@@ -40,10 +40,6 @@ pub record IsOpenAt (limit : ℕ) (T : List Entry) (d : Dir) (begun number posit
   pub taken : number ≡ consecutive_frames_in d (between T begun position)
   pub more : number < count
 
--- at the end of T
-abbrev pub IsOpen : ℕ → List Entry → Dir → ℕ → ℕ → Type 0
-IsOpen limit T d begun number = IsOpenAt limit T d begun number (length T)
-
 -- What stands at `position` for d: a reception is open there, and this is what is known of it. Its bytes are those that
 -- have come.
 pub record IsStandingAt (limit : ℕ) (T : List Entry) (d : Dir) (position : ℕ) (standing : Standing) : Type 0 where

@@ -1,5 +1,5 @@
 -- Recorded frames as a trace, and messages without where they lie in memory.
-use Rattle.std.specs.Prelude.{ℕ, List, map}
+use Rattle.std.specs.Prelude.{List, map}
 use Rattle.can_log.specs.Dir.{Message}
 use Rattle.isotp_receive.specs.Trace.{Entry}
 use Rattle.isotp_receive.specs.declared.messages.Message.{Message as OwnedMessage}

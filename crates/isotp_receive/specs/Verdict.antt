@@ -1,5 +1,6 @@
 -- What a frame does after the frames before it, and the messages of a trace.
-use Rattle.std.specs.Prelude.{ℕ, ◌+◌, ◌-◌, ◌%◌, Bool, List, [], ◌∷◌, ◌++◌, length, take, not, nat_lt, nat_le, ◌==◌, if◌then◌else◌, Option, Some, None, Result, Ok, Err}
+use Rattle.std.specs.Prelude.{ℕ, ◌+◌, ◌-◌, ◌%◌, Bool, List, [], ◌∷◌, ◌++◌, length, take, not, nat_lt, nat_le, ◌==◌, if◌then◌else◌, Option, Some, None}
+use Rattle.std.specs.Prelude.{Result, Ok, Err}
 use Rattle.can_log.specs.Dir.{other_direction, Message}
 use Rattle.can_log.specs.declared.frame.Dir.{Dir}
 use Rattle.isotp_pdu.specs.Layout.{Layout}

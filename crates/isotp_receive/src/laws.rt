@@ -2,7 +2,8 @@
 
 ghost use Rattle.std.specs.Prelude.{◌≡◌};
 ghost use Rattle.isotp_receive.specs.declared.TheConstants.{MESSAGE_LIMIT};
-ghost use Rattle.isotp_receive.specs.Laws.{WhatStandsIsOpen, WhatIsOpenStands, WhatStandsIsFixed, OneIsOpen, KeepsFewerBytes, AMessageIsDelivered, TheVerdictIsTabled, PlacesAgreeOnBytes, PlacesAgreeOnFit};
+ghost use Rattle.isotp_receive.specs.Laws.{WhatStandsIsOpen, WhatIsOpenStands, WhatStandsIsFixed, OneIsOpen, KeepsFewerBytes};
+ghost use Rattle.isotp_receive.specs.Laws.{AMessageIsDelivered, TheVerdictIsTabled, PlacesAgreeOnBytes, PlacesAgreeOnFit};
 
 /// What stands after a trace is the reception that is open at its end by the positions of its frames,
 /// with all that is known of it: line, length, RX_DL, bytes and the time that N_Cr runs from.

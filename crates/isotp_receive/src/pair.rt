@@ -30,7 +30,7 @@ impl Model for Pair {
 
     ghost Value = { Receptions };
 
-    ghost view = { λ a. record { tester = a.tester; unit = a.unit } };
+    ghost view = { λ pair. record { tester = pair.tester; unit = pair.unit } };
 }
 
 impl Pair {
@@ -40,7 +40,7 @@ impl Pair {
     /// A pair before the first frame. It reserves a buffer of [`MESSAGE_LIMIT`] bytes for each
     /// direction, and takes no memory after that.
     pub fn new(alloc: Global) -> Result<Pair, AllocError>
-        ensures { IfOk result (λ p. p ≡ receptions_after MESSAGE_LIMIT []) }
+        ensures { IfOk result (λ pair. pair ≡ receptions_after MESSAGE_LIMIT []) }
     {
         Ok(Pair {
             tester: Reception::new(alloc)?,
@@ -50,7 +50,7 @@ impl Pair {
 
     /// The line and the announced length of the first frame of the reception that stands.
     pub fn open(&self, dir: Dir) -> Option<(u64, u32)>
-        ensures { result ≡ option_map (λ s. (s.line, s.len)) (of_direction self.now dir) }
+        ensures { result ≡ option_map (λ standing. (standing.line, standing.len)) (of_direction self.now dir) }
     {
         match dir {
             Dir::Tester => self.tester.open(),

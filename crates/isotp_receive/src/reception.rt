@@ -95,7 +95,7 @@ impl Head {
 
 /// The reception of one direction.
 #[derive(Drop)]
-pub struct Reception {
+pub(crate) struct Reception {
     /// The bytes of the message that have come. Where nothing stands they are left over from an earlier one.
     bytes: Vec<u8>,
     head: Option<Head>,
@@ -109,17 +109,17 @@ impl Model for Reception {
 
     ghost Value = { Option Standing };
 
-    ghost view = { λ a. standing a.head a.bytes.items };
+    ghost view = { λ reception. standing reception.head reception.bytes.items };
 
-    ghost invariant = { λ a. (MESSAGE_LIMIT ≤ vec_capacity a.bytes) × IsFitting MESSAGE_LIMIT a.head a.bytes.items };
+    ghost invariant = { λ reception. (MESSAGE_LIMIT ≤ vec_capacity reception.bytes) × IsFitting MESSAGE_LIMIT reception.head reception.bytes.items };
 }
 
 impl Reception {
     ghost use Rattle.isotp_receive.specs.ReceptionLending.{TakesConsecutive};
 
     /// Nothing stands. The buffer for the longest message is reserved here, and never grows.
-    pub fn new(alloc: Global) -> Result<Reception, AllocError>
-        ensures { IfOk result (λ s. s ≡ None) }
+    pub(crate) fn new(alloc: Global) -> Result<Reception, AllocError>
+        ensures { IfOk result (λ reception. reception ≡ None) }
     {
         Ok(Reception {
             bytes: Vec::with_capacity(alloc, MESSAGE_LIMIT as usize)?,
@@ -128,14 +128,14 @@ impl Reception {
     }
 
     /// The line and the announced length of the first frame, where a reception stands.
-    pub fn open(&self) -> Option<(u64, u32)>
-        ensures { result ≡ option_map (λ s. (s.line, s.len)) self.now }
+    pub(crate) fn open(&self) -> Option<(u64, u32)>
+        ensures { result ≡ option_map (λ standing. (standing.line, standing.len)) self.now }
     {
         self.head.map(|head| (head.line, head.len))
     }
 
     /// Ends what stands, if anything does.
-    pub fn end(&mut self, cause: Cause, dir: Dir) -> Option<Ended>
+    pub(crate) fn end(&mut self, cause: Cause, dir: Dir) -> Option<Ended>
         ensures end { self.new ≡ None }
         ensures ended { result ≡ ended_as cause dir self.old }
     {
@@ -148,7 +148,7 @@ impl Reception {
     }
 
     /// Begins a reception with a first frame, in place of what stands.
-    pub fn begin(&mut self, line: u64, micros: u64, len: u32, rx_dl: u8, bytes: &[u8])
+    pub(crate) fn begin(&mut self, line: u64, micros: u64, len: u32, rx_dl: u8, bytes: &[u8])
         requires limit { len ≤ MESSAGE_LIMIT }
         requires sound { IsSoundLayout (first len rx_dl bytes.now) }
         ensures { self.new ≡ Some (fresh (record { line = line; micros = micros; len = len; rx_dl = rx_dl; bytes = bytes.now })) }
@@ -165,7 +165,7 @@ impl Reception {
     }
 
     /// Takes a flow control frame of the other direction; `dir` is that of the reception.
-    pub fn flow(&mut self, dir: Dir, micros: u64, status: Status) -> Event<'static>
+    pub(crate) fn flow(&mut self, dir: Dir, micros: u64, status: Status) -> Event<'static>
         ensures after { self.new ≡ after MESSAGE_LIMIT self.old micros (other_role (Ok (flow_control status))) }
         ensures event { seen_event result ≡ on_flow_control dir self.old status }
     {
@@ -190,7 +190,7 @@ impl Reception {
 
     /// Takes a consecutive frame. The message that it completes is lent out of the buffer.
     #[tactic(auto, using(crate::proofs::Fronts::take_over))]
-    pub fn next<'a>(
+    pub(crate) fn next<'a>(
         &'a mut self,
         dir: Dir,
         micros: u64,

@@ -2,6 +2,7 @@
 -- else of proofs/ is for them.
 use Rattle.isotp_segment.specs.Laws.{CanonicalFramesAreARecording, CanonicalFramesAreClean, SegmentsDeliver, SegmentsDeliverNothingBefore}
 pub use Rattle.isotp_segment.proofs.Counts.{count-least as consecutive_count_is_least}
+pub use Rattle.isotp_segment.proofs.FullFrames.{canonical_frames_are_full, short_message_is_one_frame}
 use Rattle.isotp_segment.proofs.Recorded.{frames-recording}
 use Rattle.isotp_segment.proofs.CleanFrames.{frames-clean}
 use Rattle.isotp_segment.proofs.DeliveredMessage.{frames-deliver, front-delivers}

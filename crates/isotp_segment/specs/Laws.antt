@@ -4,6 +4,8 @@ use Rattle.std.specs.List.{AllByRecursion}
 use Rattle.can_log.specs.Dir.{Message}
 use Rattle.can_log.specs.declared.frame.Dir.{Dir}
 use Rattle.can_log.specs.declared.frame.Id.{Id}
+use Rattle.can_log.specs.declared.frame.Kind.TheVariants.{Classic}
+use Rattle.isotp_pdu.specs.Layout.{HasLayout, single}
 use Rattle.isotp_receive.specs.Trace.{Entry}
 use Rattle.isotp_receive.specs.Places.{IsConsecutiveCount}
 use Rattle.isotp_receive.specs.Verdict.{messages}
@@ -15,6 +17,27 @@ use Rattle.isotp_segment.specs.Timed.{timed, HasFrames, all_frames}
 -- the count of a message's consecutive frames is the least that holds what the first frame leaves
 abbrev pub ConsecutiveCountIsLeast : Type 0
 ConsecutiveCountIsLeast = (len : ℕ) → 7 < len → IsConsecutiveCount (room_in_first len) 8 len (consecutive_count len)
+
+-- a frame of 8 bytes
+pub record IsFullFrame (frame : Dir × List ℕ) : Type 0 where
+  pub full : length frame.1 ≡ 8
+  pub bytes : AllByRecursion (λ b. b < 256) frame.1
+
+-- each canonical frame of a message of bytes has 8 bytes
+abbrev pub CanonicalFramesAreFull : Type 0
+CanonicalFramesAreFull = (limit : ℕ) (d : Dir) (message : List ℕ)
+    → limit < 2 ^ 32 → AllByRecursion (λ b. b < 256) message → AllByRecursion IsFullFrame (canonical_frames limit d message)
+
+-- the frames of the message are one, of the same side: a single frame that holds it, under any identifier
+pub record AreOneSingleFrame (d : Dir) (message : List ℕ) (frames : List (Dir × List ℕ)) : Type 0 where
+  pub bytes : List ℕ
+  pub alone : frames ≡ (d, bytes) ∷ []
+  pub holds : (id : Id) → HasLayout (record { id = id; kind = Classic; bytes = bytes }) (single message)
+
+-- a message of at most 7 bytes has one canonical frame
+abbrev pub ShortMessageIsOneFrame : Type 0
+ShortMessageIsOneFrame = (limit : ℕ) (d : Dir) (message : List ℕ)
+    → 1 ≤ length message → length message ≤ 7 → length message ≤ limit → AreOneSingleFrame d message (canonical_frames limit d message)
 
 -- the canonical frames of any messages, a millisecond apart, are a recording of them
 abbrev pub CanonicalFramesAreARecording : Type 0

@@ -1,10 +1,20 @@
 //! Laws of canonical frames, for the proofs of callers: functions that do nothing.
 
-ghost use Rattle.isotp_segment.specs.Laws.{ConsecutiveCountIsLeast, CanonicalFramesAreARecording, CanonicalFramesAreClean, SegmentsDeliver, SegmentsDeliverNothingBefore};
+ghost use Rattle.isotp_segment.specs.Laws.{ConsecutiveCountIsLeast, CanonicalFramesAreFull, ShortMessageIsOneFrame, CanonicalFramesAreARecording, CanonicalFramesAreClean, SegmentsDeliver, SegmentsDeliverNothingBefore};
 
 /// The consecutive frames of a message are as many as its bytes ask for, and no more.
 pub fn consecutive_count_is_least()
     ensures least { ConsecutiveCountIsLeast }
+{}
+
+/// Each canonical frame has 8 bytes.
+pub fn canonical_frames_are_full()
+    ensures full { CanonicalFramesAreFull }
+{}
+
+/// A message of at most 7 bytes has one canonical frame: a single frame that holds it.
+pub fn short_message_is_one_frame()
+    ensures frame { ShortMessageIsOneFrame }
 {}
 
 /// The canonical frames of any messages, each a millisecond after the one before, are a recording of

@@ -7,12 +7,15 @@
 //! layer_bench segment BYTES COUNT   cuts so many messages of this size into frames
 //! layer_bench pair COUNT            pairs a request and so many messages that don't answer it
 //! layer_bench order COUNT           puts the same messages in order
+//! layer_bench put COUNT             puts so many requests and answers in order, each as it comes
+//! layer_bench line COUNT            writes so many lines of a canonical log
 //! ```
 //!
 //! Each prints its word and a number that every result goes into, so that no result can be left out.
 //! Without words each layer does a little work, of which the number is known. `bench/run` measures.
 #![tactic(auto)]
 
+mod line;
 mod message;
 mod order;
 mod pair;
@@ -46,19 +49,23 @@ fn work<R: Read>(
         "receive" => receive::sum_of_messages(alloc, first, second)?,
         "segment" => segment::sum_of_frames(alloc, first, second)?,
         "pair" => pair::sum_of_strays(alloc, first)?,
-        "order" => order::sum_of_messages(alloc, first)?,
+        "order" => order::sum_of_held(alloc, first)?,
+        "put" => order::sum_of_put(alloc, first)?,
+        "line" => line::sum_of_bytes(first),
         _ => return Ok(None),
     }))
 }
 
 /// A little work of each layer: its name and its numbers.
-const SELF_CHECK: [(&str, [u64; 2]); 6] = [
+const SELF_CHECK: [(&str, [u64; 2]); 8] = [
     ("scan", [0, 0]),
     ("pdu", [4096, 0]),
     ("receive", [20, 3]),
     ("segment", [20, 3]),
     ("pair", [3, 0]),
     ("order", [3, 0]),
+    ("put", [4, 0]),
+    ("line", [3, 0]),
 ];
 
 fn self_check(rt: &HostRuntime) -> io::Result<()> {

@@ -1,4 +1,4 @@
-//! One request that nothing answers, and messages behind it that are held to the end.
+//! Messages in order: held behind a request that nothing answers, or put at once.
 
 use crate::message::sum_of;
 use can_log::Dir;
@@ -26,8 +26,9 @@ impl MessageSink for Sum {
     }
 }
 
-/// The lengths and the last bytes of the request and of so many messages, added up as they are put.
-pub(crate) fn sum_of_messages(alloc: Global, count: u64) -> Result<u64, AllocError> {
+/// The lengths and the last bytes of a request that nothing answers and of so many messages behind it, all held to the
+/// end, added up as they are put.
+pub(crate) fn sum_of_held(alloc: Global, count: u64) -> Result<u64, AllocError> {
     let mut put = Sum { sum: 0 };
     let mut orderer = Orderer::new(alloc);
     let mut refused = orderer
@@ -40,6 +41,27 @@ pub(crate) fn sum_of_messages(alloc: Global, count: u64) -> Result<u64, AllocErr
             .is_err();
     }
     refused |= orderer.finish(&mut put).is_err();
+    if refused {
+        Err(AllocError)
+    } else {
+        Ok(put.sum)
+    }
+}
+
+/// The same of so many messages that are put as they come: requests, each with its answer behind it.
+pub(crate) fn sum_of_put(alloc: Global, count: u64) -> Result<u64, AllocError> {
+    let mut put = Sum { sum: 0 };
+    let mut orderer = Orderer::new(alloc);
+    let mut refused = false;
+    for number in 0..count {
+        let [low, high, ..] = number.to_le_bytes();
+        let (dir, sid) = if number % 2 == 0 {
+            (Dir::Tester, 0x22)
+        } else {
+            (Dir::Unit, 0x62)
+        };
+        refused |= orderer.take(dir, &[sid, high, low], &mut put).is_err();
+    }
     if refused {
         Err(AllocError)
     } else {

@@ -1,14 +1,12 @@
 pub mod ReadsAndWrites
-pub mod SingleFrames
 pub mod Directions
 pub mod Traces
 pub mod CanonicalLogs
+pub mod ShortMessages
 pub mod Gatherings
 pub mod LogLines
 pub mod Scanned
 pub mod Outcomes
 pub mod OneOutcome
 pub mod SomeOutcome
-pub mod EachElement
-pub mod ShortMessages
 pub mod ReadAgain

@@ -1,43 +1,14 @@
 -- What a log comes to, and what is answered on it.
 use Rattle.std.specs.Prelude.{IsErrAnd}
-use Rattle.std.proofs.Common.{◌≡◌, ℕ, ◌+◌, ◌<◌, ◌≤◌, List, ◌++◌, length, take, arith, refl, ap, sym, subst, ◌∙◌, inl, inr, Option, Result, Ok, Err}
+use Rattle.std.proofs.Common.{◌≡◌, ℕ, ◌+◌, ◌<◌, List, ◌++◌, length, take, arith, refl, ap, sym, subst, ◌∙◌, inl, inr, Result, Ok, Err}
 use Rattle.std.proofs.lemmas.Bool.{cases_lt}
 use Rattle.std.proofs.lemmas.List.{take_all, length-take-le}
-use Rattle.can_log.specs.Log.{LogMeans}
-use Rattle.can_log.specs.declared.frame.Stamped.{Stamped}
 use Rattle.trace_canon.specs.declared.fault.Fault.{Fault}
 use Rattle.trace_canon.specs.declared.fault.Fault.TheVariants.{BadLine, LogLimit, OutputLimit, Read, Write, Memory}
 use Rattle.trace_canon.specs.declared.gathering.Canonical.{Canonical}
 use Rattle.trace_canon.specs.Settings.{Settings}
-use Rattle.trace_canon.specs.Trace.{trace}
-use Rattle.trace_canon.specs.Messages.{messages}
-use Rattle.trace_canon.specs.CanonicalLog.{canonical_log}
 use Rattle.trace_canon.specs.Outcome.{Accepted, Answers}
-use Rattle.trace_canon.specs.Gathering.{GivesCanonical, ComesTo, IsRefusedOrMemory}
-
--- ---- the log that was taken
-
--- the lines are not all read
-pub comes_to_refused : (settings : Settings) (log : List ℕ) (fault : Fault) → length log ≤ settings.max_bytes → IsRefusedOrMemory log fault
-    → ComesTo settings log (Err fault)
-comes_to_refused settings log (BadLine line column) within refused = (within, refused)
-comes_to_refused settings log LogLimit within refused = absurd refused
-comes_to_refused settings log OutputLimit within refused = absurd refused
-comes_to_refused settings log Read within refused = absurd refused
-comes_to_refused settings log Write within refused = absurd refused
-comes_to_refused settings log Memory within refused = tt
-
--- the lines are all read
-pub comes_to_canonical : (settings : Settings) (log : List ℕ) (whats : List (Option Stamped)) (result : Result Canonical Fault)
-    → length log ≤ settings.max_bytes → LogMeans log whats → GivesCanonical settings whats result → ComesTo settings log result
-comes_to_canonical settings log whats (Ok canonical) within means gives = (within, (whats, record { means = means; spelled = gives.0 }, gives.1, gives.2))
-comes_to_canonical settings log whats (Err OutputLimit) within means gives =
-    (within, (whats, canonical_log settings (messages (trace settings whats)), record { means = means; spelled = refl }, gives))
-comes_to_canonical settings log whats (Err (BadLine line column)) within means gives = absurd gives
-comes_to_canonical settings log whats (Err LogLimit) within means gives = absurd gives
-comes_to_canonical settings log whats (Err Read) within means gives = absurd gives
-comes_to_canonical settings log whats (Err Write) within means gives = absurd gives
-comes_to_canonical settings log whats (Err Memory) within means gives = absurd gives
+use Rattle.trace_canon.specs.Gathering.{ComesTo}
 
 -- ---- each log that begins so
 

@@ -1,25 +1,31 @@
 -- A canonical log, read again.
 use Prim.Native.Nat.{suc}
-use Rattle.std.proofs.Common.{◌≡◌, ℕ, ◌+◌, ◌^◌, ◌≤◌, List, [], ◌∷◌, ◌++◌, length, arith, refl, ap, sym, subst, ◌∙◌, Some, Option, Ok, length-append}
+use Rattle.std.proofs.Common.{◌≡◌, ℕ, ◌+◌, ◌^◌, ◌≤◌, List, [], ◌∷◌, ◌++◌, length, arith, refl, ap, sym, subst, ◌∙◌}
+use Rattle.std.proofs.Common.{Some, Option, Ok}
 use Rattle.std.specs.List.{AllByRecursion}
 use Rattle.std.proofs.lemmas.List.{append_cancel_left}
 use Rattle.can_log.specs.Canonical.{IsSpellable, canonical_stamped}
-use Rattle.can_log.specs.Log.{log_lines, LinesMean, LogMeans, ended_lines}
+use Rattle.can_log.specs.Dir.{Message}
+use Rattle.can_log.specs.Log.{log_lines, LinesMean, LogMeans}
 use Rattle.can_log.specs.declared.frame.Dir.{Dir}
 use Rattle.can_log.specs.declared.frame.Dir.TheVariants as dir
 use Rattle.can_log.specs.declared.frame.Stamped.{Stamped}
 use Rattle.can_log.proofs.Promises.{canonical_line_means, log_means_at_most_one}
+use Rattle.isotp_pdu.specs.Layout.{single, HasLayout}
+use Rattle.isotp_receive.specs.declared.TheConstants.{MESSAGE_LIMIT}
+use Rattle.isotp_segment.specs.Laws.{IsFullFrame}
+use Rattle.isotp_segment.specs.Timed.{all_frames}
 use Rattle.trace_canon.specs.declared.summary.Summary.{Summary}
 use Rattle.trace_canon.specs.Settings.{Settings, AreSettings, id_of}
 use Rattle.trace_canon.specs.Trace.{trace_from, trace}
-use Rattle.trace_canon.specs.Messages.{Message, messages, AreMessagesOf}
-use Rattle.trace_canon.specs.CanonicalLog.{padded_frame, canonical_lines, canonical_log}
+use Rattle.trace_canon.specs.Messages.{messages, AreMessagesOf}
+use Rattle.trace_canon.specs.CanonicalLog.{canonical_lines, log_of_frames, canonical_log}
 use Rattle.trace_canon.specs.Outcome.{Accepted, summary_of, IsOutcome, Answers}
 use Rattle.trace_canon.specs.Laws.{SameMessagesSameText, IsCanonicalFor, CanonicalIsCanonical}
 use Rattle.trace_canon.proofs.Directions.{direction_of_id}
-use Rattle.trace_canon.proofs.LogLines.{ended_lines_mean}
+use Rattle.trace_canon.proofs.LogLines.{lines_are_few, ended_lines_mean}
 use Rattle.trace_canon.proofs.OneOutcome.{text_of, one_text}
-use Rattle.trace_canon.proofs.ShortMessages.{IsShort, messages_are_short, length_padded, padded_are_bytes, padded_is_held}
+use Rattle.trace_canon.proofs.ShortMessages.{IsShortMessage, messages_are_short, found, frames_are_full, one_frame, length_frame}
 
 -- ---- the lines of a canonical log
 
@@ -27,56 +33,57 @@ spellable : (settings : Settings) (d : Dir) → AreSettings settings → IsSpell
 spellable settings dir.Tester are = are.tester
 spellable settings dir.Unit are = are.unit
 
--- what the line of a message means
-abbrev stamped_at : Settings → ℕ → Message → Stamped
-stamped_at settings n message = canonical_stamped n (id_of settings message.dir) (padded_frame message.bytes)
+-- what the line of a frame means
+abbrev stamped_at : Settings → ℕ → Dir × List ℕ → Stamped
+stamped_at settings n frame = canonical_stamped n (id_of settings frame.0) frame.1
 
-abbrev stamped_from : Settings → ℕ → List Message → List (Option Stamped)
+abbrev stamped_from : Settings → ℕ → List (Dir × List ℕ) → List (Option Stamped)
 stamped_from settings n [] = []
-stamped_from settings n (message ∷ later) = Some (stamped_at settings n message) ∷ stamped_from settings (n + 1) later
+stamped_from settings n (frame ∷ later) = Some (stamped_at settings n frame) ∷ stamped_from settings (n + 1) later
 
-canonical_lines_mean : (settings : Settings) (n : ℕ) (list : List Message) → AreSettings settings → AllByRecursion IsShort list → n + length list ≤ 10 ^ 13
-    → LinesMean (canonical_lines settings n list) (stamped_from settings n list)
+canonical_lines_mean : (settings : Settings) (n : ℕ) (frames : List (Dir × List ℕ)) → AreSettings settings → AllByRecursion IsFullFrame frames
+    → n + length frames ≤ 10 ^ 13 → LinesMean (canonical_lines settings n frames) (stamped_from settings n frames)
 unfolding canonical_lines
-canonical_lines_mean settings n [] are short few = tt
-canonical_lines_mean settings n (message ∷ later) are short few = (
-  canonical_line_means n (id_of settings message.dir) (padded_frame message.bytes) (omega arith)
-      (spellable settings message.dir are) (length_padded message.bytes short.0.few)
-      (padded_are_bytes message.bytes short.0.few short.0.bytes),
-  canonical_lines_mean settings (n + 1) later are short.1 (omega arith),
+canonical_lines_mean settings n [] are full few = tt
+canonical_lines_mean settings n (frame ∷ later) are full few = (
+  canonical_line_means n (id_of settings frame.0) frame.1 (omega arith) (spellable settings frame.0 are) full.0.full full.0.bytes,
+  canonical_lines_mean settings (n + 1) later are full.1 (omega arith),
 )
 
 -- ---- their messages
 
-messages_back : (settings : Settings) (line n : ℕ) (list : List Message) → AreSettings settings → AllByRecursion IsShort list
-    → messages (trace_from settings line (stamped_from settings n list)) ≡ list
+message_back : (settings : Settings) (line n : ℕ) (d : Dir) (bytes message : List ℕ) (rest : List (Option Stamped)) → AreSettings settings
+    → length bytes ≡ 8 → HasLayout (stamped_at settings n (d, bytes)).frame (single message)
+    → messages (trace_from settings line (Some (stamped_at settings n (d, bytes)) ∷ rest)) ≡ (d, message) ∷ messages (trace_from settings (line + 1) rest)
+unfolding messages trace_from
+message_back settings line n d bytes message rest are eight has =
+    let direction = direction_of_id settings d are in
+    let held = found (stamped_at settings n (d, bytes)).frame message (omega arith) has in
+    rw direction (rw held refl)
+
+messages_back : (settings : Settings) (line n : ℕ) (list : List Message) → AreSettings settings → AllByRecursion IsShortMessage list
+    → messages (trace_from settings line (stamped_from settings n (all_frames MESSAGE_LIMIT list))) ≡ list
 unfolding messages trace_from
 messages_back settings line n [] are short = refl
 messages_back settings line n (message ∷ later) are short =
-    let direction = direction_of_id settings message.dir are in
-    let held = padded_is_held (id_of settings message.dir) message short.0 in
-    rw direction (rw held (ap (λ x. message ∷ x) (messages_back settings (line + 1) (n + 1) later are short.1)))
+    let one = one_frame message short.0 in
+    let back = message_back settings line n message.0 one.bytes message.1 (stamped_from settings (n + 1) (all_frames MESSAGE_LIMIT later)) are
+    (length_frame message short.0) (one.holds (id_of settings message.0)) in
+    ap (λ frames. messages (trace_from settings line (stamped_from settings n (frames ++ all_frames MESSAGE_LIMIT later)))) one.alone
+    ∙ back ∙ ap (λ x. message ∷ x) (messages_back settings (line + 1) (n + 1) later are short.1)
 
 -- ---- a canonical log is a log
 
-lines_are_few : (lines : List (List ℕ)) → length lines ≤ length (ended_lines lines)
-lines_are_few [] = omega arith
-lines_are_few (line ∷ lines) =
-    let one = length-append (line ++ 10 ∷ []) (ended_lines lines) in
-    let feed = length-append line (10 ∷ []) in
-    let later = lines_are_few lines in
-    omega arith
-
-length_lines : (settings : Settings) (n : ℕ) (list : List Message) → length (canonical_lines settings n list) ≡ length list
+length_lines : (settings : Settings) (n : ℕ) (frames : List (Dir × List ℕ)) → length (canonical_lines settings n frames) ≡ length frames
 unfolding canonical_lines
 length_lines settings n [] = refl
-length_lines settings n (message ∷ later) = ap suc (length_lines settings (n + 1) later)
+length_lines settings n (frame ∷ later) = ap suc (length_lines settings (n + 1) later)
 
-few_messages : (settings : Settings) (list : List Message) → length list ≤ length (canonical_log settings list)
-unfolding canonical_log
-few_messages settings list =
-    let lines = length_lines settings 0 list in
-    let few = lines_are_few (canonical_lines settings 0 list) in
+few_frames : (settings : Settings) (frames : List (Dir × List ℕ)) → length frames ≤ length (log_of_frames settings frames)
+unfolding log_of_frames
+few_frames settings frames =
+    let lines = length_lines settings 0 frames in
+    let few = lines_are_few (canonical_lines settings 0 frames) in
     omega arith
 
 -- the canonical log of these messages, where it is within the limit, means them
@@ -87,17 +94,18 @@ record ReadsAs (settings : Settings) (text : List ℕ) (list : List Message) : T
 
 reads_again : (settings : Settings) (text : List ℕ) (lines : List (List ℕ)) (whats : List (Option Stamped)) → AreSettings settings → LinesMean lines whats
     → text ≡ text_of settings whats → length text ≤ settings.max_bytes → ReadsAs settings text (messages (trace settings whats))
-unfolding canonical_log
+unfolding canonical_log log_of_frames
 reads_again settings text lines whats are means spelled fits =
     let list = messages (trace settings whats) in
+    let frames = all_frames MESSAGE_LIMIT list in
     let short = messages_are_short settings 1 lines whats means in
-    let few = few_messages settings list in
+    let few = few_frames settings frames in
     let len = ap length spelled in
-    let back = canonical_lines_mean settings 0 list are short (omega (arith, are.most)) in
+    let back = canonical_lines_mean settings 0 frames are (frames_are_full list short) (omega (arith, are.most)) in
     record {
-      whats = stamped_from settings 0 list;
-      means = subst (λ x. LogMeans x (stamped_from settings 0 list)) (sym spelled)
-          (ended_lines_mean (canonical_lines settings 0 list) (stamped_from settings 0 list) back);
+      whats = stamped_from settings 0 frames;
+      means = subst (λ x. LogMeans x (stamped_from settings 0 frames)) (sym spelled)
+          (ended_lines_mean (canonical_lines settings 0 frames) (stamped_from settings 0 frames) back);
       same = messages_back settings 1 0 list are short;
     }
 

@@ -20,7 +20,7 @@ pub scanned_none : (log : List ℕ) (standing : Standing) → StandsAfter [] [] 
 scanned_none log standing stands = record { front = []; parts = refl; stands = stands; few = omega arith }
 
 -- a line ends inside the piece that it ends in
-pub line_within : (front : List ℕ) (old new : Standing) (whats : List (Option Stamped)) (piece : List ℕ) (used line : ℕ) (what : Option Stamped)
+line_within : (front : List ℕ) (old new : Standing) (whats : List (Option Stamped)) (piece : List ℕ) (used line : ℕ) (what : Option Stamped)
     → StandsAfter front whats old → Scans old piece (scan.Line used line what) new → (1 ≤ used) × (used ≤ length piece)
 line_within front old new whats piece used line what stands scans =
     let on = subst (λ r. ScansFrom r old piece (scan.Line used line what) new) stands.sound scans in
@@ -68,7 +68,7 @@ scanned_bad log old new whats rest line column scanned scans =
     subst (λ x. IsRefusedIn x line column) whole behind.0
 
 -- a scanner that took all of the log
-pub stands_after_all : (log : List ℕ) (standing : Standing) (whats : List (Option Stamped)) → HasScanned log standing whats [] → StandsAfter log whats standing
+stands_after_all : (log : List ℕ) (standing : Standing) (whats : List (Option Stamped)) → HasScanned log standing whats [] → StandsAfter log whats standing
 stands_after_all log standing whats scanned =
     subst (λ x. StandsAfter x whats standing) (sym (scanned.parts ∙ append-nil scanned.front)) scanned.stands
 

@@ -1,13 +1,15 @@
 -- The trace and the messages of a log, one more line at a time.
 use Prim.Native.Nat.{suc}
-use Rattle.std.proofs.Common.{◌≡◌, ℕ, ◌+◌, List, [], ◌∷◌, ◌++◌, length, arith, refl, ap, sym, ◌∙◌, Some, None, Option, append-nil, append_assoc, add-zero}
+use Rattle.std.proofs.Common.{◌≡◌, ℕ, ◌+◌, List, [], ◌∷◌, ◌++◌, length, arith, refl, ap, sym, ◌∙◌, Some, None, Option}
+use Rattle.std.proofs.Common.{append-nil, append_assoc, add-zero}
 use Rattle.std.specs.Prelude.{option_to_list}
 use Rattle.std.proofs.lemmas.List.Elements.{filter_map-append}
 use Rattle.can_log.specs.declared.frame.Dir.{Dir}
 use Rattle.can_log.specs.declared.frame.Stamped.{Stamped}
+use Rattle.isotp_receive.specs.Trace.{Entry}
 use Rattle.trace_canon.specs.Settings.{Settings, direction_of}
-use Rattle.trace_canon.specs.Trace.{Entry, entry_of, trace_from, trace}
-use Rattle.trace_canon.specs.Messages.{single_message, messages}
+use Rattle.trace_canon.specs.Trace.{entry_of, trace_from, trace}
+use Rattle.trace_canon.specs.Messages.{message_in, messages}
 
 trace_from-append : (settings : Settings) (n : ℕ) (xs ys : List (Option Stamped))
     → trace_from settings n (xs ++ ys) ≡ trace_from settings n xs ++ trace_from settings (n + length xs) ys
@@ -22,14 +24,14 @@ trace_from-append settings n (Some stamped ∷ xs) ys =
     rw (← at, rest, append_assoc (option_to_list (entry_of settings n stamped))) refl
 
 -- the entries that a line adds to those of the lines before it
-abbrev pub added : Settings → List (Option Stamped) → Stamped → List Entry
+abbrev added : Settings → List (Option Stamped) → Stamped → List Entry
 added settings whats stamped = option_to_list (entry_of settings (1 + length whats) stamped)
 
 pub trace_blank : (settings : Settings) (whats : List (Option Stamped)) → trace settings (whats ++ None ∷ []) ≡ trace settings whats
 unfolding trace_from
 trace_blank settings whats = trace_from-append settings 1 whats (None ∷ []) ∙ append-nil (trace settings whats)
 
-pub trace_more : (settings : Settings) (whats : List (Option Stamped)) (stamped : Stamped)
+trace_more : (settings : Settings) (whats : List (Option Stamped)) (stamped : Stamped)
     → trace settings (whats ++ Some stamped ∷ []) ≡ trace settings whats ++ added settings whats stamped
 unfolding trace_from
 trace_more settings whats stamped =
@@ -48,11 +50,11 @@ pub trace_directed : (settings : Settings) (whats : List (Option Stamped)) (stam
     → trace settings (whats ++ Some stamped ∷ []) ≡ trace settings whats ++ entry_in whats stamped d ∷ []
 trace_directed settings whats stamped d is = trace_more settings whats stamped ∙ rw (sym is) refl
 
-pub messages_dropped : (entries : List Entry) (entry : Entry) → None ≡ single_message entry.frame → messages (entries ++ entry ∷ []) ≡ messages entries
+pub messages_dropped : (entries : List Entry) (entry : Entry) → None ≡ message_in entry.frame → messages (entries ++ entry ∷ []) ≡ messages entries
 unfolding messages
 messages_dropped entries entry none = rw (filter_map-append, sym none) (append-nil (messages entries))
 
-pub messages_delivered : (entries : List Entry) (entry : Entry) (bytes : List ℕ) → Some bytes ≡ single_message entry.frame
-    → messages (entries ++ entry ∷ []) ≡ messages entries ++ record { dir = entry.dir; bytes = bytes } ∷ []
+pub messages_delivered : (entries : List Entry) (entry : Entry) (bytes : List ℕ) → Some bytes ≡ message_in entry.frame
+    → messages (entries ++ entry ∷ []) ≡ messages entries ++ (entry.dir, bytes) ∷ []
 unfolding messages
 messages_delivered entries entry bytes is = rw (filter_map-append, sym is) refl

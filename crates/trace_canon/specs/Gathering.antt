@@ -1,29 +1,34 @@
 -- Devices of proof: what the engine holds between two lines of a log, and what its parts answer.
-use Rattle.std.specs.Prelude.{◌≡◌, ℕ, ◌<◌, ◌≤◌, Bool, true, false, List, length, Option, Result, Ok, Err, ⊤}
+use Rattle.std.specs.Prelude.{◌≡◌, ℕ, ◌<◌, ◌≤◌, true, false, List, length, vec_len, Option, Result, Ok, Err, ⊤}
+use Rattle.can_log.specs.declared.frame.Dir.{Dir}
 use Rattle.can_log.specs.declared.frame.Stamped.{Stamped}
 use Rattle.can_log.specs.Log.{IsRefusedIn}
+use Rattle.isotp_receive.specs.declared.TheConstants.{MESSAGE_LIMIT}
+use Rattle.isotp_segment.specs.Timed.{all_frames}
 use Rattle.trace_canon.specs.declared.fault.Fault.{Fault}
 use Rattle.trace_canon.specs.declared.fault.Fault.TheVariants.{BadLine, LogLimit, OutputLimit, Read, Write, Memory}
 use Rattle.trace_canon.specs.declared.gathering.Canonical.{Canonical}
 use Rattle.trace_canon.specs.declared.gathering.Gathered.{Gathered}
+use Rattle.trace_canon.specs.declared.text.Text.{Text}
 use Rattle.trace_canon.specs.Settings.{Settings}
 use Rattle.trace_canon.specs.Trace.{trace}
-use Rattle.trace_canon.specs.Messages.{Message, messages}
-use Rattle.trace_canon.specs.CanonicalLog.{canonical_log}
+use Rattle.trace_canon.specs.Messages.{messages}
+use Rattle.trace_canon.specs.CanonicalLog.{log_of_frames, canonical_log}
 use Rattle.trace_canon.specs.Outcome.{summary_of, IsOutcome}
 
--- The text is the canonical log of these messages as long as that is within the limit, and then no longer kept up.
-pub record HoldsText (settings : Settings) (text : List ℕ) (is_over : Bool) (count : ℕ) (found : List Message) : Type 0 where
-  pub counted : count ≡ length found
-  pub spelled : is_over ≡ false → text ≡ canonical_log settings found
-  pub within : is_over ≡ false → length text ≤ settings.max_bytes
-  pub over : is_over ≡ true → settings.max_bytes < length (canonical_log settings found)
+-- The text is the canonical log of these frames as long as that is within the limit, and then no longer kept up.
+pub record HoldsText (settings : Settings) (text : Text) (frames : List (Dir × List ℕ)) : Type 0 where
+  pub counted : text.is_over ≡ false → text.lines ≡ length frames
+  pub spelled : text.is_over ≡ false → text.bytes.items ≡ log_of_frames settings frames
+  pub within : text.is_over ≡ false → vec_len text.bytes ≤ settings.max_bytes
+  pub over : text.is_over ≡ true → settings.max_bytes < length (log_of_frames settings frames)
 
 -- what is held after lines that mean this
 pub record Gathers (settings : Settings) (held : Gathered) (whats : List (Option Stamped)) : Type 0 where
   pub lines : held.lines ≡ length whats
   pub frames : held.frames ≡ length (trace settings whats)
-  pub text : HoldsText settings held.text.items held.is_over held.messages (messages (trace settings whats))
+  pub text : HoldsText settings held.text (all_frames MESSAGE_LIMIT (messages (trace settings whats)))
+  pub messages : held.messages ≡ length (messages (trace settings whats))
 
 -- what is made of lines that mean this: their canonical log, where it is within the limit, and their summary
 abbrev pub GivesCanonical : Settings → List (Option Stamped) → Result Canonical Fault → Type 0

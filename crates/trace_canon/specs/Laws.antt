@@ -1,21 +1,17 @@
 -- What canonical logs promise.
 use Rattle.std.specs.Prelude.{◌≡◌, ◌↔◌, ℕ, List, Some, Result, Ok}
-use Rattle.can_log.specs.Frame.{FrameValue}
+use Rattle.can_log.specs.Dir.{Message}
 use Rattle.can_log.specs.declared.frame.Dir.{Dir}
 use Rattle.can_log.specs.declared.frame.Id.{Id}
 use Rattle.trace_canon.specs.declared.fault.Fault.{Fault}
 use Rattle.trace_canon.specs.Settings.{Settings, AreSettings, id_of, direction_of}
-use Rattle.trace_canon.specs.Messages.{Message, IsSingleFrame, single_message, AreMessagesOf}
+use Rattle.trace_canon.specs.Messages.{AreMessagesOf}
 use Rattle.trace_canon.specs.Outcome.{Accepted, IsOutcome}
 
 -- a frame has a direction exactly where its identifier is that of the direction
 abbrev pub DirectionIsById : Type 0
 DirectionIsById = (settings : Settings) → AreSettings settings → (id : Id) (dir : Dir)
     → (direction_of settings id ≡ Some dir) ↔ (id ≡ id_of settings dir)
-
--- what is found in a single frame is what it holds
-abbrev pub SingleMessageIsHeld : Type 0
-SingleMessageIsHeld = (frame : FrameValue) (message : List ℕ) → (single_message frame ≡ Some message) ↔ IsSingleFrame frame message
 
 -- each log comes to something
 abbrev pub OutcomeIsThere : Type 0

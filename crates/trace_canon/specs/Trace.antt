@@ -1,17 +1,9 @@
 -- The trace of a log: its frames of the two directions.
 use Rattle.std.specs.Prelude.{ℕ, ◌+◌, List, [], ◌∷◌, ◌++◌, Option, Some, None, option_to_list}
 use Rattle.std.specs.Option.{option_map}
-use Rattle.can_log.specs.Frame.{FrameValue}
-use Rattle.can_log.specs.declared.frame.Dir.{Dir}
 use Rattle.can_log.specs.declared.frame.Stamped.{Stamped}
+use Rattle.isotp_receive.specs.Trace.{Entry}
 use Rattle.trace_canon.specs.Settings.{Settings, direction_of}
-
--- a frame of one of the two directions, the number of its line and its time in microseconds
-pub record Entry : Type 0 where
-  pub line : ℕ
-  pub micros : ℕ
-  pub dir : Dir
-  pub frame : FrameValue
 
 -- the entry of the line with this number, which means a frame; none where the frame is foreign
 abbrev pub entry_of : Settings → ℕ → Stamped → Option Entry

@@ -1,24 +1,22 @@
-//! The canonical log as it is gathered, line by line.
-ghost use Rattle.std.specs.Prelude.{◌≡◌, ℕ, List, [], ◌∷◌, ◌++◌, ◌+◌, ◌^◌, ◌<◌, ◌≤◌, Option, Some, false, length, vec_len, OnOk, IfOk};
+//! What is gathered of a log, line by line.
+ghost use Rattle.std.specs.Prelude.{◌≡◌, List, [], ◌∷◌, ◌++◌, ◌+◌, ◌^◌, ◌<◌, ◌≤◌, Option, OnOk, IfOk};
+ghost use Rattle.std.specs.Option.{option_copied};
 ghost use Rattle.can_log.specs.declared.frame.Stamped.{Stamped as StampedValue};
+ghost use Rattle.trace_canon.specs.Messages.{message_in};
 ghost use Rattle.trace_canon.specs.Settings.{Settings, direction_of};
-ghost use Rattle.trace_canon.specs.CanonicalLog.{padded_frame};
-ghost use Rattle.trace_canon.specs.Messages.{Message};
 
 use crate::config::Config;
 use crate::fault::Fault;
-use crate::single::canonical_single;
 use crate::summary::Summary;
-use can_log::{Dir, Id, Stamped, line_bytes};
+use crate::text::Text;
+use can_log::{Dir, Frame, Id, Stamped};
+use isotp_pdu::{Pdu, read_pdu};
 use std::alloc::{AllocError, Global};
 
 /// The canonical log of the lines so far, and what was counted in them.
 #[derive(Drop)]
 pub(crate) struct Gathered {
-    /// The canonical log, as long as it is within the limit.
-    text: Vec<u8>,
-    /// The canonical log is longer than the limit, and `text` is no longer kept up.
-    is_over: bool,
+    text: Text,
     lines: u64,
     frames: u64,
     messages: u64,
@@ -34,15 +32,14 @@ pub(crate) struct Canonical {
 }
 
 impl Gathered {
-    ghost use Rattle.trace_canon.specs.Gathering.{HoldsText, Gathers, GivesCanonical};
+    ghost use Rattle.trace_canon.specs.Gathering.{Gathers, GivesCanonical};
 
     /// Of no lines. There is room for so many bytes of text before more memory is asked for.
     pub(crate) fn new(alloc: Global, room: usize) -> Result<Self, AllocError>
         ensures { IfOk result (λ gathered. (settings : Settings) → Gathers settings gathered []) }
     {
         Ok(Gathered {
-            text: Vec::with_capacity(alloc, room)?,
-            is_over: false,
+            text: Text::new(alloc, room)?,
             lines: 0,
             frames: 0,
             messages: 0,
@@ -64,10 +61,11 @@ impl Gathered {
             return Ok(());
         };
         self.frames += 1;
-        let Some(frame) = canonical_single(&stamped.frame) else {
+        let Some(message) = message_in(&stamped.frame) else {
             return Ok(());
         };
-        self.put(config, dir, &frame)?;
+        self.messages += 1;
+        self.text.put(config, dir, message)?;
         Ok(())
     }
 
@@ -75,9 +73,6 @@ impl Gathered {
     pub(crate) fn finish(self, config: &Config) -> Result<Canonical, Fault>
         ensures { (whats : List (Option StampedValue)) → Gathers config.now self whats → GivesCanonical config.now whats result }
     {
-        if self.is_over {
-            return Err(Fault::OutputLimit);
-        }
         let summary = Summary {
             lines: self.lines,
             frames: self.frames,
@@ -87,34 +82,10 @@ impl Gathered {
             unfinished: 0,
             pending: 0,
         };
-        Ok(Canonical {
-            text: self.text,
-            summary,
-        })
-    }
-
-    /// One more message is in the canonical log, by this frame.
-    fn put(&mut self, config: &Config, dir: Dir, frame: &[u8; 8]) -> Result<(), AllocError>
-        requires room { self.old.messages < self.old.frames }
-        requires few { self.old.lines ≤ 2 ^ 42 }
-        ensures holds { OnOk result ((found : List Message) (bytes : List ℕ) → frame.now ≡ padded_frame bytes
-            → HoldsText config.now self.old.text.items self.old.is_over self.old.messages found
-            → HoldsText config.now self.new.text.items self.new.is_over self.new.messages (found ++ record { dir = dir; bytes = bytes } ∷ [])) }
-        ensures lines { OnOk result (self.new.lines ≡ self.old.lines) }
-        ensures frames { OnOk result (self.new.frames ≡ self.old.frames) }
-    {
-        let count = self.messages;
-        self.messages += 1;
-        if self.is_over {
-            return Ok(());
-        }
-        let line = line_bytes(count, config.id_of(dir), frame);
-        if (self.text.len() + line.len()) as u64 > config.max_bytes() {
-            self.is_over = true;
-            return Ok(());
-        }
-        self.text.extend_from_slice(&line)?;
-        Ok(())
+        let Some(text) = self.text.finish() else {
+            return Err(Fault::OutputLimit);
+        };
+        Ok(Canonical { text, summary })
     }
 }
 
@@ -129,5 +100,19 @@ fn direction(config: &Config, id: Id) -> Option<Dir>
         Some(Dir::Unit)
     } else {
         None
+    }
+}
+
+/// The message that the frame carries, if it is a single frame of at most 8 bytes.
+#[tactic(auto, unfolding(crate::specs::Messages::message_in))]
+fn message_in(frame: &Frame) -> Option<&[u8]>
+    ensures { option_copied result ≡ message_in frame.now }
+{
+    if frame.data().len() > 8 {
+        return None;
+    }
+    match read_pdu(frame) {
+        Ok(Pdu::Single(message)) => Some(message),
+        Ok(_) | Err(_) => None,
     }
 }

@@ -1,14 +1,9 @@
 //! What canonical logs promise, for the crates above.
-ghost use Rattle.trace_canon.specs.Laws.{DirectionIsById, SingleMessageIsHeld, OutcomeIsThere, OutcomeIsOne, SameMessagesSameText, CanonicalIsCanonical};
+ghost use Rattle.trace_canon.specs.Laws.{DirectionIsById, OutcomeIsThere, OutcomeIsOne, SameMessagesSameText, CanonicalIsCanonical};
 
 /// A frame has a direction exactly where its identifier is that of the direction.
 pub fn direction_is_by_id()
     ensures { DirectionIsById }
-{}
-
-/// The message that is found in a frame is the one that it holds as a single frame, and the other way round.
-pub fn single_message_is_held()
-    ensures { SingleMessageIsHeld }
 {}
 
 /// Each log comes to something.

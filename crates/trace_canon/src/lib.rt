@@ -5,7 +5,7 @@
 //! the same messages exactly if their canonical logs are equal byte for byte. A log that is not accepted is refused
 //! with its place and reason, and nothing is written.
 //!
-//! So far a message is what a single frame carries. The log
+//! So far a message is what a single frame of at most 8 bytes carries. The log
 //!
 //! ```text
 //! (1700000000.000000) can0 7E0#0322F190
@@ -24,10 +24,10 @@ mod engine;
 mod fault;
 mod gathering;
 pub mod laws;
-mod single;
 mod summary;
 #[cfg(test)]
 mod tests;
+mod text;
 
 pub use config::{Config, LARGEST_LIMIT};
 pub use engine::normalise;

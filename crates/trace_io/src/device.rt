@@ -38,8 +38,10 @@ pub trait Source {
 
         // what it counts
         ensures reads { reads self.new ≡ reads self.old + 1 }
-        ensures given { MatchResult result (λ n. given self.new ≡ given self.old + n) (λ _. given self.new ≡ given self.old) }
-        ensures failures { MatchResult result (λ _. failures self.new ≡ failures self.old) (λ _. failures self.new ≡ failures self.old + 1) }
+        ensures given { MatchResult result
+            (λ n. given self.new ≡ given self.old + n) (λ _. given self.new ≡ given self.old) }
+        ensures failures { MatchResult result
+            (λ _. failures self.new ≡ failures self.old) (λ _. failures self.new ≡ failures self.old + 1) }
 
         // which bytes it gave, where it tells them
         ensures tells { tells self.old → tells self.new }
@@ -84,7 +86,8 @@ pub trait Target {
 
         ensures bound { IfOk result (λ n. n ≤ length piece.now) }
         ensures progress { IfOk result (λ n. 0 < length piece.now → 0 < n) }
-        ensures failures { MatchResult result (λ _. failures self.new ≡ failures self.old) (λ _. failures self.new ≡ failures self.old + 1) }
+        ensures failures { MatchResult result
+            (λ _. failures self.new ≡ failures self.old) (λ _. failures self.new ≡ failures self.old + 1) }
 
         // which bytes it took, where it tells them
         ensures tells { tells self.old → tells self.new }
@@ -94,7 +97,8 @@ pub trait Target {
     /// Hands on what it holds back, as a buffer does. The bytes that it took stay the same.
     fn flush(&mut self) -> Result<(), DeviceFault>
         requires { failures self.old < 2 ^ 63 }
-        ensures failures { MatchResult result (λ _. failures self.new ≡ failures self.old) (λ _. failures self.new ≡ failures self.old + 1) }
+        ensures failures { MatchResult result
+            (λ _. failures self.new ≡ failures self.old) (λ _. failures self.new ≡ failures self.old + 1) }
         ensures tells { tells self.old → tells self.new }
         ensures bytes { tells self.old → written self.new ≡ written self.old };
 

@@ -68,7 +68,7 @@ fn a_write_that_takes_nothing_is_a_failure(rt: HostRuntime) {
 }
 
 #[test]
-fn gives_and_takes_one_byte_a_call(rt: HostRuntime) {
+fn short_devices_give_and_take_one_byte_a_call(rt: HostRuntime) {
     let mut reader = Reading::new(Short {
         inner: b"ab".as_slice(),
         most: 1,
@@ -89,7 +89,7 @@ fn gives_and_takes_one_byte_a_call(rt: HostRuntime) {
 }
 
 #[test]
-fn fails_behind_so_many_bytes(rt: HostRuntime) {
+fn every_call_behind_two_bytes_fails(rt: HostRuntime) {
     let mut reader = Reading::new(FailsAfter {
         inner: b"abc".as_slice(),
         room: 2,
@@ -113,7 +113,7 @@ fn fails_behind_so_many_bytes(rt: HostRuntime) {
 }
 
 #[test]
-fn gives_a_byte_without_end(rt: HostRuntime) {
+fn one_byte_is_given_without_end(rt: HostRuntime) {
     let mut source = Endless::new(b'\n');
     let mut buffer = [0; 2];
     assert_eq!(rt; source.read(&mut []), Ok(0));

@@ -8,10 +8,10 @@ use Rattle.udsnorm.specs.declared.Failure.{Failure}
 use Rattle.udsnorm.specs.declared.Failure.TheVariants.{Engine}
 
 -- of the words behind the program's name: there is none, or the one word `normalise`
-abbrev pub ask_for_canonical_log : {A B : Type 0} → Option (String A) → Option (String B) → Bool
-ask_for_canonical_log None next = true
-ask_for_canonical_log (Some word) None = bytes_eq (string_bytes word) (codes "normalise")
-ask_for_canonical_log (Some word) (Some next) = false
+abbrev pub is_canonical_log_wanted : {A B : Type 0} → Option (String A) → Option (String B) → Bool
+is_canonical_log_wanted None next = true
+is_canonical_log_wanted (Some word) None = bytes_eq (string_bytes word) (codes "normalise")
+is_canonical_log_wanted (Some word) (Some next) = false
 
 -- the engine's fault; or else a failed write, where the flush behind the engine failed
 abbrev pub outcome_of : {A : Type 0} → Result Summary Fault → Result A DeviceFault → Result Summary Failure

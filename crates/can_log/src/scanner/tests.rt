@@ -376,6 +376,22 @@ fn a_session_in_three_pieces_at_every_pair_of_cuts(rt: HostRuntime) {
 }
 
 #[test]
+fn each_byte_of_a_plain_line_is_looked_at(rt: HostRuntime) {
+    let mut line = *b"(1700000000.000241) can0 7E0#031089D2AAAAAAAA\n";
+    for at in 0..45 {
+        let byte = line[at];
+        line[at] = 1;
+        let place = Scan::Bad {
+            line: 1,
+            column: at as u32 + 1,
+        };
+        assert_eq!(rt; Scanner::new().scan(&line), place);
+        line[at] = byte;
+    }
+    assert!(rt; matches!(Scanner::new().scan(&line), Scan::Line { used: 46, .. }));
+}
+
+#[test]
 fn a_place_behind_legal_lines_has_their_number(rt: HostRuntime) {
     read_each_way(&rt, &REFUSED_LATER);
 }

@@ -1,5 +1,5 @@
 use Rattle.std.proofs.Common.{arith, ◌-◌}
-use Rattle.can_log.proofs.CanonicalDigits.{one_more, none_left}
+use Rattle.can_log.proofs.Digits.{one_more, none_left}
 use Rattle.can_log.proofs.canonical.put_digits.Goals as goal
 
 pub loop-i-preserved : goal.loop-i-preserved

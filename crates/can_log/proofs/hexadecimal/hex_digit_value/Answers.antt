@@ -1,6 +1,6 @@
 use Rattle.std.proofs.Common.{arith}
 use Rattle.can_log.proofs.HexTable.{value_is_digit}
-use Rattle.can_log.proofs.Spelling.{hex_value}
+use Rattle.can_log.proofs.DigitValues.{hex_value}
 use Rattle.can_log.proofs.hexadecimal.hex_digit_value.Goals as goal
 
 pub returns-clause-value : goal.returns-clause-value

@@ -1,4 +1,4 @@
-use Rattle.can_log.proofs.CanonicalLines.{canonical_line_length}
+use Rattle.can_log.proofs.Promises.{canonical_line_length}
 use Rattle.can_log.proofs.laws.canonical_line_length.Goals as goal
 
 pub returns : goal.returns

@@ -1,5 +1,5 @@
-use Rattle.can_log.proofs.LineLength.{means_length}
+use Rattle.can_log.proofs.Promises.{line_is_short}
 use Rattle.can_log.proofs.laws.line_is_short.Goals as goal
 
 pub returns : goal.returns
-returns c = means_length
+returns c = line_is_short

@@ -1,4 +1,4 @@
-use Rattle.can_log.proofs.LogLines.{log_lines_of_parts}
+use Rattle.can_log.proofs.Promises.{log_lines_of_parts}
 use Rattle.can_log.proofs.laws.log_lines_of_parts.Goals as goal
 
 pub returns : goal.returns

@@ -1,4 +1,4 @@
-use Rattle.can_log.proofs.LogLines.{logs_join}
+use Rattle.can_log.proofs.Promises.{logs_join}
 use Rattle.can_log.proofs.laws.logs_join.Goals as goal
 
 pub returns : goal.returns

@@ -1,4 +1,4 @@
-use Rattle.can_log.proofs.RefusedPlaces.{refused_log_means_nothing}
+use Rattle.can_log.proofs.Promises.{refused_log_means_nothing}
 use Rattle.can_log.proofs.laws.refused_log_means_nothing.Goals as goal
 
 pub returns : goal.returns

@@ -1,4 +1,4 @@
-use Rattle.can_log.proofs.RefusedPlaces.{refused_place_is_one}
+use Rattle.can_log.proofs.Promises.{refused_place_is_one}
 use Rattle.can_log.proofs.laws.refused_place_is_one.Goals as goal
 
 pub returns : goal.returns

@@ -1,4 +1,4 @@
-use Rattle.can_log.proofs.LogReads.{scan_reads_on}
+use Rattle.can_log.proofs.Promises.{scan_reads_on}
 use Rattle.can_log.proofs.laws.scan_reads_on.Goals as goal
 
 pub returns : goal.returns

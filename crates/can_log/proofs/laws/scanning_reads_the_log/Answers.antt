@@ -1,4 +1,4 @@
-use Rattle.can_log.proofs.LogReads.{scanning_reads_the_log}
+use Rattle.can_log.proofs.Promises.{scanning_reads_the_log}
 use Rattle.can_log.proofs.laws.scanning_reads_the_log.Goals as goal
 
 pub returns : goal.returns

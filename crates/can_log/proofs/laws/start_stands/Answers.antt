@@ -1,4 +1,4 @@
-use Rattle.can_log.proofs.LogReads.{start_stands}
+use Rattle.can_log.proofs.Promises.{start_stands}
 use Rattle.can_log.proofs.laws.start_stands.Goals as goal
 
 pub returns : goal.returns

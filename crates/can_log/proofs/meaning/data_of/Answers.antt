@@ -1,11 +1,14 @@
-use Rattle.std.proofs.Common.{◌≡◌, ◌*◌, ◌∙◌, length, arith}
-use Rattle.can_log.specs.Line.{bytes_spelled}
-use Rattle.can_log.proofs.Lists.{from_ok}
-use Rattle.can_log.proofs.DigitValues.{bytes_len}
+use Rattle.std.proofs.Common.{sym, ◌∙◌, arith}
+use Rattle.can_log.proofs.SpelledBytes.{one_more_pair, spelled_so_far}
 use Rattle.can_log.proofs.meaning.data_of.Goals as goal
 
-pub returns : goal.returns
-returns c =
-    let len : 2 * length (bytes_spelled c.args.digits.now) ≡ length c.args.digits.now = bytes_len c.args.digits.now c.requires.1 in
-    let room = c.try_extend_from_slice.ensures.variant.1 (rw (c.new-bytes.ensures, c.decode.ensures) (omega (arith, len, c.requires.0.few))) in
-    from_ok c.try_extend_from_slice.result c.try_extend_from_slice.ensures.ok room ∙ rw c.new-bytes.ensures c.decode.ensures
+pub push-requires : goal.push-requires
+push-requires c =
+    let so_far = spelled_so_far c.loop-i.i c.args.digits.now (omega arith) in
+    (omega arith, rw c.loop-i.invariant (omega (arith, so_far, c.requires.0.few)))
+
+pub loop-i-preserved : goal.loop-i-preserved
+loop-i-preserved c =
+    c.push.ensures.items
+    ∙ rw (c.loop-i.invariant, c.hex_digit_value-high.ensures.value, c.hex_digit_value-low.ensures.value)
+    (sym (one_more_pair c.loop-i.i c.args.digits.now (omega arith)))

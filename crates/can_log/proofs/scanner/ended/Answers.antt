@@ -1,7 +1,7 @@
 use Rattle.std.proofs.Common.{◌++◌, ◌∷◌, [], ℕ, arith, subst, length-append}
 use Rattle.can_log.specs.Refused.{IsRefusedPlace}
 use Rattle.can_log.proofs.LineLength.{becomes_length}
-use Rattle.can_log.proofs.ScannerSteps.{place_of, place_extends, place_end}
+use Rattle.can_log.proofs.RefusedPlaces.{place_of, place_extends, place_end}
 use Rattle.can_log.proofs.scanner.ended.Goals as goal
 
 pub overflow_cast-result : goal.overflow_cast-result

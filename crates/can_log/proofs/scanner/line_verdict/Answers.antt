@@ -1,6 +1,6 @@
 use Rattle.std.proofs.Common.{◌≡◌, ◌++◌, [], List, ℕ, subst, sym}
 use Rattle.can_log.specs.Judging.{Judged}
-use Rattle.can_log.proofs.ScannerSteps.{nil_of}
+use Rattle.can_log.proofs.Lists.{nil_of}
 use Rattle.can_log.proofs.scanner.line_verdict.Goals as goal
 
 pub returns-then-is_empty : goal.returns-then-is_empty

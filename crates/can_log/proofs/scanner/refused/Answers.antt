@@ -1,4 +1,5 @@
-use Rattle.can_log.proofs.ScannerSteps.{means_becomes, place_of}
+use Rattle.can_log.proofs.LineReads.{means_becomes}
+use Rattle.can_log.proofs.RefusedPlaces.{place_of}
 use Rattle.can_log.proofs.scanner.refused.Goals as goal
 
 pub returns-in-Means-clause-none : goal.returns-in-Means-clause-none

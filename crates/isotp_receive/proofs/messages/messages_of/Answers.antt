@@ -14,8 +14,10 @@ pub loop-recorded-preserved : goal.loop-recorded-preserved
 loop-recorded-preserved c =
     let loop = c.loop-recorded in
     let r = c.recorded-item.result in
-    let stands = stands_next MESSAGE_LIMIT c.args.trace.now loop.recorded-index r c.recorded-item.is c.loop-recorded-test.true loop.pair c.accept-event.follows.lender-at-none loop.invariant.stands c.accept-event.follows.holds-at-none in
-    let found = found_next MESSAGE_LIMIT c.args.trace.now loop.recorded-index r c.recorded-item.is c.loop-recorded-test.true loop.pair (sent loop.found.items) (seen_event c.accept-event.result) loop.invariant.stands c.accept-event.ensures.verdict loop.invariant.found in
+    let stands = stands_next MESSAGE_LIMIT c.args.trace.now loop.recorded-index r c.recorded-item.is c.loop-recorded-test.true
+    loop.pair c.accept-event.follows.lender-at-none loop.invariant.stands c.accept-event.follows.holds-at-none in
+    let found = found_next MESSAGE_LIMIT c.args.trace.now loop.recorded-index r c.recorded-item.is c.loop-recorded-test.true
+    loop.pair (sent loop.found.items) (seen_event c.accept-event.result) loop.invariant.stands c.accept-event.ensures.verdict loop.invariant.found in
     elim c.match-event.branch [
       | in-Message+in_ok-to_vec+in_ok-push w ↦ record {
         stands = w.pair-is ∙ stands;

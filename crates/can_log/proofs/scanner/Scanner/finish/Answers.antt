@@ -1,7 +1,9 @@
 use Rattle.std.proofs.Common.{◌+◌, List, ℕ, ◌<◌, length, subst}
 use Rattle.can_log.specs.Judging.{Judged}
 use Rattle.can_log.specs.Scanning.{Standing}
-use Rattle.can_log.proofs.ScannerSteps.{not_meant, nonempty, unfinished, finish_refuses, none_seen}
+use Rattle.can_log.proofs.Lists.{nonempty}
+use Rattle.can_log.proofs.RefusedPlaces.{unfinished}
+use Rattle.can_log.proofs.ScannerSteps.{not_meant, finish_refuses, none_seen}
 use Rattle.can_log.specs.Refused.{IsUnfinishedAt}
 use Rattle.can_log.proofs.scanner.Scanner.finish.Goals as goal
 

@@ -1,6 +1,6 @@
 use Rattle.std.proofs.Common.{arith, subst, sym, List, ℕ}
 use Rattle.can_log.specs.Judging.{StandsWell}
-use Rattle.can_log.proofs.ScannerSteps.{empty_legal}
+use Rattle.can_log.proofs.LineReads.{empty_legal}
 use Rattle.can_log.proofs.scanner.Scanner.new.Goals as goal
 
 pub invariant_of-result : goal.invariant_of-result

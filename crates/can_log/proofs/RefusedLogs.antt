@@ -1,0 +1,95 @@
+-- The refused place of a log: there is one at most, and none where the log means something.
+use Prim.Native.Char.{code}
+use Rattle.std.proofs.Common.{◌≡◌, ℕ, ◌+◌, refl, sym, ap, subst, ◌∙◌, inl, inr}
+use Rattle.std.proofs.Common.{List, [], ◌∷◌, ◌++◌, length, Option, None}
+use Rattle.can_log.specs.declared.frame.Stamped.{Stamped}
+use Rattle.can_log.specs.Line.{LineMeans}
+use Rattle.can_log.specs.Refused.{NoLineFeed}
+use Rattle.can_log.specs.Log.{log_lines, LinesMean, LogMeans, ended_lines, IsRefusedIn}
+use Rattle.can_log.specs.Laws.{RefusedPlaceIsOne, RefusedLogMeansNothing}
+use Rattle.can_log.proofs.LineFeeds.{first_line, same_line, line_clean, lines_clean}
+use Rattle.can_log.proofs.LogLines.{ended_lines-first, log_lines-ended, log_lines-rest, log_lines-behind, mean_apart}
+use Rattle.can_log.proofs.RefusedPlaces.{Ends, end_is_one, no_line_first, no_line_last}
+
+-- ---- there is one at most
+
+-- lines that are ended and mean something, and then something that is refused
+record Cut (log : List ℕ) (lines : List (List ℕ)) (whats : List (Option Stamped)) (rest : List ℕ) (column : ℕ) : Type 0 where
+  pub parts : log ≡ ended_lines lines ++ rest
+  pub means : LinesMean lines whats
+  pub ends : Ends rest column
+
+cut_of : {log : List ℕ} {line column : ℕ} → (r : IsRefusedIn log line column) → Cut log r.lines r.whats r.rest column
+cut_of r = record { parts = r.parts; means = r.legal; ends = r.here }
+
+-- no cut is where another one has a line
+no_line_more : (log line : List ℕ) (lines : List (List ℕ)) (what : Option Stamped) (whats : List (Option Stamped)) (rest rest2 : List ℕ) (column column2 : ℕ)
+    → log ≡ rest → Ends rest column → Cut log (line ∷ lines) (what ∷ whats) rest2 column2 → ⊥
+no_line_more log line lines what whats rest rest2 column column2 e ends c =
+    no_line_first rest column line (ended_lines lines ++ rest2) what ends c.means.0 (sym e ∙ c.parts ∙ ended_lines-first line lines rest2)
+
+same_cut : (log : List ℕ) (lines lines2 : List (List ℕ)) (whats whats2 : List (Option Stamped)) (rest rest2 : List ℕ) (column column2 : ℕ)
+    → Cut log lines whats rest column → Cut log lines2 whats2 rest2 column2 → (lines ≡ lines2) × (rest ≡ rest2)
+same_cut log [] [] whats whats2 rest rest2 column column2 c d = (refl, sym c.parts ∙ d.parts)
+same_cut log [] (line ∷ lines2) whats [] rest rest2 column column2 c d = absurd d.means
+same_cut log [] (line ∷ lines2) whats (what ∷ whats2) rest rest2 column column2 c d =
+    absurd (no_line_more log line lines2 what whats2 rest rest2 column column2 c.parts c.ends d)
+same_cut log (line ∷ lines) [] [] whats2 rest rest2 column column2 c d = absurd c.means
+same_cut log (line ∷ lines) [] (what ∷ whats) whats2 rest rest2 column column2 c d =
+    absurd (no_line_more log line lines what whats rest2 rest column2 column d.parts d.ends c)
+same_cut log (line ∷ lines) (line2 ∷ lines2) [] whats2 rest rest2 column column2 c d = absurd c.means
+same_cut log (line ∷ lines) (line2 ∷ lines2) (what ∷ whats) [] rest rest2 column column2 c d = absurd d.means
+same_cut log (line ∷ lines) (line2 ∷ lines2) (what ∷ whats) (what2 ∷ whats2) rest rest2 column column2 c d =
+    let behind = ended_lines lines ++ rest in
+    let behind2 = ended_lines lines2 ++ rest2 in
+    let one = same_line line behind line2 behind2 (line_clean line what c.means.0) (line_clean line2 what2 d.means.0)
+    (sym (ended_lines-first line lines rest) ∙ sym c.parts ∙ d.parts ∙ ended_lines-first line2 lines2 rest2) in
+    let more = same_cut behind lines lines2 whats whats2 rest rest2 column column2
+    (record { parts = refl; means = c.means.1; ends = c.ends }) (record { parts = one.1; means = d.means.1; ends = d.ends }) in
+    (ap (λ (z : List ℕ). z ∷ lines) one.0 ∙ ap (λ (z : List (List ℕ)). line2 ∷ z) more.0, more.1)
+
+-- the lines before it are the same
+pub lines_before_are_one : (log : List ℕ) (line column line2 column2 : ℕ) → (r : IsRefusedIn log line column) → (t : IsRefusedIn log line2 column2) → r.lines ≡ t.lines
+lines_before_are_one log line column line2 column2 r t = (same_cut log r.lines t.lines r.whats t.whats r.rest t.rest column column2 (cut_of r) (cut_of t)).0
+
+-- A log has at most one refused place.
+pub refused_place_is_one : RefusedPlaceIsOne
+refused_place_is_one log line column line2 column2 r t =
+    let same = same_cut log r.lines t.lines r.whats t.whats r.rest t.rest column column2 (cut_of r) (cut_of t) in (
+      r.at ∙ ap (λ (z : List (List ℕ)). length z + 1) same.0 ∙ sym t.at,
+      end_is_one t.rest column column2 (subst (λ (z : List ℕ). Ends z column) same.1 r.here) t.here,
+    )
+
+-- ---- a refused log has no meaning
+
+-- what is refused means nothing as a log
+ends_mean_nothing : (rest : List ℕ) (column : ℕ) (whats : List (Option Stamped)) → Ends rest column → LogMeans rest whats → ⊥
+ends_mean_nothing rest column whats ends means = elim (first_line rest) [
+  | inl (line, more, e, clean) ↦ first line more e whats (subst (λ (z : List (List ℕ)). LinesMean z whats) (ap log_lines e ∙ log_lines-ended line more clean) means)
+  | inr clean ↦ last rest refl clean
+]
+  where
+    first : (line more : List ℕ) → rest ≡ line ++ code "\n" ∷ more → (whats : List (Option Stamped)) → LinesMean (line ∷ log_lines more) whats → ⊥
+    first line more e [] m = m
+    first line more e (what ∷ whats) m = no_line_first rest column line more what ends m.0 e
+
+    only : (line : List ℕ) (whats : List (Option Stamped)) → rest ≡ line → LinesMean (line ∷ []) whats → ⊥
+    only line [] e m = m
+    only line (what ∷ whats) e m = no_line_last rest column what ends (subst (λ (z : List ℕ). LineMeans z what) (sym e) m.0)
+
+    last : (bytes : List ℕ) → rest ≡ bytes → NoLineFeed bytes → ⊥
+    last [] e clean = no_line_last rest column None ends (inl e)
+    last (b ∷ bytes) e clean =
+        only (b ∷ bytes) whats e (subst (λ (z : List (List ℕ)). LinesMean z whats) (ap log_lines e ∙ log_lines-rest (b ∷ bytes) clean) means)
+
+-- the lines of a log behind lines that are ended and mean something
+pub lines_first : (lines : List (List ℕ)) (whats : List (Option Stamped)) (rest : List ℕ) → LinesMean lines whats
+    → log_lines (ended_lines lines ++ rest) ≡ lines ++ log_lines rest
+lines_first lines whats rest means = log_lines-behind lines rest (lines_clean lines whats means)
+
+-- A refused log has no meaning.
+pub refused_log_means_nothing : RefusedLogMeansNothing
+refused_log_means_nothing log line column whats r m =
+    let lines : log_lines log ≡ r.lines ++ log_lines r.rest = ap log_lines r.parts ∙ lines_first r.lines r.whats r.rest r.legal in
+    let parts = mean_apart r.lines (log_lines r.rest) whats (subst (λ (z : List (List ℕ)). LinesMean z whats) lines m) in
+    ends_mean_nothing r.rest column parts.1 r.here parts.4

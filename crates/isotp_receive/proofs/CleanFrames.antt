@@ -1,0 +1,94 @@
+-- What a frame with a clean verdict may be to a direction, by what stands there.
+use Rattle.std.proofs.Common.{◌≡◌, ℕ, ◌≤◌, List, nat_le, ◌==◌, Option, Some, None, Result, Ok, Err, refl, cond, inl, inr, subst}
+use Rattle.std.proofs.lemmas.Bool.{cases_Bool, leb-true}
+use Rattle.can_log.specs.Dir.{other_direction}
+use Rattle.can_log.specs.declared.frame.Dir.{Dir}
+use Rattle.isotp_pdu.specs.declared.PduFault.{PduFault}
+use Rattle.isotp_pdu.specs.declared.Status.TheVariants.{Continue, Wait, Overflow}
+use Rattle.isotp_pdu.specs.Layout.{Layout}
+use Rattle.isotp_pdu.specs.Layout as layout
+use Rattle.isotp_pdu.specs.Reading.{layout_of}
+use Rattle.isotp_receive.specs.declared.reception.Judged.{Judged}
+use Rattle.isotp_receive.specs.declared.reception.Judged.TheVariants as judged_as
+use Rattle.isotp_receive.specs.declared.event.Reason.TheVariants as as_reason
+use Rattle.isotp_receive.specs.declared.event.Cause.{Cause}
+use Rattle.isotp_receive.specs.Trace.{Entry, FirstFrame, Role, single, first, consecutive, continue_or_wait, no_part, role, own_role, other_role, same_direction}
+use Rattle.isotp_receive.specs.Standing.{Standing, stands}
+use Rattle.isotp_receive.specs.Verdict.{began, dropped, verdict, on_layout, on_overflow, ended_as}
+use Rattle.isotp_receive.specs.CleanTrace.{IsKept}
+use Rattle.isotp_receive.specs.Machine.{judged, on_judged}
+use Rattle.isotp_receive.proofs.Directions.{same}
+use Rattle.isotp_receive.proofs.Judgement.{on-judged}
+
+-- what a frame of this role may be where o stands
+pub data Turn (limit : ℕ) (o : Option Standing) (micros : ℕ) : Role → Type 0 where
+  t_single : (m : List ℕ) → o ≡ None → Turn limit o micros (single m)
+  t_first : (s : FirstFrame) → o ≡ None → s.len ≤ limit → Turn limit o micros (first s)
+  t_more : (st : Standing) (sequence_number can_dl : ℕ) (bytes : List ℕ) → o ≡ Some st → judged st micros sequence_number can_dl ≡ judged_as.More
+      → Turn limit o micros (consecutive sequence_number can_dl bytes)
+  t_last : (st : Standing) (sequence_number can_dl : ℕ) (bytes : List ℕ) → o ≡ Some st → judged st micros sequence_number can_dl ≡ judged_as.Last
+      → Turn limit o micros (consecutive sequence_number can_dl bytes)
+  t_continue_or_wait : Turn limit o micros continue_or_wait
+  t_no_part : Turn limit o micros no_part
+
+-- ---- to its own direction
+
+not-ended : (c : Cause) (d : Dir) (o : Option Standing) → ended_as c d o ≡ None → o ≡ None
+not-ended c d None h = refl
+not-ended c d (Some s) h = absurd (cc)
+
+kept-first : (limit len : ℕ) → IsKept (cond (nat_le len limit) began (dropped (as_reason.TooLong len))) → len ≤ limit
+kept-first limit len h = elim (cases_Bool (nat_le len limit)) [
+  | inl t ↦ leb-true len limit t
+  | inr t ↦ absurd (rw t at h)
+]
+
+turn-judged : (limit : ℕ) (d : Dir) (st : Standing) (micros sequence_number can_dl : ℕ) (bytes : List ℕ) (j : Judged)
+    → judged st micros sequence_number can_dl ≡ j → IsKept (on_judged d st j sequence_number bytes).told
+    → Turn limit (Some st) micros (consecutive sequence_number can_dl bytes)
+turn-judged limit d st micros sequence_number can_dl bytes judged_as.More e h = t_more st sequence_number can_dl bytes refl e
+turn-judged limit d st micros sequence_number can_dl bytes judged_as.Last e h = t_last st sequence_number can_dl bytes refl e
+turn-judged limit d st micros sequence_number can_dl bytes judged_as.Late e h = absurd h
+turn-judged limit d st micros sequence_number can_dl bytes judged_as.Sequence e h = absurd h
+turn-judged limit d st micros sequence_number can_dl bytes judged_as.Length e h = absurd h
+
+turn-own : (limit : ℕ) (d : Dir) (own others : Option Standing) (line micros : ℕ) (r : Result Layout PduFault)
+    → (on_layout limit d own others micros r).ended ≡ None → IsKept (on_layout limit d own others micros r).told → Turn limit own micros (own_role line micros r)
+turn-own limit d own others line micros (Err f) h k = absurd k
+turn-own limit d own others line micros (Ok (layout.single m)) h k = t_single m (not-ended _ d own h)
+turn-own limit d own others line micros (Ok (layout.first len rx_dl bytes)) h k = t_first _ (not-ended _ d own h) (kept-first limit len k)
+turn-own limit d None others line micros (Ok (layout.consecutive sequence_number can_dl bytes)) h k = absurd k
+turn-own limit d (Some st) others line micros (Ok (layout.consecutive sequence_number can_dl bytes)) h k =
+    turn-judged limit d st micros sequence_number can_dl bytes (judged st micros sequence_number can_dl) refl
+    (subst (λ a. IsKept a.told) (on-judged d st micros sequence_number can_dl bytes) k)
+turn-own limit d own others line micros (Ok (layout.flow_control s)) h k = t_no_part
+
+-- ---- to the other one
+
+no-overflow : (d : Dir) (o : Option Standing) → (on_overflow d o).ended ≡ None → IsKept (on_overflow d o).told → ⊥
+no-overflow d None h k = k
+no-overflow d (Some s) h k = elim (cases_Bool (s.taken == 0)) [
+  | inl t ↦ (let e = rw t at h in cc)
+  | inr t ↦ rw t at k
+]
+
+turn-other : (limit : ℕ) (d : Dir) (own others o : Option Standing) (micros : ℕ) (r : Result Layout PduFault)
+    → (on_layout limit d own others micros r).ended ≡ None → IsKept (on_layout limit d own others micros r).told → Turn limit o micros (other_role r)
+turn-other limit d own others o micros (Err f) h k = t_no_part
+turn-other limit d own others o micros (Ok (layout.single m)) h k = t_no_part
+turn-other limit d own others o micros (Ok (layout.first len rx_dl bytes)) h k = t_no_part
+turn-other limit d own others o micros (Ok (layout.consecutive sequence_number can_dl bytes)) h k = t_no_part
+turn-other limit d own others o micros (Ok (layout.flow_control Continue)) h k = t_continue_or_wait
+turn-other limit d own others o micros (Ok (layout.flow_control Wait)) h k = t_continue_or_wait
+turn-other limit d own others o micros (Ok (layout.flow_control Overflow)) h k = absurd (no-overflow (other_direction d) others h k)
+
+pub turn : (limit : ℕ) (d : Dir) (past : List Entry) (e : Entry) → (verdict limit past e).ended ≡ None → IsKept (verdict limit past e).told
+    → Turn limit (stands limit d past) e.micros (role d e)
+unfolding verdict role
+turn limit d past e h k =
+    let own = stands limit e.dir past in
+    let others = stands limit (other_direction e.dir) past in
+    elim (cases_Bool (same_direction d e.dir)) [
+      | inl t ↦ rw t (rw (same d e.dir t) (turn-own limit e.dir own others e.line e.micros (layout_of e.frame) h k))
+      | inr t ↦ rw t (turn-other limit e.dir own others (stands limit d past) e.micros (layout_of e.frame) h k)
+    ]

@@ -1,0 +1,82 @@
+-- The consecutive frames of a reception that is open are full: each carries RX_DL - 1 bytes.
+use Rattle.std.proofs.Common.{◌≡◌, ℕ, ◌==◌, ◌+◌, ◌-◌, ◌*◌, ◌%◌, ◌<◌, ◌≤◌, true, List, [], ◌∷◌, ◌++◌, length, nat_lt, nat_le, ap, arith}
+use Rattle.std.proofs.Common.{length-append, append_assoc}
+use Rattle.std.proofs.lemmas.List.{append-nil}
+use Rattle.std.proofs.lemmas.Bool.{and_parts, ltb-true, leb-true, eqb-true, lt-ltb, false≢true}
+use Rattle.can_log.specs.declared.frame.Dir.{Dir}
+use Rattle.isotp_receive.specs.Trace.{Entry, FirstFrame, Role, single, first, consecutive, continue_or_wait, overflow, no_part, role}
+use Rattle.isotp_receive.specs.OnTime.{n_cr}
+use Rattle.isotp_receive.specs.Places.{consecutive_by, consecutive_frames_in}
+use Rattle.isotp_receive.specs.Standing.{carried_by, carried, reference, carried_after, fits_length, keeps_by, keep, is_open}
+use Rattle.isotp_receive.proofs.Products.{sum-grows}
+use Rattle.isotp_receive.proofs.Readings.{IsRoleOf, role_from}
+use Rattle.isotp_receive.proofs.CountedFrames.{taken-append, taken-snoc, carried-snoc}
+
+-- what the test says of a reception that is open after these frames
+pub record IsOpenAfter (limit : ℕ) (d : Dir) (s : FirstFrame) (es : List Entry) : Type 0 where
+  pub within : s.len ≤ limit
+  pub room : carried_after s (consecutive_frames_in d es) < s.len
+  pub kept : keep d s [] es ≡ true
+
+pub open-after : (limit : ℕ) (d : Dir) (s : FirstFrame) (es : List Entry) → is_open limit d s es ≡ true → IsOpenAfter limit d s es
+open-after limit d s es opens =
+    let parts = and_parts (nat_le s.len limit) _ opens in
+    let more = and_parts (nat_lt (carried_after s (consecutive_frames_in d es)) s.len) _ parts.1 in
+    record { within = leb-true _ _ parts.0; room = ltb-true _ _ more.0; kept = more.1 }
+
+-- a consecutive frame that fits and is not the last is as long as the first frame
+pub fits_full : (len rx_dl have can_dl : ℕ) → fits_length len rx_dl have can_dl ≡ true → have + (rx_dl - 1) < len → can_dl ≡ rx_dl
+fits_full len rx_dl have can_dl h below =
+    let test : nat_lt (have + (rx_dl - 1)) len ≡ true = lt-ltb _ _ below in
+    let parts = and_parts (nat_lt have len) _ h in
+    eqb-true can_dl rx_dl (rw test at parts.1)
+
+-- what one more frame carries
+carried-one : (d : Dir) (s : FirstFrame) (past : List Entry) (micros : ℕ) (x : List ℕ) (r : Role) → IsRoleOf micros x r → keeps_by d s past micros r ≡ true
+    → carried_after s (consecutive_frames_in d past + consecutive_by r) < s.len
+    → length (carried d past) ≡ consecutive_frames_in d past * (s.rx_dl - 1)
+    → length (carried d past ++ carried_by r) ≡ (consecutive_frames_in d past + consecutive_by r) * (s.rx_dl - 1)
+carried-one d s past micros x (consecutive sequence_number can_dl bytes) from h below full =
+    let fits = (and_parts (sequence_number == (consecutive_frames_in d past + 1) % 16) _ (and_parts (nat_le micros (reference d s.micros past + n_cr)) _ h).1).1 in
+    let whole_frame : can_dl ≡ s.rx_dl = fits_full s.len s.rx_dl (carried_after s (consecutive_frames_in d past)) can_dl fits (omega arith) in
+    simp length-append (omega arith)
+carried-one d s past micros x (single m) from h below full = absurd (false≢true h)
+carried-one d s past micros x (first f) from h below full = absurd (false≢true h)
+carried-one d s past micros x continue_or_wait from h below full = simp length-append (omega arith)
+carried-one d s past micros x overflow from h below full = simp length-append (omega arith)
+carried-one d s past micros x no_part from h below full = simp length-append (omega arith)
+
+carried-behind : (d : Dir) (s : FirstFrame) (past es : List Entry) → keep d s past es ≡ true
+    → carried_after s (consecutive_frames_in d (past ++ es)) < s.len
+    → length (carried d past) ≡ consecutive_frames_in d past * (s.rx_dl - 1)
+    → length (carried d (past ++ es)) ≡ consecutive_frames_in d (past ++ es) * (s.rx_dl - 1)
+carried-behind d s past [] h below full = rw append-nil full
+carried-behind d s past (e ∷ es) h below full =
+    let parts = and_parts (keeps_by d s past e.micros (role d e)) (keep d s (past ++ e ∷ []) es) h in
+    let regroup : (past ++ e ∷ []) ++ es ≡ past ++ e ∷ es = append_assoc past (e ∷ []) es in
+    let below_all : carried_after s (consecutive_frames_in d ((past ++ e ∷ []) ++ es)) < s.len = rw regroup below in
+    let below_one : carried_after s (consecutive_frames_in d past + consecutive_by (role d e)) < s.len = omega (
+      arith,
+      below_all,
+      sum-grows (length s.bytes) (consecutive_frames_in d past + consecutive_by (role d e)) (consecutive_frames_in d es) (s.rx_dl - 1),
+      taken-append d (past ++ e ∷ []) es,
+      taken-snoc d past e,
+      ap (λ k. k * (s.rx_dl - 1)) (taken-append d (past ++ e ∷ []) es),
+      ap (λ k. (k + consecutive_frames_in d es) * (s.rx_dl - 1)) (taken-snoc d past e),
+    ) in
+    let one = carried-one d s past e.micros e.frame.bytes (role d e) (role_from d e) parts.0 below_one full in
+    let full_one : length (carried d (past ++ e ∷ [])) ≡ consecutive_frames_in d (past ++ e ∷ []) * (s.rx_dl - 1) =
+    rw (carried-snoc d past e, taken-snoc d past e) one in
+    rw (← regroup) (carried-behind d s (past ++ e ∷ []) es parts.1 below_all full_one)
+
+-- what the frames carry
+pub carried-full : (d : Dir) (s : FirstFrame) (es : List Entry) → keep d s [] es ≡ true → carried_after s (consecutive_frames_in d es) < s.len
+    → length (carried d es) ≡ consecutive_frames_in d es * (s.rx_dl - 1)
+carried-full d s es kept room = carried-behind d s [] es kept room (omega arith)
+
+-- and what has come of the message
+pub come-so-far : (limit : ℕ) (d : Dir) (s : FirstFrame) (es : List Entry) → is_open limit d s es ≡ true
+    → length (s.bytes ++ carried d es) ≡ carried_after s (consecutive_frames_in d es)
+come-so-far limit d s es opens =
+    let after = open-after limit d s es opens in
+    omega (arith, length-append s.bytes (carried d es), carried-full d s es after.kept after.room)

@@ -1,0 +1,195 @@
+-- What becomes of a consecutive frame where a reception is open.
+use Rattle.std.proofs.Common.{◌≡◌, ℕ, ◌+◌, ◌-◌, ◌*◌, ◌%◌, ◌<◌, true, List, [], ◌∷◌, ◌++◌, length, take, ◌==◌, Some, None, Result, Ok, Err, refl}
+use Rattle.std.proofs.Common.{sym, ◌∙◌, ap, arith, inl, inr, subst}
+use Rattle.std.specs.Prelude.{◌≢◌}
+use Rattle.std.proofs.lemmas.Bool.{lt-ltb, ltb-true, eq-eqb, eqb-true, ne_eqb, cases_Bool, false≢true, false_from_ne_true}
+use Rattle.can_log.specs.declared.frame.Dir.{Dir}
+use Rattle.isotp_pdu.specs.Layout.{Layout}
+use Rattle.isotp_pdu.specs.Layout as layout
+use Rattle.isotp_pdu.specs.Reading.{layout_of}
+use Rattle.isotp_pdu.specs.declared.PduFault.{PduFault}
+use Rattle.isotp_receive.specs.declared.reception.Judged.{Judged}
+use Rattle.isotp_receive.specs.declared.reception.Judged.TheVariants as judged_as
+use Rattle.isotp_receive.specs.declared.event.Cause.{Cause}
+use Rattle.isotp_receive.specs.declared.event.Cause.TheVariants as cause
+use Rattle.isotp_receive.specs.declared.event.Reason.TheVariants as reason
+use Rattle.isotp_receive.specs.Trace.{Entry, FirstFrame, single, consecutive, role, own_role}
+use Rattle.isotp_receive.specs.Standing.{Standing, reference, fits_length, standing_of, stands}
+use Rattle.isotp_receive.specs.Places.{bytes_in_first, bytes_before, consecutive_frames_in, FitsAs}
+use Rattle.isotp_receive.specs.Verdict.{EventValue, message, stored, refused, ended_as, verdict, on_consecutive, is_on_time, expected, has_length, wants_more}
+use Rattle.isotp_receive.specs.VerdictTable.{IsOpenBefore, ended_by, ComesOnTime, FitsNext, HasVerdict, next_late, wrong_number, wrong_length, stored_frame, last_frame}
+use Rattle.isotp_receive.specs.Machine.{judged, on_judged}
+use Rattle.isotp_receive.specs.Delivers.{Delivers, in_one_frame, in_frames}
+use Rattle.isotp_receive.proofs.ListPositions.{get-same, get-here, regrouped, split-length}
+use Rattle.isotp_receive.proofs.Directions.{same-self}
+use Rattle.isotp_receive.proofs.Fits.{fits-join}
+use Rattle.isotp_receive.proofs.Judgement.{is-late, is-wrong-number, is-wrong-length, is-more, is-last, on-judged}
+use Rattle.isotp_receive.proofs.OpenLaws.{open-stands-here}
+use Rattle.isotp_receive.proofs.References.{refers, on-time-same, on-time-from, on-time-to}
+use Rattle.isotp_receive.proofs.ConsecutiveCounts.{below-count}
+use Rattle.isotp_receive.proofs.OpenPositions.{stands-there}
+use Rattle.isotp_receive.proofs.BytesAtPlaces.{come-by-places}
+use Rattle.isotp_receive.proofs.DeliversLaws.{message-delivers}
+
+-- ---- the verdict on a consecutive frame is by what stands for its direction
+
+read-consecutive : (line micros sequence_number can_dl : ℕ) (bytes : List ℕ) (x : Result Layout PduFault)
+    → own_role line micros x ≡ consecutive sequence_number can_dl bytes → x ≡ Ok (layout.consecutive sequence_number can_dl bytes)
+read-consecutive line micros sequence_number can_dl bytes (Ok (layout.consecutive n dl bs)) h =
+    let is_n : n ≡ sequence_number = cc in
+    let is_dl : dl ≡ can_dl = cc in
+    let is_bytes : bs ≡ bytes = cc in
+    rw (is_n, is_dl, is_bytes) refl
+read-consecutive line micros sequence_number can_dl bytes (Ok (layout.single m)) h = absurd (cc)
+read-consecutive line micros sequence_number can_dl bytes (Ok (layout.first len rx_dl bs)) h = absurd (cc)
+read-consecutive line micros sequence_number can_dl bytes (Ok (layout.flow_control s)) h = absurd (cc)
+read-consecutive line micros sequence_number can_dl bytes (Err f) h = absurd (cc)
+
+pub on-own : (limit : ℕ) (T : List Entry) (e : Entry) (sequence_number can_dl : ℕ) (bytes : List ℕ) → role e.dir e ≡ consecutive sequence_number can_dl bytes
+    → verdict limit T e ≡ on_consecutive e.dir (stands limit e.dir T) e.micros sequence_number can_dl bytes
+unfolding verdict role
+on-own limit T e sequence_number can_dl bytes h =
+    let own = rw (same-self e.dir) at h in
+    let read = read-consecutive e.line e.micros sequence_number can_dl bytes (layout_of e.frame) own in
+    rw read refl
+
+pub ended-is : (d : Dir) (s : FirstFrame) (st : Standing) (c : Cause) → st.line ≡ s.line → st.len ≡ s.len → ended_as c d (Some st) ≡ Some (ended_by d s c)
+ended-is d s st c line len =
+    ap (λ l. Some (record { dir = d; begun_line = l; len = st.len; cause = c })) line
+    ∙ ap (λ n. Some (record { dir = d; begun_line = s.line; len = n; cause = c })) len
+
+module _ (limit : ℕ) (T : List Entry) (e : Entry) (i k sequence_number can_dl : ℕ) (bytes : List ℕ)
+    (goes : role e.dir e ≡ consecutive sequence_number can_dl bytes) (o : IsOpenBefore limit T e e.dir i k) where
+  -- ---- what stands, and its tests in the words of the table
+
+  record Meets : Type 0 where
+    st : Standing
+    is : verdict limit T e ≡ on_judged e.dir st (judged st e.micros sequence_number can_dl) sequence_number bytes
+    line : st.line ≡ o.start.line
+    len : st.len ≡ o.start.len
+    next : expected st ≡ (k + 1) % 16
+    time_to : ComesOnTime limit T e i → is_on_time st e.micros ≡ true
+    time_from : is_on_time st e.micros ≡ true → ComesOnTime limit T e i
+    fits_to : FitsNext limit T e i k sequence_number can_dl o → (sequence_number ≡ (k + 1) % 16) × (has_length st can_dl ≡ true)
+    fits_from : sequence_number ≡ (k + 1) % 16 → has_length st can_dl ≡ true → FitsNext limit T e i k sequence_number can_dl o
+    more_to : k + 1 < o.count → wants_more st ≡ true
+    more_from : wants_more st ≡ true → k + 1 < o.count
+
+  meets : Meets
+  meets =
+      let d = e.dir in
+      let s = o.start in
+      let f = bytes_in_first o.frame.frame.bytes in
+      let w = stands-there limit d T (e ∷ []) i k o in
+      let n = consecutive_frames_in d w.since in
+      let st = standing_of d s w.since in
+      let now : stands limit d T ≡ Some st = ap (stands limit d) w.splits ∙ open-stands-here limit d w.before w.since o.frame s o.kind w.opens in
+      let on : verdict limit T e ≡ on_consecutive d (Some st) e.micros sequence_number can_dl bytes =
+      on-own limit T e sequence_number can_dl bytes goes ∙ ap (λ x. on_consecutive d x e.micros sequence_number can_dl bytes) now in
+      let whole : w.before ++ o.frame ∷ (w.since ++ e ∷ []) ≡ T ++ e ∷ [] = regrouped T (e ∷ []) w.before w.since o.frame w.splits in
+      let ends = split-length T w.before w.since o.frame w.splits in
+      let ref = refers d w.before o.frame s w.since (e ∷ []) o.kind in
+      let size = come-by-places limit d o.frame s w.since o.kind w.opens in
+      let taken = w.taken in
+      let product = ap (λ j. (j + 1) * (s.rx_dl - 1)) taken in
+      let more = o.more in
+      let below : n < o.count = omega arith in
+      let join = fits-join f s.rx_dl s.len o.count n sequence_number can_dl o.least below in
+      let length_is : has_length st can_dl ≡ fits_length s.len s.rx_dl (bytes_before f s.rx_dl n) can_dl = ap (λ h. fits_length s.len s.rx_dl h can_dl) size in
+      let number_is : (k + 1) % 16 ≡ (n + 1) % 16 = ap (λ j. (j + 1) % 16) taken in
+      record {
+        st = st;
+        is = on ∙ on-judged d st e.micros sequence_number can_dl bytes;
+        line = refl;
+        len = refl;
+        next = sym number_is;
+        time_to = λ at. on-time-to _ d (length w.before) _ (reference d s.micros w.since) e ref
+            (on-time-same d _ _ _ _ _ _ e e (sym whole) (sym w.place) (sym ends) refl at);
+        time_from = λ t. on-time-same d _ _ _ _ _ _ e e whole w.place ends refl
+            (on-time-from _ d (length w.before) _ (reference d s.micros w.since) e ref t);
+        fits_to = λ fits.
+            let fit = join.0 (subst (λ j. FitsAs f s.rx_dl s.len o.count (j + 1) sequence_number can_dl) taken fits) in
+            (fit.0 ∙ sym number_is, length_is ∙ fit.1);
+        fits_from = λ number fits.
+            subst (λ j. FitsAs f s.rx_dl s.len o.count (j + 1) sequence_number can_dl) (sym taken)
+            (join.1 (number ∙ number_is, sym length_is ∙ fits));
+        more_to = λ less. (let room = o.least.fewer (k + 1) less in lt-ltb _ _ (omega arith));
+        more_from = λ t. (let room = ltb-true (length st.bytes + (st.rx_dl - 1)) st.len t in
+            below-count f s.rx_dl s.len o.count (k + 1) o.least (omega arith));
+      }
+
+  -- what it was judged to be
+  judged-so : (m : Meets) (j : Judged) → judged m.st e.micros sequence_number can_dl ≡ j → verdict limit T e ≡ on_judged e.dir m.st j sequence_number bytes
+  judged-so m j h = m.is ∙ ap (λ x. on_judged e.dir m.st x sequence_number bytes) h
+
+  -- and the reception that it ended
+  ends-by : (m : Meets) (c : Cause) → ended_as c e.dir (Some m.st) ≡ Some (ended_by e.dir o.start c)
+  ends-by m c = ended-is e.dir o.start m.st c m.line m.len
+
+  -- ---- the verdict is that of the row
+
+  pub late : (ComesOnTime limit T e i → ⊥) → verdict limit T e ≡ refused (Some (ended_by e.dir o.start cause.Late)) reason.NextLate
+  late off =
+      let m = meets in
+      let off_time = false_from_ne_true (is_on_time m.st e.micros) (λ t. off (m.time_from t)) in
+      judged-so m judged_as.Late (is-late m.st e.micros sequence_number can_dl off_time)
+      ∙ ap (λ x. refused x reason.NextLate) (ends-by m cause.Late)
+
+  pub number : ComesOnTime limit T e i → sequence_number ≢ (k + 1) % 16
+      → verdict limit T e ≡ refused (Some (ended_by e.dir o.start cause.Sequence)) (reason.NextSequence ((k + 1) % 16) sequence_number)
+  number on apart =
+      let m = meets in
+      let other = ne_eqb sequence_number (expected m.st) (λ same. apart (same ∙ m.next)) in
+      judged-so m judged_as.Sequence (is-wrong-number m.st e.micros sequence_number can_dl (m.time_to on) other)
+      ∙ ap (λ x. refused x (reason.NextSequence (expected m.st) sequence_number)) (ends-by m cause.Sequence)
+      ∙ ap (λ x. refused (Some (ended_by e.dir o.start cause.Sequence)) (reason.NextSequence x sequence_number)) m.next
+
+  pub size : ComesOnTime limit T e i → sequence_number ≡ (k + 1) % 16 → (FitsNext limit T e i k sequence_number can_dl o → ⊥)
+      → verdict limit T e ≡ refused (Some (ended_by e.dir o.start cause.Length)) reason.NextLength
+  size on number apart =
+      let m = meets in
+      let expected_one = eq-eqb sequence_number (expected m.st) (number ∙ sym m.next) in
+      let other = false_from_ne_true (has_length m.st can_dl) (λ t. apart (m.fits_from number t)) in
+      judged-so m judged_as.Length (is-wrong-length m.st e.micros sequence_number can_dl (m.time_to on) expected_one other)
+      ∙ ap (λ x. refused x reason.NextLength) (ends-by m cause.Length)
+
+  pub kept : ComesOnTime limit T e i → FitsNext limit T e i k sequence_number can_dl o → k + 1 < o.count
+      → verdict limit T e ≡ record { ended = None; told = stored }
+  kept on fits less =
+      let m = meets in
+      let fit = m.fits_to fits in
+      let expected_one = eq-eqb sequence_number (expected m.st) (fit.0 ∙ sym m.next) in
+      judged-so m judged_as.More (is-more m.st e.micros sequence_number can_dl (m.time_to on) expected_one fit.1 (m.more_to less))
+
+  -- ---- and it has a row
+
+  last-row : (whole : List ℕ) → Delivers limit (T ++ e ∷ []) (length T) e.dir whole → (a : EventValue) × HasVerdict limit T e a
+  last-row whole (in_frames c) = (record { ended = None; told = message whole }, last_frame whole c)
+  last-row whole (in_one_frame x at kind) =
+      let is_e : x ≡ e = get-same (T ++ e ∷ []) (length T) x e at (get-here T [] e) in
+      let one : single whole ≡ consecutive sequence_number can_dl bytes = sym kind ∙ ap (role e.dir) is_e ∙ goes in
+      absurd (cc)
+
+  pub has-row : layout_of e.frame ≡ Ok (layout.consecutive sequence_number can_dl bytes) → (a : EventValue) × HasVerdict limit T e a
+  has-row h = by_tests meets where
+    by_tests : Meets → (a : EventValue) × HasVerdict limit T e a
+    by_tests m = elim (cases_Bool (is_on_time m.st e.micros)) [
+      | inr t ↦ (_, next_late sequence_number can_dl bytes i k h o (λ on. false≢true (sym t ∙ m.time_to on)))
+      | inl t ↦ elim (cases_Bool (sequence_number == expected m.st)) [
+        | inr q ↦ (
+          _,
+          wrong_number sequence_number can_dl bytes i k h o (m.time_from t)
+              (λ same. false≢true (sym q ∙ eq-eqb sequence_number (expected m.st) (same ∙ sym m.next))),
+        )
+        | inl q ↦ (let number : sequence_number ≡ (k + 1) % 16 = eqb-true sequence_number (expected m.st) q ∙ m.next in
+            elim (cases_Bool (has_length m.st can_dl)) [
+              | inr f ↦ (_, wrong_length sequence_number can_dl bytes i k h o (m.time_from t) number (λ fits. false≢true (sym f ∙ (m.fits_to fits).1)))
+              | inl f ↦ elim (cases_Bool (wants_more m.st)) [
+                | inl b ↦ (_, stored_frame sequence_number can_dl bytes i k h o (m.time_from t) (m.fits_from number f) (m.more_from b))
+                | inr b ↦ (let whole = take m.st.len (m.st.bytes ++ bytes) in
+                    let is = judged-so m judged_as.Last (is-last m.st e.micros sequence_number can_dl t q f b) in
+                    last-row whole ((message-delivers limit T e whole).0 (ap (λ a. a.told) is)))
+              ]
+            ])
+      ]
+    ]

@@ -1,0 +1,134 @@
+-- What is known of a frame by its role: where the bytes of its message lie in it, and the ranges of its numbers.
+use Rattle.std.proofs.Common.{true, false, ◌≡◌, ℕ, ◌+◌, ◌-◌, ◌*◌, ◌%◌, ◌/◌, ◌<◌, ◌≤◌, List, length, drop, get_or, slice_index, ◌==◌, Result, Ok}
+use Rattle.std.proofs.Common.{Err, refl, sym, ◌∙◌, ap, arith, cond, length-append, inl, inr}
+use Rattle.std.specs.Prelude.{⊤, IfOk, IsTrue}
+use Rattle.std.proofs.lemmas.Bool.{cond_both, ne_eqb}
+use Rattle.std.proofs.lemmas.Bool.Decides.{nat_tests}
+use Rattle.can_log.specs.Frame.{FrameValue}
+use Rattle.can_log.specs.declared.frame.Dir.{Dir}
+use Rattle.isotp_pdu.specs.declared.PduFault.{PduFault}
+use Rattle.isotp_pdu.specs.declared.Status.TheVariants.{Continue, Wait, Overflow}
+use Rattle.isotp_pdu.specs.Layout.{Layout, is_can_dl, least_first, SpellsFirst, Spells, IsSoundLayout}
+use Rattle.isotp_pdu.specs.Layout as layout
+use Rattle.isotp_pdu.specs.Reading.{layout_of}
+use Rattle.isotp_pdu.proofs.Promises.{layout_is_read, layout_is_sound}
+use Rattle.isotp_receive.specs.Trace.{Entry, FirstFrame, Role, single, first, consecutive, continue_or_wait, overflow, no_part, role, own_role, other_role, same_direction}
+use Rattle.isotp_receive.specs.Places.{bytes_in_first}
+
+-- ---- where the bytes of a layout lie in its frame
+
+abbrev LiesIn : List ℕ → Layout → Type 0
+LiesIn x (layout.first len rx_dl bytes) = (bytes ≡ drop (rx_dl - bytes_in_first x) x) × (length bytes ≡ bytes_in_first x)
+LiesIn x (layout.consecutive sequence_number can_dl bytes) = bytes ≡ drop 1 x
+LiesIn x (layout.single message) = length message ≤ length x
+LiesIn x (layout.flow_control status) = ⊤
+
+least_above_six : (n : ℕ) → 8 ≤ n → 7 ≤ least_first n
+least_above_six n low = cond_both (n == 8) 8 (n - 1) (λ m. 7 ≤ m) (λ _. omega arith) (λ _. omega arith)
+
+first_lies : (x : List ℕ) (len : ℕ) (bytes : List ℕ) → 8 ≤ length x → SpellsFirst x len bytes
+    → (bytes ≡ drop (length x - bytes_in_first x) x) × (length bytes ≡ bytes_in_first x)
+first_lies x len bytes low (inl (least, most, parts)) =
+    let high_byte : slice_index x 0 ≡ 16 + len / 256 = ap (λ l. get_or l 0 0) parts in
+    let low_byte : slice_index x 1 ≡ len % 256 = ap (λ l. get_or l 1 0) parts in
+    let above = least_above_six (length x) low in
+    let told : ((slice_index x 0 % 16) * 256 + slice_index x 1 == 0) ≡ false = ne_eqb _ 0 (omega arith) in
+    let held : bytes_in_first x ≡ length x - 2 = ap (λ b. cond b (length x - 6) (length x - 2)) told in
+    let size = ap length parts in
+    let place : length x - bytes_in_first x ≡ 2 = omega arith in
+    (sym (ap (λ k. drop k x) place ∙ ap (drop 2) parts), omega arith)
+first_lies x len bytes low (inr (least, most, parts)) =
+    let told : ((slice_index x 0 % 16) * 256 + slice_index x 1 == 0) ≡ true = rw parts refl in
+    let held : bytes_in_first x ≡ length x - 6 = ap (λ b. cond b (length x - 6) (length x - 2)) told in
+    let size = ap length parts in
+    let place : length x - bytes_in_first x ≡ 6 = omega arith in
+    (sym (ap (λ k. drop k x) place ∙ ap (drop 6) parts), omega arith)
+
+spelled_lies : (x : List ℕ) (found : Layout) → Spells x found → IsSoundLayout found → LiesIn x found
+spelled_lies x (layout.single message) (padding, some, inl (short, parts)) sound =
+    (let size = ap length parts in omega (arith, length-append message padding))
+spelled_lies x (layout.single message) (padding, some, inr (long, parts)) sound =
+    (let size = ap length parts in omega (arith, length-append message padding))
+spelled_lies x (layout.first len rx_dl bytes) (is_rx_dl, size, parts) sound =
+    let low = sound.at_least in
+    let lies = first_lies x len bytes (omega arith) parts in
+    (lies.0 ∙ ap (λ n. drop (n - bytes_in_first x) x) (sym size), lies.1)
+spelled_lies x (layout.consecutive sequence_number can_dl bytes) (few, size, parts) sound = sym (ap (drop 1) parts)
+spelled_lies x (layout.flow_control status) spelled sound = tt
+
+-- ---- what is known of a reading
+
+-- a frame has at most 64 bytes
+can_dl_high : (n : ℕ) → IsTrue (is_can_dl n) → n ≤ 64
+can_dl_high n h = grind (arith, nat_tests)
+
+record IsReadFrom (x : List ℕ) (found : Layout) : Type 0 where
+  lies : LiesIn x found
+  few : length x ≤ 64
+  numbers : IsSoundLayout found
+
+read_from : (f : FrameValue) (r : Result Layout PduFault) → layout_of f ≡ r → IfOk r (IsReadFrom f.bytes)
+read_from f (Ok found) is =
+    let has = (layout_is_read f found).1 is in
+    let numbers = layout_is_sound f found has in
+    record { lies = spelled_lies f.bytes found has.spelled numbers; few = can_dl_high (length f.bytes) has.frame_length; numbers = numbers }
+read_from f (Err fault) is = tt
+
+-- ---- what is known of a frame of each role, of these bytes
+
+pub record IsWhole (message : List ℕ) : Type 0 where
+  pub some : 1 ≤ length message
+  pub few : length message ≤ 64
+
+pub record IsFirst (micros : ℕ) (x : List ℕ) (start : FirstFrame) : Type 0 where
+  pub lies : start.bytes ≡ drop (start.rx_dl - bytes_in_first x) x
+  pub held : length start.bytes ≡ bytes_in_first x
+  pub fewer : length start.bytes < start.len
+  pub wide : 8 ≤ start.rx_dl
+  pub time : start.micros ≡ micros
+
+pub record IsNext (x : List ℕ) (can_dl : ℕ) (bytes : List ℕ) : Type 0 where
+  pub lies : bytes ≡ drop 1 x
+  pub size : length bytes + 1 ≡ can_dl
+
+abbrev pub IsRoleOf : ℕ → List ℕ → Role → Type 0
+IsRoleOf micros x (first start) = IsFirst micros x start
+IsRoleOf micros x (consecutive sequence_number can_dl bytes) = IsNext x can_dl bytes
+IsRoleOf micros x (single message) = IsWhole message
+IsRoleOf micros x continue_or_wait = ⊤
+IsRoleOf micros x overflow = ⊤
+IsRoleOf micros x no_part = ⊤
+
+own_from : (line micros : ℕ) (x : List ℕ) (r : Result Layout PduFault) → IfOk r (IsReadFrom x) → IsRoleOf micros x (own_role line micros r)
+own_from line micros x (Ok (layout.single message)) from = record { some = from.numbers; few = (let lies = from.lies in let few = from.few in omega arith) }
+own_from line micros x (Ok (layout.first len rx_dl bytes)) from =
+    record { lies = from.lies.0; held = from.lies.1; fewer = from.numbers.carries_less; wide = from.numbers.at_least; time = refl }
+own_from line micros x (Ok (layout.consecutive sequence_number can_dl bytes)) from = record { lies = from.lies; size = from.numbers.in_frame }
+own_from line micros x (Ok (layout.flow_control status)) from = tt
+own_from line micros x (Err fault) from = tt
+
+other_from : (micros : ℕ) (x : List ℕ) (r : Result Layout PduFault) → IsRoleOf micros x (other_role r)
+other_from micros x (Ok (layout.flow_control Continue)) = tt
+other_from micros x (Ok (layout.flow_control Wait)) = tt
+other_from micros x (Ok (layout.flow_control Overflow)) = tt
+other_from micros x (Ok (layout.single message)) = tt
+other_from micros x (Ok (layout.first len rx_dl bytes)) = tt
+other_from micros x (Ok (layout.consecutive sequence_number can_dl bytes)) = tt
+other_from micros x (Err fault) = tt
+
+pub role_from : (d : Dir) (e : Entry) → IsRoleOf e.micros e.frame.bytes (role d e)
+unfolding role
+role_from d e =
+    cond_both (same_direction d e.dir) _ _ (IsRoleOf e.micros e.frame.bytes)
+    (λ _. own_from e.line e.micros e.frame.bytes _ (read_from e.frame (layout_of e.frame) refl))
+    (λ _. other_from e.micros e.frame.bytes (layout_of e.frame))
+
+pub whole_from : (d : Dir) (e : Entry) (message : List ℕ) → role d e ≡ single message → IsWhole message
+whole_from d e message h = rw h at (role_from d e)
+
+pub first_from : (d : Dir) (e : Entry) (start : FirstFrame) → role d e ≡ first start → IsFirst e.micros e.frame.bytes start
+first_from d e start h = rw h at (role_from d e)
+
+pub next_from : (d : Dir) (e : Entry) (sequence_number can_dl : ℕ) (bytes : List ℕ) → role d e ≡ consecutive sequence_number can_dl bytes
+    → IsNext e.frame.bytes can_dl bytes
+next_from d e sequence_number can_dl bytes h = rw h at (role_from d e)

@@ -1,0 +1,77 @@
+-- Each canonical frame has 8 bytes; and the one frame of a short message.
+use Rattle.std.proofs.Common.{◌≡◌, ◌-◌, ◌<◌, ◌^◌, ◌==◌, ◌&&◌, [], ◌∷◌, ◌++◌, ◌∙◌}
+use Rattle.std.proofs.Common.{ℕ, zero, suc, List, length, map, drop, nat_le, true, false, refl, sym, subst, ap, arith, inl, inr}
+use Rattle.std.specs.List.{AllByRecursion, range_with_len}
+use Rattle.std.proofs.lemmas.Bool.{le-leb, lt-leb, leb-true, leb-false, cases_Bool, and_parts}
+use Rattle.can_log.specs.Dir.{other_direction}
+use Rattle.can_log.specs.declared.frame.Dir.{Dir}
+use Rattle.isotp_pdu.specs.Layout.{single}
+use Rattle.isotp_pdu.proofs.Promises.{layout_is_read}
+use Rattle.isotp_segment.specs.CanonicalFrames.{filled, single_control, first_control, consecutive_control, continue_control, place_of, total_count, canonical_frame, canonical_frames}
+use Rattle.isotp_segment.specs.Laws.{IsFullFrame, CanonicalFramesAreFull, ShortMessageIsOneFrame}
+use Rattle.isotp_segment.proofs.Bytes.{byte_at, filled_by_place, length-filled}
+use Rattle.isotp_segment.proofs.Frames.{frames_of, frame-single}
+use Rattle.isotp_segment.proofs.Layouts.{classic, layout-single}
+use Rattle.isotp_segment.proofs.Lists.{AllByRecursion-drop, AllByRecursion-map-range}
+
+-- each number is that of a byte
+abbrev AreBytes : List ℕ → Type 0
+AreBytes bytes = AllByRecursion (λ b. b < 256) bytes
+
+byte_at-below : (bytes : List ℕ) (i : ℕ) → AreBytes bytes → byte_at bytes i < 256
+byte_at-below [] i each = omega arith
+byte_at-below (b ∷ bytes) zero each = each.0
+byte_at-below (b ∷ bytes) (suc i) each = byte_at-below bytes i each.1
+
+full : (d : Dir) (control bytes : List ℕ) → AreBytes (control ++ bytes) → IsFullFrame (d, filled control bytes)
+full d control bytes each = record {
+  full = length-filled control bytes;
+  bytes = rw (filled_by_place control bytes)
+      (AllByRecursion-map-range (λ b. b < 256) (byte_at (control ++ bytes)) 0 8 (λ i. byte_at-below (control ++ bytes) i each));
+}
+
+full_first : (d : Dir) (m : List ℕ) → length m < 2 ^ 32 → AreBytes m → IsFullFrame (d, filled (first_control (length m)) m)
+full_first d m bits each = elim (cases_Bool (nat_le (length m) 4095)) [
+  | inl t ↦ (let short = leb-true (length m) 4095 t in rw t (full d _ m (omega arith, (omega arith, each))))
+  | inr t ↦ rw t (full d _ m (omega arith, (omega arith, (omega arith, (omega arith, (omega arith, (omega arith, each)))))))
+]
+
+full_long : (d : Dir) (m : List ℕ) (number : ℕ) → 7 < length m → length m < 2 ^ 32 → AreBytes m → IsFullFrame (canonical_frame d m number)
+unfolding canonical_frame
+full_long d m number long bits each = elim (cases_Bool (number == 0)) [
+  | inl t ↦ rw (long_is, t) (full_first d m bits each)
+  | inr t ↦ elim (cases_Bool (number == 1)) [
+    | inl u ↦ rw (long_is, t, u) (full (other_direction d) continue_control [] (omega arith, (omega arith, (omega arith, tt))))
+    | inr u ↦ rw (long_is, t, u) (full d (consecutive_control (number - 1)) (drop (place_of (length m) (number - 1)) m)
+        (omega arith, AllByRecursion-drop (λ b. b < 256) (place_of (length m) (number - 1)) m each))
+  ]
+] where
+  long_is : nat_le (length m) 7 ≡ false
+  long_is = lt-leb (length m) 7 long
+
+full_frame : (d : Dir) (m : List ℕ) (number : ℕ) → length m < 2 ^ 32 → AreBytes m → IsFullFrame (canonical_frame d m number)
+full_frame d m number bits each = elim (cases_Bool (nat_le (length m) 7)) [
+  | inl t ↦ (let short = leb-true (length m) 7 t in
+      subst IsFullFrame (sym (frame-single d m number short)) (full d (single_control (length m)) m (omega arith, each)))
+  | inr t ↦ full_long d m number (leb-false (length m) 7 t) bits each
+]
+
+pub canonical_frames_are_full : CanonicalFramesAreFull
+unfolding canonical_frames
+canonical_frames_are_full limit d m bits each = elim (cases_Bool (nat_le 1 (length m) && nat_le (length m) limit)) [
+  | inl t ↦ (let fits = leb-true (length m) limit (and_parts (nat_le 1 (length m)) (nat_le (length m) limit) t).1 in
+      rw t (AllByRecursion-map-range IsFullFrame (canonical_frame d m) 0 (total_count (length m)) (λ number. full_frame d m number (omega arith) each)))
+  | inr t ↦ rw t tt
+]
+
+pub short_message_is_one_frame : ShortMessageIsOneFrame
+short_message_is_one_frame limit d m some short fits =
+    let one : nat_le (length m) 7 ≡ true = le-leb (length m) 7 short in
+    let count : total_count (length m) ≡ 1 = rw one refl in
+    record {
+      bytes = filled (single_control (length m)) m;
+      alone = frames_of limit d m some fits
+          ∙ ap (λ n. map (canonical_frame d m) (range_with_len 0 n)) count
+          ∙ ap (λ f. f ∷ []) (frame-single d m 0 short);
+      holds = λ id. (layout_is_read (classic id (filled (single_control (length m)) m)) (single m)).1 (layout-single id m some short);
+    }
