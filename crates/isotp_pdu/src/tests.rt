@@ -200,7 +200,7 @@ const VECTORS: [(&str, Kind, &[u8], Reading<'static>); 28] = [
 ];
 
 #[test]
-fn frames_read_as_written_down(rt: HostRuntime) {
+fn each_frame_has_the_layout_or_fault_of_its_row(rt: HostRuntime) {
     for (case, kind, data, expected) in VECTORS {
         assert_reads(&rt, case, kind, data, expected);
     }

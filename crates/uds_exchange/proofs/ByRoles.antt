@@ -29,14 +29,16 @@ only-roles past (x ∷ xs) (role ∷ roles) h =
 pub each-has-roles : (M : List Message) → (roles : List Role) × AreRoles [] M roles × ((others : List Role) → AreRoles [] M others → others ≡ roles)
 each-has-roles M = (roles_of [] M, are-roles [] M, only-roles [] M)
 
-those-cons : (x : Message) (xs : List Message) (role : Role) (roles : List Role) → those_removed (x ∷ []) (role ∷ []) ++ those_removed xs roles ≡ those_removed (x ∷ xs) (role ∷ roles)
+those-cons : (x : Message) (xs : List Message) (role : Role) (roles : List Role)
+    → those_removed (x ∷ []) (role ∷ []) ++ those_removed xs roles ≡ those_removed (x ∷ xs) (role ∷ roles)
 those-cons x xs as_request roles = refl
 those-cons x xs as_answer roles = refl
 those-cons x xs as_removed roles = refl
 those-cons x xs as_stray roles = refl
 
 pub by-roles : (past xs : List Message) (roles : List Role) → AreRoles past xs roles
-    → (flattened (meaning (past ++ xs)) ≡ arranged (flattened (meaning past)) xs roles) × (removed_messages (past ++ xs) ≡ removed_messages past ++ those_removed xs roles)
+    → (flattened (meaning (past ++ xs)) ≡ arranged (flattened (meaning past)) xs roles)
+    × (removed_messages (past ++ xs) ≡ removed_messages past ++ those_removed xs roles)
 by-roles past [] [] h = (ap (λ l. flattened (meaning l)) (append-nil past), ap removed_messages (append-nil past) ∙ sym (append-nil (removed_messages past)))
 by-roles past [] (role ∷ roles) h = absurd h
 by-roles past (x ∷ xs) [] h = absurd h

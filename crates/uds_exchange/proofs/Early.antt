@@ -4,6 +4,7 @@ use Rattle.std.specs.Prelude.{slice_set}
 use Rattle.std.proofs.lemmas.List.{append-nil}
 use Rattle.std.proofs.Math.Seq.{take-append_seam}
 use Rattle.std.proofs.lemmas.Bool.{cases_Bool}
+use Rattle.std.proofs.lemmas.Option.{same_Some, none-some}
 use Rattle.can_log.specs.Dir.{Message}
 use Rattle.can_log.specs.declared.frame.Dir.{Dir}
 use Rattle.can_log.specs.declared.frame.Dir.TheVariants.{Tester, Unit}
@@ -11,9 +12,8 @@ use Rattle.uds_exchange.specs.Meaning.{ItemValue, exchange, stray, is_tester_req
 use Rattle.uds_exchange.specs.Pairing.{one_later, waiting, joined_by, joined}
 use Rattle.uds_exchange.specs.Order.{has_exchange, held_in, held, early}
 use Rattle.uds_exchange.proofs.Waiting.{has-more, has-last, has-set, waiting-at, one_later-some}
-use Rattle.uds_exchange.proofs.Variants.{some_same, some_none}
 use Rattle.uds_exchange.proofs.Replies.{from-tester, from-unit}
-use Rattle.uds_exchange.proofs.Again.{flattened-push}
+use Rattle.uds_exchange.proofs.InOrder.{flattened-push}
 use Rattle.uds_exchange.proofs.OneMore.{meaning-append}
 
 -- the messages of the items before those that are held
@@ -38,7 +38,8 @@ plain (exchange r a ∷ its) h = cc
 plain (stray d m ∷ its) h = let rest = plain its h in (ap (λ l. (d, m) ∷ l) rest.0, rest.1)
 
 -- one more request
-pub early-request : (its : List ItemValue) (r : List ℕ) → (early_in (its ++ exchange r None ∷ []) ≡ flattened its ++ (Tester, r) ∷ []) × (held_in (its ++ exchange r None ∷ []) ≡ [])
+pub early-request : (its : List ItemValue) (r : List ℕ)
+    → (early_in (its ++ exchange r None ∷ []) ≡ flattened its ++ (Tester, r) ∷ []) × (held_in (its ++ exchange r None ∷ []) ≡ [])
 early-request [] r = (refl, refl)
 early-request (stray d m ∷ its) r = let rest = early-request its r in (ap (λ l. (d, m) ∷ l) rest.0, rest.1)
 early-request (exchange q (Some a) ∷ its) r = let rest = early-request its r in (ap (λ l. (Tester, q) ∷ (Unit, a) ∷ l) rest.0, rest.1)
@@ -49,14 +50,17 @@ one_later-none None h = refl
 one_later-none (Some w) h = cc
 
 -- one more stray where no request waits
-pub early-stray : (its : List ItemValue) (d : Dir) (m : List ℕ) → waiting its ≡ None → (early_in (its ++ stray d m ∷ []) ≡ flattened its ++ (d, m) ∷ []) × (held_in (its ++ stray d m ∷ []) ≡ [])
+pub early-stray : (its : List ItemValue) (d : Dir) (m : List ℕ) → waiting its ≡ None
+    → (early_in (its ++ stray d m ∷ []) ≡ flattened its ++ (d, m) ∷ []) × (held_in (its ++ stray d m ∷ []) ≡ [])
 early-stray [] d m h = (refl, refl)
 early-stray (stray e n ∷ its) d m h = let rest = early-stray its d m (one_later-none _ h) in (ap (λ l. (e, n) ∷ l) rest.0, rest.1)
 early-stray (exchange q (Some a) ∷ its) d m h = let rest = early-stray its d m (one_later-none _ h) in (ap (λ l. (Tester, q) ∷ (Unit, a) ∷ l) rest.0, rest.1)
 early-stray (exchange q None ∷ its) d m h =
     elim (cases_Bool (has_exchange its)) [
-      | inl e ↦ (let rest = early-stray its d m (one_later-none _ (rw e at h)) in rw (has-more its (stray d m) refl, e) (ap (λ l. (Tester, q) ∷ l) rest.0, rest.1))
-      | inr e ↦ absurd (some_none (rw e at h))
+      | inl e ↦
+          (let rest = early-stray its d m (one_later-none _ (rw e at h)) in
+          rw (has-more its (stray d m) refl, e) (ap (λ l. (Tester, q) ∷ l) rest.0, rest.1))
+      | inr e ↦ absurd (none-some _ (sym (rw e at h)))
     ]
 
 pub none-held : (its : List ItemValue) → waiting its ≡ None → held_in its ≡ []
@@ -66,14 +70,21 @@ none-held (exchange q (Some a) ∷ its) h = none-held its (one_later-none _ h)
 none-held (exchange q None ∷ its) h =
     elim (cases_Bool (has_exchange its)) [
       | inl e ↦ rw e (none-held its (one_later-none _ (rw e at h)))
-      | inr e ↦ absurd (some_none (rw e at h))
+      | inr e ↦ absurd (none-some _ (sym (rw e at h)))
     ]
 
 -- one more stray where a request waits
-pub early-kept : (its : List ItemValue) (w : ℕ × List ℕ) (d : Dir) (m : List ℕ) → waiting its ≡ Some w → (early_in (its ++ stray d m ∷ []) ≡ early_in its) × (held_in (its ++ stray d m ∷ []) ≡ held_in its ++ (d, m) ∷ [])
+pub early-kept : (its : List ItemValue) (w : ℕ × List ℕ) (d : Dir) (m : List ℕ) → waiting its ≡ Some w
+    → (early_in (its ++ stray d m ∷ []) ≡ early_in its) × (held_in (its ++ stray d m ∷ []) ≡ held_in its ++ (d, m) ∷ [])
 early-kept [] w d m h = cc
-early-kept (stray e n ∷ its) w d m h = let v = one_later-some (waiting its) w h in let rest = early-kept its v.0 d m v.1 in (ap (λ l. (e, n) ∷ l) rest.0, rest.1)
-early-kept (exchange q (Some a) ∷ its) w d m h = let v = one_later-some (waiting its) w h in let rest = early-kept its v.0 d m v.1 in (ap (λ l. (Tester, q) ∷ (Unit, a) ∷ l) rest.0, rest.1)
+early-kept (stray e n ∷ its) w d m h =
+    let v = one_later-some (waiting its) w h in
+    let rest = early-kept its v.0 d m v.1 in
+    (ap (λ l. (e, n) ∷ l) rest.0, rest.1)
+early-kept (exchange q (Some a) ∷ its) w d m h =
+    let v = one_later-some (waiting its) w h in
+    let rest = early-kept its v.0 d m v.1 in
+    (ap (λ l. (Tester, q) ∷ (Unit, a) ∷ l) rest.0, rest.1)
 early-kept (exchange q None ∷ its) w d m h =
     elim (cases_Bool (has_exchange its)) [
       | inl e ↦ (let v = one_later-some (waiting its) w (rw e at h) in let rest = early-kept its v.0 d m v.1 in
@@ -85,15 +96,21 @@ early-kept (exchange q None ∷ its) w d m h =
 pub early-answered : (its : List ItemValue) (w : ℕ × List ℕ) (a : List ℕ) → waiting its ≡ Some w
     → (early_in (slice_set its w.0 (exchange w.1 (Some a))) ≡ early_in its ++ (Unit, a) ∷ held_in its) × (held_in (slice_set its w.0 (exchange w.1 (Some a))) ≡ [])
 early-answered [] w a h = cc
-early-answered (stray e n ∷ its) w a h = let v = one_later-some (waiting its) w h in let rest = early-answered its v.0 a v.1 in rw v.2 (ap (λ l. (e, n) ∷ l) rest.0, rest.1)
-early-answered (exchange q (Some b) ∷ its) w a h = let v = one_later-some (waiting its) w h in let rest = early-answered its v.0 a v.1 in rw v.2 (ap (λ l. (Tester, q) ∷ (Unit, b) ∷ l) rest.0, rest.1)
+early-answered (stray e n ∷ its) w a h =
+    let v = one_later-some (waiting its) w h in
+    let rest = early-answered its v.0 a v.1 in
+    rw v.2 (ap (λ l. (e, n) ∷ l) rest.0, rest.1)
+early-answered (exchange q (Some b) ∷ its) w a h =
+    let v = one_later-some (waiting its) w h in
+    let rest = early-answered its v.0 a v.1 in
+    rw v.2 (ap (λ l. (Tester, q) ∷ (Unit, b) ∷ l) rest.0, rest.1)
 early-answered (exchange q None ∷ its) w a h =
     elim (cases_Bool (has_exchange its)) [
       | inl e ↦ (let v = one_later-some (waiting its) w (rw e at h) in
           let more = has-set its v.0.0 v.0.1 None (Some a) (waiting-at its v.0 v.1) ∙ e in
           let rest = early-answered its v.0 a v.1 in
           rw (v.2, more, e) (ap (λ l. (Tester, q) ∷ l) rest.0, rest.1))
-      | inr e ↦ (let same : (0, q) ≡ w = some_same (rw e at h) in
+      | inr e ↦ (let same : (0, q) ≡ w = same_Some _ _ (rw e at h) in
           let alone = plain its e in
           rw (← same, e) (ap (λ l. (Tester, q) ∷ (Unit, a) ∷ l) alone.0, alone.1))
     ]
@@ -109,7 +126,8 @@ due_in its x = cond (is_tester_request x) (held_in its ++ x ∷ []) (due_by (wai
 whole-early : (its : List ItemValue) → waiting its ≡ None → early_in its ≡ flattened its
 whole-early its h = sym (append-nil (early_in its)) ∙ ap (λ l. early_in its ++ l) (sym (none-held its h)) ∙ early-held its
 
-early-joins : (its : List ItemValue) (x : Message) (w : Option (ℕ × List ℕ)) → is_tester_request x ≡ false → waiting its ≡ w → early_in (joined_by w its x) ≡ early_in its ++ due_by w (held_in its) x
+early-joins : (its : List ItemValue) (x : Message) (w : Option (ℕ × List ℕ)) → is_tester_request x ≡ false → waiting its ≡ w
+    → early_in (joined_by w its x) ≡ early_in its ++ due_by w (held_in its) x
 early-joins its x None r h = (early-stray its x.0 x.1 h).0 ∙ ap (λ l. l ++ x ∷ []) (sym (whole-early its h))
 early-joins its x (Some w) r h =
     elim (cases_Bool (is_answer_to w.1 x)) [
@@ -123,7 +141,11 @@ early-joins its x (Some w) r h =
 pub early-join : (its : List ItemValue) (x : Message) → early_in (joined its x) ≡ early_in its ++ due_in its x
 early-join its x =
     elim (cases_Bool (is_tester_request x)) [
-      | inl e ↦ rw e ((early-request its x.1).0 ∙ ap (λ y. flattened its ++ y ∷ []) (from-tester x e) ∙ ap (λ l. l ++ x ∷ []) (sym (early-held its)) ∙ append_assoc (early_in its) _ _)
+      | inl e ↦ rw e (
+          (early-request its x.1).0
+          ∙ ap (λ y. flattened its ++ y ∷ []) (from-tester x e)
+          ∙ ap (λ l. l ++ x ∷ []) (sym (early-held its))
+          ∙ append_assoc (early_in its) _ _)
       | inr e ↦ rw e (early-joins its x (waiting its) e refl)
     ]
 
@@ -138,7 +160,11 @@ early-is M =
 
 -- what is early in a longer list
 pub early-append : (M : List Message) (x : Message) → early (M ++ x ∷ []) ≡ early M ++ due_in (meaning M) x
-early-append M x = early-is (M ++ x ∷ []) ∙ ap early_in (meaning-append M x) ∙ early-join (meaning M) x ∙ ap (λ l. l ++ due_in (meaning M) x) (sym (early-is M))
+early-append M x =
+    early-is (M ++ x ∷ [])
+    ∙ ap early_in (meaning-append M x)
+    ∙ early-join (meaning M) x
+    ∙ ap (λ l. l ++ due_in (meaning M) x) (sym (early-is M))
 
 pub early-then-held : (M : List Message) → early M ++ held M ≡ flattened (meaning M)
 early-then-held M = ap (λ l. l ++ held M) (early-is M) ∙ early-held (meaning M)
@@ -147,5 +173,10 @@ early-then-held M = ap (λ l. l ++ held M) (early-is M) ∙ early-held (meaning 
 pub early-front : (M N : List Message) → (rest : List Message) × (flattened (meaning (M ++ N)) ≡ early M ++ rest)
 early-front M [] = (held M, rw append-nil (sym (early-then-held M)))
 early-front M (x ∷ N) =
-    let more = early-front (M ++ x ∷ []) N in
-    (due_in (meaning M) x ++ more.0, ap (λ l. flattened (meaning l)) (sym (append_assoc M (x ∷ []) N)) ∙ more.1 ∙ ap (λ l. l ++ more.0) (early-append M x) ∙ append_assoc (early M) _ _)
+    let more = early-front (M ++ x ∷ []) N in (
+      due_in (meaning M) x ++ more.0,
+      ap (λ l. flattened (meaning l)) (sym (append_assoc M (x ∷ []) N))
+          ∙ more.1
+          ∙ ap (λ l. l ++ more.0) (early-append M x)
+          ∙ append_assoc (early M) _ _,
+    )

@@ -1,8 +1,8 @@
 -- What the code keeps of a meaning, and what it makes of one more message.
 use Rattle.std.proofs.Common.{◌≡◌, ℕ, ◌<◌, not, ◌&&◌, List, [], ◌∷◌, ◌++◌, length, get_or, Option, Some, None, refl, sym, ◌∙◌, ap, arith, inl, inr, option_map}
 use Rattle.std.specs.Prelude.{slice_get, slice_set}
-use Rattle.std.proofs.lemmas.Option.{slice_get_read, slice_get_within, slice_get-map}
-use Rattle.std.proofs.lemmas.List.{map-append}
+use Rattle.std.proofs.lemmas.Option.{slice_get_read, slice_get_within, slice_get-map, same_Some, none-some}
+use Rattle.std.proofs.lemmas.List.{map-append, length-map}
 use Rattle.std.proofs.lemmas.Bool.{cases_Bool}
 use Rattle.can_log.specs.Dir.{Message}
 use Rattle.uds_message.specs.Message.{sid, is_final_for, is_pending_for}
@@ -12,21 +12,21 @@ use Rattle.uds_exchange.specs.declared.roles.Role.TheVariants as role
 use Rattle.uds_exchange.specs.Meaning.{ItemValue, exchange, stray_of, is_from_tester, is_tester_request, is_answer_to, is_pending_reply_to}
 use Rattle.uds_exchange.specs.ItemSeen.{item_value, item_values}
 use Rattle.uds_exchange.specs.Pairing.{waiting, waiting_sid, IsOpenAt, role_if_open, role_at, joined_by, joined}
-use Rattle.uds_exchange.proofs.Variants.{some_same, some_none}
 use Rattle.uds_exchange.proofs.Waiting.{sid_of, waiting-stray, waiting-request, waiting-at, waiting-answered}
 
-pub item-at : (xs : List Item) (i : ℕ) (x : Item) → x ≡ get_or xs i x → i < length xs → slice_get (item_values xs) i ≡ Some (item_value x)
+pub item-at : (xs : List Item) (i : ℕ) (x : Item) → x ≡ get_or xs i x → i < length xs
+    → slice_get (item_values xs) i ≡ Some (item_value x)
 item-at xs i x e h = slice_get-map item_value xs i ∙ ap (option_map item_value) (slice_get_read xs (length xs) i x refl h e)
 
-pub value-at : (xs : List Item) (i : ℕ) (x : Item) (y : ItemValue) → x ≡ get_or xs i x → i < length xs → slice_get (item_values xs) i ≡ Some y → item_value x ≡ y
-value-at xs i x y e h g = some_same (sym (item-at xs i x e h) ∙ g)
+pub value-at : (xs : List Item) (i : ℕ) (x : Item) (y : ItemValue) → x ≡ get_or xs i x → i < length xs → slice_get (item_values xs) i ≡ Some y
+    → item_value x ≡ y
+value-at xs i x y e h g = same_Some _ _ (sym (item-at xs i x e h) ∙ g)
 
 pub item_values-push : (xs ys : List Item) (y : Item) → ys ≡ xs ++ y ∷ [] → item_values ys ≡ item_values xs ++ item_value y ∷ []
 item_values-push xs ys y h = ap item_values h ∙ map-append item_value xs (y ∷ [])
 
 pub length-item_values : (xs : List Item) → length (item_values xs) ≡ length xs
-length-item_values [] = omega arith
-length-item_values (x ∷ xs) = omega (arith, length-item_values xs)
+length-item_values xs = length-map xs item_value
 
 -- the items after a message that has this role
 pub after : Role → List ItemValue → Option (ℕ × List ℕ) → Message → List ItemValue
@@ -72,7 +72,11 @@ answer-waits None x h =
 
 module _ (its now : List ItemValue) (is : its ≡ now) (open_sid : Option ℕ) (last : ℕ) (kept : IsOpenAt its open_sid last) (x : Message) where
   joins : (r : Role) → r ≡ role_at open_sid x → joined now x ≡ after r its (waiting its) x
-  joins r h = ap (λ l. joined l x) (sym is) ∙ joined-role its x ∙ ap (λ o. after (role_at o x) its (waiting its) x) kept.first_byte ∙ ap (λ r. after r its (waiting its) x) (sym h)
+  joins r h =
+      ap (λ l. joined l x) (sym is)
+      ∙ joined-role its x
+      ∙ ap (λ o. after (role_at o x) its (waiting its) x) kept.first_byte
+      ∙ ap (λ r. after r its (waiting its) x) (sym h)
 
   pub joins-request : (s : ℕ) → role.Request s ≡ role_at open_sid x → its ++ exchange x.1 None ∷ [] ≡ joined now x
   unfolding after
@@ -85,10 +89,6 @@ module _ (its now : List ItemValue) (is : its ≡ now) (open_sid : Option ℕ) (
         | inl e ↦ (let same : role.Request s ≡ role.Request (sid x.1) = rw e at h in cc)
         | inr e ↦ absurd (not-request s open_sid x (rw e at h))
       ]
-
-  pub joins-removed : role.Removed ≡ role_at open_sid x → its ≡ joined now x
-  unfolding after
-  joins-removed h = sym (joins role.Removed h)
 
   pub joins-stray : role.Stray ≡ role_at open_sid x → its ++ stray_of x ∷ [] ≡ joined now x
   unfolding after
@@ -113,23 +113,27 @@ module _ (its now : List ItemValue) (is : its ≡ now) (open_sid : Option ℕ) (
   unfolding after answered-at
   joins-answer h =
       let w = answered-at h in
-      ap (λ i. slice_set its i (exchange w.0.1 (Some x.1))) (sym (kept.place w.0 w.1)) ∙ sym (joins role.Answer h ∙ ap (λ o. after role.Answer its o x) w.1)
+      ap (λ i. slice_set its i (exchange w.0.1 (Some x.1))) (sym (kept.place w.0 w.1))
+      ∙ sym (joins role.Answer h ∙ ap (λ o. after role.Answer its o x) w.1)
 
 -- what is kept of the longer list
-pub kept-request : (its : List ItemValue) (request : List ℕ) (last : ℕ) → last ≡ length its → IsOpenAt (its ++ exchange request None ∷ []) (Some (sid request)) last
+pub kept-request : (its : List ItemValue) (request : List ℕ) (last : ℕ) → last ≡ length its
+    → IsOpenAt (its ++ exchange request None ∷ []) (Some (sid request)) last
 kept-request its request last h = record {
   first_byte = ap sid_of (waiting-request its request);
-  place = λ w e. ap (λ v. v.0) (some_same (sym e ∙ waiting-request its request)) ∙ sym h;
+  place = λ w e. ap (λ v. v.0) (same_Some _ _ (sym e ∙ waiting-request its request)) ∙ sym h;
 }
 
-pub kept-stray : (its : List ItemValue) (open_sid : Option ℕ) (last : ℕ) (x : Message) → IsOpenAt its open_sid last → IsOpenAt (its ++ stray_of x ∷ []) open_sid last
+pub kept-stray : (its : List ItemValue) (open_sid : Option ℕ) (last : ℕ) (x : Message) → IsOpenAt its open_sid last
+    → IsOpenAt (its ++ stray_of x ∷ []) open_sid last
 kept-stray its open_sid last x k = record {
   first_byte = ap sid_of (waiting-stray its x.0 x.1) ∙ k.first_byte;
   place = λ w e. k.place w (sym (waiting-stray its x.0 x.1) ∙ e);
 }
 
-pub kept-answer : (its : List ItemValue) (w : ℕ × List ℕ) (last : ℕ) (reply : List ℕ) → waiting its ≡ Some w → IsOpenAt (slice_set its w.0 (exchange w.1 (Some reply))) None last
+pub kept-answer : (its : List ItemValue) (w : ℕ × List ℕ) (last : ℕ) (reply : List ℕ) → waiting its ≡ Some w
+    → IsOpenAt (slice_set its w.0 (exchange w.1 (Some reply))) None last
 kept-answer its w last reply h = record {
   first_byte = ap sid_of (waiting-answered its w reply h);
-  place = λ v e. absurd (some_none (sym e ∙ waiting-answered its w reply h));
+  place = λ v e. absurd (none-some _ (sym (waiting-answered its w reply h) ∙ e));
 }

@@ -1,10 +1,13 @@
 pub mod Bools
 pub mod Variants
 pub mod Differences
+pub mod Extents
 pub mod Replies
 pub mod Waiting
 pub mod OneMore
 pub mod Kept
+pub mod Parts
+pub mod InOrder
 pub mod Again
 pub mod Counts
 pub mod OpenRequests
@@ -15,7 +18,6 @@ pub mod MadeUp
 pub mod ByRoles
 pub mod Early
 pub mod MustWait
-pub mod Extents
 pub mod Putting
 pub mod NextStep
 pub mod Promises

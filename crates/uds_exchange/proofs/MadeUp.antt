@@ -11,7 +11,8 @@ use Rattle.uds_exchange.proofs.RolesFound.{role_behind}
 use Rattle.uds_exchange.proofs.Placed.{flattened-meaning-append}
 
 module _ (passes : Message → Bool) where
-  all-behind : (out : List Message) (x : Message) → list_all passes out ≡ true → passes x ≡ true → list_all passes (behind_last_request out x) ≡ true
+  all-behind : (out : List Message) (x : Message) → list_all passes out ≡ true → passes x ≡ true
+      → list_all passes (behind_last_request out x) ≡ true
   all-behind [] x h e = rw e refl
   all-behind (y ∷ ys) x h e =
       let parts = and_parts (passes y) (list_all passes ys) h in
@@ -23,15 +24,17 @@ module _ (passes : Message → Bool) where
         ]
       ]
 
-  all-placed : (role : Role) (out : List Message) (x : Message) → list_all passes out ≡ true → passes x ≡ true → list_all passes (placed role out x) ≡ true
+  all-placed : (role : Role) (out : List Message) (x : Message) → list_all passes out ≡ true → passes x ≡ true
+      → list_all passes (placed role out x) ≡ true
   all-placed as_request out x h e = all-append passes out x h e
   all-placed as_stray out x h e = all-append passes out x h e
   all-placed as_answer out x h e = all-behind out x h e
   all-placed as_removed out x h e = h
 
-  pub all-over : (past xs : List Message) → list_all passes (flattened (meaning past)) ≡ true → list_all passes xs ≡ true → list_all passes (flattened (meaning (past ++ xs))) ≡ true
+  pub all-over : (past xs : List Message) → list_all passes (flattened (meaning past)) ≡ true → list_all passes xs ≡ true
+      → list_all passes (flattened (meaning (past ++ xs))) ≡ true
   all-over past [] h e = rw append-nil h
   all-over past (x ∷ xs) h e =
       let parts = and_parts (passes x) (list_all passes xs) e in
-      rw (← append_assoc past (x ∷ []) xs)
-      (all-over (past ++ x ∷ []) xs (rw flattened-meaning-append (all-placed (role_behind past x) (flattened (meaning past)) x h parts.0)) parts.1)
+      let one = all-placed (role_behind past x) (flattened (meaning past)) x h parts.0 in
+      rw (← append_assoc past (x ∷ []) xs) (all-over (past ++ x ∷ []) xs (rw flattened-meaning-append one) parts.1)

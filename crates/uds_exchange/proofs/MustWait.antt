@@ -5,6 +5,7 @@ use Rattle.std.specs.List.{list_any}
 use Rattle.std.proofs.lemmas.List.{append-nil}
 use Rattle.std.proofs.lemmas.Bool.{cases_Bool, false≢true, eq-eqb}
 use Rattle.std.proofs.Math.Bool.{or-true}
+use Rattle.std.proofs.lemmas.Option.{same_Some, none-some}
 use Rattle.can_log.specs.Dir.{Message}
 use Rattle.uds_message.specs.Message.{is_request, is_response_sid}
 use Rattle.uds_exchange.specs.Meaning.{ItemValue, exchange, stray, is_tester_request, is_answer_to, is_pending_reply_to, meaning, flattened, removed_messages}
@@ -14,7 +15,6 @@ use Rattle.uds_exchange.specs.Pairing.{waiting, joined_by, joined}
 use Rattle.uds_exchange.proofs.Counts.{none-lost}
 use Rattle.uds_exchange.proofs.Waiting.{request_of, same-request, waiting-stray, waiting-answered}
 use Rattle.uds_exchange.proofs.Bools.{any-append, any-first}
-use Rattle.uds_exchange.proofs.Variants.{some_same, some_none}
 use Rattle.uds_exchange.proofs.OneMore.{meaning-append}
 use Rattle.uds_exchange.proofs.OpenRequests.{opens, waits-open}
 use Rattle.uds_exchange.proofs.Early.{early_in, early-held, early-is, early-then-held, early-request, early-kept, early-answered, none-held}
@@ -30,11 +30,13 @@ open-request-waits (exchange q None ∷ its) =
 
 waits-by : (o : Option (ℕ × List ℕ)) (r : List ℕ) → request_of o ≡ Some r → (w : ℕ × List ℕ) × (o ≡ Some w) × (w.1 ≡ r)
 waits-by None r h = cc
-waits-by (Some w) r h = (w, refl, some_same h)
+waits-by (Some w) r h = (w, refl, same_Some _ _ h)
 
 pub open-request-behind : (M : List Message) (r : List ℕ) → (open_request M ≡ Some r) ↔ IsOpenBehind M r
 open-request-behind M r = (
-  λ h. let w = waits-by (waiting (meaning M)) r (sym (open-request-waits (meaning M)) ∙ h) in subst (IsOpenBehind M) w.2 (opens M w.0 w.1),
+  λ h.
+      let w = waits-by (waiting (meaning M)) r (sym (open-request-waits (meaning M)) ∙ h) in
+      subst (IsOpenBehind M) w.2 (opens M w.0 w.1),
   λ o. open-request-waits (meaning M) ∙ ap request_of (waits-open M r o).1,
 )
 
@@ -43,21 +45,22 @@ nothing-held [] h = refl
 nothing-held (stray d m ∷ its) h = nothing-held its h
 nothing-held (exchange q (Some b) ∷ its) h = nothing-held its h
 nothing-held (exchange q None ∷ its) h =
-    elim (cases_Bool (has_exchange its)) [ inl e ↦ rw e (nothing-held its (rw e at h)) | inr e ↦ absurd (some_none (rw e at h)) ]
+    elim (cases_Bool (has_exchange its)) [ inl e ↦ rw e (nothing-held its (rw e at h)) | inr e ↦ absurd (none-some _ (sym (rw e at h))) ]
 
 -- no message that is held answers the request that waits
 abbrev NoAnswerHeld : List ItemValue → Type 0
 NoAnswerHeld its = (w : ℕ × List ℕ) → waiting its ≡ Some w → list_any (is_answer_to w.1) (held_in its) ≡ false
 
-no-answer-joins : (its : List ItemValue) (x : Message) (o : Option (ℕ × List ℕ)) → NoAnswerHeld its → waiting its ≡ o → NoAnswerHeld (joined_by o its x)
-no-answer-joins its x None s h = λ w k. absurd (some_none (sym k ∙ waiting-stray its x.0 x.1 ∙ h))
+no-answer-joins : (its : List ItemValue) (x : Message) (o : Option (ℕ × List ℕ)) → NoAnswerHeld its → waiting its ≡ o
+    → NoAnswerHeld (joined_by o its x)
+no-answer-joins its x None s h = λ w k. absurd (none-some _ (sym h ∙ sym (waiting-stray its x.0 x.1) ∙ k))
 no-answer-joins its x (Some v) s h =
     elim (cases_Bool (is_answer_to v.1 x)) [
-      | inl e ↦ rw e (λ w k. absurd (some_none (sym k ∙ waiting-answered its v x.1 h)))
+      | inl e ↦ rw e (λ w k. absurd (none-some _ (sym (waiting-answered its v x.1 h) ∙ k)))
       | inr e ↦ elim (cases_Bool (is_pending_reply_to v.1 x)) [
         | inl q ↦ rw (e, q) s
         | inr q ↦ rw (e, q) (λ w k.
-            let same : v ≡ w = some_same (sym h ∙ sym (waiting-stray its x.0 x.1) ∙ k) in
+            let same : v ≡ w = same_Some _ _ (sym h ∙ sym (waiting-stray its x.0 x.1) ∙ k) in
             rw (← same, (early-kept its v x.0 x.1 h).1) (any-append (is_answer_to v.1) (held_in its) x (s v h) e))
       ]
     ]
@@ -88,10 +91,14 @@ rejects (s ∷ bytes) h =
     ]
 
 -- an answer goes before what is held
-answered : (its : List ItemValue) (w : ℕ × List ℕ) → waiting its ≡ Some w → (x : Message) → is_tester_request x ≡ false → is_answer_to w.1 x ≡ true → flattened (joined its x) ≡ early_in its ++ x ∷ held_in its
+answered : (its : List ItemValue) (w : ℕ × List ℕ) → waiting its ≡ Some w
+    → (x : Message) → is_tester_request x ≡ false → is_answer_to w.1 x ≡ true
+    → flattened (joined its x) ≡ early_in its ++ x ∷ held_in its
 answered its w h x r e =
     let set = early-answered its w x.1 h in
-    rw (r, h, e) (sym (early-held (slice_set its w.0 (exchange w.1 (Some x.1)))) ∙ rw (set.0, set.1) (append-nil _ ∙ ap (λ y. early_in its ++ y ∷ held_in its) (from-unit w.1 x e)))
+    rw (r, h, e) (
+    sym (early-held (slice_set its w.0 (exchange w.1 (Some x.1))))
+    ∙ rw (set.0, set.1) (append-nil _ ∙ ap (λ y. early_in its ++ y ∷ held_in its) (from-unit w.1 x e)))
 
 pub answer-first : (M : List Message) (x : Message) (more : List Message) → held M ≡ x ∷ more
     → (r : List ℕ) × IsOpenBehind M r × (flattened (meaning (M ++ rejection_of r ∷ [])) ≡ early M ++ rejection_of r ∷ held M) × (x ≢ rejection_of r)
@@ -105,7 +112,9 @@ answer-first M x more h = answer-first-by (waiting (meaning M)) refl where
       let none : list_any (is_answer_to w.1) (x ∷ more) ≡ false = ap (list_any (is_answer_to w.1)) (sym h) ∙ no-answer-held M w k in (
         w.1,
         o,
-        ap flattened (meaning-append M (rejection_of w.1)) ∙ answered (meaning M) w k (rejection_of w.1) refl yes ∙ ap (λ l. l ++ rejection_of w.1 ∷ held M) (sym (early-is M)),
+        ap flattened (meaning-append M (rejection_of w.1))
+            ∙ answered (meaning M) w k (rejection_of w.1) refl yes
+            ∙ ap (λ l. l ++ rejection_of w.1 ∷ held M) (sym (early-is M)),
         λ e. false≢true (sym none ∙ any-first (is_answer_to w.1) x more (ap (is_answer_to w.1) e ∙ yes)),
       )
 

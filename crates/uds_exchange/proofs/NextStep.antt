@@ -29,7 +29,8 @@ stands-is M =
     ap (λ (o : Option ℕ). let s : Standing = record { failed = false; open_sid = o; holds = held M } in s)
     (ap (option_map sid) (open-request-waits (meaning M)) ∙ sid-of-request (waiting (meaning M)))
 
-due-by-same : (w : Option (ℕ × List ℕ)) (xs : List Message) (x : Message) → is_tester_request x ≡ false → due_for (role_at (sid_of w) x) (sid_of w) xs x ≡ due_by w xs x
+due-by-same : (w : Option (ℕ × List ℕ)) (xs : List Message) (x : Message) → is_tester_request x ≡ false
+    → due_for (role_at (sid_of w) x) (sid_of w) xs x ≡ due_by w xs x
 due-by-same None xs x r = rw r refl
 due-by-same (Some w) xs x r =
     elim (cases_Bool (is_answer_to w.1 x)) [
@@ -63,7 +64,10 @@ next-same its x =
 -- what an orderer does leads to where it stands after the longer list
 pub stands-next : (M : List Message) (x : Message) → next (stands_after M) x ≡ stands_after (M ++ x ∷ [])
 stands-next M x =
-    ap (λ o. next o x) (stands-is M) ∙ sym (next-same (meaning M) x) ∙ ap standing (sym (meaning-append M x)) ∙ sym (stands-is (M ++ x ∷ []))
+    ap (λ o. next o x) (stands-is M)
+    ∙ sym (next-same (meaning M) x)
+    ∙ ap standing (sym (meaning-append M x))
+    ∙ sym (stands-is (M ++ x ∷ []))
 
 pub early-due : (M : List Message) (x : Message) → early (M ++ x ∷ []) ≡ early M ++ due (stands_after M) x
 early-due M x = early-append M x ∙ ap (λ l. early M ++ l) (sym (due-same (meaning M) x) ∙ ap (λ o. due o x) (sym (stands-is M)))
@@ -75,11 +79,15 @@ module _ {S E : Type 0} (after_ok : AfterOk S) (after_err : AfterErr S E) where
   pub puts-due : (M : List Message) (x : Message) (o : Standing) (s t : S) → o ≡ stands_after M → Puts after_ok s (due o x) t → PutsDue after_ok M x s t
   puts-due M x o s t is h = (due o x, due-from M x o is, h)
 
-  pub puts-go-on : (s t u : S) (M : List Message) (x : Message) → Puts after_ok s (early M) t → PutsDue after_ok M x t u → Puts after_ok s (early (M ++ x ∷ [])) u
-  puts-go-on s t u M x h d = subst (λ (l : List Message). Puts after_ok s l u) (sym d.1) (puts-append after_ok after_err s t u (early M) d.0 h d.2)
+  pub puts-go-on : (s t u : S) (M : List Message) (x : Message) → Puts after_ok s (early M) t → PutsDue after_ok M x t u
+      → Puts after_ok s (early (M ++ x ∷ [])) u
+  puts-go-on s t u M x h d =
+      subst (λ (l : List Message). Puts after_ok s l u) (sym d.1) (puts-append after_ok after_err s t u (early M) d.0 h d.2)
 
-  pub puts-end : (s t u : S) (M : List Message) → Puts after_ok s (early M) t → Puts after_ok t (held M) u → Puts after_ok s (flattened (meaning M)) u
-  puts-end s t u M h d = subst (λ (l : List Message). Puts after_ok s l u) (early-then-held M) (puts-append after_ok after_err s t u (early M) (held M) h d)
+  pub puts-end : (s t u : S) (M : List Message) → Puts after_ok s (early M) t → Puts after_ok t (held M) u
+      → Puts after_ok s (flattened (meaning M)) u
+  puts-end s t u M h d =
+      subst (λ (l : List Message). Puts after_ok s l u) (early-then-held M) (puts-append after_ok after_err s t u (early M) (held M) h d)
 
   pub stops-due : (M : List Message) (x : Message) (o p : Standing) (s t : S) (f : OrderFault E) → o ≡ stands_after M
       → Stops after_ok after_err (due o x) o s p t f → StopsDue after_ok after_err M x s t f

@@ -4,7 +4,8 @@ use Rattle.std.specs.List.{flat_map}
 use Rattle.std.proofs.lemmas.List.{append-nil, map-append}
 use Rattle.std.proofs.lemmas.Bool.{cond_both, cases_Bool}
 use Rattle.can_log.specs.Dir.{Message}
-use Rattle.uds_exchange.specs.Meaning.{is_tester_request, is_answer_to, is_pending_reply_to, before_requests, Part, part, parts, answer, strays_in, ItemValue, exchange, stray, stray_of, items_of, meaning}
+use Rattle.uds_exchange.specs.Meaning.{is_tester_request, is_answer_to, is_pending_reply_to, before_requests, Part, part, parts, answer, strays_in}
+use Rattle.uds_exchange.specs.Meaning.{ItemValue, exchange, stray, stray_of, items_of, meaning}
 use Rattle.uds_exchange.specs.Order.{has_exchange}
 use Rattle.uds_exchange.specs.Pairing.{one_later, waiting, joined_by, joined}
 
@@ -19,7 +20,8 @@ fronted b [] x = cond (is_tester_request x) b (b ++ x ∷ [])
 fronted b (p ∷ ps) x = b
 
 fronted-cons : (y : Message) (b : List Message) (ps : List Part) (x : Message) → y ∷ fronted b ps x ≡ fronted (y ∷ b) ps x
-fronted-cons y b [] x = cond_both (is_tester_request x) b (b ++ x ∷ []) (λ l. y ∷ l ≡ fronted (y ∷ b) [] x) (λ e. rw e refl) (λ e. rw e refl)
+fronted-cons y b [] x =
+    cond_both (is_tester_request x) b (b ++ x ∷ []) (λ l. y ∷ l ≡ fronted (y ∷ b) [] x) (λ e. rw e refl) (λ e. rw e refl)
 fronted-cons y b (p ∷ ps) x = refl
 
 grown-cons : (r : List ℕ) (b : List Message) (ps : List Part) (x : Message) → part r (fronted b ps x) ∷ grown ps x ≡ grown (part r b ∷ ps) x
@@ -27,7 +29,8 @@ grown-cons r b [] x = elim (cases_Bool (is_tester_request x)) [ inl e ↦ rw e r
 grown-cons r b (p ∷ ps) x = refl
 
 -- the cut of a list into parts, with one more message
-pub grows : (M : List Message) (x : Message) → (before_requests (M ++ x ∷ []) ≡ fronted (before_requests M) (parts M) x) × (parts (M ++ x ∷ []) ≡ grown (parts M) x)
+pub grows : (M : List Message) (x : Message)
+    → (before_requests (M ++ x ∷ []) ≡ fronted (before_requests M) (parts M) x) × (parts (M ++ x ∷ []) ≡ grown (parts M) x)
 grows [] x = (refl, refl)
 grows (y ∷ ys) x =
     let rest = grows ys x in
@@ -46,7 +49,8 @@ waiting-cons (stray d m) its h = refl
 waiting-cons (exchange r (Some b)) its h = refl
 waiting-cons (exchange r None) its h = rw h refl
 
-joined_by-cons : (a : ItemValue) (o : Option (ℕ × List ℕ)) (its : List ItemValue) (x : Message) → joined_by (one_later o) (a ∷ its) x ≡ a ∷ joined_by o its x
+joined_by-cons : (a : ItemValue) (o : Option (ℕ × List ℕ)) (its : List ItemValue) (x : Message)
+    → joined_by (one_later o) (a ∷ its) x ≡ a ∷ joined_by o its x
 joined_by-cons a None its x = refl
 joined_by-cons a (Some w) its x =
     elim (cases_Bool (is_answer_to w.1 x)) [
@@ -127,10 +131,13 @@ one-part p = append-nil (items_of p)
 parts-join : (p : Part) (ps : List Part) (x : Message) → flat_map items_of (grown (p ∷ ps) x) ≡ joined (flat_map items_of (p ∷ ps)) x
 parts-join p [] x =
     elim (cases_Bool (is_tester_request x)) [
-      | inl e ↦ rw e (ap (λ l. exchange p.request (answer p.request p.behind) ∷ (l ++ exchange x.1 None ∷ [])) (sym (append-nil (map stray_of (strays_in p.request p.behind)))))
+      | inl e ↦ rw e
+          (ap (λ l. exchange p.request (answer p.request p.behind) ∷ (l ++ exchange x.1 None ∷ []))
+          (sym (append-nil (map stray_of (strays_in p.request p.behind)))))
       | inr e ↦
           (let grows_by : items_of (part p.request (p.behind ++ x ∷ [])) ≡ joined (items_of p) x =
-          rw (answer-append p.request p.behind x, strays_in-append p.request p.behind x) (part-grows p.request (answer p.request p.behind) (strays_in p.request p.behind) x e) in
+          rw (answer-append p.request p.behind x, strays_in-append p.request p.behind x)
+          (part-grows p.request (answer p.request p.behind) (strays_in p.request p.behind) x e) in
           ap (λ b. flat_map items_of (cond b (p ∷ part x.1 [] ∷ []) (part p.request (p.behind ++ x ∷ []) ∷ []))) e
           ∙ one-part (part p.request (p.behind ++ x ∷ [])) ∙ grows_by ∙ ap (λ l. joined l x) (sym (one-part p)))
     ]

@@ -3,26 +3,28 @@ use Rattle.std.proofs.Common.{◌≡◌, ℕ, true, false, List, [], ◌∷◌, 
 use Rattle.std.specs.List.{list_any}
 use Rattle.std.proofs.lemmas.List.{append-nil}
 use Rattle.std.proofs.lemmas.Bool.{or_parts, cases_Bool}
+use Rattle.std.proofs.lemmas.Option.{same_Some, none-some}
 use Rattle.can_log.specs.Dir.{Message}
 use Rattle.can_log.specs.declared.frame.Dir.TheVariants.{Tester}
 use Rattle.uds_exchange.specs.Meaning.{ItemValue, is_tester_request, is_answer_to, is_pending_reply_to, meaning}
 use Rattle.uds_exchange.specs.Roles.{IsOpenBehind}
 use Rattle.uds_exchange.specs.Pairing.{waiting, joined_by, joined}
 use Rattle.uds_exchange.proofs.Bools.{any-append}
-use Rattle.uds_exchange.proofs.Variants.{some_same, some_none}
 use Rattle.uds_exchange.proofs.Waiting.{waiting-stray, waiting-request, waiting-answered}
 use Rattle.uds_exchange.proofs.OneMore.{meaning-append}
 use Rattle.uds_exchange.proofs.Replies.{from-tester, request-bytes}
 
 -- the exchange that waits still does behind a message that is neither request nor answer
-still-waits : (its : List ItemValue) (w : ℕ × List ℕ) (x : Message) → waiting its ≡ Some w → is_tester_request x ≡ false → is_answer_to w.1 x ≡ false → waiting (joined its x) ≡ Some w
+still-waits : (its : List ItemValue) (w : ℕ × List ℕ) (x : Message)
+    → waiting its ≡ Some w → is_tester_request x ≡ false → is_answer_to w.1 x ≡ false → waiting (joined its x) ≡ Some w
 still-waits its w x h r a =
     elim (cases_Bool (is_pending_reply_to w.1 x)) [
       | inl q ↦ rw (r, h, a, q) h
       | inr q ↦ rw (r, h, a, q) (waiting-stray its x.0 x.1 ∙ h)
     ]
 
-waits-over : (past since : List Message) (w : ℕ × List ℕ) → waiting (meaning past) ≡ Some w → list_any is_tester_request since ≡ false → list_any (is_answer_to w.1) since ≡ false → waiting (meaning (past ++ since)) ≡ Some w
+waits-over : (past since : List Message) (w : ℕ × List ℕ) → waiting (meaning past) ≡ Some w
+    → list_any is_tester_request since ≡ false → list_any (is_answer_to w.1) since ≡ false → waiting (meaning (past ++ since)) ≡ Some w
 waits-over past [] w h r a = rw append-nil h
 waits-over past (x ∷ xs) w h r a =
     let r' = or_parts (is_tester_request x) (list_any is_tester_request xs) r in
@@ -33,15 +35,19 @@ waits-over past (x ∷ xs) w h r a =
 -- the exchange of the open request waits
 pub waits-open : (past : List Message) (r : List ℕ) → IsOpenBehind past r → (k : ℕ) × (waiting (meaning past) ≡ Some (k, r))
 waits-open past r o =
-    let first : waiting (joined (meaning o.earlier) (Tester, r)) ≡ Some (length (meaning o.earlier), r) = rw o.is_one (waiting-request (meaning o.earlier) r) in
-    let whole = waits-over (o.earlier ++ (Tester, r) ∷ []) o.since (length (meaning o.earlier), r) (ap waiting (meaning-append o.earlier (Tester, r)) ∙ first) o.is_last o.is_unanswered in
-    (length (meaning o.earlier), ap (λ l. waiting (meaning l)) (o.place ∙ sym (append_assoc o.earlier ((Tester, r) ∷ []) o.since)) ∙ whole)
+    let place = length (meaning o.earlier) in
+    let here : waiting (joined (meaning o.earlier) (Tester, r)) ≡ Some (place, r) = rw o.is_one (waiting-request (meaning o.earlier) r) in
+    let first = ap waiting (meaning-append o.earlier (Tester, r)) ∙ here in
+    let whole = waits-over (o.earlier ++ (Tester, r) ∷ []) o.since (place, r) first o.is_last o.is_unanswered in
+    let split = o.place ∙ sym (append_assoc o.earlier ((Tester, r) ∷ []) o.since) in
+    (place, ap (λ l. waiting (meaning l)) split ∙ whole)
 
 pub same-open : (past : List Message) (r : List ℕ) (w : ℕ × List ℕ) → IsOpenBehind past r → waiting (meaning past) ≡ Some w → r ≡ w.1
-same-open past r w o h = let found = waits-open past r o in ap (λ v. v.1) (some_same (sym found.1 ∙ h))
+same-open past r w o h = let found = waits-open past r o in ap (λ v. v.1) (same_Some _ _ (sym found.1 ∙ h))
 
 -- the open request is still open behind such a message
-open-more : (past : List Message) (r : List ℕ) (x : Message) → IsOpenBehind past r → is_tester_request x ≡ false → is_answer_to r x ≡ false → IsOpenBehind (past ++ x ∷ []) r
+open-more : (past : List Message) (r : List ℕ) (x : Message)
+    → IsOpenBehind past r → is_tester_request x ≡ false → is_answer_to r x ≡ false → IsOpenBehind (past ++ x ∷ []) r
 open-more past r x o h a = record {
   earlier = o.earlier;
   since = o.since ++ x ∷ [];
@@ -66,15 +72,16 @@ Opens past = (w : ℕ × List ℕ) → waiting (meaning past) ≡ Some w → IsO
 
 opens-by : (past : List Message) (x : Message) (o : Option (ℕ × List ℕ)) → Opens past → is_tester_request x ≡ false → waiting (meaning past) ≡ o
     → (w : ℕ × List ℕ) → waiting (joined_by o (meaning past) x) ≡ Some w → IsOpenBehind (past ++ x ∷ []) w.1
-opens-by past x None s r h w e = absurd (some_none (sym e ∙ waiting-stray (meaning past) x.0 x.1 ∙ h))
+opens-by past x None s r h w e = absurd (none-some _ (sym h ∙ sym (waiting-stray (meaning past) x.0 x.1) ∙ e))
 opens-by past x (Some v) s r h w e =
     elim (cases_Bool (is_answer_to v.1 x)) [
-      | inl a ↦ absurd (some_none (sym (rw a at e) ∙ waiting-answered (meaning past) v x.1 h))
+      | inl a ↦ absurd (none-some _ (sym (waiting-answered (meaning past) v x.1 h) ∙ rw a at e))
       | inr a ↦
           (let more = open-more past v.1 x (s v h) r a in
+          let opened = λ (y : ℕ × List ℕ). IsOpenBehind (past ++ x ∷ []) y.1 in
           elim (cases_Bool (is_pending_reply_to v.1 x)) [
-            | inl q ↦ subst (λ (y : ℕ × List ℕ). IsOpenBehind (past ++ x ∷ []) y.1) (some_same (sym h ∙ rw (a, q) at e)) more
-            | inr q ↦ subst (λ (y : ℕ × List ℕ). IsOpenBehind (past ++ x ∷ []) y.1) (some_same (sym h ∙ sym (waiting-stray (meaning past) x.0 x.1) ∙ rw (a, q) at e)) more
+            | inl q ↦ subst opened (same_Some _ _ (sym h ∙ rw (a, q) at e)) more
+            | inr q ↦ subst opened (same_Some _ _ (sym h ∙ sym (waiting-stray (meaning past) x.0 x.1) ∙ rw (a, q) at e)) more
           ])
     ]
 
@@ -83,7 +90,7 @@ opens-join past x s = λ w e.
     let e' : waiting (joined (meaning past) x) ≡ Some w = ap waiting (sym (meaning-append past x)) ∙ e in
     elim (cases_Bool (is_tester_request x)) [
       | inl r ↦
-          (let same : (length (meaning past), x.1) ≡ w = some_same (sym (waiting-request (meaning past) x.1) ∙ rw r at e') in
+          (let same : (length (meaning past), x.1) ≡ w = same_Some _ _ (sym (waiting-request (meaning past) x.1) ∙ rw r at e') in
           subst (λ (y : ℕ × List ℕ). IsOpenBehind (past ++ x ∷ []) y.1) same (open-request past x r))
       | inr r ↦ opens-by past x (waiting (meaning past)) s r refl w (rw r at e')
     ]
@@ -94,4 +101,4 @@ opens-over past (x ∷ xs) s = rw (← append_assoc past (x ∷ []) xs) (opens-o
 
 -- the request of an exchange that waits is open
 pub opens : (past : List Message) (w : ℕ × List ℕ) → waiting (meaning past) ≡ Some w → IsOpenBehind past w.1
-opens past = opens-over [] past (λ w h. absurd (some_none (sym h)))
+opens past = opens-over [] past (λ w h. absurd (none-some _ h))

@@ -4,17 +4,19 @@ use Rattle.std.proofs.Common.{◌≡◌, ℕ, true, false, List, [], ◌∷◌, 
 use Rattle.std.specs.Prelude.{slice_set}
 use Rattle.std.specs.List.{flat_map, list_any}
 use Rattle.std.proofs.lemmas.Bool.{cases_Bool}
+use Rattle.std.proofs.lemmas.Option.{same_Some}
 use Rattle.can_log.specs.Dir.{Message}
 use Rattle.can_log.specs.declared.frame.Dir.TheVariants.{Tester, Unit}
 use Rattle.uds_message.specs.Message.{is_request}
-use Rattle.uds_exchange.specs.Meaning.{is_tester_request, is_answer_to, is_pending_reply_to, before_requests, Part, parts, strays_in, ItemValue, exchange, stray, stray_of, items_of, meaning, flattened}
+use Rattle.uds_exchange.specs.Meaning.{is_tester_request, is_answer_to, is_pending_reply_to, before_requests, Part, parts, strays_in}
+use Rattle.uds_exchange.specs.Meaning.{ItemValue, exchange, stray, stray_of, items_of, meaning, flattened}
 use Rattle.uds_exchange.specs.Roles.{behind_last_request, placed}
 use Rattle.uds_exchange.specs.Order.{has_exchange}
 use Rattle.uds_exchange.specs.Pairing.{waiting, joined_by}
-use Rattle.uds_exchange.proofs.Variants.{some_same}
 use Rattle.uds_exchange.proofs.Waiting.{one_later-some}
 use Rattle.uds_exchange.proofs.OneMore.{meaning-append}
-use Rattle.uds_exchange.proofs.Again.{flattened-push, Quiet, quiet-before_requests, quiet-strays_in, Good, good-parts}
+use Rattle.uds_exchange.proofs.Parts.{Quiet, quiet-before_requests, quiet-strays_in, Good, good-parts}
+use Rattle.uds_exchange.proofs.InOrder.{flattened-push}
 use Rattle.uds_exchange.proofs.Replies.{from-tester, from-unit}
 use Rattle.uds_exchange.proofs.RolesFound.{role_by, role_behind}
 
@@ -36,11 +38,17 @@ sound-append (stray d m ∷ its) more h k = (h.0, sound-append its more h.1 k)
 sound-parts : (ps : List Part) → Good ps → Sound (flat_map items_of ps)
 sound-parts [] h = tt
 sound-parts (p ∷ ps) h =
-    (h.0, sound-append (map stray_of (strays_in p.request p.behind)) (flat_map items_of ps) (sound-strays (strays_in p.request p.behind) (quiet-strays_in p.request p.behind h.1)) (sound-parts ps h.2))
+    let strays = strays_in p.request p.behind in (
+      h.0,
+      sound-append (map stray_of strays) (flat_map items_of ps)
+          (sound-strays strays (quiet-strays_in p.request p.behind h.1)) (sound-parts ps h.2),
+    )
 
 sound-meaning : (M : List Message) → Sound (meaning M)
 sound-meaning M =
-    sound-append (map stray_of (before_requests M)) (flat_map items_of (parts M)) (sound-strays (before_requests M) (quiet-before_requests M)) (sound-parts (parts M) (good-parts M))
+    sound-append (map stray_of (before_requests M)) (flat_map items_of (parts M))
+    (sound-strays (before_requests M) (quiet-before_requests M))
+    (sound-parts (parts M) (good-parts M))
 
 -- a list with an exchange has a request among its messages, and one without has none
 any-request : (its : List ItemValue) → Sound its → list_any is_tester_request (flattened its) ≡ has_exchange its
@@ -73,12 +81,13 @@ placed-answer (exchange q None ∷ its) w a s h =
           let more = any-request its s.1 ∙ e in
           rw (v.2, more) (ap (λ l. (Tester, q) ∷ l) (placed-answer its v.0 a s.1 v.1)))
       | inr e ↦
-          (let same : (0, q) ≡ w = some_same (rw e at h) in
+          (let same : (0, q) ≡ w = same_Some _ _ (rw e at h) in
           let none = any-request its s.1 ∙ e in
           rw (← same, none, s.0) refl)
     ]
 
-placed-by : (its : List ItemValue) (x : Message) (o : Option (ℕ × List ℕ)) → Sound its → waiting its ≡ o → flattened (joined_by o its x) ≡ placed (role_by o x) (flattened its) x
+placed-by : (its : List ItemValue) (x : Message) (o : Option (ℕ × List ℕ)) → Sound its → waiting its ≡ o
+    → flattened (joined_by o its x) ≡ placed (role_by o x) (flattened its) x
 placed-by its x None s h = flattened-push its (stray_of x) x refl
 placed-by its x (Some w) s h =
     elim (cases_Bool (is_answer_to w.1 x)) [

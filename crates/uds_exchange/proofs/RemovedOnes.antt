@@ -4,7 +4,8 @@ use Rattle.std.specs.List.{flat_map}
 use Rattle.std.proofs.lemmas.List.{append-nil}
 use Rattle.std.proofs.lemmas.Bool.{cases_Bool}
 use Rattle.can_log.specs.Dir.{Message}
-use Rattle.uds_exchange.specs.Meaning.{is_tester_request, is_answer_to, is_pending_reply_to, before_requests, Part, parts, answer, strays_in, removed, removed_of, removed_messages, ItemValue, exchange, stray_of, items_of, meaning}
+use Rattle.uds_exchange.specs.Meaning.{is_tester_request, is_answer_to, is_pending_reply_to, before_requests, Part, parts, answer, strays_in}
+use Rattle.uds_exchange.specs.Meaning.{removed, removed_of, removed_messages, ItemValue, exchange, stray_of, items_of, meaning}
 use Rattle.uds_exchange.specs.Roles.{those_removed}
 use Rattle.uds_exchange.specs.Order.{has_exchange}
 use Rattle.uds_exchange.specs.Pairing.{waiting}
@@ -33,7 +34,8 @@ one-waits r (Some a) o = rw (no-strays o).1 refl
 
 parts-wait : (ps : List Part) → request_of (waiting (flat_map items_of ps)) ≡ open_in ps
 parts-wait [] = refl
-parts-wait (p ∷ []) = ap (λ l. request_of (waiting l)) (one-part p) ∙ one-waits p.request (answer p.request p.behind) (strays_in p.request p.behind)
+parts-wait (p ∷ []) =
+    ap (λ l. request_of (waiting l)) (one-part p) ∙ one-waits p.request (answer p.request p.behind) (strays_in p.request p.behind)
 parts-wait (p ∷ q ∷ ps) = waits-behind (items_of p) (flat_map items_of (q ∷ ps)) (has-items q ps) ∙ parts-wait (q ∷ ps)
 
 meaning-waits-by : (b : List Message) (ps : List Part) → request_of (waiting (map stray_of b ++ flat_map items_of ps)) ≡ open_in ps
@@ -45,7 +47,8 @@ abbrev more_removed : Option (List ℕ) → Message → List Message
 more_removed None x = []
 more_removed (Some r) x = cond (is_answer_to r x) [] (cond (is_pending_reply_to r x) (x ∷ []) [])
 
-removed-append : (r : List ℕ) (xs : List Message) (x : Message) → removed r (xs ++ x ∷ []) ≡ removed r xs ++ more_removed (open_if (answer r xs) r) x
+removed-append : (r : List ℕ) (xs : List Message) (x : Message)
+    → removed r (xs ++ x ∷ []) ≡ removed r xs ++ more_removed (open_if (answer r xs) r) x
 removed-append r [] x = refl
 removed-append r (y ∷ ys) x =
     elim (cases_Bool (is_answer_to r y)) [
@@ -61,9 +64,13 @@ grown-request [] x e = rw e refl
 grown-request (p ∷ []) x e = rw e refl
 grown-request (p ∷ q ∷ ps) x e = ap (λ l. removed_of p ++ l) (grown-request (q ∷ ps) x e)
 
-grown-other : (ps : List Part) (x : Message) → is_tester_request x ≡ false → flat_map removed_of (grown ps x) ≡ flat_map removed_of ps ++ more_removed (open_in ps) x
+grown-other : (ps : List Part) (x : Message) → is_tester_request x ≡ false
+    → flat_map removed_of (grown ps x) ≡ flat_map removed_of ps ++ more_removed (open_in ps) x
 grown-other [] x e = rw e refl
-grown-other (p ∷ []) x e = rw e (append-nil _ ∙ removed-append p.request p.behind x ∙ ap (λ l. l ++ more_removed (open_in (p ∷ [])) x) (sym (append-nil (removed_of p))))
+grown-other (p ∷ []) x e = rw e (
+    append-nil _
+    ∙ removed-append p.request p.behind x
+    ∙ ap (λ l. l ++ more_removed (open_in (p ∷ [])) x) (sym (append-nil (removed_of p))))
 grown-other (p ∷ q ∷ ps) x e = ap (λ l. removed_of p ++ l) (grown-other (q ∷ ps) x e) ∙ sym (append_assoc (removed_of p) _ _)
 
 more-by-role : (o : Option (ℕ × List ℕ)) (x : Message) → more_removed (request_of o) x ≡ those_removed (x ∷ []) (role_by o x ∷ [])
@@ -74,10 +81,13 @@ more-by-role (Some w) x =
       | inr e ↦ elim (cases_Bool (is_pending_reply_to w.1 x)) [ inl q ↦ rw (e, q) refl | inr q ↦ rw (e, q) refl ]
     ]
 
-pub removed_messages-append : (M : List Message) (x : Message) → removed_messages (M ++ x ∷ []) ≡ removed_messages M ++ those_removed (x ∷ []) (role_behind M x ∷ [])
+pub removed_messages-append : (M : List Message) (x : Message)
+    → removed_messages (M ++ x ∷ []) ≡ removed_messages M ++ those_removed (x ∷ []) (role_behind M x ∷ [])
 removed_messages-append M x =
     ap (flat_map removed_of) (grows M x).1 ∙ elim (cases_Bool (is_tester_request x)) [
       | inl e ↦ rw e (grown-request (parts M) x e ∙ sym (append-nil (removed_messages M)))
-      | inr e ↦ rw e (grown-other (parts M) x e ∙ ap (λ o. removed_messages M ++ more_removed o x) (sym (meaning-waits-by (before_requests M) (parts M)))
+      | inr e ↦ rw e (
+          grown-other (parts M) x e
+          ∙ ap (λ o. removed_messages M ++ more_removed o x) (sym (meaning-waits-by (before_requests M) (parts M)))
           ∙ ap (λ l. removed_messages M ++ l) (more-by-role (waiting (meaning M)) x))
     ]

@@ -1,11 +1,11 @@
 -- Each message has one role, by the exchange that waits before it.
 use Rattle.std.proofs.Common.{◌≡◌, ℕ, false, List, Option, Some, None, refl, sym, ◌∙◌, ap, cond, inl, inr}
 use Rattle.std.proofs.lemmas.Bool.{cases_Bool, false≢true}
+use Rattle.std.proofs.lemmas.Option.{none-some}
 use Rattle.can_log.specs.Dir.{Message}
 use Rattle.uds_exchange.specs.Meaning.{is_tester_request, is_answer_to, is_pending_reply_to, meaning}
 use Rattle.uds_exchange.specs.Roles.{Role, IsOpenBehind, as_request, as_answer, as_removed, as_stray, AnswersOpen, IsPendingForOpen, HasRole}
 use Rattle.uds_exchange.specs.Pairing.{waiting}
-use Rattle.uds_exchange.proofs.Variants.{some_none}
 use Rattle.uds_exchange.proofs.OpenRequests.{opens, waits-open, same-open}
 use Rattle.uds_exchange.proofs.Replies.{pending-not-answer, answer-not-request, pending-not-request}
 
@@ -25,7 +25,7 @@ module _ (past : List Message) (x : Message) where
   no-pending w h e a = false≢true (sym e ∙ ap (λ r. is_pending_reply_to r x) (sym (same-open past a.0 w a.1 h)) ∙ a.2)
 
   none-open : (r : List ℕ) → waiting (meaning past) ≡ None → ¬ IsOpenBehind past r
-  none-open r h o = some_none (sym (waits-open past r o).1 ∙ h)
+  none-open r h o = none-some _ (sym h ∙ (waits-open past r o).1)
 
   has-role-by : is_tester_request x ≡ false → (o : Option (ℕ × List ℕ)) → waiting (meaning past) ≡ o → HasRole past x (role_by o x)
   has-role-by r None h = (r, λ a. none-open a.0 h a.1, λ a. none-open a.0 h a.1)

@@ -2,12 +2,12 @@
 use Rattle.std.proofs.Common.{◌≡◌, ℕ, zero, suc, true, false, List, [], ◌∷◌, ◌++◌, length, Option, Some, None, refl, sym, ◌∙◌, ap, inl, inr, option_map}
 use Rattle.std.specs.Prelude.{slice_get, slice_set}
 use Rattle.std.proofs.lemmas.Bool.{cases_Bool}
+use Rattle.std.proofs.lemmas.Option.{same_Some}
 use Rattle.can_log.specs.declared.frame.Dir.{Dir}
 use Rattle.uds_message.specs.Message.{sid}
 use Rattle.uds_exchange.specs.Meaning.{ItemValue, exchange, stray}
 use Rattle.uds_exchange.specs.Order.{has_exchange}
 use Rattle.uds_exchange.specs.Pairing.{one_later, waiting}
-use Rattle.uds_exchange.proofs.Variants.{some_same}
 
 pub has-more : (its : List ItemValue) (p : ItemValue) → has_exchange (p ∷ []) ≡ false → has_exchange (its ++ p ∷ []) ≡ has_exchange its
 has-more [] p h = h
@@ -32,9 +32,10 @@ waiting-request (stray e n ∷ its) r = ap one_later (waiting-request its r)
 waiting-request (exchange q (Some a) ∷ its) r = ap one_later (waiting-request its r)
 waiting-request (exchange q None ∷ its) r = rw (has-last its r None, waiting-request its r) refl
 
-pub one_later-some : (o : Option (ℕ × List ℕ)) (w : ℕ × List ℕ) → one_later o ≡ Some w → (v : ℕ × List ℕ) × (o ≡ Some v) × (w ≡ (suc v.0, v.1))
+pub one_later-some : (o : Option (ℕ × List ℕ)) (w : ℕ × List ℕ) → one_later o ≡ Some w
+    → (v : ℕ × List ℕ) × (o ≡ Some v) × (w ≡ (suc v.0, v.1))
 one_later-some None w h = cc
-one_later-some (Some v) w h = (v, refl, some_same (sym h))
+one_later-some (Some v) w h = (v, refl, same_Some _ _ (sym h))
 
 -- at its place stands an exchange without answer
 pub waiting-at : (its : List ItemValue) (w : ℕ × List ℕ) → waiting its ≡ Some w → slice_get its w.0 ≡ Some (exchange w.1 None)
@@ -44,7 +45,7 @@ waiting-at (exchange q (Some a) ∷ its) w h = let v = one_later-some (waiting i
 waiting-at (exchange q None ∷ its) w h =
     elim (cases_Bool (has_exchange its)) [
       | inl e ↦ (let v = one_later-some (waiting its) w (rw e at h) in rw v.2 (waiting-at its v.0 v.1))
-      | inr e ↦ (let same : (0, q) ≡ w = some_same (rw e at h) in rw (← same) refl)
+      | inr e ↦ (let same : (0, q) ≡ w = same_Some _ _ (rw e at h) in rw (← same) refl)
     ]
 
 pub no-exchange : (its : List ItemValue) → has_exchange its ≡ false → waiting its ≡ None
@@ -52,7 +53,8 @@ no-exchange [] h = refl
 no-exchange (exchange r a ∷ its) h = cc
 no-exchange (stray d m ∷ its) h = ap one_later (no-exchange its h)
 
-pub has-set : (its : List ItemValue) (i : ℕ) (r : List ℕ) (a b : Option (List ℕ)) → slice_get its i ≡ Some (exchange r a) → has_exchange (slice_set its i (exchange r b)) ≡ has_exchange its
+pub has-set : (its : List ItemValue) (i : ℕ) (r : List ℕ) (a b : Option (List ℕ)) → slice_get its i ≡ Some (exchange r a)
+    → has_exchange (slice_set its i (exchange r b)) ≡ has_exchange its
 has-set [] i r a b h = refl
 has-set (exchange q c ∷ its) zero r a b h = refl
 has-set (stray d m ∷ its) zero r a b h = cc
@@ -60,16 +62,21 @@ has-set (exchange q c ∷ its) (suc i) r a b h = refl
 has-set (stray d m ∷ its) (suc i) r a b h = has-set its i r a b h
 
 -- once it has its answer nothing waits
-pub waiting-answered : (its : List ItemValue) (w : ℕ × List ℕ) (a : List ℕ) → waiting its ≡ Some w → waiting (slice_set its w.0 (exchange w.1 (Some a))) ≡ None
+pub waiting-answered : (its : List ItemValue) (w : ℕ × List ℕ) (a : List ℕ) → waiting its ≡ Some w
+    → waiting (slice_set its w.0 (exchange w.1 (Some a))) ≡ None
 waiting-answered [] w a h = cc
-waiting-answered (stray e n ∷ its) w a h = let v = one_later-some (waiting its) w h in rw v.2 (ap one_later (waiting-answered its v.0 a v.1))
-waiting-answered (exchange q (Some b) ∷ its) w a h = let v = one_later-some (waiting its) w h in rw v.2 (ap one_later (waiting-answered its v.0 a v.1))
+waiting-answered (stray e n ∷ its) w a h =
+    let v = one_later-some (waiting its) w h in
+    rw v.2 (ap one_later (waiting-answered its v.0 a v.1))
+waiting-answered (exchange q (Some b) ∷ its) w a h =
+    let v = one_later-some (waiting its) w h in
+    rw v.2 (ap one_later (waiting-answered its v.0 a v.1))
 waiting-answered (exchange q None ∷ its) w a h =
     elim (cases_Bool (has_exchange its)) [
       | inl e ↦ (let v = one_later-some (waiting its) w (rw e at h) in
           let more = has-set its v.0.0 v.0.1 None (Some a) (waiting-at its v.0 v.1) ∙ e in
           rw (v.2, more) (ap one_later (waiting-answered its v.0 a v.1)))
-      | inr e ↦ (let same : (0, q) ≡ w = some_same (rw e at h) in rw (← same) (ap one_later (no-exchange its e)))
+      | inr e ↦ (let same : (0, q) ≡ w = same_Some _ _ (rw e at h) in rw (← same) (ap one_later (no-exchange its e)))
     ]
 
 -- the request that waits, and its first byte

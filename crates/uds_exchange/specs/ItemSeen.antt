@@ -6,7 +6,7 @@ use Rattle.uds_exchange.specs.Meaning.{ItemValue, exchange, stray}
 
 -- an item without where it lies in memory
 abbrev pub item_value : Item → ItemValue
-item_value (item.Exchange request answer) = exchange request.items (option_map (λ v. v.items) answer)
+item_value (item.Exchange request answer) = exchange request.items (option_map (λ bytes. bytes.items) answer)
 item_value (item.Stray dir bytes) = stray dir bytes.items
 
 -- a list of them

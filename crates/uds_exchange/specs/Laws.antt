@@ -21,8 +21,8 @@ NoneIsMadeUp = (passes : Message → Bool) (M : List Message)
 
 -- a message is exactly one of request, answer, removed and stray
 abbrev pub EachHasOneRole : Type 0
-EachHasOneRole = (past : List Message) (x : Message)
-    → (role : Role) × HasRole past x role × ((other : Role) → HasRole past x other → other ≡ role)
+EachHasOneRole = (past : List Message) (message : Message)
+    → (role : Role) × HasRole past message role × ((other : Role) → HasRole past message other → other ≡ role)
 
 -- so the messages of a list have roles in one way
 abbrev pub EachListHasRoles : Type 0

@@ -14,20 +14,20 @@ is_from_tester dir.Unit = false
 
 -- a request of the tester
 abbrev pub is_tester_request : Message → Bool
-is_tester_request x = is_from_tester x.0 && is_request x.1
+is_tester_request message = is_from_tester message.0 && is_request message.1
 
 -- a message of the unit that is final for the request
 abbrev pub is_answer_to : List ℕ → Message → Bool
-is_answer_to request x = not (is_from_tester x.0) && is_final_for (sid request) x.1
+is_answer_to request message = not (is_from_tester message.0) && is_final_for (sid request) message.1
 
 -- a message of the unit that is pending for the request
 abbrev pub is_pending_reply_to : List ℕ → Message → Bool
-is_pending_reply_to request x = not (is_from_tester x.0) && is_pending_for (sid request) x.1
+is_pending_reply_to request message = not (is_from_tester message.0) && is_pending_for (sid request) message.1
 
 -- the messages before the first request
 abbrev pub before_requests : List Message → List Message
 before_requests [] = []
-before_requests (x ∷ xs) = if is_tester_request x then [] else x ∷ before_requests xs
+before_requests (message ∷ later) = if is_tester_request message then [] else message ∷ before_requests later
 
 -- the part of a request: the request, and the messages behind it up to the next request or the end
 pub record Part : Type 0 where
@@ -41,28 +41,28 @@ part request behind = record { request = request; behind = behind }
 -- the parts of a list's requests, in order
 abbrev pub parts : List Message → List Part
 parts [] = []
-parts (x ∷ xs) = if is_tester_request x then part x.1 (before_requests xs) ∷ parts xs else parts xs
+parts (message ∷ later) = if is_tester_request message then part message.1 (before_requests later) ∷ parts later else parts later
 
 -- the answer to a request among the messages behind it: the first that is final for it
 abbrev pub answer : List ℕ → List Message → Option (List ℕ)
 answer request [] = None
-answer request (x ∷ xs) = if is_answer_to request x then Some x.1 else answer request xs
+answer request (message ∷ later) = if is_answer_to request message then Some message.1 else answer request later
 
 -- what is removed of them: the replies pending for the request before its answer, or all where there is no answer
 abbrev pub removed : List ℕ → List Message → List Message
 removed request [] = []
-removed request (x ∷ xs) =
-    if is_answer_to request x then []
-    else if is_pending_reply_to request x then x ∷ removed request xs
-    else removed request xs
+removed request (message ∷ later) =
+    if is_answer_to request message then []
+    else if is_pending_reply_to request message then message ∷ removed request later
+    else removed request later
 
 -- the strays among them: those that are neither answer nor removed
 abbrev pub strays_in : List ℕ → List Message → List Message
 strays_in request [] = []
-strays_in request (x ∷ xs) =
-    if is_answer_to request x then xs
-    else if is_pending_reply_to request x then strays_in request xs
-    else x ∷ strays_in request xs
+strays_in request (message ∷ later) =
+    if is_answer_to request message then later
+    else if is_pending_reply_to request message then strays_in request later
+    else message ∷ strays_in request later
 
 -- an item of a meaning: a request with its answer, if it has one, or a message that belongs to no exchange
 pub data ItemValue : Type 0 where
@@ -71,11 +71,11 @@ pub data ItemValue : Type 0 where
 
 -- a message that belongs to no exchange, as an item
 abbrev pub stray_of : Message → ItemValue
-stray_of x = stray x.0 x.1
+stray_of message = stray message.0 message.1
 
 -- the items of a part: its exchange, and then its strays
 abbrev pub items_of : Part → List ItemValue
-items_of p = exchange p.request (answer p.request p.behind) ∷ map stray_of (strays_in p.request p.behind)
+items_of this = exchange this.request (answer this.request this.behind) ∷ map stray_of (strays_in this.request this.behind)
 
 -- the meaning of a list: what stands before the first request as strays, and then part by part
 abbrev pub meaning : List Message → List ItemValue
@@ -93,7 +93,7 @@ flattened items = flat_map messages_of items
 
 -- what is removed of a part
 abbrev pub removed_of : Part → List Message
-removed_of p = removed p.request p.behind
+removed_of this = removed this.request this.behind
 
 -- all that is removed of a list, part by part
 abbrev pub removed_messages : List Message → List Message

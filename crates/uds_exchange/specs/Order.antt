@@ -8,22 +8,22 @@ use Rattle.uds_exchange.specs.Meaning.{ItemValue, exchange, stray, meaning, flat
 -- whether one of the items is an exchange
 abbrev pub has_exchange : List ItemValue → Bool
 has_exchange [] = false
-has_exchange (exchange request reply ∷ its) = true
-has_exchange (stray d bytes ∷ its) = has_exchange its
+has_exchange (exchange request reply ∷ later) = true
+has_exchange (stray d bytes ∷ later) = has_exchange later
 
 -- the request of the last exchange, if that has no answer
 abbrev pub open_request_in : List ItemValue → Option (List ℕ)
 open_request_in [] = None
-open_request_in (stray d bytes ∷ its) = open_request_in its
-open_request_in (exchange request (Some reply) ∷ its) = open_request_in its
-open_request_in (exchange request None ∷ its) = if has_exchange its then open_request_in its else Some request
+open_request_in (stray d bytes ∷ later) = open_request_in later
+open_request_in (exchange request (Some reply) ∷ later) = open_request_in later
+open_request_in (exchange request None ∷ later) = if has_exchange later then open_request_in later else Some request
 
 -- the strays behind the last exchange, if that has no answer
 abbrev pub held_in : List ItemValue → List Message
 held_in [] = []
-held_in (stray d bytes ∷ its) = held_in its
-held_in (exchange request (Some reply) ∷ its) = held_in its
-held_in (exchange request None ∷ its) = if has_exchange its then held_in its else flattened its
+held_in (stray d bytes ∷ later) = held_in later
+held_in (exchange request (Some reply) ∷ later) = held_in later
+held_in (exchange request None ∷ later) = if has_exchange later then held_in later else flattened later
 
 -- the request that waits for its answer behind a list of messages
 abbrev pub open_request : List Message → Option (List ℕ)

@@ -17,30 +17,31 @@ pub record Standing : Type 0 where
 abbrev pub stands_after : List Message → Standing
 stands_after M = record { failed = false; open_sid = option_map sid (open_request M); holds = held M }
 
--- these are the messages that one more message x brings to their place
+-- these are the messages that one more message brings to their place
 abbrev pub IsDue : List Message → Message → List Message → Type 0
-IsDue M x due = early (M ++ x ∷ []) ≡ early M ++ due
+IsDue M message due = early (M ++ message ∷ []) ≡ early M ++ due
 
 -- what is due with one more message was put
-abbrev pub PutsDue : {S : Type 0} → AfterOk S → List Message → Message → S → S → Type 0
-PutsDue after_ok M x s t = (due : List Message) × IsDue M x due × Puts after_ok s due t
+abbrev pub PutsDue : {Sink : Type 0} → AfterOk Sink → List Message → Message → Sink → Sink → Type 0
+PutsDue after_ok M message before after = (due : List Message) × IsDue M message due × Puts after_ok before due after
 
 -- what a fault leaves of the sink: of what is due nothing was put for want of memory, and a proper prefix where the
 -- sink failed
-abbrev pub StopsDue : {S E : Type 0} → AfterOk S → AfterErr S E → List Message → Message → S → S → OrderFault E → Type 0
-StopsDue after_ok after_err M x s t fault.Memory = t ≡ s
-StopsDue after_ok after_err M x s t (fault.Sink e) = (due : List Message) × IsDue M x due × Fails after_ok after_err s due e t
-StopsDue after_ok after_err M x s t fault.Failed = ⊥
+abbrev pub StopsDue : {Sink Fault : Type 0} → AfterOk Sink → AfterErr Sink Fault → List Message → Message → Sink → Sink → OrderFault Fault → Type 0
+StopsDue after_ok after_err M message before after fault.Memory = after ≡ before
+StopsDue after_ok after_err M message before after (fault.Sink why) =
+    (due : List Message) × IsDue M message due × Fails after_ok after_err before due why after
+StopsDue after_ok after_err M message before after fault.Failed = ⊥
 
 -- what a fault leaves of the orderer: it is unchanged for want of memory; after a fault of the sink it has failed, and
 -- is as before otherwise
-abbrev pub Leaves : {E : Type 0} → Standing → Standing → OrderFault E → Type 0
+abbrev pub Leaves : {Fault : Type 0} → Standing → Standing → OrderFault Fault → Type 0
 Leaves old new fault.Memory = (old.failed ≡ false) × (new ≡ old)
-Leaves old new (fault.Sink e) = (old.failed ≡ false) × (new ≡ record old { failed = true })
+Leaves old new (fault.Sink why) = (old.failed ≡ false) × (new ≡ record old { failed = true })
 Leaves old new fault.Failed = (old.failed ≡ true) × (new ≡ old)
 
 -- the only fault of an orderer that has not failed is the sink's, after a proper prefix of these messages
-abbrev pub StopsAtEnd : {S E : Type 0} → AfterOk S → AfterErr S E → List Message → S → S → OrderFault E → Type 0
-StopsAtEnd after_ok after_err xs s t fault.Memory = ⊥
-StopsAtEnd after_ok after_err xs s t (fault.Sink e) = Fails after_ok after_err s xs e t
-StopsAtEnd after_ok after_err xs s t fault.Failed = ⊥
+abbrev pub StopsAtEnd : {Sink Fault : Type 0} → AfterOk Sink → AfterErr Sink Fault → List Message → Sink → Sink → OrderFault Fault → Type 0
+StopsAtEnd after_ok after_err messages before after fault.Memory = ⊥
+StopsAtEnd after_ok after_err messages before after (fault.Sink why) = Fails after_ok after_err before messages why after
+StopsAtEnd after_ok after_err messages before after fault.Failed = ⊥

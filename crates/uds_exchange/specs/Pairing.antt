@@ -7,44 +7,48 @@ use Rattle.uds_exchange.specs.declared.roles.Role.TheVariants as role
 use Rattle.uds_exchange.specs.Meaning.{ItemValue, exchange, stray, stray_of, is_from_tester, is_tester_request, is_answer_to, is_pending_reply_to}
 use Rattle.uds_exchange.specs.Order.{has_exchange}
 
+-- a place and a request, with one more item before it
 abbrev pub one_later : Option (ℕ × List ℕ) → Option (ℕ × List ℕ)
 one_later None = None
-one_later (Some w) = Some (suc w.0, w.1)
+one_later (Some place) = Some (suc place.0, place.1)
 
 -- the place and the request of the last exchange, where it has no answer yet
 abbrev pub waiting : List ItemValue → Option (ℕ × List ℕ)
 waiting [] = None
-waiting (stray d bytes ∷ its) = one_later (waiting its)
-waiting (exchange request (Some reply) ∷ its) = one_later (waiting its)
-waiting (exchange request None ∷ its) = if has_exchange its then one_later (waiting its) else Some (0, request)
+waiting (stray d bytes ∷ later) = one_later (waiting later)
+waiting (exchange request (Some reply) ∷ later) = one_later (waiting later)
+waiting (exchange request None ∷ later) = if has_exchange later then one_later (waiting later) else Some (0, request)
 
 -- the first byte of its request
 abbrev pub waiting_sid : List ItemValue → Option ℕ
-waiting_sid its = option_map (λ w. sid w.1) (waiting its)
+waiting_sid items = option_map (λ place. sid place.1) (waiting items)
 
 -- what the code keeps beside the items: the first byte of the open request, and the place of its exchange
-pub record IsOpenAt (its : List ItemValue) (open_sid : Option ℕ) (last : ℕ) : Type 0 where
-  pub first_byte : waiting_sid its ≡ open_sid
-  pub place : (w : ℕ × List ℕ) → waiting its ≡ Some w → w.0 ≡ last
+pub record IsOpenAt (items : List ItemValue) (open_sid : Option ℕ) (last : ℕ) : Type 0 where
+  pub first_byte : waiting_sid items ≡ open_sid
+  pub place : (found : ℕ × List ℕ) → waiting items ≡ Some found → found.0 ≡ last
 
 -- what a message is where a request with this first byte is open
 abbrev pub role_if_open : Option ℕ → Message → RoleInCode
-role_if_open None x = role.Stray
-role_if_open (Some s) x =
-    if not (is_from_tester x.0) && is_final_for s x.1 then role.Answer
-    else if not (is_from_tester x.0) && is_pending_for s x.1 then role.Removed
+role_if_open None message = role.Stray
+role_if_open (Some service) message =
+    if not (is_from_tester message.0) && is_final_for service message.1 then role.Answer
+    else if not (is_from_tester message.0) && is_pending_for service message.1 then role.Removed
     else role.Stray
 
+-- what a message is, where this is the first byte of the open request
 abbrev pub role_at : Option ℕ → Message → RoleInCode
-role_at open_sid x = if is_tester_request x then role.Request (sid x.1) else role_if_open open_sid x
+role_at open_sid message = if is_tester_request message then role.Request (sid message.1) else role_if_open open_sid message
+
+-- the items after one more message that is no request, where this exchange waits
+abbrev pub joined_by : Option (ℕ × List ℕ) → List ItemValue → Message → List ItemValue
+joined_by None items message = items ++ stray_of message ∷ []
+joined_by (Some place) items message =
+    if is_answer_to place.1 message then slice_set items place.0 (exchange place.1 (Some message.1))
+    else if is_pending_reply_to place.1 message then items
+    else items ++ stray_of message ∷ []
 
 -- the items after one more message
-abbrev pub joined_by : Option (ℕ × List ℕ) → List ItemValue → Message → List ItemValue
-joined_by None its x = its ++ stray_of x ∷ []
-joined_by (Some w) its x =
-    if is_answer_to w.1 x then slice_set its w.0 (exchange w.1 (Some x.1))
-    else if is_pending_reply_to w.1 x then its
-    else its ++ stray_of x ∷ []
-
 abbrev pub joined : List ItemValue → Message → List ItemValue
-joined its x = if is_tester_request x then its ++ exchange x.1 None ∷ [] else joined_by (waiting its) its x
+joined items message =
+    if is_tester_request message then items ++ exchange message.1 None ∷ [] else joined_by (waiting items) items message

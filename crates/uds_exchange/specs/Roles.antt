@@ -24,46 +24,48 @@ pub data Role : Type 0 where
 
 -- the message is the answer to the open request
 abbrev pub AnswersOpen : List Message → Message → Type 0
-AnswersOpen past x = (request : List ℕ) × IsOpenBehind past request × (is_answer_to request x ≡ true)
+AnswersOpen past message = (request : List ℕ) × IsOpenBehind past request × (is_answer_to request message ≡ true)
 
 -- the message is a pending reply to the open request
 abbrev pub IsPendingForOpen : List Message → Message → Type 0
-IsPendingForOpen past x = (request : List ℕ) × IsOpenBehind past request × (is_pending_reply_to request x ≡ true)
+IsPendingForOpen past message =
+    (request : List ℕ) × IsOpenBehind past request × (is_pending_reply_to request message ≡ true)
 
 -- what a message is behind the messages `past`: a request by itself, an answer or removed by the open request, else
 -- a stray
 abbrev pub HasRole : List Message → Message → Role → Type 0
-HasRole past x as_request = is_tester_request x ≡ true
-HasRole past x as_answer = AnswersOpen past x
-HasRole past x as_removed = IsPendingForOpen past x
-HasRole past x as_stray = (is_tester_request x ≡ false) × (¬ AnswersOpen past x) × (¬ IsPendingForOpen past x)
+HasRole past message as_request = is_tester_request message ≡ true
+HasRole past message as_answer = AnswersOpen past message
+HasRole past message as_removed = IsPendingForOpen past message
+HasRole past message as_stray =
+    (is_tester_request message ≡ false) × (¬ AnswersOpen past message) × (¬ IsPendingForOpen past message)
 
--- these are the roles of the messages `xs`, before which stand the messages `past`
+-- these are the roles of the messages, before which stand the messages `past`
 abbrev pub AreRoles : List Message → List Message → List Role → Type 0
 AreRoles past [] [] = ⊤
-AreRoles past (x ∷ xs) (role ∷ roles) = HasRole past x role × AreRoles (past ++ x ∷ []) xs roles
+AreRoles past (message ∷ later) (role ∷ roles) = HasRole past message role × AreRoles (past ++ message ∷ []) later roles
 AreRoles past [] (role ∷ roles) = ⊥
-AreRoles past (x ∷ xs) [] = ⊥
+AreRoles past (message ∷ later) [] = ⊥
 
--- the messages with `x` directly behind the last request among them
+-- the messages with one more, directly behind the last request among them
 abbrev pub behind_last_request : List Message → Message → List Message
-behind_last_request [] x = x ∷ []
-behind_last_request (y ∷ ys) x =
-    if list_any is_tester_request ys then y ∷ behind_last_request ys x
-    else if is_tester_request y then y ∷ x ∷ ys
-    else y ∷ behind_last_request ys x
+behind_last_request [] more = more ∷ []
+behind_last_request (message ∷ later) more =
+    if list_any is_tester_request later then message ∷ behind_last_request later more
+    else if is_tester_request message then message ∷ more ∷ later
+    else message ∷ behind_last_request later more
 
 -- what a message adds to the messages in order: an answer moves up to its request, a removed message is left out
 abbrev pub placed : Role → List Message → Message → List Message
-placed as_request out x = out ++ x ∷ []
-placed as_stray out x = out ++ x ∷ []
-placed as_answer out x = behind_last_request out x
-placed as_removed out x = out
+placed as_request out message = out ++ message ∷ []
+placed as_stray out message = out ++ message ∷ []
+placed as_answer out message = behind_last_request out message
+placed as_removed out message = out
 
--- the messages `xs` with these roles, each placed behind those of `out`
+-- the messages with these roles, each placed behind those of `out`
 abbrev pub arranged : List Message → List Message → List Role → List Message
-arranged out (x ∷ xs) (role ∷ roles) = arranged (placed role out x) xs roles
-arranged out xs roles = out
+arranged out (message ∷ later) (role ∷ roles) = arranged (placed role out message) later roles
+arranged out messages roles = out
 
 -- whether it is that of a pending reply that is left out
 abbrev pub is_removed : Role → Bool
@@ -72,6 +74,6 @@ is_removed role = false
 
 -- those of the messages that are removed
 abbrev pub those_removed : List Message → List Role → List Message
-those_removed (x ∷ xs) (role ∷ roles) =
-    if is_removed role then x ∷ those_removed xs roles else those_removed xs roles
-those_removed xs roles = []
+those_removed (message ∷ later) (role ∷ roles) =
+    if is_removed role then message ∷ those_removed later roles else those_removed later roles
+those_removed messages roles = []

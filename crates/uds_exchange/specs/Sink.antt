@@ -3,21 +3,22 @@ use Rattle.std.specs.Prelude.{◌≡◌, ℕ, List, [], ◌∷◌, ◌++◌}
 use Rattle.can_log.specs.Dir.{Message}
 use Rattle.can_log.specs.declared.frame.Dir.{Dir}
 
--- the values t of a sink that may follow an Ok of a `put` of a message to the value s
+-- which values of a sink may follow an Ok of a `put` of a message: the value before, the message, the value after
 abbrev pub AfterOk : Type 0 → Type 1
-AfterOk S = S → Dir → List ℕ → S → Type 0
+AfterOk Sink = Sink → Dir → List ℕ → Sink → Type 0
 
--- and those that may follow an Err e
+-- and which may follow an Err with this fault
 abbrev pub AfterErr : Type 0 → Type 0 → Type 1
-AfterErr S E = S → Dir → List ℕ → E → S → Type 0
+AfterErr Sink Fault = Sink → Dir → List ℕ → Fault → Sink → Type 0
 
--- each of the messages was put, one after another: by Ok answers the sink went from s to t
-abbrev pub Puts : {S : Type 0} → AfterOk S → S → List Message → S → Type 0
-Puts after_ok s [] t = t ≡ s
-Puts {S = S} after_ok s (x ∷ xs) t = (u : S) × after_ok s x.0 x.1 u × Puts after_ok u xs t
+-- each of the messages was put, one after another: by Ok answers the sink went from the one value to the other
+abbrev pub Puts : {Sink : Type 0} → AfterOk Sink → Sink → List Message → Sink → Type 0
+Puts after_ok before [] after = after ≡ before
+Puts {Sink = Sink} after_ok before (message ∷ later) after =
+    (between : Sink) × after_ok before message.0 message.1 between × Puts after_ok between later after
 
--- a proper prefix of the messages was put, and the `put` of the next one answered the fault e
-abbrev pub Fails : {S E : Type 0} → AfterOk S → AfterErr S E → S → List Message → E → S → Type 0
-Fails {S = S} after_ok after_err s xs e t =
-    (front : List Message) × (x : Message) × (rest : List Message) × (u : S)
-    × (xs ≡ front ++ x ∷ rest) × Puts after_ok s front u × after_err u x.0 x.1 e t
+-- a proper prefix of the messages was put, and the `put` of the next one answered the fault
+abbrev pub Fails : {Sink Fault : Type 0} → AfterOk Sink → AfterErr Sink Fault → Sink → List Message → Fault → Sink → Type 0
+Fails {Sink = Sink} after_ok after_err before messages fault after =
+    (front : List Message) × (next : Message) × (rest : List Message) × (between : Sink)
+    × (messages ≡ front ++ next ∷ rest) × Puts after_ok before front between × after_err between next.0 next.1 fault after

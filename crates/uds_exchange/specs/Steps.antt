@@ -12,40 +12,41 @@ use Rattle.uds_exchange.specs.Orderer.{Standing}
 
 -- the messages that are due with a message of this role, behind those that are held
 abbrev pub due_for : Role → Option ℕ → List Message → Message → List Message
-due_for (role.Request s) open_sid holds x = holds ++ x ∷ []
-due_for role.Answer open_sid holds x = x ∷ holds
-due_for role.Removed open_sid holds x = []
-due_for role.Stray None holds x = x ∷ []
-due_for role.Stray (Some s) holds x = []
+due_for (role.Request service) open_sid holds message = holds ++ message ∷ []
+due_for role.Answer open_sid holds message = message ∷ holds
+due_for role.Removed open_sid holds message = []
+due_for role.Stray None holds message = message ∷ []
+due_for role.Stray (Some service) holds message = []
 
 -- what is due with one more message
 abbrev pub due : Standing → Message → List Message
-due o x = due_for (role_at o.open_sid x) o.open_sid o.holds x
+due standing message = due_for (role_at standing.open_sid message) standing.open_sid standing.holds message
 
 -- what the orderer holds after it
 abbrev pub next_for : Role → Standing → Option ℕ → Message → Standing
-next_for (role.Request s) o open_sid x = record o { open_sid = Some s; holds = [] }
-next_for role.Answer o open_sid x = record o { open_sid = None; holds = [] }
-next_for role.Removed o open_sid x = o
-next_for role.Stray o None x = o
-next_for role.Stray o (Some s) x = record o { holds = o.holds ++ x ∷ [] }
+next_for (role.Request service) standing open_sid message = record standing { open_sid = Some service; holds = [] }
+next_for role.Answer standing open_sid message = record standing { open_sid = None; holds = [] }
+next_for role.Removed standing open_sid message = standing
+next_for role.Stray standing None message = standing
+next_for role.Stray standing (Some service) message = record standing { holds = standing.holds ++ message ∷ [] }
 
 -- what the orderer is after one more message
 abbrev pub next : Standing → Message → Standing
-next o x = next_for (role_at o.open_sid x) o o.open_sid x
+next standing message = next_for (role_at standing.open_sid message) standing standing.open_sid message
 
 -- what a fault leaves, where these messages were due
-abbrev pub Stops : {S E : Type 0} → AfterOk S → AfterErr S E → List Message → Standing → S → Standing → S → OrderFault E → Type 0
-Stops after_ok after_err xs o s p t fault.Memory = (o.failed ≡ false) × (p ≡ o) × (t ≡ s)
-Stops after_ok after_err xs o s p t (fault.Sink e) = (o.failed ≡ false) × (p ≡ record o { failed = true }) × Fails after_ok after_err s xs e t
-Stops after_ok after_err xs o s p t fault.Failed = (o.failed ≡ true) × (p ≡ o) × (t ≡ s)
+abbrev pub Stops : {Sink Fault : Type 0} → AfterOk Sink → AfterErr Sink Fault → List Message → Standing → Sink → Standing → Sink → OrderFault Fault → Type 0
+Stops after_ok after_err due old before new after fault.Memory = (old.failed ≡ false) × (new ≡ old) × (after ≡ before)
+Stops after_ok after_err due old before new after (fault.Sink why) =
+    (old.failed ≡ false) × (new ≡ record old { failed = true }) × Fails after_ok after_err before due why after
+Stops after_ok after_err due old before new after fault.Failed = (old.failed ≡ true) × (new ≡ old) × (after ≡ before)
 
 -- how many bytes the messages have
 abbrev pub total_length : List Extent → ℕ
 total_length [] = 0
-total_length (h ∷ hs) = h.len + total_length hs
+total_length (extent ∷ extents) = extent.len + total_length extents
 
 -- the messages, cut from the bytes in which they lie end to end
 abbrev pub cut_from : List Extent → List ℕ → List Message
 cut_from [] bytes = []
-cut_from (h ∷ hs) bytes = (h.dir, take h.len bytes) ∷ cut_from hs (drop h.len bytes)
+cut_from (extent ∷ extents) bytes = (extent.dir, take extent.len bytes) ∷ cut_from extents (drop extent.len bytes)

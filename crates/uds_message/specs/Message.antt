@@ -10,54 +10,55 @@ use Rattle.uds_message.specs.Tables.{has_sub_function}
 -- the service identifier (SID) of a message is its first byte
 abbrev pub sid : List ℕ → ℕ
 sid [] = 0
-sid (s ∷ parameters) = s
+sid (first ∷ parameters) = first
 
 -- bit 6 tells the identifiers of responses from those of requests (ISO 14229-1, service identifier values)
 abbrev pub is_response_sid : ℕ → Bool
-is_response_sid s = bit_at s 6 == 1
+is_response_sid identifier = bit_at identifier 6 == 1
 
 -- the keep-alive is the TesterPresent request whose positive response is suppressed: 3E 80 and no more
 abbrev pub is_keep_alive : List ℕ → Bool
-is_keep_alive (s ∷ f ∷ []) = s == 0x3E && f == 0x80
-is_keep_alive m = false
+is_keep_alive (first ∷ sub_function ∷ []) = first == 0x3E && sub_function == 0x80
+is_keep_alive message = false
 
 -- a request is a message of the tester whose identifier is no response's; the keep-alive is set apart
 abbrev pub is_request : List ℕ → Bool
 is_request [] = false
-is_request (s ∷ parameters) = not (is_response_sid s) && not (is_keep_alive (s ∷ parameters))
+is_request (first ∷ parameters) = not (is_response_sid first) && not (is_keep_alive (first ∷ parameters))
 
--- a positive response to the service s: the identifier is s + 40 hexadecimal (and not 7F, a negative response's)
+-- a positive response to the service: the identifier is the service's + 40 hexadecimal (and not 7F, a negative response's)
 abbrev pub is_positive : ℕ → List ℕ → Bool
-is_positive s [] = false
-is_positive s (first ∷ parameters) = first == s + 0x40 && not (first == 0x7F)
+is_positive service [] = false
+is_positive service (first ∷ parameters) = first == service + 0x40 && not (first == 0x7F)
 
--- a negative response to the service s, with a code that passes the test: 7F s code and no more
+-- a negative response to the service, with a code that passes the test: 7F, the service, the code and no more
 abbrev pub is_negative : ℕ → (ℕ → Bool) → List ℕ → Bool
-is_negative s passes (first ∷ service ∷ code ∷ []) = first == 0x7F && (service == s && passes code)
-is_negative s passes m = false
+is_negative service passes (first ∷ refused ∷ code ∷ []) = first == 0x7F && (refused == service && passes code)
+is_negative service passes message = false
 
 -- the code requestCorrectlyReceived-ResponsePending (ISO 14229-1, Annex A.1)
 abbrev pub is_response_pending : ℕ → Bool
 is_response_pending code = code == 0x78
 
--- final for a request to the service s: the positive response, or a negative one whose code is not response pending
+-- final for a request to the service: the positive response, or a negative one whose code is not response pending
 abbrev pub is_final_for : ℕ → List ℕ → Bool
-is_final_for s m =
-    not (is_response_sid s) && (is_positive s m || is_negative s (λ code. not (is_response_pending code)) m)
+is_final_for service message =
+    not (is_response_sid service)
+    && (is_positive service message || is_negative service (λ code. not (is_response_pending code)) message)
 
--- pending for a request to the service s: the negative response whose code is response pending
+-- pending for a request to the service: the negative response whose code is response pending
 abbrev pub is_pending_for : ℕ → List ℕ → Bool
-is_pending_for s m = not (is_response_sid s) && is_negative s is_response_pending m
+is_pending_for service message = not (is_response_sid service) && is_negative service is_response_pending message
 
 -- what a message of the tester is
 abbrev pub kind_of : List ℕ → TesterKind
-kind_of m = if is_request m then Request else if is_keep_alive m then KeepAlive else Other
+kind_of message = if is_request message then Request else if is_keep_alive message then KeepAlive else Other
 
--- what a message of the unit is to a request to the service s
+-- what a message of the unit is to a request to the service
 abbrev pub answer_to : ℕ → List ℕ → Answer
-answer_to s m = if is_final_for s m then Final else if is_pending_for s m then Pending else No
+answer_to service message = if is_final_for service message then Final else if is_pending_for service message then Pending else No
 
 -- the suppressPosRspMsgIndicationBit: bit 7 of the byte behind the identifier, where the service has a sub-function
 abbrev pub is_suppressing : List ℕ → Bool
-is_suppressing (s ∷ f ∷ parameters) = has_sub_function s && bit_at f 7 == 1
-is_suppressing m = false
+is_suppressing (service ∷ sub_function ∷ parameters) = has_sub_function service && bit_at sub_function 7 == 1
+is_suppressing message = false

@@ -3,7 +3,7 @@
 use crate::{Answer, TesterKind, answers, code_name, service_name, suppresses, tester_kind};
 
 #[test]
-fn kinds_of_tester_messages(rt: HostRuntime) {
+fn requests_and_keep_alives_by_their_bytes(rt: HostRuntime) {
     let table: [(&[u8], TesterKind); 8] = [
         (&[0x3E, 0x80], TesterKind::KeepAlive),
         (&[0x3E, 0x00], TesterKind::Request),
@@ -20,7 +20,7 @@ fn kinds_of_tester_messages(rt: HostRuntime) {
 }
 
 #[test]
-fn answers_to_a_request(rt: HostRuntime) {
+fn final_and_pending_answers_by_their_bytes(rt: HostRuntime) {
     let table: [(u8, &[u8], Answer); 16] = [
         (0x22, &[0x62], Answer::Final),
         (0x22, &[0x62, 0xF1, 0x90, 0x41], Answer::Final),
@@ -45,7 +45,7 @@ fn answers_to_a_request(rt: HostRuntime) {
 }
 
 #[test]
-fn suppressed_positive_responses(rt: HostRuntime) {
+fn bit_7_of_a_sub_function_suppresses(rt: HostRuntime) {
     let table: [(&[u8], bool); 8] = [
         (&[0x10, 0x83], true),
         (&[0x10, 0x03], false),
@@ -93,7 +93,7 @@ const SERVICES: [(u8, &str, bool); 27] = [
 ];
 
 #[test]
-fn services_byte_by_byte(rt: HostRuntime) {
+fn each_byte_names_its_service_and_sub_function(rt: HostRuntime) {
     for sid in 0..=255u8 {
         let mut name = None;
         let mut has_sub_function = false;
@@ -135,7 +135,7 @@ const CODES: [(u8, &str); 22] = [
 ];
 
 #[test]
-fn response_codes_byte_by_byte(rt: HostRuntime) {
+fn each_byte_names_its_response_code(rt: HostRuntime) {
     for code in 0..=255u8 {
         let mut name = None;
         for (row, row_name) in CODES.iter() {

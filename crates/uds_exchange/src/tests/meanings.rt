@@ -3,6 +3,7 @@
 use crate::{Item, Meaning, Pairing};
 use can_log::Dir::{self, Tester, Unit};
 use std::alloc::{AllocError, Global};
+use std::process::Abort;
 
 /// An item as a row spells it.
 #[derive(Clone, Copy)]
@@ -272,7 +273,7 @@ pub(super) const ROWS: [Row; 20] = [
 ];
 
 #[test]
-fn meanings_of_lists(rt: HostRuntime) -> Result<(), AllocError> {
+fn each_list_has_the_meaning_of_its_row(rt: HostRuntime) -> Result<(), AllocError> {
     for row in ROWS.iter() {
         let meaning = meaning_of(rt.alloc(), row.messages)?;
         assert_eq!(rt; meaning.len(), row.items.len(), "{}", row.name);
@@ -297,55 +298,17 @@ const ANSWER: Message = (Unit, &[0x62, 0xF1, 0x90, 0x41]);
 
 const OTHER_ANSWER: Message = (Unit, &[0x62, 0xF1, 0x90, 0x42]);
 
+/// Two lists whose meanings first differ at this place, or nowhere.
 struct Pair {
     left: &'static [Message],
     right: &'static [Message],
     place: Option<usize>,
 }
 
-const PAIRS: [Pair; 7] = [
-    Pair {
-        left: &[],
-        right: &[],
-        place: None,
-    },
-    Pair {
-        left: &[REQUEST, ANSWER],
-        right: &[REQUEST, ANSWER],
-        place: None,
-    },
-    Pair {
-        left: &[REQUEST, KEEP_ALIVE, ANSWER],
-        right: &[REQUEST, ANSWER, KEEP_ALIVE],
-        place: None,
-    },
-    Pair {
-        left: &[REQUEST, ANSWER],
-        right: &[REQUEST, OTHER_ANSWER],
-        place: Some(0),
-    },
-    Pair {
-        left: &[KEEP_ALIVE, REQUEST, ANSWER],
-        right: &[KEEP_ALIVE, REQUEST],
-        place: Some(1),
-    },
-    Pair {
-        left: &[KEEP_ALIVE, REQUEST, KEEP_ALIVE],
-        right: &[KEEP_ALIVE],
-        place: Some(1),
-    },
-    Pair {
-        left: &[],
-        right: &[KEEP_ALIVE],
-        place: Some(0),
-    },
-];
-
-#[test]
-fn first_differences(rt: HostRuntime) -> Result<(), AllocError> {
-    for (i, pair) in PAIRS.iter().enumerate() {
-        let left = meaning_of(rt.alloc(), pair.left)?;
-        let right = meaning_of(rt.alloc(), pair.right)?;
+fn assert_differ(rt: &impl Abort, alloc: Global, pairs: &[Pair]) -> Result<(), AllocError> {
+    for (i, pair) in pairs.iter().enumerate() {
+        let left = meaning_of(alloc, pair.left)?;
+        let right = meaning_of(alloc, pair.right)?;
         assert_eq!(rt; left.first_difference(&right), pair.place, "row {i}");
         assert_eq!(rt;
             right.first_difference(&left),
@@ -354,4 +317,69 @@ fn first_differences(rt: HostRuntime) -> Result<(), AllocError> {
         );
     }
     Ok(())
+}
+
+#[test]
+fn equal_meanings_of_equal_and_of_other_lists(rt: HostRuntime) -> Result<(), AllocError> {
+    assert_differ(
+        &rt,
+        rt.alloc(),
+        &[
+            Pair {
+                left: &[],
+                right: &[],
+                place: None,
+            },
+            Pair {
+                left: &[REQUEST, ANSWER],
+                right: &[REQUEST, ANSWER],
+                place: None,
+            },
+            Pair {
+                left: &[REQUEST, KEEP_ALIVE, ANSWER],
+                right: &[REQUEST, ANSWER, KEEP_ALIVE],
+                place: None,
+            },
+        ],
+    )
+}
+
+#[test]
+fn first_difference_at_another_answer_or_none(rt: HostRuntime) -> Result<(), AllocError> {
+    assert_differ(
+        &rt,
+        rt.alloc(),
+        &[
+            Pair {
+                left: &[REQUEST, ANSWER],
+                right: &[REQUEST, OTHER_ANSWER],
+                place: Some(0),
+            },
+            Pair {
+                left: &[KEEP_ALIVE, REQUEST, ANSWER],
+                right: &[KEEP_ALIVE, REQUEST],
+                place: Some(1),
+            },
+        ],
+    )
+}
+
+#[test]
+fn first_difference_where_one_meaning_ends(rt: HostRuntime) -> Result<(), AllocError> {
+    assert_differ(
+        &rt,
+        rt.alloc(),
+        &[
+            Pair {
+                left: &[KEEP_ALIVE, REQUEST, KEEP_ALIVE],
+                right: &[KEEP_ALIVE],
+                place: Some(1),
+            },
+            Pair {
+                left: &[],
+                right: &[KEEP_ALIVE],
+                place: Some(0),
+            },
+        ],
+    )
 }

@@ -3,4 +3,6 @@ use Rattle.uds_exchange.proofs.Variants.{if_err_along}
 use Rattle.uds_exchange.proofs.orderer.put_due.Goals as goal
 
 pub returns-in-Stray-clause-err : goal.returns-in-Stray-clause-err
-returns-in-Stray-clause-err g c = rw c.in-Stray.is (if_err_along c.put.result _ _ (λ e h. fails-first g.S.MessageSink.after_ok g.S.MessageSink.after_err _ _ (c.args.dir, c.args.message.now) _ e h) c.put.ensures.err)
+returns-in-Stray-clause-err g c =
+    rw c.in-Stray.is (if_err_along c.put.result _ _ (λ e h.
+    fails-first g.S.MessageSink.after_ok g.S.MessageSink.after_err _ _ (c.args.dir, c.args.message.now) _ e h) c.put.ensures.err)

@@ -8,5 +8,7 @@ use Rattle.uds_exchange.proofs.pairing.set_answer.Goals as goal
 
 pub returns : goal.returns
 returns c = λ request h.
-    map-set item_value c.args.items.now.items c.args.at c.answer_with.new.item
-    ∙ ap (slice_set (item_values c.args.items.now.items) c.args.at) (c.answer_with.ensures request (value-at c.args.items.now.items c.args.at c.index_mut.result.now (exchange request None) c.index_mut.ensures.value c.requires h))
+    let items = c.args.items.now.items in
+    let here = value-at items c.args.at c.index_mut.result.now (exchange request None) c.index_mut.ensures.value c.requires h in
+    map-set item_value items c.args.at c.answer_with.new.item
+    ∙ ap (slice_set (item_values items) c.args.at) (c.answer_with.ensures request here)

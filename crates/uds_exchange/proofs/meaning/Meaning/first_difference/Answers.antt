@@ -18,8 +18,10 @@ returns-else-len c =
     let xs = item_values c.self.inside.items.items in
     let ys = item_values c.other.inside.items.items in
     let n = c.min-shorter.result in
+    let left = length-item_values c.self.inside.items.items in
+    let right = length-item_values c.other.inside.items.items in
     let whole : c.loop-i.i ≡ n = omega arith in
-    let unequal : length xs ≢ length ys = λ h. c.if-len.false (omega (arith, length-item_values c.self.inside.items.items, length-item_values c.other.inside.items.items)) in
-    let shorter : n ≡ min (length xs) (length ys) = omega (arith, length-item_values c.self.inside.items.items, length-item_values c.other.inside.items.items) in
+    let unequal : length xs ≢ length ys = λ h. c.if-len.false (omega (arith, left, right)) in
+    let shorter : n ≡ min (length xs) (length ys) = omega (arith, left, right) in
     let differs = shorter-differs xs ys n shorter unequal in
     rw (← c.self.view_is, ← c.other.view_is) (rw whole at c.loop-i.invariant, differs)

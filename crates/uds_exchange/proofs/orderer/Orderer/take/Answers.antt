@@ -18,5 +18,6 @@ returns-clause-puts g c =
 
 pub returns-clause-stops : goal.returns-clause-stops
 returns-clause-stops g c =
+    let x : Message = (c.args.dir, c.args.message.now) in
     if_err_along c.advance.result _ _ (λ e h M is.
-    stops-due g.S.MessageSink.after_ok g.S.MessageSink.after_err M (c.args.dir, c.args.message.now) c.args.self.now c.advance.new.self _ _ e is h) c.advance.ensures.err
+    stops-due g.S.MessageSink.after_ok g.S.MessageSink.after_err M x c.args.self.now c.advance.new.self _ _ e is h) c.advance.ensures.err

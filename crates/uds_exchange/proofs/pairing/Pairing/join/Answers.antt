@@ -6,13 +6,16 @@ use Rattle.uds_exchange.specs.declared.item.Item.TheVariants as item
 use Rattle.uds_exchange.specs.Meaning.{ItemValue, exchange, stray}
 use Rattle.uds_exchange.specs.ItemSeen.{item_values}
 use Rattle.uds_exchange.specs.Pairing.{IsOpenAt}
-use Rattle.uds_exchange.proofs.Kept.{item_values-push, length-item_values, joins-request, request-sid, joins-stray, joins-answer, answered-at, answered-below, answered-exchange, kept-request, kept-stray, kept-answer}
+use Rattle.uds_exchange.proofs.Kept.{item_values-push, length-item_values, kept-request, kept-stray, kept-answer}
+use Rattle.uds_exchange.proofs.Kept.{joins-request, request-sid, joins-stray, joins-answer, answered-at, answered-below, answered-exchange}
 use Rattle.uds_exchange.proofs.pairing.Pairing.join.Goals as goal
 
 pub set_answer-requires : goal.set_answer-requires
 set_answer-requires c =
     let items = c.self.inside.items.items in
-    omega (arith, length-item_values items, answered-below (item_values items) c.args.self.now c.self.view_is c.self.inside.open_sid c.self.inside.last c.self.invariant (c.args.dir, c.args.message.now) c.in-Answer.ensures)
+    let below = answered-below (item_values items) c.args.self.now c.self.view_is c.self.inside.open_sid c.self.inside.last
+    c.self.invariant (c.args.dir, c.args.message.now) c.in-Answer.ensures in
+    omega (arith, length-item_values items, below)
 
 pub invariant_of-self-in-Request : goal.invariant_of-self-in-Request
 invariant_of-self-in-Request c =
@@ -20,8 +23,9 @@ invariant_of-self-in-Request c =
     let x : Message = (c.args.dir, c.args.message.now) in
     let request = c.in_ok-request-in-Request.request in
     let pushed = item_values-push c.self.inside.items.items c.push.new.self.items (item.Exchange request None) c.in_ok-push-in-Request.ensures.items in
-    let first : sid request.items ≡ c.in-Request.sid =
-    ap sid c.in_ok-request-in-Request.ensures ∙ sym (request-sid its c.args.self.now c.self.view_is c.self.inside.open_sid c.self.inside.last c.self.invariant x c.in-Request.sid c.in-Request.ensures) in
+    let kept = request-sid its c.args.self.now c.self.view_is c.self.inside.open_sid c.self.inside.last c.self.invariant x
+    c.in-Request.sid c.in-Request.ensures in
+    let first : sid request.items ≡ c.in-Request.sid = ap sid c.in_ok-request-in-Request.ensures ∙ sym kept in
     subst (λ (l : List ItemValue). IsOpenAt l (Some c.in-Request.sid) c.len-last.result) (sym pushed)
     (subst (λ (s : ℕ). IsOpenAt (its ++ exchange request.items None ∷ []) (Some s) c.len-last.result) first
     (kept-request its request.items c.len-last.result (omega (arith, length-item_values c.self.inside.items.items))))
@@ -32,7 +36,8 @@ returns-in_ok-push-in-Request-clause-ok c =
     let request = c.in_ok-request-in-Request.request in
     item_values-push c.self.inside.items.items c.push.new.self.items (item.Exchange request None) c.in_ok-push-in-Request.ensures.items
     ∙ ap (λ m. its ++ exchange m None ∷ []) c.in_ok-request-in-Request.ensures
-    ∙ joins-request its c.args.self.now c.self.view_is c.self.inside.open_sid c.self.inside.last c.self.invariant (c.args.dir, c.args.message.now) c.in-Request.sid c.in-Request.ensures
+    ∙ joins-request its c.args.self.now c.self.view_is c.self.inside.open_sid c.self.inside.last c.self.invariant
+    (c.args.dir, c.args.message.now) c.in-Request.sid c.in-Request.ensures
 
 pub invariant_of-self-in-Answer : goal.invariant_of-self-in-Answer
 invariant_of-self-in-Answer c =
@@ -41,9 +46,10 @@ invariant_of-self-in-Answer c =
     let x : Message = (c.args.dir, c.args.message.now) in
     let w = answered-at its c.args.self.now c.self.view_is c.self.inside.open_sid last c.self.invariant x c.in-Answer.ensures in
     let reply = c.in_ok-answer-in-Answer.answer.items in
-    let set = c.set_answer.ensures w.0.1 (answered-exchange its c.args.self.now c.self.view_is c.self.inside.open_sid last c.self.invariant x c.in-Answer.ensures) in
-    subst (λ (l : List ItemValue). IsOpenAt l None last) (sym (set ∙ ap (λ i. slice_set its i (exchange w.0.1 (Some reply))) (sym (c.self.invariant.place w.0 w.1))))
-    (kept-answer its w.0 last reply w.1)
+    let there = answered-exchange its c.args.self.now c.self.view_is c.self.inside.open_sid last c.self.invariant x c.in-Answer.ensures in
+    let place = c.self.invariant.place w.0 w.1 in
+    let set = c.set_answer.ensures w.0.1 there ∙ ap (λ i. slice_set its i (exchange w.0.1 (Some reply))) (sym place) in
+    subst (λ (l : List ItemValue). IsOpenAt l None last) (sym set) (kept-answer its w.0 last reply w.1)
 
 pub returns-in_ok-answer-in-Answer-clause-ok : goal.returns-in_ok-answer-in-Answer-clause-ok
 returns-in_ok-answer-in-Answer-clause-ok c =
@@ -51,7 +57,8 @@ returns-in_ok-answer-in-Answer-clause-ok c =
     let last = c.self.inside.last in
     let x : Message = (c.args.dir, c.args.message.now) in
     let w = answered-at its c.args.self.now c.self.view_is c.self.inside.open_sid last c.self.invariant x c.in-Answer.ensures in
-    c.set_answer.ensures w.0.1 (answered-exchange its c.args.self.now c.self.view_is c.self.inside.open_sid last c.self.invariant x c.in-Answer.ensures)
+    let there = answered-exchange its c.args.self.now c.self.view_is c.self.inside.open_sid last c.self.invariant x c.in-Answer.ensures in
+    c.set_answer.ensures w.0.1 there
     ∙ ap (λ m. slice_set its last (exchange w.0.1 (Some m))) c.in_ok-answer-in-Answer.ensures
     ∙ joins-answer its c.args.self.now c.self.view_is c.self.inside.open_sid last c.self.invariant x c.in-Answer.ensures
 
@@ -69,4 +76,5 @@ returns-in_ok-push-in-Stray-clause-ok c =
     let bytes = c.in_ok-bytes-in-Stray.bytes in
     item_values-push c.self.inside.items.items c.push-in-Stray.new.self.items (item.Stray c.args.dir bytes) c.in_ok-push-in-Stray.ensures.items
     ∙ ap (λ m. its ++ stray c.args.dir m ∷ []) c.in_ok-bytes-in-Stray.ensures
-    ∙ joins-stray its c.args.self.now c.self.view_is c.self.inside.open_sid c.self.inside.last c.self.invariant (c.args.dir, c.args.message.now) c.in-Stray.ensures
+    ∙ joins-stray its c.args.self.now c.self.view_is c.self.inside.open_sid c.self.inside.last c.self.invariant
+    (c.args.dir, c.args.message.now) c.in-Stray.ensures

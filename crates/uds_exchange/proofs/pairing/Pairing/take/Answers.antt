@@ -1,4 +1,5 @@
 use Rattle.std.proofs.Common.{sym, ◌∙◌, ap}
+use Rattle.can_log.specs.Dir.{Message}
 use Rattle.uds_exchange.specs.Pairing.{joined}
 use Rattle.uds_exchange.proofs.OneMore.{meaning-append}
 use Rattle.uds_exchange.proofs.Variants.{on_ok_along}
@@ -6,4 +7,5 @@ use Rattle.uds_exchange.proofs.pairing.Pairing.take.Goals as goal
 
 pub returns-clause-ok : goal.returns-clause-ok
 returns-clause-ok c =
-    on_ok_along c.join.result _ _ (λ h M is. h ∙ ap (λ p. joined p (c.args.dir, c.args.message.now)) is ∙ sym (meaning-append M (c.args.dir, c.args.message.now))) c.join.ensures.ok
+    let x : Message = (c.args.dir, c.args.message.now) in
+    on_ok_along c.join.result _ _ (λ h M is. h ∙ ap (λ p. joined p x) is ∙ sym (meaning-append M x)) c.join.ensures.ok
