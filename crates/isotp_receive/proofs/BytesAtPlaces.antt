@@ -1,9 +1,9 @@
 -- The bytes that have come stand at their places, and so do those of a message that is complete.
-use Rattle.std.proofs.Common.{◌≡◌, ℕ, suc, ◌+◌, ◌-◌, ◌*◌, ◌<◌, ◌≤◌, true, List, ◌∷◌, ◌++◌, length, take, get_or, nat_lt, sym, ◌∙◌, ap, arith}
+use Rattle.std.proofs.Common.{◌≡◌, ℕ, suc, ◌+◌, ◌-◌, ◌*◌, ◌<◌, ◌≤◌, true, List, ◌∷◌, ◌++◌, length, take, get_or, sym, ◌∙◌, ap, arith}
 use Rattle.std.proofs.Common.{inl, inr, append_assoc, length-append, get_or-take, length-take}
 use Rattle.std.proofs.lemmas.List.{get_or-drop, get_or_append_left, get_or-append-add}
 use Rattle.std.proofs.lemmas.Grind.{get_or_after_one}
-use Rattle.std.proofs.lemmas.Bool.{ltb-true, ltb-false, cases_Bool}
+use Rattle.std.proofs.lemmas.Bool.{cases_lt}
 use Rattle.can_log.specs.declared.frame.Dir.{Dir}
 use Rattle.isotp_receive.specs.Trace.{Entry, FirstFrame, first, consecutive, role}
 use Rattle.isotp_receive.specs.Places.{bytes_in_first, bytes_before, consecutive_by, consecutive_frames_in, between, IsConsecutive, AtPlaces}
@@ -107,14 +107,14 @@ module _ (limit : ℕ) (d : Dir) (before : List Entry) (e0 : Entry) (s : FirstFr
           in_first = λ x inside below.
               let early : x < length (s.bytes ++ carried d since) = omega arith in
               of-come x early (omega arith) ∙ come.in_first x early below;
-          in_consecutive = λ q b wide inside. elim (cases_Bool (nat_lt q k)) [
-            | inl t ↦ (let less = ltb-true q k t in
+          in_consecutive = λ q b wide inside. elim (cases_lt q k) [
+            | inl less ↦ (
                 let sum : k ≡ q + 1 + (k - q - 1) = omega arith in
                 let product = ap (λ j. j * w) sum in
                 let early : bytes_in_first e0.frame.bytes + (q * w + b) < length (s.bytes ++ carried d since) = omega arith in
                 let old = come.in_consecutive q b wide early in
                 (old.0, old.1, old.2, of-come _ early (omega arith) ∙ old.3))
-            | inr t ↦ (let over = ltb-false q k t in
+            | inr over ↦ (
                 let next : k * w + w ≡ (k + 1) * w = omega arith in
                 let below = product-below q (k + 1) b w (omega arith) in
                 let same : q ≡ k = omega arith in

@@ -1,9 +1,9 @@
 -- A clean trace is a recording of what it delivers.
-use Rattle.std.proofs.Common.{◌≡◌, ℕ, suc, ◌≤◌, true, false, List, [], ◌∷◌, ◌++◌, length, map, nat_lt, Option, Some, None, Result, Ok, Err, refl, sym, ◌∙◌, ap}
+use Rattle.std.proofs.Common.{◌≡◌, ℕ, suc, ◌≤◌, true, false, List, [], ◌∷◌, ◌++◌, length, map, Option, Some, None, Result, Ok, Err, refl, sym, ◌∙◌, ap}
 use Rattle.std.proofs.Common.{arith, append_assoc, length-append, inl, inr, subst}
 use Rattle.std.specs.Prelude.{◌⊎◌}
 use Rattle.std.specs.List.{AllByRecursion}
-use Rattle.std.proofs.lemmas.Bool.{cases_Bool, ltb-true, ltb-false}
+use Rattle.std.proofs.lemmas.Bool.{cases_Bool, cases_lt}
 use Rattle.std.proofs.lemmas.List.{append-nil, map-append}
 use Rattle.std.proofs.lemmas.Option.{slice_get_within}
 use Rattle.can_log.specs.Dir.{other_direction, Message}
@@ -169,12 +169,12 @@ module _ (limit : ℕ) (T : List Entry) (n : ℕ) (past es : List Entry) (e : En
   ]
 
   others-join : (p : ℕ) (x : Entry) → n ≤ p → At T p x → IsGiven p ((steps e.dir).out ++ rest.gs) ⊎ IsIdle (layout_of x.frame)
-  others-join p x above there = elim (cases_Bool (nat_lt n p)) [
-    | inl t ↦ (let lt = ltb-true n p t in elim (rest.others p x (omega arith) there) [
+  others-join p x above there = elim (cases_lt n p) [
+    | inl later ↦ elim (rest.others p x later there) [
       | inl i ↦ inl (given-right p (steps e.dir).out rest.gs i)
       | inr idle ↦ inr idle
-    ])
-    | inr t ↦ (let le = ltb-false n p t in let here : p ≡ n = omega arith in
+    ]
+    | inr most ↦ (let here : p ≡ n = omega arith in
         let is_e : x ≡ e = get-same T n x e (subst (λ j. At T j x) here there) at in
         elim (own-or-idle limit past e ended kept) [
           | inl own ↦ inl (subst (λ j. IsGiven j ((steps e.dir).out ++ rest.gs)) (sym here) (elim ((steps e.dir).here own) [

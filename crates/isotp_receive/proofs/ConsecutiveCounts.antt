@@ -1,14 +1,14 @@
 -- The least number of consecutive frames that hold what a first frame leaves.
-use Rattle.std.proofs.Common.{◌≡◌, ℕ, zero, suc, ◌+◌, ◌-◌, ◌*◌, ◌<◌, ◌≤◌, nat_lt, ap, arith, inl, inr}
-use Rattle.std.proofs.lemmas.Bool.{ltb-true, ltb-false, cases_Bool}
+use Rattle.std.proofs.Common.{◌≡◌, ℕ, zero, suc, ◌+◌, ◌-◌, ◌*◌, ◌<◌, ◌≤◌, ap, arith, inl, inr}
+use Rattle.std.proofs.lemmas.Bool.{cases_lt}
 use Rattle.isotp_receive.specs.Places.{IsConsecutiveCount}
 use Rattle.isotp_receive.proofs.Products.{product-grows}
 
 -- so many as don't hold the message are fewer
 pub below-count : (f r len n k : ℕ) → IsConsecutiveCount f r len n → f + k * (r - 1) < len → k < n
-below-count f r len n k least less = elim (cases_Bool (nat_lt k n)) [
-  | inl t ↦ ltb-true k n t
-  | inr t ↦ (let over = ltb-false k n t in
+below-count f r len n k least less = elim (cases_lt k n) [
+  | inl below ↦ below
+  | inr over ↦ (
       let sum : k ≡ n + (k - n) = omega arith in
       let product = ap (λ j. j * (r - 1)) sum in
       let enough = least.enough in absurd (omega arith))
@@ -18,15 +18,14 @@ below-count f r len n k least less = elim (cases_Bool (nat_lt k n)) [
 count-up : (f r len fuel n : ℕ) → 2 ≤ r → len ≤ f + (n + fuel) * (r - 1) → ((k : ℕ) → k < n → f + k * (r - 1) < len) → (m : ℕ) × IsConsecutiveCount f r len m
 count-up f r len zero n wide enough fewer =
     (n, record { enough = (let same : n + 0 ≡ n = omega arith in let product = ap (λ j. j * (r - 1)) same in omega arith); fewer = fewer })
-count-up f r len (suc fuel) n wide enough fewer = elim (cases_Bool (nat_lt (f + n * (r - 1)) len)) [
-  | inl t ↦ (let sum : n + suc fuel ≡ n + 1 + fuel = omega arith in
+count-up f r len (suc fuel) n wide enough fewer = elim (cases_lt (f + n * (r - 1)) len) [
+  | inl short ↦ (let sum : n + suc fuel ≡ n + 1 + fuel = omega arith in
       let product = ap (λ j. j * (r - 1)) sum in
-      let here = ltb-true (f + n * (r - 1)) len t in
-      count-up f r len fuel (n + 1) wide (omega arith) (λ k less. elim (cases_Bool (nat_lt k n)) [
-        | inl u ↦ fewer k (ltb-true k n u)
-        | inr u ↦ (let ge = ltb-false k n u in let same : k ≡ n = omega arith in let product_here = ap (λ j. j * (r - 1)) same in omega arith)
+      count-up f r len fuel (n + 1) wide (omega arith) (λ k less. elim (cases_lt k n) [
+        | inl below ↦ fewer k below
+        | inr least ↦ (let same : k ≡ n = omega arith in let product_here = ap (λ j. j * (r - 1)) same in omega arith)
       ]))
-  | inr t ↦ (n, record { enough = ltb-false (f + n * (r - 1)) len t; fewer = fewer })
+  | inr holds ↦ (n, record { enough = holds; fewer = fewer })
 ]
 
 pub count-exists : (f r len : ℕ) → 2 ≤ r → (n : ℕ) × IsConsecutiveCount f r len n

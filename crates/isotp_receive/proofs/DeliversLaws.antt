@@ -1,8 +1,8 @@
 -- A frame's verdict is a message exactly where the trace delivers it there.
-use Rattle.std.proofs.Common.{◌≡◌, ℕ, suc, ◌+◌, ◌-◌, ◌*◌, ◌<◌, ◌≤◌, true, List, [], ◌∷◌, ◌++◌, length, take, nat_lt, Option, Some, None, refl, sym}
+use Rattle.std.proofs.Common.{◌≡◌, ℕ, suc, ◌+◌, ◌-◌, ◌*◌, ◌<◌, ◌≤◌, true, List, [], ◌∷◌, ◌++◌, length, take, Option, Some, None, refl, sym}
 use Rattle.std.proofs.Common.{◌∙◌, ap, arith, cond, inl, inr, subst, append_assoc, length-append, length-take}
 use Rattle.std.specs.Prelude.{◌↔◌}
-use Rattle.std.proofs.lemmas.Bool.{ltb-true, ltb-false, le-ltb, le-leb, eq-eqb, cases_Bool}
+use Rattle.std.proofs.lemmas.Bool.{le-ltb, le-leb, eq-eqb, cases_lt}
 use Rattle.can_log.specs.declared.frame.Dir.{Dir}
 use Rattle.isotp_receive.specs.declared.reception.Judged.{Judged}
 use Rattle.isotp_receive.specs.declared.reception.Judged.TheVariants as judged_as
@@ -68,9 +68,9 @@ module _ (limit : ℕ) (d : Dir) (before : List Entry) (e0 : Entry) (s : FirstFr
       let k = consecutive_frames_in d since in
       let more = o.more in
       let next : bytes_before (bytes_in_first e0.frame.bytes) s.rx_dl (k + 1) ≡ bytes_before (bytes_in_first e0.frame.bytes) s.rx_dl k + (s.rx_dl - 1) = omega arith in
-      let all_came : k + 1 ≡ o.count = elim (cases_Bool (nat_lt (k + 1) o.count)) [
-        | inl t ↦ absurd (let less = o.least.fewer (k + 1) (ltb-true (k + 1) o.count t) in omega arith)
-        | inr t ↦ (let ge = ltb-false (k + 1) o.count t in omega arith)
+      let all_came : k + 1 ≡ o.count = elim (cases_lt (k + 1) o.count) [
+        | inl below ↦ absurd (let less = o.least.fewer (k + 1) below in omega arith)
+        | inr all ↦ omega arith
       ] in
       let back : o.count - 1 ≡ k = omega arith in
       let product = ap (λ j. j * (s.rx_dl - 1)) back in

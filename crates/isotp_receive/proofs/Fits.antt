@@ -1,7 +1,7 @@
 -- A consecutive frame fits as its number exactly where the reception takes its length.
 use Rattle.std.proofs.Common.{◌≡◌, ℕ, ◌+◌, ◌-◌, ◌*◌, ◌%◌, ◌<◌, ◌≤◌, true, nat_lt, nat_le, ◌==◌, ◌&&◌, cond, ◌∙◌, ap, arith, inl, inr}
 use Rattle.std.specs.Prelude.{IsTrue, ◌↔◌}
-use Rattle.std.proofs.lemmas.Bool.{and_parts, ltb-true, ltb-false, leb-true, eqb-true, lt-ltb, le-ltb, cases_Bool, and_from, le-leb, eq-eqb}
+use Rattle.std.proofs.lemmas.Bool.{and_parts, leb-true, eqb-true, lt-ltb, le-ltb, and_from, le-leb, eq-eqb, cases_lt}
 use Rattle.can_log.specs.declared.frame.Dir.{Dir}
 use Rattle.isotp_receive.specs.Trace.{Entry, FirstFrame, first, role}
 use Rattle.isotp_receive.specs.Places.{bytes_in_first, IsConsecutiveCount, FitsAs}
@@ -26,13 +26,11 @@ module _ (f r len n k sequence_number dl : ℕ) (least : IsConsecutiveCount f r 
   to : FitsAs f r len n (k + 1) sequence_number dl → (sequence_number ≡ (k + 1) % 16) × (fits_length len r (f + k * (r - 1)) dl ≡ true)
   to h = (
     h.in_sequence,
-    (let have = least.fewer k below in elim (cases_Bool (nat_lt (k + 1) n)) [
-      | inl t ↦ (let lt = ltb-true (k + 1) n t in
-          let full = h.full lt in
-          let more = least.fewer (k + 1) lt in
+    (let have = least.fewer k below in elim (cases_lt (k + 1) n) [
+      | inl less ↦ (let full = h.full less in
+          let more = least.fewer (k + 1) less in
           fits-more len r (f + k * (r - 1)) dl have (omega arith) full)
-      | inr t ↦ (let le = ltb-false (k + 1) n t in
-          let last : k + 1 ≡ n = omega arith in
+      | inr most ↦ (let last : k + 1 ≡ n = omega arith in
           let low = h.last_low last in
           let high = h.last_high last in
           let back : n - 1 ≡ k = omega arith in

@@ -1,9 +1,9 @@
 -- A recording gives each message the positions of the frames that make it, and each such frame to one message.
-use Rattle.std.proofs.Common.{◌≡◌, ℕ, suc, ◌≤◌, List, [], ◌∷◌, ◌++◌, length, map, nat_lt, Result, Ok, Err, refl, sym, ◌∙◌, ap, arith, inl, inr, subst}
+use Rattle.std.proofs.Common.{◌≡◌, ℕ, suc, ◌≤◌, List, [], ◌∷◌, ◌++◌, length, map, Result, Ok, Err, refl, sym, ◌∙◌, ap, arith, inl, inr, subst}
 use Rattle.std.proofs.Common.{append_assoc, length-append}
 use Rattle.std.specs.Prelude.{◌⊎◌}
 use Rattle.std.specs.List.{AllByRecursion}
-use Rattle.std.proofs.lemmas.Bool.{cases_Bool, ltb-true, ltb-false}
+use Rattle.std.proofs.lemmas.Bool.{cases_Bool, cases_lt}
 use Rattle.can_log.specs.Dir.{Message}
 use Rattle.can_log.specs.declared.frame.Dir.{Dir}
 use Rattle.can_log.proofs.EachElement.{AllByRecursion-append, AllByRecursion-both}
@@ -147,17 +147,17 @@ module _ (limit : ℕ) (T : List Entry) (d : Dir) (m : List ℕ) (i : ℕ) (cs :
   started c =
       let later = c.is_open.later in
       let low = below-last 0 i i cs rising (inl refl) in
-      elim (cases_Bool (nat_lt c.begun i)) [
-        | inl t ↦ absurd (let less = ltb-true c.begun i t in elim (cases_Bool (nat_lt i (last_or i cs))) [
-          | inl u ↦ no-first c.is_open.start l.start _ _ _ _ (role d l.frame) l.kind (c.is_open.each i l.frame less (ltb-true i (last_or i cs) u) l.stands)
-          | inr u ↦ (let le = ltb-false i (last_or i cs) u in let here : last_or i cs ≡ i = omega arith in
+      elim (cases_lt c.begun i) [
+        | inl before ↦ absurd (elim (cases_lt i (last_or i cs)) [
+          | inl below ↦ no-first c.is_open.start l.start _ _ _ _ (role d l.frame) l.kind (c.is_open.each i l.frame before below l.stands)
+          | inr most ↦ (let here : last_or i cs ≡ i = omega arith in
               not-consecutive T d (last_or i cs) l.frame (subst (λ j. At T j l.frame) (sym here) l.stands) (ap consecutive_by l.kind)
               (record { frame = c.frame; stands = c.stands; kind = ap consecutive_by c.kind }))
         ])
-        | inr t ↦ (let ge = ltb-false c.begun i t in elim (mine c.begun c.is_open.frame (omega arith) (omega arith) c.is_open.stands (rw c.is_open.kind tt)) [
+        | inr from ↦ elim (mine c.begun c.is_open.frame (omega arith) (omega arith) c.is_open.stands (rw c.is_open.kind tt)) [
           | inl is ↦ is
           | inr j ↦ absurd (not-consecutive T d c.begun c.is_open.frame c.is_open.stands (ap consecutive_by c.is_open.kind) (at-cs c.begun j))
-        ])
+        ]
       ]
 
   within-of : (x : ℕ) → IsIn x cs → IsConsecutiveWithin T d i (last_or i cs) x

@@ -1,8 +1,8 @@
 -- Fronts of lists of numbers.
-use Rattle.std.proofs.Common.{◌≡◌, ℕ, ◌+◌, ◌-◌, ◌<◌, ◌≤◌, List, ◌++◌, length, take, get_or, nat_lt, sym, ◌∙◌, ap, arith, inl, inr, ext_get_or}
+use Rattle.std.proofs.Common.{◌≡◌, ℕ, ◌+◌, ◌-◌, ◌<◌, ◌≤◌, List, ◌++◌, length, take, get_or, sym, ◌∙◌, ap, arith, inl, inr, ext_get_or}
 use Rattle.std.proofs.Common.{get_or-take, length-append, length-take}
 use Rattle.std.proofs.Math.Seq.{take-append-add}
-use Rattle.std.proofs.lemmas.Bool.{cases_Bool, ltb-true, ltb-false}
+use Rattle.std.proofs.lemmas.Bool.{cases_lt}
 use Rattle.std.proofs.lemmas.List.{get_or_append_left, get_or-append_right}
 
 -- xs, and as many of ys as n wants
@@ -23,8 +23,8 @@ front-goes-on m xs ys a e h each =
       size = ap length e ∙ omega (arith, length-take a m)
 
       at_index : (i : ℕ) → i < length m → i < a + length ys → get_or (xs ++ ys) i 0 ≡ get_or m i 0
-      at_index i i_in i_sum = elim (cases_Bool (nat_lt i a)) [
-        | inl t ↦ (let lt = ltb-true i a t in get_or_append_left xs ys 0 i (omega (arith, size)) ∙ ap (λ l. get_or l i 0) e ∙ get_or-take a m i 0 lt)
-        | inr t ↦ (let ge = ltb-false i a t in let back : a + (i - a) ≡ i = omega arith in
-            get_or-append_right xs ys a i 0 size ge ∙ sym (each (i - a) (omega (arith, size)) (omega arith)) ∙ ap (λ j. get_or m j 0) back)
+      at_index i i_in i_sum = elim (cases_lt i a) [
+        | inl below ↦ get_or_append_left xs ys 0 i (omega (arith, size)) ∙ ap (λ l. get_or l i 0) e ∙ get_or-take a m i 0 below
+        | inr behind ↦ (let back : a + (i - a) ≡ i = omega arith in
+            get_or-append_right xs ys a i 0 size behind ∙ sym (each (i - a) (omega (arith, size)) (omega arith)) ∙ ap (λ j. get_or m j 0) back)
       ]

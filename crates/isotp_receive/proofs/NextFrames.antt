@@ -1,7 +1,7 @@
 -- What the frames of a message do that is under way: its first frame, its next consecutive frame, and its last.
-use Rattle.std.proofs.Common.{◌≡◌, ℕ, suc, ◌+◌, ◌-◌, ◌*◌, ◌<◌, ◌≤◌, true, List, [], ◌∷◌, ◌++◌, length, take, get_or, nat_lt, ◌==◌, Some, None}
+use Rattle.std.proofs.Common.{◌≡◌, ℕ, suc, ◌+◌, ◌-◌, ◌*◌, ◌<◌, ◌≤◌, true, List, [], ◌∷◌, ◌++◌, length, take, get_or, ◌==◌, Some, None}
 use Rattle.std.proofs.Common.{refl, sym, ◌∙◌, ap, arith, length-append, length-take, inl, inr, subst}
-use Rattle.std.proofs.lemmas.Bool.{ltb-false, ltb-true, lt-ltb, le-ltb, le-leb, eq-eqb, cases_Bool}
+use Rattle.std.proofs.lemmas.Bool.{lt-ltb, le-ltb, le-leb, eq-eqb, cases_lt}
 use Rattle.std.proofs.lemmas.List.{take_all, get_or-drop}
 use Rattle.std.proofs.lemmas.Grind.{get_or_after_one}
 use Rattle.can_log.specs.declared.frame.Dir.{Dir}
@@ -23,9 +23,9 @@ use Rattle.isotp_receive.proofs.HeardByRole.{completed}
 use Rattle.isotp_receive.proofs.UnderWay.{UnderWay}
 
 at_most : (f r len count k sequence_number can_dl : ℕ) → FitsAs f r len count k sequence_number can_dl → k ≤ count → can_dl ≤ r
-at_most f r len count k sequence_number can_dl h le = elim (cases_Bool (nat_lt k count)) [
-  | inl t ↦ (let e = h.full (ltb-true k count t) in omega arith)
-  | inr t ↦ (let ge = ltb-false k count t in h.last_high (omega arith))
+at_most f r len count k sequence_number can_dl h le = elim (cases_lt k count) [
+  | inl less ↦ (let full = h.full less in omega arith)
+  | inr most ↦ h.last_high (omega arith)
 ]
 
 module _ (limit : ℕ) (T : List Entry) (d : Dir) (n : ℕ) (e : Entry) (at : At T n e) where

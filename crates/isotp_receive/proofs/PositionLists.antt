@@ -1,7 +1,7 @@
 -- Lists of positions: what is in them, what rises, what comes last, and what holds of each with its number.
-use Rattle.std.proofs.Common.{◌≡◌, ℕ, suc, ◌+◌, ◌≤◌, List, [], ◌∷◌, ◌++◌, length, nat_lt, refl, ap, arith, inl, inr, subst}
+use Rattle.std.proofs.Common.{◌≡◌, ℕ, suc, ◌+◌, ◌≤◌, List, [], ◌∷◌, ◌++◌, length, refl, ap, arith, inl, inr, subst}
 use Rattle.std.specs.Prelude.{◌⊎◌}
-use Rattle.std.proofs.lemmas.Bool.{cases_Bool, ltb-true, ltb-false}
+use Rattle.std.proofs.lemmas.Bool.{cases_lt}
 use Rattle.isotp_receive.specs.Recording.{EachNumbered, IsRisingFrom, IsIn, last_or, AllBefore}
 
 -- ---- what is in a list
@@ -36,9 +36,9 @@ below-last n p q (r ∷ qs) h (inr i) = below-last (suc q) p r qs h.1 i
 -- n is the first of the list, or not in it
 pub first-or-later : (n : ℕ) (ps : List ℕ) → IsRisingFrom n ps → ((rest : List ℕ) × (ps ≡ n ∷ rest) × IsRisingFrom (suc n) rest) ⊎ IsRisingFrom (suc n) ps
 first-or-later n [] h = inr tt
-first-or-later n (p ∷ ps) h = elim (cases_Bool (nat_lt n p)) [
-  | inl t ↦ inr (ltb-true n p t, h.1)
-  | inr t ↦ (let same : p ≡ n = (let a = ltb-false n p t in let b = h.0 in omega arith) in
+first-or-later n (p ∷ ps) h = elim (cases_lt n p) [
+  | inl later ↦ inr (later, h.1)
+  | inr most ↦ (let same : p ≡ n = (let least = h.0 in omega arith) in
       inl (ps, ap (λ x. x ∷ ps) same, subst (λ x. IsRisingFrom (suc x) ps) same h.1))
 ]
 

@@ -1,8 +1,8 @@
 -- The reference frame of a consecutive frame: how it moves from one position to the next, and that there is one only.
-use Rattle.std.proofs.Common.{◌≡◌, ℕ, suc, ◌+◌, ◌<◌, ◌≤◌, true, List, [], ◌∷◌, ◌++◌, length, nat_lt, nat_le, refl, sym, ◌∙◌, ap, arith, inl, inr, subst}
+use Rattle.std.proofs.Common.{◌≡◌, ℕ, suc, ◌+◌, ◌<◌, ◌≤◌, true, List, [], ◌∷◌, ◌++◌, length, nat_le, refl, sym, ◌∙◌, ap, arith, inl, inr, subst}
 use Rattle.std.proofs.Common.{append_assoc, length-append}
 use Rattle.std.specs.Prelude.{◌⊎◌}
-use Rattle.std.proofs.lemmas.Bool.{ltb-false, ltb-true, cases_Bool, leb-true, le-leb}
+use Rattle.std.proofs.lemmas.Bool.{leb-true, le-leb, cases_lt}
 use Rattle.can_log.specs.declared.frame.Dir.{Dir}
 use Rattle.isotp_receive.specs.Trace.{Entry, At, FirstFrame, Role, single, first, consecutive, continue_or_wait, overflow, no_part, role}
 use Rattle.isotp_receive.specs.Standing.{referred, reference}
@@ -24,7 +24,7 @@ stays T d n i q e at quiet ref = record {
   ];
 } where
   cases : (p : ℕ) → p < suc n → (p < n) ⊎ (p ≡ n)
-  cases p below = elim (cases_Bool (nat_lt p n)) [ inl t ↦ inl (ltb-true p n t) | inr t ↦ inr (let h = ltb-false p n t in omega arith) ]
+  cases p below = elim (cases_lt p n) [ inl less ↦ inl less | inr most ↦ inr (omega arith) ]
 
 -- and so does one that has no part
 pub still : (T : List Entry) (d : Dir) (n i q : ℕ) (e : Entry) → At T n e → role d e ≡ no_part → IsReference T d i n q → IsReference T d i (suc n) q
@@ -39,11 +39,11 @@ moved T d n i e from at restarts = record {
 }
 
 pub same-reference : (T : List Entry) (d : Dir) (i c q r : ℕ) → IsReference T d i c q → IsReference T d i c r → q ≡ r
-same-reference T d i c q r a b = elim (cases_Bool (nat_lt q r)) [
-  | inl t ↦ absurd (above T d i c q r a b (ltb-true q r t))
-  | inr t ↦ elim (cases_Bool (nat_lt r q)) [
-    | inl u ↦ absurd (above T d i c r q b a (ltb-true r q u))
-    | inr u ↦ (let h = ltb-false q r t in let g = ltb-false r q u in omega arith)
+same-reference T d i c q r a b = elim (cases_lt q r) [
+  | inl less ↦ absurd (above T d i c q r a b less)
+  | inr most ↦ elim (cases_lt r q) [
+    | inl less ↦ absurd (above T d i c r q b a less)
+    | inr least ↦ omega arith
   ]
 ] where
   above : (T : List Entry) (d : Dir) (i c q r : ℕ) → IsReference T d i c q → IsReference T d i c r → q < r → ⊥

@@ -1,10 +1,10 @@
 -- A message is fixed by its places.
 use Rattle.std.proofs.Common.{◌≡◌, ℕ, zero, suc, ◌+◌, ◌-◌, ◌*◌, ◌/◌, ◌%◌, ◌<◌, ◌≤◌, List, [], ◌∷◌, length, take, drop, get_or, slice_index}
-use Rattle.std.proofs.Common.{nat_lt, sym, ◌∙◌, ap, arith, inl, inr, subst, ext_get_or, Some}
+use Rattle.std.proofs.Common.{sym, ◌∙◌, ap, arith, inl, inr, subst, ext_get_or, Some}
 use Rattle.std.specs.Prelude.{slice_get}
 use Rattle.std.proofs.lemmas.Nat.{div-add-mod'}
 use Rattle.std.proofs.Math.Nat.{mod-lt}
-use Rattle.std.proofs.lemmas.Bool.{ltb-true, ltb-false, cases_Bool}
+use Rattle.std.proofs.lemmas.Bool.{cases_lt}
 use Rattle.can_log.specs.declared.frame.Dir.{Dir}
 use Rattle.isotp_receive.specs.Trace.{Entry, At, role}
 use Rattle.isotp_receive.specs.Places.{bytes_in_first, consecutive_by, consecutive_frames_in, IsConsecutive, AtPlaces}
@@ -28,11 +28,11 @@ number-rises T d i k c k' c' x x' h g less =
     let a = h.counted in let b = g.counted in omega arith
 
 same-number : (T : List Entry) (d : Dir) (i k c c' : ℕ) (x x' : Entry) → IsConsecutive T d i k c x → IsConsecutive T d i k c' x' → x ≡ x'
-same-number T d i k c c' x x' h g = elim (cases_Bool (nat_lt c c')) [
-  | inl t ↦ absurd (let less = number-rises T d i k c k c' x x' h g (ltb-true c c' t) in omega arith)
-  | inr t ↦ elim (cases_Bool (nat_lt c' c)) [
-    | inl u ↦ absurd (let less = number-rises T d i k c' k c x' x g h (ltb-true c' c u) in omega arith)
-    | inr u ↦ (let a = ltb-false c c' t in let b = ltb-false c' c u in let same : c ≡ c' = omega arith in
+same-number T d i k c c' x x' h g = elim (cases_lt c c') [
+  | inl before ↦ absurd (let less = number-rises T d i k c k c' x x' h g before in omega arith)
+  | inr most ↦ elim (cases_lt c' c) [
+    | inl before ↦ absurd (let less = number-rises T d i k c' k c x' x g h before in omega arith)
+    | inr least ↦ (let same : c ≡ c' = omega arith in
         get-same T c x x' h.stands (subst (λ j. At T j x') (sym same) g.stands))
   ]
 ]
@@ -48,9 +48,9 @@ module _ (T : List Entry) (d : Dir) (i : ℕ) (e : Entry) (r : ℕ) (m n : List 
       ap (λ j. get_or m j 0) place ∙ one.3 ∙ ap (λ y. slice_index y.frame.bytes (1 + t)) frame ∙ sym two.3 ∙ ap (λ j. get_or n j 0) (sym place)
 
   by_place : (x : ℕ) → x < length m → get_or m x 0 ≡ get_or n x 0
-  by_place x inside = elim (cases_Bool (nat_lt x (bytes_in_first e.frame.bytes))) [
-    | inl t ↦ (let less = ltb-true x (bytes_in_first e.frame.bytes) t in a.in_first x inside less ∙ sym (b.in_first x (omega arith) less))
-    | inr t ↦ (let over = ltb-false x (bytes_in_first e.frame.bytes) t in
+  by_place x inside = elim (cases_lt x (bytes_in_first e.frame.bytes)) [
+    | inl below ↦ a.in_first x inside below ∙ sym (b.in_first x (omega arith) below)
+    | inr behind ↦ (
         let y = x - bytes_in_first e.frame.bytes in
         let parts = div-add-mod' y (r - 1) in
         in_frames x (y / (r - 1)) (y % (r - 1)) inside (mod-lt y (omega arith)) (omega arith))

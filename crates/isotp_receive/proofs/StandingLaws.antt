@@ -1,6 +1,6 @@
 -- What stands is what is known of the reception that is open, and at most one is open.
-use Rattle.std.proofs.Common.{◌≡◌, ℕ, suc, ◌+◌, ◌<◌, ◌≤◌, true, List, ◌∷◌, ◌++◌, length, nat_lt, Some, refl, sym, ◌∙◌, ap, arith, inl, inr, subst}
-use Rattle.std.proofs.lemmas.Bool.{ltb-true, ltb-false, cases_Bool}
+use Rattle.std.proofs.Common.{◌≡◌, ℕ, suc, ◌+◌, ◌<◌, ◌≤◌, true, List, ◌∷◌, ◌++◌, length, Some, refl, sym, ◌∙◌, ap, arith, inl, inr, subst}
+use Rattle.std.proofs.lemmas.Bool.{cases_lt}
 use Rattle.can_log.specs.declared.frame.Dir.{Dir}
 use Rattle.isotp_receive.specs.Trace.{Entry, At, FirstFrame, Role, first, role}
 use Rattle.isotp_receive.specs.Places.{bytes_in_first, bytes_before, consecutive_frames_in, between, AtPlaces}
@@ -73,11 +73,11 @@ one-open limit T d i k j l p a b = (same, a.taken ∙ ap (λ q. consecutive_fram
   apart i k j l a b less = no-first a.start b.start _ _ _ _ (role d b.frame) b.kind (a.each j b.frame less b.later b.stands)
 
   same : i ≡ j
-  same = elim (cases_Bool (nat_lt i j)) [
-    | inl t ↦ absurd (apart i k j l a b (ltb-true i j t))
-    | inr t ↦ elim (cases_Bool (nat_lt j i)) [
-      | inl u ↦ absurd (apart j l i k b a (ltb-true j i u))
-      | inr u ↦ (let x = ltb-false i j t in let y = ltb-false j i u in omega arith)
+  same = elim (cases_lt i j) [
+    | inl less ↦ absurd (apart i k j l a b less)
+    | inr most ↦ elim (cases_lt j i) [
+      | inl less ↦ absurd (apart j l i k b a less)
+      | inr least ↦ omega arith
     ]
   ]
 

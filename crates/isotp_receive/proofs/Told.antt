@@ -4,7 +4,7 @@ use Rattle.std.proofs.Common.{sym, ◌∙◌, ap, arith, cond, inl, inr}
 use Rattle.std.specs.Prelude.{⊤, ◌⊎◌}
 use Rattle.std.proofs.Math.ListN.{drop_of_length-le}
 use Rattle.std.proofs.lemmas.List.{append-nil, take-append-drop}
-use Rattle.std.proofs.lemmas.Bool.{cases_Bool, le-ltb, lt-ltb, ltb-true, ltb-false}
+use Rattle.std.proofs.lemmas.Bool.{cases_Bool, le-ltb, lt-ltb, cases_lt}
 use Rattle.can_log.specs.Dir.{Message}
 use Rattle.can_log.specs.declared.frame.Dir.{Dir}
 use Rattle.isotp_receive.specs.Trace.{Entry, same_direction}
@@ -184,7 +184,7 @@ told-take limit k before T = sym (
     ∙ ap (λ l. all_told limit 0 before (take k T) ++ l) (rest-within limit k (before ++ take k T) (drop k T) (0 + length (take k T)) whole)
     ∙ append-nil (all_told limit 0 before (take k T))) where
       whole : (drop k T ≡ []) ⊎ (k ≤ 0 + length (take k T))
-      whole = elim (cases_Bool (nat_lt (length T) k)) [
-        | inl t ↦ inl (drop_of_length-le T (let below = ltb-true (length T) k t in omega arith))
-        | inr t ↦ inr (let le = ltb-false (length T) k t in omega (arith, length-take k T))
+      whole = elim (cases_lt (length T) k) [
+        | inl below ↦ inl (drop_of_length-le T (omega arith))
+        | inr least ↦ inr (omega (arith, length-take k T))
       ]

@@ -16,7 +16,8 @@ use Rattle.isotp_receive.specs.OnTime.{IsOnTime}
 -- At the position stands consecutive frame number `number` of `count` of the message, whose first frame stands at `begun`
 -- and holds `in_first` bytes: it fits as that number, is on time, and holds the bytes of the message that come next, as far
 -- as the message goes; what follows them is padding of any value (section 9.6.4).
-pub record IsConsecutiveFrame (T : List Entry) (d : Dir) (message : List ℕ) (begun : ℕ) (start : FirstFrame) (in_first count number position : ℕ) : Type 0 where
+pub record IsConsecutiveFrame (T : List Entry) (d : Dir) (message : List ℕ) (begun : ℕ) (start : FirstFrame)
+    (in_first count number position : ℕ) : Type 0 where
   pub frame : Entry
   pub sequence_number : ℕ
   pub can_dl : ℕ
@@ -28,7 +29,7 @@ pub record IsConsecutiveFrame (T : List Entry) (d : Dir) (message : List ℕ) (b
   pub holds : (offset : ℕ) → offset < start.rx_dl - 1 → bytes_before in_first start.rx_dl (number - 1) + offset < length message
       → slice_index message (bytes_before in_first start.rx_dl (number - 1) + offset) ≡ slice_index frame.frame.bytes (1 + offset)
 
--- it holds of each of the positions with its number, counted from `number` on
+-- `Holds` of each of the positions and its number, which is `number` for the first
 abbrev pub EachNumbered : (ℕ → ℕ → Type 0) → ℕ → List ℕ → Type 0
 EachNumbered Holds number [] = ⊤
 EachNumbered Holds number (position ∷ positions) = Holds number position × EachNumbered Holds (number + 1) positions
@@ -92,7 +93,7 @@ pub record AreApart (earlier later : Transfer) : Type 0 where
   pub apart : earlier.dir ≡ later.dir → AllBefore earlier.positions later.positions ⊎ AllBefore later.positions earlier.positions
   pub order : last_or 0 earlier.positions < last_or 0 later.positions
 
--- it holds of each of the messages and each later one
+-- `Holds` of each of the messages and each later one
 abbrev pub EachPair : (Transfer → Transfer → Type 0) → List Transfer → Type 0
 EachPair Holds [] = ⊤
 EachPair Holds (transfer ∷ later) = AllByRecursion (Holds transfer) later × EachPair Holds later
