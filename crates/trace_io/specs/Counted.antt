@@ -1,5 +1,5 @@
 -- What a contract sees of a reader or a writer that counts.
-use Rattle.std.specs.Prelude.{ℕ}
+use Rattle.std.specs.Prelude.{ℕ, ◌≤◌, ◌^◌}
 
 -- a reader, with its calls, the bytes that they gave, and those that failed
 pub record CountedReader (R : Type 0) : Type 0 where
@@ -18,3 +18,13 @@ pub record EndlessBytes : Type 0 where
   pub byte : ℕ
   pub reads : ℕ
   pub given : ℕ
+
+-- a count that leaves room for one run of an engine: of at most 2^62 more it is at most 2^63
+abbrev pub IsLowCount : ℕ → Type 0
+IsLowCount count = count ≤ 2 ^ 62
+
+-- the counts of a source leave room for one run
+pub record AreLowCounts (reads given failures : ℕ) : Type 0 where
+  pub few_reads : IsLowCount reads
+  pub few_given : IsLowCount given
+  pub few_failures : IsLowCount failures

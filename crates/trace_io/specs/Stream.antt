@@ -22,6 +22,10 @@ IsOver front = (k : ℕ) → front k ≡ []
 abbrev pub SameFronts : (ℕ → List ℕ) → (ℕ → List ℕ) → Type 0
 SameFronts old new = (k : ℕ) → new k ≡ old k
 
+-- the stream begins as these bytes do, as far as the first `count` of them
+abbrev pub BeginsAs : (ℕ → List ℕ) → ℕ → List ℕ → Type 0
+BeginsAs front count bytes = front count ≡ take count bytes
+
 -- the bytes that a reader or writer of std tells, or none where it tells nothing
 abbrev pub told : Option (List ℕ) → List ℕ
 told bytes = unwrap_or bytes []

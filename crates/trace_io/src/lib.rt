@@ -15,6 +15,7 @@
 mod device;
 mod endless;
 mod faulty;
+pub mod laws;
 mod reader;
 #[cfg(test)]
 mod tests;
