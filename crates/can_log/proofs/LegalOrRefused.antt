@@ -8,13 +8,13 @@ use Rattle.can_log.specs.FieldReader.{FieldRead, short, refused}
 use Rattle.can_log.specs.LineReader.{Parts, line_at, meaning_by}
 use Rattle.can_log.specs.Line.{LineMeans, MeansNothing}
 use Rattle.can_log.specs.Refused.{NoLineFeed, HasCompletion, IsRefusedPlace}
-use Rattle.can_log.specs.Log.{log_lines, LinesMean, LogMeans, IsRefusedIn}
-use Rattle.can_log.specs.Laws.{LogIsLegalOrRefused}
+use Rattle.can_log.specs.Log.{log_lines, LinesMean, LogMeans, IsRefusedRest, IsRefusedIn}
+use Rattle.can_log.specs.Laws.{LineMeansOrNothing, LogIsLegalOrRefused}
 use Rattle.can_log.proofs.LineReads.{read_means, means_read, short_becomes, refused_first}
 use Rattle.can_log.proofs.LineFeeds.{first_line}
 use Rattle.can_log.proofs.LineLength.{refused_column}
 use Rattle.can_log.proofs.LogLines.{ended_lines-first, log_lines-ended, log_lines-rest}
-use Rattle.can_log.proofs.RefusedPlaces.{place_of, place_end, place_extends, unfinished, Ends}
+use Rattle.can_log.proofs.RefusedPlaces.{place_of, place_end, place_extends, unfinished}
 
 -- ---- a line
 
@@ -34,6 +34,13 @@ kind_of_line bytes clean = by (line_at bytes) refl
         let column = length bytes - length rest + 1 in
         refused_at column (place_of bytes column clean (refused_column bytes rest (refused_first bytes rest e)).1)
 
+pub line_means_or_nothing : LineMeansOrNothing
+line_means_or_nothing bytes = by (line_at bytes) refl
+  where
+    by : (r : FieldRead (Option Parts)) → line_at bytes ≡ r → ((what : Option Stamped) × LineMeans bytes what) ⊎ MeansNothing bytes
+    by (Ok x) e = inl (meaning_by x.0, read_means bytes x.0 x.1 e)
+    by (Err why) e = inr (λ what m. cc (e, (means_read bytes what m).1))
+
 -- ---- a log
 
 abbrev Legal : List ℕ → Type 0
@@ -42,7 +49,7 @@ Legal log = (whats : List (Option Stamped)) × LogMeans log whats
 abbrev Refused : List ℕ → Type 0
 Refused log = (line : ℕ) × (column : ℕ) × IsRefusedIn log line column
 
-at_once : (log : List ℕ) (column : ℕ) → Ends log column → Legal log ⊎ Refused log
+at_once : (log : List ℕ) (column : ℕ) → IsRefusedRest log column → Legal log ⊎ Refused log
 at_once log column ends = inr (1, column, record { lines = []; whats = []; rest = log; parts = refl; legal = tt; at = refl; here = ends })
 
 behind_line : (log line more : List ℕ) (what : Option Stamped) → log ≡ line ++ code "\n" ∷ more → NoLineFeed line → LineMeans line what

@@ -3,7 +3,6 @@ use Prim.Native.Char.{code}
 use Rattle.std.proofs.Common.{◌≡◌, ◌≢◌, ℕ, suc, ◌<◌, Bool, true, false, refl, sym, ap, subst, ◌∙◌, arith, inl, inr, ◌⊎◌}
 use Rattle.std.proofs.Common.{List, [], ◌∷◌, ◌++◌, length, get_or, take, drop, Option, Some, None}
 use Rattle.std.specs.Prelude.{◌==◌, IsTrue, codes}
-use Rattle.std.specs.List.{AllByRecursion}
 use Rattle.std.proofs.Math.Seq.{drop-cons}
 use Rattle.std.proofs.lemmas.Bool.{both_ways, cases_eq, eqb-true, eqb-false, eq-eqb}
 use Rattle.std.proofs.lemmas.List.{get_or-take, length-take, take-append-drop}
@@ -11,8 +10,9 @@ use Rattle.std.proofs.lemmas.List.Elements.{All-from_get_or, recursion_from_All}
 use Rattle.can_log.specs.declared.frame.Stamped.{Stamped}
 use Rattle.can_log.specs.Line.{Body, classic, remote, fd, LineSpelling, spell_body, spell_mark, spell_line}
 use Rattle.can_log.specs.Line.{IsRunOf, IsBody, IsMark, IsLineSpelling, IsLineText, LineMeans}
-use Rattle.can_log.specs.Refused.{NoLineFeed, HasCompletion}
-use Rattle.can_log.specs.Log.{LinesMean}
+use Rattle.can_log.specs.Refused.{NoLineFeed}
+use Rattle.can_log.specs.Laws.{CompletableHasNoLineFeed}
+use Rattle.can_log.specs.LogLaws.{LinesHaveNoLineFeed}
 use Rattle.can_log.proofs.EachElement.{AllByRecursion-append, AllByRecursion-front, AllByRecursion-back, AllByRecursion-weaker}
 use Rattle.can_log.proofs.Cuts.{two_cuts}
 
@@ -109,10 +109,10 @@ pub line_clean : (bytes : List ℕ) (what : Option Stamped) → LineMeans bytes 
 line_clean bytes None text = text_clean [] bytes tt text
 line_clean bytes (Some stamped) (line, is, text, e) = text_clean (spell_line line) bytes (spelling_clean line is) text
 
-pub lines_clean : (lines : List (List ℕ)) (whats : List (Option Stamped)) → LinesMean lines whats → AllByRecursion NoLineFeed lines
+pub lines_clean : LinesHaveNoLineFeed
 lines_clean [] whats means = tt
 lines_clean (line ∷ lines) [] means = absurd means
 lines_clean (line ∷ lines) (what ∷ whats) means = (line_clean line what means.0, lines_clean lines whats means.1)
 
-pub completion_clean : (bytes : List ℕ) → HasCompletion bytes → NoLineFeed bytes
+pub completion_clean : CompletableHasNoLineFeed
 completion_clean bytes (more, what, few, means) = clean_front bytes more (line_clean (bytes ++ more) what means)

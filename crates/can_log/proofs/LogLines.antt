@@ -1,16 +1,18 @@
 -- How a log is cut into lines, and what lines in a row mean.
 use Prim.Native.Char.{code}
-use Rattle.std.proofs.Common.{◌≡◌, ℕ, suc, Bool, true, false, refl, ap, ◌∙◌, arith}
+use Rattle.std.proofs.Common.{◌≡◌, ℕ, suc, Bool, true, false, refl, sym, ap, subst, ◌∙◌, arith}
 use Rattle.std.proofs.Common.{List, [], ◌∷◌, ◌++◌, append_assoc, Option}
 use Rattle.std.specs.Prelude.{◌==◌, ◌<◌, length, if◌then◌else◌, codes}
-use Rattle.std.specs.List.{AllByRecursion, onto_first}
+use Rattle.std.specs.List.{onto_first}
 use Rattle.std.proofs.lemmas.Bool.{ne_eqb}
 use Rattle.std.proofs.lemmas.List.{append-nil}
 use Rattle.can_log.specs.declared.frame.Stamped.{Stamped}
+use Rattle.can_log.specs.Line.{LineMeans}
 use Rattle.can_log.specs.Refused.{NoLineFeed}
 use Rattle.can_log.specs.Log.{log_lines, LinesMean, ended_lines}
-use Rattle.can_log.specs.LogLaws.{last_line, LogLinesOfParts, LinesMeanInParts, LineIsLog, LogsJoin}
+use Rattle.can_log.specs.LogLaws.{last_line, LogLinesOfParts, LineFeedEndsLine, LogLinesGoOn, LinesMeanAsMany, LinesMeanOneMore, LinesMeanInParts, LinesAreLog, LineIsLog, LogsJoin}
 use Rattle.can_log.proofs.Lists.{onto_first-append, length-onto_first}
+use Rattle.can_log.proofs.LineFeeds.{lines_clean}
 
 -- ---- lines with their line feeds
 
@@ -24,7 +26,7 @@ ended_lines-last (first ∷ lines) last = rw (ended_lines-last lines last) (simp
 -- ---- the lines of a log
 
 -- a line ends at its line feed
-pub log_lines-ended : (line more : List ℕ) → NoLineFeed line → log_lines (line ++ code "\n" ∷ more) ≡ line ∷ log_lines more
+pub log_lines-ended : LineFeedEndsLine
 log_lines-ended [] more none = refl
 log_lines-ended (b ∷ line) more none = rw (ne_eqb b (code "\n") none.0, log_lines-ended line more none.1) refl
 
@@ -35,7 +37,7 @@ log_lines-rest (b ∷ []) none = rw (ne_eqb b (code "\n") none.0) refl
 log_lines-rest (b ∷ c ∷ rest) none = rw (ne_eqb b (code "\n") none.0, log_lines-rest (c ∷ rest) none.1) refl
 
 -- what stands behind lines that are ended
-pub log_lines-behind : (lines : List (List ℕ)) (rest : List ℕ) → AllByRecursion NoLineFeed lines → log_lines (ended_lines lines ++ rest) ≡ lines ++ log_lines rest
+pub log_lines-behind : LogLinesGoOn
 log_lines-behind [] rest none = refl
 log_lines-behind (line ∷ lines) rest none =
     rw (ended_lines-first line lines rest, log_lines-ended line (ended_lines lines ++ rest) none.0, log_lines-behind lines rest none.1) refl
@@ -45,11 +47,19 @@ log_lines_of_parts lines rest none none_behind = log_lines-behind lines rest non
 
 -- ---- what lines in a row mean
 
-pub same_length : (lines : List (List ℕ)) (whats : List (Option Stamped)) → LinesMean lines whats → length lines ≡ length whats
+pub same_length : LinesMeanAsMany
 same_length [] [] mean = refl
 same_length [] (what ∷ whats) mean = absurd mean
 same_length (line ∷ lines) [] mean = absurd mean
 same_length (line ∷ lines) (what ∷ whats) mean = ap suc (same_length lines whats mean.1)
+
+-- lines that mean something, each with its line feed
+pub lines_are_log : LinesAreLog
+lines_are_log lines whats means =
+    let none = lines_clean lines whats means in
+    let whole : log_lines (ended_lines lines) ≡ lines =
+    ap log_lines (sym (append-nil (ended_lines lines))) ∙ log_lines-behind lines [] none ∙ append-nil lines in
+    subst (λ (z : List (List ℕ)). LinesMean z whats) (sym whole) means
 
 pub mean_apart : (lines more : List (List ℕ)) (whats : List (Option Stamped)) → LinesMean (lines ++ more) whats
     → (front : List (Option Stamped)) × (back : List (Option Stamped)) × (whats ≡ front ++ back) × LinesMean lines front × LinesMean more back
@@ -69,6 +79,21 @@ mean_together (line ∷ lines) more (what ∷ front) back mean next = (mean.0, m
 pub lines_mean_in_parts : LinesMeanInParts
 lines_mean_in_parts lines more whats =
     (mean_apart lines more whats, λ parts. rw parts.2 (mean_together lines more parts.0 parts.1 parts.3 parts.4))
+
+-- the last line apart
+last_apart : (lines : List (List ℕ)) (whats : List (Option Stamped)) (what : Option Stamped) → LinesMean lines (whats ++ what ∷ [])
+    → (front : List (List ℕ)) × (last : List ℕ) × (lines ≡ front ++ last ∷ []) × LinesMean front whats × LineMeans last what
+last_apart [] [] what mean = absurd mean
+last_apart (line ∷ []) [] what mean = ([], line, refl, tt, mean.0)
+last_apart (line ∷ other ∷ lines) [] what mean = absurd mean.1
+last_apart [] (one ∷ whats) what mean = absurd mean
+last_apart (line ∷ lines) (one ∷ whats) what mean =
+    let rest = last_apart lines whats what mean.1 in
+    (line ∷ rest.0, rest.1, ap (λ (z : List (List ℕ)). line ∷ z) rest.2, (mean.0, rest.3), rest.4)
+
+pub lines_mean_one_more : LinesMeanOneMore
+lines_mean_one_more lines whats what =
+    (last_apart lines whats what, λ parts. rw parts.2 (mean_together parts.0 (parts.1 ∷ []) whats (what ∷ []) parts.3 (parts.4, tt)))
 
 pub line_is_log : LineIsLog
 line_is_log line what none means = rw (log_lines-ended line [] none) (means, tt)

@@ -16,7 +16,7 @@ use Rattle.can_log.proofs.Lists.{parts_more}
 use Rattle.can_log.proofs.LineReads.{one_meaning, empty_legal}
 use Rattle.can_log.proofs.LineFeeds.{line_clean}
 use Rattle.can_log.proofs.LogLines.{ended_lines-last, log_lines-rest, same_length, mean_together}
-use Rattle.can_log.proofs.RefusedPlaces.{place_extends}
+use Rattle.can_log.proofs.RefusedPlaces.{place_extends, place_inside}
 use Rattle.can_log.proofs.RefusedLogs.{lines_first, lines_before_are_one, refused_place_is_one, refused_log_means_nothing}
 
 -- ---- one answer
@@ -79,6 +79,13 @@ scan_reads_on bytes whats piece old new answer stands scans = by answer (scans_o
         here = inl (place_extends (old.line ++ piece) more column place);
       },
       refl,
+      omega (
+        arith,
+        place_inside (old.line ++ piece) column place,
+        length-append old.line piece,
+        ap (λ (z : List ℕ). length z) stands.parts,
+        length-append (ended_lines stands.lines) old.line,
+      ),
     )
     by scan.End s = s
 
@@ -179,7 +186,7 @@ tells_all (scan.Line used n what ∷ answers) (piece ∷ pieces) bytes whats old
     (tells_all answers (drop used piece ∷ pieces) (bytes ++ take used piece) (whats ++ what ∷ []) next between new last step.2 more finishes))
 tells_all (scan.Bad n column ∷ answers) (piece ∷ pieces) bytes whats old between new last stands (next, s, more) finishes =
     let place = scan_reads_on bytes whats piece old next (scan.Bad n column) stands s (concat pieces) in
-    inr (n, column, [], subst (λ (z : List (Option Stamped)). IsRefusedBehind z (bytes ++ (piece ++ concat pieces)) n column) (sym (append-nil whats)) place, refl)
+    inr (n, column, [], subst (λ (z : List (Option Stamped)). IsRefusedBehind z (bytes ++ (piece ++ concat pieces)) n column) (sym (append-nil whats)) (place.0, place.1), refl)
 tells_all (scan.End ∷ answers) (piece ∷ pieces) bytes whats old between new last stands (next, s, more) finishes =
     absurd (scan_reads_on bytes whats piece old next scan.End stands s)
 

@@ -1,15 +1,16 @@
 -- The refused place of a log: there is one at most, and none where the log means something.
 use Prim.Native.Char.{code}
-use Rattle.std.proofs.Common.{◌≡◌, ℕ, ◌+◌, refl, sym, ap, subst, ◌∙◌, inl, inr}
+use Rattle.std.proofs.Common.{◌≡◌, ℕ, ◌+◌, arith, refl, sym, ap, subst, ◌∙◌, inl, inr}
 use Rattle.std.proofs.Common.{List, [], ◌∷◌, ◌++◌, length, Option, None}
 use Rattle.can_log.specs.declared.frame.Stamped.{Stamped}
 use Rattle.can_log.specs.Line.{LineMeans}
 use Rattle.can_log.specs.Refused.{NoLineFeed}
-use Rattle.can_log.specs.Log.{log_lines, LinesMean, LogMeans, ended_lines, IsRefusedIn}
+use Rattle.can_log.specs.Log.{log_lines, LinesMean, LogMeans, ended_lines, IsRefusedRest, IsRefusedIn}
 use Rattle.can_log.specs.Laws.{RefusedPlaceIsOne, RefusedLogMeansNothing}
+use Rattle.can_log.specs.LogLaws.{last_line, RefusedLines, RefusedLineMeansNothing}
 use Rattle.can_log.proofs.LineFeeds.{first_line, same_line, line_clean, lines_clean}
 use Rattle.can_log.proofs.LogLines.{ended_lines-first, log_lines-ended, log_lines-rest, log_lines-behind, mean_apart}
-use Rattle.can_log.proofs.RefusedPlaces.{Ends, end_is_one, no_line_first, no_line_last}
+use Rattle.can_log.proofs.RefusedPlaces.{end_is_one, no_line_first, no_line_last, place_within, place_in_first}
 
 -- ---- there is one at most
 
@@ -17,14 +18,14 @@ use Rattle.can_log.proofs.RefusedPlaces.{Ends, end_is_one, no_line_first, no_lin
 record Cut (log : List ℕ) (lines : List (List ℕ)) (whats : List (Option Stamped)) (rest : List ℕ) (column : ℕ) : Type 0 where
   pub parts : log ≡ ended_lines lines ++ rest
   pub means : LinesMean lines whats
-  pub ends : Ends rest column
+  pub ends : IsRefusedRest rest column
 
 cut_of : {log : List ℕ} {line column : ℕ} → (r : IsRefusedIn log line column) → Cut log r.lines r.whats r.rest column
 cut_of r = record { parts = r.parts; means = r.legal; ends = r.here }
 
 -- no cut is where another one has a line
 no_line_more : (log line : List ℕ) (lines : List (List ℕ)) (what : Option Stamped) (whats : List (Option Stamped)) (rest rest2 : List ℕ) (column column2 : ℕ)
-    → log ≡ rest → Ends rest column → Cut log (line ∷ lines) (what ∷ whats) rest2 column2 → ⊥
+    → log ≡ rest → IsRefusedRest rest column → Cut log (line ∷ lines) (what ∷ whats) rest2 column2 → ⊥
 no_line_more log line lines what whats rest rest2 column column2 e ends c =
     no_line_first rest column line (ended_lines lines ++ rest2) what ends c.means.0 (sym e ∙ c.parts ∙ ended_lines-first line lines rest2)
 
@@ -57,13 +58,13 @@ pub refused_place_is_one : RefusedPlaceIsOne
 refused_place_is_one log line column line2 column2 r t =
     let same = same_cut log r.lines t.lines r.whats t.whats r.rest t.rest column column2 (cut_of r) (cut_of t) in (
       r.at ∙ ap (λ (z : List (List ℕ)). length z + 1) same.0 ∙ sym t.at,
-      end_is_one t.rest column column2 (subst (λ (z : List ℕ). Ends z column) same.1 r.here) t.here,
+      end_is_one t.rest column column2 (subst (λ (z : List ℕ). IsRefusedRest z column) same.1 r.here) t.here,
     )
 
 -- ---- a refused log has no meaning
 
 -- what is refused means nothing as a log
-ends_mean_nothing : (rest : List ℕ) (column : ℕ) (whats : List (Option Stamped)) → Ends rest column → LogMeans rest whats → ⊥
+ends_mean_nothing : (rest : List ℕ) (column : ℕ) (whats : List (Option Stamped)) → IsRefusedRest rest column → LogMeans rest whats → ⊥
 ends_mean_nothing rest column whats ends means = elim (first_line rest) [
   | inl (line, more, e, clean) ↦ first line more e whats (subst (λ (z : List (List ℕ)). LinesMean z whats) (ap log_lines e ∙ log_lines-ended line more clean) means)
   | inr clean ↦ last rest refl clean
@@ -87,9 +88,36 @@ pub lines_first : (lines : List (List ℕ)) (whats : List (Option Stamped)) (res
     → log_lines (ended_lines lines ++ rest) ≡ lines ++ log_lines rest
 lines_first lines whats rest means = log_lines-behind lines rest (lines_clean lines whats means)
 
+-- The lines of a refused log are those before its refused place, and then those of the rest.
+pub refused_lines : RefusedLines
+refused_lines log line column r = ap log_lines r.parts ∙ lines_first r.lines r.whats r.rest r.legal
+
 -- A refused log has no meaning.
 pub refused_log_means_nothing : RefusedLogMeansNothing
 refused_log_means_nothing log line column whats r m =
-    let lines : log_lines log ≡ r.lines ++ log_lines r.rest = ap log_lines r.parts ∙ lines_first r.lines r.whats r.rest r.legal in
+    let lines = refused_lines log line column r in
     let parts = mean_apart r.lines (log_lines r.rest) whats (subst (λ (z : List (List ℕ)). LinesMean z whats) lines m) in
     ends_mean_nothing r.rest column parts.1 r.here parts.4
+
+-- ---- the line that is refused
+
+only_line : (rest line : List ℕ) (later : List (List ℕ)) → last_line rest ≡ line ∷ later → rest ≡ line
+only_line [] line later is = absurd (cc)
+only_line (b ∷ rest) line later is = cc
+
+-- The first line of the rest means nothing, and the place is in it or behind it.
+pub refused_line_means_nothing : RefusedLineMeansNothing
+refused_line_means_nothing rest column line later refused is = elim (first_line rest) [
+  | inl (first, more, e, clean) ↦
+      let both : first ∷ log_lines more ≡ line ∷ later = sym (ap log_lines e ∙ log_lines-ended first more clean) ∙ is in
+      let same : first ≡ line = cc in
+      let parts : rest ≡ line ++ code "\n" ∷ more = e ∙ ap (λ (z : List ℕ). z ++ code "\n" ∷ more) same in (
+        λ what means. no_line_first rest column line more what refused means parts,
+        place_in_first line more column (subst (λ (z : List ℕ). IsRefusedRest z column) parts refused),
+      )
+  | inr clean ↦
+      let same : rest ≡ line = only_line rest line later (sym (log_lines-rest rest clean) ∙ is) in (
+        λ what means. no_line_last rest column what refused (subst (λ (z : List ℕ). LineMeans z what) (sym same) means),
+        omega (arith, place_within rest column refused, ap (λ (z : List ℕ). length z) same),
+      )
+]

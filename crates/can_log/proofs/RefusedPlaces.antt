@@ -1,12 +1,13 @@
 -- The refused place of some bytes: how one comes about, and that there is one at most.
 use Prim.Native.Char.{code}
-use Rattle.std.proofs.Common.{◌≡◌, ◌≢◌, ℕ, ◌+◌, refl, sym, ap, subst, ◌∙◌, inl, inr, ◌⊎◌}
-use Rattle.std.proofs.Common.{List, [], ◌∷◌, ◌++◌, length, append_assoc, Option}
+use Rattle.std.proofs.Common.{◌≡◌, ◌≢◌, ℕ, ◌+◌, ◌≤◌, arith, refl, sym, ap, subst, ◌∙◌, inl, inr}
+use Rattle.std.proofs.Common.{List, [], ◌∷◌, ◌++◌, length, append_assoc, length-append, Option}
 use Rattle.std.specs.Prelude.{codes}
 use Rattle.std.proofs.lemmas.List.{append-nil}
 use Rattle.can_log.specs.declared.frame.Stamped.{Stamped}
 use Rattle.can_log.specs.Line.{LineMeans, MeansNothing}
 use Rattle.can_log.specs.Refused.{NoLineFeed, HasCompletion, HasNoCompletion, IsRefusedPlace, IsUnfinishedAt}
+use Rattle.can_log.specs.Log.{IsRefusedRest}
 use Rattle.can_log.specs.Judging.{IsRefusedAt}
 use Rattle.can_log.proofs.Lists.{parts_more}
 use Rattle.can_log.proofs.Cuts.{two_cuts}
@@ -104,18 +105,14 @@ place_is_one bytes column column2 r t = elim (two_cuts r.text r.bad r.after t.te
 place_or_unfinished : (bytes : List ℕ) (column column2 : ℕ) → IsRefusedPlace bytes column → IsUnfinishedAt bytes column2 → ⊥
 place_or_unfinished bytes column column2 r u = not_in_line r.text r.bad r.after (refuses_at r) (subst HasCompletion r.parts (whole_text bytes u.legal))
 
--- where the last part of a log is refused
-abbrev pub Ends : List ℕ → ℕ → Type 0
-Ends rest column = IsRefusedPlace rest column ⊎ IsUnfinishedAt rest column
-
-pub end_is_one : (rest : List ℕ) (column column2 : ℕ) → Ends rest column → Ends rest column2 → column ≡ column2
+pub end_is_one : (rest : List ℕ) (column column2 : ℕ) → IsRefusedRest rest column → IsRefusedRest rest column2 → column ≡ column2
 end_is_one rest column column2 (inl r) (inl t) = place_is_one rest column column2 r t
 end_is_one rest column column2 (inl r) (inr u) = absurd (place_or_unfinished rest column column2 r u)
 end_is_one rest column column2 (inr u) (inl r) = absurd (place_or_unfinished rest column2 column r u)
 end_is_one rest column column2 (inr u) (inr w) = u.at ∙ sym w.at
 
 -- what is refused, or unfinished, is no line with its line feed
-pub no_line_first : (rest : List ℕ) (column : ℕ) (line more : List ℕ) (what : Option Stamped) → Ends rest column → LineMeans line what
+pub no_line_first : (rest : List ℕ) (column : ℕ) (line more : List ℕ) (what : Option Stamped) → IsRefusedRest rest column → LineMeans line what
     → rest ≡ line ++ code "\n" ∷ more → ⊥
 no_line_first rest column line more what (inl r) means e =
     not_at_end r.text r.bad r.after line more what (refuses_at r) (whole_text r.text r.legal) means (sym r.parts ∙ e)
@@ -123,6 +120,27 @@ no_line_first rest column line more what (inr u) means e =
     clean_at line (code "\n") more (subst NoLineFeed e (completion_clean rest (whole_text rest u.legal))) refl
 
 -- nor the last line of a log
-pub no_line_last : (rest : List ℕ) (column : ℕ) (what : Option Stamped) → Ends rest column → LineMeans rest what → ⊥
+pub no_line_last : (rest : List ℕ) (column : ℕ) (what : Option Stamped) → IsRefusedRest rest column → LineMeans rest what → ⊥
 no_line_last rest column what (inl r) means = not_in_line r.text r.bad r.after (refuses_at r) (subst HasCompletion r.parts (means_becomes rest what means))
 no_line_last rest column what (inr u) means = u.no_line what means
+
+-- ---- where it lies
+
+pub place_inside : (bytes : List ℕ) (column : ℕ) → IsRefusedPlace bytes column → column ≤ length bytes
+place_inside bytes column r = omega (arith, r.at, ap (λ (z : List ℕ). length z) r.parts, length-append r.text (r.bad ∷ r.after))
+
+-- among the bytes, or behind the last one
+pub place_within : (rest : List ℕ) (column : ℕ) → IsRefusedRest rest column → column ≤ length rest + 1
+place_within rest column (inl r) = omega (arith, place_inside rest column r)
+place_within rest column (inr u) = omega (arith, u.at)
+
+-- not behind the first line feed
+pub place_in_first : (line more : List ℕ) (column : ℕ) → IsRefusedRest (line ++ code "\n" ∷ more) column → column ≤ length line + 1
+place_in_first line more column (inl r) = elim (two_cuts r.text r.bad r.after line (code "\n") more (sym r.parts)) [
+  | inl (same, feed, rest) ↦ omega (arith, r.at, ap (λ (z : List ℕ). length z) same)
+  | inr (inl (z, h)) ↦ omega (arith, r.at, ap (λ (z : List ℕ). length z) h, length-append r.text (r.bad ∷ z))
+  | inr (inr (z, h)) ↦ absurd (clean_at line (code "\n") z (subst NoLineFeed h (completion_clean r.text (whole_text r.text r.legal))) refl)
+]
+place_in_first line more column (inr u) =
+    let rest = line ++ code "\n" ∷ more in
+    absurd (clean_at line (code "\n") more (completion_clean rest (whole_text rest u.legal)) refl)

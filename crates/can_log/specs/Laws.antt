@@ -4,7 +4,7 @@ use Rattle.std.specs.List.{AllByRecursion, concat}
 use Rattle.can_log.specs.declared.scanner.Scan.{Scan}
 use Rattle.can_log.specs.declared.frame.Stamped.{Stamped}
 use Rattle.hex.specs.Hex.{decode_of}
-use Rattle.can_log.specs.Line.{IsDataText, LineMeans, bytes_spelled}
+use Rattle.can_log.specs.Line.{IsDataText, LineMeans, MeansNothing, bytes_spelled}
 use Rattle.can_log.specs.Refused.{NoLineFeed, HasCompletion, HasNoCompletion}
 use Rattle.can_log.specs.Log.{LogMeans, IsRefusedIn}
 use Rattle.can_log.specs.Scanning.{Standing, Scans, Finishes}
@@ -13,6 +13,10 @@ use Rattle.can_log.specs.WholeLog.{at_start, StandsAfter, ReadsOn, ReadsEnd, Sca
 -- a line means at most one thing
 abbrev pub LineMeansAtMostOne : Type 0
 LineMeansAtMostOne = (bytes : List ℕ) (what other : Option Stamped) → LineMeans bytes what → LineMeans bytes other → what ≡ other
+
+-- a line means something or nothing
+abbrev pub LineMeansOrNothing : Type 0
+LineMeansOrNothing = (bytes : List ℕ) → ((what : Option Stamped) × LineMeans bytes what) ⊎ MeansNothing bytes
 
 -- a line that means something holds no line feed
 abbrev pub LineHasNoLineFeed : Type 0
@@ -33,6 +37,10 @@ DataIsWhatHexDecodes = (digits : List ℕ) → IsDataText 128 digits → decode_
 -- each front of bytes that have a completion has one
 abbrev pub FrontHasCompletion : Type 0
 FrontHasCompletion = (front more : List ℕ) → HasCompletion (front ++ more) → HasCompletion front
+
+-- bytes that have a completion hold no line feed
+abbrev pub CompletableHasNoLineFeed : Type 0
+CompletableHasNoLineFeed = (bytes : List ℕ) → HasCompletion bytes → NoLineFeed bytes
 
 -- sixteen bytes are enough: bytes that no completion of at most 16 makes a line, no completion does
 abbrev pub SixteenAreEnough : Type 0

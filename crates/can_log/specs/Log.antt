@@ -26,6 +26,10 @@ LogMeans log whats = LinesMean (log_lines log) whats
 abbrev pub ended_lines : List (List ℕ) → List ℕ
 ended_lines lines = flat_map (λ line. line ++ codes "\n") lines
 
+-- the bytes behind the ended lines of a log are refused at this column
+abbrev pub IsRefusedRest : List ℕ → ℕ → Type 0
+IsRefusedRest rest column = IsRefusedPlace rest column ⊎ IsUnfinishedAt rest column
+
 -- The refused place of a log: legal lines stand before it, and the bytes behind them are refused at this column.
 pub record IsRefusedIn (log : List ℕ) (line column : ℕ) : Type 0 where
   pub lines : List (List ℕ)
@@ -34,4 +38,4 @@ pub record IsRefusedIn (log : List ℕ) (line column : ℕ) : Type 0 where
   pub parts : log ≡ ended_lines lines ++ rest
   pub legal : LinesMean lines whats
   pub at : line ≡ length lines + 1
-  pub here : IsRefusedPlace rest column ⊎ IsUnfinishedAt rest column
+  pub here : IsRefusedRest rest column

@@ -1,10 +1,11 @@
 -- What the lines of a log promise: how they come out of its bytes, and how a log grows.
-use Rattle.std.specs.Prelude.{◌≡◌, ◌↔◌, ℕ, List, [], ◌∷◌, ◌++◌, codes, Option}
+use Prim.Native.Char.{code}
+use Rattle.std.specs.Prelude.{◌≡◌, ◌↔◌, ◌≤◌, ℕ, ◌+◌, List, [], ◌∷◌, ◌++◌, codes, length, Option}
 use Rattle.std.specs.List.{AllByRecursion}
 use Rattle.can_log.specs.declared.frame.Stamped.{Stamped}
-use Rattle.can_log.specs.Line.{LineMeans}
+use Rattle.can_log.specs.Line.{LineMeans, MeansNothing}
 use Rattle.can_log.specs.Refused.{NoLineFeed}
-use Rattle.can_log.specs.Log.{log_lines, LinesMean, LogMeans, ended_lines}
+use Rattle.can_log.specs.Log.{log_lines, LinesMean, LogMeans, ended_lines, IsRefusedRest, IsRefusedIn}
 
 -- what stands behind the last line feed: a line where there are bytes, and else none
 abbrev pub last_line : List ℕ → List (List ℕ)
@@ -15,6 +16,41 @@ last_line (b ∷ bytes) = (b ∷ bytes) ∷ []
 abbrev pub LogLinesOfParts : Type 0
 LogLinesOfParts = (lines : List (List ℕ)) (rest : List ℕ) → AllByRecursion NoLineFeed lines → NoLineFeed rest
     → log_lines (ended_lines lines ++ rest) ≡ lines ++ last_line rest
+
+-- A line ends at its line feed, and the lines of what follows come next.
+abbrev pub LineFeedEndsLine : Type 0
+LineFeedEndsLine = (line more : List ℕ) → NoLineFeed line → log_lines (line ++ code "\n" ∷ more) ≡ line ∷ log_lines more
+
+-- After lines that are ended come the lines of the rest, whatever it is.
+abbrev pub LogLinesGoOn : Type 0
+LogLinesGoOn = (lines : List (List ℕ)) (rest : List ℕ) → AllByRecursion NoLineFeed lines → log_lines (ended_lines lines ++ rest) ≡ lines ++ log_lines rest
+
+-- No line holds a line feed, of lines that mean something.
+abbrev pub LinesHaveNoLineFeed : Type 0
+LinesHaveNoLineFeed = (lines : List (List ℕ)) (whats : List (Option Stamped)) → LinesMean lines whats → AllByRecursion NoLineFeed lines
+
+-- Lines mean as many things as they are.
+abbrev pub LinesMeanAsMany : Type 0
+LinesMeanAsMany = (lines : List (List ℕ)) (whats : List (Option Stamped)) → LinesMean lines whats → length lines ≡ length whats
+
+-- Lines mean this and one thing more exactly where the last of them means that thing, and those before it mean this.
+abbrev pub LinesMeanOneMore : Type 0
+LinesMeanOneMore = (lines : List (List ℕ)) (whats : List (Option Stamped)) (what : Option Stamped)
+    → LinesMean lines (whats ++ what ∷ [])
+    ↔ ((front : List (List ℕ)) × (last : List ℕ) × (lines ≡ front ++ last ∷ []) × LinesMean front whats × LineMeans last what)
+
+-- Lines that mean something, each with its line feed, are a log that means that.
+abbrev pub LinesAreLog : Type 0
+LinesAreLog = (lines : List (List ℕ)) (whats : List (Option Stamped)) → LinesMean lines whats → LogMeans (ended_lines lines) whats
+
+-- The lines of a refused log are those before its refused place, and then those of the rest.
+abbrev pub RefusedLines : Type 0
+RefusedLines = (log : List ℕ) (line column : ℕ) (place : IsRefusedIn log line column) → log_lines log ≡ place.lines ++ log_lines place.rest
+
+-- The first line of that rest means nothing, and the refused byte is one of it, or the one behind it.
+abbrev pub RefusedLineMeansNothing : Type 0
+RefusedLineMeansNothing = (rest : List ℕ) (column : ℕ) (line : List ℕ) (later : List (List ℕ)) → IsRefusedRest rest column → log_lines rest ≡ line ∷ later
+    → MeansNothing line × (column ≤ length line + 1)
 
 -- Lines and more lines mean what the ones mean, and then what the others mean.
 abbrev pub LinesMeanInParts : Type 0

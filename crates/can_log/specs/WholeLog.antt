@@ -25,12 +25,18 @@ pub record StandsAfter (bytes : List ℕ) (whats : List (Option Stamped)) (stand
 abbrev pub IsRefusedBehind : List (Option Stamped) → List ℕ → ℕ → ℕ → Type 0
 IsRefusedBehind whats log line column = (place : IsRefusedIn log line column) × (place.whats ≡ whats)
 
+-- and among the first `count` bytes of the log
+abbrev pub IsRefusedWithin : ℕ → List (Option Stamped) → List ℕ → ℕ → ℕ → Type 0
+IsRefusedWithin count whats log line column =
+    (place : IsRefusedIn log line column) × (place.whats ≡ whats) × (length (ended_lines place.lines) + column ≤ count)
+
 -- what an answer on a piece tells, behind these bytes of a log
 abbrev pub ReadsOn : List ℕ → List (Option Stamped) → List ℕ → Scan → Standing → Type 0
 ReadsOn bytes whats piece scan.NeedMore new = StandsAfter (bytes ++ piece) whats new
 ReadsOn bytes whats piece (scan.Line used line what) new =
     (used ≤ length piece) × (line ≡ length whats + 1) × StandsAfter (bytes ++ take used piece) (whats ++ what ∷ []) new
-ReadsOn bytes whats piece (scan.Bad line column) new = (more : List ℕ) → IsRefusedBehind whats (bytes ++ (piece ++ more)) line column
+ReadsOn bytes whats piece (scan.Bad line column) new =
+    (more : List ℕ) → IsRefusedWithin (length bytes + length piece) whats (bytes ++ (piece ++ more)) line column
 ReadsOn bytes whats piece scan.End new = ⊥
 
 -- what the answer at the end of a log tells

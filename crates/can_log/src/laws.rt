@@ -1,16 +1,24 @@
 //! What holds of lines and logs. A law is a call without a body: a proof that needs it calls it, and nothing runs.
 
-ghost use Rattle.can_log.specs.Laws.{LineMeansAtMostOne, LineHasNoLineFeed, LineIsShort, LineRecordsBytes, DataIsWhatHexDecodes};
-ghost use Rattle.can_log.specs.Laws.{FrontHasCompletion, SixteenAreEnough};
+ghost use Rattle.can_log.specs.Laws.{LineMeansAtMostOne, LineMeansOrNothing, LineHasNoLineFeed, LineIsShort, LineRecordsBytes, DataIsWhatHexDecodes};
+ghost use Rattle.can_log.specs.Laws.{FrontHasCompletion, CompletableHasNoLineFeed, SixteenAreEnough};
 ghost use Rattle.can_log.specs.Laws.{RefusedPlaceIsOne, RefusedLogMeansNothing};
 ghost use Rattle.can_log.specs.Laws.{LogIsLegalOrRefused, LogMeansAtMostOne, LogTellsOne};
 ghost use Rattle.can_log.specs.Laws.{StartStands, ScanReadsOn, FinishReadsEnd, ScanningReadsTheLog};
 ghost use Rattle.can_log.specs.CanonicalLaws.{CanonicalLineMeans, CanonicalTextIsOneLine, CanonicalLineLength};
-ghost use Rattle.can_log.specs.LogLaws.{LogLinesOfParts, LinesMeanInParts, LineIsLog, LogsJoin};
+ghost use Rattle.can_log.specs.LogLaws.{LogLinesOfParts, LineFeedEndsLine, LogLinesGoOn};
+ghost use Rattle.can_log.specs.LogLaws.{LinesHaveNoLineFeed, LinesMeanAsMany, LinesMeanOneMore, LinesMeanInParts};
+ghost use Rattle.can_log.specs.LogLaws.{LinesAreLog, LineIsLog, LogsJoin};
+ghost use Rattle.can_log.specs.LogLaws.{RefusedLines, RefusedLineMeansNothing};
 
 /// A line means at most one thing.
 pub fn line_means_at_most_one()
     ensures { LineMeansAtMostOne }
+{}
+
+/// A line means something or nothing.
+pub fn line_means_or_nothing()
+    ensures { LineMeansOrNothing }
 {}
 
 /// A line that means something holds no line feed.
@@ -36,6 +44,11 @@ pub fn data_is_what_hex_decodes()
 /// Each front of bytes that have a completion has one.
 pub fn front_has_completion()
     ensures { FrontHasCompletion }
+{}
+
+/// Bytes that have a completion hold no line feed.
+pub fn completable_has_no_line_feed()
+    ensures { CompletableHasNoLineFeed }
 {}
 
 /// Sixteen bytes are enough: bytes that no completion of at most 16 makes a line, no completion does.
@@ -107,6 +120,46 @@ pub fn canonical_line_length()
 /// The lines of a log are those that line feeds end, and what stands behind the last of these.
 pub fn log_lines_of_parts()
     ensures { LogLinesOfParts }
+{}
+
+/// A line ends at its line feed, and the lines of what follows come next.
+pub fn line_feed_ends_line()
+    ensures { LineFeedEndsLine }
+{}
+
+/// After lines that are ended come the lines of the rest, whatever it is.
+pub fn log_lines_go_on()
+    ensures { LogLinesGoOn }
+{}
+
+/// No line holds a line feed, of lines that mean something.
+pub fn lines_have_no_line_feed()
+    ensures { LinesHaveNoLineFeed }
+{}
+
+/// Lines mean as many things as they are.
+pub fn lines_mean_as_many()
+    ensures { LinesMeanAsMany }
+{}
+
+/// Lines mean one thing more exactly where the last of them means that thing, and those before it mean the others.
+pub fn lines_mean_one_more()
+    ensures { LinesMeanOneMore }
+{}
+
+/// Lines that mean something, each with its line feed, are a log that means that.
+pub fn lines_are_log()
+    ensures { LinesAreLog }
+{}
+
+/// The lines of a refused log are those before its refused place, and then those of the rest.
+pub fn refused_lines()
+    ensures { RefusedLines }
+{}
+
+/// The first line of that rest means nothing, and the refused byte is one of it, or the one behind it.
+pub fn refused_line_means_nothing()
+    ensures { RefusedLineMeansNothing }
 {}
 
 /// Lines and more lines mean what the ones mean, and then what the others mean.
