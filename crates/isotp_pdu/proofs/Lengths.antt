@@ -4,8 +4,9 @@ use Rattle.std.specs.Prelude.{IsTrue}
 use Rattle.std.proofs.lemmas.Bool.{cond_both, eqb-true}
 use Rattle.std.proofs.lemmas.Bool.Decides.{nat_tests}
 use Rattle.isotp_pdu.specs.Layout.{is_can_dl, is_rx_dl, least_first}
+use Rattle.isotp_pdu.specs.Laws.{CanDlIsAtMost64}
 
-pub can_dl_few : (n : ℕ) → IsTrue (is_can_dl n) → n ≤ 64
+pub can_dl_few : CanDlIsAtMost64
 can_dl_few n h = grind (arith, nat_tests)
 
 pub rx_dl_few : (n : ℕ) → IsTrue (is_rx_dl n) → n ≤ 64

@@ -1,9 +1,9 @@
 -- What holds of every frame. Each is the contract of a function of the module `laws`.
-use Rattle.std.specs.Prelude.{◌≡◌, ◌⊎◌, ◌↔◌, IsTrue, Ok, Err}
+use Rattle.std.specs.Prelude.{◌≡◌, ◌≤◌, ◌⊎◌, ◌↔◌, ℕ, IsTrue, List, ◌++◌, Ok, Err}
 use Rattle.can_log.specs.Frame.{FrameValue}
 use Rattle.isotp_pdu.specs.declared.PduFault.{PduFault}
 use Rattle.isotp_pdu.specs.declared.PduFault.TheVariants as fault
-use Rattle.isotp_pdu.specs.Layout.{Layout, HasLayout, IsSoundLayout}
+use Rattle.isotp_pdu.specs.Layout.{Layout, HasLayout, IsSoundLayout, bytes_carried, is_can_dl}
 use Rattle.isotp_pdu.specs.Reading.{layout_of, are_bytes}
 use Rattle.isotp_pdu.specs.Fault.{Applies, IsFault, AnnouncesWrongly}
 
@@ -34,6 +34,15 @@ LayoutHasNoFault = (frame : FrameValue) (layout : Layout) (e : PduFault) → Has
 -- each layout that a frame has is sound
 abbrev pub LayoutIsSound : Type 0
 LayoutIsSound = (frame : FrameValue) (layout : Layout) → HasLayout frame layout → IsSoundLayout layout
+
+-- the bytes that a layout carries stand in the frame, one after another
+abbrev pub CarriedBytesAreOfFrame : Type 0
+CarriedBytesAreOfFrame = (frame : FrameValue) (layout : Layout) → HasLayout frame layout
+    → (front : List ℕ) × (back : List ℕ) × (frame.bytes ≡ front ++ (bytes_carried layout ++ back))
+
+-- a data length of a CAN frame is at most 64
+abbrev pub CanDlIsAtMost64 : Type 0
+CanDlIsAtMost64 = (n : ℕ) → IsTrue (is_can_dl n) → n ≤ 64
 
 -- what is wrong with a first frame of bytes that is refused for its length
 abbrev pub FirstLengthMeans : Type 0

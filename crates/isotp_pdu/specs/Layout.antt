@@ -1,6 +1,6 @@
 -- What a CAN frame says under ISO 15765-2:2016, section 9.6: each layout as the bytes that it spells. Sections are of that
 -- standard.
-use Rattle.std.specs.Prelude.{◌≡◌, ◌≢◌, ℕ, ◌+◌, ◌-◌, ◌*◌, ◌/◌, ◌%◌, ◌^◌, ◌<◌, ◌≤◌, ◌⊎◌, Bool, ◌||◌, ◌==◌, nat_lt, IsTrue, List, ◌∷◌, ◌++◌, length, Result, Ok, Err, ⊤, if◌then◌else◌}
+use Rattle.std.specs.Prelude.{◌≡◌, ◌≢◌, ℕ, ◌+◌, ◌-◌, ◌*◌, ◌/◌, ◌%◌, ◌^◌, ◌<◌, ◌≤◌, ◌⊎◌, Bool, ◌||◌, ◌==◌, nat_lt, IsTrue, List, [], ◌∷◌, ◌++◌, length, Result, Ok, Err, ⊤, if◌then◌else◌}
 use Rattle.can_log.specs.Frame.{FrameValue}
 use Rattle.can_log.specs.declared.frame.Kind.TheVariants as kind
 use Rattle.isotp_pdu.specs.declared.Status.{Status}
@@ -95,6 +95,13 @@ IsSoundLayout (single message) = 0 < length message
 IsSoundLayout (first announced rx_dl data_bytes) = IsSoundFirst announced rx_dl data_bytes
 IsSoundLayout (consecutive number can_dl data_bytes) = IsSoundConsecutive number can_dl data_bytes
 IsSoundLayout (flow_control status) = ⊤
+
+-- the bytes of a message that it carries, in a consecutive frame with the padding behind them
+abbrev pub bytes_carried : Layout → List ℕ
+bytes_carried (single message) = message
+bytes_carried (first announced rx_dl data_bytes) = data_bytes
+bytes_carried (consecutive number can_dl data_bytes) = data_bytes
+bytes_carried (flow_control status) = []
 
 -- a `Pdu` without where its bytes lie
 abbrev pub layout_at : Pdu → Layout

@@ -4,6 +4,7 @@
 //! [`read_pdu`]: crate::read_pdu
 
 ghost use Rattle.isotp_pdu.specs.Laws.{LayoutIsRead, FaultIsRead, AtMostOneLayout, AtMostOneFault, LayoutOrFault, LayoutHasNoFault, LayoutIsSound, FirstLengthMeans};
+ghost use Rattle.isotp_pdu.specs.Laws.{CarriedBytesAreOfFrame, CanDlIsAtMost64};
 
 /// `layout_of` gives a layout exactly where the frame has it.
 pub fn layout_is_read()
@@ -38,6 +39,16 @@ pub fn layout_has_no_fault()
 /// The numbers of each layout that a frame has are in their ranges.
 pub fn layout_is_sound()
     ensures { LayoutIsSound }
+{}
+
+/// The bytes that a layout carries stand in its frame, one after another.
+pub fn carried_bytes_are_of_frame()
+    ensures { CarriedBytesAreOfFrame }
+{}
+
+/// A data length of a CAN frame is at most 64.
+pub fn can_dl_is_at_most_64()
+    ensures { CanDlIsAtMost64 }
 {}
 
 /// A first frame that is refused for its length is below 8 bytes, or announces less than a first
