@@ -32,6 +32,8 @@ pub mod VerdictLaws
 -- the messages of a trace
 pub mod MessagesOfMore
 pub mod Told
+pub mod DeliveredBytes
+pub mod EventCounts
 -- recordings
 pub mod OwnFrames
 pub mod UnderWay

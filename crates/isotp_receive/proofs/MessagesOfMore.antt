@@ -11,6 +11,7 @@ use Rattle.isotp_receive.specs.declared.event.Verdict.TheVariants as as_told
 use Rattle.isotp_receive.specs.Trace.{Entry}
 use Rattle.isotp_receive.specs.Standing.{Receptions, receptions_after}
 use Rattle.isotp_receive.specs.Verdict.{EventValue, messages, messages_after, told_message, verdict}
+use Rattle.isotp_receive.specs.MessageLaws.{MessagesGoOn}
 use Rattle.isotp_receive.specs.EventSeen.{seen_verdict}
 use Rattle.isotp_receive.specs.Recorded.{entries, entry_of, sent}
 
@@ -22,6 +23,9 @@ messages-append limit past (e ∷ xs) ys =
     ap (λ l. told_message e.dir (verdict limit past e).told ++ l) (messages-append limit (past ++ e ∷ []) xs ys
     ∙ ap (λ l. messages_after limit (past ++ e ∷ []) xs ++ messages_after limit l ys) (append_assoc past (e ∷ []) xs))
     ∙ sym (append_assoc (told_message e.dir (verdict limit past e).told) (messages_after limit (past ++ e ∷ []) xs) (messages_after limit (past ++ (e ∷ xs)) ys))
+
+pub messages_go_on : MessagesGoOn
+messages_go_on limit T more = messages-append limit [] T more
 
 pub messages-snoc : (limit : ℕ) (past es : List Entry) (e : Entry)
     → messages_after limit past (es ++ e ∷ []) ≡ messages_after limit past es ++ told_message e.dir (verdict limit (past ++ es) e).told

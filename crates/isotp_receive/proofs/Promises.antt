@@ -8,3 +8,8 @@ pub use Rattle.isotp_receive.proofs.Fits.{room-join as places_agree_on_bytes, fi
 pub use Rattle.isotp_receive.proofs.Delivered.{recording-delivers as recording_delivers, recording-delivers-behind as recording_delivers_behind}
 pub use Rattle.isotp_receive.proofs.Delivered.{delivers-at-last as recording_delivers_at_last_position}
 pub use Rattle.isotp_receive.proofs.FrameLaws.{by-frames as recording_delivers_by_frames, certificate as clean_trace_is_a_recording}
+pub use Rattle.isotp_receive.proofs.MessagesOfMore.{messages_go_on}
+pub use Rattle.isotp_receive.proofs.DeliveredBytes.{messages_are_few, messages_fit, messages_hold_bytes}
+pub use Rattle.isotp_receive.proofs.EventCounts.{events_go_on, events_are_as_many, too_long_is_announced, clean_is_counted}
+pub use Rattle.isotp_receive.proofs.Readings.{first_frame_is_read}
+pub use Rattle.isotp_receive.proofs.References.{same-reference as one_reference}

@@ -1,26 +1,27 @@
 -- What is known of a frame by its role: where the bytes of its message lie in it, and the ranges of its numbers.
-use Rattle.std.proofs.Common.{true, false, ◌≡◌, ℕ, ◌+◌, ◌-◌, ◌*◌, ◌%◌, ◌/◌, ◌<◌, ◌≤◌, List, length, drop, get_or, slice_index, ◌==◌, Result, Ok}
+use Rattle.std.proofs.Common.{true, false, ◌≡◌, ℕ, ◌+◌, ◌-◌, ◌*◌, ◌%◌, ◌/◌, ◌<◌, ◌≤◌, List, ◌++◌, length, drop, get_or, slice_index, ◌==◌, Result, Ok}
 use Rattle.std.proofs.Common.{Err, refl, sym, ◌∙◌, ap, arith, cond, length-append, inl, inr}
-use Rattle.std.specs.Prelude.{⊤, IfOk, IsTrue}
-use Rattle.std.proofs.lemmas.Bool.{cond_both, ne_eqb}
-use Rattle.std.proofs.lemmas.Bool.Decides.{nat_tests}
+use Rattle.std.specs.Prelude.{⊤, IfOk}
+use Rattle.std.proofs.lemmas.Bool.{cond_both, cases_Bool, ne_eqb}
 use Rattle.can_log.specs.Frame.{FrameValue}
 use Rattle.can_log.specs.declared.frame.Dir.{Dir}
 use Rattle.isotp_pdu.specs.declared.PduFault.{PduFault}
 use Rattle.isotp_pdu.specs.declared.Status.TheVariants.{Continue, Wait, Overflow}
-use Rattle.isotp_pdu.specs.Layout.{Layout, is_can_dl, least_first, SpellsFirst, Spells, IsSoundLayout}
+use Rattle.isotp_pdu.specs.Layout.{Layout, bytes_carried, least_first, SpellsFirst, Spells, IsSoundLayout}
 use Rattle.isotp_pdu.specs.Layout as layout
 use Rattle.isotp_pdu.specs.Reading.{layout_of}
-use Rattle.isotp_pdu.proofs.Promises.{layout_is_read, layout_is_sound}
+use Rattle.isotp_pdu.proofs.Promises.{layout_is_read, layout_is_sound, carried_bytes_are_of_frame, can_dl_is_at_most_64}
 use Rattle.isotp_receive.specs.Trace.{Entry, FirstFrame, Role, single, first, consecutive, continue_or_wait, overflow, no_part, role, own_role, other_role, same_direction}
 use Rattle.isotp_receive.specs.Places.{bytes_in_first}
+use Rattle.isotp_receive.specs.MessageLaws.{FirstFrameIsRead}
+use Rattle.isotp_receive.proofs.Directions.{same}
 
 -- ---- where the bytes of a layout lie in its frame
 
 abbrev LiesIn : List ℕ → Layout → Type 0
 LiesIn x (layout.first len rx_dl bytes) = (bytes ≡ drop (rx_dl - bytes_in_first x) x) × (length bytes ≡ bytes_in_first x)
 LiesIn x (layout.consecutive sequence_number can_dl bytes) = bytes ≡ drop 1 x
-LiesIn x (layout.single message) = length message ≤ length x
+LiesIn x (layout.single message) = ⊤
 LiesIn x (layout.flow_control status) = ⊤
 
 least_above_six : (n : ℕ) → 8 ≤ n → 7 ≤ least_first n
@@ -45,10 +46,7 @@ first_lies x len bytes low (inr (least, most, parts)) =
     (sym (ap (λ k. drop k x) place ∙ ap (drop 6) parts), omega arith)
 
 spelled_lies : (x : List ℕ) (found : Layout) → Spells x found → IsSoundLayout found → LiesIn x found
-spelled_lies x (layout.single message) (padding, some, inl (short, parts)) sound =
-    (let size = ap length parts in omega (arith, length-append message padding))
-spelled_lies x (layout.single message) (padding, some, inr (long, parts)) sound =
-    (let size = ap length parts in omega (arith, length-append message padding))
+spelled_lies x (layout.single message) spelled sound = tt
 spelled_lies x (layout.first len rx_dl bytes) (is_rx_dl, size, parts) sound =
     let low = sound.at_least in
     let lies = first_lies x len bytes (omega arith) parts in
@@ -58,12 +56,13 @@ spelled_lies x (layout.flow_control status) spelled sound = tt
 
 -- ---- what is known of a reading
 
--- a frame has at most 64 bytes
-can_dl_high : (n : ℕ) → IsTrue (is_can_dl n) → n ≤ 64
-can_dl_high n h = grind (arith, nat_tests)
+-- the bytes stand in the frame, one after another
+abbrev pub StandIn : List ℕ → List ℕ → Type 0
+StandIn x bytes = (front : List ℕ) × (back : List ℕ) × (x ≡ front ++ (bytes ++ back))
 
 record IsReadFrom (x : List ℕ) (found : Layout) : Type 0 where
   lies : LiesIn x found
+  carried : StandIn x (bytes_carried found)
   few : length x ≤ 64
   numbers : IsSoundLayout found
 
@@ -71,12 +70,18 @@ read_from : (f : FrameValue) (r : Result Layout PduFault) → layout_of f ≡ r 
 read_from f (Ok found) is =
     let has = (layout_is_read f found).1 is in
     let numbers = layout_is_sound f found has in
-    record { lies = spelled_lies f.bytes found has.spelled numbers; few = can_dl_high (length f.bytes) has.frame_length; numbers = numbers }
+    record {
+      lies = spelled_lies f.bytes found has.spelled numbers;
+      carried = carried_bytes_are_of_frame f found has;
+      few = can_dl_is_at_most_64 (length f.bytes) has.frame_length;
+      numbers = numbers;
+    }
 read_from f (Err fault) is = tt
 
 -- ---- what is known of a frame of each role, of these bytes
 
-pub record IsWhole (message : List ℕ) : Type 0 where
+pub record IsWhole (x message : List ℕ) : Type 0 where
+  pub lies : StandIn x message
   pub some : 1 ≤ length message
   pub few : length message ≤ 64
 
@@ -94,13 +99,16 @@ pub record IsNext (x : List ℕ) (can_dl : ℕ) (bytes : List ℕ) : Type 0 wher
 abbrev pub IsRoleOf : ℕ → List ℕ → Role → Type 0
 IsRoleOf micros x (first start) = IsFirst micros x start
 IsRoleOf micros x (consecutive sequence_number can_dl bytes) = IsNext x can_dl bytes
-IsRoleOf micros x (single message) = IsWhole message
+IsRoleOf micros x (single message) = IsWhole x message
 IsRoleOf micros x continue_or_wait = ⊤
 IsRoleOf micros x overflow = ⊤
 IsRoleOf micros x no_part = ⊤
 
 own_from : (line micros : ℕ) (x : List ℕ) (r : Result Layout PduFault) → IfOk r (IsReadFrom x) → IsRoleOf micros x (own_role line micros r)
-own_from line micros x (Ok (layout.single message)) from = record { some = from.numbers; few = (let lies = from.lies in let few = from.few in omega arith) }
+own_from line micros x (Ok (layout.single message)) from =
+    let size = ap length from.carried.2 in
+    let sum = length-append from.carried.0 (message ++ from.carried.1) in
+    record { lies = from.carried; some = from.numbers; few = omega (arith, length-append message from.carried.1, from.few) }
 own_from line micros x (Ok (layout.first len rx_dl bytes)) from =
     record { lies = from.lies.0; held = from.lies.1; fewer = from.numbers.carries_less; wide = from.numbers.at_least; time = refl }
 own_from line micros x (Ok (layout.consecutive sequence_number can_dl bytes)) from = record { lies = from.lies; size = from.numbers.in_frame }
@@ -123,7 +131,7 @@ role_from d e =
     (λ _. own_from e.line e.micros e.frame.bytes _ (read_from e.frame (layout_of e.frame) refl))
     (λ _. other_from e.micros e.frame.bytes (layout_of e.frame))
 
-pub whole_from : (d : Dir) (e : Entry) (message : List ℕ) → role d e ≡ single message → IsWhole message
+pub whole_from : (d : Dir) (e : Entry) (message : List ℕ) → role d e ≡ single message → IsWhole e.frame.bytes message
 whole_from d e message h = rw h at (role_from d e)
 
 pub first_from : (d : Dir) (e : Entry) (start : FirstFrame) → role d e ≡ first start → IsFirst e.micros e.frame.bytes start
@@ -132,3 +140,31 @@ first_from d e start h = rw h at (role_from d e)
 pub next_from : (d : Dir) (e : Entry) (sequence_number can_dl : ℕ) (bytes : List ℕ) → role d e ≡ consecutive sequence_number can_dl bytes
     → IsNext e.frame.bytes can_dl bytes
 next_from d e sequence_number can_dl bytes h = rw h at (role_from d e)
+
+-- ---- what is a first frame to a direction
+
+own_first : (line micros : ℕ) (r : Result Layout PduFault) (start : FirstFrame) → own_role line micros r ≡ first start
+    → r ≡ Ok (layout.first start.len start.rx_dl start.bytes)
+own_first line micros (Ok (layout.first len rx_dl bytes)) start is =
+    let same : record { line = line; micros = micros; len = len; rx_dl = rx_dl; bytes = bytes } ≡ start = cc in
+    ap (λ (s : FirstFrame). Ok (layout.first s.len s.rx_dl s.bytes)) same
+own_first line micros (Ok (layout.single message)) start is = absurd (cc)
+own_first line micros (Ok (layout.consecutive sequence_number can_dl bytes)) start is = absurd (cc)
+own_first line micros (Ok (layout.flow_control status)) start is = absurd (cc)
+own_first line micros (Err fault) start is = absurd (cc)
+
+other_first : (r : Result Layout PduFault) (start : FirstFrame) → other_role r ≡ first start → ⊥
+other_first (Ok (layout.first len rx_dl bytes)) start is = cc
+other_first (Ok (layout.single message)) start is = cc
+other_first (Ok (layout.consecutive sequence_number can_dl bytes)) start is = cc
+other_first (Ok (layout.flow_control Continue)) start is = cc
+other_first (Ok (layout.flow_control Wait)) start is = cc
+other_first (Ok (layout.flow_control Overflow)) start is = cc
+other_first (Err fault) start is = cc
+
+pub first_frame_is_read : FirstFrameIsRead
+unfolding role
+first_frame_is_read d e start is = elim (cases_Bool (same_direction d e.dir)) [
+  | inl own ↦ (same d e.dir own, own_first e.line e.micros (layout_of e.frame) start (rw own at is))
+  | inr other ↦ absurd (other_first (layout_of e.frame) start (rw other at is))
+]

@@ -7,6 +7,7 @@ use Rattle.can_log.specs.declared.frame.Dir.{Dir}
 use Rattle.isotp_receive.specs.Trace.{Entry, At, FirstFrame, Role, single, first, consecutive, continue_or_wait, overflow, no_part, role}
 use Rattle.isotp_receive.specs.Standing.{referred, reference}
 use Rattle.isotp_receive.specs.OnTime.{n_cr, RestartsTimer, IsReference, IsOnTime}
+use Rattle.isotp_receive.specs.Laws.{OneReference}
 use Rattle.isotp_receive.proofs.ListPositions.{get-same, get-here}
 use Rattle.isotp_receive.proofs.Readings.{first_from}
 
@@ -38,7 +39,7 @@ moved T d n i e from at restarts = record {
   greatest = λ p x above below there _. absurd (omega arith);
 }
 
-pub same-reference : (T : List Entry) (d : Dir) (i c q r : ℕ) → IsReference T d i c q → IsReference T d i c r → q ≡ r
+pub same-reference : OneReference
 same-reference T d i c q r a b = elim (cases_lt q r) [
   | inl less ↦ absurd (above T d i c q r a b less)
   | inr most ↦ elim (cases_lt r q) [

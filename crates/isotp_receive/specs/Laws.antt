@@ -3,6 +3,7 @@ use Rattle.std.specs.Prelude.{◌≡◌, ◌<◌, ◌≤◌, ℕ, ◌+◌, ◌%�
 use Rattle.can_log.specs.declared.frame.Dir.{Dir}
 use Rattle.isotp_receive.specs.Trace.{Entry, FirstFrame, first, role}
 use Rattle.isotp_receive.specs.Places.{bytes_in_first, bytes_before, IsConsecutiveCount, FitsAs}
+use Rattle.isotp_receive.specs.OnTime.{IsReference}
 use Rattle.isotp_receive.specs.Standing.{Standing, carried_after, fits_length, stands}
 use Rattle.isotp_receive.specs.OpenReception.{IsOpenAt, IsStandingAt}
 use Rattle.isotp_receive.specs.Delivers.{Delivers}
@@ -34,6 +35,12 @@ OneIsOpen =
     (limit : ℕ) (T : List Entry) (d : Dir) (begun number begun_too number_too position : ℕ)
     → IsOpenAt limit T d begun number position → IsOpenAt limit T d begun_too number_too position
     → (begun ≡ begun_too) × (number ≡ number_too)
+
+-- a frame has at most one reference frame, from which N_Cr runs
+abbrev pub OneReference : Type 0
+OneReference =
+    (T : List Entry) (d : Dir) (begun position reference other : ℕ)
+    → IsReference T d begun position reference → IsReference T d begun position other → reference ≡ other
 
 -- of a message that is under way fewer bytes are kept than it has, and it has at most the limit
 abbrev pub KeepsFewerBytes : Type 0

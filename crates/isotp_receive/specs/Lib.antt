@@ -9,8 +9,10 @@ pub mod VerdictTable
 pub mod Recording
 pub mod FramesOf
 pub mod CleanTrace
+pub mod Events
 pub mod Laws
 pub mod RecordingLaws
+pub mod MessageLaws
 pub mod EventSeen
 pub mod Recorded
 pub mod Taken

@@ -2,8 +2,10 @@
 
 ghost use Rattle.std.specs.Prelude.{◌≡◌};
 ghost use Rattle.isotp_receive.specs.declared.TheConstants.{MESSAGE_LIMIT};
-ghost use Rattle.isotp_receive.specs.Laws.{WhatStandsIsOpen, WhatIsOpenStands, WhatStandsIsFixed, OneIsOpen, KeepsFewerBytes};
+ghost use Rattle.isotp_receive.specs.Laws.{WhatStandsIsOpen, WhatIsOpenStands, WhatStandsIsFixed, OneIsOpen, OneReference, KeepsFewerBytes};
 ghost use Rattle.isotp_receive.specs.Laws.{AMessageIsDelivered, TheVerdictIsTabled, PlacesAgreeOnBytes, PlacesAgreeOnFit};
+ghost use Rattle.isotp_receive.specs.MessageLaws.{MessagesGoOn, MessagesAreFew, MessagesFit, MessagesHoldBytes};
+ghost use Rattle.isotp_receive.specs.MessageLaws.{EventsGoOn, EventsAreAsMany, FirstFrameIsRead, TooLongIsAnnounced, CleanIsCounted};
 
 /// What stands after a trace is the reception that is open at its end by the positions of its frames,
 /// with all that is known of it: line, length, RX_DL, bytes and the time that N_Cr runs from.
@@ -16,6 +18,11 @@ pub fn what_stands_is_open()
 /// At most one reception of a direction is open at a position.
 pub fn one_is_open()
     ensures { OneIsOpen }
+{}
+
+/// A frame has at most one reference frame, from which N_Cr runs.
+pub fn one_reference()
+    ensures { OneReference }
 {}
 
 /// A pair keeps fewer bytes of a message than the message has, and that is at most the limit.
@@ -42,4 +49,38 @@ pub fn places_agree()
 /// The limit that the contracts of [`Pair`](crate::Pair) name: messages have at most 65,535 bytes.
 pub fn the_message_limit()
     ensures { MESSAGE_LIMIT ≡ 65535 }
+{}
+
+/// A trace that goes on delivers the messages of its first frames, and then those of the others. It delivers no more
+/// messages than it has frames.
+pub fn messages_go_on()
+    ensures more { MessagesGoOn }
+    ensures few { MessagesAreFew }
+{}
+
+/// Each message of a trace has at least one byte and at most the limit; where the frames hold bytes, so does it.
+pub fn messages_fit()
+    ensures length { MessagesFit }
+    ensures bytes { MessagesHoldBytes }
+{}
+
+/// The frames of a trace that goes on do what the first frames do, and then what the others do: each one thing.
+pub fn events_go_on()
+    ensures more { EventsGoOn }
+    ensures count { EventsAreAsMany }
+{}
+
+/// What is a first frame to the reception of a direction was sent by that direction, and has that layout.
+pub fn first_frame_is_read()
+    ensures { FirstFrameIsRead }
+{}
+
+/// A frame is dropped as too long exactly where it announces a length above the limit.
+pub fn too_long_is_announced()
+    ensures { TooLongIsAnnounced }
+{}
+
+/// A trace is clean exactly where nothing of it is counted as dropped, ended or unfinished.
+pub fn clean_is_counted()
+    ensures { CleanIsCounted }
 {}

@@ -1,7 +1,7 @@
 -- The verdict on a frame that an open reception waits for, or that begins where none is open, by the public laws of
 -- `isotp_receive`.
-use Rattle.std.proofs.Common.{◌≡◌, ℕ, ◌+◌, ◌%◌, ◌<◌, ◌≤◌, ◌==◌, true, List, ◌++◌, length, nat_le, Option, Some, None, Ok, refl, sym, ◌∙◌, ap, arith, inl, inr, subst}
-use Rattle.std.proofs.lemmas.Bool.{le-leb, eq-eqb, cond_both, cases_lt}
+use Rattle.std.proofs.Common.{◌≡◌, ℕ, ◌+◌, ◌%◌, ◌≤◌, ◌==◌, true, List, ◌++◌, length, nat_le, Option, Some, None, Ok, refl, sym, ◌∙◌, ap, arith, subst}
+use Rattle.std.proofs.lemmas.Bool.{le-leb, eq-eqb, cond_both}
 use Rattle.can_log.specs.Dir.{other_direction}
 use Rattle.can_log.specs.declared.frame.Dir.{Dir}
 use Rattle.isotp_pdu.specs.declared.Status.TheVariants.{Continue}
@@ -14,26 +14,8 @@ use Rattle.isotp_receive.specs.Standing.{Standing, fits_length, stands}
 use Rattle.isotp_receive.specs.OpenReception.{IsOpenAt}
 use Rattle.isotp_receive.specs.Verdict.{verdict, wants_more}
 use Rattle.isotp_receive.specs.CleanTrace.{IsCleanEvent}
-use Rattle.isotp_receive.proofs.Promises.{what_stands_is_open, what_is_open_stands, one_is_open, places_agree_on_fit}
+use Rattle.isotp_receive.proofs.Promises.{what_stands_is_open, what_is_open_stands, one_is_open, places_agree_on_fit, one_reference}
 use Rattle.isotp_segment.proofs.OpenReceptions.{IsClosedAt, same-entry}
-
--- a frame has one reference
-no-later-reference : (T : List Entry) (d : Dir) (begun position p q : ℕ)
-    → IsReference T d begun position p → IsReference T d begun position q → p < q → ⊥
-no-later-reference T d begun position p q one other less = elim other.restarts [
-  | inl is ↦ absurd (omega (arith, one.from))
-  | inr (e, at, restarts) ↦ one.greatest q e less other.below at restarts
-]
-
-one-reference : (T : List Entry) (d : Dir) (begun position p q : ℕ)
-    → IsReference T d begun position p → IsReference T d begun position q → p ≡ q
-one-reference T d begun position p q one other = elim (cases_lt p q) [
-  | inl less ↦ absurd (no-later-reference T d begun position p q one other less)
-  | inr most ↦ elim (cases_lt q p) [
-    | inl less ↦ absurd (no-later-reference T d begun position q p other one less)
-    | inr least ↦ omega arith
-  ]
-]
 
 -- Where a reception is open behind T, whatever follows.
 module _ (limit : ℕ) (T rest : List Entry) (d : Dir) (begun number : ℕ)
@@ -71,7 +53,7 @@ module _ (limit : ℕ) (T rest : List Entry) (d : Dir) (begun number : ℕ)
               ∙ ap (λ r. bytes_before in_first r number) (all.rx_dl ∙ ap (λ s. s.rx_dl) same_start);
           on_time = λ e (latest, last, refers, at, in_time).
               let here : latest ≡ all.latest =
-              one-reference (T ++ rest) d begun (length T) latest all.latest refers
+              one_reference (T ++ rest) d begun (length T) latest all.latest refers
               (subst (λ p. IsReference (T ++ rest) d p (length T) all.latest) same.0 all.refers) in
               let same_last : last ≡ all.last =
               same-entry (T ++ rest) latest _ _ at (subst (λ p. At (T ++ rest) p all.last) (sym here) all.stands) in

@@ -1,19 +1,18 @@
 -- Receptions that are open at a position: with which frame they begin, how long they stay open, and what they wait for.
-use Rattle.std.proofs.Common.{◌≡◌, ℕ, ◌+◌, ◌-◌, ◌<◌, ◌≤◌, true, List, drop, Result, Ok, Err, refl, sym, ap, arith, inl, inr, subst}
+use Rattle.std.proofs.Common.{◌≡◌, ℕ, ◌+◌, ◌-◌, ◌<◌, ◌≤◌, List, drop, Result, Ok, Err, refl, sym, ap, arith, inl, inr, subst}
 use Rattle.std.specs.Prelude.{⊤}
-use Rattle.std.proofs.lemmas.Bool.{cases_lt, cases_Bool, false≢true}
+use Rattle.std.proofs.lemmas.Bool.{cases_lt}
 use Rattle.can_log.specs.declared.frame.Dir.{Dir}
-use Rattle.can_log.specs.declared.frame.Dir.TheVariants.{Tester, Unit}
 use Rattle.isotp_pdu.specs.declared.PduFault.{PduFault}
-use Rattle.isotp_pdu.specs.declared.Status.TheVariants.{Continue, Wait, Overflow}
 use Rattle.isotp_pdu.specs.Layout.{Layout}
 use Rattle.isotp_pdu.specs.Layout as layout
 use Rattle.isotp_pdu.specs.Reading.{layout_of}
-use Rattle.isotp_receive.specs.Trace.{Entry, At, FirstFrame, first, consecutive, role, own_role, other_role, same_direction}
+use Rattle.isotp_receive.specs.Trace.{Entry, At, FirstFrame, first, consecutive, role}
 use Rattle.isotp_receive.specs.Places.{bytes_in_first, FitsAs, IsConsecutiveCount, consecutive_by, consecutive_frames_in, between}
 use Rattle.isotp_receive.specs.OnTime.{IsOnTime}
 use Rattle.isotp_receive.specs.OpenReception.{LeavesOpen, IsOpenAt}
 use Rattle.isotp_receive.specs.Delivers.{Completes}
+use Rattle.isotp_receive.proofs.Promises.{first_frame_is_read}
 use Rattle.isotp_segment.proofs.ConsecutiveCounts.{counted-more, counted-between, one-count}
 
 -- one entry stands at a position
@@ -56,36 +55,11 @@ IsFirst (Ok (layout.consecutive sequence_number can_dl bytes)) = ⊥
 IsFirst (Ok (layout.flow_control status)) = ⊥
 IsFirst (Err fault) = ⊥
 
-own-first : (line micros : ℕ) (r : Result Layout PduFault) (start : FirstFrame)
-    → own_role line micros r ≡ first start → IsFirst r
-own-first line micros (Ok (layout.first len rx_dl bytes)) start is = tt
-own-first line micros (Ok (layout.single message)) start is = absurd (cc)
-own-first line micros (Ok (layout.consecutive sequence_number can_dl bytes)) start is = absurd (cc)
-own-first line micros (Ok (layout.flow_control status)) start is = absurd (cc)
-own-first line micros (Err fault) start is = absurd (cc)
-
-not-of-other : (r : Result Layout PduFault) (start : FirstFrame) → other_role r ≡ first start → ⊥
-not-of-other (Ok (layout.first len rx_dl bytes)) start is = cc
-not-of-other (Ok (layout.single message)) start is = cc
-not-of-other (Ok (layout.consecutive sequence_number can_dl bytes)) start is = cc
-not-of-other (Ok (layout.flow_control Continue)) start is = cc
-not-of-other (Ok (layout.flow_control Wait)) start is = cc
-not-of-other (Ok (layout.flow_control Overflow)) start is = cc
-not-of-other (Err fault) start is = cc
-
-same : (d other : Dir) → same_direction d other ≡ true → d ≡ other
-same Tester Tester is = refl
-same Unit Unit is = refl
-same Tester Unit is = absurd (false≢true is)
-same Unit Tester is = absurd (false≢true is)
-
 -- only a first frame of the direction begins a reception
 pub begins-reception : (d : Dir) (e : Entry) (start : FirstFrame) → role d e ≡ first start → (d ≡ e.dir) × IsFirst (layout_of e.frame)
-unfolding role
-begins-reception d e start is = elim (cases_Bool (same_direction d e.dir)) [
-  | inl t ↦ (same d e.dir t, own-first e.line e.micros (layout_of e.frame) start (rw t at is))
-  | inr t ↦ absurd (not-of-other (layout_of e.frame) start (rw t at is))
-]
+begins-reception d e start is =
+    let read = first_frame_is_read d e start is in
+    (read.0, subst IsFirst (sym read.1) tt)
 
 -- Where the frame at `position` completes a message: what each consecutive frame since its first one was waited for as.
 module _ (limit : ℕ) (T : List Entry) (d : Dir) (position : ℕ) (message : List ℕ) (completed : Completes limit T position d message) where

@@ -1,0 +1,185 @@
+-- What the frames of a trace do, counted: a clean trace counts nothing wrong, and a frame is too long by what it announces.
+use Prim.Native.Nat.{suc}
+use Rattle.std.proofs.Common.{◌≡◌, ℕ, ◌+◌, Bool, true, false, List, [], ◌∷◌, ◌++◌, length, nat_le, arith, refl, ap, sym, ◌∙◌, cond, Option, Some, None, Result, Ok, Err, inl, inr, append_assoc}
+use Rattle.std.specs.Prelude.{◌==◌, is_some}
+use Rattle.std.specs.List.{count_by}
+use Rattle.std.specs.Option.{option_len}
+use Rattle.std.proofs.lemmas.Bool.{cases_Bool, cond_both}
+use Rattle.std.proofs.lemmas.List.{append-nil}
+use Rattle.std.proofs.lemmas.List.Sums.{sum_by-append}
+use Rattle.can_log.specs.Dir.{other_direction}
+use Rattle.can_log.specs.declared.frame.Dir.{Dir}
+use Rattle.can_log.specs.declared.frame.Dir.TheVariants as dir
+use Rattle.isotp_pdu.specs.Layout.{Layout}
+use Rattle.isotp_pdu.specs.Layout as layout
+use Rattle.isotp_pdu.specs.Reading.{layout_of}
+use Rattle.isotp_pdu.specs.declared.PduFault.{PduFault}
+use Rattle.isotp_pdu.specs.declared.Status.{Status}
+use Rattle.isotp_pdu.specs.declared.Status.TheVariants.{Continue, Wait, Overflow}
+use Rattle.isotp_receive.specs.declared.event.Ended.{Ended}
+use Rattle.isotp_receive.specs.declared.event.Cause.TheVariants as cause
+use Rattle.isotp_receive.specs.declared.event.Reason.TheVariants as reason
+use Rattle.isotp_receive.specs.declared.reception.Judged.{Judged}
+use Rattle.isotp_receive.specs.declared.reception.Judged.TheVariants as judged_as
+use Rattle.isotp_receive.specs.Trace.{Entry}
+use Rattle.isotp_receive.specs.Standing.{Standing, stands}
+use Rattle.isotp_receive.specs.Verdict.{VerdictValue, message, began, stored, flowed, dropped, EventValue, verdict, refused, ended_as, on_layout, on_consecutive, on_flow_control}
+use Rattle.isotp_receive.specs.Machine.{judged, on_judged}
+use Rattle.isotp_receive.specs.CleanTrace.{IsKept, EachClean, IsClean}
+use Rattle.isotp_receive.specs.Events.{events_after, is_dropped, dropped_in, ended_in, unfinished_in, oversize_in, too_long_in}
+use Rattle.isotp_receive.specs.MessageLaws.{EventsGoOn, EventsAreAsMany, TooLongIsAnnounced, CleanIsCounted}
+use Rattle.isotp_receive.proofs.Judgement.{on-judged}
+
+-- ---- a trace that goes on
+
+events_after-append : (limit : ℕ) (past T more : List Entry) → events_after limit past (T ++ more) ≡ events_after limit past T ++ events_after limit (past ++ T) more
+events_after-append limit past [] more = ap (λ x. events_after limit x more) (sym (append-nil past))
+events_after-append limit past (e ∷ T) more =
+    ap (λ x. verdict limit past e ∷ x) (events_after-append limit (past ++ e ∷ []) T more
+    ∙ ap (λ x. events_after limit (past ++ e ∷ []) T ++ events_after limit x more) (append_assoc past (e ∷ []) T))
+
+pub events_go_on : EventsGoOn
+events_go_on limit T more = events_after-append limit [] T more
+
+events_count : (limit : ℕ) (past T : List Entry) → length (events_after limit past T) ≡ length T
+events_count limit past [] = refl
+events_count limit past (e ∷ T) = ap suc (events_count limit (past ++ e ∷ []) T)
+
+pub events_are_as_many : EventsAreAsMany
+events_are_as_many limit T = events_count limit [] T
+
+-- ---- a clean trace counts nothing, and where nothing is counted the trace is clean
+
+count_first : {X : Type 0} (p : X → Bool) (x : X) (xs : List X) → count_by p (x ∷ xs) ≡ cond (p x) 1 0 + count_by p xs
+count_first p x xs = let parts = sum_by-append (λ y. cond (p y) 1 0) (x ∷ []) xs in omega arith
+
+counts_zero : (b : Bool) → b ≡ false → ◌≡◌ {A = ℕ} (cond b 1 0) 0
+counts_zero b is = rw is refl
+
+counts_one : (b : Bool) → b ≡ true → ◌≡◌ {A = ℕ} (cond b 1 0) 1
+counts_one b is = rw is refl
+
+count_none : {X : Type 0} (p : X → Bool) (x : X) (xs : List X) → p x ≡ false → count_by p xs ≡ 0 → count_by p (x ∷ xs) ≡ 0
+count_none p x xs passed rest = omega (arith, counts_zero (p x) passed, count_first p x xs)
+
+-- where none passes, the first does not, and none behind it
+record NoneCounted {X : Type 0} (p : X → Bool) (x : X) (xs : List X) : Type 0 where
+  first : p x ≡ false
+  later : count_by p xs ≡ 0
+
+none_counted : {X : Type 0} (p : X → Bool) (x : X) (xs : List X) → count_by p (x ∷ xs) ≡ 0 → NoneCounted p x xs
+none_counted p x xs none = elim (cases_Bool (p x)) [
+  | inl passed ↦ absurd (omega (arith, counts_one (p x) passed, count_first p x xs))
+  | inr failed ↦ record { first = failed; later = omega (arith, counts_zero (p x) failed, count_first p x xs) }
+]
+
+abbrev dropped_event : EventValue → Bool
+dropped_event event = is_dropped event.told
+
+abbrev ended_event : EventValue → Bool
+ended_event event = is_some event.ended
+
+kept_is_not_dropped : (told : VerdictValue) → IsKept told → is_dropped told ≡ false
+kept_is_not_dropped (message bytes) kept = refl
+kept_is_not_dropped began kept = refl
+kept_is_not_dropped stored kept = refl
+kept_is_not_dropped flowed kept = refl
+kept_is_not_dropped (dropped why) kept = absurd kept
+
+not_dropped_is_kept : (told : VerdictValue) → is_dropped told ≡ false → IsKept told
+not_dropped_is_kept (message bytes) is = tt
+not_dropped_is_kept began is = tt
+not_dropped_is_kept stored is = tt
+not_dropped_is_kept flowed is = tt
+not_dropped_is_kept (dropped why) is = absurd (cc)
+
+none_ended : (ended : Option Ended) → is_some ended ≡ false → ended ≡ None
+none_ended None is = refl
+none_ended (Some ended) is = absurd (cc)
+
+clean_drops_none : (limit : ℕ) (past T : List Entry) → EachClean limit past T → count_by dropped_event (events_after limit past T) ≡ 0
+clean_drops_none limit past [] clean = refl
+clean_drops_none limit past (e ∷ rest) clean =
+    count_none dropped_event (verdict limit past e) (events_after limit (past ++ e ∷ []) rest) (kept_is_not_dropped (verdict limit past e).told clean.0.kept)
+    (clean_drops_none limit (past ++ e ∷ []) rest clean.1)
+
+clean_ends_none : (limit : ℕ) (past T : List Entry) → EachClean limit past T → count_by ended_event (events_after limit past T) ≡ 0
+clean_ends_none limit past [] clean = refl
+clean_ends_none limit past (e ∷ rest) clean =
+    count_none ended_event (verdict limit past e) (events_after limit (past ++ e ∷ []) rest) (ap is_some clean.0.goes_on)
+    (clean_ends_none limit (past ++ e ∷ []) rest clean.1)
+
+each_clean : (limit : ℕ) (past T : List Entry) → count_by dropped_event (events_after limit past T) ≡ 0 → count_by ended_event (events_after limit past T) ≡ 0
+    → EachClean limit past T
+each_clean limit past [] none_dropped no_end = tt
+each_clean limit past (e ∷ rest) none_dropped no_end =
+    let one = none_counted dropped_event (verdict limit past e) (events_after limit (past ++ e ∷ []) rest) none_dropped in
+    let other = none_counted ended_event (verdict limit past e) (events_after limit (past ++ e ∷ []) rest) no_end in (
+      record { goes_on = none_ended (verdict limit past e).ended other.first; kept = not_dropped_is_kept (verdict limit past e).told one.first },
+      each_clean limit (past ++ e ∷ []) rest one.later other.later,
+    )
+
+empty_option : (o : Option Standing) → option_len o ≡ 0 → o ≡ None
+empty_option None is = refl
+empty_option (Some standing) is = absurd (omega arith)
+
+clean_counts_none : (limit : ℕ) (T : List Entry) → IsClean limit T → (dropped_in limit T ≡ 0) × (ended_in limit T ≡ 0) × (unfinished_in limit T ≡ 0)
+clean_counts_none limit T clean =
+    let tester = ap option_len (clean.finished dir.Tester) in
+    let unit = ap option_len (clean.finished dir.Unit) in
+    (clean_drops_none limit [] T clean.each, clean_ends_none limit [] T clean.each, omega arith)
+
+counts_none_is_clean : (limit : ℕ) (T : List Entry) → (dropped_in limit T ≡ 0) × (ended_in limit T ≡ 0) × (unfinished_in limit T ≡ 0) → IsClean limit T
+counts_none_is_clean limit T counts = record { each = each_clean limit [] T counts.0 counts.1; finished = finished }
+  where
+    finished : (d : Dir) → stands limit d T ≡ None
+    finished dir.Tester = empty_option (stands limit dir.Tester T) (omega (arith, counts.2))
+    finished dir.Unit = empty_option (stands limit dir.Unit T) (omega (arith, counts.2))
+
+pub clean_is_counted : CleanIsCounted
+clean_is_counted limit T = (clean_counts_none limit T, counts_none_is_clean limit T)
+
+-- ---- a first frame that announces too much is what is dropped as too long
+
+abbrev NoLength : EventValue → Type 0
+NoLength event = too_long_in event.told ≡ None
+
+judged_length : (d : Dir) (standing : Standing) (judged : Judged) (number : ℕ) (bytes : List ℕ) → NoLength (on_judged d standing judged number bytes)
+judged_length d standing judged_as.Late number bytes = refl
+judged_length d standing judged_as.Sequence number bytes = refl
+judged_length d standing judged_as.Length number bytes = refl
+judged_length d standing judged_as.More number bytes = refl
+judged_length d standing judged_as.Last number bytes = refl
+
+consecutive_length : (d : Dir) (own : Option Standing) (micros number can_dl : ℕ) (bytes : List ℕ) → NoLength (on_consecutive d own micros number can_dl bytes)
+consecutive_length d None micros number can_dl bytes = refl
+consecutive_length d (Some standing) micros number can_dl bytes =
+    ap (λ (event : EventValue). too_long_in event.told) (on-judged d standing micros number can_dl bytes)
+    ∙ judged_length d standing (judged standing micros number can_dl) number bytes
+
+flow_length : (d : Dir) (other : Option Standing) (status : Status) → NoLength (on_flow_control d other status)
+flow_length d None Continue = refl
+flow_length d None Wait = refl
+flow_length d None Overflow = refl
+flow_length d (Some standing) Continue = refl
+flow_length d (Some standing) Wait = refl
+flow_length d (Some standing) Overflow =
+    cond_both (standing.taken == 0) (record { ended = ended_as cause.Overflow d (Some standing); told = flowed }) (refused None reason.FlowUnexpected)
+    NoLength (λ _. refl) (λ _. refl)
+
+layout_length : (limit : ℕ) (d : Dir) (own others : Option Standing) (micros : ℕ) (r : Result Layout PduFault)
+    → too_long_in (on_layout limit d own others micros r).told ≡ oversize_in limit r
+layout_length limit d own others micros (Ok (layout.single whole)) = refl
+layout_length limit d own others micros (Ok (layout.first announced rx_dl bytes)) = by_test (nat_le announced limit)
+  where
+    by_test : (within : Bool) → too_long_in (cond within began (dropped (reason.TooLong announced))) ≡ cond within None (Some announced)
+    by_test true = refl
+    by_test false = refl
+layout_length limit d own others micros (Ok (layout.consecutive number can_dl bytes)) = consecutive_length d own micros number can_dl bytes
+layout_length limit d own others micros (Ok (layout.flow_control status)) = flow_length (other_direction d) others status
+layout_length limit d own others micros (Err fault) = refl
+
+pub too_long_is_announced : TooLongIsAnnounced
+unfolding verdict
+too_long_is_announced limit T e =
+    layout_length limit e.dir (stands limit e.dir T) (stands limit (other_direction e.dir) T) e.micros (layout_of e.frame)
