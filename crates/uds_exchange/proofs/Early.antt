@@ -180,3 +180,12 @@ early-front M (x ∷ N) =
           ∙ ap (λ l. l ++ more.0) (early-append M x)
           ∙ append_assoc (early M) _ _,
     )
+
+-- and begins what is early
+pub early-grows : (M N : List Message) → (rest : List Message) × (early (M ++ N) ≡ early M ++ rest)
+early-grows M [] = ([], ap early (append-nil M) ∙ sym (append-nil (early M)))
+early-grows M (x ∷ N) =
+    let more = early-grows (M ++ x ∷ []) N in (
+      due_in (meaning M) x ++ more.0,
+      ap early (sym (append_assoc M (x ∷ []) N)) ∙ more.1 ∙ ap (λ l. l ++ more.0) (early-append M x) ∙ append_assoc (early M) _ _,
+    )

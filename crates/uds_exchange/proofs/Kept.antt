@@ -1,5 +1,5 @@
 -- What the code keeps of a meaning, and what it makes of one more message.
-use Rattle.std.proofs.Common.{◌≡◌, ℕ, ◌<◌, not, ◌&&◌, List, [], ◌∷◌, ◌++◌, length, get_or, Option, Some, None, refl, sym, ◌∙◌, ap, arith, inl, inr, option_map}
+use Rattle.std.proofs.Common.{◌≡◌, ◌≢◌, ℕ, ◌<◌, not, ◌&&◌, List, [], ◌∷◌, ◌++◌, length, get_or, Option, Some, None, refl, sym, ◌∙◌, ap, arith, inl, inr, option_map, length-append}
 use Rattle.std.specs.Prelude.{slice_get, slice_set}
 use Rattle.std.proofs.lemmas.Option.{slice_get_read, slice_get_within, slice_get-map, same_Some, none-some}
 use Rattle.std.proofs.lemmas.List.{map-append, length-map}
@@ -61,6 +61,9 @@ not-request s (Some w) x h =
       ]
     ]
 
+not-longer : (its : List ItemValue) (i : ItemValue) → its ++ i ∷ [] ≢ its
+not-longer its i same = omega (arith, length-append its (i ∷ []), ap length same)
+
 -- an answer needs a request that waits
 answer-waits : (w : Option (ℕ × List ℕ)) (x : Message) → role.Answer ≡ role_at (sid_of w) x → (v : ℕ × List ℕ) × (w ≡ Some v)
 answer-waits (Some v) x h = (v, refl)
@@ -115,6 +118,18 @@ module _ (its now : List ItemValue) (is : its ≡ now) (open_sid : Option ℕ) (
       let w = answered-at h in
       ap (λ i. slice_set its i (exchange w.0.1 (Some x.1))) (sym (kept.place w.0 w.1))
       ∙ sym (joins role.Answer h ∙ ap (λ o. after role.Answer its o x) w.1)
+
+  -- a message with one of these roles changes the items
+  pub changes-stray : role.Stray ≡ role_at open_sid x → joined now x ≢ now
+  changes-stray h same = not-longer its (stray_of x) (joins-stray h ∙ same ∙ sym is)
+
+  pub changes-answer : role.Answer ≡ role_at open_sid x → joined now x ≢ now
+  unfolding after
+  changes-answer h same =
+      let w = answered-at h in
+      let answered : slice_set its w.0.0 (exchange w.0.1 (Some x.1)) ≡ its =
+      sym (joins role.Answer h ∙ ap (λ o. after role.Answer its o x) w.1) ∙ same ∙ sym is in
+      none-some _ (sym (waiting-answered its w.0 x.1 w.1) ∙ ap waiting answered ∙ w.1)
 
 -- what is kept of the longer list
 pub kept-request : (its : List ItemValue) (request : List ℕ) (last : ℕ) → last ≡ length its

@@ -5,7 +5,7 @@ use Rattle.can_log.specs.Dir.{Message}
 use Rattle.uds_message.specs.Message.{sid}
 use Rattle.uds_exchange.specs.Meaning.{ItemValue, is_tester_request, is_answer_to, is_pending_reply_to, meaning, flattened}
 use Rattle.uds_exchange.specs.Order.{held_in, held, early}
-use Rattle.uds_exchange.specs.Orderer.{Standing, stands_after, IsDue, PutsDue, StopsDue}
+use Rattle.uds_exchange.specs.Orderer.{Standing, stands_after, IsDue, PutsDue, IsHeld, StopsDue}
 use Rattle.uds_exchange.specs.Pairing.{waiting, waiting_sid, role_at, joined_by, joined}
 use Rattle.uds_exchange.specs.Steps.{due_for, due, next_for, next, Stops}
 use Rattle.uds_exchange.specs.Sink.{AfterOk, AfterErr, Puts}
@@ -69,6 +69,12 @@ stands-next M x =
     ∙ ap standing (sym (meaning-append M x))
     ∙ sym (stands-is (M ++ x ∷ []))
 
+-- so what it holds with one more message is what is held after the longer list
+pub held-with : (M : List Message) (x : Message) (o : Standing) → o ≡ stands_after M → (next o x).holds ≡ o.holds ++ x ∷ [] → IsHeld M x
+held-with M x o is holds =
+    ap (λ (q : Standing). q.holds) (sym (stands-next M x) ∙ ap (λ (q : Standing). next q x) (sym is))
+    ∙ holds ∙ ap (λ (q : Standing). q.holds ++ x ∷ []) is
+
 pub early-due : (M : List Message) (x : Message) → early (M ++ x ∷ []) ≡ early M ++ due (stands_after M) x
 early-due M x = early-append M x ∙ ap (λ l. early M ++ l) (sym (due-same (meaning M) x) ∙ ap (λ o. due o x) (sym (stands-is M)))
 
@@ -90,7 +96,7 @@ module _ {S E : Type 0} (after_ok : AfterOk S) (after_err : AfterErr S E) where
       subst (λ (l : List Message). Puts after_ok s l u) (early-then-held M) (puts-append after_ok after_err s t u (early M) (held M) h d)
 
   pub stops-due : (M : List Message) (x : Message) (o p : Standing) (s t : S) (f : OrderFault E) → o ≡ stands_after M
-      → Stops after_ok after_err (due o x) o s p t f → StopsDue after_ok after_err M x s t f
+      → Stops after_ok after_err x o s p t f → StopsDue after_ok after_err M x s t f
   stops-due M x o p s t fault.Memory is h = h.2
   stops-due M x o p s t (fault.Sink e) is h = (due o x, due-from M x o is, h.2)
   stops-due M x o p s t fault.Failed is h = absurd (false≢true (ap (λ q. q.failed) (sym is) ∙ h.0))

@@ -1,5 +1,5 @@
 -- Results, by their variants.
-use Rattle.std.proofs.Common.{◌≡◌, Result, Ok, Err, IfErr, OnOk, sym, subst}
+use Rattle.std.proofs.Common.{◌≡◌, Result, Ok, Err, IfErr, OnOk, OnErr, sym, subst}
 use Rattle.std.specs.Prelude.{IsErrAnd}
 
 pub if_err_along : {T E : Type 0} (r : Result T E) (P Q : E → Type 0) → ((e : E) → P e → Q e) → IfErr r P → IfErr r Q
@@ -9,6 +9,14 @@ if_err_along (Err e) P Q f h = f e h
 pub on_ok_along : {T E : Type 0} (r : Result T E) (P Q : Type 0) → (P → Q) → OnOk r P → OnOk r Q
 on_ok_along (Ok x) P Q f h = f h
 on_ok_along (Err e) P Q f h = tt
+
+pub on_err_along : {T E : Type 0} (r : Result T E) (P Q : Type 0) → (P → Q) → OnErr r P → OnErr r Q
+on_err_along (Ok x) P Q f h = tt
+on_err_along (Err e) P Q f h = f h
+
+pub on_err : {T E : Type 0} (r : Result T E) (P : Type 0) → P → OnErr r P
+on_err (Ok x) P h = tt
+on_err (Err e) P h = h
 
 -- the error that a `?` hands on
 pub handed_on : {T E : Type 0} (r : Result T E) (fault : E) (P : E → Type 0) → IsErrAnd r (λ e. e ≡ fault) → P fault → IfErr r P

@@ -53,6 +53,10 @@ abbrev pub EarlyStays : Type 0
 EarlyStays = (M more : List Message)
     → (rest : List Message) × (flattened (meaning (M ++ more)) ≡ early M ++ rest)
 
+-- and it begins what is early, whatever follows
+abbrev pub EarlyGrows : Type 0
+EarlyGrows = (M more : List Message) → (rest : List Message) × (early (M ++ more) ≡ early M ++ rest)
+
 -- where messages are held, a rejection of the open request would come before them, and it is not the first of them:
 -- so nothing more could be put
 abbrev pub HeldMustWait : Type 0

@@ -25,6 +25,10 @@ IsDue M message due = early (M ++ message ∷ []) ≡ early M ++ due
 abbrev pub PutsDue : {Sink : Type 0} → AfterOk Sink → List Message → Message → Sink → Sink → Type 0
 PutsDue after_ok M message before after = (due : List Message) × IsDue M message due × Puts after_ok before due after
 
+-- one more message is held, behind those that are
+abbrev pub IsHeld : List Message → Message → Type 0
+IsHeld M message = held (M ++ message ∷ []) ≡ held M ++ message ∷ []
+
 -- what a fault leaves of the sink: of what is due nothing was put for want of memory, and a proper prefix where the
 -- sink failed
 abbrev pub StopsDue : {Sink Fault : Type 0} → AfterOk Sink → AfterErr Sink Fault → List Message → Message → Sink → Sink → OrderFault Fault → Type 0

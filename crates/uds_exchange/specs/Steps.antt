@@ -34,12 +34,13 @@ next_for role.Stray standing (Some service) message = record standing { holds = 
 abbrev pub next : Standing → Message → Standing
 next standing message = next_for (role_at standing.open_sid message) standing standing.open_sid message
 
--- what a fault leaves, where these messages were due
-abbrev pub Stops : {Sink Fault : Type 0} → AfterOk Sink → AfterErr Sink Fault → List Message → Standing → Sink → Standing → Sink → OrderFault Fault → Type 0
-Stops after_ok after_err due old before new after fault.Memory = (old.failed ≡ false) × (new ≡ old) × (after ≡ before)
-Stops after_ok after_err due old before new after (fault.Sink why) =
-    (old.failed ≡ false) × (new ≡ record old { failed = true }) × Fails after_ok after_err before due why after
-Stops after_ok after_err due old before new after fault.Failed = (old.failed ≡ true) × (new ≡ old) × (after ≡ before)
+-- what a fault leaves, at this message; memory is refused only where the message would be held
+abbrev pub Stops : {Sink Fault : Type 0} → AfterOk Sink → AfterErr Sink Fault → Message → Standing → Sink → Standing → Sink → OrderFault Fault → Type 0
+Stops after_ok after_err message old before new after fault.Memory =
+    (old.failed ≡ false) × (new ≡ old) × (after ≡ before) × ((next old message).holds ≡ old.holds ++ message ∷ [])
+Stops after_ok after_err message old before new after (fault.Sink why) =
+    (old.failed ≡ false) × (new ≡ record old { failed = true }) × Fails after_ok after_err before (due old message) why after
+Stops after_ok after_err message old before new after fault.Failed = (old.failed ≡ true) × (new ≡ old) × (after ≡ before)
 
 -- how many bytes the messages have
 abbrev pub total_length : List Extent → ℕ

@@ -9,7 +9,7 @@ ghost use Rattle.uds_exchange.specs.Orderer.{PutsDue};
 ghost use Rattle.uds_exchange.specs.Laws.{MeaningIsKept, NoneIsLost, NoneIsMadeUp};
 ghost use Rattle.uds_exchange.specs.Laws.{EachHasOneRole, EachListHasRoles, MessagesByRoles};
 ghost use Rattle.uds_exchange.specs.Laws.{OpenRequestIsLast, HeldByOpenRequest, HeldMustWait};
-ghost use Rattle.uds_exchange.specs.Laws.{EarlyThenHeld, EarlyStays, NoneIsLostInOrder};
+ghost use Rattle.uds_exchange.specs.Laws.{EarlyThenHeld, EarlyStays, EarlyGrows, NoneIsLostInOrder};
 
 use crate::sink::MessageSink;
 
@@ -62,6 +62,11 @@ pub fn held_by_open_request()
 /// What is early stays in front of the messages of the meaning, whatever messages follow.
 pub fn early_stays()
     ensures { EarlyStays }
+{}
+
+/// What is early begins what is early after more messages.
+pub fn early_grows()
+    ensures { EarlyGrows }
 {}
 
 /// Where messages are held, an answer to the open request would come before them: nothing more could be put.

@@ -1,6 +1,6 @@
 //! What a list of messages means.
 
-ghost use Rattle.std.specs.Prelude.{◌≡◌, ◌↔◌, IsTrue, [], length, option_map, slice_get};
+ghost use Rattle.std.specs.Prelude.{◌≡◌, ◌↔◌, ◌<◌, ◌^◌, IsTrue, [], length, option_map, slice_get};
 ghost use Rattle.uds_exchange.specs.ItemSeen.{item_value, item_values};
 ghost use Rattle.uds_exchange.specs.Difference.{IsFirstDifference};
 
@@ -33,7 +33,8 @@ impl Meaning {
 
     /// How many items there are.
     pub fn len(&self) -> usize
-        ensures { result ≡ length self.now }
+        ensures value { result ≡ length self.now }
+        ensures small { result < 2 ^ 63 }
     {
         self.items.len()
     }

@@ -4,7 +4,7 @@ ghost use Rattle.std.specs.Prelude.{◌≡◌, ◌≢◌, ◌++◌, ◌∷◌, [
 ghost use Rattle.can_log.specs.Dir.{Message};
 ghost use Rattle.uds_exchange.specs.Order.{held as held_after};
 ghost use Rattle.uds_exchange.specs.Sink.{Puts, Fails};
-ghost use Rattle.uds_exchange.specs.Orderer.{stands_after, PutsDue, StopsDue, Leaves, StopsAtEnd};
+ghost use Rattle.uds_exchange.specs.Orderer.{stands_after, PutsDue, IsHeld, StopsDue, Leaves, StopsAtEnd};
 ghost use Rattle.uds_exchange.specs.Steps.{due, due_for, next, Stops};
 ghost use Rattle.uds_exchange.specs.declared.orderer.OrderFault.TheVariants.{Memory, Failed};
 
@@ -78,6 +78,8 @@ impl Orderer {
             → PutsDue S.after_ok M (dir, message.now) sink.old sink.new) }
 
         ensures memory { result ≡ Err Memory → (self.new ≡ self.old) × (sink.new ≡ sink.old) }
+        ensures held_only { result ≡ Err Memory → (M : List Message) → self.old ≡ stands_after M
+            → IsHeld M (dir, message.now) }
         ensures stops { IfErr result (λ fault. (M : List Message) → self.old ≡ stands_after M
             → StopsDue S.after_ok S.after_err M (dir, message.now) sink.old sink.new fault) }
         ensures leaves { IfErr result (λ fault. Leaves self.old self.new fault) }
@@ -112,7 +114,7 @@ impl Orderer {
     ) -> Result<(), OrderFault<S::Fault>>
         ensures ok { OnOk result ((self.old.failed ≡ false) × (self.new ≡ next self.old (dir, message.now))
             × Puts S.after_ok sink.old (due self.old (dir, message.now)) sink.new) }
-        ensures err { IfErr result (λ fault. Stops S.after_ok S.after_err (due self.old (dir, message.now))
+        ensures err { IfErr result (λ fault. Stops S.after_ok S.after_err (dir, message.now)
             self.old sink.old self.new sink.new fault) }
     {
         if self.failed {

@@ -1,6 +1,6 @@
 //! Requests with their answers, as the messages come.
 
-ghost use Rattle.std.specs.Prelude.{◌≡◌, ◌<◌, ◌++◌, ◌∷◌, [], List, ℕ, length, Some, None, OnOk, OnErr, IfOk, slice_get, slice_set};
+ghost use Rattle.std.specs.Prelude.{◌≡◌, ◌≢◌, ◌<◌, ◌++◌, ◌∷◌, [], List, ℕ, length, Some, None, OnOk, OnErr, IfOk, slice_get, slice_set};
 ghost use Rattle.can_log.specs.Dir.{Message};
 ghost use Rattle.uds_exchange.specs.Meaning.{meaning, exchange};
 ghost use Rattle.uds_exchange.specs.ItemSeen.{item_value, item_values};
@@ -55,6 +55,8 @@ impl Pairing {
         ensures ok { OnOk result ((M : List Message) → self.old ≡ meaning M
             → self.new ≡ meaning (M ++ (dir, message.now) ∷ [])) }
         ensures err { OnErr result (self.new ≡ self.old) }
+        ensures changes { OnErr result ((M : List Message) → self.old ≡ meaning M
+            → meaning (M ++ (dir, message.now) ∷ []) ≢ meaning M) }
     {
         self.join(dir, message)
     }
@@ -70,6 +72,7 @@ impl Pairing {
     fn join(&mut self, dir: Dir, message: &[u8]) -> Result<(), AllocError>
         ensures ok { OnOk result (self.new ≡ joined self.old (dir, message.now)) }
         ensures err { OnErr result (self.new ≡ self.old) }
+        ensures changes { OnErr result (joined self.old (dir, message.now) ≢ self.old) }
     {
         match role_of(self.open_sid, dir, message) {
             Role::Request(sid) => {

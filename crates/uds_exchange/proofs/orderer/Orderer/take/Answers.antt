@@ -3,7 +3,7 @@ use Rattle.can_log.specs.Dir.{Message}
 use Rattle.uds_exchange.specs.Orderer.{Standing}
 use Rattle.uds_exchange.specs.Steps.{next}
 use Rattle.uds_exchange.proofs.Variants.{on_ok_along, if_err_along}
-use Rattle.uds_exchange.proofs.NextStep.{stands-next, puts-due, stops-due}
+use Rattle.uds_exchange.proofs.NextStep.{stands-next, puts-due, held-with, stops-due}
 use Rattle.uds_exchange.proofs.orderer.Orderer.take.Goals as goal
 
 pub returns-clause-stands : goal.returns-clause-stands
@@ -15,6 +15,10 @@ pub returns-clause-puts : goal.returns-clause-puts
 returns-clause-puts g c =
     on_ok_along c.advance.result _ _ (λ h M is.
     puts-due g.S.MessageSink.after_ok g.S.MessageSink.after_err M (c.args.dir, c.args.message.now) c.args.self.now _ _ is h.2) c.advance.ensures.ok
+
+pub returns-clause-held_only : goal.returns-clause-held_only
+returns-clause-held_only g c = λ refused M is.
+    held-with M (c.args.dir, c.args.message.now) c.args.self.now is (rw refused at c.advance.ensures.err).3
 
 pub returns-clause-stops : goal.returns-clause-stops
 returns-clause-stops g c =

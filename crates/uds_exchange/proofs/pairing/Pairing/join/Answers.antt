@@ -7,7 +7,8 @@ use Rattle.uds_exchange.specs.Meaning.{ItemValue, exchange, stray}
 use Rattle.uds_exchange.specs.ItemSeen.{item_values}
 use Rattle.uds_exchange.specs.Pairing.{IsOpenAt}
 use Rattle.uds_exchange.proofs.Kept.{item_values-push, length-item_values, kept-request, kept-stray, kept-answer}
-use Rattle.uds_exchange.proofs.Kept.{joins-request, request-sid, joins-stray, joins-answer, answered-at, answered-below, answered-exchange}
+use Rattle.uds_exchange.proofs.Kept.{joins-request, request-sid, joins-stray, joins-answer, changes-stray, changes-answer, answered-at, answered-below, answered-exchange}
+use Rattle.uds_exchange.proofs.Variants.{on_err}
 use Rattle.uds_exchange.proofs.pairing.Pairing.join.Goals as goal
 
 pub set_answer-requires : goal.set_answer-requires
@@ -78,3 +79,15 @@ returns-in_ok-push-in-Stray-clause-ok c =
     ∙ ap (λ m. its ++ stray c.args.dir m ∷ []) c.in_ok-bytes-in-Stray.ensures
     ∙ joins-stray its c.args.self.now c.self.view_is c.self.inside.open_sid c.self.inside.last c.self.invariant
     (c.args.dir, c.args.message.now) c.in-Stray.ensures
+
+pub returns-in_err-answer-in-Answer-clause-changes : goal.returns-in_err-answer-in-Answer-clause-changes
+returns-in_err-answer-in-Answer-clause-changes c =
+    on_err c.from_residual-in_err-answer-in-Answer.result _
+    (changes-answer (item_values c.self.inside.items.items) c.args.self.now c.self.view_is c.self.inside.open_sid c.self.inside.last c.self.invariant
+    (c.args.dir, c.args.message.now) c.in-Answer.ensures)
+
+pub returns-in_err-push-in-Stray-clause-changes : goal.returns-in_err-push-in-Stray-clause-changes
+returns-in_err-push-in-Stray-clause-changes c =
+    on_err c.from_residual-in_err-push-in-Stray.result _
+    (changes-stray (item_values c.self.inside.items.items) c.args.self.now c.self.view_is c.self.inside.open_sid c.self.inside.last c.self.invariant
+    (c.args.dir, c.args.message.now) c.in-Stray.ensures)
