@@ -1,95 +1,115 @@
--- A log comes to one thing.
-use Rattle.std.proofs.Common.{◌≡◌, ℕ, ◌<◌, ◌≤◌, List, length, arith, refl, ap, sym, subst, ◌∙◌, Option, Result, Ok, Err}
-use Rattle.can_log.specs.Log.{LogMeans, IsRefusedIn}
+-- A log has one outcome.
+use Rattle.std.proofs.Common.{◌≡◌, ℕ, ◌<◌, List, length, arith, refl, ap, sym, subst, ◌∙◌, Option, Some, Result, Ok, Err}
 use Rattle.can_log.specs.declared.frame.Stamped.{Stamped}
-use Rattle.can_log.proofs.Promises.{log_means_at_most_one, refused_place_is_one, refused_log_means_nothing}
-use Rattle.trace_canon.specs.declared.fault.Fault.{Fault}
-use Rattle.trace_canon.specs.declared.fault.Fault.TheVariants.{BadLine, LogLimit, OutputLimit, Read, Write, Memory}
+use Rattle.can_log.proofs.Promises.{log_means_at_most_one, refused_place_is_one}
 use Rattle.trace_canon.specs.declared.summary.Summary.{Summary}
 use Rattle.trace_canon.specs.Settings.{Settings}
-use Rattle.trace_canon.specs.Trace.{trace}
-use Rattle.trace_canon.specs.Messages.{messages}
-use Rattle.trace_canon.specs.CanonicalLog.{canonical_log}
-use Rattle.trace_canon.specs.Outcome.{Accepted, summary_of, HasCanonicalLog, IsOutcome}
+use Rattle.trace_canon.specs.CanonicalLog.{canonical_log_of_lines}
+use Rattle.trace_canon.specs.Summing.{summary_of}
+use Rattle.trace_canon.specs.Refusal.{Refusal, bad_line, oversize_message, long_log, long_canonical_log, oversize, IsBadLine, IsOversizeLine, IsNotRefused}
+use Rattle.trace_canon.specs.Outcome.{Accepted, IsReadWhole, IsAcceptedAs, IsOutcome}
 use Rattle.trace_canon.specs.Laws.{OutcomeIsOne}
+use Rattle.trace_canon.proofs.Refusals.{bad_line_alone, legal_is_not_refused, oversize_is_one}
 
--- the canonical log of lines that mean this
-abbrev pub text_of : Settings → List (Option Stamped) → List ℕ
-text_of settings whats = canonical_log settings (messages (trace settings whats))
+-- a log that is read whole is not refused
+whole_is_not_refused : (limit : ℕ) (settings : Settings) (log : List ℕ) (whats : List (Option Stamped)) → IsReadWhole limit settings log whats
+    → IsNotRefused limit settings log
+whole_is_not_refused limit settings log whats read = legal_is_not_refused limit settings log whats read.means read.within
 
-too_long : (settings : Settings) (log : List ℕ) (result : Result Accepted Fault) → settings.max_bytes < length log → IsOutcome settings log result
-    → result ≡ Err LogLimit
-too_long settings log (Ok accepted) long is = let short = is.0 in absurd (omega arith)
-too_long settings log (Err (BadLine line column)) long is = let short = is.0 in absurd (omega arith)
-too_long settings log (Err LogLimit) long is = refl
-too_long settings log (Err OutputLimit) long is = let short = is.0 in absurd (omega arith)
-too_long settings log (Err Read) long is = absurd is
-too_long settings log (Err Write) long is = absurd is
-too_long settings log (Err Memory) long is = absurd is
+same_oversize : (limit : ℕ) (settings : Settings) (log : List ℕ) (line other announced other_announced : ℕ)
+    → IsOversizeLine limit settings log line announced → IsOversizeLine limit settings log other other_announced
+    → oversize_message line announced ≡ oversize_message other other_announced
+same_oversize limit settings log line other announced other_announced one two =
+    let same = oversize_is_one limit settings log line other announced other_announced one two in
+    let long = ap length same.lines_are in
+    let one_at = one.at in
+    let two_at = two.at in
+    let line_is : line ≡ other = omega arith in
+    let both : Some announced ≡ Some other_announced = sym one.announces ∙ ap (oversize limit settings) same.what_is ∙ two.announces in
+    let announced_is : announced ≡ other_announced = cc in
+    ap (λ l. oversize_message l announced) line_is ∙ ap (oversize_message other) announced_is
 
-refused : (settings : Settings) (log : List ℕ) (line column : ℕ) (result : Result Accepted Fault) → length log ≤ settings.max_bytes
-    → IsRefusedIn log line column → IsOutcome settings log result → result ≡ Err (BadLine line column)
-refused settings log line column (Ok accepted) short place is = absurd (refused_log_means_nothing log line column is.1.0 place is.1.1.means)
-refused settings log line column (Err (BadLine other_line other_column)) short place is =
-    let same = refused_place_is_one log other_line other_column line column is.1 place in
-    ap (λ l. Err (BadLine l other_column)) same.0 ∙ ap (λ c. Err (BadLine line c)) same.1
-refused settings log line column (Err LogLimit) short place is = absurd (omega arith)
-refused settings log line column (Err OutputLimit) short place is = absurd (refused_log_means_nothing log line column is.1.0 place is.1.2.means)
-refused settings log line column (Err Read) short place is = absurd is
-refused settings log line column (Err Write) short place is = absurd is
-refused settings log line column (Err Memory) short place is = absurd is
+-- where the log is refused at a place
+bad_is : (limit : ℕ) (settings : Settings) (log : List ℕ) (line column : ℕ) (result : Result Accepted Refusal) → IsBadLine limit settings log line column
+    → IsOutcome limit settings log result → result ≡ Err (bad_line line column)
+bad_is limit settings log line column (Ok accepted) bad is =
+    absurd ((whole_is_not_refused limit settings log is.0 is.1).no_bad_line line column bad)
+bad_is limit settings log line column (Err (bad_line other_line other_column)) bad is =
+    let same = refused_place_is_one log other_line other_column line column is.place bad.place in
+    ap (λ l. Err (bad_line l other_column)) same.0 ∙ ap (λ c. Err (bad_line line c)) same.1
+bad_is limit settings log line column (Err (oversize_message other announced)) bad is =
+    absurd (bad_line_alone limit settings log line column other announced bad is)
+bad_is limit settings log line column (Err long_log) bad is = absurd (is.0.no_bad_line line column bad)
+bad_is limit settings log line column (Err long_canonical_log) bad is =
+    absurd ((whole_is_not_refused limit settings log is.0 is.1).no_bad_line line column bad)
 
--- two meanings of a log have one canonical log
-pub one_text : (settings : Settings) (log : List ℕ) (first second : List (Option Stamped)) (text : List ℕ) → LogMeans log first
-    → HasCanonicalLog settings log second text → text ≡ text_of settings first
-one_text settings log first second text means has =
-    has.spelled ∙ ap (text_of settings) (log_means_at_most_one log second first has.means means)
+-- where a line announces too much
+oversize_is : (limit : ℕ) (settings : Settings) (log : List ℕ) (line announced : ℕ) (result : Result Accepted Refusal)
+    → IsOversizeLine limit settings log line announced → IsOutcome limit settings log result → result ≡ Err (oversize_message line announced)
+oversize_is limit settings log line announced (Ok accepted) over is =
+    absurd ((whole_is_not_refused limit settings log is.0 is.1).no_oversize line announced over)
+oversize_is limit settings log line announced (Err (bad_line other column)) over is =
+    absurd (bad_line_alone limit settings log other column line announced is over)
+oversize_is limit settings log line announced (Err (oversize_message other other_announced)) over is =
+    ap Err (same_oversize limit settings log other line other_announced announced is over)
+oversize_is limit settings log line announced (Err long_log) over is = absurd (is.0.no_oversize line announced over)
+oversize_is limit settings log line announced (Err long_canonical_log) over is =
+    absurd ((whole_is_not_refused limit settings log is.0 is.1).no_oversize line announced over)
 
-accepted_is : (accepted : Accepted) (text : List ℕ) (summary : Summary) → accepted.text ≡ text → accepted.summary ≡ summary
-    → accepted ≡ record { text = text; summary = summary }
-accepted_is accepted text summary text_is summary_is =
-    ap (λ x. record { text = x; summary = accepted.summary }) text_is ∙ ap (λ x. record { text = text; summary = x }) summary_is
+-- where nothing refuses it and it is longer than the limit
+limit_is : (limit : ℕ) (settings : Settings) (log : List ℕ) (result : Result Accepted Refusal) → IsNotRefused limit settings log
+    → settings.max_bytes < length log → IsOutcome limit settings log result → result ≡ Err long_log
+limit_is limit settings log (Ok accepted) not_refused long is = let short = is.1.short in absurd (omega arith)
+limit_is limit settings log (Err (bad_line line column)) not_refused long is = absurd (not_refused.no_bad_line line column is)
+limit_is limit settings log (Err (oversize_message line announced)) not_refused long is = absurd (not_refused.no_oversize line announced is)
+limit_is limit settings log (Err long_log) not_refused long is = refl
+limit_is limit settings log (Err long_canonical_log) not_refused long is = let short = is.1.short in absurd (omega arith)
 
-legal_over : (settings : Settings) (log : List ℕ) (whats : List (Option Stamped)) (result : Result Accepted Fault) → length log ≤ settings.max_bytes
-    → LogMeans log whats → settings.max_bytes < length (text_of settings whats) → IsOutcome settings log result → result ≡ Err OutputLimit
-legal_over settings log whats (Ok accepted) short means over is =
-    let same = ap length (one_text settings log whats is.1.0 accepted.text means is.1.1) in
-    let fits = is.1.2 in
+-- where it is read whole and its canonical log is longer than the limit
+over_is : (limit : ℕ) (settings : Settings) (log : List ℕ) (whats : List (Option Stamped)) (result : Result Accepted Refusal)
+    → IsReadWhole limit settings log whats → settings.max_bytes < length (canonical_log_of_lines limit settings whats)
+    → IsOutcome limit settings log result → result ≡ Err long_canonical_log
+over_is limit settings log whats (Ok accepted) read over is =
+    let same = log_means_at_most_one log is.0 whats is.1.means read.means in
+    let text = ap length (is.2.spelled ∙ ap (canonical_log_of_lines limit settings) same) in
+    let fits = is.2.fits in
     absurd (omega arith)
-legal_over settings log whats (Err (BadLine line column)) short means over is = absurd (refused_log_means_nothing log line column whats is.1 means)
-legal_over settings log whats (Err LogLimit) short means over is = absurd (omega arith)
-legal_over settings log whats (Err OutputLimit) short means over is = refl
-legal_over settings log whats (Err Read) short means over is = absurd is
-legal_over settings log whats (Err Write) short means over is = absurd is
-legal_over settings log whats (Err Memory) short means over is = absurd is
+over_is limit settings log whats (Err (bad_line line column)) read over is =
+    absurd ((whole_is_not_refused limit settings log whats read).no_bad_line line column is)
+over_is limit settings log whats (Err (oversize_message line announced)) read over is =
+    absurd ((whole_is_not_refused limit settings log whats read).no_oversize line announced is)
+over_is limit settings log whats (Err long_log) read over is = let short = read.short in let long = is.1 in absurd (omega arith)
+over_is limit settings log whats (Err long_canonical_log) read over is = refl
 
-legal : (settings : Settings) (log : List ℕ) (whats : List (Option Stamped)) (result : Result Accepted Fault) → length log ≤ settings.max_bytes
-    → LogMeans log whats → length (text_of settings whats) ≤ settings.max_bytes → IsOutcome settings log result
-    → result ≡ Ok (record { text = text_of settings whats; summary = summary_of settings whats })
-legal settings log whats (Ok accepted) short means fits is =
-    let same = log_means_at_most_one log is.1.0 whats is.1.1.means means in
-    ap Ok (accepted_is accepted (text_of settings whats) (summary_of settings whats) (one_text settings log whats is.1.0 accepted.text means is.1.1)
-    (is.1.3 ∙ ap (summary_of settings) same))
-legal settings log whats (Err (BadLine line column)) short means fits is = absurd (refused_log_means_nothing log line column whats is.1 means)
-legal settings log whats (Err LogLimit) short means fits is = absurd (omega arith)
-legal settings log whats (Err OutputLimit) short means fits is =
-    let same = ap length (one_text settings log whats is.1.0 is.1.1 means is.1.2) in
-    let over = is.1.3 in
+-- what is accepted with lines that mean this
+pub accepted_as : (limit : ℕ) (settings : Settings) (whats : List (Option Stamped)) (accepted : Accepted) → IsAcceptedAs limit settings whats accepted
+    → accepted ≡ record { text = canonical_log_of_lines limit settings whats; summary = summary_of limit settings whats }
+accepted_as limit settings whats accepted is =
+    ap (λ (x : List ℕ). record { text = x; summary = accepted.summary }) is.spelled
+    ∙ ap (λ (x : Summary). record { text = canonical_log_of_lines limit settings whats; summary = x }) is.counted
+
+-- where it is accepted
+ok_is : (limit : ℕ) (settings : Settings) (log : List ℕ) (accepted : Accepted) (result : Result Accepted Refusal)
+    → IsOutcome limit settings log (Ok accepted) → IsOutcome limit settings log result → result ≡ Ok accepted
+ok_is limit settings log accepted (Ok other) one is =
+    let same = log_means_at_most_one log one.0 is.0 one.1.means is.1.means in
+    let as_one = subst (λ w. IsAcceptedAs limit settings w accepted) same one.2 in
+    ap Ok (accepted_as limit settings is.0 other is.2 ∙ sym (accepted_as limit settings is.0 accepted as_one))
+ok_is limit settings log accepted (Err (bad_line line column)) one is =
+    absurd ((whole_is_not_refused limit settings log one.0 one.1).no_bad_line line column is)
+ok_is limit settings log accepted (Err (oversize_message line announced)) one is =
+    absurd ((whole_is_not_refused limit settings log one.0 one.1).no_oversize line announced is)
+ok_is limit settings log accepted (Err long_log) one is = let short = one.1.short in let long = is.1 in absurd (omega arith)
+ok_is limit settings log accepted (Err long_canonical_log) one is =
+    let same = log_means_at_most_one log one.0 is.0 one.1.means is.1.means in
+    let text = ap length (one.2.spelled ∙ ap (canonical_log_of_lines limit settings) same) in
+    let fits = one.2.fits in
+    let over = is.2 in
     absurd (omega arith)
-legal settings log whats (Err Read) short means fits is = absurd is
-legal settings log whats (Err Write) short means fits is = absurd is
-legal settings log whats (Err Memory) short means fits is = absurd is
 
 pub outcome_is_one : OutcomeIsOne
-outcome_is_one settings log (Err LogLimit) second is other = sym (too_long settings log second is other)
-outcome_is_one settings log (Err (BadLine line column)) second is other = sym (refused settings log line column second is.0 is.1 other)
-outcome_is_one settings log (Err OutputLimit) second is other =
-    let over = subst (λ x. settings.max_bytes < length x) is.1.2.spelled is.1.3 in
-    sym (legal_over settings log is.1.0 second is.0 is.1.2.means over other)
-outcome_is_one settings log (Ok accepted) second is other =
-    let fits = subst (λ x. length x ≤ settings.max_bytes) is.1.1.spelled is.1.2 in
-    ap Ok (accepted_is accepted (text_of settings is.1.0) (summary_of settings is.1.0) is.1.1.spelled is.1.3)
-    ∙ sym (legal settings log is.1.0 second is.0 is.1.1.means fits other)
-outcome_is_one settings log (Err Read) second is other = absurd is
-outcome_is_one settings log (Err Write) second is other = absurd is
-outcome_is_one settings log (Err Memory) second is other = absurd is
+outcome_is_one limit settings log (Err (bad_line line column)) other is second = sym (bad_is limit settings log line column other is second)
+outcome_is_one limit settings log (Err (oversize_message line announced)) other is second = sym (oversize_is limit settings log line announced other is second)
+outcome_is_one limit settings log (Err long_log) other is second = sym (limit_is limit settings log other is.0 is.1 second)
+outcome_is_one limit settings log (Err long_canonical_log) other is second = sym (over_is limit settings log is.0 other is.1 is.2 second)
+outcome_is_one limit settings log (Ok accepted) other is second = sym (ok_is limit settings log accepted other is second)

@@ -1,47 +1,216 @@
 -- What canonical logs promise.
-use Rattle.std.specs.Prelude.{◌≡◌, ◌↔◌, ℕ, List, Some, Result, Ok}
+use Rattle.std.specs.Prelude.{◌≡◌, ◌↔◌, ◌≤◌, ◌<◌, ◌^◌, ◌⊎◌, ℕ, ◌+◌, ◌*◌, Bool, List, [], ◌∷◌, ◌++◌, length, Option, Some, Result, Ok, Err}
+use Rattle.std.specs.List.{AllByRecursion}
+use Rattle.can_log.specs.Canonical.{canonical_length}
 use Rattle.can_log.specs.Dir.{Message}
+use Rattle.can_log.specs.Line.{LineMeans}
+use Rattle.can_log.specs.Log.{log_lines, LogMeans, ended_lines, IsRefusedIn}
+use Rattle.can_log.specs.Refused.{NoLineFeed}
 use Rattle.can_log.specs.declared.frame.Dir.{Dir}
 use Rattle.can_log.specs.declared.frame.Id.{Id}
+use Rattle.can_log.specs.declared.frame.Stamped.{Stamped}
+use Rattle.isotp_receive.specs.FramesOf.{AreGivenTheirFrames, EachBelongsOnce}
+use Rattle.isotp_receive.specs.Recording.{IsRecording}
+use Rattle.isotp_segment.specs.Timed.{all_frames}
+use Rattle.uds_exchange.specs.Meaning.{ItemValue, meaning, flattened}
 use Rattle.trace_canon.specs.declared.fault.Fault.{Fault}
+use Rattle.trace_canon.specs.declared.fault.Fault.TheVariants.{OutputLimit}
+use Rattle.trace_canon.specs.declared.summary.Summary.{Summary}
 use Rattle.trace_canon.specs.Settings.{Settings, AreSettings, id_of, direction_of}
-use Rattle.trace_canon.specs.Messages.{AreMessagesOf}
+use Rattle.trace_canon.specs.Trace.{trace}
+use Rattle.trace_canon.specs.Messages.{messages_of_lines, meaning_of_lines, HasMeaning}
+use Rattle.trace_canon.specs.CanonicalLog.{canonical_log, canonical_log_of_lines, fitting, early_text}
+use Rattle.trace_canon.specs.Refusal.{Refusal, bad_line, oversize_message, oversize}
+use Rattle.trace_canon.specs.Summing.{summary_of}
+use Rattle.trace_canon.specs.LinesRead.{AreLinesRead}
 use Rattle.trace_canon.specs.Outcome.{Accepted, IsOutcome}
+use Rattle.trace_canon.specs.Explained.{Unreadable, IsReadAs}
+use Rattle.trace_canon.specs.Answers.{WritesFront, Answers}
 
 -- a frame has a direction exactly where its identifier is that of the direction
 abbrev pub DirectionIsById : Type 0
 DirectionIsById = (settings : Settings) → AreSettings settings → (id : Id) (dir : Dir)
     → (direction_of settings id ≡ Some dir) ↔ (id ≡ id_of settings dir)
 
--- each log comes to something
+-- a limit of messages that no single frame passes and that a first frame can announce
+pub record IsMessageLimit (limit : ℕ) : Type 0 where
+  pub least : 64 ≤ limit
+  pub most : limit < 2 ^ 32
+
+-- each log has an outcome
 abbrev pub OutcomeIsThere : Type 0
-OutcomeIsThere = (settings : Settings) (log : List ℕ) → (result : Result Accepted Fault) × IsOutcome settings log result
+OutcomeIsThere = (limit : ℕ) (settings : Settings) (log : List ℕ) → (result : Result Accepted Refusal) × IsOutcome limit settings log result
 
--- a log comes to one thing
+-- and one outcome
 abbrev pub OutcomeIsOne : Type 0
-OutcomeIsOne = (settings : Settings) (log : List ℕ) (first second : Result Accepted Fault)
-    → IsOutcome settings log first → IsOutcome settings log second → first ≡ second
+OutcomeIsOne = (limit : ℕ) (settings : Settings) (log : List ℕ) (one other : Result Accepted Refusal)
+    → IsOutcome limit settings log one → IsOutcome limit settings log other → one ≡ other
 
--- both logs have these messages
-pub record HaveSameMessages (settings : Settings) (first second : List ℕ) : Type 0 where
-  pub found : List Message
-  pub in_first : AreMessagesOf settings first found
-  pub in_second : AreMessagesOf settings second found
+-- where no announced length refuses a log, it is read, or can't be read for a reason
+abbrev pub ReadingIsThere : Type 0
+ReadingIsThere = (settings : Settings) (log : List ℕ) → (result : Result (List (Option Stamped)) Unreadable) × IsReadAs settings log result
 
--- two accepted logs have the same messages exactly if their canonical logs are equal
-abbrev pub SameMessagesSameText : Type 0
-SameMessagesSameText = (settings : Settings) → AreSettings settings → (a b : List ℕ) (first second : Accepted)
-    → IsOutcome settings a (Ok first) → IsOutcome settings b (Ok second)
-    → HaveSameMessages settings a b ↔ (first.text ≡ second.text)
+-- as one thing
+abbrev pub ReadingIsOne : Type 0
+ReadingIsOne = (settings : Settings) (log : List ℕ) (one other : Result (List (Option Stamped)) Unreadable)
+    → IsReadAs settings log one → IsReadAs settings log other → one ≡ other
 
--- The text is a canonical log of the log: it is accepted, is its own canonical log, and has the messages of the log.
-pub record IsCanonicalFor (settings : Settings) (log text : List ℕ) : Type 0 where
+-- two logs have one meaning
+pub record HaveSameMeaning (limit : ℕ) (settings : Settings) (one other : List ℕ) : Type 0 where
+  pub items : List ItemValue
+  pub in_one : HasMeaning limit settings one items
+  pub in_other : HasMeaning limit settings other items
+
+-- nothing was dropped, ended, left unfinished or left out
+pub record IsCleanSummary (summary : Summary) : Type 0 where
+  pub dropped : summary.dropped ≡ 0
+  pub ended : summary.ended ≡ 0
+  pub unfinished : summary.unfinished ≡ 0
+  pub pending : summary.pending ≡ 0
+
+-- The text is a canonical log of the log: it is accepted, is its own canonical log, has the meaning of the log, and nothing
+-- of it is dropped, ended, left unfinished or left out.
+pub record IsCanonicalFor (limit : ℕ) (settings : Settings) (log text : List ℕ) : Type 0 where
   pub accepted : Accepted
-  pub outcome : IsOutcome settings text (Ok accepted)
+  pub outcome : IsOutcome limit settings text (Ok accepted)
   pub own : accepted.text ≡ text
-  pub same_messages : HaveSameMessages settings log text
+  pub same_meaning : HaveSameMeaning limit settings log text
+  pub clean : IsCleanSummary accepted.summary
 
 -- the canonical log of an accepted log is one
 abbrev pub CanonicalIsCanonical : Type 0
-CanonicalIsCanonical = (settings : Settings) → AreSettings settings → (log : List ℕ) (accepted : Accepted)
-    → IsOutcome settings log (Ok accepted) → IsCanonicalFor settings log accepted.text
+CanonicalIsCanonical = (limit : ℕ) (settings : Settings) → IsMessageLimit limit → AreSettings settings → (log : List ℕ) (accepted : Accepted)
+    → IsOutcome limit settings log (Ok accepted) → IsCanonicalFor limit settings log accepted.text
+
+-- two accepted logs have one meaning exactly if their canonical logs are equal
+abbrev pub SameMeaningSameText : Type 0
+SameMeaningSameText = (limit : ℕ) (settings : Settings) → IsMessageLimit limit → AreSettings settings → (a b : List ℕ) (one other : Accepted)
+    → IsOutcome limit settings a (Ok one) → IsOutcome limit settings b (Ok other)
+    → HaveSameMeaning limit settings a b ↔ (one.text ≡ other.text)
+
+-- The log is legal, and its trace is a recording of these messages.
+pub record Records (limit : ℕ) (settings : Settings) (log : List ℕ) (M : List Message) : Type 0 where
+  pub whats : List (Option Stamped)
+  pub means : LogMeans log whats
+  pub recording : IsRecording limit (trace settings whats) M
+
+-- where the trace of an accepted log is a recording of some messages, its text is the canonical log of their meaning: so all
+-- recordings of these messages have one canonical log
+abbrev pub RecordingHasCanonicalLog : Type 0
+RecordingHasCanonicalLog = (limit : ℕ) (settings : Settings) (log : List ℕ) (accepted : Accepted) (M : List Message)
+    → IsOutcome limit settings log (Ok accepted) → Records limit settings log M
+    → accepted.text ≡ canonical_log limit settings (flattened (meaning M))
+
+-- where the summary of a log counts nothing dropped, ended or unfinished, its trace is a recording of its messages, each of
+-- its own frames, and each frame that carries a message belongs to one: so such a summary is a certificate
+abbrev pub CleanSummaryIsCertificate : Type 0
+CleanSummaryIsCertificate = (limit : ℕ) (settings : Settings) (whats : List (Option Stamped)) → 64 ≤ limit
+    → (summary_of limit settings whats).dropped ≡ 0 → (summary_of limit settings whats).ended ≡ 0 → (summary_of limit settings whats).unfinished ≡ 0
+    → (recording : IsRecording limit (trace settings whats) (messages_of_lines limit settings whats))
+    × AreGivenTheirFrames limit (trace settings whats) recording.transfers × EachBelongsOnce (trace settings whats) recording.transfers
+
+-- the messages of a log are those of its meaning and those left out
+abbrev pub PendingAreTheRest : Type 0
+PendingAreTheRest = (limit : ℕ) (settings : Settings) (whats : List (Option Stamped))
+    → length (flattened (meaning_of_lines limit settings whats)) + (summary_of limit settings whats).pending ≡ (summary_of limit settings whats).messages
+
+-- what is written before a log ends begins its canonical log, whatever follows
+abbrev pub EarlyTextStays : Type 0
+EarlyTextStays = (limit : ℕ) (settings : Settings) (whats more : List (Option Stamped))
+    → (rest : List ℕ) × (canonical_log_of_lines limit settings (whats ++ more) ≡ early_text limit settings whats ++ rest)
+
+-- and it begins what is written later
+abbrev pub EarlyTextGrows : Type 0
+EarlyTextGrows = (limit : ℕ) (settings : Settings) (whats more : List (Option Stamped))
+    → (rest : List ℕ) × (early_text limit settings (whats ++ more) ≡ early_text limit settings whats ++ rest)
+
+-- there are lines that were read, of each log and each number of bytes
+abbrev pub LinesReadAreThere : Type 0
+LinesReadAreThere = (passes : Option Stamped → Bool) (with_last : Bool) (count : ℕ) (log : List ℕ)
+    → (whats : List (Option Stamped)) × AreLinesRead passes with_last count log whats
+
+-- and they are the same lines
+abbrev pub LinesReadAreOne : Type 0
+LinesReadAreOne = (passes : Option Stamped → Bool) (with_last : Bool) (count : ℕ) (log : List ℕ) (one other : List (Option Stamped))
+    → AreLinesRead passes with_last count log one → AreLinesRead passes with_last count log other → one ≡ other
+
+-- These are the first of the lines, as many as are within the limit with their line feeds.
+pub record AreLongestWithin (settings : Settings) (lines kept : List (List ℕ)) : Type 0 where
+  pub rest : List (List ℕ)
+  pub parts : lines ≡ kept ++ rest
+  pub fits : length (ended_lines kept) ≤ settings.max_bytes
+  pub longest : (more others : List (List ℕ)) → lines ≡ more ++ others → length (ended_lines more) ≤ settings.max_bytes → length more ≤ length kept
+
+-- what fits of a text is the longest front of it that is whole lines and within the limit
+abbrev pub FittingIsLongest : Type 0
+FittingIsLongest = (settings : Settings) (lines : List (List ℕ)) → AllByRecursion NoLineFeed lines
+    → (kept : List (List ℕ)) × AreLongestWithin settings lines kept × (fitting settings (ended_lines lines) ≡ ended_lines kept)
+
+-- whatever fault ends a run, what was written is a front of the canonical log of the lines read before it
+abbrev pub FaultLeavesFront : Type 0
+FaultLeavesFront = (limit : ℕ) (settings : Settings) (log : List ℕ) (given : ℕ) (fault : Fault) (old new : List ℕ)
+    → (fault ≡ OutputLimit → length log ≤ given) → Answers limit settings log given (Err fault) old new → WritesFront limit settings log given fault old new
+
+-- a canonical log has one line for each canonical frame, all of this size where both identifiers give it: 46 bytes for
+-- base identifiers, 51 for extended ones
+abbrev pub CanonicalLogLength : Type 0
+CanonicalLogLength = (limit : ℕ) (settings : Settings) (log : List ℕ) (whats : List (Option Stamped)) (size : ℕ) → IsMessageLimit limit
+    → ((d : Dir) → canonical_length (id_of settings d) ≡ size) → LogMeans log whats
+    → length (canonical_log_of_lines limit settings whats) ≡ size * length (all_frames limit (flattened (meaning_of_lines limit settings whats)))
+
+-- The refused place of the log counts: it is one of the first bytes, as many as the limit, or the log has no more.
+pub record CountsAsBad (settings : Settings) (log : List ℕ) (line column : ℕ) : Type 0 where
+  pub place : IsRefusedIn log line column
+  pub counts : (length (ended_lines place.lines) + column ≤ settings.max_bytes) ⊎ (length log ≤ settings.max_bytes)
+
+-- The line of the log announces so much, and counts: its line feed is one of the first bytes, as many as the limit, or the
+-- log has no more.
+pub record CountsAsOversize (limit : ℕ) (settings : Settings) (log : List ℕ) (line announced : ℕ) : Type 0 where
+  pub before : List (List ℕ)
+  pub text : List ℕ
+  pub what : Option Stamped
+  pub later : List (List ℕ)
+  pub parts : log_lines log ≡ before ++ text ∷ later
+  pub at : line ≡ length before + 1
+  pub means : LineMeans text what
+  pub announces : oversize limit settings what ≡ Some announced
+  pub counts : (length (ended_lines (before ++ text ∷ [])) ≤ settings.max_bytes) ⊎ (length log ≤ settings.max_bytes)
+
+-- a log is refused at its refused place where that counts, and each line that counts and announces too much is a later one
+abbrev pub BadLineIsLowest : Type 0
+BadLineIsLowest = (limit : ℕ) (settings : Settings) (log : List ℕ) (line column : ℕ)
+    → IsOutcome limit settings log (Err (bad_line line column))
+    ↔ (CountsAsBad settings log line column × ((other announced : ℕ) → CountsAsOversize limit settings log other announced → line < other))
+
+-- and in a line that counts and announces too much where its refused place, if it counts, is in a later line, and no such
+-- line is an earlier one
+abbrev pub OversizeIsLowest : Type 0
+OversizeIsLowest = (limit : ℕ) (settings : Settings) (log : List ℕ) (line announced : ℕ)
+    → IsOutcome limit settings log (Err (oversize_message line announced))
+    ↔ (CountsAsOversize limit settings log line announced
+    × ((other column : ℕ) → CountsAsBad settings log other column → line < other)
+    × ((other more : ℕ) → CountsAsOversize limit settings log other more → line ≤ other))
+
+-- what is accepted where messages have at most `limit` bytes is accepted with the same text and summary where they may be
+-- longer: so every canonical log stays one
+abbrev pub LargerLimitKeeps : Type 0
+LargerLimitKeeps = (limit larger : ℕ) (settings : Settings) (log : List ℕ) (accepted : Accepted) → 64 ≤ limit → limit ≤ larger
+    → IsOutcome limit settings log (Ok accepted) → IsOutcome larger settings log (Ok accepted)
+
+-- The log is legal, and its trace is a recording of its messages: each is given its own frames, and each frame that carries
+-- a message belongs to exactly one.
+pub record IsCertified (limit : ℕ) (settings : Settings) (log : List ℕ) : Type 0 where
+  pub whats : List (Option Stamped)
+  pub means : LogMeans log whats
+  pub recording : IsRecording limit (trace settings whats) (messages_of_lines limit settings whats)
+  pub own_frames : AreGivenTheirFrames limit (trace settings whats) recording.transfers
+  pub once : EachBelongsOnce (trace settings whats) recording.transfers
+
+-- a summary of the log certifies so, where it counts nothing dropped, ended or unfinished
+abbrev pub Certifies : ℕ → Settings → List ℕ → Summary → Type 0
+Certifies limit settings log summary = summary.dropped ≡ 0 → summary.ended ≡ 0 → summary.unfinished ≡ 0 → IsCertified limit settings log
+
+-- the summary of an accepted log does
+abbrev pub SummaryCertifies : Type 0
+SummaryCertifies = (limit : ℕ) (settings : Settings) (log : List ℕ) (accepted : Accepted) → 64 ≤ limit → IsOutcome limit settings log (Ok accepted)
+    → Certifies limit settings log accepted.summary

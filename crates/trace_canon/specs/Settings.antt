@@ -4,7 +4,6 @@ use Rattle.can_log.specs.declared.frame.Dir.{Dir}
 use Rattle.can_log.specs.declared.frame.Dir.TheVariants as dir
 use Rattle.can_log.specs.declared.frame.Id.{Id}
 use Rattle.can_log.specs.declared.frame.Id.TheVariants as id
-use Rattle.can_log.specs.Canonical.{IsSpellable}
 use Rattle.trace_canon.specs.declared.fault.ConfigFault.{ConfigFault}
 use Rattle.trace_canon.specs.declared.fault.ConfigFault.TheVariants.{IdRange, SameId, LimitRange}
 
@@ -14,10 +13,15 @@ pub record Settings : Type 0 where
   pub unit : Id
   pub max_bytes : ℕ
 
--- a line can spell both identifiers, and they aren't the same one; the limit is 1 to 2^40 bytes
+-- the identifier may be configured: a base one has 11 bits, an extended one 29 (ISO 11898-1)
+abbrev pub IsConfigurable : Id → Type 0
+IsConfigurable (id.Std number) = number ≤ 0x7FF
+IsConfigurable (id.Ext number) = number ≤ 0x1FFFFFFF
+
+-- both may be configured, and they aren't the same one; the limit is 1 to 2^40 bytes
 pub record AreSettings (settings : Settings) : Type 0 where
-  pub tester : IsSpellable settings.tester
-  pub unit : IsSpellable settings.unit
+  pub tester : IsConfigurable settings.tester
+  pub unit : IsConfigurable settings.unit
   pub apart : settings.tester ≢ settings.unit
   pub least : 1 ≤ settings.max_bytes
   pub most : settings.max_bytes ≤ 2 ^ 40
@@ -26,10 +30,10 @@ pub record AreSettings (settings : Settings) : Type 0 where
 abbrev pub Configures : Id → Id → ℕ → Result Settings ConfigFault → Type 0
 Configures tester unit max_bytes (Ok settings) =
     (settings ≡ record { tester = tester; unit = unit; max_bytes = max_bytes }) × AreSettings settings
-Configures tester unit max_bytes (Err IdRange) = (¬ IsSpellable tester) ⊎ (¬ IsSpellable unit)
-Configures tester unit max_bytes (Err SameId) = IsSpellable tester × IsSpellable unit × (tester ≡ unit)
+Configures tester unit max_bytes (Err IdRange) = (¬ IsConfigurable tester) ⊎ (¬ IsConfigurable unit)
+Configures tester unit max_bytes (Err SameId) = IsConfigurable tester × IsConfigurable unit × (tester ≡ unit)
 Configures tester unit max_bytes (Err LimitRange) =
-    IsSpellable tester × IsSpellable unit × (tester ≢ unit) × ((max_bytes ≡ 0) ⊎ (2 ^ 40 < max_bytes))
+    IsConfigurable tester × IsConfigurable unit × (tester ≢ unit) × ((max_bytes ≡ 0) ⊎ (2 ^ 40 < max_bytes))
 
 -- the identifier of the frames of a direction
 abbrev pub id_of : Settings → Dir → Id

@@ -1,7 +1,7 @@
 //! Whose frames are read, and how much of a log.
 
 use crate::fault::ConfigFault;
-use can_log::Dir;
+use can_log::{Dir, Id};
 use std::marker::Model;
 
 /// The most bytes that a limit can allow: 2^40.
@@ -34,7 +34,8 @@ impl Model for Config {
 impl Config {
     ghost use Rattle.std.specs.Prelude.{◌≡◌, ◌≤◌};
     ghost use Rattle.can_log.specs.declared.frame.Id.TheVariants as id;
-    ghost use Rattle.trace_canon.specs.Settings.{AreSettings, Configures, id_of};
+    ghost use Rattle.trace_canon.specs.Settings.{AreSettings, Configures, id_of, direction_of};
+    ghost use Rattle.trace_canon.specs.Measuring.{HasLinesOf};
 
     /// The configuration with these parts. Identifiers are base identifiers, at most 7FF and not the same; the limit is
     /// 1 to [`LARGEST_LIMIT`]. Of several faults the first of [`ConfigFault`] is answered.
@@ -75,6 +76,7 @@ impl Config {
     pub fn max_bytes(&self) -> u64
         ensures value { result ≡ self.now.max_bytes }
         ensures settings { AreSettings self.now }
+        ensures lines { HasLinesOf 46 self.now }
     {
         self.max_bytes
     }
@@ -87,6 +89,20 @@ impl Config {
         match dir {
             Dir::Tester => self.tester,
             Dir::Unit => self.unit,
+        }
+    }
+
+    /// The direction of the frames with this identifier.
+    #[tactic(auto, unfolding(crate::specs::Settings::direction_of))]
+    pub(crate) fn direction_of(&self, id: Id) -> Option<Dir>
+        ensures { result ≡ direction_of self.now id }
+    {
+        if id == Id::Std(self.tester) {
+            Some(Dir::Tester)
+        } else if id == Id::Std(self.unit) {
+            Some(Dir::Unit)
+        } else {
+            None
         }
     }
 }

@@ -1,46 +1,63 @@
 //! From a source to a target.
-ghost use Rattle.std.specs.Prelude.{◌≡◌, ℕ, ◌+◌, ◌^◌, ◌<◌, ◌≤◌, List, ◌++◌, length, take, IfOk, IfErr, OnOk, Option};
+ghost use Rattle.std.specs.Prelude.{◌≡◌, ℕ, ◌+◌, ◌-◌, ◌^◌, ◌<◌, ◌≤◌, List, ◌++◌, length, take, Option, OnOk, IfOk};
+ghost use Rattle.can_log.specs.Dir.{Message};
+ghost use Rattle.uds_exchange.specs.Meaning.{meaning, flattened};
+ghost use Rattle.trace_canon.specs.CanonicalLog.{canonical_log};
+ghost use Rattle.trace_canon.specs.Laws.{IsCanonicalFor, Records, Certifies};
 ghost use Rattle.can_log.specs.declared.frame.Stamped.{Stamped as StampedValue};
-ghost use Rattle.can_log.specs.Log.{LogMeans};
+ghost use Rattle.trace_canon.specs.Settings.{Settings};
+ghost use Rattle.trace_canon.specs.Trace.{trace};
+ghost use Rattle.trace_canon.specs.Putting.{Writer};
+ghost use Rattle.trace_canon.specs.TextSeen.{writer_of};
+ghost use Rattle.trace_canon.specs.Receiving.{Receives};
+ghost use Rattle.trace_canon.specs.Ordering.{Orders};
+ghost use Rattle.trace_canon.specs.Finishing.{IsFirst, Finishes, answer_of, fault_of};
+ghost use Rattle.isotp_receive.specs.declared.TheConstants.{MESSAGE_LIMIT};
+ghost use Rattle.trace_canon.specs.Answers.{Answers};
 ghost use Rattle.trace_canon.specs.Failing.{FailedIf};
-ghost use Rattle.trace_canon.specs.Gathering.{Gathers, ComesTo, IsRefusedOrMemory};
-ghost use Rattle.trace_canon.specs.Laws.{IsCanonicalFor};
-ghost use Rattle.trace_canon.specs.Outcome.{Answers};
+ghost use Rattle.trace_io.specs.Counted.{IsLowCount, AreLowCounts};
+ghost use Rattle.trace_io.specs.Stream.{BeginsAs};
 
 use crate::config::Config;
-use crate::devices::{read_log, write_all};
 use crate::fault::Fault;
-use crate::gathering::{Canonical, Gathered};
+use crate::lines::{LineFault, read_lines};
+use crate::ordering::{Ordering, OrderingFault, finish_order};
+use crate::receiver::Receiver;
 use crate::summary::Summary;
-use can_log::{Scan, Scanner};
+use crate::summing::sum_up;
+use isotp_receive::Pair;
 use std::alloc::Global;
 use trace_io::{Source, Target};
 
-/// Reads a log and writes its canonical log.
+/// Reads a log and writes its canonical log, as it comes: each message is written as soon as its place is known.
 ///
-/// The source is read to its end, or until the log is longer than [`Config::max_bytes`]; then the whole canonical log is
-/// written. So on every fault but [`Fault::Write`] nothing is written. The target is not flushed. Memory is asked for the
-/// log and for its canonical log, and never for a line or a frame.
+/// The target is not flushed.
 pub fn normalise<R: Source, W: Target>(
     alloc: Global,
     config: &Config,
     reader: &mut R,
     writer: &mut W,
 ) -> Result<Summary, Fault>
-    requires reads { R.reads reader.old ≤ 2 ^ 62 }
-    requires given { R.given reader.old ≤ 2 ^ 62 }
-    requires reader_failures { R.failures reader.old ≤ 2 ^ 62 }
-    requires writer_failures { W.failures writer.old ≤ 2 ^ 62 }
+    requires reader { AreLowCounts (R.reads reader.old) (R.given reader.old) (R.failures reader.old) }
+    requires writer { IsLowCount (W.failures writer.old) }
 
     // What is answered and written, for each log that begins as the source's bytes do, as far as the limit and one more.
     ensures answer { R.tells reader.old → W.tells writer.old → (log : List ℕ)
-        → R.front reader.old (config.now.max_bytes + 1) ≡ take (config.now.max_bytes + 1) log
-        → Answers config.now log result (W.written writer.old) (W.written writer.new) }
+        → BeginsAs (R.front reader.old) (config.now.max_bytes + 1) log
+        → Answers MESSAGE_LIMIT config.now log (R.given reader.new - R.given reader.old) result (W.written writer.old) (W.written writer.new) }
 
-    // What is written is accepted, is its own canonical log, and has the messages of the log.
+    // What is written is accepted, is its own canonical log, and has the meaning of the log.
     ensures again { R.tells reader.old → W.tells writer.old → (log : List ℕ)
-        → R.front reader.old (config.now.max_bytes + 1) ≡ take (config.now.max_bytes + 1) log
-        → OnOk result ((text : List ℕ) → W.written writer.new ≡ W.written writer.old ++ text → IsCanonicalFor config.now log text) }
+        → BeginsAs (R.front reader.old) (config.now.max_bytes + 1) log
+        → OnOk result ((text : List ℕ) → W.written writer.new ≡ W.written writer.old ++ text → IsCanonicalFor MESSAGE_LIMIT config.now log text) }
+
+    // Of a recording of messages the canonical log of their meaning is written; and a summary that counts nothing dropped,
+    // ended or unfinished certifies that the log is one.
+    ensures recording { R.tells reader.old → W.tells writer.old → (log : List ℕ)
+        → BeginsAs (R.front reader.old) (config.now.max_bytes + 1) log → OnOk result ((M : List Message) → Records MESSAGE_LIMIT config.now log M
+        → W.written writer.new ≡ W.written writer.old ++ canonical_log MESSAGE_LIMIT config.now (flattened (meaning M))) }
+    ensures certificate { R.tells reader.old → W.tells writer.old → (log : List ℕ)
+        → BeginsAs (R.front reader.old) (config.now.max_bytes + 1) log → IfOk result (λ summary. Certifies MESSAGE_LIMIT config.now log summary) }
 
     // How much is taken.
     ensures taken { R.given reader.new ≤ R.given reader.old + config.now.max_bytes + 1 }
@@ -49,50 +66,80 @@ pub fn normalise<R: Source, W: Target>(
     // A fault of a device comes exactly where the device failed.
     ensures read_fault { FailedIf Fault.Read result (R.failures reader.old) (R.failures reader.new) }
     ensures write_fault { FailedIf Fault.Write result (W.failures writer.old) (W.failures writer.new) }
+
+    // What the target tells, it still tells when all went well.
+    ensures tells { W.tells writer.old → OnOk result (W.tells writer.new) }
 {
-    let log = read_log(alloc, config.max_bytes(), reader)?;
-    let canonical = canonical(alloc, config, log.as_slice())?;
-    write_all(writer, canonical.text.as_slice())?;
-    Ok(canonical.summary)
+    let pair = Pair::new(alloc)?;
+    let mut receiver = Receiver::start(config, pair, Ordering::start(alloc, config));
+    match read_lines(config.max_bytes(), reader, &mut receiver, writer) {
+        Ok(()) => answer_of(finish(receiver, writer)),
+        Err(fault) => Err(fault_of(fault)),
+    }
 }
 
-/// The canonical log of a log and its summary, or the log's fault.
-fn canonical(alloc: Global, config: &Config, log: &[u8]) -> Result<Canonical, Fault>
-    requires { length log.now ≤ 2 ^ 41 }
-    ensures { ComesTo config.now log.now result }
+/// What a fault of the lines is called.
+fn fault_of(fault: LineFault<OrderingFault>) -> Fault
+    ensures { result ≡ fault_of fault }
 {
-    if log.len() as u64 > config.max_bytes() {
-        return Err(Fault::LogLimit);
+    match fault {
+        LineFault::BadLine { line, column } => Fault::BadLine { line, column },
+        LineFault::LogLimit => Fault::LogLimit,
+        LineFault::Read => Fault::Read,
+        LineFault::Taker(OrderingFault::Oversize { line, announced }) => {
+            Fault::Oversize { line, announced }
+        }
+        LineFault::Taker(OrderingFault::Memory) => Fault::Memory,
+        LineFault::Taker(OrderingFault::Write) => Fault::Write,
     }
-    let gathered = gather(alloc, config, log)?;
-    gathered.finish(config)
 }
 
-/// What all the lines of a log give.
-fn gather(alloc: Global, config: &Config, log: &[u8]) -> Result<Gathered, Fault>
-    requires { length log.now ≤ 2 ^ 41 }
-    ensures gathers { IfOk result (λ gathered. (whats : List (Option StampedValue)) × LogMeans log.now whats × Gathers config.now gathered whats) }
-    ensures fault { IfErr result (IsRefusedOrMemory log.now) }
+/// Why a run that has read its whole log ends without its canonical log.
+#[derive(Clone, Copy, Debug)]
+enum EndFault {
+    /// The canonical log is longer than the limit.
+    OutputLimit,
+    /// The target failed.
+    Write,
+}
+
+/// What the end of a run is called.
+fn answer_of(end: Result<Summary, EndFault>) -> Result<Summary, Fault>
+    ensures { result ≡ answer_of end }
 {
-    let mut gathered = Gathered::new(alloc, log.len())?;
-    let mut scanner = Scanner::new();
-    let mut rest = log;
-    'lines: while !rest.is_empty() {
-        match scanner.scan(rest) {
-            Scan::Line { used, what, .. } => {
-                gathered.take(config, what)?;
-                rest = &rest[used..];
-            }
-            Scan::Bad { line, column } => return Err(Fault::BadLine { line, column }),
-            Scan::NeedMore | Scan::End => rest = &[],
-        }
+    match end {
+        Ok(summary) => Ok(summary),
+        Err(EndFault::OutputLimit) => Err(Fault::OutputLimit),
+        Err(EndFault::Write) => Err(Fault::Write),
     }
-    match scanner.finish() {
-        Scan::Line { what, .. } => {
-            gathered.take(config, what)?;
-            Ok(gathered)
-        }
-        Scan::Bad { line, column } => Err(Fault::BadLine { line, column }),
-        Scan::NeedMore | Scan::End => Ok(gathered),
+}
+
+/// Writes what is held, and sums up.
+fn finish<W: Target>(receiver: Receiver<Ordering<W>>, device: &mut W) -> Result<Summary, EndFault>
+    ensures { (start : W) (settings : Settings) (first : Writer) (whats : List (Option StampedValue)) → length whats < 2 ^ 62 → IsFirst settings first
+        → Receives settings whats receiver.pair receiver.lines receiver.counts
+        → Orders (W.tells start) (W.tells device.old) first (trace settings whats) receiver.taker.orderer
+        (writer_of receiver.taker.text (W.failures device.old) (W.written device.old))
+        → Finishes (W.tells start) (W.tells device.new) settings first whats result (W.failures device.new) (W.written device.new) }
+{
+    let Receiver {
+        pair,
+        lines,
+        counts,
+        taker,
+        ..
+    } = receiver;
+    let Ordering {
+        orderer,
+        mut text,
+        ..
+    } = taker;
+    if let Err(_fault) = finish_order(orderer, &mut text, device) {
+        return Err(EndFault::Write);
     }
+    if text.place.is_over() {
+        return Err(EndFault::OutputLimit);
+    }
+    let pending = counts.messages.saturating_sub(text.messages);
+    Ok(sum_up(&pair, lines, counts, pending))
 }

@@ -13,6 +13,9 @@ pub enum Fault {
     /// the column in bytes.
     #[error("line {line} column {column}: not a log line")]
     BadLine { line: u64, column: u32 },
+    /// A first frame of the tester or the unit, in this line, announces this many bytes, more than a message may have.
+    #[error("line {line}: {announced} bytes announced, the limit is 65535")]
+    Oversize { line: u64, announced: u32 },
     /// The log has more bytes than the limit.
     #[error("log longer than the limit")]
     LogLimit,
@@ -36,6 +39,17 @@ impl From<AllocError> for Fault {
     fn from(_: AllocError) -> Fault {
         Fault::Memory
     }
+}
+
+/// Why two logs were not compared.
+#[derive(Clone, Copy, Debug, PartialEq, Eq, Error)]
+pub enum CompareFault {
+    /// The first log has no meaning, or could not be read.
+    #[error("left: {0}")]
+    Left(Fault),
+    /// The second log has no meaning, or could not be read.
+    #[error("right: {0}")]
+    Right(Fault),
 }
 
 /// Why there is no such configuration.

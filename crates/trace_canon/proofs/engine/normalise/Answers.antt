@@ -1,37 +1,137 @@
-use Rattle.std.proofs.Common.{◌+◌, sym, ◌∙◌, subst, refl, Ok, Err}
-use Rattle.trace_canon.specs.Outcome.{Answers}
-use Rattle.trace_canon.proofs.Outcomes.{comes_to, answers_fault, answers_ok, answers_write, handed_on}
-use Rattle.trace_canon.proofs.ReadAgain.{written_is_canonical}
+use Rattle.std.proofs.Common.{◌-◌, ◌<◌, ◌^◌, arith, length, sym, subst}
+use Rattle.isotp_receive.specs.declared.TheConstants.{MESSAGE_LIMIT}
+use Rattle.trace_canon.specs.declared.fault.Fault.TheVariants as fault
+use Rattle.trace_canon.specs.declared.ordering.Ordering.{Ordering}
+use Rattle.trace_canon.specs.declared.receiver.Receiver.{Receiver}
+use Rattle.trace_canon.specs.declared.summary.Summary.{Summary}
+use Rattle.trace_canon.specs.Answers.{Answers}
+use Rattle.trace_canon.proofs.Normalised.{answers_of_lines, answers_end, fails_of_lines, fails_at_the_end, reads_at_the_end, tells_at_the_end, answers_nothing, canonical_again, recording_again, answer_is_certificate}
+use Rattle.trace_canon.proofs.Normalised.{writing, OrderedEvents, StoppedOrdering, ordered_nothing, has_not_put}
+use Rattle.trace_canon.proofs.Results.{handed_on}
+use Rattle.trace_canon.proofs.Runs.{TookLines, StoppedOnLine, starts_run, took_nothing, has_received, has_taken, has_stopped}
+use Rattle.trace_canon.proofs.Streams.{few_in_log}
 use Rattle.trace_canon.proofs.engine.normalise.Goals as goal
 
-pub returns-clause-answer : goal.returns-clause-answer
-returns-clause-answer g c = λ reader_tells writer_tells log begins.
-    let comes = comes_to c.args.config.now c.as_slice.result.now (g.R.Source.front c.args.reader.now (c.max_bytes.result + 1)) log (Ok c.in_ok-canonical.canonical)
-    c.in_ok-canonical.ensures (c.as_slice.ensures.value ∙ c.in_ok-log.ensures.bytes reader_tells) (rw c.max_bytes.ensures.value begins) in
-    answers_ok c.args.config.now log c.in_ok-canonical.canonical _ _ comes
-    (rw c.as_slice-2.ensures.value at c.in_ok-write_all.ensures.written writer_tells)
-
-pub returns-in_err-write_all-clause-answer : goal.returns-in_err-write_all-clause-answer
-returns-in_err-write_all-clause-answer g c = λ reader_tells writer_tells log begins.
-    let comes = comes_to c.args.config.now c.as_slice.result.now (g.R.Source.front c.args.reader.now (c.max_bytes.result + 1)) log (Ok c.in_ok-canonical.canonical)
-    c.in_ok-canonical.ensures (c.as_slice.ensures.value ∙ c.in_ok-log.ensures.bytes reader_tells) (rw c.max_bytes.ensures.value begins) in
+pub returns-in_err-pair-clause-answer : goal.returns-in_err-pair-clause-answer
+returns-in_err-pair-clause-answer g c = λ reads writes log begins.
     let old = g.W.Target.written c.args.writer.now in
-    let new = g.W.Target.written c.write_all.new.writer in
-    let answers = answers_write c.args.config.now log c.in_ok-canonical.canonical c.in_err-write_all.field-0.0 old new comes c.in_err-write_all.ensures.fault
-    (rw c.as_slice-2.ensures.value at c.in_err-write_all.ensures.written writer_tells) in
-    let same = handed_on c.from_residual-in_err-write_all.result c.in_err-write_all.field-0.0 c.from_residual-in_err-write_all.ensures.1 in
-    subst (λ r. Answers c.args.config.now log r old new) (sym same) answers
+    let given = g.R.Source.given c.args.reader.now - g.R.Source.given c.args.reader.now in
+    subst (λ r. Answers MESSAGE_LIMIT c.args.config.now log given r old old) (sym (handed_on c.from_residual.result fault.Memory c.from_residual.ensures.1))
+    (answers_nothing c.args.config.now log given old (omega arith))
 
-pub returns-in_err-canonical-clause-answer : goal.returns-in_err-canonical-clause-answer
-returns-in_err-canonical-clause-answer g c = λ reader_tells writer_tells log begins.
-    let comes = comes_to c.args.config.now c.as_slice.result.now (g.R.Source.front c.args.reader.now (c.max_bytes.result + 1)) log (Err c.in_err-canonical.field-0.0)
-    c.in_err-canonical.ensures (c.as_slice.ensures.value ∙ c.in_ok-log.ensures.bytes reader_tells) (rw c.max_bytes.ensures.value begins) in
-    let old = g.W.Target.written c.args.writer.now in
-    let answers = answers_fault c.args.config.now log c.in_err-canonical.field-0.0 old old comes refl in
-    let same = handed_on c.from_residual-in_err-canonical.result c.in_err-canonical.field-0.0 c.from_residual-in_err-canonical.ensures.1 in
-    subst (λ r. Answers c.args.config.now log r old old) (sym same) answers
+pub returns-in-Err-clause-answer : goal.returns-in-Err-clause-answer
+returns-in-Err-clause-answer g c = λ reads told log begins.
+    let W = g.W.Target in
+    let settings = c.args.config.now in
+    let begun : Receiver (Ordering g.row.W.Denot) × g.row.W.Denot = (c.start-receiver.result, c.args.writer.now) in
+    let now : Receiver (Ordering g.row.W.Denot) × g.row.W.Denot = (c.read_lines.new.taker, c.read_lines.new.device) in
+    let took = OrderedEvents W.tells W.failures W.written in
+    let starts = starts_run settings c.start.result c.start-receiver.result c.args.writer.now c.start-receiver.ensures in
+    let fresh = has_not_put W.tells W.failures W.written settings c.start.result begun.0.taker begun.1 c.start-receiver.ensures.taker_is c.start.ensures in
+    let nothing = took_nothing took begun (ordered_nothing W.tells W.failures W.written (begun.0.taker, begun.1)) in
+    let old = writing W.tells W.failures W.written (begun.0.taker, begun.1) in
+    let stopped = StoppedOrdering W.tells W.failures W.written in
+    let given = g.R.Source.given c.read_lines.new.reader - g.R.Source.given c.args.reader.now in
+    let read = c.in-Err.ensures.lines reads log (rw c.max_bytes.ensures.value begins) begun nothing in
+    rw c.fault_of.ensures
+    (answers_of_lines (W.tells begun.1) (W.tells now.1) settings old (writing W.tells W.failures W.written (now.0.taker, now.1)) log given fresh.first told
+    (Unit {0}) (TookLines took) (StoppedOnLine stopped) begun now c.in-Err.fault c.max_bytes.result c.max_bytes.ensures.value read
+    (λ whats lines. (has_taken took settings begun now starts whats lines fresh.stands).stood)
+    (λ whats what why line. (let stops = has_stopped stopped settings begun now starts whats what why line in (stops.0, stops.1, stops.2, stops.3, stops.4 fresh.stands))))
 
-pub returns-clause-again : goal.returns-clause-again
-returns-clause-again g c = λ reader_tells writer_tells log begins text wrote.
-    written_is_canonical c.args.config.now log _ _ text c.in_ok-canonical.canonical.summary c.max_bytes.ensures.settings
-    (returns-clause-answer g c reader_tells writer_tells log begins) wrote
+pub returns-in-Err-clause-write_fault : goal.returns-in-Err-clause-write_fault
+returns-in-Err-clause-write_fault g c =
+    let W = g.W.Target in
+    let settings = c.args.config.now in
+    let begun : Receiver (Ordering g.row.W.Denot) × g.row.W.Denot = (c.start-receiver.result, c.args.writer.now) in
+    let now : Receiver (Ordering g.row.W.Denot) × g.row.W.Denot = (c.read_lines.new.taker, c.read_lines.new.device) in
+    let took = OrderedEvents W.tells W.failures W.written in
+    let starts = starts_run settings c.start.result c.start-receiver.result c.args.writer.now c.start-receiver.ensures in
+    let fresh = has_not_put W.tells W.failures W.written settings c.start.result begun.0.taker begun.1 c.start-receiver.ensures.taker_is c.start.ensures in
+    let nothing = took_nothing took begun (ordered_nothing W.tells W.failures W.written (begun.0.taker, begun.1)) in
+    let old = writing W.tells W.failures W.written (begun.0.taker, begun.1) in
+    let stopped = StoppedOrdering W.tells W.failures W.written in
+    let takes = c.in-Err.ensures.takes begun nothing in
+    rw c.fault_of.ensures
+    (fails_of_lines {A = Summary} (W.tells begun.1) (W.tells now.1) settings old (writing W.tells W.failures W.written (now.0.taker, now.1))
+    (Unit {0}) (TookLines took) (StoppedOnLine stopped) begun now c.requires.writer c.in-Err.fault takes
+    (λ whats lines. (has_taken took settings begun now starts whats lines fresh.stands).stood)
+    (λ whats what why line. (let stops = has_stopped stopped settings begun now starts whats what why line in (stops.0, stops.1, stops.2, stops.3, stops.4 fresh.stands))))
+
+pub returns-in-Ok-clause-answer : goal.returns-in-Ok-clause-answer
+returns-in-Ok-clause-answer g c = λ reads told log begins.
+    let W = g.W.Target in
+    let settings = c.args.config.now in
+    let begun : Receiver (Ordering g.row.W.Denot) × g.row.W.Denot = (c.start-receiver.result, c.args.writer.now) in
+    let now : Receiver (Ordering g.row.W.Denot) × g.row.W.Denot = (c.read_lines.new.taker, c.read_lines.new.device) in
+    let took = OrderedEvents W.tells W.failures W.written in
+    let starts = starts_run settings c.start.result c.start-receiver.result c.args.writer.now c.start-receiver.ensures in
+    let fresh = has_not_put W.tells W.failures W.written settings c.start.result begun.0.taker begun.1 c.start-receiver.ensures.taker_is c.start.ensures in
+    let nothing = took_nothing took begun (ordered_nothing W.tells W.failures W.written (begun.0.taker, begun.1)) in
+    let old = writing W.tells W.failures W.written (begun.0.taker, begun.1) in
+    let read = c.in-Ok.ensures.lines reads log (rw c.max_bytes.ensures.value begins) begun nothing in
+    let whats = read.0 in
+    let orders = has_taken took settings begun now starts whats read.5 fresh.stands in
+    let received = has_received took settings begun now starts whats read.5 in
+    let few : length whats < 2 ^ 62 = omega (arith, few_in_log log whats read.3, c.max_bytes.ensures.settings.most) in
+    let ends = c.finish.ensures begun.1 settings old whats few fresh.first received orders in
+    rw c.answer_of.ensures
+    (answers_end (W.tells begun.1) (W.tells c.finish.new.device) settings old log (g.R.Source.given c.read_lines.new.reader - g.R.Source.given c.args.reader.now) whats
+    c.finish.result (W.failures c.finish.new.device) (W.written c.finish.new.device) told fresh.first (omega (arith, read.1, c.max_bytes.ensures.value)) read.2 read.3 read.4
+    orders.stood.within ends)
+
+pub returns-in-Ok-clause-write_fault : goal.returns-in-Ok-clause-write_fault
+returns-in-Ok-clause-write_fault g c =
+    let W = g.W.Target in
+    let settings = c.args.config.now in
+    let begun : Receiver (Ordering g.row.W.Denot) × g.row.W.Denot = (c.start-receiver.result, c.args.writer.now) in
+    let now : Receiver (Ordering g.row.W.Denot) × g.row.W.Denot = (c.read_lines.new.taker, c.read_lines.new.device) in
+    let took = OrderedEvents W.tells W.failures W.written in
+    let starts = starts_run settings c.start.result c.start-receiver.result c.args.writer.now c.start-receiver.ensures in
+    let fresh = has_not_put W.tells W.failures W.written settings c.start.result begun.0.taker begun.1 c.start-receiver.ensures.taker_is c.start.ensures in
+    let nothing = took_nothing took begun (ordered_nothing W.tells W.failures W.written (begun.0.taker, begun.1)) in
+    let old = writing W.tells W.failures W.written (begun.0.taker, begun.1) in
+    let takes = c.in-Ok.ensures.takes begun nothing in
+    let orders = has_taken took settings begun now starts takes.0 takes.2 fresh.stands in
+    let received = has_received took settings begun now starts takes.0 takes.2 in
+    let ends = c.finish.ensures begun.1 settings old takes.0 takes.1 fresh.first received orders in
+    rw c.answer_of.ensures
+    (fails_at_the_end (W.tells begun.1) (W.tells c.finish.new.device) settings old takes.0 c.finish.result (W.failures c.finish.new.device) (W.written c.finish.new.device) c.requires.writer ends)
+
+pub returns-in-Ok-clause-tells : goal.returns-in-Ok-clause-tells
+returns-in-Ok-clause-tells g c = λ told.
+    let W = g.W.Target in
+    let settings = c.args.config.now in
+    let begun : Receiver (Ordering g.row.W.Denot) × g.row.W.Denot = (c.start-receiver.result, c.args.writer.now) in
+    let now : Receiver (Ordering g.row.W.Denot) × g.row.W.Denot = (c.read_lines.new.taker, c.read_lines.new.device) in
+    let took = OrderedEvents W.tells W.failures W.written in
+    let starts = starts_run settings c.start.result c.start-receiver.result c.args.writer.now c.start-receiver.ensures in
+    let fresh = has_not_put W.tells W.failures W.written settings c.start.result begun.0.taker begun.1 c.start-receiver.ensures.taker_is c.start.ensures in
+    let nothing = took_nothing took begun (ordered_nothing W.tells W.failures W.written (begun.0.taker, begun.1)) in
+    let old = writing W.tells W.failures W.written (begun.0.taker, begun.1) in
+    let takes = c.in-Ok.ensures.takes begun nothing in
+    let orders = has_taken took settings begun now starts takes.0 takes.2 fresh.stands in
+    let received = has_received took settings begun now starts takes.0 takes.2 in
+    let ends = c.finish.ensures begun.1 settings old takes.0 takes.1 fresh.first received orders in
+    rw c.answer_of.ensures
+    (tells_at_the_end (W.tells begun.1) (W.tells c.finish.new.device) settings old takes.0 c.finish.result (W.failures c.finish.new.device) (W.written c.finish.new.device) told ends)
+
+pub returns-in-Ok-clause-read_fault : goal.returns-in-Ok-clause-read_fault
+returns-in-Ok-clause-read_fault g c =
+    rw c.answer_of.ensures
+    (reads_at_the_end c.finish.result (g.R.Source.failures c.args.reader.now) (g.R.Source.failures c.read_lines.new.reader) c.in-Ok.ensures.failures)
+
+pub returns-in-Ok-clause-again : goal.returns-in-Ok-clause-again
+returns-in-Ok-clause-again g c = λ reads told log begins.
+    canonical_again c.args.config.now log (g.R.Source.given c.read_lines.new.reader - g.R.Source.given c.args.reader.now) c.answer_of.result
+    (g.W.Target.written c.args.writer.now) (g.W.Target.written c.finish.new.device) c.max_bytes.ensures.settings (returns-in-Ok-clause-answer g c reads told log begins)
+
+pub returns-in-Ok-clause-recording : goal.returns-in-Ok-clause-recording
+returns-in-Ok-clause-recording g c = λ reads told log begins.
+    recording_again c.args.config.now log (g.R.Source.given c.read_lines.new.reader - g.R.Source.given c.args.reader.now) c.answer_of.result
+    (g.W.Target.written c.args.writer.now) (g.W.Target.written c.finish.new.device) (returns-in-Ok-clause-answer g c reads told log begins)
+
+pub returns-in-Ok-clause-certificate : goal.returns-in-Ok-clause-certificate
+returns-in-Ok-clause-certificate g c = λ reads told log begins.
+    answer_is_certificate c.args.config.now log (g.R.Source.given c.read_lines.new.reader - g.R.Source.given c.args.reader.now) c.answer_of.result
+    (g.W.Target.written c.args.writer.now) (g.W.Target.written c.finish.new.device) (returns-in-Ok-clause-answer g c reads told log begins)

@@ -1,0 +1,132 @@
+-- What a run answers that holds a log's meaning, from what its parts have promised.
+use Rattle.std.proofs.Common.{◌≡◌, Bool, true, false, nat_le, ℕ, ◌≤◌, List, [], ◌++◌, length, take, drop, arith, refl, ap, sym, subst, ◌∙◌, ◌⊎◌, inl, inr, Option, Some, None, Err, append_assoc, length-append, length-take}
+use Rattle.std.specs.List.{AllByRecursion}
+use Rattle.std.specs.Option.{ok_or}
+use Rattle.std.proofs.lemmas.Bool.{leb-true, leb-false}
+use Rattle.std.proofs.lemmas.List.{take-append-drop}
+use Rattle.can_log.specs.Log.{LogMeans}
+use Rattle.can_log.specs.declared.frame.Dir.{Dir}
+use Rattle.can_log.specs.declared.frame.Stamped.{Stamped}
+use Rattle.isotp_receive.specs.declared.TheConstants.{MESSAGE_LIMIT}
+use Rattle.uds_exchange.specs.Meaning.{ItemValue, meaning, flattened}
+use Rattle.trace_canon.specs.declared.fault.Fault.TheVariants as fault
+use Rattle.trace_canon.specs.declared.holding.Holding.{Holding}
+use Rattle.trace_canon.specs.declared.holding.HoldingFault.{HoldingFault}
+use Rattle.trace_canon.specs.declared.holding.HoldingFault.TheVariants as holding_fault
+use Rattle.trace_canon.specs.declared.lines.LineFault.{LineFault}
+use Rattle.trace_canon.specs.declared.lines.LineFault.TheVariants as line_fault
+use Rattle.trace_canon.specs.declared.meaning.Held.{Held}
+use Rattle.trace_canon.specs.Settings.{Settings, direction_of}
+use Rattle.trace_canon.specs.Trace.{trace}
+use Rattle.trace_canon.specs.CanonicalLog.{canonical_log, canonical_log_of_lines}
+use Rattle.trace_canon.specs.Messages.{meaning_of_lines}
+use Rattle.trace_canon.specs.Summing.{summary_of}
+use Rattle.trace_canon.specs.Answers.{TellsOutcome}
+use Rattle.trace_canon.specs.Reading.{Took, Stopped, StopsInLog, StopsAtEnd, ReadsLog}
+use Rattle.trace_canon.specs.Receiving.{entry_in}
+use Rattle.trace_canon.specs.Ordering.{AnnouncesWithin}
+use Rattle.trace_canon.specs.Holding.{Holds, StopsHolding}
+use Rattle.trace_canon.specs.Held.{fault_of, EndsHeld, FindsMeaning}
+use Rattle.trace_canon.proofs.Finished.{each_within}
+use Rattle.trace_canon.proofs.Normalised.{bad_in_front, bad_at_end, line_announces}
+use Rattle.trace_canon.proofs.Runs.{TookEvents, StoppedOnEvent}
+use Rattle.trace_canon.proofs.ScannedLogs.{bad_line, oversize_taken, oversize_last, not_refused_at_limit}
+
+-- what is known of a line on which the run stopped
+abbrev pub HaltsHolding : Settings → List (Option Stamped) → Option Stamped → HoldingFault → Type 0
+HaltsHolding settings whats what why =
+    (stamped : Stamped) × (d : Dir) × (what ≡ Some stamped) × (Some d ≡ direction_of settings stamped.frame.id)
+    × StopsHolding (trace settings whats) (entry_in whats stamped d) why
+
+-- ---- a fault of the lines
+
+module _ (settings : Settings) (log : List ℕ) (given : ℕ) where
+  -- a line announces too much
+  tells_oversize : (line announced : ℕ) (whats : List (Option Stamped)) (what : Option Stamped) → HaltsHolding settings whats what (holding_fault.Oversize line announced)
+      → (((given ≤ settings.max_bytes) × StopsInLog log given whats what) ⊎ ((length log ≤ settings.max_bytes) × (given ≡ length log) × StopsAtEnd log whats what))
+      → TellsOutcome MESSAGE_LIMIT settings log (fault.Oversize line announced)
+  tells_oversize line announced whats what (stamped, d, is, direction, (within, at, announces)) (inl (few, stops)) =
+      let size = length-take given log in
+      let all = ap length stops.stops.parts ∙ length-append stops.stops.front stops.stops.rest in
+      let parts : log ≡ stops.stops.front ++ (stops.stops.rest ++ drop given log) =
+      sym (take-append-drop given log) ∙ ap (λ x. x ++ drop given log) stops.stops.parts ∙ append_assoc stops.stops.front stops.stops.rest (drop given log) in
+      (oversize_taken MESSAGE_LIMIT settings log stops.stops.front (stops.stops.rest ++ drop given log) whats what stops.stops.standing line announced stops.stops.stands parts (omega arith) (omega arith)
+      (each_within settings whats within) (line_announces settings what stamped d (Some announced) is direction announces)).over
+  tells_oversize line announced whats what (stamped, d, is, direction, (within, at, announces)) (inr (short, all, stops)) =
+      (oversize_last MESSAGE_LIMIT settings log whats what line announced stops.means short (omega arith)
+      (each_within settings whats within) (line_announces settings what stamped d (Some announced) is direction announces)).over
+
+  module _ {S : Type 0} (A : Type 0) (took : Took S) (stopped : Stopped S HoldingFault) (s n : S)
+      (gives : (whats : List (Option Stamped)) → took s whats n → AllByRecursion AnnouncesWithin (trace settings whats))
+      (halts : (whats : List (Option Stamped)) (what : Option Stamped) (why : HoldingFault) → stopped s whats what why n → HaltsHolding settings whats what why) where
+    tells_lines : (why : LineFault HoldingFault) → ReadsLog took stopped s {A = A} settings.max_bytes log given (Err why) n
+        → TellsOutcome MESSAGE_LIMIT settings log (fault_of why)
+    tells_lines (line_fault.BadLine line column) (whats, taken, inl (few, refuses)) =
+        bad_line MESSAGE_LIMIT settings log line column whats given (bad_in_front log given line column whats refuses) few (each_within settings whats (gives whats taken))
+    tells_lines (line_fault.BadLine line column) (whats, taken, inr (short, all, refused)) =
+        bad_line MESSAGE_LIMIT settings log line column whats (length log) (bad_at_end log line column whats refused) short (each_within settings whats (gives whats taken))
+    tells_lines line_fault.LogLimit (whats, taken, long, come, (standing, stands)) =
+        let size = length-take settings.max_bytes log in (
+          not_refused_at_limit MESSAGE_LIMIT settings log (take settings.max_bytes log) (drop settings.max_bytes log) whats standing stands
+              (sym (take-append-drop settings.max_bytes log)) (omega arith) long (each_within settings whats (gives whats taken)),
+          long,
+        )
+    tells_lines line_fault.Read read = tt
+    tells_lines (line_fault.Taker (holding_fault.Oversize line announced)) (whats, what, stops, place) =
+        tells_oversize line announced whats what (halts whats what (holding_fault.Oversize line announced) stops) place
+    tells_lines (line_fault.Taker holding_fault.Memory) read = tt
+
+-- the same, from what a caller has at hand
+pub tells_of_lines : (settings : Settings) (log : List ℕ) (given : ℕ) {S : Type 0} (A : Type 0) (took : Took S) (stopped : Stopped S HoldingFault) (s n : S)
+    (why : LineFault HoldingFault) (m : ℕ) → m ≡ settings.max_bytes → ReadsLog took stopped s {A = A} m log given (Err why) n
+    → ((whats : List (Option Stamped)) → took s whats n → AllByRecursion AnnouncesWithin (trace settings whats))
+    → ((whats : List (Option Stamped)) (what : Option Stamped) (why : HoldingFault) → stopped s whats what why n → HaltsHolding settings whats what why)
+    → TellsOutcome MESSAGE_LIMIT settings log (fault_of why)
+tells_of_lines settings log given A took stopped s n why m is read gives halts =
+    tells_lines settings log given A took stopped s n gives halts why (subst (λ k. ReadsLog took stopped s {A = A} k log given (Err why) n) is read)
+
+-- ---- the end of the run
+
+pub finds_end : (settings : Settings) (log : List ℕ) (whats : List (Option Stamped)) (end : Option Held) → length log ≤ settings.max_bytes → LogMeans log whats
+    → AllByRecursion AnnouncesWithin (trace settings whats) → EndsHeld settings whats end → FindsMeaning MESSAGE_LIMIT settings log (ok_or end fault.OutputLimit)
+finds_end settings log whats (Some held) short means within ends = record {
+  accepted = record { text = canonical_log_of_lines MESSAGE_LIMIT settings whats; summary = summary_of MESSAGE_LIMIT settings whats };
+  outcome = (whats, record { short = short; means = means; within = each_within settings whats within }, record { spelled = refl; fits = ends.fits; counted = refl });
+  means = record { whats = whats; means = means; found = ends.items };
+  counted = sym ends.counted;
+}
+finds_end settings log whats None short means within ends =
+    (whats, record { short = short; means = means; within = each_within settings whats within }, ends)
+
+-- ---- what a run has held
+
+-- messages were held
+abbrev pub HeldEvents : TookEvents Holding (Unit {0})
+HeldEvents s T t = s.0.pairing ≡ meaning [] → Holds T t.0.pairing
+
+-- it stopped on an event
+abbrev pub StoppedHolding : StoppedOnEvent Holding (Unit {0}) HoldingFault
+StoppedHolding s T e why t = s.0.pairing ≡ meaning [] → StopsHolding T e why
+
+pub held_nothing : (start : Holding × Unit {0}) → HeldEvents start [] start
+held_nothing start stands = record { stands = stands; within = tt }
+
+-- ---- the test of the whole meaning
+
+fits_as : (settings config : Settings) (whats : List (Option Stamped)) (items : List ItemValue) (fits : Bool) → config ≡ settings
+    → items ≡ meaning_of_lines MESSAGE_LIMIT settings whats → fits ≡ nat_le (length (canonical_log MESSAGE_LIMIT config (flattened items))) config.max_bytes
+    → nat_le (length (canonical_log_of_lines MESSAGE_LIMIT settings whats)) settings.max_bytes ≡ fits
+fits_as settings config whats items fits same is test =
+    sym (test ∙ ap (λ (s : Settings). nat_le (length (canonical_log MESSAGE_LIMIT s (flattened items))) s.max_bytes) same
+    ∙ ap (λ m. nat_le (length (canonical_log MESSAGE_LIMIT settings (flattened m))) settings.max_bytes) is)
+
+pub ends_well : (settings config : Settings) (whats : List (Option Stamped)) (held : Held) (fits : Bool) → config ≡ settings
+    → held.meaning ≡ meaning_of_lines MESSAGE_LIMIT settings whats → fits ≡ nat_le (length (canonical_log MESSAGE_LIMIT config (flattened held.meaning))) config.max_bytes
+    → fits ≡ true → held.summary ≡ summary_of MESSAGE_LIMIT settings whats → EndsHeld settings whats (Some held)
+ends_well settings config whats held fits same is test within counted =
+    record { items = is; counted = counted; fits = leb-true _ _ (fits_as settings config whats held.meaning fits same is test ∙ within) }
+
+pub ends_over : (settings config : Settings) (whats : List (Option Stamped)) (items : List ItemValue) (fits : Bool) → config ≡ settings
+    → items ≡ meaning_of_lines MESSAGE_LIMIT settings whats → fits ≡ nat_le (length (canonical_log MESSAGE_LIMIT config (flattened items))) config.max_bytes
+    → fits ≡ false → EndsHeld settings whats None
+ends_over settings config whats items fits same is test over = leb-false _ _ (fits_as settings config whats items fits same is test ∙ over)

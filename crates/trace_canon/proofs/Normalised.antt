@@ -1,0 +1,373 @@
+-- What a run answers where it ends with a fault of the lines, from what its parts have promised.
+use Rattle.std.proofs.Common.{◌≡◌, Bool, true, ℕ, ◌≤◌, List, [], ◌∷◌, ◌++◌, length, take, drop, arith, refl, ap, sym, subst, ◌∙◌, ◌⊎◌, inl, inr, Option, Some, None, Result, Ok, Err, ◌^◌, append-nil, append_assoc, length-append, length-take}
+use Rattle.std.specs.Prelude.{is_none, min}
+use Rattle.std.specs.List.{AllByRecursion}
+use Rattle.std.proofs.lemmas.List.{take-append-drop, length-take-le}
+use Rattle.std.proofs.Math.Nat.{le-min}
+use Rattle.can_log.specs.Log.{LogMeans, ended_lines}
+use Rattle.can_log.specs.WholeLog.{IsRefusedBehind, IsRefusedWithin}
+use Rattle.can_log.specs.declared.frame.Dir.{Dir}
+use Rattle.can_log.specs.declared.frame.Stamped.{Stamped}
+use Rattle.isotp_pdu.specs.Reading.{layout_of}
+use Rattle.isotp_receive.specs.declared.TheConstants.{MESSAGE_LIMIT}
+use Rattle.isotp_receive.specs.Verdict.{messages}
+use Rattle.uds_exchange.specs.Order.{early}
+use Rattle.trace_canon.specs.declared.fault.Fault.{Fault}
+use Rattle.trace_canon.specs.declared.fault.Fault.TheVariants as fault
+use Rattle.trace_canon.specs.declared.engine.EndFault.{EndFault}
+use Rattle.trace_canon.specs.declared.engine.EndFault.TheVariants as end_fault
+use Rattle.trace_canon.specs.declared.lines.LineFault.{LineFault}
+use Rattle.trace_canon.specs.declared.lines.LineFault.TheVariants as line_fault
+use Rattle.trace_canon.specs.declared.ordering.OrderingFault.{OrderingFault}
+use Rattle.trace_canon.specs.declared.ordering.OrderingFault.TheVariants as ordering_fault
+use Rattle.trace_canon.specs.declared.summary.Summary.{Summary}
+use Rattle.std.specs.Prelude.{OnOk, IfOk}
+use Rattle.can_log.specs.Dir.{Message}
+use Rattle.trace_canon.specs.Laws.{IsCanonicalFor, Records, Certifies}
+use Rattle.trace_canon.proofs.ReadAgain.{written_is_canonical, written_of_recording, answer_certifies}
+use Rattle.trace_canon.specs.Settings.{Settings, AreSettings, direction_of}
+use Rattle.trace_canon.specs.Trace.{trace}
+use Rattle.trace_canon.specs.Messages.{messages_of_lines, meaning_of_lines}
+use Rattle.trace_canon.specs.CanonicalLog.{early_text, canonical_log, canonical_log_of_lines, fitting}
+use Rattle.isotp_receive.specs.Events.{oversize_in}
+use Rattle.trace_canon.specs.Refusal.{oversize, announces_within, EachWithin}
+use Rattle.trace_canon.specs.Answers.{WritesEagerly, Answers}
+use Rattle.trace_canon.specs.Reading.{Took, Stopped, RefusesIn, StopsIn, StopsInLog, StopsAtEnd, HasEnded, ReadsLog, TakesSome}
+use Rattle.trace_canon.specs.Receiving.{entry_in}
+use Rattle.uds_exchange.specs.Orderer.{stands_after}
+use Rattle.trace_canon.proofs.CanonicalWriting.{text_none, place_none}
+use Rattle.trace_canon.specs.Putting.{Writer, text_of_put}
+use Rattle.trace_canon.specs.Ordering.{AnnouncesWithin, IsOrderingStart, Stood, Orders, StopsAt}
+use Rattle.trace_canon.specs.Finishing.{answer_of, IsFirst, Finishes, fault_of}
+use Rattle.trace_canon.specs.Failing.{FailedIf}
+use Rattle.trace_canon.specs.TextSeen.{writer_of}
+use Rattle.trace_canon.specs.declared.ordering.Ordering.{Ordering}
+use Rattle.uds_exchange.specs.Meaning.{meaning, flattened}
+use Rattle.can_log.specs.Log.{log_lines}
+use Rattle.trace_canon.proofs.Answered.{answers_bad, answers_oversize, answers_oversize_last, answers_limit, answers_read, HaveCome, taken_have_come, all_have_come, writes_front, writes_front_at_end, writes_eagerly, answers_accepted, answers_output_limit}
+use Rattle.trace_canon.proofs.Finished.{text_is_fitting, each_within, oversize_of_one}
+use Rattle.trace_canon.proofs.Receivings.{trace_next}
+use Rattle.trace_canon.proofs.Runs.{TookEvents, StoppedOnEvent}
+use Rattle.trace_canon.proofs.ScannedLogs.{IsBadBehind}
+use Rattle.trace_canon.proofs.Texts.{Begins, begins_again, early_text_grows, fitting_log_begins}
+
+-- ---- a refused place
+
+pub bad_in_front : (log : List ℕ) (given line column : ℕ) (whats : List (Option Stamped)) → RefusesIn (take given log) whats line column
+    → IsBadBehind log line column whats given
+bad_in_front log given line column whats refuses =
+    let size = length-take given log in
+    let refused = subst (λ x. IsRefusedWithin (length (take given log)) whats x line column) (take-append-drop given log) (refuses (drop given log)) in
+    let inside = refused.2 in
+    record { place = refused.0; behind = refused.1; before = omega arith; within = inl (omega arith) }
+
+pub bad_at_end : (log : List ℕ) (line column : ℕ) (whats : List (Option Stamped)) → IsRefusedBehind whats log line column → IsBadBehind log line column whats (length log)
+bad_at_end log line column whats (place, behind) =
+    let all = ap length place.parts ∙ length-append (ended_lines place.lines) place.rest in
+    record { place = place; behind = behind; before = omega arith; within = inr (omega arith) }
+
+-- ---- lines
+
+each_front : (limit : ℕ) (settings : Settings) (front more : List (Option Stamped)) → EachWithin limit settings (front ++ more) → EachWithin limit settings front
+each_front limit settings [] more all = tt
+each_front limit settings (what ∷ front) more all = (all.0, each_front limit settings front more all.1)
+
+each_more : (limit : ℕ) (settings : Settings) (whats : List (Option Stamped)) (what : Option Stamped) → EachWithin limit settings whats
+    → announces_within limit settings what ≡ true → EachWithin limit settings (whats ++ what ∷ [])
+each_more limit settings [] what all one = (one, tt)
+each_more limit settings (x ∷ whats) what all one = (all.0, each_more limit settings whats what all.1 one)
+
+-- what is known of a line on which the run stopped
+abbrev pub Halts : Type 0 → Type 0 → Settings → Writer → Writer → List (Option Stamped) → Option Stamped → OrderingFault → Type 0
+Halts Told ToldNow settings first now whats what why =
+    (stamped : Stamped) × (d : Dir) × (what ≡ Some stamped) × (Some d ≡ direction_of settings stamped.frame.id)
+    × StopsAt Told ToldNow first (trace settings whats) (entry_in whats stamped d) why now
+
+-- the line announces what its frame does
+pub line_announces : (settings : Settings) (what : Option Stamped) (stamped : Stamped) (d : Dir) (o : Option ℕ) → what ≡ Some stamped
+    → Some d ≡ direction_of settings stamped.frame.id → oversize_in MESSAGE_LIMIT (layout_of stamped.frame) ≡ o → oversize MESSAGE_LIMIT settings what ≡ o
+line_announces settings what stamped d o is direction announces =
+    ap (oversize MESSAGE_LIMIT settings) is ∙ oversize_of_one settings stamped d (sym direction) ∙ announces
+
+module _ (Told ToldNow : Type 0) (settings : Settings) (first now : Writer) (log : List ℕ) (given : ℕ) (start : IsFirst settings first) (told : Told) where
+  -- what is early was written
+  early_written : (whats : List (Option Stamped)) → Stood Told ToldNow first (trace settings whats) now
+      → now.written ≡ first.written ++ early_text MESSAGE_LIMIT settings whats
+  early_written whats stood = stood.written told ∙ ap (λ x. first.written ++ x) (text_is_fitting settings first (early (messages_of_lines MESSAGE_LIMIT settings whats)) start)
+
+  -- the lines that had come with the one on which the run stopped
+  come_in : (with_last : Bool) (firsts whats : List (Option Stamped)) (what : Option Stamped) → StopsIn firsts (take given log) whats what → given ≤ settings.max_bytes
+      → EachWithin MESSAGE_LIMIT settings (whats ++ what ∷ []) → HaveCome MESSAGE_LIMIT settings with_last (min given settings.max_bytes) log (whats ++ what ∷ [])
+  come_in with_last firsts whats what stops few each =
+      let size = length-take given log in
+      let all = ap length stops.parts ∙ length-append stops.front stops.rest in
+      let parts : log ≡ stops.front ++ (stops.rest ++ drop given log) =
+      sym (take-append-drop given log) ∙ ap (λ x. x ++ drop given log) stops.parts ∙ append_assoc stops.front stops.rest (drop given log) in
+      taken_have_come MESSAGE_LIMIT settings with_last (min given settings.max_bytes) log stops.front (stops.rest ++ drop given log) (whats ++ what ∷ []) stops.standing stops.stands
+      parts (le-min (omega arith) (omega arith)) each
+
+  -- where the log goes on behind the lines on which the run stopped
+  cut_in : (firsts whats : List (Option Stamped)) (what : Option Stamped) → (stops : StopsIn firsts (take given log) whats what)
+      → log ≡ stops.front ++ (stops.rest ++ drop given log)
+  cut_in firsts whats what stops =
+      sym (take-append-drop given log) ∙ ap (λ x. x ++ drop given log) stops.parts ∙ append_assoc stops.front stops.rest (drop given log)
+
+  -- a line announces too much
+  oversize_ends : (line announced : ℕ) (whats : List (Option Stamped)) (what : Option Stamped) → Halts Told ToldNow settings first now whats what (ordering_fault.Oversize line announced)
+      → (((given ≤ settings.max_bytes) × StopsInLog log given whats what) ⊎ ((length log ≤ settings.max_bytes) × (given ≡ length log) × StopsAtEnd log whats what))
+      → Answers MESSAGE_LIMIT settings log given (Err (fault.Oversize line announced)) first.written now.written
+  oversize_ends line announced whats what (stamped, d, is, direction, (stood, at, announces)) (inl (few, stops)) =
+      let size = length-take given log in
+      let all = ap length stops.stops.parts ∙ length-append stops.stops.front stops.stops.rest in
+      answers_oversize MESSAGE_LIMIT settings log given line announced stops.stops.front (stops.stops.rest ++ drop given log) whats what stops.stops.standing first.written now.written
+      stops.stops.stands (cut_in stops.first whats what stops.stops) (omega arith) (omega arith) (omega arith) (each_within settings whats stood.within)
+      (line_announces settings what stamped d (Some announced) is direction announces) (early_written whats stood)
+  oversize_ends line announced whats what (stamped, d, is, direction, (stood, at, announces)) (inr (short, all, stops)) =
+      answers_oversize_last MESSAGE_LIMIT settings log given line announced whats what first.written now.written stops.means short (omega arith) (omega arith)
+      (each_within settings whats stood.within) (line_announces settings what stamped d (Some announced) is direction announces) (early_written whats stood)
+
+  -- memory was refused at a line
+  memory_ends : (whats : List (Option Stamped)) (what : Option Stamped) → Halts Told ToldNow settings first now whats what ordering_fault.Memory
+      → (((given ≤ settings.max_bytes) × StopsInLog log given whats what) ⊎ ((length log ≤ settings.max_bytes) × (given ≡ length log) × StopsAtEnd log whats what))
+      → Answers MESSAGE_LIMIT settings log given (Err fault.Memory) first.written now.written
+  memory_ends whats what (stamped, d, is, direction, (stood, within)) place =
+      let one = ap is_none (line_announces settings what stamped d None is direction within) in
+      let each = each_more MESSAGE_LIMIT settings whats what (each_within settings whats stood.within) one in
+      let come : HaveCome MESSAGE_LIMIT settings true (min given settings.max_bytes) log (whats ++ what ∷ []) = elim place [
+        | inl (few, stops) ↦ come_in true stops.first whats what stops.stops few each
+        | inr (short, all, stops) ↦ all_have_come MESSAGE_LIMIT settings (min given settings.max_bytes) log (whats ++ what ∷ []) stops.means (le-min (omega arith) short) each
+      ] in (
+        tt,
+        writes_front MESSAGE_LIMIT settings log given fault.Memory (whats ++ what ∷ []) (early_text MESSAGE_LIMIT settings whats) first.written now.written come
+            (early_written whats stood) (early_text_grows MESSAGE_LIMIT settings whats (what ∷ [])),
+      )
+
+  -- the target failed at a line
+  write_ends : (whats : List (Option Stamped)) (what : Option Stamped) → Halts Told ToldNow settings first now whats what ordering_fault.Write
+      → (((given ≤ settings.max_bytes) × StopsInLog log given whats what) ⊎ ((length log ≤ settings.max_bytes) × (given ≡ length log) × StopsAtEnd log whats what))
+      → Answers MESSAGE_LIMIT settings log given (Err fault.Write) first.written now.written
+  write_ends whats what (stamped, d, is, direction, failed) place =
+      let next = trace_next settings whats what stamped d is direction in
+      let all_whats = whats ++ what ∷ [] in
+      let each = each_within settings all_whats (subst (AllByRecursion AnnouncesWithin) (sym next) failed.within) in
+      let some = failed.written told in
+      let text : early_text MESSAGE_LIMIT settings all_whats ≡ some.front ++ some.rest =
+      sym (text_is_fitting settings first (early (messages_of_lines MESSAGE_LIMIT settings all_whats)) start)
+      ∙ ap (λ T. text_of_put first (early (messages MESSAGE_LIMIT T))) next ∙ some.parts in
+      let since : some.front ≡ early_text MESSAGE_LIMIT settings whats ++ some.more =
+      some.since ∙ ap (λ x. x ++ some.more) (text_is_fitting settings first (early (messages_of_lines MESSAGE_LIMIT settings whats)) start) in
+      let come : HaveCome MESSAGE_LIMIT settings true (min given settings.max_bytes) log all_whats = elim place [
+        | inl (few, stops) ↦ come_in true stops.first whats what stops.stops few each
+        | inr (short, all, stops) ↦ all_have_come MESSAGE_LIMIT settings (min given settings.max_bytes) log all_whats stops.means (le-min (omega arith) short) each
+      ] in
+      let front = writes_front MESSAGE_LIMIT settings log given fault.Write all_whats some.front first.written now.written come some.wrote (some.rest, text) in
+      let each_before = each_front MESSAGE_LIMIT settings whats (what ∷ []) each in
+      let eagerly : WritesEagerly MESSAGE_LIMIT settings log given first.written now.written = elim place [
+        | inl (few, stops) ↦
+            let grows = early_text_grows MESSAGE_LIMIT settings stops.first stops.stops.more in
+            let begins : Begins (early_text MESSAGE_LIMIT settings stops.first) (early_text MESSAGE_LIMIT settings whats) =
+            (grows.0, ap (early_text MESSAGE_LIMIT settings) stops.stops.since ∙ grows.1) in
+            writes_eagerly MESSAGE_LIMIT settings log given stops.before stops.behind stops.first stops.stood some.front first.written now.written stops.stands_before stops.starts stops.near
+            (each_front MESSAGE_LIMIT settings stops.first stops.stops.more (subst (EachWithin MESSAGE_LIMIT settings) stops.stops.since each_before)) some.wrote
+            (begins_again (early_text MESSAGE_LIMIT settings stops.first) (early_text MESSAGE_LIMIT settings whats) some.front begins (some.more, since))
+        | inr (short, all, stops) ↦
+            writes_eagerly MESSAGE_LIMIT settings log given log [] whats stops.standing some.front first.written now.written stops.stands (sym (append-nil log)) (omega arith)
+            each_before some.wrote (some.more, since)
+      ] in
+      (tt, (front, eagerly))
+
+  -- each way in which the lines end with a fault
+  pub answers_lines : {S : Type 0} (A : Type 0) (took : Took S) (stopped : Stopped S OrderingFault) (s n : S)
+      → ((whats : List (Option Stamped)) → took s whats n → Stood Told ToldNow first (trace settings whats) now)
+      → ((whats : List (Option Stamped)) (what : Option Stamped) (why : OrderingFault) → stopped s whats what why n → Halts Told ToldNow settings first now whats what why)
+      → (why : LineFault OrderingFault) → ReadsLog took stopped s {A = A} settings.max_bytes log given (Err why) n
+      → Answers MESSAGE_LIMIT settings log given (Err (fault_of why)) first.written now.written
+  answers_lines A took stopped s n gives halts (line_fault.BadLine line column) (whats, taken, inl (few, refuses)) =
+      let stood = gives whats taken in
+      answers_bad MESSAGE_LIMIT settings log given line column whats given first.written now.written (bad_in_front log given line column whats refuses) few (omega arith)
+      (each_within settings whats stood.within) (early_written whats stood)
+  answers_lines A took stopped s n gives halts (line_fault.BadLine line column) (whats, taken, inr (short, all, place)) =
+      let stood = gives whats taken in
+      answers_bad MESSAGE_LIMIT settings log given line column whats (length log) first.written now.written (bad_at_end log line column whats place) short (omega arith)
+      (each_within settings whats stood.within) (early_written whats stood)
+  answers_lines A took stopped s n gives halts line_fault.LogLimit (whats, taken, long, come, (standing, stands)) =
+      let stood = gives whats taken in
+      answers_limit MESSAGE_LIMIT settings log given (take settings.max_bytes log) (drop settings.max_bytes log) whats standing first.written now.written stands
+      (sym (take-append-drop settings.max_bytes log)) (length-take-le settings.max_bytes log (omega arith)) long come (each_within settings whats stood.within) (early_written whats stood)
+  answers_lines A took stopped s n gives halts line_fault.Read (whats, taken, few, inside, (standing, stands)) =
+      let stood = gives whats taken in
+      answers_read MESSAGE_LIMIT settings log given (take given log) (drop given log) whats standing first.written now.written stands (sym (take-append-drop given log))
+      (length-take-le given log inside) few (each_within settings whats stood.within) (early_written whats stood)
+  answers_lines A took stopped s n gives halts (line_fault.Taker (ordering_fault.Oversize line announced)) (whats, what, stops, place) =
+      oversize_ends line announced whats what (halts whats what (ordering_fault.Oversize line announced) stops) place
+  answers_lines A took stopped s n gives halts (line_fault.Taker ordering_fault.Memory) (whats, what, stops, place) =
+      memory_ends whats what (halts whats what ordering_fault.Memory stops) place
+  answers_lines A took stopped s n gives halts (line_fault.Taker ordering_fault.Write) (whats, what, stops, place) =
+      write_ends whats what (halts whats what ordering_fault.Write stops) place
+
+-- the same, from what a caller has at hand
+pub answers_of_lines : (Told ToldNow : Type 0) (settings : Settings) (first now : Writer) (log : List ℕ) (given : ℕ) → IsFirst settings first → Told
+    → {S : Type 0} (A : Type 0) (took : Took S) (stopped : Stopped S OrderingFault) (s n : S) (why : LineFault OrderingFault) (m : ℕ) → m ≡ settings.max_bytes
+    → ReadsLog took stopped s {A = A} m log given (Err why) n
+    → ((whats : List (Option Stamped)) → took s whats n → Stood Told ToldNow first (trace settings whats) now)
+    → ((whats : List (Option Stamped)) (what : Option Stamped) (why : OrderingFault) → stopped s whats what why n → Halts Told ToldNow settings first now whats what why)
+    → Answers MESSAGE_LIMIT settings log given (Err (fault_of why)) first.written now.written
+answers_of_lines Told ToldNow settings first now log given start told A took stopped s n why m is read gives halts =
+    answers_lines Told ToldNow settings first now log given start told A took stopped s n gives halts why
+    (subst (λ k. ReadsLog took stopped s {A = A} k log given (Err why) n) is read)
+
+-- ---- the counts of failures
+
+-- these lines were taken, or the run stopped behind them
+pub fails_as : {A : Type 0} (Told ToldNow : Type 0) (settings : Settings) (first now : Writer) {S : Type 0} (B : Type 0) (took : Took S) (stopped : Stopped S OrderingFault) (s n : S)
+    → first.failures ≤ 2 ^ 62
+    → ((whats : List (Option Stamped)) → took s whats n → Stood Told ToldNow first (trace settings whats) now)
+    → ((whats : List (Option Stamped)) (what : Option Stamped) (why : OrderingFault) → stopped s whats what why n → Halts Told ToldNow settings first now whats what why)
+    → (why : LineFault OrderingFault) → TakesSome took stopped s {A = B} (Err why) n → FailedIf {A = A} fault.Write (Err (fault_of why)) first.failures now.failures
+fails_as Told ToldNow settings first now B took stopped s n few gives halts (line_fault.BadLine line column) (whats, taken) =
+    record { risen = λ is. absurd (cc is); same = λ _. (gives whats taken).has_put.failures }
+fails_as Told ToldNow settings first now B took stopped s n few gives halts line_fault.LogLimit (whats, taken) =
+    record { risen = λ is. absurd (cc is); same = λ _. (gives whats taken).has_put.failures }
+fails_as Told ToldNow settings first now B took stopped s n few gives halts line_fault.Read (whats, taken) =
+    record { risen = λ is. absurd (cc is); same = λ _. (gives whats taken).has_put.failures }
+fails_as Told ToldNow settings first now B took stopped s n few gives halts (line_fault.Taker (ordering_fault.Oversize line announced)) (whats, what, stops) =
+    let halted = halts whats what (ordering_fault.Oversize line announced) stops in
+    record { risen = λ is. absurd (cc is); same = λ _. halted.4.0.has_put.failures }
+fails_as Told ToldNow settings first now B took stopped s n few gives halts (line_fault.Taker ordering_fault.Memory) (whats, what, stops) =
+    let halted = halts whats what ordering_fault.Memory stops in
+    record { risen = λ is. absurd (cc is); same = λ _. halted.4.0.has_put.failures }
+fails_as Told ToldNow settings first now B took stopped s n few gives halts (line_fault.Taker ordering_fault.Write) (whats, what, stops) =
+    let halted = halts whats what ordering_fault.Write stops in
+    record { risen = λ _. halted.4.failures few; same = λ not. absurd (not refl) }
+
+pub fails_of_lines : {A : Type 0} (Told ToldNow : Type 0) (settings : Settings) (first now : Writer) {S : Type 0} (B : Type 0) (took : Took S) (stopped : Stopped S OrderingFault) (s n : S)
+    → first.failures ≤ 2 ^ 62 → (why : LineFault OrderingFault) → TakesSome took stopped s {A = B} (Err why) n
+    → ((whats : List (Option Stamped)) → took s whats n → Stood Told ToldNow first (trace settings whats) now)
+    → ((whats : List (Option Stamped)) (what : Option Stamped) (why : OrderingFault) → stopped s whats what why n → Halts Told ToldNow settings first now whats what why)
+    → FailedIf {A = A} fault.Write (Err (fault_of why)) first.failures now.failures
+fails_of_lines {A = A} Told ToldNow settings first now B took stopped s n few why takes gives halts =
+    fails_as {A = A} Told ToldNow settings first now B took stopped s n few gives halts why takes
+
+-- the end of the run
+pub fails_at_the_end : (Told ToldNow : Type 0) (settings : Settings) (first : Writer) (whats : List (Option Stamped)) (result : Result Summary EndFault) (failures : ℕ) (written : List ℕ)
+    → first.failures ≤ 2 ^ 62 → Finishes Told ToldNow settings first whats result failures written → FailedIf fault.Write (answer_of result) first.failures failures
+fails_at_the_end Told ToldNow settings first whats (Ok summary) failures written few ends = record { risen = λ is. absurd (cc is); same = λ _. ends.failures_are }
+fails_at_the_end Told ToldNow settings first whats (Err end_fault.OutputLimit) failures written few ends = record { risen = λ is. absurd (cc is); same = λ _. ends.failures_are }
+fails_at_the_end Told ToldNow settings first whats (Err end_fault.Write) failures written few ends = record { risen = λ _. ends.failures_are few; same = λ not. absurd (not refl) }
+
+-- a target that tells its bytes tells them after a run that went well
+pub tells_at_the_end : (Told ToldNow : Type 0) (settings : Settings) (first : Writer) (whats : List (Option Stamped)) (result : Result Summary EndFault) (failures : ℕ)
+    (written : List ℕ) → Told → Finishes Told ToldNow settings first whats result failures written → OnOk (answer_of result) ToldNow
+tells_at_the_end Told ToldNow settings first whats (Ok summary) failures written told ends = ends.telling told
+tells_at_the_end Told ToldNow settings first whats (Err end_fault.OutputLimit) failures written told ends = tt
+tells_at_the_end Told ToldNow settings first whats (Err end_fault.Write) failures written told ends = tt
+
+-- it is no fault of the source
+pub reads_at_the_end : (result : Result Summary EndFault) (old new : ℕ) → new ≡ old → FailedIf fault.Read (answer_of result) old new
+reads_at_the_end (Ok summary) old new same = record { risen = λ is. absurd (cc is); same = λ _. same }
+reads_at_the_end (Err end_fault.OutputLimit) old new same = record { risen = λ is. absurd (cc is); same = λ _. same }
+reads_at_the_end (Err end_fault.Write) old new same = record { risen = λ is. absurd (cc is); same = λ _. same }
+
+-- ---- the end of the run
+
+pub answers_end : (Told ToldNow : Type 0) (settings : Settings) (first : Writer) (log : List ℕ) (given : ℕ) (whats : List (Option Stamped)) (result : Result Summary EndFault)
+    (failures : ℕ) (written : List ℕ) → Told → IsFirst settings first → length log ≤ settings.max_bytes → given ≡ length log → LogMeans log whats → HasEnded log whats
+    → AllByRecursion AnnouncesWithin (trace settings whats) → Finishes Told ToldNow settings first whats result failures written
+    → Answers MESSAGE_LIMIT settings log given (answer_of result) first.written written
+answers_end Told ToldNow settings first log given whats (Ok summary) failures written told start short all means ended within ends =
+    subst (λ r. Answers MESSAGE_LIMIT settings log given (Ok r) first.written written) (sym ends.counted)
+    (answers_accepted MESSAGE_LIMIT settings log given whats first.written written (record { short = short; means = means; within = each_within settings whats within }) ends.fits (ends.wrote told))
+answers_end Told ToldNow settings first log given whats (Err end_fault.OutputLimit) failures written told start short all means ended within ends =
+    answers_output_limit MESSAGE_LIMIT settings log given whats first.written written (record { short = short; means = means; within = each_within settings whats within }) ends.over (ends.wrote told)
+answers_end Told ToldNow settings first log given whats (Err end_fault.Write) failures written told start short all means ended within ends =
+    let each = each_within settings whats within in
+    let some = ends.wrote told in
+    let wrote = ends.holds ∙ some.wrote in
+    let whole = flattened (meaning_of_lines MESSAGE_LIMIT settings whats) in
+    let text : fitting settings (canonical_log_of_lines MESSAGE_LIMIT settings whats) ≡ some.front ++ some.rest =
+    sym (text_is_fitting settings first whole start) ∙ some.parts in
+    let since : some.front ≡ early_text MESSAGE_LIMIT settings whats ++ some.more =
+    some.since ∙ ap (λ x. x ++ some.more) (text_is_fitting settings first (early (messages_of_lines MESSAGE_LIMIT settings whats)) start) in
+    let fits = fitting_log_begins MESSAGE_LIMIT settings whole in
+    let grows = early_text_grows MESSAGE_LIMIT settings ended.earlier ended.more in
+    let begins : Begins (early_text MESSAGE_LIMIT settings ended.earlier) (early_text MESSAGE_LIMIT settings whats) =
+    (grows.0, ap (early_text MESSAGE_LIMIT settings) ended.since ∙ grows.1) in
+    let front = writes_front_at_end MESSAGE_LIMIT settings log given fault.Write whats some.front first.written written means (le-min (omega arith) short) refl each wrote
+    (begins_again some.front (fitting settings (canonical_log_of_lines MESSAGE_LIMIT settings whats)) (canonical_log_of_lines MESSAGE_LIMIT settings whats) (some.rest, text) fits) in
+    let eagerly = writes_eagerly MESSAGE_LIMIT settings log given log [] ended.earlier ended.standing some.front first.written written ended.stands (sym (append-nil log)) (omega arith)
+    (each_front MESSAGE_LIMIT settings ended.earlier ended.more (subst (EachWithin MESSAGE_LIMIT settings) ended.since each)) wrote
+    (begins_again (early_text MESSAGE_LIMIT settings ended.earlier) (early_text MESSAGE_LIMIT settings whats) some.front begins (some.more, since)) in
+    (tt, (front, eagerly))
+
+-- memory was refused before the first line
+pub answers_nothing : (settings : Settings) (log : List ℕ) (given : ℕ) (old : List ℕ) → given ≡ 0 → Answers MESSAGE_LIMIT settings log given (Err fault.Memory) old old
+answers_nothing settings log given old none = (
+  tt,
+  writes_front MESSAGE_LIMIT settings log given fault.Memory [] [] old old
+      (record { lines = []; later = log_lines log; parts = refl; means = tt; each = tt; given = inl (omega arith) }) (sym (append-nil old)) (early_text MESSAGE_LIMIT settings [], refl),
+)
+
+-- ---- what a run has put in order
+
+module _ {W : Type 0} (Tells : W → Type 0) (failures : W → ℕ) (written : W → List ℕ) where
+  -- the text of a run, and its target
+  abbrev pub writing : Ordering W × W → Writer
+  writing run = writer_of run.0.text (failures run.1) (written run.1)
+
+  -- messages were put in order
+  abbrev pub OrderedEvents : TookEvents (Ordering W) W
+  OrderedEvents s T t = s.0.orderer ≡ stands_after [] → Orders (Tells s.1) (Tells t.1) (writing s) T t.0.orderer (writing t)
+
+  -- it stopped on an event
+  abbrev pub StoppedOrdering : StoppedOnEvent (Ordering W) W OrderingFault
+  StoppedOrdering s T e why t = s.0.orderer ≡ stands_after [] → StopsAt (Tells s.1) (Tells t.1) (writing s) T e why (writing t)
+
+  pub ordered_nothing : (start : Ordering W × W) → OrderedEvents start [] start
+  ordered_nothing start stands = record {
+    stands = stands;
+    stood = record {
+      has_put = record { settings = refl; place = sym (place_none (writing start).config (writing start).place); counted = λ few. omega arith; failures = refl };
+      within = tt;
+      telling = λ told. told;
+      written = λ told. sym (ap (λ x. (writing start).written ++ x) (text_none (writing start).config (writing start).place) ∙ append-nil (writing start).written);
+    };
+  }
+
+  -- The run has put no message.
+  pub record HasNotPut (settings : Settings) (start : Ordering W × W) : Type 0 where
+    pub stands : start.0.orderer ≡ stands_after []
+    pub first : IsFirst settings (writing start)
+
+  pub has_not_put : (settings : Settings) (taker first : Ordering W) (target : W) → first ≡ taker
+      → IsOrderingStart settings taker.orderer taker.text.config taker.text.place taker.text.messages → HasNotPut settings (first, target)
+  has_not_put settings taker first target same orders = record {
+    stands = ap (λ (o : Ordering W). o.orderer) same ∙ orders.stands;
+    first = record {
+      config = ap (λ (o : Ordering W). o.text.config) same ∙ orders.config_is;
+      place = ap (λ (o : Ordering W). o.text.place) same ∙ orders.place_is;
+      messages = ap (λ (o : Ordering W). o.text.messages) same ∙ orders.none;
+    };
+  }
+
+-- ---- the canonical log again
+
+pub canonical_again : (settings : Settings) (log : List ℕ) (given : ℕ) (result : Result Summary Fault) (old new : List ℕ) → AreSettings settings
+    → Answers MESSAGE_LIMIT settings log given result old new → OnOk result ((text : List ℕ) → new ≡ old ++ text → IsCanonicalFor MESSAGE_LIMIT settings log text)
+canonical_again settings log given (Ok summary) old new are answers = λ text wrote.
+    written_is_canonical MESSAGE_LIMIT settings log given old new text summary (record { least = omega arith; most = omega arith }) are answers wrote
+canonical_again settings log given (Err why) old new are answers = tt
+
+-- of a recording of messages the canonical log of their meaning was written
+pub recording_again : (settings : Settings) (log : List ℕ) (given : ℕ) (result : Result Summary Fault) (old new : List ℕ)
+    → Answers MESSAGE_LIMIT settings log given result old new
+    → OnOk result ((M : List Message) → Records MESSAGE_LIMIT settings log M → new ≡ old ++ canonical_log MESSAGE_LIMIT settings (flattened (meaning M)))
+recording_again settings log given (Ok summary) old new answers = λ M records.
+    written_of_recording MESSAGE_LIMIT settings log given old new summary M answers records
+recording_again settings log given (Err why) old new answers = tt
+
+-- the summary certifies
+pub answer_is_certificate : (settings : Settings) (log : List ℕ) (given : ℕ) (result : Result Summary Fault) (old new : List ℕ)
+    → Answers MESSAGE_LIMIT settings log given result old new → IfOk result (λ summary. Certifies MESSAGE_LIMIT settings log summary)
+answer_is_certificate settings log given (Ok summary) old new answers =
+    answer_certifies MESSAGE_LIMIT settings log given old new summary (omega arith) answers
+answer_is_certificate settings log given (Err why) old new answers = tt

@@ -1,0 +1,135 @@
+-- The messages of a log put in order, one more frame at a time.
+use Rattle.std.proofs.Common.{◌≡◌, ℕ, List, [], ◌∷◌, ◌++◌, refl, ap, sym, subst, ◌∙◌, Option, None, append-nil, ◌⊎◌, inl, inr}
+use Rattle.std.specs.List.{AllByRecursion}
+use Rattle.can_log.specs.Dir.{Message}
+use Rattle.can_log.specs.declared.frame.Dir.{Dir}
+use Rattle.isotp_pdu.specs.Reading.{layout_of}
+use Rattle.isotp_receive.specs.declared.TheConstants.{MESSAGE_LIMIT}
+use Rattle.isotp_receive.specs.declared.event.Event.{Event}
+use Rattle.isotp_receive.specs.declared.event.Verdict.TheVariants as as_verdict
+use Rattle.isotp_receive.specs.declared.event.Reason.{Reason}
+use Rattle.isotp_receive.specs.declared.event.Reason.TheVariants as reason
+use Rattle.isotp_receive.specs.EventSeen.{seen_event, seen_verdict}
+use Rattle.isotp_receive.specs.Trace.{Entry}
+use Rattle.isotp_receive.specs.Verdict.{VerdictValue, message, began, stored, flowed, dropped, messages, told_message, verdict}
+use Rattle.isotp_receive.specs.Events.{oversize_in, too_long_in}
+use Rattle.isotp_receive.proofs.Promises.{too_long_is_announced}
+use Rattle.uds_exchange.specs.Order.{early}
+use Rattle.uds_exchange.specs.Orderer.{Standing, stands_after}
+use Rattle.trace_canon.specs.declared.ordering.OrderingFault.{OrderingFault}
+use Rattle.trace_canon.specs.declared.ordering.OrderingFault.TheVariants as fault
+use Rattle.trace_canon.specs.Ordering.{announced_by, AnnouncesWithin, Orders, StopsAt}
+use Rattle.trace_canon.specs.Putting.{Writer, HasPut, HasWrittenAll, HasWrittenSome, Ordered, FailsToOrder}
+use Rattle.trace_canon.proofs.OneMoreFrame.{messages_more}
+
+-- what a frame told, by the verdict in the code
+pub told_by : (event : Event) (T : List Entry) (e : Entry) (told : VerdictValue) → seen_verdict event.verdict ≡ told → seen_event event ≡ verdict MESSAGE_LIMIT T e
+    → (verdict MESSAGE_LIMIT T e).told ≡ told
+told_by event T e told is seen = sym (ap (λ v. v.told) seen) ∙ is
+
+-- what it announced
+announced_told : (r : Reason) → too_long_in (dropped r) ≡ announced_by r
+announced_told (reason.TooLong announced) = refl
+announced_told (reason.Pdu fault) = refl
+announced_told reason.FlowUnexpected = refl
+announced_told reason.NextUnexpected = refl
+announced_told reason.NextLate = refl
+announced_told (reason.NextSequence expected found) = refl
+announced_told reason.NextLength = refl
+
+pub announces : (T : List Entry) (e : Entry) (told : VerdictValue) (o : Option ℕ) → (verdict MESSAGE_LIMIT T e).told ≡ told → too_long_in told ≡ o
+    → oversize_in MESSAGE_LIMIT (layout_of e.frame) ≡ o
+announces T e told o is too_long = sym (too_long_is_announced MESSAGE_LIMIT T e) ∙ ap too_long_in is ∙ too_long
+
+pub announces_dropped : (T : List Entry) (e : Entry) (r : Reason) (o : Option ℕ) → (verdict MESSAGE_LIMIT T e).told ≡ dropped r → announced_by r ≡ o
+    → oversize_in MESSAGE_LIMIT (layout_of e.frame) ≡ o
+announces_dropped T e r o is by = announces T e (dropped r) o is (announced_told r ∙ by)
+
+pub each_more : (T : List Entry) (e : Entry) → AllByRecursion AnnouncesWithin T → AnnouncesWithin e → AllByRecursion AnnouncesWithin (T ++ e ∷ [])
+each_more [] e each one = (one, tt)
+each_more (x ∷ T) e each one = (each.0, each_more T e each.1 one)
+
+-- the messages with the one that a frame completes
+pub message_next : (T : List Entry) (e : Entry) (d : Dir) (bytes : List ℕ) → e.dir ≡ d → (verdict MESSAGE_LIMIT T e).told ≡ message bytes
+    → messages MESSAGE_LIMIT (T ++ e ∷ []) ≡ messages MESSAGE_LIMIT T ++ (d, bytes) ∷ []
+message_next T e d bytes same is =
+    messages_more MESSAGE_LIMIT T e ∙ ap (λ told. messages MESSAGE_LIMIT T ++ told_message e.dir told) is
+    ∙ ap (λ x. messages MESSAGE_LIMIT T ++ (x, bytes) ∷ []) same
+
+module _ (Told ToldNow : Type 0) (first : Writer) (now : Writer) where
+  -- a frame that completes no message and announces none above the limit
+  pub orders_quiet : (orderer : Standing) (T : List Entry) (e : Entry) (told : VerdictValue) → (verdict MESSAGE_LIMIT T e).told ≡ told
+      → told_message e.dir told ≡ [] → AnnouncesWithin e → Orders Told ToldNow first T orderer now → Orders Told ToldNow first (T ++ e ∷ []) orderer now
+  orders_quiet orderer T e told is none within orders =
+      let same : messages MESSAGE_LIMIT (T ++ e ∷ []) ≡ messages MESSAGE_LIMIT T =
+      messages_more MESSAGE_LIMIT T e ∙ ap (λ x. messages MESSAGE_LIMIT T ++ x) (ap (told_message e.dir) is ∙ none) ∙ append-nil (messages MESSAGE_LIMIT T) in
+      record {
+        stands = orders.stands ∙ ap stands_after (sym same);
+        stood = record {
+          has_put = subst (λ M. HasPut first (early M) now) (sym same) orders.stood.has_put;
+          within = each_more T e orders.stood.within within;
+          telling = orders.stood.telling;
+          written = λ t. subst (λ M. HasWrittenAll first (early M) now) (sym same) (orders.stood.written t);
+        };
+      }
+
+  -- a frame that began a reception, was stored, or was flow control
+  pub orders_idle : (event : Event) (orderer : Standing) (T : List Entry) (e : Entry)
+      → (event.verdict ≡ as_verdict.Began) ⊎ ((event.verdict ≡ as_verdict.Stored) ⊎ (event.verdict ≡ as_verdict.Flow))
+      → seen_event event ≡ verdict MESSAGE_LIMIT T e → Orders Told ToldNow first T orderer now → Orders Told ToldNow first (T ++ e ∷ []) orderer now
+  orders_idle event orderer T e (inl is) seen orders =
+      let told = told_by event T e began (ap seen_verdict is) seen in
+      orders_quiet orderer T e began told refl (announces T e began None told refl) orders
+  orders_idle event orderer T e (inr (inl is)) seen orders =
+      let told = told_by event T e stored (ap seen_verdict is) seen in
+      orders_quiet orderer T e stored told refl (announces T e stored None told refl) orders
+  orders_idle event orderer T e (inr (inr is)) seen orders =
+      let told = told_by event T e flowed (ap seen_verdict is) seen in
+      orders_quiet orderer T e flowed told refl (announces T e flowed None told refl) orders
+
+module _ (Told ToldBefore ToldNow : Type 0) (first before now : Writer) (T : List Entry) (e : Entry) (d : Dir) (bytes : List ℕ) (same : e.dir ≡ d)
+    (is : (verdict MESSAGE_LIMIT T e).told ≡ message bytes) where
+  -- a frame that completes a message
+  pub orders_message : (old new : Standing) → ((M : List Message) → old ≡ stands_after M → new ≡ stands_after (M ++ (d, bytes) ∷ []))
+      → ((f : Writer) (M : List Message) → old ≡ stands_after M → HasPut f (early M) before → Ordered ToldBefore ToldNow f M (d, bytes) before now)
+      → Orders Told ToldBefore first T old before → Orders Told ToldNow first (T ++ e ∷ []) new now
+  orders_message old new stands puts orders =
+      let M = messages MESSAGE_LIMIT T in
+      let next = message_next T e d bytes same is in
+      let more = puts first M orders.stands orders.stood.has_put in
+      record {
+        stands = stands M orders.stands ∙ ap stands_after (sym next);
+        stood = record {
+          has_put = subst (λ N. HasPut first (early N) now) (sym next) more.has_put;
+          within = each_more T e orders.stood.within (announces T e (message bytes) None is refl);
+          telling = λ t. more.telling (orders.stood.telling t);
+          written = λ t. subst (λ N. HasWrittenAll first (early N) now) (sym next) (more.written (orders.stood.telling t) (orders.stood.written t));
+        };
+      }
+
+  -- it could not be put
+  pub stops_message : (why : OrderingFault) (old : Standing)
+      → ((f : Writer) (M : List Message) → old ≡ stands_after M → HasPut f (early M) before → FailsToOrder ToldBefore ToldNow f M (d, bytes) before why now)
+      → Orders Told ToldBefore first T old before → StopsAt Told ToldNow first T e why now
+  stops_message fault.Memory old stops orders =
+      let M = messages MESSAGE_LIMIT T in
+      let refused = stops first M orders.stands orders.stood.has_put in (
+        record {
+          has_put = subst (HasPut first (early M)) (sym refused.same) orders.stood.has_put;
+          within = orders.stood.within;
+          telling = λ t. refused.telling (orders.stood.telling t);
+          written = λ t. subst (HasWrittenAll first (early M)) (sym refused.same) (orders.stood.written t);
+        },
+        announces T e (message bytes) None is refl,
+      )
+  stops_message fault.Write old stops orders =
+      let M = messages MESSAGE_LIMIT T in
+      let failed = stops first M orders.stands orders.stood.has_put in
+      let next = message_next T e d bytes same is in
+      record {
+        failures = failed.failures;
+        within = each_more T e orders.stood.within (announces T e (message bytes) None is refl);
+        telling = λ t. failed.telling (orders.stood.telling t);
+        written = λ t. subst (λ N. HasWrittenSome first (early M) (early N) now) (sym next) (failed.written (orders.stood.telling t) (orders.stood.written t));
+      }
+  stops_message (fault.Oversize line announced) old stops orders = absurd (stops first (messages MESSAGE_LIMIT T) orders.stands orders.stood.has_put)

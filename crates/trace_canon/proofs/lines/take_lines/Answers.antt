@@ -1,0 +1,73 @@
+use Rattle.std.proofs.Common.{arith, length-drop, ◌<◌, ◌^◌, length, ◌++◌, ap, sym, subst}
+use Rattle.std.proofs.lemmas.Bool.{eqb-true}
+use Rattle.std.proofs.lemmas.List.{take_rest, nil_from_length}
+use Rattle.can_log.specs.Scanning.{Scans}
+use Rattle.can_log.specs.declared.scanner.Scan.{Scan}
+use Rattle.trace_canon.proofs.Pieces.{HasRead, line_within, waits_within, few_lines, read_none, line_number, read_line, line_stops, piece_refused, piece_read, piece_waits}
+use Rattle.trace_canon.proofs.lines.take_lines.Goals as goal
+
+pub lines-init : goal.lines-init
+lines-init g c = record {
+  room = omega arith;
+  read = λ start bytes whats stands taken. read_none g.T.LineTaker.took start bytes c.args.piece.now whats c.args.scanner.now (c.args.taker.now, c.args.device.now) stands taken;
+}
+
+pub lines-preserved : goal.lines-preserved
+lines-preserved g c =
+    let answer = subst (λ (scan : Scan). Scans c.lines.scanner c.lines.rest.now scan c.scan.new.self) c.in-Line.is c.scan.ensures.answer in
+    let within = line_within c.lines.scanner c.scan.new.self c.lines.rest.now c.in-Line.used c.in-Line.line c.in-Line.what answer in
+    let left = take_rest c.lines.rest.now c.in-Line.used in
+    record {
+      room = omega (arith, ap length left, length-drop c.in-Line.used c.lines.rest.now, c.lines.invariant.room);
+      read = λ start bytes whats stands taken.
+          let took = g.T.LineTaker.took in
+          let read = c.lines.invariant.read start bytes whats stands taken in
+          let number = line_number took start whats (bytes ++ c.args.piece.now) c.lines.rest.now c.lines.scanner c.scan.new.self (c.lines.taker, c.lines.device) c.in-Line.used c.in-Line.line c.in-Line.what read answer in
+          let few : length read.whats < 2 ^ 62 = omega (arith, few_lines read.front read.whats c.lines.scanner read.stands, read.stands.taken, c.lines.invariant.room) in
+          read_line took start whats (bytes ++ c.args.piece.now) c.lines.rest.now _ c.lines.scanner c.scan.new.self (c.lines.taker, c.lines.device) (c.take.new.self, c.take.new.device) c.in-Line.used c.in-Line.line c.in-Line.what
+          read answer left (c.in_default.ensures.ok start read.whats number few read.taken);
+    }
+
+pub returns-in-Err-clause-lines : goal.returns-in-Err-clause-lines
+returns-in-Err-clause-lines g c = λ start bytes whats stands taken.
+    let answer = subst (λ (scan : Scan). Scans c.lines.scanner c.lines.rest.now scan c.scan.new.self) c.in-Line.is c.scan.ensures.answer in
+    let took = g.T.LineTaker.took in
+    let read = c.lines.invariant.read start bytes whats stands taken in
+    let number = line_number took start whats (bytes ++ c.args.piece.now) c.lines.rest.now c.lines.scanner c.scan.new.self (c.lines.taker, c.lines.device) c.in-Line.used c.in-Line.line c.in-Line.what read answer in
+    let few : length read.whats < 2 ^ 62 = omega (arith, few_lines read.front read.whats c.lines.scanner read.stands, read.stands.taken, c.lines.invariant.room) in (
+      read.whats,
+      c.in-Line.what,
+      line_stops took start whats (bytes ++ c.args.piece.now) c.lines.rest.now c.lines.scanner c.scan.new.self (c.lines.taker, c.lines.device) c.in-Line.used c.in-Line.line c.in-Line.what read answer,
+      c.in-Err.ensures.err start read.whats number few read.taken,
+    )
+
+pub returns-in-Bad-clause-lines : goal.returns-in-Bad-clause-lines
+returns-in-Bad-clause-lines g c = λ start bytes whats stands taken.
+    let answer = subst (λ (scan : Scan). Scans c.lines.scanner c.lines.rest.now scan c.scan.new.self) c.in-Bad.is c.scan.ensures.answer in
+    let took = g.T.LineTaker.took in
+    let read = c.lines.invariant.read start bytes whats stands taken in (
+      read.whats,
+      piece_refused took start whats (bytes ++ c.args.piece.now) c.lines.rest.now c.lines.scanner c.scan.new.self (c.lines.taker, c.lines.device) c.in-Bad.line c.in-Bad.column read answer,
+      read.taken,
+    )
+
+pub returns-in-NeedMore-clause-lines : goal.returns-in-NeedMore-clause-lines
+returns-in-NeedMore-clause-lines g c = λ start bytes whats stands taken.
+    let took = g.T.LineTaker.took in
+    let read = c.lines.invariant.read start bytes whats stands taken in (
+      read.whats,
+      piece_waits took start whats (bytes ++ c.args.piece.now) c.lines.rest.now c.lines.scanner c.scan.new.self c.scan.result (c.lines.taker, c.lines.device) read c.scan.ensures.answer c.in-NeedMore.is,
+      read.taken,
+    )
+
+pub returns-clause-lines : goal.returns-clause-lines
+returns-clause-lines g c = λ start bytes whats stands taken.
+    let took = g.T.LineTaker.took in
+    let none = nil_from_length c.lines.rest.now (eqb-true (length c.lines.rest.now) 0 (sym c.lines-test.ensures)) in
+    let read = subst (λ rest. HasRead took start whats (bytes ++ c.args.piece.now) rest c.lines.scanner (c.lines.taker, c.lines.device)) none (c.lines.invariant.read start bytes whats stands taken) in
+    (read.whats, piece_read took start whats (bytes ++ c.args.piece.now) c.lines.scanner (c.lines.taker, c.lines.device) read, read.taken)
+
+pub returns-in-NeedMore-clause-taken : goal.returns-in-NeedMore-clause-taken
+returns-in-NeedMore-clause-taken g c =
+    let within = waits_within c.lines.scanner c.scan.new.self c.lines.rest.now c.scan.result c.scan.ensures.answer c.in-NeedMore.is in
+    omega (arith, c.lines.invariant.room)

@@ -1,0 +1,13 @@
+use Rattle.std.proofs.Common.{◌≡◌, ◌++◌}
+use Rattle.trace_canon.specs.Writing.{IsWritten, text_from, place_after}
+use Rattle.trace_canon.proofs.writer.write_frames.Given as goal
+
+abbrev pub invariant-frames : goal.invariant-frames
+invariant-frames g l = record {
+  telling : g.W.Target.tells l.initial.writer → g.W.Target.tells l.writer;
+  written : g.W.Target.tells l.initial.writer
+      → IsWritten (g.W.Target.written l.initial.writer) (text_from l.config l.initial.place l.fn.frames) (g.W.Target.written l.writer)
+      (l.block.items ++ text_from l.config l.place l.sender-iterator);
+  place : place_after l.config l.initial.place l.fn.frames ≡ place_after l.config l.place l.sender-iterator;
+  failures : g.W.Target.failures l.writer ≡ g.W.Target.failures l.initial.writer;
+}

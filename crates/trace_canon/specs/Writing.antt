@@ -1,0 +1,70 @@
+-- Devices of proof: the text of frames, written as far as there is room, line by line.
+use Rattle.std.specs.Prelude.{◌≡◌, ℕ, ◌+◌, ◌-◌, ◌<◌, ◌≤◌, Bool, true, false, nat_le, if◌then◌else◌, List, [], ◌∷◌, ◌++◌, length, Option, Some, None, Result, Ok, Err}
+use Rattle.can_log.specs.Canonical.{canonical_line}
+use Rattle.can_log.specs.Log.{ended_lines}
+use Rattle.can_log.specs.declared.frame.Dir.{Dir}
+use Rattle.trace_canon.specs.Settings.{Settings, id_of}
+use Rattle.trace_canon.specs.CanonicalLog.{canonical_lines, lines_within}
+
+-- new is old, and behind it a front of the text
+pub record HasFront (old text new : List ℕ) : Type 0 where
+  pub front : List ℕ
+  pub rest : List ℕ
+  pub parts : text ≡ front ++ rest
+  pub wrote : new ≡ old ++ front
+
+-- what was written of a text: all of it, or a front of it where writing failed
+abbrev pub HasWritten : {A E : Type 0} → Result A E → List ℕ → List ℕ → List ℕ → Type 0
+HasWritten (Ok value) old text new = new ≡ old ++ text
+HasWritten (Err fault) old text new = HasFront old text new
+
+-- What was written behind `old` is the text without this rest.
+pub record IsWritten (old text new rest : List ℕ) : Type 0 where
+  pub front : List ℕ
+  pub parts : text ≡ front ++ rest
+  pub wrote : new ≡ old ++ front
+
+-- what was gathered of a text: all of it was written but for what the block holds; or a front of it, where writing failed
+abbrev pub HasGathered : {A E : Type 0} → Result A E → List ℕ → List ℕ → List ℕ → List ℕ → Type 0
+HasGathered (Ok value) old text new held = IsWritten old text new held
+HasGathered (Err fault) old text new held = HasFront old text new
+
+-- the line of a frame at n milliseconds
+abbrev pub line_at : Settings → ℕ → Dir × List ℕ → List ℕ
+line_at settings n frame = canonical_line n (id_of settings frame.0) frame.1
+
+-- where a canonical log stands: how many lines it has, how many bytes may follow, and whether a line did not fit
+pub record Place : Type 0 where
+  pub lines : ℕ
+  pub room : ℕ
+  pub is_over : Bool
+
+-- before its first line
+abbrev pub start_of : ℕ → Place
+start_of room = record { lines = 0; room = room; is_over = false }
+
+-- behind one line more
+abbrev pub behind : Place → List ℕ → Place
+behind place line = record { lines = place.lines + 1; room = place.room - length line; is_over = place.is_over }
+
+-- behind a line that does not fit: no more can follow
+abbrev pub filled_up : Place → Place
+filled_up place = record { lines = place.lines; room = 0; is_over = true }
+
+-- the line of a frame is laid there, where it fits
+abbrev pub Lays : Settings → Place → Dir × List ℕ → Option (List ℕ) → Place → Type 0
+Lays settings old frame (Some line) new =
+    (line ≡ line_at settings old.lines frame) × (length line ≤ old.room) × (new ≡ behind old line)
+Lays settings old frame None new = (old.room < length (line_at settings old.lines frame)) × (new ≡ filled_up old)
+
+-- the text of frames from there on: their lines, up to the first that does not fit
+unfoldable pub text_from : Settings → Place → List (Dir × List ℕ) → List ℕ
+text_from settings place frames = ended_lines (lines_within place.room (canonical_lines settings place.lines frames))
+
+-- where it stands behind them
+unfoldable pub place_after : Settings → Place → List (Dir × List ℕ) → Place
+place_after settings place [] = place
+place_after settings place (frame ∷ later) =
+    if nat_le (length (line_at settings place.lines frame)) place.room
+    then place_after settings (behind place (line_at settings place.lines frame)) later
+    else filled_up place

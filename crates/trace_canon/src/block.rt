@@ -1,0 +1,40 @@
+//! Text gathered in a fixed buffer, so that it is written in few pieces.
+ghost use Rattle.std.specs.Prelude.{◌≡◌, ◌+◌, ◌^◌, ◌≤◌, ◌++◌, MatchResult};
+ghost use Rattle.trace_canon.specs.Writing.{HasGathered};
+
+use crate::devices::write_all;
+use crate::place::LINE;
+use arrayvec::ArrayVec;
+use trace_io::{DeviceFault, Target};
+
+/// The most bytes that are gathered for one write: 64 canonical lines.
+const BLOCK: usize = 64 * LINE;
+
+pub(crate) type Block = ArrayVec<u8, BLOCK>;
+
+/// Appends the text to the block. A block that has no room for it is written first, and a text that no block has room for
+/// is written at once.
+#[inline(always)]
+pub(crate) fn gather<W: Target>(
+    writer: &mut W,
+    block: &mut Block,
+    text: &[u8],
+) -> Result<(), DeviceFault>
+    requires { W.failures writer.old ≤ 2 ^ 62 }
+    ensures gathered { W.tells writer.old
+        → HasGathered result (W.written writer.old) (block.old.items ++ text.now) (W.written writer.new) block.new.items }
+    ensures tells { W.tells writer.old → W.tells writer.new }
+    ensures failures { MatchResult result
+        (λ _. W.failures writer.new ≡ W.failures writer.old) (λ _. W.failures writer.new ≡ W.failures writer.old + 1) }
+{
+    if block.remaining_capacity() < text.len() {
+        write_all(writer, block.as_slice())?;
+        block.clear();
+        if text.len() > BLOCK {
+            return write_all(writer, text);
+        }
+    }
+    // There is room for the text now.
+    let _ = block.try_extend_from_slice(text);
+    Ok(())
+}

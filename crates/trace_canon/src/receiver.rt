@@ -1,0 +1,174 @@
+//! The frames of a log received: what each does, and what is counted.
+ghost use Rattle.std.specs.Prelude.{◌≡◌, ℕ, ◌+◌, ◌^◌, ◌<◌, ◌≤◌, List, [], ◌∷◌, ◌++◌, length, OnOk, IfErr, Option, Some, None, true};
+ghost use Rattle.can_log.specs.declared.frame.Stamped.{Stamped as StampedValue};
+ghost use Rattle.isotp_receive.specs.declared.TheConstants.{MESSAGE_LIMIT};
+ghost use Rattle.isotp_receive.specs.EventSeen.{seen_event};
+ghost use Rattle.isotp_receive.specs.Standing.{receptions_after};
+ghost use Rattle.isotp_receive.specs.Trace.{Entry};
+ghost use Rattle.isotp_receive.specs.Verdict.{verdict};
+ghost use Rattle.trace_canon.specs.Receiving.{CountsEvent};
+
+use crate::config::Config;
+use crate::lines::LineTaker;
+use can_log::{Dir, Frame, Stamped};
+use isotp_receive::{Event, Pair, Verdict};
+
+/// What takes the events of a log's frames one by one. An implementation says by two ghost members what it is after a trace,
+/// and after a frame on which it stopped: each is told of what it went from.
+pub(crate) trait EventTaker {
+    /// Why an event was not taken.
+    type Fault;
+
+    /// What it writes to.
+    type Device;
+
+    ghost took: { Self × Self.Device → List Entry → Self × Self.Device → Type 0 };
+
+    ghost stopped: { Self × Self.Device → List Entry → Entry → Self.Fault → Self × Self.Device → Type 0 };
+
+    /// Takes what the next frame of the trace did: one of this line and direction.
+    fn take(
+        &mut self,
+        device: &mut Self::Device,
+        line: u64,
+        dir: Dir,
+        event: Event<'_>,
+    ) -> Result<(), Self::Fault>
+        ensures ok { OnOk result ((start : Self × Self.Device) (T : List Entry) (e : Entry) → e.line ≡ line → e.dir ≡ dir → length T < 2 ^ 62
+            → seen_event event.entry ≡ verdict MESSAGE_LIMIT T e → took start T (self.old, device.old) → took start (T ++ e ∷ []) (self.new, device.new)) }
+        ensures err { IfErr result (λ fault. (start : Self × Self.Device) (T : List Entry) (e : Entry) → e.line ≡ line → e.dir ≡ dir → length T < 2 ^ 62
+            → seen_event event.entry ≡ verdict MESSAGE_LIMIT T e → took start T (self.old, device.old) → stopped start T e fault (self.new, device.new)) };
+}
+
+/// What was counted in the frames of a log so far.
+#[derive(Clone, Copy, Debug)]
+pub(crate) struct Counts {
+    pub frames: u64,
+    pub messages: u64,
+    pub dropped: u64,
+    pub ended: u64,
+}
+
+impl Counts {
+    /// Counts what one more frame did.
+    fn count(&mut self, event: Event<'_>)
+        ensures { CountsEvent self.old (seen_event event.entry) self.new }
+    {
+        self.frames = self.frames.saturating_add(1);
+        if event.ended.is_some() {
+            self.ended = self.ended.saturating_add(1);
+        }
+        match event.verdict {
+            Verdict::Message(_) => self.messages = self.messages.saturating_add(1),
+            Verdict::Dropped(_) => self.dropped = self.dropped.saturating_add(1),
+            Verdict::Began | Verdict::Stored | Verdict::Flow => {}
+        }
+    }
+}
+
+/// Takes one more frame of a direction.
+fn receive<E: EventTaker>(
+    pair: &mut Pair,
+    counts: &mut Counts,
+    taker: &mut E,
+    device: &mut E::Device,
+    line: u64,
+    micros: u64,
+    dir: Dir,
+    frame: &Frame,
+) -> Result<(), E::Fault>
+    ensures pair { (T : List Entry) → pair.old ≡ receptions_after MESSAGE_LIMIT T
+        → pair.new ≡ receptions_after MESSAGE_LIMIT (T ++ record { line = line; micros = micros; dir = dir; frame = frame.now } ∷ []) }
+    ensures counts { (T : List Entry) → pair.old ≡ receptions_after MESSAGE_LIMIT T
+        → CountsEvent counts.old (verdict MESSAGE_LIMIT T (record { line = line; micros = micros; dir = dir; frame = frame.now })) counts.new }
+    ensures ok { OnOk result ((start : E × E.Device) (T : List Entry) → pair.old ≡ receptions_after MESSAGE_LIMIT T → length T < 2 ^ 62
+        → E.took start T (taker.old, device.old) → E.took start (T ++ record { line = line; micros = micros; dir = dir; frame = frame.now } ∷ []) (taker.new, device.new)) }
+    ensures err { IfErr result (λ fault. (start : E × E.Device) (T : List Entry) → pair.old ≡ receptions_after MESSAGE_LIMIT T → length T < 2 ^ 62
+        → E.took start T (taker.old, device.old) → E.stopped start T (record { line = line; micros = micros; dir = dir; frame = frame.now }) fault (taker.new, device.new)) }
+{
+    let event = pair.accept(line, micros, dir, frame);
+    counts.count(event);
+    taker.take(device, line, dir, event)
+}
+
+/// The receptions of a log, and what was counted in it.
+#[derive(Drop)]
+pub(crate) struct Receiver<E> {
+    pub config: Config,
+    pub pair: Pair,
+    pub lines: u64,
+    pub counts: Counts,
+    pub taker: E,
+}
+
+impl<E> Receiver<E> {
+    ghost use Rattle.std.specs.Prelude.{◌≡◌, []};
+    ghost use Rattle.isotp_receive.specs.Standing.{receptions_after};
+    ghost use Rattle.isotp_receive.specs.declared.TheConstants.{MESSAGE_LIMIT};
+    ghost use Rattle.trace_canon.specs.Receiving.{IsReceiverStart};
+
+    /// Before the first line, with a pair that has received no frame.
+    pub(crate) fn start(config: &Config, pair: Pair, taker: E) -> Receiver<E>
+        requires { pair ≡ receptions_after MESSAGE_LIMIT [] }
+        ensures { IsReceiverStart config.now taker result.config result.pair result.lines result.counts result.taker }
+    {
+        Receiver {
+            config: *config,
+            pair,
+            lines: 0,
+            counts: Counts {
+                frames: 0,
+                messages: 0,
+                dropped: 0,
+                ended: 0,
+            },
+            taker,
+        }
+    }
+}
+
+impl<E: EventTaker> LineTaker for Receiver<E> {
+    ghost use Rattle.std.specs.Prelude.{◌≡◌, Some};
+    ghost use Rattle.can_log.specs.declared.frame.Dir.{Dir as DirValue};
+    ghost use Rattle.can_log.specs.declared.frame.Stamped.{Stamped as StampedValue};
+    ghost use Rattle.trace_canon.specs.Settings.{direction_of};
+    ghost use Rattle.trace_canon.specs.Trace.{trace};
+    ghost use Rattle.trace_canon.specs.Receiving.{Receives, entry_in, IsStart};
+
+    type Fault = E::Fault;
+
+    type Device = E::Device;
+
+    ghost took = { λ s whats t. (t.0.config ≡ s.0.config)
+        × (IsStart s.0.pair s.0.lines s.0.counts
+        → Receives s.0.config whats t.0.pair t.0.lines t.0.counts × E.took (s.0.taker, s.1) (trace s.0.config whats) (t.0.taker, t.1)) };
+
+    ghost stopped = { λ s whats what fault t. IsStart s.0.pair s.0.lines s.0.counts
+        → (stamped : StampedValue) × (d : DirValue) × (what ≡ Some stamped) × (Some d ≡ direction_of s.0.config stamped.frame.id)
+        × E.stopped (s.0.taker, s.1) (trace s.0.config whats) (entry_in whats stamped d) fault (t.0.taker, t.1) };
+
+    fn take(
+        &mut self,
+        device: &mut E::Device,
+        line: u64,
+        what: &Option<Stamped>,
+    ) -> Result<(), E::Fault> {
+        self.lines = line;
+        let Some(stamped) = what else {
+            return Ok(());
+        };
+        let Some(dir) = self.config.direction_of(stamped.frame.id()) else {
+            return Ok(());
+        };
+        receive(
+            &mut self.pair,
+            &mut self.counts,
+            &mut self.taker,
+            device,
+            line,
+            stamped.micros,
+            dir,
+            &stamped.frame,
+        )
+    }
+}
