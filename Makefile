@@ -4,28 +4,53 @@ LOG ?= examples/first.log
 PREFIX ?= /usr/local
 CRATE := crates/udsnorm
 PROGRAM := $(CRATE)/out/udsnorm
+BUILD_LOG := $(CRATE)/out/build.txt
 
-.PHONY: build run test install bench
+MAN := $(PREFIX)/share/man/man1/udsnorm.1
+BASH := $(PREFIX)/share/bash-completion/completions/udsnorm
+ZSH := $(PREFIX)/share/zsh/site-functions/_udsnorm
+FISH := $(PREFIX)/share/fish/vendor_completions.d/udsnorm.fish
 
-# Proves the program and what it stands on, and builds it. What the build says is shown where it fails.
+.PHONY: build run test install uninstall bench
+
+# Proves the program and what it stands on, and builds it. It says when it starts and when it ends on standard error; what
+# `rt` says is in a file, and shown where the build fails.
 build:
 	@mkdir -p $(CRATE)/out
-	@test -x $(PROGRAM) || echo 'udsnorm: the first build proves the program and what it stands on, which takes some minutes' >&2
-	@cd $(CRATE) && { rt run < /dev/null > /dev/null 2> out/build.txt || { cat out/build.txt >&2; exit 1; }; }
+	@begun=$$(date +%s); \
+	echo 'udsnorm: proving and building, the first time for some minutes; what rt says goes to $(BUILD_LOG)' >&2; \
+	if (cd $(CRATE) && rt run < /dev/null > /dev/null 2> out/build.txt); then \
+		echo "udsnorm: built in $$(($$(date +%s) - begun)) s: $(PROGRAM)" >&2; \
+	else \
+		cat $(BUILD_LOG) >&2; \
+		echo "udsnorm: not built, after $$(($$(date +%s) - begun)) s" >&2; \
+		exit 1; \
+	fi
 
-# Prints the canonical log of LOG, and nothing else, on standard output.
+# Prints the canonical log of LOG, and nothing else, on standard output. Where the log has none, the program says why, and
+# its own exit status is told, which make would hide behind an error of its own.
 run: build
-	@$(PROGRAM) < '$(LOG)'
+	@$(PROGRAM) normalise '$(LOG)' || echo "udsnorm: exit status $$?" >&2
 
-# The tests of the built program, each growth of memory refused in turn, and then the gate: every proof from nothing, every test, every wrong body refused.
+# The tests of the built program, random logs through it, each growth of memory refused in turn, and then the gate: every proof from nothing, every test, every wrong body refused.
 test: build
+	@python3 tests/command_line.py $(PROGRAM)
 	@python3 tests/program.py $(PROGRAM)
+	@python3 tests/shipped.py $(PROGRAM)
+	@python3 tests/differential.py $(PROGRAM)
 	@python3 tests/refused_memory.py $(PROGRAM)
 	@rt ci
 
+# The program with its manual page and its completions for bash, zsh and fish. DESTDIR is put in front of each path.
 install: build
-	install -d $(DESTDIR)$(PREFIX)/bin
-	install -m 755 $(PROGRAM) $(DESTDIR)$(PREFIX)/bin/udsnorm
+	install -D -m 755 $(PROGRAM) $(DESTDIR)$(PREFIX)/bin/udsnorm
+	install -D -m 644 share/man/man1/udsnorm.1 $(DESTDIR)$(MAN)
+	install -D -m 644 share/completions/udsnorm.bash $(DESTDIR)$(BASH)
+	install -D -m 644 share/completions/_udsnorm $(DESTDIR)$(ZSH)
+	install -D -m 644 share/completions/udsnorm.fish $(DESTDIR)$(FISH)
+
+uninstall:
+	rm -f $(DESTDIR)$(PREFIX)/bin/udsnorm $(DESTDIR)$(MAN) $(DESTDIR)$(BASH) $(DESTDIR)$(ZSH) $(DESTDIR)$(FISH)
 
 # How fast it is, beside other programs: a table, and no test.
 bench: build

@@ -1,19 +1,24 @@
--- The exit status of a run.
-use Rattle.std.specs.Prelude.{ℕ, Result, Ok, Err}
+-- Exit statuses.
+use Rattle.std.specs.Prelude.{ℕ}
+use Rattle.trace_canon.specs.declared.fault.Fault.{Fault}
 use Rattle.trace_canon.specs.declared.fault.Fault.TheVariants as fault
-use Rattle.trace_canon.specs.declared.summary.Summary.{Summary}
-use Rattle.udsnorm.specs.declared.Failure.{Failure}
-use Rattle.udsnorm.specs.declared.Failure.TheVariants.{Words, Memory, Engine}
+use Rattle.udsnorm.specs.declared.job.WordsFault.{WordsFault}
+use Rattle.udsnorm.specs.declared.job.WordsFault.TheVariants as words
 
--- 0 where the canonical log was written, 2 for words that ask for nothing, 3 for a refused log, 4 for a device that
--- failed, 5 for want of memory
-abbrev pub status_of : Result Summary Failure → ℕ
-status_of (Ok summary) = 0
-status_of (Err Words) = 2
-status_of (Err (Engine (fault.BadLine line column))) = 3
-status_of (Err (Engine fault.LogLimit)) = 3
-status_of (Err (Engine fault.OutputLimit)) = 3
-status_of (Err (Engine fault.Read)) = 4
-status_of (Err (Engine fault.Write)) = 4
-status_of (Err (Engine fault.Memory)) = 5
-status_of (Err Memory) = 5
+-- 3 where a log is refused, 4 where a device failed, 5 where memory was refused
+abbrev pub status_of : Fault → ℕ
+status_of (fault.BadLine line column) = 3
+status_of (fault.Oversize line announced) = 3
+status_of fault.LogLimit = 3
+status_of fault.OutputLimit = 3
+status_of fault.Read = 4
+status_of fault.Write = 4
+status_of fault.Memory = 5
+
+-- 0 where help was asked for, 5 where memory was refused, and else 2
+abbrev pub words_status_of : WordsFault → ℕ
+words_status_of (words.Help text) = 0
+words_status_of (words.Words text) = 2
+words_status_of words.Identifier = 2
+words_status_of (words.Config reason) = 2
+words_status_of words.Memory = 5

@@ -1,143 +1,127 @@
-//! Reads a log from standard input, and writes its canonical log to standard output.
+//! Gives recorded vehicle diagnostic sessions one canonical spelling, and tells what is in them.
 //!
 //! ```text
-//! $ udsnorm < recorded.log > canonical.log
+//! $ udsnorm normalise recorded.log > canonical.log
+//! $ udsnorm list recorded.log
+//! $ udsnorm explain recorded.log
+//! $ udsnorm compare yesterday.log today.log
 //! ```
 //!
-//! The tester sends as 7E0 and the unit as 7E8, and neither log may be longer than a gibibyte. The exit status tells
-//! how it went: 0 done, 2 wrong words, 3 the log is refused, 4 a read or a write failed, 5 memory was refused.
+//! Without words it writes the canonical log of standard input. The exit status tells how it went: 0 done or the same,
+//! 1 different, 2 wrong words, 3 a log is refused, 4 a read or a write failed, 5 memory was refused.
 #![tactic(auto)]
 
-ghost use Rattle.std.specs.Prelude.{◌≡◌, ◌^◌};
-ghost use Rattle.can_log.specs.declared.frame.Id.TheVariants.{Std};
-ghost use Rattle.udsnorm.specs.Status.{status_of};
-ghost use Rattle.udsnorm.specs.Run.{outcome_of, is_canonical_log_wanted};
+ghost use Rattle.std.specs.Prelude.{◌≡◌};
+ghost use Rattle.trace_io.specs.Counted.{IsLowCount};
 
+mod command;
+mod comparison;
+mod identifiers;
+mod job;
+mod run;
+mod tell;
+mod text;
+mod words;
+
+use crate::job::{Job, Plan, WordsFault};
+use crate::run::{run_one, run_two};
+use crate::tell::{tell, unopened};
+use crate::words::plan;
 use std::env::Env;
-use std::io::{BufWriter, ErrorKind, Input, Print};
+use std::io::{BufWriter, ErrorKind, Input, Print, Write};
 use std::process::ExitCode;
-use std::{env, io};
-use trace_canon::{Config, Fault, Summary, normalise};
-use trace_io::{DeviceFault, Reading, Target, Writing};
+use std::rt::Files;
+use std::{env, fs, io};
+use trace_io::{Reading, Target, Writing};
 
-/// The identifier of the tester's frames.
-const TESTER: u16 = 0x7E0;
-
-/// The identifier of the unit's frames.
-const UNIT: u16 = 0x7E8;
-
-/// The most bytes of a log, and the most of its canonical log.
-const LIMIT: u64 = 1 << 30;
+/// What is told of a command line that is no text.
+const NO_TEXT: &str = "error: the command line is not UTF-8\n";
 
 fn main(rt: HostRuntime) -> ExitCode {
-    ExitCode::from(status(&run(&rt)))
+    let stderr = rt.stderr();
+    let mut err = Writing::new(io::writer(&stderr));
+    ExitCode::from(run_program(&rt, &mut err))
 }
 
-/// Does what the command line asks for, from standard input to standard output.
-fn run<R: AllocGlobal + Env + Input + Print>(rt: &R) -> Result<Summary, Failure> {
-    check_words(rt)?;
-    let config = configuration();
-    let out = BufWriter::new(rt.alloc(), io::writer(rt)).map_err(|_| Failure::Memory)?;
-    let mut reader = Reading::new(rt.reader());
-    let mut writer = Writing::new(out);
-    let answer = normalise(rt.alloc(), &config, &mut reader, &mut writer);
-    // What the engine wrote leaves the program, also where the engine ended with a fault.
-    let flushed = writer.flush();
-    outcome_of(answer, flushed)
-}
-
-/// Fails where the words of the command line ask for nothing that the program does.
-fn check_words<R: AllocGlobal + Env>(rt: &R) -> Result<(), Failure> {
-    let mut words = env::args(rt).map_err(|error| match error.kind() {
-        ErrorKind::OutOfMemory => Failure::Memory,
-        _ => Failure::Words,
-    })?;
-    let _program = words.next();
-    let word = words.next();
-    let next = words.next();
-    if is_canonical_log_wanted(&word, &next) {
-        Ok(())
-    } else {
-        Err(Failure::Words)
-    }
-}
-
-/// Whether the words behind the program's name ask for a canonical log, by the first two of them.
-fn is_canonical_log_wanted(word: &Option<String>, next: &Option<String>) -> bool
-    ensures { result ≡ is_canonical_log_wanted word.now next.now }
+/// Does what the command line asks for, and answers the exit status.
+fn run_program<R: AllocGlobal + Env + Files + Input + Print, E: Target>(rt: &R, err: &mut E) -> u8
+    requires { IsLowCount (E.failures err.old) }
 {
-    match (word, next) {
-        (None, _) => true,
-        (Some(word), None) => word.as_str() == "normalise",
-        (Some(_), Some(_)) => false,
-    }
+    let Ok(buffered) = BufWriter::new(rt.alloc(), io::writer(rt)) else {
+        return tell(&WordsFault::Memory, &mut Writing::new(io::writer(rt)), err);
+    };
+    let mut out = Writing::new(buffered);
+    let status = match asked(rt) {
+        Ok(plan) => carry_out(rt, &plan, &mut out, err),
+        Err(fault) => tell(&fault, &mut out, err),
+    };
+    // What was written leaves the program on every way out. Where that matters to the status it was flushed before.
+    let _ = out.into_inner().flush();
+    status
 }
 
-/// The identifiers and the limit that are built in.
-fn configuration() -> Config
-    ensures tester { result.tester ≡ Std 0x7E0 }
-    ensures unit { result.unit ≡ Std 0x7E8 }
-    ensures limit { result.max_bytes ≡ 2 ^ 30 }
-{
-    Config::new(TESTER, UNIT, LIMIT).unwrap()
-}
-
-/// What a run comes to, by the engine's answer and the flush behind it.
-fn outcome_of(
-    answer: Result<Summary, Fault>,
-    flushed: Result<(), DeviceFault>,
-) -> Result<Summary, Failure>
-    ensures { result ≡ outcome_of answer flushed }
-{
-    let summary = answer.map_err(Failure::Engine)?;
-    match flushed {
-        Ok(()) => Ok(summary),
-        Err(_) => Err(Failure::Engine(Fault::Write)),
-    }
-}
-
-/// Why there is no canonical log, or not the whole of it.
-#[derive(Clone, Copy, Debug, PartialEq, Eq)]
-enum Failure {
-    /// The words of the command line ask for nothing that the program does.
-    Words,
-    /// Memory was refused before the engine ran.
-    Memory,
-    /// The engine's fault, or a flush that failed behind it.
-    Engine(Fault),
-}
-
-/// The exit status of a run.
-fn status(outcome: &Result<Summary, Failure>) -> u8
-    ensures { result ≡ status_of outcome.now }
-{
-    match outcome {
-        Ok(_) => 0,
-        Err(Failure::Words) => 2,
-        Err(Failure::Engine(Fault::BadLine { .. } | Fault::LogLimit | Fault::OutputLimit)) => 3,
-        Err(Failure::Engine(Fault::Read | Fault::Write)) => 4,
-        Err(Failure::Engine(Fault::Memory) | Failure::Memory) => 5,
-    }
-}
-
-#[cfg(test)]
-mod tests {
-    use super::*;
-
-    #[test]
-    fn each_fault_has_its_status(rt: HostRuntime) {
-        let bad_line = Fault::BadLine { line: 1, column: 2 };
-        for (failure, want) in [
-            (Failure::Words, 2),
-            (Failure::Engine(bad_line), 3),
-            (Failure::Engine(Fault::LogLimit), 3),
-            (Failure::Engine(Fault::OutputLimit), 3),
-            (Failure::Engine(Fault::Read), 4),
-            (Failure::Engine(Fault::Write), 4),
-            (Failure::Engine(Fault::Memory), 5),
-            (Failure::Memory, 5),
-        ] {
-            assert_eq!(rt; status(&Err(failure)), want);
+/// What the command line asks for.
+fn asked<R: AllocGlobal + Env>(rt: &R) -> Result<Plan, WordsFault> {
+    let alloc = rt.alloc();
+    match env::args(rt) {
+        Ok(args) => {
+            let words: Vec<String> = args.collect(alloc)?;
+            // The first word is the program's name.
+            plan(alloc, words.get(1..).unwrap_or(&[]))
         }
+        Err(error) if error.kind() == ErrorKind::OutOfMemory => Err(WordsFault::Memory),
+        Err(_) => Err(WordsFault::Words(String::from_str(alloc, NO_TEXT)?)),
+    }
+}
+
+/// Does the job, over the files that are named or standard input. Answers the exit status.
+fn carry_out<R: AllocGlobal + Files + Input, W: Target, E: Target>(
+    rt: &R,
+    plan: &Plan,
+    out: &mut W,
+    err: &mut E,
+) -> u8
+    requires out { IsLowCount (W.failures out.old) }
+    requires err { IsLowCount (E.failures err.old) }
+{
+    if plan.job == Job::Compare {
+        return compare_files(rt, plan, out, err);
+    }
+    if plan.first.is_none() {
+        return run_one(rt.alloc(), plan, &mut Reading::new(rt.reader()), out, err);
+    }
+    match opened(rt, &plan.first) {
+        Some(log) => run_one(rt.alloc(), plan, &mut Reading::new(log), out, err),
+        None => unopened(plan, false, err),
+    }
+}
+
+/// Compares the two files that are named. Both are opened before either is read.
+fn compare_files<R: AllocGlobal + Files, W: Target, E: Target>(
+    rt: &R,
+    plan: &Plan,
+    out: &mut W,
+    err: &mut E,
+) -> u8
+    requires job { plan.now.job ≡ Job.Compare }
+    requires out { IsLowCount (W.failures out.old) }
+    requires err { IsLowCount (E.failures err.old) }
+{
+    let Some(left) = opened(rt, &plan.first) else {
+        return unopened(plan, false, err);
+    };
+    let Some(right) = opened(rt, &plan.second) else {
+        return unopened(plan, true, err);
+    };
+    let mut left = Reading::new(left);
+    let mut right = Reading::new(right);
+    run_two(rt.alloc(), plan, &mut left, &mut right, out, err)
+}
+
+/// The file of this name, if there is a name and the file can be opened.
+fn opened<R: Files>(rt: &R, name: &Option<String>) -> Option<R::File> {
+    match name {
+        Some(name) => fs::open(rt, name.as_str()).ok(),
+        None => None,
     }
 }

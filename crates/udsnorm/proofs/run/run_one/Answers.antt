@@ -1,0 +1,15 @@
+use Rattle.std.proofs.Common.{sym, subst}
+use Rattle.isotp_receive.specs.declared.TheConstants.{MESSAGE_LIMIT}
+use Rattle.udsnorm.specs.Run.{EngineAnswers}
+use Rattle.udsnorm.proofs.Statuses.{status_of_end, kept_at_end}
+use Rattle.udsnorm.proofs.run.run_one.Goals as goal
+
+pub returns-clause-run : goal.returns-clause-run
+returns-clause-run g c = (
+  c.do_job-answer.result,
+  status_of_end c.do_job-answer.result (g.W.Target.failures c.do_job-answer.new.out) (g.W.Target.failures c.end_run.new.out) c.end_run.result c.end_run.ensures.status,
+  λ reads tells log begins.
+      let kept = kept_at_end (g.W.Target.tells c.do_job-answer.new.out) (g.W.Target.written c.do_job-answer.new.out) (g.W.Target.written c.end_run.new.out) c.do_job-answer.result
+      (c.do_job-answer.ensures.tells tells) c.end_run.ensures.written in
+      rw kept (c.do_job-answer.ensures.engine reads tells log begins),
+)

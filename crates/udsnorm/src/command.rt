@@ -1,0 +1,143 @@
+//! The commands and their options, for the parser, with their help.
+
+use clap::{Arg, Command, value_parser};
+use std::alloc::{AllocError, Global};
+
+/// The options of every command, and the files of logs, by their names in the parser's matches.
+pub(crate) const TESTER: &str = "tester";
+
+pub(crate) const UNIT: &str = "unit";
+
+pub(crate) const LIMIT: &str = "limit";
+
+pub(crate) const LOG: &str = "LOG";
+
+pub(crate) const LEFT: &str = "A";
+
+pub(crate) const RIGHT: &str = "B";
+
+/// What follows the list of commands in the program's help.
+const OF_THE_PROGRAM: &str = "\
+A LOG is what `candump -l` or `candump -L` writes; without LOG standard input is read.
+Without any words the program does `normalise`. `udsnorm COMMAND --help` has the options.
+
+Exit status:
+  0  done; compare: the logs mean the same
+  1  compare: the logs differ
+  2  the command line asks for something that there is not
+  3  a log is refused
+  4  a file can't be opened, or reading or writing failed
+  5  out of memory
+
+Example: udsnorm compare yesterday.log today.log";
+
+const OF_NORMALISE: &str = "\
+The canonical log has each message in frames of 8 bytes, a millisecond apart. Two logs have
+the same canonical log exactly if they have the same exchanges and stray messages.
+
+Exit status: 0 done, 2 wrong words, 3 the log is refused, 4 reading or writing failed,
+5 out of memory.
+
+Example: udsnorm normalise recorded.log > canonical.log";
+
+const OF_LIST: &str = "\
+A line is an exchange (a request of the tester, and the unit's answer if there is one) or a
+stray message outside of any exchange.
+
+Exit status: 0 done, 2 wrong words, 3 the log is refused, 4 reading or writing failed,
+5 out of memory.
+
+Example: udsnorm list --tester 7E1 --unit 7E9 recorded.log";
+
+const OF_EXPLAIN: &str = "\
+Each line names the line of the log. The last line counts what the log has.
+
+Exit status: 0 done, 2 wrong words, 3 the log is refused, 4 reading or writing failed,
+5 out of memory.
+
+Example: udsnorm explain recorded.log";
+
+const OF_COMPARE: &str = "\
+Prints `same`, or `different at item N`, where N is the number that `list` gives the item.
+
+Exit status: 0 the logs mean the same, 1 they differ, 2 wrong words, 3 a log is refused,
+4 a file can't be opened, or reading or writing failed, 5 out of memory.
+
+Example: udsnorm compare yesterday.log today.log";
+
+/// All commands of the program.
+pub(crate) fn command<'a>(alloc: Global) -> Result<Command<'a>, AllocError> {
+    let normalise = with_options(alloc, "normalise", "Writes the canonical log", OF_NORMALISE)?;
+    let list = with_options(
+        alloc,
+        "list",
+        "Writes the exchanges and stray messages",
+        OF_LIST,
+    )?;
+    let explain = with_options(
+        alloc,
+        "explain",
+        "Writes which frames were dropped and which receptions ended early, and why",
+        OF_EXPLAIN,
+    )?;
+    let compare = with_options(
+        alloc,
+        "compare",
+        "Says whether two logs have the same exchanges and stray messages",
+        OF_COMPARE,
+    )?;
+    Command::new(alloc, "udsnorm")
+        .bin_name("udsnorm")?
+        .no_binary_name(true)
+        .disable_help_subcommand(true)
+        .subcommand_required(true)
+        .about("Gives recorded vehicle diagnostic sessions one canonical spelling")
+        .after_help(OF_THE_PROGRAM)
+        .subcommand(normalise.arg(log(alloc))?)?
+        .subcommand(list.arg(log(alloc))?)?
+        .subcommand(explain.arg(log(alloc))?)?
+        .subcommand(
+            compare
+                .arg(Arg::new(alloc, LEFT).required(true).help("The left log"))?
+                .arg(Arg::new(alloc, RIGHT).required(true).help("The right log"))?,
+        )
+}
+
+/// A command with the options that every command has.
+fn with_options<'a>(
+    alloc: Global,
+    name: &'a str,
+    about: &'a str,
+    after_help: &'a str,
+) -> Result<Command<'a>, AllocError> {
+    Command::new(alloc, name)
+        .about(about)
+        .after_help(after_help)
+        .arg(
+            Arg::new(alloc, TESTER)
+                .long(TESTER)
+                .value_name("ID")
+                .help("Identifier of the tester, three hexadecimal digits")
+                .default_value("7E0"),
+        )?
+        .arg(
+            Arg::new(alloc, UNIT)
+                .long(UNIT)
+                .value_name("ID")
+                .help("Identifier of the control unit, three hexadecimal digits")
+                .default_value("7E8"),
+        )?
+        .arg(
+            Arg::new(alloc, LIMIT)
+                .long(LIMIT)
+                .value_name("BYTES")
+                .help("Most bytes of a log and its canonical log, up to 2^40")
+                .value_parser(value_parser!(u64))
+                .default_value("1073741824"),
+        )
+}
+
+/// The log to read.
+fn log<'a>(alloc: Global) -> Arg<'a> {
+    Arg::new(alloc, LOG).help("The recorded log; without it standard input is read")
+}

@@ -1,0 +1,60 @@
+//! What the program is asked to do.
+
+ghost use Rattle.std.specs.Prelude.{◌≡◌};
+ghost use Rattle.udsnorm.specs.declared.job.WordsFault.TheVariants as words_fault;
+
+use std::alloc::AllocError;
+use thiserror::Error;
+use trace_canon::{Config, ConfigFault};
+
+/// What the program does with a log, or with two.
+#[derive(Clone, Copy, Debug, PartialEq, Eq)]
+pub enum Job {
+    /// Writes the canonical log.
+    Normalise,
+    /// Writes the exchanges and stray messages.
+    List,
+    /// Writes which frames were dropped, and which receptions ended early, and why.
+    Explain,
+    /// Says whether two logs have the same meaning.
+    Compare,
+}
+
+/// What a command line asks for.
+#[derive(Debug, Drop, PartialEq, Eq)]
+pub struct Plan {
+    pub job: Job,
+    pub config: Config,
+    /// The file of the log, the left one for [`Job::Compare`]. Without a file standard input is read.
+    pub first: Option<String>,
+    /// The file of the right log, for [`Job::Compare`] alone.
+    pub second: Option<String>,
+}
+
+/// Why a command line asks for nothing that the program does.
+#[derive(Debug, Drop, PartialEq, Eq, Error)]
+pub enum WordsFault {
+    /// Help was asked for. This is its text.
+    #[error("{0}")]
+    Help(String),
+    /// The words don't fit the commands and their options. This is the parser's text.
+    #[error("{0}")]
+    Words(String),
+    /// An identifier is not spelled by exactly three hexadecimal digits.
+    #[error("identifier is not three hexadecimal digits")]
+    Identifier,
+    /// There is no configuration of these identifiers and this limit.
+    #[error("{0}")]
+    Config(ConfigFault),
+    /// Memory was refused.
+    #[error("out of memory")]
+    Memory,
+}
+
+impl From<AllocError> for WordsFault {
+    ghost from_gives = { λ _ fault. fault ≡ words_fault.Memory };
+
+    fn from(_: AllocError) -> WordsFault {
+        WordsFault::Memory
+    }
+}

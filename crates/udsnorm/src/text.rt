@@ -1,0 +1,69 @@
+//! Lines of text, made without memory and written whole.
+
+ghost use Rattle.std.specs.Prelude.{◌≡◌, ◌+◌, ◌^◌, ◌<◌, ◌≤◌, ◌++◌, length, IfOk, MatchResult};
+ghost use Rattle.std.specs.Fmt.{decimal};
+ghost use Rattle.arrayvec.specs.ArrayVec.{array_vec_len};
+ghost use Rattle.trace_canon.specs.Writing.{HasWritten};
+ghost use Rattle.trace_io.specs.Counted.{IsLowCount};
+
+use arrayvec::{ArrayString, ArrayVec};
+use std::fmt::{Display, Write};
+use trace_io::{DeviceFault, Target};
+
+/// Room for the longest line that is told: an announcement that is too long, in the right log.
+const LONGEST_LINE: usize = 96;
+
+/// A line of bytes as it is made.
+pub(crate) type Line = ArrayVec<u8, 64>;
+
+/// Writes a message as a line.
+pub(crate) fn write_line<W: Target, D: Display + Drop>(
+    target: &mut W,
+    message: D,
+) -> Result<(), DeviceFault>
+    requires { IsLowCount (W.failures target.old) }
+    ensures failures { MatchResult result
+        (λ _. W.failures target.new ≡ W.failures target.old) (λ _. W.failures target.new ≡ W.failures target.old + 1) }
+{
+    let mut line = ArrayString::<LONGEST_LINE>::new();
+    // What is told always fits.
+    let _ = writeln!(line, "{message}");
+    write_all(target, line.as_str().as_bytes())
+}
+
+/// Writes all of the text. A target that fails has taken a part of it.
+pub(crate) fn write_all<W: Target>(target: &mut W, text: &[u8]) -> Result<(), DeviceFault>
+    requires { IsLowCount (W.failures target.old) }
+    ensures written { W.tells target.old → HasWritten result (W.written target.old) text.now (W.written target.new) }
+    ensures tells { W.tells target.old → W.tells target.new }
+    ensures failures { MatchResult result
+        (λ _. W.failures target.new ≡ W.failures target.old) (λ _. W.failures target.new ≡ W.failures target.old + 1) }
+{
+    let mut rest = text;
+    'writing: while !rest.is_empty() {
+        let n = target.write(rest)?;
+        rest = &rest[n..];
+    }
+    Ok(())
+}
+
+/// Puts a text behind the line.
+pub(crate) fn push_text(line: &mut Line, text: &str)
+    requires { array_vec_len line.old + length text.now ≤ 64 }
+    ensures { line.new.items ≡ line.old.items ++ text.now }
+{
+    line.try_extend_from_slice(text.as_bytes()).unwrap()
+}
+
+/// Puts the digits of a number behind the line.
+pub(crate) fn push_decimal(line: &mut Line, number: u128)
+    requires { array_vec_len line.old + length (decimal number) ≤ 64 }
+    ensures { line.new.items ≡ line.old.items ++ decimal number }
+{
+    if number < 10 {
+        line.push(b'0' + number as u8);
+    } else {
+        push_decimal(line, number / 10);
+        line.push(b'0' + (number % 10) as u8);
+    }
+}

@@ -1,0 +1,22 @@
+# Completions of udsnorm for bash.
+
+_udsnorm()
+{
+    local word=${COMP_WORDS[COMP_CWORD]} before=${COMP_WORDS[COMP_CWORD-1]}
+    local commands="normalise list explain compare" options="--tester --unit --limit --help"
+
+    COMPREPLY=()
+    case $before in
+        --tester | --unit | --limit) return ;;
+    esac
+    if [[ $COMP_CWORD -eq 1 ]]; then
+        mapfile -t COMPREPLY < <(compgen -W "$commands -h --help" -- "$word")
+    elif [[ $word == -* ]]; then
+        mapfile -t COMPREPLY < <(compgen -W "-h $options" -- "$word")
+    else
+        compopt -o filenames
+        mapfile -t COMPREPLY < <(compgen -f -- "$word")
+    fi
+}
+
+complete -F _udsnorm udsnorm
