@@ -1,25 +1,14 @@
-//! Whole sessions: their canonical logs, and what they mean.
+//! Whole sessions: their canonical logs, what is counted in them, and what they list.
 
-use crate::items::assert_items;
-use crate::session::{Counts, Session, VIN_LINES, log_of, log_of_frames};
+use crate::run::{VIN_CANONICAL, VIN_LINES, assert_listed, log_of, log_of_frames, told};
 use std::test::Fail;
 
-/// A vehicle identification number, read from a unit: the canonical log.
-const VIN: &[&str] = &[
-    "(0000000000.000000) can0 7E0#0322F190CCCCCCCC",
-    "(0000000000.001000) can0 7E8#101462F190574241",
-    "(0000000000.002000) can0 7E0#300000CCCCCCCCCC",
-    "(0000000000.003000) can0 7E8#2133413543353045",
-    "(0000000000.004000) can0 7E8#2246313233343536",
-];
-
-/// A recording of it: its lines, how many frames of the two identifiers they have, and how many pending replies.
+/// A recording of the vehicle identification number: its lines, and what is counted in them.
 #[derive(Clone, Copy)]
 struct Recording {
     name: &'static str,
     lines: &'static [&'static str],
-    frames: usize,
-    pending: usize,
+    counts: &'static str,
 }
 
 /// Each by its own tool over its own bus.
@@ -27,8 +16,7 @@ const RECORDINGS: [Recording; 7] = [
     Recording {
         name: "five classic frames",
         lines: &VIN_LINES,
-        frames: 5,
-        pending: 0,
+        counts: "lines 5 frames 5 messages 2 dropped 0 ended 0 unfinished 0 pending 0",
     },
     Recording {
         name: "one frame of CAN FD, in lower case, CR LF",
@@ -36,8 +24,7 @@ const RECORDINGS: [Recording; 7] = [
             "(5.000000) vcan1 7e0#0322f190aaaaaaaa\r",
             "(5.250000) vcan1 7e8##1001462f1905742413341354335304546313233343536aaaa\r",
         ],
-        frames: 2,
-        pending: 0,
+        counts: "lines 2 frames 2 messages 2 dropped 0 ended 0 unfinished 0 pending 0",
     },
     Recording {
         name: "frames of 12 bytes, the last of them padded",
@@ -47,8 +34,7 @@ const RECORDINGS: [Recording; 7] = [
             "(3.002000) can1 7E0#300000",
             "(3.003000) can1 7E8##0213530454631323334353699",
         ],
-        frames: 4,
-        pending: 0,
+        counts: "lines 4 frames 4 messages 2 dropped 0 ended 0 unfinished 0 pending 0",
     },
     Recording {
         name: "two pending replies before the answer",
@@ -61,8 +47,7 @@ const RECORDINGS: [Recording; 7] = [
             "(1700000006.020000) can0 7E8#2133413543353045",
             "(1700000006.030000) can0 7E8#2246313233343536",
         ],
-        frames: 7,
-        pending: 2,
+        counts: "lines 7 frames 7 messages 4 dropped 0 ended 0 unfinished 0 pending 2",
     },
     Recording {
         name: "without flow control, classic and FD frames mixed",
@@ -72,8 +57,7 @@ const RECORDINGS: [Recording; 7] = [
             "(1.020000) can0 7E8##02133413543353045",
             "(1.030000) can0 7E8#2246313233343536",
         ],
-        frames: 4,
-        pending: 0,
+        counts: "lines 4 frames 4 messages 2 dropped 0 ended 0 unfinished 0 pending 0",
     },
     Recording {
         name: "a wait frame, each consecutive frame at the last microsecond",
@@ -84,8 +68,7 @@ const RECORDINGS: [Recording; 7] = [
             "(3.500000) can0 7E8#2133413543353045",
             "(4.500000) can0 7E8#2246313233343536",
         ],
-        frames: 5,
-        pending: 0,
+        counts: "lines 5 frames 5 messages 2 dropped 0 ended 0 unfinished 0 pending 0",
     },
     Recording {
         name: "marks, raw lengths, blank lines and foreign traffic",
@@ -101,63 +84,59 @@ const RECORDINGS: [Recording; 7] = [
             "(0000000001.006000) can0 7E8#2133413543353045 T",
             "(0000000001.007000) can0 7E8#2246313233343536 T",
         ],
-        frames: 5,
-        pending: 0,
+        counts: "lines 10 frames 5 messages 2 dropped 0 ended 0 unfinished 0 pending 0",
     },
 ];
 
 #[test]
 fn seven_recordings_of_a_session_have_one_canonical_log(rt: HostRuntime) -> Result<(), Fail> {
-    let canonical = log_of(rt.alloc(), VIN)?;
-    assert_eq!(rt; canonical.len(), 230);
+    let alloc = rt.alloc();
+    let expected = log_of(alloc, &VIN_CANONICAL)?;
+    assert_eq!(rt; expected.len(), 230);
     for recording in RECORDINGS {
-        let Recording {
-            name,
-            lines,
-            frames,
-            pending,
-        } = recording;
-        let log = log_of(rt.alloc(), lines)?;
-        let session = Session::normalised(&rt, rt.alloc(), log.as_str())?;
-        assert_eq!(rt; session.canonical.as_str(), canonical.as_str(), "{name}");
-        let counts = Counts {
-            lines: lines.len(),
-            frames,
-            messages: pending.saturating_add(2),
-            pending,
-        };
-        assert_eq!(rt; session.counts, counts, "{name}");
-        assert!(rt; session.is_clean(), "{name}");
-        assert_items(
-            &rt,
-            rt.alloc(),
-            &session.meaning,
-            &["22F190 -> 62F1905742413341354335304546313233343536"],
-            name,
-        )?;
+        let name = recording.name;
+        let log = log_of(alloc, recording.lines)?;
+        let canonical = told(&rt, alloc, log.as_str(), &[recording.counts], name)?;
+        assert_eq!(rt; canonical.as_str(), expected.as_str(), "{name}");
     }
     Ok(())
 }
 
-/// A session of which no frame is lost: the frames recorded, a millisecond apart, those of its canonical log, and what
-/// it means.
+/// A session of which no frame is lost: the frames recorded, a millisecond apart, those of its canonical log, what is
+/// counted, and the list of its items.
 #[derive(Clone, Copy)]
 struct Worked {
     name: &'static str,
     frames: &'static [&'static str],
     canonical: &'static [&'static str],
-    items: &'static [&'static str],
+    counts: &'static str,
+    listed: &'static [&'static str],
 }
 
-const WORKED: [Worked; 11] = [
+const WORKED: [Worked; 18] = [
+    Worked {
+        name: "a raw length code and a mark",
+        frames: &["7E0#0322F190AAAAAAAA_9 R"],
+        canonical: &["7E0#0322F190CCCCCCCC"],
+        counts: "lines 1 frames 1 messages 1 dropped 0 ended 0 unfinished 0 pending 0",
+        listed: &["1 exchange ReadDataByIdentifier 22F190 -> unanswered"],
+    },
+    Worked {
+        name: "an extended identifier of the same number is another one",
+        frames: &["000007E0#0322F190"],
+        canonical: &[],
+        counts: "lines 1 frames 0 messages 0 dropped 0 ended 0 unfinished 0 pending 0",
+        listed: &[],
+    },
     Worked {
         name: "no frame",
         frames: &[],
         canonical: &[],
-        items: &[],
+        counts: "lines 0 frames 0 messages 0 dropped 0 ended 0 unfinished 0 pending 0",
+        listed: &[],
     },
     Worked {
-        name: "a pending reply behind the answer",
+        name: "a pending reply after the answer",
         frames: &[
             "7E0#0322F190",
             "7E8#037F2278",
@@ -176,9 +155,10 @@ const WORKED: [Worked; 11] = [
             "7E8#2246313233343536",
             "7E8#037F2278CCCCCCCC",
         ],
-        items: &[
-            "22F190 -> 62F1905742413341354335304546313233343536",
-            "unit 7F2278",
+        counts: "lines 8 frames 8 messages 5 dropped 0 ended 0 unfinished 0 pending 2",
+        listed: &[
+            "1 exchange ReadDataByIdentifier 22F190 -> positive 62F1905742413341354335304546313233343536",
+            "2 stray unit 7F2278",
         ],
     },
     Worked {
@@ -195,7 +175,12 @@ const WORKED: [Worked; 11] = [
             "7E8#035902FFCCCCCCCC",
             "7E8#0462F19041CCCCCC",
         ],
-        items: &["22F190", "1902FF -> 5902FF", "unit 62F19041"],
+        counts: "lines 4 frames 4 messages 4 dropped 0 ended 0 unfinished 0 pending 0",
+        listed: &[
+            "1 exchange ReadDataByIdentifier 22F190 -> unanswered",
+            "2 exchange ReadDTCInformation 1902FF -> positive 5902FF",
+            "3 stray unit 62F19041",
+        ],
     },
     Worked {
         name: "a keep-alive between request and answer",
@@ -205,13 +190,18 @@ const WORKED: [Worked; 11] = [
             "7E8#0462F19041CCCCCC",
             "7E0#023E80CCCCCCCCCC",
         ],
-        items: &["22F190 -> 62F19041", "tester 3E80"],
+        counts: "lines 3 frames 3 messages 3 dropped 0 ended 0 unfinished 0 pending 0",
+        listed: &[
+            "1 exchange ReadDataByIdentifier 22F190 -> positive 62F19041",
+            "2 stray tester 3E80",
+        ],
     },
     Worked {
         name: "a suppressed request, answered after a pending reply",
         frames: &["7E0#021083", "7E8#037F1078", "7E8#025003"],
         canonical: &["7E0#021083CCCCCCCCCC", "7E8#025003CCCCCCCCCC"],
-        items: &["1083 -> 5003"],
+        counts: "lines 3 frames 3 messages 3 dropped 0 ended 0 unfinished 0 pending 1",
+        listed: &["1 exchange DiagnosticSessionControl 1083 -> positive 5003"],
     },
     Worked {
         name: "pending replies on both sides of an answer",
@@ -228,13 +218,69 @@ const WORKED: [Worked; 11] = [
             "7E0#023E80CCCCCCCCCC",
             "7E8#037F2278CCCCCCCC",
         ],
-        items: &["22F190 -> 62F19041", "tester 3E80", "unit 7F2278"],
+        counts: "lines 5 frames 5 messages 5 dropped 0 ended 0 unfinished 0 pending 1",
+        listed: &[
+            "1 exchange ReadDataByIdentifier 22F190 -> positive 62F19041",
+            "2 stray tester 3E80",
+            "3 stray unit 7F2278",
+        ],
+    },
+    Worked {
+        name: "a keep-alive alone",
+        frames: &["7E0#023E80"],
+        canonical: &["7E0#023E80CCCCCCCCCC"],
+        counts: "lines 1 frames 1 messages 1 dropped 0 ended 0 unfinished 0 pending 0",
+        listed: &["1 stray tester 3E80"],
+    },
+    Worked {
+        name: "a request that asks for no positive response",
+        frames: &["7E0#021083"],
+        canonical: &["7E0#021083CCCCCCCCCC"],
+        counts: "lines 1 frames 1 messages 1 dropped 0 ended 0 unfinished 0 pending 0",
+        listed: &["1 exchange DiagnosticSessionControl 1083 -> silent"],
+    },
+    Worked {
+        name: "a negative response",
+        frames: &["7E0#0322F190", "7E8#037F2231"],
+        canonical: &["7E0#0322F190CCCCCCCC", "7E8#037F2231CCCCCCCC"],
+        counts: "lines 2 frames 2 messages 2 dropped 0 ended 0 unfinished 0 pending 0",
+        listed: &["1 exchange ReadDataByIdentifier 22F190 -> negative requestOutOfRange 7F2231"],
+    },
+    Worked {
+        name: "a service and a response code without names",
+        frames: &["7E0#01BA", "7E8#037FBA99"],
+        canonical: &["7E0#01BACCCCCCCCCCCC", "7E8#037FBA99CCCCCCCC"],
+        counts: "lines 2 frames 2 messages 2 dropped 0 ended 0 unfinished 0 pending 0",
+        listed: &["1 exchange service_BA BA -> negative code_99 7FBA99"],
+    },
+    Worked {
+        name: "a request that no response can be positive to",
+        frames: &[
+            "7E0#013F",
+            "7E8#017F",
+            "7E8#027F3F",
+            "7E8#037F3F78",
+            "7E8#037F3F11",
+        ],
+        canonical: &[
+            "7E0#013FCCCCCCCCCCCC",
+            "7E8#037F3F11CCCCCCCC",
+            "7E8#017FCCCCCCCCCCCC",
+            "7E8#027F3FCCCCCCCCCC",
+        ],
+        counts: "lines 5 frames 5 messages 5 dropped 0 ended 0 unfinished 0 pending 1",
+        listed: &[
+            "1 exchange service_3F 3F -> negative serviceNotSupported 7F3F11",
+            "2 stray unit 7F",
+            "3 stray unit 7F3F",
+        ],
     },
     Worked {
         name: "seven bytes",
         frames: &["7E8#0762F19041424344"],
         canonical: &["7E8#0762F19041424344"],
-        items: &["unit 62F19041424344"],
+        counts: "lines 1 frames 1 messages 1 dropped 0 ended 0 unfinished 0 pending 0",
+        listed: &["1 stray unit 62F19041424344"],
     },
     Worked {
         name: "eight bytes",
@@ -244,7 +290,8 @@ const WORKED: [Worked; 11] = [
             "7E0#300000CCCCCCCCCC",
             "7E8#214445CCCCCCCCCC",
         ],
-        items: &["unit 62F1904142434445"],
+        counts: "lines 2 frames 2 messages 1 dropped 0 ended 0 unfinished 0 pending 0",
+        listed: &["1 stray unit 62F1904142434445"],
     },
     Worked {
         name: "messages of both sides at once",
@@ -277,12 +324,10 @@ const WORKED: [Worked; 11] = [
             "7E8#300000CCCCCCCCCC",
             "7E0#2144454647CCCCCC",
         ],
-        items: &[
-            "unit 000102030405060708090A0B0C0D0E0F101112131415161718191A1B1C1D1E1F\
-             202122232425262728292A2B2C2D2E2F303132333435363738393A3B3C3D3E3F\
-             404142434445464748494A4B4C4D4E4F505152535455565758595A5B5C5D5E5F\
-             60616263",
-            "2EF19041424344454647",
+        counts: "lines 6 frames 6 messages 2 dropped 0 ended 0 unfinished 0 pending 0",
+        listed: &[
+            "1 stray unit 000102030405060708090A0B0C0D0E0F101112131415161718191A1B1C1D1E1F202122232425262728292A2B2C2D2E2F303132333435363738393A3B3C3D3E3F404142434445464748494A4B4C4D4E4F505152535455565758595A5B5C5D5E5F60616263",
+            "2 exchange WriteDataByIdentifier 2EF19041424344454647 -> unanswered",
         ],
     },
     Worked {
@@ -306,8 +351,9 @@ const WORKED: [Worked; 11] = [
             "7E8#293E3F4041424344",
             "7E8#2A45CCCCCCCCCCCC",
         ],
-        items: &[
-            "unit 620102030405060708090A0B0C0D0E0F101112131415161718191A1B1C1D1E1F202122232425262728292A2B2C2D2E2F303132333435363738393A3B3C3D3E3F404142434445",
+        counts: "lines 3 frames 3 messages 1 dropped 0 ended 0 unfinished 0 pending 0",
+        listed: &[
+            "1 stray unit 620102030405060708090A0B0C0D0E0F101112131415161718191A1B1C1D1E1F202122232425262728292A2B2C2D2E2F303132333435363738393A3B3C3D3E3F404142434445",
         ],
     },
     Worked {
@@ -356,48 +402,23 @@ const WORKED: [Worked; 11] = [
             "7E8#21767778797A7B7C",
             "7E8#227D7E7F8081CCCC",
         ],
-        items: &[
-            "unit 620102030405060708090A0B0C0D0E0F101112131415161718191A1B1C1D1E1F\
-             202122232425262728292A2B2C2D2E2F303132333435363738393A3B3C3D3E3F\
-             404142434445464748494A4B4C4D4E4F505152535455565758595A5B5C5D5E5F\
-             606162636465666768696A6B6C6D6E6F707172737475767778797A7B7C7D7E7F\
-             8081",
+        counts: "lines 20 frames 20 messages 1 dropped 0 ended 0 unfinished 0 pending 0",
+        listed: &[
+            "1 stray unit 620102030405060708090A0B0C0D0E0F101112131415161718191A1B1C1D1E1F202122232425262728292A2B2C2D2E2F303132333435363738393A3B3C3D3E3F404142434445464748494A4B4C4D4E4F505152535455565758595A5B5C5D5E5F606162636465666768696A6B6C6D6E6F707172737475767778797A7B7C7D7E7F8081",
         ],
     },
 ];
 
 #[test]
-fn each_session_has_its_canonical_frames_and_meaning(rt: HostRuntime) -> Result<(), Fail> {
+fn each_session_has_its_canonical_frames_and_items(rt: HostRuntime) -> Result<(), Fail> {
+    let alloc = rt.alloc();
     for worked in WORKED {
-        let log = log_of_frames(rt.alloc(), worked.frames)?;
-        let session = Session::normalised(&rt, rt.alloc(), log.as_str())?;
-        let canonical = log_of_frames(rt.alloc(), worked.canonical)?;
-        assert_eq!(rt;
-            session.canonical.as_str(),
-            canonical.as_str(),
-            "{}",
-            worked.name
-        );
-        assert!(rt; session.is_clean(), "{}", worked.name);
-        assert_items(&rt, rt.alloc(), &session.meaning, worked.items, worked.name)?;
+        let name = worked.name;
+        let log = log_of_frames(alloc, worked.frames)?;
+        let canonical = told(&rt, alloc, log.as_str(), &[worked.counts], name)?;
+        let expected = log_of_frames(alloc, worked.canonical)?;
+        assert_eq!(rt; canonical.as_str(), expected.as_str(), "{name}");
+        assert_listed(&rt, alloc, log.as_str(), worked.listed, name)?;
     }
-    Ok(())
-}
-
-#[test]
-fn the_longest_message_there_and_back(rt: HostRuntime) -> Result<(), Fail> {
-    let mut log = String::new(rt.alloc());
-    log.push_str("(0.000000) can0 7E8#10000000FFFF6262\n")?;
-    for number in 1..9_363_usize {
-        let line = format!(in rt.alloc();
-            "({number}.000000) can0 7E8#2{:X}62626262626262\n",
-            number % 16
-        )?;
-        log.push_str(&line)?;
-    }
-    let session = Session::normalised(&rt, rt.alloc(), log.as_str())?;
-    assert_eq!(rt; session.canonical.len(), 430_744);
-    assert_eq!(rt; session.counts.messages, 1);
-    assert!(rt; session.is_clean());
     Ok(())
 }

@@ -1,16 +1,15 @@
 //! The logs of `examples/` as the layers read them, messages of several frames included.
 
-use crate::items::assert_items;
-use crate::session::{Session, log_of, log_of_frames};
+use crate::run::{assert_listed, log_of, log_of_frames, normalised};
 use std::test::Fail;
 
-/// A log as the folder has it (`tests/program.py` compares), the frames of its canonical log, and what it means.
+/// A log as the folder has it (`tests/program.py` compares), the frames of its canonical log, and the list of its items.
 #[derive(Clone, Copy)]
 struct Example {
     name: &'static str,
     lines: &'static [&'static str],
     canonical: &'static [&'static str],
-    items: &'static [&'static str],
+    listed: &'static [&'static str],
 }
 
 const EXAMPLES: [Example; 5] = [
@@ -35,9 +34,9 @@ const EXAMPLES: [Example; 5] = [
             "7E0#021101CCCCCCCCCC",
             "7E8#025101CCCCCCCCCC",
         ],
-        items: &[
-            "22F190 -> 62F1905742413341354335304546313233343536",
-            "1101 -> 5101",
+        listed: &[
+            "1 exchange ReadDataByIdentifier 22F190 -> positive 62F1905742413341354335304546313233343536",
+            "2 exchange ECUReset 1101 -> positive 5101",
         ],
     },
     Example {
@@ -75,10 +74,10 @@ const EXAMPLES: [Example; 5] = [
             "7E8#292F1023452F1123",
             "7E8#2A452F1223452FCC",
         ],
-        items: &[
-            "1003 -> 5003003201F4",
-            "22F190 -> 62F1905742413341354335304546313233343536",
-            "1902FF -> 5902FF0123452F0223452F0323452F0423452F0523452F0623452F0723452F0823452F0923452F0A23452F0B23452F0C23452F0D23452F0E23452F0F23452F1023452F1123452F1223452F",
+        listed: &[
+            "1 exchange DiagnosticSessionControl 1003 -> positive 5003003201F4",
+            "2 exchange ReadDataByIdentifier 22F190 -> positive 62F1905742413341354335304546313233343536",
+            "3 exchange ReadDTCInformation 1902FF -> positive 5902FF0123452F0223452F0323452F0423452F0523452F0623452F0723452F0823452F0923452F0A23452F0B23452F0C23452F0D23452F0E23452F0F23452F1023452F1123452F1223452F",
         ],
     },
     Example {
@@ -99,7 +98,10 @@ const EXAMPLES: [Example; 5] = [
             "7E0#023E00CCCCCCCCCC",
             "7E8#027E00CCCCCCCCCC",
         ],
-        items: &["22F191 -> 7F2231", "3E00 -> 7E00"],
+        listed: &[
+            "1 exchange ReadDataByIdentifier 22F191 -> negative requestOutOfRange 7F2231",
+            "2 exchange TesterPresent 3E00 -> positive 7E00",
+        ],
     },
     Example {
         name: "pending.log",
@@ -126,10 +128,10 @@ const EXAMPLES: [Example; 5] = [
             "7E8#2133413543353045",
             "7E8#2246313233343536",
         ],
-        items: &[
-            "3101FF00 -> 7101FF0000",
-            "tester 3E80",
-            "22F190 -> 62F1905742413341354335304546313233343536",
+        listed: &[
+            "1 exchange RoutineControl 3101FF00 -> positive 7101FF0000",
+            "2 stray tester 3E80",
+            "3 exchange ReadDataByIdentifier 22F190 -> positive 62F1905742413341354335304546313233343536",
         ],
     },
     Example {
@@ -156,25 +158,28 @@ const EXAMPLES: [Example; 5] = [
             "7E0#300000CCCCCCCCCC",
             "7E8#212FC0731008CCCC",
         ],
-        items: &[
-            "2EF1905742413341354335304546313233343536 -> 6EF190",
-            "1902FF -> 5902FF0123452FC0731008",
+        listed: &[
+            "1 exchange WriteDataByIdentifier 2EF1905742413341354335304546313233343536 -> positive 6EF190",
+            "2 exchange ReadDTCInformation 1902FF -> positive 5902FF0123452FC0731008",
         ],
     },
 ];
 
 #[test]
-fn each_example_has_its_canonical_log_and_meaning(rt: HostRuntime) -> Result<(), Fail> {
+fn each_example_has_its_canonical_log_and_items(rt: HostRuntime) -> Result<(), Fail> {
     let alloc = rt.alloc();
     for example in EXAMPLES {
         let name = example.name;
         let log = log_of(alloc, example.lines)?;
-        let session = Session::normalised(&rt, alloc, log.as_str())?;
-        assert!(rt; session.is_clean(), "{name}");
-        assert_eq!(rt; session.counts.lines, example.lines.len(), "{name}");
-        let canonical = log_of_frames(alloc, example.canonical)?;
-        assert_eq!(rt; session.canonical.as_str(), canonical.as_str(), "{name}");
-        assert_items(&rt, alloc, &session.meaning, example.items, name)?;
+        let (summary, canonical) = normalised(&rt, alloc, log.as_str())?;
+        let expected = log_of_frames(alloc, example.canonical)?;
+        assert_eq!(rt; canonical.as_str(), expected.as_str(), "{name}");
+        assert_eq!(rt;
+            (summary.dropped, summary.ended, summary.unfinished),
+            (0, 0, 0),
+            "{name}"
+        );
+        assert_listed(&rt, alloc, log.as_str(), example.listed, name)?;
     }
     Ok(())
 }

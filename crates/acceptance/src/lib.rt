@@ -13,11 +13,17 @@
 #![tactic(auto)]
 
 #[cfg(test)]
+mod ample_memory;
+#[cfg(test)]
 mod canonical_logs;
+#[cfg(test)]
+mod comparisons;
+#[cfg(test)]
+mod devices;
 #[cfg(test)]
 mod examples;
 #[cfg(test)]
-mod items;
+mod limits;
 #[cfg(test)]
 mod receptions;
 #[cfg(test)]
@@ -27,4 +33,4 @@ mod refusals;
 #[cfg(test)]
 mod refused_memory;
 #[cfg(test)]
-mod session;
+mod run;

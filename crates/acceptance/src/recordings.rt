@@ -1,14 +1,12 @@
-//! One message in many recordings: each way to send it is received as the same bytes.
+//! One message in many recordings: each way to send it has the same canonical log.
 
-use can_log::Dir::{Tester, Unit};
-use can_log::{Dir, Frame, Id, Kind};
-use isotp_receive::{MESSAGE_LIMIT, Pair, Verdict};
-use isotp_segment::Segments;
+use crate::run::{GIBIBYTE, LINE, listed, run, run_cut};
 use std::alloc::{AllocError, Global};
 use std::process::Abort;
 use std::test::Fail;
+use trace_canon::Fault;
 
-/// A message of this length, no two neighbours of which are alike.
+/// A response of this length, no two neighbouring bytes of which are alike.
 fn message_of(alloc: Global, len: usize) -> Result<Vec<u8>, AllocError> {
     let mut message = Vec::new(alloc);
     for i in 0..len {
@@ -17,73 +15,52 @@ fn message_of(alloc: Global, len: usize) -> Result<Vec<u8>, AllocError> {
     Ok(message)
 }
 
-/// Hands frames of the one side or the other to a pair, a millisecond apart.
+/// A log as it is recorded, a millisecond a frame.
 #[derive(Drop)]
 struct Recorder {
-    pair: Pair,
-    line: u64,
+    log: String,
+    frames: usize,
 }
 
 impl Recorder {
-    fn new(alloc: Global) -> Result<Recorder, AllocError> {
-        Ok(Recorder {
-            pair: Pair::new(alloc)?,
-            line: 0,
-        })
-    }
-
-    /// The message that the frame of these bytes completes.
-    fn take(&mut self, alloc: Global, dir: Dir, data: &[u8]) -> Result<Option<Vec<u8>>, Fail> {
-        let kind = if data.len() > 8 {
-            Kind::Fd
-        } else {
-            Kind::Classic
-        };
-        let frame = Frame::new(Id::Std(0x7E8), kind, data).ok_or("no frame")?;
-        self.line = self.line.wrapping_add(1);
-        let micros = self.line.wrapping_mul(1000);
-        match self.pair.accept(self.line, micros, dir, &frame).verdict {
-            Verdict::Message(message) => Ok(Some(message.to_vec(alloc)?)),
-            Verdict::Dropped(_) => Err("a frame is dropped")?,
-            _ => Ok(None),
-        }
+    /// Records a frame, as CAN FD where it has more bytes than a classic one.
+    fn frame(&mut self, alloc: Global, id: &str, data: &[u8]) -> Result<(), AllocError> {
+        let (seconds, millis) = (self.frames / 1000, self.frames % 1000);
+        let mark = if data.len() > 8 { "#1" } else { "" };
+        let line = format!(in alloc; "({seconds:010}.{millis:03}000) can0 {id}#{mark}")?;
+        self.log.push_str(&line)?;
+        push_digits(&mut self.log, data)?;
+        self.log.push('\n')?;
+        self.frames = self.frames.saturating_add(1);
+        Ok(())
     }
 }
 
-/// What the canonical frames of a message deliver, the last of them alone.
-fn read_back(rt: &impl Abort, alloc: Global, dir: Dir, message: &[u8]) -> Result<Vec<u8>, Fail> {
-    assert!(rt; !message.is_empty() && message.len() <= MESSAGE_LIMIT as usize);
-    let mut recorder = Recorder::new(alloc)?;
-    let frames = Segments::new(dir, message);
-    for (sender, data) in frames {
-        if let Some(delivered) = recorder.take(alloc, sender, &data)? {
-            return Ok(delivered);
-        }
-    }
-    Err("no message")?
-}
-
-#[test]
-fn canonical_frames_deliver_their_message(rt: HostRuntime) -> Result<(), Fail> {
-    let alloc = rt.alloc();
-    for len in [1, 7, 8, 13, 14, 4095, 4096, 65_535] {
-        let message = message_of(alloc, len)?;
-        for dir in [Tester, Unit] {
-            let delivered = read_back(&rt, alloc, dir, message.as_slice())?;
-            assert_eq!(rt; delivered.as_slice(), message.as_slice(), "{len} bytes");
-        }
+/// Writes two hexadecimal digits for each byte.
+fn push_digits(text: &mut String, bytes: &[u8]) -> Result<(), AllocError> {
+    const DIGITS: &[u8; 16] = b"0123456789ABCDEF";
+    for byte in bytes {
+        text.push(DIGITS[(byte / 16) as usize] as char)?;
+        text.push(DIGITS[(byte % 16) as usize] as char)?;
     }
     Ok(())
 }
 
-/// How a sender may send a message: the size of its frames, what they are padded with, and whether
-/// the last one is as long as the others or as short as its bytes allow.
+/// How a unit may send a message: the size of its frames, what they are padded with, and whether the last one is as long
+/// as the others or as short as its bytes allow.
 #[derive(Clone, Copy, Debug)]
 struct Style {
-    rx_dl: u8,
+    rx_dl: usize,
     padding: u8,
     long_last: bool,
 }
+
+/// As a canonical log has it.
+const CANONICAL: Style = Style {
+    rx_dl: 8,
+    padding: 0xCC,
+    long_last: true,
+};
 
 impl Style {
     /// A frame of these control bytes and bytes of the message, padded.
@@ -95,15 +72,15 @@ impl Style {
             .find(|&can_dl| frame.len() <= can_dl);
         let can_dl = match shortest {
             Some(can_dl) if can_dl > 8 && !self.long_last => can_dl,
-            _ if self.long_last => self.rx_dl as usize,
+            _ if self.long_last => self.rx_dl,
             _ => frame.len(),
         };
         frame.resize(can_dl, self.padding)?;
         Ok(frame)
     }
 
-    /// What the frames of a sender of this style deliver, with a continue frame behind the first.
-    fn read(self, alloc: Global, message: &[u8]) -> Result<Vec<u8>, Fail> {
+    /// The log of a message of the unit, with a continue frame of the tester after its first frame.
+    fn record(self, alloc: Global, message: &[u8]) -> Result<String, AllocError> {
         let [.., high, low] = message.len().to_be_bytes();
         let short = [0x10 | high, low];
         let escaped = [0x10, 0, 0, 0, high, low];
@@ -112,31 +89,57 @@ impl Style {
         } else {
             escaped.as_slice()
         };
-        let in_first = (self.rx_dl as usize)
-            .saturating_sub(control.len())
-            .min(message.len());
-        let mut recorder = Recorder::new(alloc)?;
-        recorder.take(
+        let in_first = self.rx_dl.saturating_sub(control.len()).min(message.len());
+        let mut recorder = Recorder {
+            log: String::new(alloc),
+            frames: 0,
+        };
+        let first = self.frame(alloc, control, &message[..in_first])?;
+        recorder.frame(alloc, "7E8", first.as_slice())?;
+        let padding = CANONICAL.padding;
+        recorder.frame(
             alloc,
-            Unit,
-            self.frame(alloc, control, &message[..in_first])?.as_slice(),
+            "7E0",
+            &[0x30, 0, 0, padding, padding, padding, padding, padding],
         )?;
-        recorder.take(alloc, Tester, &[0x30, 0, 0])?;
         let mut number: u8 = 0;
-        let room = (self.rx_dl as usize).saturating_sub(1).max(1);
+        let room = self.rx_dl.saturating_sub(1).max(1);
         for bytes in message[in_first..].chunks(room) {
             number = number.wrapping_add(1) % 16;
             let frame = self.frame(alloc, &[0x20 | number], bytes)?;
-            if let Some(delivered) = recorder.take(alloc, Unit, frame.as_slice())? {
-                return Ok(delivered);
-            }
+            recorder.frame(alloc, "7E8", frame.as_slice())?;
         }
-        Err("no message")?
+        Ok(recorder.log)
     }
 }
 
+/// Each recording of the message in frames of this size, however padded, has the message's canonical log.
+fn assert_recordings(rt: &impl Abort, alloc: Global, len: usize, rx_dl: usize) -> Result<(), Fail> {
+    let message = message_of(alloc, len)?;
+    let canonical = CANONICAL.record(alloc, message.as_slice())?;
+    for (padding, long_last) in [(0x00, false), (0x00, true), (0xFF, false), (0xFF, true)] {
+        let style = Style {
+            rx_dl,
+            padding,
+            long_last,
+        };
+        let log = style.record(alloc, message.as_slice())?;
+        let (answer, text) = run(alloc, GIBIBYTE, log.as_bytes())?;
+        assert_eq!(rt;
+            answer.map(|summary| summary.messages),
+            Ok(1),
+            "{len} bytes, {style:?}"
+        );
+        assert!(rt;
+            text.as_slice() == canonical.as_bytes(),
+            "{len} bytes, {style:?}"
+        );
+    }
+    Ok(())
+}
+
 /// The sizes of frames, and the length of the shortest message that takes more than one of them.
-const SIZES: [(u8, usize); 8] = [
+const SIZES: [(usize, usize); 8] = [
     (8, 8),
     (12, 11),
     (16, 15),
@@ -150,69 +153,55 @@ const SIZES: [(u8, usize); 8] = [
 #[test]
 fn size_and_padding_of_frames_change_nothing(rt: HostRuntime) -> Result<(), Fail> {
     for (rx_dl, shortest) in SIZES {
-        assert_lengths(&rt, rt.alloc(), rx_dl, shortest)?;
-    }
-    Ok(())
-}
-
-/// Messages of several lengths are read as they were sent, in frames of this size.
-fn assert_lengths(rt: &impl Abort, alloc: Global, rx_dl: u8, shortest: usize) -> Result<(), Fail> {
-    for len in [shortest, 4094, 4095, 4096, 65_535] {
-        let message = message_of(alloc, len)?;
-        assert_styles(rt, alloc, rx_dl, message.as_slice())?;
-    }
-    Ok(())
-}
-
-/// The message is read as it was sent, however its last frame is filled up, and so are the canonical frames of what
-/// was read.
-fn assert_styles(rt: &impl Abort, alloc: Global, rx_dl: u8, message: &[u8]) -> Result<(), Fail> {
-    for (padding, long_last) in [(0x00, false), (0x00, true), (0xFF, false), (0xFF, true)] {
-        let style = Style {
-            rx_dl,
-            padding,
-            long_last,
-        };
-        let len = message.len();
-        let delivered = style.read(alloc, message)?;
-        assert_eq!(rt; delivered.as_slice(), message, "{len} bytes, {style:?}");
-        let canonical = read_back(rt, alloc, Unit, delivered.as_slice())?;
-        assert_eq!(rt; canonical.as_slice(), message, "{len} bytes, {style:?}");
+        for len in [shortest, 4094, 4095, 4096] {
+            assert_recordings(&rt, rt.alloc(), len, rx_dl)?;
+        }
     }
     Ok(())
 }
 
 #[test]
-fn four_recordings_deliver_the_same_message(rt: HostRuntime) -> Result<(), Fail> {
+fn size_and_padding_of_frames_change_nothing_of_the_longest_message(
+    rt: HostRuntime,
+) -> Result<(), Fail> {
+    for (rx_dl, _) in SIZES {
+        assert_recordings(&rt, rt.alloc(), 65_535, rx_dl)?;
+    }
+    Ok(())
+}
+
+/// Lengths of messages, and how many lines their canonical logs have.
+const LENGTHS: [(usize, usize); 6] = [
+    (8, 3),
+    (13, 3),
+    (14, 4),
+    (4095, 587),
+    (4096, 587),
+    (65_535, 9364),
+];
+
+#[test]
+fn canonical_logs_of_each_length_are_their_own_and_listed(rt: HostRuntime) -> Result<(), Fail> {
     let alloc = rt.alloc();
-    let message = b"\x62\xF1\x90WBA3A5C50EF123456";
-    let classic: [(Dir, &[u8]); 4] = [
-        (Unit, b"\x10\x14\x62\xF1\x90WBA"),
-        (Tester, &[0x30, 0, 0]),
-        (Unit, b"\x213A5C50E"),
-        (Unit, b"\x22F123456"),
-    ];
-    let one_frame: [(Dir, &[u8]); 1] = [(Unit, b"\x00\x14\x62\xF1\x90WBA3A5C50EF123456\xAA\xAA")];
-    let short_frames: [(Dir, &[u8]); 4] = [
-        (Unit, b"\x10\x14\x62\xF1\x90WBA3A5C"),
-        (Tester, &[0x31, 0, 0]),
-        (Tester, &[0x30, 0, 0]),
-        (Unit, b"\x2150EF123456\x99"),
-    ];
-    let without_flow_control: [(Dir, &[u8]); 3] = [classic[0], classic[2], classic[3]];
-    for frames in [
-        classic.as_slice(),
-        &one_frame,
-        &short_frames,
-        &without_flow_control,
-    ] {
-        let mut recorder = Recorder::new(alloc)?;
-        let mut found = None;
-        for (dir, data) in frames {
-            assert!(rt; found.is_none());
-            found = recorder.take(alloc, *dir, data)?;
-        }
-        assert_eq!(rt; found.ok_or("no message")?.as_slice(), message.as_slice());
+    for (len, lines) in LENGTHS {
+        let message = message_of(alloc, len)?;
+        let canonical = CANONICAL.record(alloc, message.as_slice())?;
+        assert_eq!(rt; canonical.len(), LINE * lines, "{len} bytes");
+        let limit = canonical.len() as u64;
+        let (answer, text) = run_cut(&rt, alloc, limit, canonical.as_bytes())?;
+        assert_eq!(rt;
+            answer.map(|summary| summary.messages),
+            Ok(1),
+            "{len} bytes"
+        );
+        assert!(rt; text.as_slice() == canonical.as_bytes(), "{len} bytes");
+        let (answer, _) = run_cut(&rt, alloc, limit - 1, canonical.as_bytes())?;
+        assert_eq!(rt; answer, Err(Fault::LogLimit), "{len} bytes");
+        let mut item = String::from_str(alloc, "1 stray unit ")?;
+        push_digits(&mut item, message.as_slice())?;
+        item.push('\n')?;
+        let (_, list) = listed(alloc, limit, canonical.as_bytes())?;
+        assert!(rt; list.as_slice() == item.as_bytes(), "{len} bytes");
     }
     Ok(())
 }

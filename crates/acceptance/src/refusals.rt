@@ -1,22 +1,11 @@
 //! Which logs are accepted, and where the others are refused.
 
-use crate::session::{VIN_LINES, log_of};
-use std::alloc::Global;
+use crate::run::{GIBIBYTE, VIN_LINES, log_of, log_of_frames, run_cut};
 use std::test::Fail;
-use trace_canon::{Config, Fault, Summary, normalise};
-use trace_io::{Reading, Writing};
-
-/// What the log comes to, with what was written.
-fn run(alloc: Global, log: &[u8]) -> Result<(Result<Summary, Fault>, Vec<u8>), Fail> {
-    let config = Config::new(0x7E0, 0x7E8, 1 << 30)?;
-    let mut reader = Reading::new(log);
-    let mut writer = Writing::new(Vec::new(alloc));
-    let answer = normalise(alloc, &config, &mut reader, &mut writer);
-    Ok((answer, writer.into_inner()))
-}
+use trace_canon::{Fault, Summary};
 
 /// Lines that no log has, and the column of the first byte after which no line begins so.
-const REFUSED: [(&str, u32); 19] = [
+const REFUSED: [(&str, u32); 37] = [
     (" (1.000000) can0 7E0#", 1),
     ("DROPCOUNT: 1", 1),
     ("(2024-01-01 00:00:00.000000) can0 7E0#00", 6),
@@ -36,6 +25,25 @@ const REFUSED: [(&str, u32); 19] = [
     ("(1.000000) can0 7E0#00 ", 24),
     ("(1.000000) can0 7E0#00\rx", 24),
     ("(1.000000) can0 7E0#0", 22),
+    // A carriage return stands at the end of a line that is complete, or empty, and only one does.
+    ("(1.0\r", 5),
+    ("(1.000000) can0 7E0#0\r", 22),
+    ("(1.000000) can0 7E0#00\r\r", 24),
+    ("(1.000000) can0 7E0#00 \r", 24),
+    ("\r\r", 2),
+    ("(1.000000) can0                 7E0#", 32),
+    ("(1.000000) can0 7E0#                 R", 37),
+    ("(1.000000) can0 7E0", 20),
+    ("(1.000000) can0 7E00000#", 24),
+    ("(1.000000) can0 000007E00#", 25),
+    ("(1.000000) can0 7E0#R_9", 22),
+    ("(1.000000) can0 7E0#R7_9", 23),
+    ("(1.000000) can0 7E0#R8_8", 24),
+    ("(1.000000) can0 7E0#0011223344556677_8", 38),
+    ("(1.000000) can0 7E0##000_9", 25),
+    ("(1.000000) can0 7E0#00 r", 24),
+    ("(1.000000) can0 7E0#00 RT", 25),
+    ("(1.000000) can0 7E8#1000000100004142_8", 38),
 ];
 
 #[test]
@@ -46,35 +54,145 @@ fn refused_lines_are_told_by_line_and_column(rt: HostRuntime) -> Result<(), Fail
             (1, format!(in alloc; "{line}\n")?),
             (
                 3,
-                format!(in alloc; "\n(1.000000) can0 7E0#0111\n{line}\n")?,
+                format!(in alloc;
+                    "\n(1.000000) can0 7E0#0111\n{line}\n(1.000000) can0 7E0#0111\n"
+                )?,
             ),
         ] {
-            let (answer, text) = run(alloc, log.as_bytes())?;
+            let (answer, text) = run_cut(&rt, alloc, GIBIBYTE, log.as_bytes())?;
             let fault = Fault::BadLine {
                 line: number,
                 column,
             };
             assert_eq!(rt; answer, Err(fault), "{line}");
-            assert!(rt; text.is_empty(), "{line}");
+            assert_eq!(rt; text.is_empty(), number == 1, "{line}");
         }
     }
     Ok(())
 }
 
-const LEGAL: [&str; 5] = [
-    "(1.000000) can0 7E0#\n",
-    "(1.000000) can0 7E0#R8_F\n",
-    "(1.000000) can0 7E0##0\n",
-    "(9999999999.999999)    vcan0 1FFFFFFF##3AABB T\n",
-    "(1.000000) can0 7E0#00\r",
+#[test]
+fn a_line_that_breaks_off_is_refused_at_its_end(rt: HostRuntime) -> Result<(), Fail> {
+    for (log, column) in [
+        ("(1.000000) can0", 16),
+        ("(1.000000) can0 7E0#0", 22),
+        ("(1.000000) can0 7E0##", 22),
+        ("(1.000000) can0 7E0#00 ", 24),
+        ("(1.000000) can0 7E0#R8_", 24),
+        ("(", 2),
+    ] {
+        let (answer, _) = run_cut(&rt, rt.alloc(), GIBIBYTE, log.as_bytes())?;
+        assert_eq!(rt; answer, Err(Fault::BadLine { line: 1, column }), "{log}");
+    }
+    Ok(())
+}
+
+/// Logs of lines without a message, how many lines they have, and how many frames.
+const LEGAL: [(&str, u64, u64); 16] = [
+    ("", 0, 0),
+    ("\n", 1, 0),
+    ("\r", 1, 0),
+    ("\r\n\n\r", 3, 0),
+    ("\n\r\n(1.000000) can0 123#00\n", 3, 0),
+    ("(1.000000) can0 7E0#\n", 1, 1),
+    ("(1.000000) can0 7E0#R\n", 1, 1),
+    ("(1.000000) can0 7E0#R8_F\n", 1, 1),
+    ("(1.000000) can0 7E0#R8_f\n", 1, 1),
+    ("(1.000000) can0 7E0##0\n", 1, 1),
+    ("(1.000000) can0 7E0##F000000000000000000\n", 1, 1),
+    ("(1.000000) (#)can0~ 80000000#\n", 1, 0),
+    ("(9999999999.999999)    vcan0 1FFFFFFF##3AABB T\n", 1, 0),
+    (
+        "(1.000000)                can0                7E0#                R\n",
+        1,
+        1,
+    ),
+    ("(1.000000) can0 7E0#00\r\n", 1, 1),
+    ("(1.000000) can0 7E0#00\r", 1, 1),
 ];
 
 #[test]
 fn legal_lines_without_a_message_are_accepted(rt: HostRuntime) -> Result<(), Fail> {
-    for log in LEGAL {
-        let (answer, text) = run(rt.alloc(), log.as_bytes())?;
-        assert_eq!(rt; answer.map(|summary| summary.lines), Ok(1), "{log}");
+    for (log, lines, frames) in LEGAL {
+        let (answer, text) = run_cut(&rt, rt.alloc(), GIBIBYTE, log.as_bytes())?;
+        let summary = Summary {
+            lines,
+            frames,
+            messages: 0,
+            dropped: frames,
+            ended: 0,
+            unfinished: 0,
+            pending: 0,
+        };
+        assert_eq!(rt; answer, Ok(summary), "{log}");
         assert!(rt; text.is_empty(), "{log}");
+    }
+    Ok(())
+}
+
+#[test]
+fn a_longer_announcement_than_a_message_may_have_is_refused(rt: HostRuntime) -> Result<(), Fail> {
+    for (log, line, announced) in [
+        ("(1.000000) can0 7E8#1000000100004142\n", 1, 65_536),
+        ("(1.000000) can0 7E0#1000000100004142", 1, 65_536),
+        (
+            "\n(1.000000) can0 7E8#1000FFFFFFFF4142\nx\n",
+            2,
+            4_294_967_295,
+        ),
+        (
+            "(1.000000) a 7E8#101462F190574241\n(1.000000) a 7E8#1000000100004142\n",
+            2,
+            65_536,
+        ),
+    ] {
+        let (answer, text) = run_cut(&rt, rt.alloc(), GIBIBYTE, log.as_bytes())?;
+        assert_eq!(rt; answer, Err(Fault::Oversize { line, announced }), "{log}");
+        assert!(rt; text.is_empty(), "{log}");
+    }
+    Ok(())
+}
+
+/// The frames before a refused line, and the frames that are written.
+const WRITTEN_BEFORE: [(&[&str], &[&str]); 5] = [
+    (&["7E0#0322F190", "7E0#023E80"], &["7E0#0322F190CCCCCCCC"]),
+    (
+        &["7E0#0322F190", "7E0#023E80", "7E8#0462F19041"],
+        &[
+            "7E0#0322F190CCCCCCCC",
+            "7E8#0462F19041CCCCCC",
+            "7E0#023E80CCCCCCCCCC",
+        ],
+    ),
+    (
+        &["7E0#0322F190", "7E8#037F2278", "7E8#037F2278"],
+        &["7E0#0322F190CCCCCCCC"],
+    ),
+    (
+        &["7E0#0322F190", "7E0#023E80", "7E0#031902FF"],
+        &[
+            "7E0#0322F190CCCCCCCC",
+            "7E0#023E80CCCCCCCCCC",
+            "7E0#031902FFCCCCCCCC",
+        ],
+    ),
+    (
+        &["7E8#037F2278", "7E0#023E80", "7E8#101462F190574241"],
+        &["7E8#037F2278CCCCCCCC", "7E0#023E80CCCCCCCCCC"],
+    ),
+];
+
+#[test]
+fn what_has_its_place_is_written_before_a_refused_line(rt: HostRuntime) -> Result<(), Fail> {
+    let alloc = rt.alloc();
+    for (frames, written) in WRITTEN_BEFORE {
+        let mut log = log_of_frames(alloc, frames)?;
+        log.push_str("x\n(1.000000) can0 7E8#0462F19041\n")?;
+        let (answer, text) = run_cut(&rt, alloc, GIBIBYTE, log.as_bytes())?;
+        let line = (frames.len() as u64).saturating_add(1);
+        assert_eq!(rt; answer, Err(Fault::BadLine { line, column: 1 }), "{log}");
+        let expected = log_of_frames(alloc, written)?;
+        assert_eq!(rt; text.as_slice(), expected.as_bytes(), "{log}");
     }
     Ok(())
 }
@@ -87,7 +205,7 @@ fn a_recording_that_breaks_off_is_refused_at_its_end(rt: HostRuntime) -> Result<
     for len in 0..=log.len() {
         let front = &log.as_bytes()[..len];
         let (line, column) = end_of(front);
-        match run(rt.alloc(), front)?.0 {
+        match run_cut(&rt, rt.alloc(), GIBIBYTE, front)?.0 {
             Ok(_) => accepted = accepted.saturating_add(1),
             Err(fault) => assert_eq!(rt; fault, Fault::BadLine { line, column }),
         }

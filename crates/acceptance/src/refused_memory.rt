@@ -3,7 +3,6 @@
 //! With ample memory all of these tests pass. `tests/refused_memory.py` refuses each growth of memory in turn: then a
 //! call that is made once says that memory was refused, and one that is made again gives what it gives otherwise.
 
-use crate::session::put_meaning;
 use can_log::Dir::{self, Tester, Unit};
 use can_log::{Frame, Id, Kind};
 use isotp_receive::{Recorded, messages_of};
@@ -12,7 +11,7 @@ use std::process::Abort;
 use std::test::Fail;
 use trace_canon::{Config, normalise};
 use trace_io::{Reading, Writing};
-use uds_exchange::{MessageSink, Orderer, Pairing};
+use uds_exchange::{Item, Meaning, MessageSink, Orderer, Pairing};
 
 /// Whether a call that was refused memory is made again.
 #[derive(Clone, Copy)]
@@ -77,7 +76,7 @@ const MESSAGES: [(Dir, &[u8]); 6] = [
     (Unit, &[0x62, 0xF1, 0x90, 0x41]),
 ];
 
-/// The places of those messages in the order of their meaning: the answer behind its request, the pending reply
+/// The places of those messages in the order of their meaning: the answer after its request, the pending reply
 /// nowhere.
 const ORDER: [usize; 5] = [0, 5, 1, 3, 4];
 
@@ -108,6 +107,22 @@ impl MessageSink for InOrder {
     }
 }
 
+/// Puts the messages of a meaning in order.
+fn put_meaning(meaning: &Meaning, sink: &mut InOrder) -> Result<(), &'static str> {
+    for i in 0..meaning.len() {
+        match meaning.item(i).ok_or("an item is missing")? {
+            Item::Exchange { request, answer } => {
+                sink.put(Tester, request)?;
+                if let Some(answer) = answer {
+                    sink.put(Unit, answer)?;
+                }
+            }
+            Item::Stray { dir, bytes } => sink.put(*dir, bytes)?,
+        }
+    }
+    Ok(())
+}
+
 fn pair(rt: &impl Abort, alloc: Global, made: Made) -> Result<(), Fail> {
     let mut pairing = Pairing::new(alloc);
     for (dir, message) in MESSAGES {
@@ -115,10 +130,9 @@ fn pair(rt: &impl Abort, alloc: Global, made: Made) -> Result<(), Fail> {
     }
     let meaning = pairing.finish();
     assert_eq!(rt; meaning.len(), 4);
-    assert_eq!(rt;
-        put_meaning(&meaning, &mut InOrder { put: 0 })?,
-        ORDER.len()
-    );
+    let mut sink = InOrder { put: 0 };
+    put_meaning(&meaning, &mut sink)?;
+    assert_eq!(rt; sink.put, ORDER.len());
     Ok(())
 }
 

@@ -1,0 +1,177 @@
+//! Whether two logs mean the same.
+
+use crate::run::{GIBIBYTE, VIN_LINES, log_of, log_of_frames, meaning};
+use can_log::Dir::Unit;
+use std::alloc::Global;
+use std::test::Fail;
+use trace_canon::{CompareFault, Comparison, Config, Fault, compare};
+use trace_io::{Reading, Source};
+use uds_exchange::Item;
+
+/// Two logs compared, each between the tester 7E0 and the unit 7E8.
+pub(crate) fn compared(
+    alloc: Global,
+    limit: u64,
+    left: &[u8],
+    right: &[u8],
+) -> Result<Result<Comparison, CompareFault>, Fail> {
+    let config = Config::new(0x7E0, 0x7E8, limit)?;
+    let (mut left, mut right) = (Reading::new(left), Reading::new(right));
+    Ok(compare(alloc, &config, &mut left, &mut right))
+}
+
+/// The frames of two logs, and the first item, counted from 0, at which they differ.
+#[derive(Clone, Copy)]
+struct Row {
+    name: &'static str,
+    left: &'static [&'static str],
+    right: &'static [&'static str],
+    item: Option<usize>,
+}
+
+const COMPARED: [Row; 9] = [
+    Row {
+        name: "a log without a line, and a foreign frame",
+        left: &[],
+        right: &["123#00"],
+        item: None,
+    },
+    Row {
+        name: "a pending reply before the answer",
+        left: &["7E0#0322F190", "7E8#0462F19041"],
+        right: &["7E0#0322F190", "7E8#037F2278", "7E8#0462F19041"],
+        item: None,
+    },
+    Row {
+        name: "a pending reply after the answer",
+        left: &["7E0#0322F190", "7E8#0462F19041"],
+        right: &["7E0#0322F190", "7E8#0462F19041", "7E8#037F2278"],
+        item: Some(1),
+    },
+    Row {
+        name: "a keep-alive before the answer and after it",
+        left: &["7E0#0322F190", "7E0#023E80", "7E8#0462F19041"],
+        right: &["7E0#0322F190", "7E8#0462F19041", "7E0#023E80"],
+        item: None,
+    },
+    Row {
+        name: "another request",
+        left: &["7E0#0322F190"],
+        right: &["7E0#0322F191"],
+        item: Some(0),
+    },
+    Row {
+        name: "another answer to the same request",
+        left: &["7E0#0322F190", "7E8#0462F19041"],
+        right: &["7E0#0322F190", "7E8#0462F19042"],
+        item: Some(0),
+    },
+    Row {
+        name: "no answer",
+        left: &["7E0#0322F190", "7E8#0462F19041"],
+        right: &["7E0#0322F190"],
+        item: Some(0),
+    },
+    Row {
+        name: "a stray of the other side",
+        left: &["7E0#0322F190", "7E8#023E80"],
+        right: &["7E0#0322F190", "7E0#023E80"],
+        item: Some(1),
+    },
+    Row {
+        name: "the first of two differences",
+        left: &["7E8#0101", "7E8#0102", "7E8#0103"],
+        right: &["7E8#0101", "7E8#0104", "7E8#0105"],
+        item: Some(1),
+    },
+];
+
+#[test]
+fn logs_differ_at_the_first_item_that_does(rt: HostRuntime) -> Result<(), Fail> {
+    let alloc = rt.alloc();
+    for row in COMPARED {
+        let left = log_of_frames(alloc, row.left)?;
+        let right = log_of_frames(alloc, row.right)?;
+        let expected = match row.item {
+            Some(item) => Comparison::Different { item },
+            None => Comparison::Same,
+        };
+        let (left, right) = (left.as_bytes(), right.as_bytes());
+        for (one, other) in [(left, right), (right, left)] {
+            let found = compared(alloc, GIBIBYTE, one, other)?;
+            assert_eq!(rt; found, Ok(expected), "{}", row.name);
+        }
+        for log in [left, right] {
+            let found = compared(alloc, GIBIBYTE, log, log)?;
+            assert_eq!(rt; found, Ok(Comparison::Same), "{}", row.name);
+        }
+    }
+    Ok(())
+}
+
+/// A line in which a digit is missing.
+const REFUSED: &[u8] = b"(1.000000) can0 7E0#0\n";
+
+const PLACE: Fault = Fault::BadLine {
+    line: 1,
+    column: 22,
+};
+
+#[test]
+fn the_log_that_is_refused_is_told(rt: HostRuntime) -> Result<(), Fail> {
+    let one = b"(1.000000) a 7E0#0111\n".as_slice();
+    for (limit, left, right, expected) in [
+        (100, REFUSED, one, CompareFault::Left(PLACE)),
+        (100, one, REFUSED, CompareFault::Right(PLACE)),
+        (100, REFUSED, REFUSED, CompareFault::Left(PLACE)),
+        (45, one, REFUSED, CompareFault::Left(Fault::OutputLimit)),
+        (45, b"", one, CompareFault::Right(Fault::OutputLimit)),
+        (21, b"", one, CompareFault::Right(Fault::LogLimit)),
+    ] {
+        let found = compared(rt.alloc(), limit, left, right)?;
+        assert_eq!(rt; found, Err(expected), "limit {limit}");
+    }
+    Ok(())
+}
+
+#[test]
+fn of_the_second_log_nothing_is_read_where_the_first_is_refused(
+    rt: HostRuntime,
+) -> Result<(), Fail> {
+    let config = Config::new(0x7E0, 0x7E8, GIBIBYTE)?;
+    let (mut left, mut right) = (Reading::new(REFUSED), Reading::new(REFUSED));
+    let found = compare(rt.alloc(), &config, &mut left, &mut right);
+    assert_eq!(rt; found, Err(CompareFault::Left(PLACE)));
+    assert_eq!(rt; (right.reads(), right.given()), (0, 0));
+    Ok(())
+}
+
+#[test]
+fn the_meaning_of_a_session_has_its_messages(rt: HostRuntime) -> Result<(), Fail> {
+    let mut log = log_of(rt.alloc(), &VIN_LINES)?;
+    log.push_str("(1700000000.040000) can0 7E8#037F2278\n")?;
+    let items = meaning(rt.alloc(), GIBIBYTE, log.as_bytes())??;
+    assert_eq!(rt; items.len(), 2);
+    let Some(
+        Item::Exchange {
+            request,
+            answer: Some(answer),
+        },
+    ) = items.item(0)
+    else {
+        return Err("no exchange")?;
+    };
+    assert_eq!(rt; request.as_slice(), [0x22, 0xF1, 0x90].as_slice());
+    assert_eq!(rt;
+        answer.as_slice(),
+        b"\x62\xF1\x90WBA3A5C50EF123456".as_slice()
+    );
+    let Some(Item::Stray { dir, bytes }) = items.item(1) else {
+        return Err("no stray")?;
+    };
+    assert_eq!(rt;
+        (*dir, bytes.as_slice()),
+        (Unit, [0x7F, 0x22, 0x78].as_slice())
+    );
+    Ok(())
+}

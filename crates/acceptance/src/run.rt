@@ -1,0 +1,181 @@
+//! A log taken through the calls: what the other tests look at.
+
+use std::alloc::{AllocError, Global};
+use std::io::Read;
+use std::process::Abort;
+use std::test::Fail;
+use trace_canon::{Config, Fault, Summary, explain, list, meaning_of, normalise};
+use trace_io::{Reading, Short, Writing};
+use uds_exchange::Meaning;
+
+/// The most bytes of a log and of its canonical log, where a test is not about the limit.
+pub(crate) const GIBIBYTE: u64 = 1 << 30;
+
+/// The length of a line of a canonical log, its line feed counted.
+pub(crate) const LINE: usize = 46;
+
+/// What a call answered, and what it wrote.
+pub(crate) type Ran = (Result<Summary, Fault>, Vec<u8>);
+
+/// A log between the tester 7E0 and the unit 7E8, normalised under a limit.
+pub(crate) fn run(alloc: Global, limit: u64, log: &[u8]) -> Result<Ran, Fail> {
+    run_over(alloc, limit, log)
+}
+
+/// The same, over any reader.
+pub(crate) fn run_over<R: Read + Drop>(alloc: Global, limit: u64, reader: R) -> Result<Ran, Fail> {
+    let config = Config::new(0x7E0, 0x7E8, limit)?;
+    let mut writer = Writing::new(Vec::new(alloc));
+    let answer = normalise(alloc, &config, &mut Reading::new(reader), &mut writer);
+    Ok((answer, writer.into_inner()))
+}
+
+/// The items of a log, listed.
+pub(crate) fn listed(alloc: Global, limit: u64, log: &[u8]) -> Result<Ran, Fail> {
+    let config = Config::new(0x7E0, 0x7E8, limit)?;
+    let mut writer = Writing::new(Vec::new(alloc));
+    let answer = list(alloc, &config, &mut Reading::new(log), &mut writer);
+    Ok((answer, writer.into_inner()))
+}
+
+/// What the frames of a log do, explained.
+pub(crate) fn explained<R: Read + Drop>(alloc: Global, limit: u64, reader: R) -> Result<Ran, Fail> {
+    let config = Config::new(0x7E0, 0x7E8, limit)?;
+    let mut writer = Writing::new(Vec::new(alloc));
+    let answer = explain(alloc, &config, &mut Reading::new(reader), &mut writer);
+    Ok((answer, writer.into_inner()))
+}
+
+/// What a log means.
+pub(crate) fn meaning(
+    alloc: Global,
+    limit: u64,
+    log: &[u8],
+) -> Result<Result<Meaning, Fault>, Fail> {
+    let config = Config::new(0x7E0, 0x7E8, limit)?;
+    Ok(meaning_of(alloc, &config, &mut Reading::new(log)))
+}
+
+/// A reader that gives one byte a call.
+pub(crate) fn byte_by_byte(log: &[u8]) -> Short<&[u8]> {
+    Short {
+        inner: log,
+        most: 1,
+    }
+}
+
+/// A log normalised in one piece and byte by byte, which has to give the same. The calls that give its meaning accept it
+/// where this is accepted, and refuse it alike where not; then nothing is listed.
+pub(crate) fn run_cut(rt: &impl Abort, alloc: Global, limit: u64, log: &[u8]) -> Result<Ran, Fail> {
+    let whole = run(alloc, limit, log)?;
+    let cut = run_over(alloc, limit, byte_by_byte(log))?;
+    assert!(rt; cut == whole, "byte by byte");
+    let (answer, text) = listed(alloc, limit, log)?;
+    assert_eq!(rt; answer, whole.0, "listed");
+    assert!(rt; answer.is_ok() || text.is_empty(), "listed");
+    let fault = meaning(alloc, limit, log)?.err();
+    assert_eq!(rt; fault, whole.0.err(), "the meaning");
+    Ok(whole)
+}
+
+/// The summary and the canonical log of a log that is accepted. The canonical log is normalised again: it has to be its
+/// own, with the messages that the first one kept, and without a frame lost.
+pub(crate) fn normalised(
+    rt: &impl Abort,
+    alloc: Global,
+    log: &str,
+) -> Result<(Summary, String), Fail> {
+    let (answer, canonical) = run_cut(rt, alloc, GIBIBYTE, log.as_bytes())?;
+    let summary = answer?;
+    let lines = (canonical.len() / LINE) as u64;
+    let clean = Summary {
+        lines,
+        frames: lines,
+        messages: summary.messages.saturating_sub(summary.pending),
+        dropped: 0,
+        ended: 0,
+        unfinished: 0,
+        pending: 0,
+    };
+    let (answer, again) = run(alloc, GIBIBYTE, canonical.as_slice())?;
+    assert_eq!(rt; answer, Ok(clean), "the canonical log again");
+    assert!(rt; again == canonical, "the canonical log again");
+    Ok((summary, String::from_utf8(canonical)?))
+}
+
+/// The canonical log of a log that is accepted, and of which this is told, the counts last.
+pub(crate) fn told(
+    rt: &impl Abort,
+    alloc: Global,
+    log: &str,
+    lines: &[&str],
+    name: &str,
+) -> Result<String, Fail> {
+    let (summary, canonical) = normalised(rt, alloc, log)?;
+    let whole = explained(alloc, GIBIBYTE, log.as_bytes())?;
+    let cut = explained(alloc, GIBIBYTE, byte_by_byte(log.as_bytes()))?;
+    assert!(rt; cut == whole, "{name}, byte by byte");
+    let (answer, text) = whole;
+    assert_eq!(rt; answer, Ok(summary), "{name}");
+    let (text, expected) = (String::from_utf8(text)?, log_of(alloc, lines)?);
+    assert_eq!(rt; text.as_str(), expected.as_str(), "{name}");
+    Ok(canonical)
+}
+
+/// These items are listed of the log.
+pub(crate) fn assert_listed(
+    rt: &impl Abort,
+    alloc: Global,
+    log: &str,
+    lines: &[&str],
+    name: &str,
+) -> Result<(), Fail> {
+    let (_, text) = listed(alloc, GIBIBYTE, log.as_bytes())?;
+    let (text, expected) = (String::from_utf8(text)?, log_of(alloc, lines)?);
+    assert_eq!(rt; text.as_str(), expected.as_str(), "{name}");
+    Ok(())
+}
+
+/// The first bytes of a text: so many, or all.
+pub(crate) fn front_of(text: &[u8], len: usize) -> &[u8] {
+    &text[..len.min(text.len())]
+}
+
+/// A vehicle identification number, read in five classic frames.
+pub(crate) const VIN_LINES: [&str; 5] = [
+    "(1700000000.000000) can0 7E0#0322F190",
+    "(1700000000.012000) can0 7E8#101462F190574241",
+    "(1700000000.012300) can0 7E0#300000",
+    "(1700000000.020000) can0 7E8#2133413543353045",
+    "(1700000000.030000) can0 7E8#2246313233343536",
+];
+
+/// The lines of its canonical log.
+pub(crate) const VIN_CANONICAL: [&str; 5] = [
+    "(0000000000.000000) can0 7E0#0322F190CCCCCCCC",
+    "(0000000000.001000) can0 7E8#101462F190574241",
+    "(0000000000.002000) can0 7E0#300000CCCCCCCCCC",
+    "(0000000000.003000) can0 7E8#2133413543353045",
+    "(0000000000.004000) can0 7E8#2246313233343536",
+];
+
+/// A text of these lines.
+pub(crate) fn log_of(alloc: Global, lines: &[&str]) -> Result<String, AllocError> {
+    let mut log = String::new(alloc);
+    for line in lines {
+        log.push_str(line)?;
+        log.push_str("\n")?;
+    }
+    Ok(log)
+}
+
+/// A log of these frames, a millisecond apart from 0 on, as a canonical log has them.
+pub(crate) fn log_of_frames(alloc: Global, frames: &[&str]) -> Result<String, AllocError> {
+    let mut log = String::new(alloc);
+    for (n, frame) in frames.iter().enumerate() {
+        let (seconds, millis) = (n / 1000, n % 1000);
+        let line = format!(in alloc; "({seconds:010}.{millis:03}000) can0 {frame}\n")?;
+        log.push_str(&line)?;
+    }
+    Ok(log)
+}
