@@ -1,5 +1,6 @@
 #!/usr/bin/env python3
-"""Tests of the built program, what only a process can show; and that the logs in the text of a test are those of examples/.
+"""Tests of the built program over logs and devices, what only a process can show; and that the logs in the text of a test
+are those of examples/.
 
     tests/program.py crates/udsnorm/out/udsnorm
 
@@ -8,201 +9,192 @@ Prints a line for each case and ends with `N passed, M failed`; its status is 1 
 
 import os
 import re
-import resource
 import subprocess
 import sys
 import tempfile
 from pathlib import Path
 
+import oracle
+from cases import DEVICE, DIFFERENT, DONE, REFUSAL, Cases
+
 FIRST_LOG = b"(1700000000.000000) can0 7E0#0322F190"
 FIRST_CANONICAL = b"(0000000000.000000) can0 7E0#0322F190CCCCCCCC\n"
 REFUSED = FIRST_LOG + b"\n(1700000000.100000) can0 7E8#0462F1\nx\n"
+OVERSIZE = b"(1.000000) can0 7E8#1000000100004142\n"
 
 TOP = Path(__file__).resolve().parent.parent
 EXAMPLES = TOP / "examples"
 COPIES = TOP / "crates" / "acceptance" / "src" / "examples.rt"
 
-DONE, WORDS, REFUSAL, DEVICE, MEMORY = 0, 2, 3, 4, 5
-
-PROGRAM = ""
-passed = 0
-failed = 0
+READ_FAILED = b"read failed\n"
+WRITE_FAILED = b"write failed\n"
 
 
-def run(log=b"", words=(), **options):
-    """Runs the program on a log: its status, standard output and standard error."""
-    options.setdefault("stdout", subprocess.PIPE)
-    if "stdin" not in options:
-        options["input"] = log
-    done = subprocess.run([PROGRAM, *words], stderr=subprocess.PIPE, timeout=60, **options)
-    return done.returncode, done.stdout, done.stderr
+def bad_line(line, column):
+    return f"line {line} column {column}: not a log line\n".encode()
 
 
-def report(name, wrong):
-    """A case passed where nothing is wrong."""
-    global passed, failed
-    if wrong:
-        failed += 1
-        print(f"FAILED {name}: {'; '.join(wrong)}")
-    else:
-        passed += 1
-        print(f"ok {name}")
-
-
-def case(name, found, want_status, want_output):
-    """Compares a run with its status and output. Nothing is ever written to standard error."""
-    status, output, error = found
-    wrong = []
-    if status != want_status:
-        wrong.append(f"status {status}, not {want_status}")
-    if want_output is not None and output != want_output:
-        wrong.append(f"standard output {output[:100]!r}, not {want_output[:100]!r}")
-    if error:
-        wrong.append(f"standard error {error[:100]!r}")
-    report(name, wrong)
-
-
-def words():
-    case("no words", run(FIRST_LOG), DONE, FIRST_CANONICAL)
-    case("the word normalise", run(FIRST_LOG, ["normalise"]), DONE, FIRST_CANONICAL)
-    for name, given in [
-        ("an unknown word", ["frobnicate"]),
-        ("an empty word", [""]),
-        ("a word in another case", ["Normalise"]),
-        ("one word too many", ["normalise", "normalise"]),
-        ("an option", ["--help"]),
-        ("a word that is no text", [b"\xff\xfe"]),
-        ("a second word that is no text", ["normalise", b"\xff"]),
-    ]:
-        case(name, run(FIRST_LOG, given), WORDS, b"")
-
-
-def logs():
-    case("an empty log", run(b""), DONE, b"")
-    case("a log that ends in a line feed", run(FIRST_LOG + b"\n"), DONE, FIRST_CANONICAL)
-    case(
+def logs(cases):
+    cases.case("an empty log", cases.run(), DONE)
+    cases.case("a log that ends in a line feed", cases.run(log=FIRST_LOG + b"\n"), DONE, FIRST_CANONICAL)
+    cases.case(
         "lines that end in CR LF",
-        run(b"\r\n(1.000000) vcan1 7e0#0322f190aaaaaaaa\r\n(2.000000) a 7E8##3037F2231 T\r\n"),
+        cases.run(log=b"\r\n(1.000000) vcan1 7e0#0322f190aaaaaaaa\r\n(2.000000) a 7E8##3037F2231 T\r\n"),
         DONE,
         FIRST_CANONICAL + b"(0000000000.001000) can0 7E8#037F2231CCCCCCCC\n",
     )
-    case("a refused line behind good ones", run(REFUSED), REFUSAL, b"")
-    case("an unfinished last line", run(FIRST_LOG + b"\n(1.0"), REFUSAL, b"")
+    cases.case("a refused line after good ones", cases.run(log=REFUSED), REFUSAL, FIRST_CANONICAL, bad_line(3, 1))
+    cases.case("an unfinished last line", cases.run(log=FIRST_LOG + b"\n(1.0"), REFUSAL, FIRST_CANONICAL, bad_line(2, 5))
+    cases.case(
+        "a message that is announced above the limit",
+        cases.run(log=OVERSIZE),
+        REFUSAL,
+        error=b"line 1: 65536 bytes announced, the limit is 65535\n",
+    )
+    cases.case(
+        "the same, explained",
+        cases.run(["explain"], OVERSIZE),
+        DONE,
+        b"line 1: unit frame dropped: 65536 bytes announced\n"
+        b"lines 1 frames 1 messages 0 dropped 1 ended 0 unfinished 0 pending 0\n",
+    )
     log, canonical = long_log(10_000_000)
-    case("a log of 10 MB", run(log), DONE, canonical)
-    case("its canonical log again", run(canonical), DONE, canonical)
-    case("a log of 10 MB that is refused at its end", run(log + b"("), REFUSAL, b"")
+    cases.case("a log of 10 MB", cases.run(log=log), DONE, canonical)
+    cases.case("its canonical log again", cases.run(log=canonical), DONE, canonical)
+    lines = log.count(b"\n")
+    cases.case("a log of 10 MB that is refused at its end", cases.run(log=log + b"("), REFUSAL, canonical, bad_line(lines + 1, 2))
 
 
-def examples():
-    """Each log of examples/ comes to the canonical log beside it, and is refused where there is none."""
+def examples(cases):
+    """Each log of examples/ has the canonical log beside it, and is refused where there is none: then what has its place
+    before the refused line is written."""
     for log in sorted(EXAMPLES.glob("*.log")):
-        found = run(log.read_bytes())
+        found = cases.run(["normalise", log])
         canonical = log.with_suffix(".canonical")
+        came = oracle.outcome(log.read_bytes())
         if canonical.exists():
-            case(f"examples/{log.name}", found, DONE, canonical.read_bytes())
+            cases.case(f"examples/{log.name}", found, DONE, canonical.read_bytes())
+            is_same = came.written == canonical.read_bytes()
+            cases.report(f"examples/{canonical.name} by the oracle", [] if is_same else ["another text"])
+            cases.case(f"examples/{log.name} compared with its canonical log", cases.run(["compare", log, canonical]), DONE, b"same\n")
         else:
-            case(f"examples/{log.name}, refused", found, REFUSAL, b"")
+            cases.case(f"examples/{log.name}, refused", found, came.status, came.written, None)
+    vin = EXAMPLES / "vin.log"
+    cases.case("two recordings of a session", cases.run(["compare", vin, EXAMPLES / "vin-fd-crlf.log"]), DONE, b"same\n")
+    stray = vin.read_bytes() + b"(1700000100.000000) can0 7E8#037F2278\n"
+    cases.case("a pending reply after the answer", cases.run(["compare", vin, "/dev/stdin"], stray), DIFFERENT, b"different at item 2\n")
+    cases.case("a session with a lost frame", cases.run(["compare", vin, EXAMPLES / "lost-frame.log"]), DIFFERENT, b"different at item 1\n")
 
 
-def copies():
+def copies(cases):
     """The tests of `acceptance` can't read files: each log that they have in their text is one of examples/, byte for byte."""
     found = re.findall(r'name: "([^"]+\.log)",\s+lines: &\[(.*?)\]', COPIES.read_text(), re.DOTALL)
-    report("logs in the tests of acceptance", [] if found else ["none was found"])
+    cases.report("logs in the tests of acceptance", [] if found else ["none was found"])
     for name, lines in found:
         copy = "".join(line + "\n" for line in re.findall(r'"(.*)"', lines))
         same = copy.encode() == (EXAMPLES / name).read_bytes()
-        report(f"examples/{name} in the tests of acceptance", [] if same else ["another text"])
+        cases.report(f"examples/{name} in the tests of acceptance", [] if same else ["another text"])
 
 
 def long_log(size):
-    """A log of at least so many bytes, and its canonical log."""
+    """A log of single frames of at least this many bytes, in which nothing is an answer, and its canonical log."""
     lines, canonical, length, number = [], [], 0, 0
     while length < size:
         n = len(lines)
-        dir_id = ("7E0", "7E8", "123", "18DAF110")[n % 4]
+        dir_id = ("7E8", "123", "7E8", "18DAF110")[n % 4]
         data = bytes((n * 7 + k * 31) % 256 for k in range(1 + n % 7))
         frame = bytes([len(data)]) + data + b"\xaa" * (n % (8 - len(data)))
         line = f"({n // 1000:010d}.{n % 1000:03d}000) can{n % 3} {dir_id}#{frame.hex()}\n"
         lines.append(line)
         length += len(line)
-        if dir_id.startswith("7E"):
+        if dir_id == "7E8":
             padded = (bytes([len(data)]) + data).ljust(8, b"\xcc").hex().upper()
             canonical.append(f"({number // 1000:010d}.{number % 1000:03d}000) can0 {dir_id}#{padded}\n")
             number += 1
     return "".join(lines).encode(), "".join(canonical).encode()
 
 
-def devices():
+def devices(cases):
     with open("/dev/full", "wb") as full:
-        case("a full disk", run(FIRST_LOG, stdout=full), DEVICE, None)
-        case("a full disk, and a refused log", run(REFUSED, stdout=full), REFUSAL, None)
-        case("a full disk, and nothing to write", run(b"", stdout=full), DONE, None)
-    case("standard output closed", run(FIRST_LOG, preexec_fn=lambda: os.close(1)), DEVICE, b"")
-    case("standard input closed", run(preexec_fn=lambda: os.close(0)), DEVICE, b"")
+        cases.case("a full disk", cases.run(log=FIRST_LOG, stdout=full), DEVICE, None, WRITE_FAILED)
+        cases.case("a full disk, and a refused log", cases.run(log=REFUSED, stdout=full), REFUSAL, None, bad_line(3, 1))
+        cases.case("a full disk, and nothing to write", cases.run(stdout=full), DONE, None)
+        cases.case("a full disk for a comparison", cases.run(["compare", "/dev/null", "/dev/null"], stdout=full), DEVICE, None, WRITE_FAILED)
+    cases.case("standard output closed", cases.run(log=FIRST_LOG, preexec_fn=lambda: os.close(1)), DEVICE, error=WRITE_FAILED)
+    cases.case("standard input closed", cases.run(preexec_fn=lambda: os.close(0)), DEVICE, error=READ_FAILED)
+    cases.case("standard error closed", cases.run(log=b"x", preexec_fn=lambda: os.close(2)), REFUSAL)
     with tempfile.TemporaryDirectory() as directory:
         folder = os.open(directory, os.O_RDONLY)
-        case("a directory for a log", run(stdin=folder), DEVICE, b"")
+        cases.case("a directory for standard input", cases.run(stdin=folder), DEVICE, error=READ_FAILED)
         os.close(folder)
         read_only = os.path.join(directory, "read_only")
         with open(read_only, "wb"):
             pass
         with open(read_only, "rb") as output:
-            case("an output that takes no bytes", run(FIRST_LOG, stdout=output), DEVICE, None)
+            cases.case("an output that takes no bytes", cases.run(log=FIRST_LOG, stdout=output), DEVICE, None, WRITE_FAILED)
     reader, writer = os.pipe()
     os.close(reader)
-    case("a pipe that nobody reads", run(FIRST_LOG, stdout=writer), DEVICE, None)
+    cases.case("a pipe that nobody reads", cases.run(log=FIRST_LOG, stdout=writer), DEVICE, None, WRITE_FAILED)
     os.close(writer)
-    broken_pipe()
-    slow_pipe()
+    broken_pipe(cases)
+    slow_pipe(cases)
 
 
-def broken_pipe():
+def broken_pipe(cases):
     """The reader of the output goes away after the first bytes of many."""
     log, canonical = long_log(1_000_000)
     with tempfile.TemporaryFile() as file:
         file.write(log)
         file.seek(0)
-        program = subprocess.Popen([PROGRAM], stdin=file, stdout=subprocess.PIPE, stderr=subprocess.PIPE)
+        program = subprocess.Popen([cases.program], stdin=file, stdout=subprocess.PIPE, stderr=subprocess.PIPE)
         front = program.stdout.read(1000)
         program.stdout.close()
         error = program.stderr.read()
         program.stderr.close()
-        case("a pipe whose reader goes away", (program.wait(timeout=60), front, error), DEVICE, canonical[:1000])
+        found = program.wait(timeout=60), front, error
+        cases.case("a pipe whose reader goes away", found, DEVICE, canonical[:1000], WRITE_FAILED)
 
 
-def slow_pipe():
+def slow_pipe(cases):
     """The log comes through a pipe, a few bytes at a time."""
     log = FIRST_LOG + b"\n(1.000000) can0 7E8#0362F19041\n"
-    program = subprocess.Popen([PROGRAM], stdin=subprocess.PIPE, stdout=subprocess.PIPE, stderr=subprocess.PIPE)
+    program = subprocess.Popen([cases.program], stdin=subprocess.PIPE, stdout=subprocess.PIPE, stderr=subprocess.PIPE)
     for at in range(0, len(log), 5):
         program.stdin.write(log[at : at + 5])
         program.stdin.flush()
     output, error = program.communicate(timeout=60)
     want = FIRST_CANONICAL + b"(0000000000.001000) can0 7E8#0362F190CCCCCCCC\n"
-    case("a log in small pieces", (program.returncode, output, error), DONE, want)
+    cases.case("a log in small pieces", (program.returncode, output, error), DONE, want)
 
 
-def memory():
-    log, _ = long_log(40_000_000)
-    limit = 32 * 1024 * 1024
-    refused = run(log, preexec_fn=lambda: resource.setrlimit(resource.RLIMIT_AS, (limit, limit)))
-    case("a log longer than the memory", refused, MEMORY, b"")
+def memory(cases):
+    """A log of 100 MB through a pipe takes no more memory than a short one."""
+    log, _ = long_log(1_000_000)
+    for job in ("normalise", "explain"):
+        program = subprocess.Popen([cases.program, job], stdin=subprocess.PIPE, stdout=subprocess.DEVNULL)
+        for _ in range(100):
+            program.stdin.write(log)
+        program.stdin.flush()
+        peak = peak_kilobytes(program.pid)
+        program.stdin.close()
+        status = program.wait(timeout=60)
+        flat = status == DONE and peak < 4_000
+        cases.report(f"{job} of 100 MB through a pipe", [] if flat else [f"status {status}, {peak} kB"])
+
+
+def peak_kilobytes(process):
+    """The most memory that a running process had so far."""
+    told = Path(f"/proc/{process}/status").read_text()
+    return int(re.search(r"^VmHWM:\s+(\d+) kB$", told, re.M)[1])
 
 
 def main():
-    global PROGRAM
     if len(sys.argv) != 2:
         sys.exit(__doc__)
-    PROGRAM = os.path.abspath(sys.argv[1])
-    words()
-    logs()
-    examples()
-    copies()
-    devices()
-    memory()
-    print(f"{passed} passed, {failed} failed")
-    sys.exit(1 if failed else 0)
+    cases = Cases(os.path.abspath(sys.argv[1]))
+    for test in [logs, examples, copies, devices, memory]:
+        test(cases)
+    cases.end()
 
 
 main()

@@ -4,7 +4,7 @@
     tests/refused_memory.py crates/udsnorm/out/udsnorm
 
 The built program, over each log of examples/ and a long one: whichever growth is refused, it ends with status 5 and has
-written nothing. The calls of the libraries that take memory, by the tests `refused_memory` of the crate `acceptance`: a
+written a front of what it writes otherwise. The calls of the libraries that take memory, by the tests `refused_memory` of the crate `acceptance`: a
 call that is refused memory says so, and the same call made again gives what it gives otherwise.
 
 Prints a line for each case and ends with `N passed, M failed`; its status is 1 where a case failed.
@@ -24,7 +24,11 @@ ACCEPTANCE = TESTS.parent / "crates" / "acceptance"
 LONG_LOG = b"(1700000000.000000) can0 7E0#0322F190\n" * 30_000
 
 MEMORY = 5
-MOST_GROWTHS = 100
+MOST_GROWTHS = 1000
+# What the library that refuses a growth writes to standard error.
+REFUSED = b"refused\n"
+# How many growths of a run the parser of the command line swallows, at most.
+SWALLOWED = 1
 TRIES_AT_ONCE = min(4, os.cpu_count() or 1)
 
 # How a test says that its own call was refused memory.
@@ -55,33 +59,48 @@ def build_refuser(folder):
     return refuser
 
 
-def run(program, log, refuser, growth):
-    """Status and output of the program, and whether a growth was refused. It writes nothing else to standard error."""
+def run(program, words, refuser, growth):
+    """Status, output and fault of the program, and whether a growth was refused."""
     refusing = {"LD_PRELOAD": str(refuser), "REFUSED_GROWTH": str(growth)}
-    done = subprocess.run([program], input=log, capture_output=True, timeout=60, env={**os.environ, **refusing})
-    return done.returncode, done.stdout, done.stderr == b"refused\n"
+    done = subprocess.run([program, *words], capture_output=True, timeout=60, env={**os.environ, **refusing})
+    return done.returncode, done.stdout, done.stderr.removeprefix(REFUSED), done.stderr.startswith(REFUSED)
 
 
-def program_over(program, refuser, name, log):
-    ample = subprocess.run([program], input=log, capture_output=True, timeout=60)
+def job_over(program, refuser, job, logs):
+    """Whichever growth is refused, the program says so, and has written a front of what it writes with ample memory. A
+    growth inside the parser is swallowed there: its answer is the same."""
+    words = [job, *map(str, logs)]
+    name = f"{job} {' '.join(log.name for log in logs)}"
+    done = subprocess.run([program, *words], capture_output=True, timeout=60)
+    ample = done.returncode, done.stdout, done.stderr
+    swallowed = 0
     for growth in range(1, MOST_GROWTHS):
-        status, output, is_refused = run(program, log, refuser, growth)
+        status, output, fault, is_refused = run(program, words, refuser, growth)
         if not is_refused:
-            holds = growth > 1 and (status, output) == (ample.returncode, ample.stdout)
-            case(f"the program over {name}, each of {growth - 1} growths refused", holds, (status, output[:100]))
+            holds = growth > 1 and (status, output, fault) == ample and swallowed <= SWALLOWED
+            case(f"{name}, each of {growth - 1} growths refused", holds, (status, output[:100], swallowed))
             return
-        if (status, output) != (MEMORY, b""):
-            case(f"the program over {name}, growth {growth} refused", False, (status, output[:100]))
+        told = fault.removeprefix(b"left: ").removeprefix(b"right: ") == b"out of memory\n"
+        if status == MEMORY and told and done.stdout.startswith(output):
+            continue
+        if (status, output, fault) != ample:
+            case(f"{name}, growth {growth} refused", False, (status, output[:100], fault))
             return
-    case(f"the program over {name} comes to an end of its growths", False, MOST_GROWTHS)
+        swallowed += 1
+    case(f"{name} comes to an end of its growths", False, MOST_GROWTHS)
 
 
 def the_program(program):
     with tempfile.TemporaryDirectory() as folder:
         refuser = build_refuser(folder)
+        long_log = Path(folder) / "long.log"
+        long_log.write_bytes(LONG_LOG)
+        for log in [*sorted(EXAMPLES.glob("*.log")), long_log]:
+            for job in ("normalise", "explain"):
+                job_over(program, refuser, job, [log])
         for log in sorted(EXAMPLES.glob("*.log")):
-            program_over(program, refuser, f"examples/{log.name}", log.read_bytes())
-        program_over(program, refuser, "a log of 1 MB", LONG_LOG)
+            job_over(program, refuser, "list", [log])
+            job_over(program, refuser, "compare", [log, EXAMPLES / "vin.log"])
 
 
 def tests_with_refused(growth):

@@ -1,0 +1,162 @@
+#!/usr/bin/env python3
+"""Tests of the built program's words: commands, options and files, help, and what is told of words that don't fit.
+
+    tests/command_line.py crates/udsnorm/out/udsnorm
+
+Prints a line for each case and ends with `N passed, M failed`; its status is 1 where a case failed.
+"""
+
+import os
+import sys
+import tempfile
+from pathlib import Path
+
+from cases import DEVICE, DIFFERENT, DONE, REFUSAL, WORDS, Cases
+
+LOG = b"(1700000000.000000) can0 7E0#0322F190\n"
+CANONICAL = b"(0000000000.000000) can0 7E0#0322F190CCCCCCCC\n"
+LIST = b"1 exchange ReadDataByIdentifier 22F190 -> unanswered\n"
+EXPLANATION = b"lines 1 frames 1 messages 1 dropped 0 ended 0 unfinished 0 pending 0\n"
+TEXTS = {"normalise": CANONICAL, "list": LIST, "explain": EXPLANATION}
+
+NO_LOG_LINE = b"(1.000000) can0 7E0#0\n"
+BAD_PLACE = b"line 1 column 22: not a log line\n"
+NOT_DIGITS = b"identifier is not three hexadecimal digits\n"
+OUT_OF_RANGE = b"identifier out of range\n"
+SAME_IDENTIFIER = b"tester and unit have the same identifier\n"
+LIMIT_RANGE = b"limit out of range\n"
+
+
+def jobs(cases):
+    """Each job, over standard input and over a file, whose name may look like an option."""
+    cases.case("no words", cases.run([], LOG), DONE, CANONICAL)
+    for job, text in TEXTS.items():
+        cases.case(f"{job} of standard input", cases.run([job], LOG), DONE, text)
+        cases.case(f"{job} of a file", cases.run([job, "a.log"]), DONE, text)
+    cases.case("a file named -", cases.run(["list", "-"], b""), DONE, LIST)
+    cases.case("a file named --limit", cases.run(["list", "--", "--limit"], b""), DONE, LIST)
+    cases.case("a file whose name is no ASCII", cases.run(["list", "größe.log"], b""), DONE, LIST)
+
+
+def options(cases):
+    """Options stand on either side of the file, with a space or with `=`."""
+    other = LOG.replace(b"7E0", b"7e2")
+    for name, words in [
+        ("before the file", ["list", "--tester", "7E2", "other.log"]),
+        ("after the file", ["list", "other.log", "--tester", "7E2"]),
+        ("in lower case", ["list", "--tester", "7e2", "other.log"]),
+        ("with =", ["list", "--tester=7E2", "other.log"]),
+    ]:
+        cases.case(f"--tester {name}", cases.run(words), DONE, LIST)
+    cases.case("--unit of the tester of the log", cases.run(["list", "--unit", "7E2"], other), DONE, b"1 stray unit 22F190\n")
+    cases.case("--tester and --unit exchanged", cases.run(["list", "--tester=7E8", "--unit=7E0"], LOG), DONE, b"1 stray unit 22F190\n")
+    cases.case("--limit of the canonical log", cases.run(["normalise", "--limit=46"], LOG), DONE, CANONICAL)
+    cases.case("--limit below the canonical log", cases.run(["list", "--limit", "45"], LOG), REFUSAL, b"", b"canonical log longer than the limit\n")
+    cases.case("--limit below the log", cases.run(["explain", "--limit=37"], LOG), REFUSAL, b"", b"log longer than the limit\n")
+    cases.case("the largest limit", cases.run(["list", "--limit=1099511627776"], LOG), DONE, LIST)
+
+
+def comparisons(cases):
+    cases.case("a log compared with itself", cases.run(["compare", "a.log", "a.log"]), DONE, b"same\n")
+    cases.case("a log compared with none", cases.run(["compare", "a.log", "empty.log"]), DIFFERENT, b"different at item 1\n")
+    cases.case("options of compare", cases.run(["compare", "--tester=7E2", "other.log", "--limit", "50", "other.log"]), DONE, b"same\n")
+    for name, left, right, status, error in [
+        ("a refused left log", "refused.log", "a.log", REFUSAL, b"left: " + BAD_PLACE),
+        ("a refused right log", "a.log", "refused.log", REFUSAL, b"right: " + BAD_PLACE),
+        ("two refused logs", "refused.log", "refused.log", REFUSAL, b"left: " + BAD_PLACE),
+        ("a left log that is not there", "missing", "refused.log", DEVICE, b"left: read failed\n"),
+        ("a right log that is not there, after a refused one", "refused.log", "missing", DEVICE, b"right: read failed\n"),
+        ("no log of the two is there", "missing", "missing", DEVICE, b"left: read failed\n"),
+        ("a directory for the right log, after a refused one", "refused.log", ".", REFUSAL, b"left: " + BAD_PLACE),
+        ("a directory for the right log", "a.log", ".", DEVICE, b"right: read failed\n"),
+        ("a directory for the left log", ".", "a.log", DEVICE, b"left: read failed\n"),
+    ]:
+        cases.case(name, cases.run(["compare", left, right]), status, b"", error)
+
+
+def files_that_fail(cases):
+    for job in TEXTS:
+        cases.case(f"{job} of a file that is not there", cases.run([job, "missing"]), DEVICE, b"", b"read failed\n")
+        cases.case(f"{job} of a directory", cases.run([job, "."]), DEVICE, b"", b"read failed\n")
+        cases.case(f"{job} of an empty name", cases.run([job, ""]), DEVICE, b"", b"read failed\n")
+
+
+def help_texts(cases):
+    for name, words, line in [
+        ("of the program", ["--help"], b"Usage: udsnorm <COMMAND>"),
+        ("of the program, in short", ["-h"], b"Usage: udsnorm <COMMAND>"),
+        ("of list", ["list", "--help"], b"Usage: udsnorm list [OPTIONS] [LOG]"),
+        ("of compare", ["compare", "--help"], b"Usage: udsnorm compare [OPTIONS] <A> <B>"),
+        ("before wrong identifiers", ["list", "--tester", "7E", "-h"], b"Usage: udsnorm list [OPTIONS] [LOG]"),
+    ]:
+        status, output, error = cases.run(words)
+        lines = output.split(b"\n")
+        wrong = [] if status == DONE and not error else [f"status {status}, error output {error!r}"]
+        wrong += [] if line in lines else [f"no line {line!r}"]
+        wrong += [] if lines[-1] == b"" and lines[-2] else ["no line feed at the end"]
+        wrong += [] if len(lines) <= 26 and max(map(len, lines)) <= 100 else ["more than a screen"]
+        cases.report(f"help {name}", wrong)
+    with open("/dev/full", "wb") as full:
+        cases.case("help on a full disk", cases.run(["--help"], stdout=full), DONE, None)
+
+
+def wrong_words(cases):
+    for words in [
+        ["lis"], ["Normalise"], [""], ["help"], ["--version"], ["-V"], ["list", "--version"], ["--tester", "7E0"],
+        ["--limit", "5", "list"], ["a.log"], ["compare"], ["compare", "a"], ["compare", "a", "b", "c"], ["list", "a", "b"],
+        ["list", "--limit"], ["list", "--limit", "1", "--limit", "2"], ["list", "--tester=7E0", "--tester=7E0"],
+        ["list", "--limi", "1"], ["list", "--limit=x"], ["list", "--limit=-1"], ["list", "--limit=1.5"], ["list", "--limit="],
+        ["list", "--limit=18446744073709551616"], ["list", "--tester", "7E", "--limit", "x"], ["list", "-x"],
+    ]:
+        status, output, error = cases.run(words, LOG)
+        wrong = [] if status == WORDS and output == b"" else [f"status {status}, output {output!r}"]
+        wrong += [] if error.startswith(b"error: ") and error.endswith(b"\n") else [f"error output {error!r}"]
+        cases.report(f"wrong words {words}", wrong)
+    for words in [[b"\xff\xfe"], ["list", b"\xff"], ["list", b"--tester=\xff"]]:
+        cases.case(f"words that are no UTF-8: {words}", cases.run(words, LOG), WORDS, b"", b"error: the command line is not UTF-8\n")
+
+
+def wrong_values(cases):
+    """Identifiers come before the configuration, and that in its order."""
+    for words, error in [
+        (["list", "--tester", "7E"], NOT_DIGITS),
+        (["list", "--tester", "07E0"], NOT_DIGITS),
+        (["list", "--tester", "+7E"], NOT_DIGITS),
+        (["list", "--tester", "7G0"], NOT_DIGITS),
+        (["list", "--tester="], NOT_DIGITS),
+        (["explain", "--unit", "7e"], NOT_DIGITS),
+        (["compare", "--unit", "7e", "missing", "missing"], NOT_DIGITS),
+        (["list", "--tester", "7E", "--unit", "800", "--limit", "0"], NOT_DIGITS),
+        (["list", "--tester", "800"], OUT_OF_RANGE),
+        (["list", "--unit", "FFF"], OUT_OF_RANGE),
+        (["list", "--tester", "800", "--unit", "800", "--limit", "0"], OUT_OF_RANGE),
+        (["explain", "--unit", "7E0"], SAME_IDENTIFIER),
+        (["explain", "--unit", "7e0", "--limit", "0"], SAME_IDENTIFIER),
+        (["list", "--limit", "0"], LIMIT_RANGE),
+        (["list", "--limit", "1099511627777"], LIMIT_RANGE),
+        (["normalise", "--limit", "18446744073709551615"], LIMIT_RANGE),
+    ]:
+        cases.case(f"wrong values {words}", cases.run(words, LOG), WORDS, b"", error)
+    with open("/dev/full", "wb") as full:
+        cases.case("wrong values on a full disk", cases.run(["list", "--limit=0"], stdout=full), WORDS, None, LIMIT_RANGE)
+
+
+def main():
+    if len(sys.argv) != 2:
+        sys.exit(__doc__)
+    cases = Cases(os.path.abspath(sys.argv[1]))
+    files = {
+        "a.log": LOG, "-": LOG, "--limit": LOG, "größe.log": LOG, "empty.log": b"",
+        "other.log": LOG.replace(b"7E0", b"7e2"), "refused.log": NO_LOG_LINE,
+    }
+    with tempfile.TemporaryDirectory() as folder:
+        for name, log in files.items():
+            Path(folder, name).write_bytes(log)
+        os.chdir(folder)
+        for test in [jobs, options, comparisons, files_that_fail, help_texts, wrong_words, wrong_values]:
+            test(cases)
+        os.chdir("/")
+    cases.end()
+
+
+main()

@@ -1,0 +1,117 @@
+#!/usr/bin/env python3
+"""Tests of what is shipped beside the program: its manual page and its completions name every command and option that its
+help names, and `make install` and `make uninstall` know the same files.
+
+    tests/shipped.py crates/udsnorm/out/udsnorm
+
+Prints a line for each case and ends with `N passed, M failed`; its status is 1 where a case failed.
+"""
+
+import os
+import re
+import subprocess
+import sys
+from pathlib import Path
+
+TOP = Path(__file__).resolve().parent.parent
+MANUAL = TOP / "share" / "man" / "man1" / "udsnorm.1"
+COMPLETIONS = sorted((TOP / "share" / "completions").iterdir())
+
+passed = 0
+failed = 0
+
+
+def case(name, wrong):
+    """A case passed where nothing is wrong."""
+    global passed, failed
+    if wrong:
+        failed += 1
+        print(f"FAILED {name}: {'; '.join(wrong)}")
+    else:
+        passed += 1
+        print(f"ok {name}")
+
+
+def help_of(program, *words):
+    done = subprocess.run([program, *words, "--help"], capture_output=True, text=True, timeout=60)
+    return done.stdout
+
+
+def named_in(text, heading):
+    """The first words of the lines below a heading of a help text."""
+    below = re.search(rf"^{heading}:\n((?: .*\n)+)", text, re.M)
+    return re.findall(r"^ +(?:-\w, +)?([\w-]+)", below.group(1), re.M) if below else []
+
+
+def defaults_in(text):
+    return re.findall(r"\[default: (\w+)\]", text)
+
+
+def missing_in(text, words):
+    """The words that a text lacks, each as a whole word."""
+    return [word for word in words if not re.search(rf"(?<![\w-]){re.escape(word)}(?![\w-])", text)]
+
+
+def names_are_complete(program):
+    commands = named_in(help_of(program), "Commands")
+    case("the help names four commands", [] if len(commands) == 4 else [str(commands)])
+    texts = {"the manual page": MANUAL.read_text().replace("\\-", "-")}
+    for completion in COMPLETIONS:
+        # A long option of fish stands without its dashes.
+        texts[completion.name] = re.sub(r" -l (\w)", r" --\1", completion.read_text())
+    for name, text in texts.items():
+        wrong = [f"no {word}" for word in missing_in(text, commands)]
+        for command in commands:
+            options = named_in(help_of(program, command), "Options")
+            wrong += ["no options in the help"] if len(options) < 4 else []
+            wrong += [f"no {option} of {command}" for option in missing_in(text, options)]
+        case(f"{name} names every command and option", wrong)
+    wrong = missing_in(texts["the manual page"], defaults_in(help_of(program, "list")))
+    case("the manual page has the defaults of the help", wrong)
+
+
+def manual_is_well_formed():
+    done = subprocess.run(["groff", "-man", "-Tutf8", "-ww", MANUAL], capture_output=True, text=True, timeout=60)
+    case("the manual page as groff sees it", [done.stderr] if done.stderr or done.returncode else [])
+
+
+def bash_completes():
+    """What bash offers, by the function of its completion."""
+    script = next(path for path in COMPLETIONS if path.suffix == ".bash")
+    for words, want in [
+        (["udsnorm", ""], ["normalise", "list", "explain", "compare", "-h", "--help"]),
+        (["udsnorm", "co"], ["compare"]),
+        (["udsnorm", "list", "--"], ["--tester", "--unit", "--limit", "--help"]),
+        (["udsnorm", "list", "--tester", "7"], []),
+    ]:
+        line = " ".join(f"'{word}'" for word in words)
+        ask = f"source {script}; COMP_WORDS=({line}); COMP_CWORD={len(words) - 1}; _udsnorm; printf '%s\\n' \"${{COMPREPLY[@]}}\""
+        done = subprocess.run(["bash", "-c", ask], capture_output=True, text=True, timeout=60)
+        found = done.stdout.split()
+        case(f"bash completes {' '.join(words)!r}", [] if found == want and not done.stderr else [str(found), done.stderr])
+
+
+def install_is_undone():
+    """Each file that `make install` puts somewhere is one that `make uninstall` removes."""
+    plan = {}
+    for goal in ["install", "uninstall"]:
+        words = ["make", "-n", "-C", TOP, goal, "DESTDIR=/stage", "PREFIX=/usr"]
+        done = subprocess.run(words, capture_output=True, text=True, timeout=60)
+        plan[goal] = set(re.findall(r"/stage/\S+", done.stdout))
+    wrong = [] if len(plan["install"]) == 5 else [f"{len(plan['install'])} files"]
+    wrong += sorted(plan["install"] ^ plan["uninstall"])
+    case("uninstall removes what install puts somewhere", wrong)
+
+
+def main():
+    if len(sys.argv) != 2:
+        sys.exit(__doc__)
+    names_are_complete(os.path.abspath(sys.argv[1]))
+    manual_is_well_formed()
+    bash_completes()
+    install_is_undone()
+    print(f"{passed} passed, {failed} failed")
+    sys.exit(1 if failed else 0)
+
+
+main()
