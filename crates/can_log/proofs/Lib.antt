@@ -7,7 +7,9 @@ pub mod FirstBytes
 pub mod Results
 -- digits
 pub mod Digits
+pub mod DigitTable
 pub mod DigitValues
+pub mod LaneDigits
 pub mod SpelledBytes
 pub mod HexTable
 -- a line, field by field

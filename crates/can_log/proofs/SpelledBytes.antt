@@ -1,14 +1,17 @@
 -- The bytes that pairs of digits spell.
-use Rattle.std.proofs.Common.{◌≡◌, ℕ, zero, suc, ◌+◌, ◌*◌, ◌%◌, ◌<◌, ◌≤◌, true, false, refl, ap, arith}
-use Rattle.std.proofs.Common.{List, [], ◌∷◌, ◌++◌, length, length-take-le, get_or, take, Some, Ok}
+use Rattle.std.proofs.Common.{◌≡◌, ℕ, ◌+◌, ◌-◌, ◌*◌, ◌%◌, ◌<◌, ◌≤◌, true, false, refl, sym, subst, ap, ◌∙◌, arith}
+use Rattle.std.proofs.Common.{List, [], ◌∷◌, ◌++◌, length, length-append, length-take-le, length-drop, take, drop, Some, Ok}
 use Rattle.std.specs.Prelude.{◌==◌}
 use Rattle.std.specs.List.{AllByRecursion}
 use Rattle.std.specs.Char.{is_ascii_hexdigit, digit_value}
 use Rattle.std.proofs.lemmas.Bool.Decides.{nat_tests}
 use Rattle.hex.specs.Hex.{hex_digit_value, pair_value, decode_pairs}
-use Rattle.can_log.specs.Line.{bytes_spelled}
+use Rattle.std.proofs.lemmas.List.{take-append-drop}
+use Rattle.std.proofs.Math.Seq.{take-add, take-length}
+use Rattle.can_log.specs.Line.{bytes_spelled, IsDataText}
 use Rattle.can_log.specs.Laws.{DataIsWhatHexDecodes}
 use Rattle.can_log.proofs.DigitValues.{AreHex, hex_value}
+use Rattle.can_log.proofs.EachElement.{AllByRecursion-take, AllByRecursion-back}
 
 -- the byte of a pair
 abbrev pub pair : ℕ → ℕ → ℕ
@@ -23,31 +26,59 @@ spelled_are_bytes (high ∷ low ∷ digits) each =
     let second = (hex_value low each.1.0).0 in
     (omega arith, spelled_are_bytes digits each.1.1)
 
--- ---- how many
+-- ---- in parts
 
 bytes_len : (digits : List ℕ) → length digits % 2 ≡ 0 → 2 * length (bytes_spelled digits) ≡ length digits
 bytes_len [] even = refl
 bytes_len (high ∷ []) even = absurd (omega arith)
 bytes_len (high ∷ low ∷ digits) even = omega (arith, bytes_len digits (omega arith))
 
--- so many pairs spell as many bytes
-pub spelled_so_far : (i : ℕ) (digits : List ℕ) → 2 * i ≤ length digits → length (bytes_spelled (take (2 * i) digits)) ≡ i
-spelled_so_far i digits h =
-    let all : length (take (2 * i) digits) ≡ 2 * i = length-take-le (2 * i) digits h in
-    omega (arith, bytes_len (take (2 * i) digits) (omega arith))
+spelled_append : (digits more : List ℕ) → length digits % 2 ≡ 0 → bytes_spelled (digits ++ more) ≡ bytes_spelled digits ++ bytes_spelled more
+spelled_append [] more even = refl
+spelled_append (high ∷ []) more even = absurd (omega arith)
+spelled_append (high ∷ low ∷ digits) more even = ap (λ (bytes : List ℕ). pair high low ∷ bytes) (spelled_append digits more (omega arith))
 
--- ---- one pair after another
+-- as many bytes as there are pairs in front
+pub spelled_so_far : (n : ℕ) (digits : List ℕ) → n ≤ length digits → n % 2 ≡ 0 → 2 * length (bytes_spelled (take n digits)) ≡ n
+spelled_so_far n digits le even =
+    let all : length (take n digits) ≡ n = length-take-le n digits le in
+    omega (arith, all, bytes_len (take n digits) (omega (arith, all)))
 
-pub one_more_pair : (i : ℕ) (digits : List ℕ) → 2 * i + 1 < length digits
-    → bytes_spelled (take (2 * (i + 1)) digits) ≡ bytes_spelled (take (2 * i) digits) ++ pair (get_or digits (2 * i) 0) (get_or digits (2 * i + 1) 0) ∷ []
-one_more_pair i [] h = absurd (omega arith)
-one_more_pair i (high ∷ []) h = absurd (omega arith)
-one_more_pair zero (high ∷ low ∷ digits) h = refl
-one_more_pair (suc i) (high ∷ low ∷ digits) h =
-    let here : 2 * suc i ≡ suc (suc (2 * i)) = omega arith in
-    let behind : 2 * suc i + 1 ≡ suc (suc (2 * i + 1)) = omega arith in
-    let next : 2 * (suc i + 1) ≡ suc (suc (2 * (i + 1))) = omega arith in
-    rw (behind, here, next) (ap (λ (bytes : List ℕ). pair high low ∷ bytes) (one_more_pair i digits (omega arith)))
+pub sixteen_more : (i : ℕ) (digits : List ℕ) → 16 * i ≤ length digits
+    → bytes_spelled (take (16 * (i + 1)) digits) ≡ bytes_spelled (take (16 * i) digits) ++ bytes_spelled (take 16 (drop (16 * i) digits))
+sixteen_more i digits le =
+    let next : 16 * (i + 1) ≡ 16 * i + 16 = omega arith in
+    let all : length (take (16 * i) digits) ≡ 16 * i = length-take-le (16 * i) digits le in
+    let two : take (16 * i + 16) digits ≡ take (16 * i) digits ++ take 16 (drop (16 * i) digits) = take-add (16 * i) 16 digits in
+    rw (next, two) (spelled_append (take (16 * i) digits) (take 16 (drop (16 * i) digits)) (omega (arith, all)))
+
+-- what follows the front of a slice is the slice's rest
+pub the_rest : (i : ℕ) (digits : List ℕ) → 16 * i ≤ length digits
+    → bytes_spelled (take (16 * i) digits) ++ bytes_spelled (take (length digits - 16 * i) (drop (16 * i) digits)) ≡ bytes_spelled digits
+the_rest i digits le =
+    let front : length (take (16 * i) digits) ≡ 16 * i = length-take-le (16 * i) digits le in
+    let back : take (length digits - 16 * i) (drop (16 * i) digits) ≡ drop (16 * i) digits =
+    rw (← length-drop (16 * i) digits) (take-length (drop (16 * i) digits))
+    in
+    rw back (sym (spelled_append (take (16 * i) digits) (drop (16 * i) digits) (omega (arith, front))))
+    ∙ ap (λ (whole : List ℕ). bytes_spelled whole) (take-append-drop (16 * i) digits)
+
+-- and there are at most 64 bytes in both
+pub the_rest_fits : (i : ℕ) (digits : List ℕ) → IsDataText 128 digits → 16 * i ≤ length digits
+    → length (bytes_spelled (take (16 * i) digits)) + length (bytes_spelled (take (length digits - 16 * i) (drop (16 * i) digits))) ≤ 64
+the_rest_fits i digits text le =
+    let both = length-append (bytes_spelled (take (16 * i) digits)) (bytes_spelled (take (length digits - 16 * i) (drop (16 * i) digits))) in
+    omega (arith, both, ap (λ (bytes : List ℕ). length bytes) (the_rest i digits le), bytes_len digits text.1, text.0.few)
+
+-- a part of data is data
+pub part_of_data : (from n : ℕ) (digits : List ℕ) → IsDataText 128 digits → from + n ≤ length digits → n % 2 ≡ 0 → IsDataText 128 (take n (drop from digits))
+part_of_data from n digits text le even =
+    let is_hex = λ (b : ℕ). is_ascii_hexdigit b ≡ true in
+    let all : length (take n (drop from digits)) ≡ n = length-take-le n (drop from digits) (omega (arith, length-drop from digits)) in
+    let behind = AllByRecursion-back is_hex (take from digits) (drop from digits) (subst (AllByRecursion is_hex) (sym (take-append-drop from digits)) text.0.each) in (
+      record { each = AllByRecursion-take is_hex n (drop from digits) behind; enough = omega arith; few = omega (arith, all, text.0.few) },
+      omega (arith, all),
+    )
 
 -- ---- what `hex` decodes
 

@@ -25,6 +25,6 @@ mod meaning;
 mod plain;
 mod scanner;
 
-pub use canonical::line_bytes;
+pub use canonical::{LONGEST_LINE, line_bytes, line_length};
 pub use frame::{Dir, Frame, Id, Kind, Stamped};
 pub use scanner::{Scan, Scanner};

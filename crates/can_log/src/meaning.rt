@@ -1,6 +1,7 @@
 //! What the digits of a line mean: its time, and its frame.
 
-ghost use Rattle.std.specs.Prelude.{◌≡◌, ◌/◌, length};
+ghost use Rattle.std.specs.Prelude.{◌≡◌, ◌<◌, ◌/◌, ◌*◌, length, IsTrue};
+ghost use Rattle.std.specs.List.{AllByRecursion};
 ghost use Rattle.std.specs.Char.{is_ascii_hexdigit};
 ghost use Rattle.std.specs.Str.Parse.{digits_value};
 ghost use Rattle.can_log.specs.Line.{IsRunOf, IsDataText, IsIdentifierText, identifier_of, bytes_spelled};
@@ -11,6 +12,7 @@ use crate::frame::{Frame, Id, Kind, Stamped};
 use crate::hexadecimal::hex_digit_value;
 use crate::line::{Body, Parts};
 use arrayvec::ArrayVec;
+use std::simd::prelude::*;
 
 /// The frame that a line of these parts records, and its time.
 #[inline(always)]
@@ -32,7 +34,7 @@ pub(crate) fn stamped_of(parts: Parts<'_>) -> Stamped
 
 /// The identifier of these digits: three make a base one, eight an extended one.
 #[inline(always)]
-fn identifier_of(digits: &[u8]) -> Id
+pub(crate) fn identifier_of(digits: &[u8]) -> Id
     requires { IsIdentifierText digits.now }
     ensures { result ≡ identifier_of digits.now }
 {
@@ -57,18 +59,68 @@ fn hex_number(digits: &[u8]) -> u32
     n
 }
 
-/// The bytes that pairs of digits spell. Digits are looked up, since a test of ranges, as the crate `hex` makes for each,
-/// is a branch that the processor can't foresee; the law `data_is_what_hex_decodes` says that both give the same.
+/// The bytes that pairs of digits spell: sixteen digits at a time, and what is left of them by the crate `hex`. That tests
+/// each digit against three ranges, branches that the processor can't foresee in data; so it has the short rest alone.
 #[inline(always)]
 fn data_of(digits: &[u8]) -> ArrayVec<u8, 64>
     requires { IsDataText 128 digits.now }
     ensures { result.items ≡ bytes_spelled digits.now }
 {
+    let sixteens = digits.len() / 16;
     let mut bytes = ArrayVec::new();
-    for i in 0..digits.len() / 2 {
-        let high = hex_digit_value(digits[2 * i]);
-        let low = hex_digit_value(digits[2 * i + 1]);
-        bytes.push(16 * high + low);
+    for i in 0..sixteens {
+        let _ = bytes.try_extend_from_slice(&eight_bytes(&digits[16 * i..16 * i + 16]));
     }
+    let last = few_bytes(&digits[16 * sixteens..]);
+    let _ = bytes.try_extend_from_slice(last.as_slice());
     bytes
+}
+
+/// The bytes that fewer than sixteen digits spell.
+#[inline(always)]
+fn few_bytes(digits: &[u8]) -> ArrayVec<u8, 8>
+    requires few { length digits.now < 16 }
+    requires text { IsDataText 128 digits.now }
+    ensures { result.items ≡ bytes_spelled digits.now }
+{
+    let len = digits.len() / 2;
+    let mut decoded = [0; 8];
+    decode(digits, &mut decoded[..len]);
+    let mut bytes = ArrayVec::new();
+    let _ = bytes.try_extend_from_slice(&decoded[..len]);
+    bytes
+}
+
+/// Decodes the digits over half as many bytes.
+#[inline(always)]
+fn decode(digits: &[u8], bytes: &mut [u8])
+    requires text { IsDataText 128 digits.now }
+    requires size { length digits.now ≡ 2 * length bytes.old }
+    ensures { bytes.new ≡ bytes_spelled digits.now }
+{
+    let _ = hex::decode_to_slice(digits, bytes);
+}
+
+/// The bytes that sixteen digits spell.
+#[inline(always)]
+pub(crate) fn eight_bytes(digits: &[u8]) -> [u8; 8]
+    requires long { length digits.now ≡ 16 }
+    requires text { IsDataText 128 digits.now }
+    ensures { result ≡ bytes_spelled digits.now }
+{
+    spelled(u8x16::from_slice(digits))
+}
+
+/// The same, all at once: each digit in a lane of a vector.
+#[inline(always)]
+fn spelled(digits: u8x16) -> [u8; 8]
+    requires long { length digits ≡ 16 }
+    requires hexadecimal { AllByRecursion (λ b. IsTrue (is_ascii_hexdigit b)) digits }
+    ensures { result ≡ bytes_spelled digits }
+{
+    let above = digits.simd_gt(u8x16::splat(b'9'));
+    let values = (digits & u8x16::splat(15)) + above.select(u8x16::splat(9), u8x16::splat(0));
+    let high: u8x8 = values.swizzle([0, 2, 4, 6, 8, 10, 12, 14]);
+    let low: u8x8 = values.swizzle([1, 3, 5, 7, 9, 11, 13, 15]);
+    (high * u8x8::splat(16) + low).to_array()
 }

@@ -2,13 +2,13 @@
 //! line is judged as a whole, with no search for where its fields end.
 
 ghost use Rattle.std.specs.Prelude.{◌≡◌, IfSome, IsTrue, Some};
-ghost use Rattle.can_log.specs.Line.{LineMeans, spell_line, IsLineSpelling};
-ghost use Rattle.can_log.specs.LineReader.{stamped_by, AreParts};
-ghost use Rattle.can_log.specs.Views.{parts_of};
+ghost use Rattle.can_log.specs.Line.{LineMeans, stamped_of, spell_line, IsLineSpelling};
 ghost use Rattle.can_log.specs.Plain.{HavePlainWidths, spelling_of};
 
 use crate::field::{Class, all_in, number_in};
-use crate::line::{Body, Parts};
+use crate::frame::{Frame, Kind, Stamped};
+use crate::meaning::{eight_bytes, identifier_of};
+use arrayvec::ArrayVec;
 
 /// How long the line is without its interface.
 const WITHOUT_INTERFACE: usize = 41;
@@ -21,7 +21,7 @@ const LONGEST_INTERFACE: usize = 15;
 
 /// The fields of a line, by their places alone.
 #[derive(Clone, Copy)]
-struct Fields<'a> {
+pub(crate) struct Fields<'a> {
     seconds: &'a [u8],
     micros: &'a [u8],
     interface: &'a [u8],
@@ -29,22 +29,38 @@ struct Fields<'a> {
     digits: &'a [u8],
 }
 
-/// The parts of a line of plain form: `(1700000000.000241) can0 7E0#031089D2AAAAAAAA`, with ten digits of seconds, gaps of
+/// The fields of a line of plain form: `(1700000000.000241) can0 7E0#031089D2AAAAAAAA`, with ten digits of seconds, gaps of
 /// one space, a base identifier and 8 bytes of data. `None` says no more than that the line has another form.
 #[inline(always)]
-pub(crate) fn plain_parts(bytes: &[u8]) -> Option<Parts<'_>>
-    ensures means { IfSome result (λ p. LineMeans bytes.now (Some (stamped_by (parts_of p)))) }
-    ensures parts { IfSome result (λ p. AreParts (parts_of p)) }
+pub(crate) fn plain_fields(bytes: &[u8]) -> Option<Fields<'_>>
+    ensures means { IfSome result (λ fields. LineMeans bytes.now (Some (stamped_of (spelling_of fields)))) }
+    ensures legal { IfSome result (λ fields. IsLineSpelling (spelling_of fields)) }
+    ensures widths { IfSome result HavePlainWidths }
 {
     let fields = fields_of(bytes)?;
     if !are_legal(fields) {
         return None;
     }
-    Some(Parts {
-        seconds: number_in(fields.seconds),
-        micros: number_in(fields.micros),
-        identifier: fields.identifier,
-        body: Body::Classic(fields.digits, None),
+    Some(fields)
+}
+
+/// What a line with these fields records. `None` never comes, since there is room for the data; asking for it spares the
+/// scanner the code for the case that there is none.
+#[inline(always)]
+pub(crate) fn plain_stamped(fields: Fields<'_>) -> Option<Stamped>
+    requires legal { IsLineSpelling (spelling_of fields) }
+    requires widths { HavePlainWidths fields }
+    ensures { IfSome result (λ stamped. stamped ≡ stamped_of (spelling_of fields.entry)) }
+{
+    let seconds = number_in(fields.seconds).value;
+    let micros = number_in(fields.micros).value;
+    let id = identifier_of(fields.identifier);
+    let mut data = ArrayVec::new();
+    data.try_extend_from_slice(&eight_bytes(fields.digits))
+        .ok()?;
+    Some(Stamped {
+        micros: seconds * 1_000_000 + micros,
+        frame: Frame::from_parts(id, Kind::Classic, data),
     })
 }
 
