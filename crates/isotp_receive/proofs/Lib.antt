@@ -15,6 +15,7 @@ pub mod StandsAlone
 pub mod Judgement
 pub mod OneMore
 pub mod BothDirections
+pub mod Growths
 -- what stands, and what is open by the positions of a trace
 pub mod OpenLaws
 pub mod References

@@ -1,5 +1,5 @@
 -- The messages of a trace that goes on.
-use Rattle.std.proofs.Common.{◌≡◌, ℕ, ◌+◌, ◌<◌, List, [], ◌∷◌, ◌++◌, length, take, get_or, refl, sym, ◌∙◌, ap, append_assoc}
+use Rattle.std.proofs.Common.{◌≡◌, ℕ, ◌+◌, ◌<◌, List, [], ◌∷◌, ◌++◌, length, take, get_or, refl, sym, ◌∙◌, ap, append_assoc, Result, Ok}
 use Rattle.std.proofs.lemmas.List.{append-nil, take_more, map-append}
 use Rattle.std.specs.Borrow.{Bor}
 use Rattle.can_log.specs.Dir.{Message}
@@ -13,6 +13,7 @@ use Rattle.isotp_receive.specs.Standing.{Receptions, receptions_after}
 use Rattle.isotp_receive.specs.Verdict.{EventValue, messages, messages_after, told_message, verdict}
 use Rattle.isotp_receive.specs.MessageLaws.{MessagesGoOn}
 use Rattle.isotp_receive.specs.EventSeen.{seen_verdict}
+use Rattle.isotp_receive.specs.Growth.{trace_after}
 use Rattle.isotp_receive.specs.Recorded.{entries, entry_of, sent}
 
 -- ---- of two lists of frames
@@ -36,6 +37,12 @@ messages-snoc limit past es e = messages-append limit past es (e ∷ []) ∙ ap 
 more_entries : (rs : List Recorded) (i : ℕ) (r : Recorded) → r ≡ get_or rs i r → i < length rs → entries (take (i + 1) rs) ≡ entries (take i rs) ++ entry_of r ∷ []
 more_entries rs i r e h =
     ap entries (take_more rs i r h) ∙ map-append entry_of (take i rs) (get_or rs i r ∷ []) ∙ ap (λ x. entries (take i rs) ++ entry_of x ∷ []) (sym e)
+
+-- where a frame was taken, the pair stands after it
+pub stands_if_ok : {A E : Type 0} (limit : ℕ) (result : Result A E) (event : A) (e : Entry) (p q : Receptions) → result ≡ Ok event
+    → ((T : List Entry) → p ≡ receptions_after limit T → q ≡ receptions_after limit (trace_after result T e))
+    → (T : List Entry) → p ≡ receptions_after limit T → q ≡ receptions_after limit (T ++ e ∷ [])
+stands_if_ok limit result event e p q is step T h = rw is at (step T h)
 
 module _ (limit : ℕ) (rs : List Recorded) (i : ℕ) (r : Recorded) (is : r ≡ get_or rs i r) (below : i < length rs) where
   pub stands_next : (p q : Receptions) → p ≡ receptions_after limit (entries (take i rs))

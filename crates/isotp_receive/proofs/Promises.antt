@@ -13,3 +13,4 @@ pub use Rattle.isotp_receive.proofs.DeliveredBytes.{messages_are_few, messages_f
 pub use Rattle.isotp_receive.proofs.EventCounts.{events_go_on, events_are_as_many, too_long_is_announced, clean_is_counted}
 pub use Rattle.isotp_receive.proofs.Readings.{first_frame_is_read}
 pub use Rattle.isotp_receive.proofs.References.{same-reference as one_reference}
+pub use Rattle.isotp_receive.proofs.Growths.{stands-without as refused_leaves_the_other}

@@ -13,6 +13,7 @@ pub mod Events
 pub mod Laws
 pub mod RecordingLaws
 pub mod MessageLaws
+pub mod Growth
 pub mod EventSeen
 pub mod Recorded
 pub mod Taken

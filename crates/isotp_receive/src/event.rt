@@ -6,10 +6,10 @@ use isotp_pdu::PduFault;
 /// What a frame did: the reception that it ended, if it ended one, and what became of the frame.
 #[derive(Clone, Copy, Debug, PartialEq, Eq)]
 pub struct Event<'a> {
-    /// The reception that the frame ended before its message was complete.
-    pub ended: Option<Ended>,
     /// What became of the frame itself.
     pub verdict: Verdict<'a>,
+    /// The reception that the frame ended before its message was complete.
+    pub ended: Option<Ended>,
 }
 
 impl<'a> Event<'a> {
@@ -30,12 +30,12 @@ impl<'a> Event<'a> {
 /// A reception that ended before its message was complete.
 #[derive(Clone, Copy, Debug, PartialEq, Eq)]
 pub struct Ended {
-    /// The direction of the message, also where a flow control frame of the other one ended it.
-    pub dir: Dir,
     /// The line of its first frame.
     pub begun_line: u64,
     /// How many bytes its first frame announced.
     pub len: u32,
+    /// The direction of the message, also where a flow control frame of the other one ended it.
+    pub dir: Dir,
     /// Why it ended.
     pub cause: Cause,
 }

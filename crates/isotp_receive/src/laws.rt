@@ -6,6 +6,7 @@ ghost use Rattle.isotp_receive.specs.Laws.{WhatStandsIsOpen, WhatIsOpenStands, W
 ghost use Rattle.isotp_receive.specs.Laws.{AMessageIsDelivered, TheVerdictIsTabled, PlacesAgreeOnBytes, PlacesAgreeOnFit};
 ghost use Rattle.isotp_receive.specs.MessageLaws.{MessagesGoOn, MessagesAreFew, MessagesFit, MessagesHoldBytes};
 ghost use Rattle.isotp_receive.specs.MessageLaws.{EventsGoOn, EventsAreAsMany, FirstFrameIsRead, TooLongIsAnnounced, CleanIsCounted};
+ghost use Rattle.isotp_receive.specs.Growth.{RefusedLeavesTheOther};
 
 /// What stands after a trace is the reception that is open at its end by the positions of its frames,
 /// with all that is known of it: line, length, RX_DL, bytes and the time that N_Cr runs from.
@@ -46,9 +47,15 @@ pub fn places_agree()
     ensures fits { PlacesAgreeOnFit }
 {}
 
-/// The limit that the contracts of [`Pair`](crate::Pair) name: messages have at most 65,535 bytes.
+/// Where memory was refused, nothing stands for the direction of the frame, and the other direction
+/// is as it was.
+pub fn refused_leaves_the_other()
+    ensures { RefusedLeavesTheOther }
+{}
+
+/// The limit that the contracts of [`Pair`](crate::Pair) name: messages have at most 1,048,575 bytes.
 pub fn the_message_limit()
-    ensures { MESSAGE_LIMIT ≡ 65535 }
+    ensures { MESSAGE_LIMIT ≡ 1048575 }
 {}
 
 /// A trace that goes on delivers the messages of its first frames, and then those of the others. It delivers no more

@@ -129,18 +129,18 @@ struct Session<'a> {
 }
 
 impl<'a> Session<'a> {
-    fn new(alloc: Global, case: &'a str) -> Result<Session<'a>, AllocError> {
-        Ok(Session {
+    fn new(alloc: Global, case: &'a str) -> Session<'a> {
+        Session {
             case,
             line: 1,
-            pair: Pair::new(alloc)?,
-        })
+            pair: Pair::new(alloc),
+        }
     }
 
     /// The frame of the next line has to do what the step says.
     fn takes(&mut self, rt: &impl Abort, step: Step<'_>) -> Result<(), Fail> {
         let frame = frame(step.kind, step.data)?;
-        let event = self.pair.accept(self.line, step.micros, step.dir, &frame);
+        let event = self.pair.accept(self.line, step.micros, step.dir, &frame)?;
         assert_eq!(rt; event, step.event, "{}, line {}", self.case, self.line);
         self.line = self.line.saturating_add(1);
         Ok(())
@@ -149,7 +149,7 @@ impl<'a> Session<'a> {
 
 /// The pair after all steps of a session.
 fn follow(rt: &impl Abort, alloc: Global, case: &str, steps: &[Step<'_>]) -> Result<Pair, Fail> {
-    let mut session = Session::new(alloc, case)?;
+    let mut session = Session::new(alloc, case);
     for step in steps {
         session.takes(rt, *step)?;
     }
@@ -248,7 +248,7 @@ fn times_at_both_ends(rt: HostRuntime) -> Result<(), Fail> {
 fn sequence_numbers_go_on_at_0_behind_15(rt: HostRuntime) -> Result<(), Fail> {
     let alloc = rt.alloc();
     let message = counted(alloc, 130)?;
-    let mut session = Session::new(alloc, "18 consecutive frames")?;
+    let mut session = Session::new(alloc, "18 consecutive frames");
     session.takes(&rt, unit(&part(alloc, &[0x10, 130], 0, 8)?, began()))?;
     session.takes(&rt, tester(CONTINUE, flow()))?;
     for number in 1..18 {
@@ -264,7 +264,7 @@ fn sequence_error_ends_the_reception(rt: HostRuntime) -> Result<(), Fail> {
         expected: 0,
         found: 15,
     };
-    let mut session = Session::new(alloc, "number 15 comes twice")?;
+    let mut session = Session::new(alloc, "number 15 comes twice");
     session.takes(&rt, unit(&part(alloc, &[0x10, 130], 0, 8)?, began()))?;
     for number in 1..16 {
         session.takes(&rt, unit(&consecutive(alloc, 6, number)?, stored()))?;
@@ -379,12 +379,26 @@ fn overflow_counts_before_the_first_consecutive_frame(rt: HostRuntime) -> Result
 fn new_start_ends_the_reception(rt: HostRuntime) -> Result<(), Fail> {
     let single = &[0x04, 0x62, 0xF1, 0x90, 0x41, 0, 0, 0];
     let message = Verdict::Message(&[0x62, 0xF1, 0x90, 0x41]);
-    let longest = &[0x10, 0, 0, 0, 0xFF, 0xFF, 0x41, 0x42];
-    let too_long = &[0x10, 0, 0, 1, 0, 0, 0x41, 0x42];
-    let announced = Verdict::Dropped(Reason::TooLong { announced: 65_536 });
+    let longest = &[0x10, 0, 0, 0x0F, 0xFF, 0xFF, 0x41, 0x42];
+    let longer_than_before = &[0x10, 0, 0, 1, 0, 0, 0x41, 0x42];
+    let too_long = &[0x10, 0, 0, 0x10, 0, 0, 0x41, 0x42];
+    let announced = Verdict::Dropped(Reason::TooLong {
+        announced: 1_048_576,
+    });
     for (case, data, verdict, open) in [
         ("a single frame", single, message, None),
-        ("a first frame", longest, Verdict::Began, Some((2, 65_535))),
+        (
+            "a first frame",
+            longest,
+            Verdict::Began,
+            Some((2, 1_048_575)),
+        ),
+        (
+            "a first frame of 65,536 bytes",
+            longer_than_before,
+            Verdict::Began,
+            Some((2, 65_536)),
+        ),
         ("a first frame of too many bytes", too_long, announced, None),
     ] {
         let steps = [
@@ -445,7 +459,7 @@ fn directions_are_received_apart(rt: HostRuntime) -> Result<(), Fail> {
     let alloc = rt.alloc();
     let ten = counted(alloc, 10)?;
     let hundred = counted(alloc, 100)?;
-    let mut session = Session::new(alloc, "both at once")?;
+    let mut session = Session::new(alloc, "both at once");
     session.takes(&rt, tester(&part(alloc, &[0x10, 10], 0, 8)?, began()))?;
     session.takes(&rt, unit(&part(alloc, &[0x10, 100], 0, 64)?, began()))?;
     session.takes(&rt, unit(CONTINUE, flow()))?;
@@ -465,10 +479,10 @@ fn open_tells_the_first_frame(rt: HostRuntime) -> Result<(), Fail> {
 // ---- whole messages
 
 #[test]
-fn longest_message_of_classic_and_fd_frames(rt: HostRuntime) -> Result<(), Fail> {
+fn long_message_of_classic_and_fd_frames(rt: HostRuntime) -> Result<(), Fail> {
     let alloc = rt.alloc();
     let message = counted(alloc, 65_535)?;
-    let mut session = Session::new(alloc, "the longest")?;
+    let mut session = Session::new(alloc, "65,535 bytes");
     let first = part(alloc, &[0x10, 0, 0, 0, 0xFF, 0xFF], 0, 8)?;
     session.takes(&rt, unit(&first, began()))?;
     for number in 1..9362 {
@@ -481,6 +495,22 @@ fn longest_message_of_classic_and_fd_frames(rt: HostRuntime) -> Result<(), Fail>
         session.takes(&rt, unit(&data, stored()).as_kind(kind))?;
     }
     session.takes(&rt, unit(&consecutive(alloc, 2, 9362)?, whole(&message)))
+}
+
+#[test]
+fn longest_message(rt: HostRuntime) -> Result<(), Fail> {
+    let alloc = rt.alloc();
+    let message = counted(alloc, 1_048_575)?;
+    let mut session = Session::new(alloc, "the longest");
+    let first = part(alloc, &[0x10, 0, 0, 0x0F, 0xFF, 0xFF], 0, 64)?;
+    session.takes(&rt, unit(&first, began()))?;
+    let mut came: usize = 58;
+    for number in 1..16_644 {
+        let head = [(0x20 + number % 16) as u8];
+        session.takes(&rt, unit(&part(alloc, &head, came, 64)?, stored()))?;
+        came = came.saturating_add(63);
+    }
+    session.takes(&rt, unit(&part(alloc, &[0x24], came, 12)?, whole(&message)))
 }
 
 #[test]
