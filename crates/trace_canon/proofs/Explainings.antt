@@ -1,26 +1,16 @@
 -- The events of a log, explained one more at a time.
-use Rattle.std.proofs.Common.{◌≡◌, ℕ, ◌+◌, ◌<◌, ◌^◌, List, [], ◌∷◌, ◌++◌, arith, refl, ap, sym, subst, ◌∙◌, Result, Ok, Err}
-use Rattle.std.specs.Result.{OnOk}
-use Rattle.std.specs.Prelude.{IfErr}
+use Rattle.std.proofs.Common.{◌≡◌, ℕ, ◌+◌, ◌<◌, ◌^◌, List, [], ◌∷◌, ◌++◌, arith, ap, sym, subst, ◌∙◌}
 use Rattle.can_log.specs.declared.frame.Dir.{Dir}
 use Rattle.isotp_receive.specs.declared.TheConstants.{MESSAGE_LIMIT}
 use Rattle.isotp_receive.specs.Trace.{Entry}
 use Rattle.isotp_receive.specs.Verdict.{EventValue, messages, told_message, verdict}
+use Rattle.trace_canon.specs.declared.explaining.ExplainingFault.TheVariants.{Memory, Write}
 use Rattle.trace_canon.specs.declared.pending.Pending.{Pending}
 use Rattle.trace_canon.specs.ExplainText.{event_text}
 use Rattle.trace_canon.specs.Explaining.{CountsRemoved, Explains, FailsAt}
 use Rattle.trace_canon.specs.Writing.{HasFront}
 use Rattle.trace_canon.proofs.EventTexts.{one_more_event, front_of_event, none_of_event}
 use Rattle.trace_canon.proofs.OneMoreFrame.{messages_more}
-
--- what is known of an answer, where it is that
-pub on_ok_by : {A E P : Type 0} (result : Result A E) → ((value : A) → result ≡ Ok value → P) → OnOk result P
-on_ok_by (Ok value) known = known value refl
-on_ok_by (Err fault) known = tt
-
-pub on_err_by : {A E : Type 0} (P : E → Type 0) (result : Result A E) → ((fault : E) → result ≡ Err fault → P fault) → IfErr result P
-on_err_by P (Ok value) known = tt
-on_err_by P (Err fault) known = known fault refl
 
 module _ (Told ToldOld ToldNew : Type 0) (failures : ℕ) (first : List ℕ) (T : List Entry) (e : Entry) (line : ℕ) (d : Dir) (event : EventValue)
     (line_is : e.line ≡ line) (dir_is : e.dir ≡ d) (is : event ≡ verdict MESSAGE_LIMIT T e) where
@@ -49,7 +39,7 @@ module _ (Told ToldOld ToldNew : Type 0) (failures : ℕ) (first : List ℕ) (T 
   pub fails_next : (old_pending : Pending) (old_failures new_failures : ℕ) (old new : List ℕ)
       → Explains Told ToldOld failures first T old_pending old_failures old → (ToldOld → ToldNew)
       → (ToldOld → HasFront old (event_text line d event) new) → new_failures ≡ old_failures + 1
-      → FailsAt Told ToldNew failures first T e new_failures new
+      → FailsAt Told ToldNew failures first T e Write new_failures new
   fails_next old_pending old_failures new_failures old new so_far tells wrote risen = record {
     failures_are = λ few. risen ∙ ap (λ n. n + 1) so_far.failures_are;
     telling = λ told. tells (so_far.telling told);
@@ -58,7 +48,7 @@ module _ (Told ToldOld ToldNew : Type 0) (failures : ℕ) (first : List ℕ) (T 
 
 -- the target has failed too often before
 pub fails_before : (Told ToldNow : Type 0) (failures : ℕ) (first : List ℕ) (T : List Entry) (e : Entry) (pending : Pending) (now : ℕ) (written : List ℕ)
-    → Explains Told ToldNow failures first T pending now written → 2 ^ 62 < now → FailsAt Told ToldNow failures first T e now written
+    → Explains Told ToldNow failures first T pending now written → 2 ^ 62 < now → FailsAt Told ToldNow failures first T e Write now written
 fails_before Told ToldNow failures first T e pending now written so_far many =
     let same = so_far.failures_are in
     record {
@@ -66,3 +56,12 @@ fails_before Told ToldNow failures first T e pending now written so_far many =
       telling = so_far.telling;
       written = λ told. none_of_event MESSAGE_LIMIT T e first written (so_far.written told);
     }
+
+-- memory was refused for the frame
+pub fails_unwritten : (Told ToldNow : Type 0) (failures : ℕ) (first : List ℕ) (T : List Entry) (e : Entry) (pending : Pending) (now : ℕ) (written : List ℕ)
+    → Explains Told ToldNow failures first T pending now written → FailsAt Told ToldNow failures first T e Memory now written
+fails_unwritten Told ToldNow failures first T e pending now written so_far = record {
+  failures_are = λ few. so_far.failures_are;
+  telling = so_far.telling;
+  written = λ told. none_of_event MESSAGE_LIMIT T e first written (so_far.written told);
+}

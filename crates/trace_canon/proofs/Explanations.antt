@@ -15,6 +15,8 @@ use Rattle.trace_io.specs.declared.DeviceFault.{DeviceFault}
 use Rattle.isotp_receive.specs.declared.TheConstants.{MESSAGE_LIMIT}
 use Rattle.isotp_receive.specs.Standing.{Receptions, receptions_after}
 use Rattle.trace_canon.specs.declared.explaining.Explaining.{Explaining}
+use Rattle.trace_canon.specs.declared.explaining.ExplainingFault.{ExplainingFault}
+use Rattle.trace_canon.specs.declared.explaining.ExplainingFault.TheVariants.{Memory, Write}
 use Rattle.trace_canon.specs.declared.fault.Fault.{Fault}
 use Rattle.trace_canon.specs.declared.fault.Fault.TheVariants as fault
 use Rattle.trace_canon.specs.declared.lines.LineFault.{LineFault}
@@ -183,10 +185,10 @@ writes_front_at_end limit settings log given fault whats old new means few last 
 -- ---- each way in which a run ends
 
 -- what is known of a line on which the run stopped
-abbrev pub StopsOn : Type 0 → Type 0 → ℕ → List ℕ → Settings → List (Option Stamped) → Option Stamped → ℕ → List ℕ → Type 0
-StopsOn Told ToldNow failures old settings whats what failures_now new =
+abbrev pub StopsOn : Type 0 → Type 0 → ℕ → List ℕ → Settings → List (Option Stamped) → Option Stamped → ExplainingFault → ℕ → List ℕ → Type 0
+StopsOn Told ToldNow failures old settings whats what why failures_now new =
     (stamped : Stamped) × (d : Dir) × (what ≡ Some stamped) × (Some d ≡ direction_of settings stamped.frame.id)
-    × FailsAt Told ToldNow failures old (trace settings whats) (entry_in whats stamped d) failures_now new
+    × FailsAt Told ToldNow failures old (trace settings whats) (entry_in whats stamped d) why failures_now new
 
 -- what is known after lines that were taken
 abbrev pub ExplainsLines : Type 0 → Type 0 → ℕ → List ℕ → Settings → List (Option Stamped) → Pending → ℕ → List ℕ → Type 0
@@ -194,12 +196,23 @@ ExplainsLines Told ToldNow failures old settings whats pending failures_now new 
     Explains Told ToldNow failures old (trace settings whats) pending failures_now new
 
 module _ (Told ToldNow : Type 0) (failures : ℕ) (old : List ℕ) (pending : Pending) (failures_now : ℕ) (new : List ℕ) (settings : Settings)
-    {S : Type 0} (took : Took S) (stopped : Stopped S DeviceFault) (s n : S)
+    {S : Type 0} (took : Took S) (stopped : Stopped S ExplainingFault) (s n : S)
     (gives : (whats : List (Option Stamped)) → took s whats n → ExplainsLines Told ToldNow failures old settings whats pending failures_now new)
-    (halts : (whats : List (Option Stamped)) (what : Option Stamped) (why : DeviceFault) → stopped s whats what why n
-    → StopsOn Told ToldNow failures old settings whats what failures_now new) where
+    (halts : (whats : List (Option Stamped)) (what : Option Stamped) (why : ExplainingFault) → stopped s whats what why n
+    → StopsOn Told ToldNow failures old settings whats what why failures_now new) where
+  -- a front of the lines of the frames up to the one on which it stopped
+  explains_front : (log : List ℕ) (given : ℕ) (fault : Fault) (whats : List (Option Stamped)) (what : Option Stamped) (why : ExplainingFault) → Told
+      → counts_last fault ≡ true → stopped s whats what why n
+      → (((given ≤ settings.max_bytes) × StopsInLog log given whats what) ⊎ ((length log ≤ settings.max_bytes) × (given ≡ length log) × StopsAtEnd log whats what))
+      → WritesFrontOfText MESSAGE_LIMIT settings log given fault old new
+  explains_front log given fault whats what why told last stops place =
+      let halted = halts whats what why stops in
+      let next = trace_next settings whats what halted.0 halted.1 halted.2 halted.3 in
+      writes_front_of_text MESSAGE_LIMIT settings log given fault (whats ++ what ∷ []) old new last (lines_come settings log given whats what place)
+      (subst (λ T. HasFront old (events_text MESSAGE_LIMIT T) new) (sym next) (halted.4.written told))
+
   -- with a fault of the lines
-  explains_lines : (A : Type 0) (log : List ℕ) (given : ℕ) → Told → (why : LineFault DeviceFault)
+  explains_lines : (A : Type 0) (log : List ℕ) (given : ℕ) → Told → (why : LineFault ExplainingFault)
       → ReadsLog took stopped s {A = A} settings.max_bytes log given (Err why) n
       → AnswersExplain MESSAGE_LIMIT settings log given (Err (explaining_fault why)) old new
   explains_lines A log given told (line_fault.BadLine line column) (whats, taken, inl (few, refuses)) =
@@ -214,28 +227,30 @@ module _ (Told ToldNow : Type 0) (failures : ℕ) (old : List ℕ) (pending : Pe
   explains_lines A log given told line_fault.Read (whats, taken, few, inside, (standing, stands)) =
       explains_read MESSAGE_LIMIT settings log given (take given log) (drop given log) whats standing old new stands (sym (take-append-drop given log))
       (length-take-le given log inside) few ((gives whats taken).written told)
-  explains_lines A log given told (line_fault.Taker why) (whats, what, stops, place) =
-      let halted = halts whats what why stops in
-      let next = trace_next settings whats what halted.0 halted.1 halted.2 halted.3 in
-      writes_front_of_text MESSAGE_LIMIT settings log given fault.Write (whats ++ what ∷ []) old new refl (lines_come settings log given whats what place)
-      (subst (λ T. HasFront old (events_text MESSAGE_LIMIT T) new) (sym next) (halted.4.written told))
+  explains_lines A log given told (line_fault.Taker Memory) (whats, what, stops, place) =
+      explains_front log given fault.Memory whats what Memory told refl stops place
+  explains_lines A log given told (line_fault.Taker Write) (whats, what, stops, place) =
+      explains_front log given fault.Write whats what Write told refl stops place
 
   -- the same, where the limit is known in other words
-  pub explains_of_lines : (A : Type 0) (log : List ℕ) (given : ℕ) → Told → (why : LineFault DeviceFault) (m : ℕ) → m ≡ settings.max_bytes
+  pub explains_of_lines : (A : Type 0) (log : List ℕ) (given : ℕ) → Told → (why : LineFault ExplainingFault) (m : ℕ) → m ≡ settings.max_bytes
       → ReadsLog took stopped s {A = A} m log given (Err why) n
       → AnswersExplain MESSAGE_LIMIT settings log given (Err (explaining_fault why)) old new
   explains_of_lines A log given told why m is read =
       explains_lines A log given told why (subst (λ k. ReadsLog took stopped s {A = A} k log given (Err why) n) is read)
 
   -- what the target counts then
-  pub explains_failures : {A : Type 0} (B : Type 0) → failures ≤ 2 ^ 62 → (why : LineFault DeviceFault) → TakesSome took stopped s {A = B} (Err why) n
+  pub explains_failures : {A : Type 0} (B : Type 0) → failures ≤ 2 ^ 62 → (why : LineFault ExplainingFault) → TakesSome took stopped s {A = B} (Err why) n
       → FailedIf {A = A} fault.Write (Err (explaining_fault why)) failures failures_now
   explains_failures B few (line_fault.BadLine line column) (whats, taken) =
       record { risen = λ is. absurd (cc is); same = λ _. (gives whats taken).failures_are }
   explains_failures B few line_fault.LogLimit (whats, taken) = record { risen = λ is. absurd (cc is); same = λ _. (gives whats taken).failures_are }
   explains_failures B few line_fault.Read (whats, taken) = record { risen = λ is. absurd (cc is); same = λ _. (gives whats taken).failures_are }
-  explains_failures B few (line_fault.Taker why) (whats, what, stops) =
-      let halted = halts whats what why stops in
+  explains_failures B few (line_fault.Taker Memory) (whats, what, stops) =
+      let halted = halts whats what Memory stops in
+      record { risen = λ is. absurd (cc is); same = λ _. halted.4.failures_are few }
+  explains_failures B few (line_fault.Taker Write) (whats, what, stops) =
+      let halted = halts whats what Write stops in
       record { risen = λ _. halted.4.failures_are few; same = λ not. absurd (not refl) }
 
 -- at the end of the log
@@ -273,15 +288,6 @@ certifies settings log given (Ok summary) old new answers = λ dropped ended unf
     (ap (λ (x : Summary). x.ended) (sym same) ∙ ended) (ap (λ (x : Summary). x.unfinished) (sym same) ∙ unfinished) in
     record { whats = whats; means = answers.1.1; recording = clean.0; own_frames = clean.1; once = clean.2 }
 certifies settings log given (Err why) old new answers = tt
-
--- memory was refused before the first line
-pub explains_nothing : (settings : Settings) (log : List ℕ) (given : ℕ) (old : List ℕ) → given ≡ 0
-    → AnswersExplain MESSAGE_LIMIT settings log given (Err fault.Memory) old old
-unfolding trace_from
-explains_nothing settings log given old none =
-    writes_front_of_text MESSAGE_LIMIT settings log given fault.Memory [] old old refl
-    (record { lines = []; later = log_lines log; parts = refl; means = tt; given = inl (omega arith) })
-    (record { front = []; rest = []; parts = refl; wrote = sym (append-nil old) })
 
 -- ---- the end of a run
 
@@ -325,10 +331,10 @@ module _ {W : Type 0} (Tells : W → Type 0) (failures : W → ℕ) (written : W
   ExplainedEvents s T t =
       CountsRemoved [] s.0.pending → Explains (Tells s.1) (Tells t.1) (failures s.1) (written s.1) T t.0.pending (failures t.1) (written t.1)
 
-  -- the target failed at an event
-  abbrev pub FailedAtEvent : StoppedOnEvent (Explaining W) W DeviceFault
+  -- the run stopped at an event
+  abbrev pub FailedAtEvent : StoppedOnEvent (Explaining W) W ExplainingFault
   FailedAtEvent s T e why t =
-      CountsRemoved [] s.0.pending → FailsAt (Tells s.1) (Tells t.1) (failures s.1) (written s.1) T e (failures t.1) (written t.1)
+      CountsRemoved [] s.0.pending → FailsAt (Tells s.1) (Tells t.1) (failures s.1) (written s.1) T e why (failures t.1) (written t.1)
 
   pub explained_nothing : (start : Explaining W × W) → ExplainedEvents start [] start
   explained_nothing start counts =

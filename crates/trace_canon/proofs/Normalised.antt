@@ -43,7 +43,6 @@ use Rattle.trace_canon.specs.Failing.{FailedIf}
 use Rattle.trace_canon.specs.TextSeen.{writer_of}
 use Rattle.trace_canon.specs.declared.ordering.Ordering.{Ordering}
 use Rattle.uds_exchange.specs.Meaning.{meaning, flattened}
-use Rattle.can_log.specs.Log.{log_lines}
 use Rattle.trace_canon.proofs.Answered.{answers_bad, answers_oversize, answers_oversize_last, answers_limit, answers_read, HaveCome, taken_have_come, all_have_come, writes_front, writes_front_at_end, writes_eagerly, answers_accepted, answers_output_limit}
 use Rattle.trace_canon.proofs.Finished.{text_is_fitting, each_within, oversize_of_one}
 use Rattle.trace_canon.proofs.Receivings.{trace_next}
@@ -298,14 +297,6 @@ answers_end Told ToldNow settings first log given whats (Err end_fault.Write) fa
     (each_front MESSAGE_LIMIT settings ended.earlier ended.more (subst (EachWithin MESSAGE_LIMIT settings) ended.since each)) wrote
     (begins_again (early_text MESSAGE_LIMIT settings ended.earlier) (early_text MESSAGE_LIMIT settings whats) some.front begins (some.more, since)) in
     (tt, (front, eagerly))
-
--- memory was refused before the first line
-pub answers_nothing : (settings : Settings) (log : List ℕ) (given : ℕ) (old : List ℕ) → given ≡ 0 → Answers MESSAGE_LIMIT settings log given (Err fault.Memory) old old
-answers_nothing settings log given old none = (
-  tt,
-  writes_front MESSAGE_LIMIT settings log given fault.Memory [] [] old old
-      (record { lines = []; later = log_lines log; parts = refl; means = tt; each = tt; given = inl (omega arith) }) (sym (append-nil old)) (early_text MESSAGE_LIMIT settings [], refl),
-)
 
 -- ---- what a run has put in order
 

@@ -9,6 +9,7 @@ use Rattle.isotp_receive.specs.declared.event.Event.{Event}
 use Rattle.isotp_receive.specs.declared.event.Verdict.TheVariants as as_verdict
 use Rattle.isotp_receive.specs.declared.event.Reason.{Reason}
 use Rattle.isotp_receive.specs.declared.event.Reason.TheVariants as reason
+use Rattle.isotp_receive.specs.CleanTrace.{IsKept}
 use Rattle.isotp_receive.specs.EventSeen.{seen_event, seen_verdict}
 use Rattle.isotp_receive.specs.Trace.{Entry}
 use Rattle.isotp_receive.specs.Verdict.{VerdictValue, message, began, stored, flowed, dropped, messages, told_message, verdict}
@@ -44,6 +45,17 @@ announces T e told o is too_long = sym (too_long_is_announced MESSAGE_LIMIT T e)
 pub announces_dropped : (T : List Entry) (e : Entry) (r : Reason) (o : Option ℕ) → (verdict MESSAGE_LIMIT T e).told ≡ dropped r → announced_by r ≡ o
     → oversize_in MESSAGE_LIMIT (layout_of e.frame) ≡ o
 announces_dropped T e r o is by = announces T e (dropped r) o is (announced_told r ∙ by)
+
+-- a frame that is received announces no message above the limit
+received_within : (told : VerdictValue) → IsKept told → too_long_in told ≡ None
+received_within (message bytes) kept = refl
+received_within began kept = refl
+received_within stored kept = refl
+received_within flowed kept = refl
+received_within (dropped r) kept = absurd kept
+
+pub announces_kept : (T : List Entry) (e : Entry) → IsKept (verdict MESSAGE_LIMIT T e).told → AnnouncesWithin e
+announces_kept T e kept = announces T e (verdict MESSAGE_LIMIT T e).told None refl (received_within (verdict MESSAGE_LIMIT T e).told kept)
 
 pub each_more : (T : List Entry) (e : Entry) → AllByRecursion AnnouncesWithin T → AnnouncesWithin e → AllByRecursion AnnouncesWithin (T ++ e ∷ [])
 each_more [] e each one = (one, tt)

@@ -32,11 +32,12 @@ use Rattle.uds_exchange.proofs.Promises.{meaning_is_kept, none_is_lost, none_is_
 use Rattle.trace_canon.specs.Settings.{Settings, IsConfigurable, AreSettings, id_of}
 use Rattle.trace_canon.specs.Trace.{trace_from, trace}
 use Rattle.trace_canon.specs.Messages.{messages_of_lines, meaning_of_lines, HasMeaning}
-use Rattle.trace_canon.specs.CanonicalLog.{canonical_lines, log_of_frames, canonical_log, canonical_log_of_lines}
+use Rattle.trace_canon.specs.CanonicalLog.{canonical_lines, lines_size, log_of_frames, canonical_log, canonical_log_of_lines}
 use Rattle.trace_canon.specs.Refusal.{oversize, EachWithin}
 use Rattle.trace_canon.specs.Summing.{summary_of}
 use Rattle.trace_canon.specs.Outcome.{Accepted, IsOutcome}
-use Rattle.trace_canon.specs.Laws.{Records, Certifies, IsMessageLimit, IsCleanSummary, IsCanonicalFor, CanonicalIsCanonical, SameMeaningSameText, CanonicalLogLength, RecordingHasCanonicalLog, CleanSummaryIsCertificate, SummaryCertifies, PendingAreTheRest}
+use Rattle.trace_canon.specs.Laws.{Records, Certifies, IsMessageLimit, IsCleanSummary, IsCanonicalFor, CanonicalIsCanonical, SameMeaningSameText, RecordingHasCanonicalLog}
+use Rattle.trace_canon.specs.Laws.{CanonicalLogLength, CanonicalLogLengthBySides, CleanSummaryIsCertificate, SummaryCertifies, PendingAreTheRest}
 use Rattle.trace_canon.proofs.Directions.{direction_of_id}
 use Rattle.trace_canon.proofs.LogLines.{lines_are_few}
 use Rattle.trace_canon.proofs.Sendable.{AreBytes, IsSendable, messages_sendable, trace_of_bytes}
@@ -47,7 +48,7 @@ use Rattle.trace_canon.proofs.OneMoreFrame.{kept_is_within}
 -- a line can spell each identifier
 is_spellable : (identifier : Id) → IsConfigurable identifier → IsSpellable identifier
 is_spellable (id.Std number) is = is
-is_spellable (id.Ext number) is = omega arith
+is_spellable (id.Ext number) is = is
 
 spellable : (settings : Settings) (d : Dir) → AreSettings settings → IsSpellable (id_of settings d)
 spellable settings dir.Tester are = is_spellable settings.tester are.tester
@@ -272,23 +273,37 @@ pending_are_the_rest limit settings whats = none_is_lost (messages_of_lines limi
 
 -- ---- how long a canonical log is
 
-pub lines_length : (settings : Settings) (size n : ℕ) (frames : List (Dir × List ℕ)) → ((d : Dir) → canonical_length (id_of settings d) ≡ size)
-    → AllByRecursion IsFullFrame frames → length (ended_lines (canonical_lines settings n frames)) ≡ size * length frames
+pub lines_length : (settings : Settings) (n : ℕ) (frames : List (Dir × List ℕ)) → AllByRecursion IsFullFrame frames
+    → length (ended_lines (canonical_lines settings n frames)) ≡ lines_size settings frames
 unfolding canonical_lines
-lines_length settings size n [] same full = omega arith
-lines_length settings size n (frame ∷ later) same full =
-    let one = canonical_line_length n (id_of settings frame.0) frame.1 full.0.full ∙ same frame.0 in
-    let rest = lines_length settings size (n + 1) later same full.1 in
+lines_length settings n [] full = refl
+lines_length settings n (frame ∷ later) full =
+    let one = canonical_line_length n (id_of settings frame.0) frame.1 full.0.full in
+    let rest = lines_length settings (n + 1) later full.1 in
     let all = length-append (canonical_line n (id_of settings frame.0) frame.1) (ended_lines (canonical_lines settings (n + 1) later)) in
+    omega arith
+
+-- where the lines of both sides are as long
+same_size : (settings : Settings) (size : ℕ) (frames : List (Dir × List ℕ)) → ((d : Dir) → canonical_length (id_of settings d) ≡ size)
+    → lines_size settings frames ≡ size * length frames
+same_size settings size [] same = omega arith
+same_size settings size (frame ∷ later) same =
+    let one = same frame.0 in
+    let rest = same_size settings size later same in
     let more : size * length (frame ∷ later) ≡ size * length later + size = simp unary_clauses refl in
     omega arith
 
-pub canonical_log_length : CanonicalLogLength
+pub canonical_log_length_by_sides : CanonicalLogLengthBySides
 unfolding canonical_log log_of_frames
-canonical_log_length limit settings log whats size is same means =
+canonical_log_length_by_sides limit settings log whats is means =
     let M = messages_of_lines limit settings whats in
     let sent = meaning_sendable limit M (log_sendable limit settings log whats is.least means) in
-    lines_length settings size 0 (all_frames limit (flattened (meaning M))) same (frames_are_full limit (flattened (meaning M)) is.most sent)
+    lines_length settings 0 (all_frames limit (flattened (meaning M))) (frames_are_full limit (flattened (meaning M)) is.most sent)
+
+pub canonical_log_length : CanonicalLogLength
+canonical_log_length limit settings log whats size is same means =
+    canonical_log_length_by_sides limit settings log whats is means
+    ∙ same_size settings size (all_frames limit (flattened (meaning_of_lines limit settings whats))) same
 
 -- what is written where the answer is Ok
 pub written_is_canonical : (limit : ℕ) (settings : Settings) (log : List ℕ) (given : ℕ) (old new text : List ℕ) (summary : Summary) → IsMessageLimit limit

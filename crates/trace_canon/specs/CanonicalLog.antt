@@ -1,6 +1,6 @@
 -- The canonical log of some messages: their canonical frames, a line for each.
 use Rattle.std.specs.Prelude.{ℕ, ◌+◌, ◌-◌, List, [], ◌∷◌, length, nat_le, Option, if◌then◌else◌}
-use Rattle.can_log.specs.Canonical.{canonical_text}
+use Rattle.can_log.specs.Canonical.{canonical_text, canonical_length}
 use Rattle.can_log.specs.Dir.{Message}
 use Rattle.can_log.specs.Log.{log_lines, ended_lines}
 use Rattle.can_log.specs.declared.frame.Dir.{Dir}
@@ -19,6 +19,11 @@ canonical_lines settings n (frame ∷ later) = canonical_text n (id_of settings 
 -- these lines from 0 on, each with its line feed
 unfoldable pub log_of_frames : Settings → List (Dir × List ℕ) → List ℕ
 log_of_frames settings frames = ended_lines (canonical_lines settings 0 frames)
+
+-- how many bytes the lines of frames have: each as many as the identifier of the side that sends it wants
+abbrev pub lines_size : Settings → List (Dir × List ℕ) → ℕ
+lines_size settings [] = 0
+lines_size settings (frame ∷ later) = canonical_length (id_of settings frame.0) + lines_size settings later
 
 -- all canonical frames of the messages, so spelled
 unfoldable pub canonical_log : ℕ → Settings → List Message → List ℕ

@@ -10,6 +10,8 @@ use Rattle.uds_message.specs.Message.{sid, is_request, is_final_for, is_pending_
 use Rattle.uds_exchange.specs.Meaning.{removed_messages}
 use Rattle.uds_exchange.specs.Order.{open_request}
 use Rattle.trace_io.specs.declared.DeviceFault.{DeviceFault}
+use Rattle.trace_canon.specs.declared.explaining.ExplainingFault.{ExplainingFault}
+use Rattle.trace_canon.specs.declared.explaining.ExplainingFault.TheVariants.{Memory, Write}
 use Rattle.trace_canon.specs.declared.fault.Fault.{Fault}
 use Rattle.trace_canon.specs.declared.fault.Fault.TheVariants as fault
 use Rattle.trace_canon.specs.declared.lines.LineFault.{LineFault}
@@ -45,9 +47,14 @@ pub record Explains (Told ToldNow : Type 0) (failures : ℕ) (old : List ℕ) (T
   pub telling : Told → ToldNow
   pub written : Told → new ≡ old ++ events_text MESSAGE_LIMIT T
 
--- The target failed at the frame e: a front of the lines of the frames up to it was written.
-pub record FailsAt (Told ToldNow : Type 0) (failures : ℕ) (old : List ℕ) (T : List Entry) (e : Entry) (failures_now : ℕ) (new : List ℕ) : Type 0 where
-  pub failures_are : failures ≤ 2 ^ 62 → failures_now ≡ failures + 1
+-- how often the target has failed after this fault
+abbrev pub failures_after : ExplainingFault → ℕ → ℕ
+failures_after Memory failures = failures
+failures_after Write failures = failures + 1
+
+-- A run stopped with this fault at the frame e: a front of the lines of the frames up to it was written.
+pub record FailsAt (Told ToldNow : Type 0) (failures : ℕ) (old : List ℕ) (T : List Entry) (e : Entry) (why : ExplainingFault) (failures_now : ℕ) (new : List ℕ) : Type 0 where
+  pub failures_are : failures ≤ 2 ^ 62 → failures_now ≡ failures_after why failures
   pub telling : Told → ToldNow
   pub written : Told → HasFront old (events_text MESSAGE_LIMIT (T ++ e ∷ [])) new
 
@@ -68,11 +75,12 @@ Ends Told failures old settings whats (Ok summary) failures_now new = EndsWell T
 Ends Told failures old settings whats (Err fault) failures_now new = EndsWrong Told failures old settings whats failures_now new
 
 -- what a fault of the lines is called
-abbrev pub explaining_fault : LineFault DeviceFault → Fault
+abbrev pub explaining_fault : LineFault ExplainingFault → Fault
 explaining_fault (line_fault.BadLine line column) = fault.BadLine line column
 explaining_fault line_fault.LogLimit = fault.LogLimit
 explaining_fault line_fault.Read = fault.Read
-explaining_fault (line_fault.Taker why) = fault.Write
+explaining_fault (line_fault.Taker Memory) = fault.Memory
+explaining_fault (line_fault.Taker Write) = fault.Write
 
 -- what the end of a run is called
 abbrev pub explaining_answer : Result Summary DeviceFault → Result Summary Fault

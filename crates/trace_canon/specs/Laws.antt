@@ -19,7 +19,7 @@ use Rattle.trace_canon.specs.declared.summary.Summary.{Summary}
 use Rattle.trace_canon.specs.Settings.{Settings, AreSettings, id_of, direction_of}
 use Rattle.trace_canon.specs.Trace.{trace}
 use Rattle.trace_canon.specs.Messages.{messages_of_lines, meaning_of_lines, HasMeaning}
-use Rattle.trace_canon.specs.CanonicalLog.{canonical_log, canonical_log_of_lines, fitting, early_text}
+use Rattle.trace_canon.specs.CanonicalLog.{canonical_log, canonical_log_of_lines, fitting, early_text, lines_size}
 use Rattle.trace_canon.specs.Refusal.{Refusal, bad_line, oversize_message, oversize}
 use Rattle.trace_canon.specs.Summing.{summary_of}
 use Rattle.trace_canon.specs.LinesRead.{AreLinesRead}
@@ -157,6 +157,11 @@ abbrev pub CanonicalLogLength : Type 0
 CanonicalLogLength = (limit : ℕ) (settings : Settings) (log : List ℕ) (whats : List (Option Stamped)) (size : ℕ) → IsMessageLimit limit
     → ((d : Dir) → canonical_length (id_of settings d) ≡ size) → LogMeans log whats
     → length (canonical_log_of_lines limit settings whats) ≡ size * length (all_frames limit (flattened (meaning_of_lines limit settings whats)))
+
+-- and where one side has a base identifier and the other an extended one, the lines of each side are as long as its own has it
+abbrev pub CanonicalLogLengthBySides : Type 0
+CanonicalLogLengthBySides = (limit : ℕ) (settings : Settings) (log : List ℕ) (whats : List (Option Stamped)) → IsMessageLimit limit → LogMeans log whats
+    → length (canonical_log_of_lines limit settings whats) ≡ lines_size settings (all_frames limit (flattened (meaning_of_lines limit settings whats)))
 
 -- The refused place of the log counts: it is one of the first bytes, as many as the limit, or the log has no more.
 pub record CountsAsBad (settings : Settings) (log : List ℕ) (line column : ℕ) : Type 0 where

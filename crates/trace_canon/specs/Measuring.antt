@@ -1,17 +1,11 @@
 -- Devices of proof: how long the canonical lines of messages are.
 use Rattle.std.specs.Prelude.{◌≡◌, ℕ, List, length}
-use Rattle.can_log.specs.Canonical.{canonical_length}
 use Rattle.can_log.specs.Dir.{Message}
 use Rattle.can_log.specs.Log.{ended_lines}
-use Rattle.can_log.specs.declared.frame.Dir.{Dir}
 use Rattle.isotp_receive.specs.declared.TheConstants.{MESSAGE_LIMIT}
 use Rattle.isotp_segment.specs.Timed.{all_frames}
-use Rattle.trace_canon.specs.Settings.{Settings, id_of}
+use Rattle.trace_canon.specs.Settings.{Settings}
 use Rattle.trace_canon.specs.CanonicalLog.{canonical_lines}
-
--- each canonical line has `size` bytes, in either direction
-abbrev pub HasLinesOf : ℕ → Settings → Type 0
-HasLinesOf size settings = (d : Dir) → canonical_length (id_of settings d) ≡ size
 
 -- the canonical lines of the messages have `size` bytes, wherever the first stands
 abbrev pub HaveLength : Settings → List Message → ℕ → Type 0

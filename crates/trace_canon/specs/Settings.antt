@@ -53,8 +53,3 @@ direction_of settings id =
     if is_same_id id settings.tester then Some dir.Tester
     else if is_same_id id settings.unit then Some dir.Unit
     else None
-
--- the number of an identifier, which is what a `Config` keeps of it
-abbrev pub number_of : Id → ℕ
-number_of (id.Std number) = number
-number_of (id.Ext number) = number

@@ -3,12 +3,12 @@ ghost use Rattle.std.specs.Prelude.{◌≡◌, ◌+◌, ◌^◌, ◌≤◌, ◌+
 ghost use Rattle.trace_canon.specs.Writing.{HasGathered};
 
 use crate::devices::write_all;
-use crate::place::LINE;
 use arrayvec::ArrayVec;
+use can_log::LONGEST_LINE;
 use trace_io::{DeviceFault, Target};
 
-/// The most bytes that are gathered for one write: 64 canonical lines.
-const BLOCK: usize = 64 * LINE;
+/// The most bytes that are gathered for one write: 64 canonical lines, the longest that there are.
+const BLOCK: usize = 64 * LONGEST_LINE;
 
 pub(crate) type Block = ArrayVec<u8, BLOCK>;
 

@@ -7,42 +7,44 @@ use std::marker::Model;
 /// The most bytes that a limit can allow: 2^40.
 pub const LARGEST_LIMIT: u64 = 1 << 40;
 
-/// The largest base identifier (ISO 11898-1).
-const LARGEST_ID: u16 = 0x7FF;
+/// The largest base identifier, of 11 bits (ISO 11898-1).
+const LARGEST_BASE_ID: u16 = 0x7FF;
+
+/// The largest extended identifier, of 29 bits.
+const LARGEST_EXTENDED_ID: u32 = 0x1FFF_FFFF;
 
 /// The identifiers of the tester and the unit, and the most bytes of a log and of its canonical log.
 #[derive(Clone, Copy, Debug, PartialEq, Eq)]
 pub struct Config {
-    tester: u16,
-    unit: u16,
+    tester: Id,
+    unit: Id,
     max_bytes: u64,
 }
 
 impl Model for Config {
-    ghost use Rattle.can_log.specs.declared.frame.Id.TheVariants as id;
-    ghost use Rattle.trace_canon.specs.Settings.{Settings, AreSettings, number_of};
+    ghost use Rattle.trace_canon.specs.Settings.{Settings, AreSettings};
 
     ghost Value = { Settings };
 
-    ghost view = { λ c. record { tester = id.Std c.tester; unit = id.Std c.unit; max_bytes = c.max_bytes } };
+    ghost view = { λ c. record { tester = c.tester; unit = c.unit; max_bytes = c.max_bytes } };
 
-    ghost invariant = { λ c. AreSettings (record { tester = id.Std c.tester; unit = id.Std c.unit; max_bytes = c.max_bytes }) };
+    ghost invariant = { λ c. AreSettings (record { tester = c.tester; unit = c.unit; max_bytes = c.max_bytes }) };
 
-    ghost inverse = { λ s. record { tester = number_of s.tester; unit = number_of s.unit; max_bytes = s.max_bytes } };
+    ghost inverse = { λ s. record { tester = s.tester; unit = s.unit; max_bytes = s.max_bytes } };
 }
 
 impl Config {
-    ghost use Rattle.std.specs.Prelude.{◌≡◌, ◌≤◌};
-    ghost use Rattle.can_log.specs.declared.frame.Id.TheVariants as id;
+    ghost use Rattle.std.specs.Prelude.{◌≡◌};
+    ghost use Rattle.can_log.specs.Canonical.{IsSpellable};
     ghost use Rattle.trace_canon.specs.Settings.{AreSettings, Configures, id_of, direction_of};
-    ghost use Rattle.trace_canon.specs.Measuring.{HasLinesOf};
 
-    /// The configuration with these parts. Identifiers are base identifiers, at most 7FF and not the same; the limit is
-    /// 1 to [`LARGEST_LIMIT`]. Of several faults the first of [`ConfigFault`] is answered.
-    pub fn new(tester: u16, unit: u16, max_bytes: u64) -> Result<Config, ConfigFault>
-        ensures { Configures (id.Std tester) (id.Std unit) max_bytes result }
+    /// The configuration with these parts. A base identifier is at most 7FF, an extended one at most 1FFFFFFF, and the two
+    /// sides don't have the same one: equal numbers of different formats are different identifiers. The limit is 1 to
+    /// [`LARGEST_LIMIT`]. Of several faults the first of [`ConfigFault`] is answered.
+    pub fn new(tester: Id, unit: Id, max_bytes: u64) -> Result<Config, ConfigFault>
+        ensures { Configures tester unit max_bytes result }
     {
-        if tester > LARGEST_ID || unit > LARGEST_ID {
+        if !is_configurable(tester) || !is_configurable(unit) {
             return Err(ConfigFault::IdRange);
         }
         if tester == unit {
@@ -59,15 +61,15 @@ impl Config {
     }
 
     /// The identifier of the frames that the tester sends.
-    pub fn tester(&self) -> u16
-        ensures { id.Std result ≡ self.now.tester }
+    pub fn tester(&self) -> Id
+        ensures { result ≡ self.now.tester }
     {
         self.tester
     }
 
     /// The identifier of the frames that the unit sends.
-    pub fn unit(&self) -> u16
-        ensures { id.Std result ≡ self.now.unit }
+    pub fn unit(&self) -> Id
+        ensures { result ≡ self.now.unit }
     {
         self.unit
     }
@@ -76,15 +78,14 @@ impl Config {
     pub fn max_bytes(&self) -> u64
         ensures value { result ≡ self.now.max_bytes }
         ensures settings { AreSettings self.now }
-        ensures lines { HasLinesOf 46 self.now }
     {
         self.max_bytes
     }
 
     /// The identifier of the frames of a direction.
-    pub(crate) fn id_of(&self, dir: Dir) -> u16
-        ensures value { id.Std result ≡ id_of self.now dir }
-        ensures identifier { result ≤ 0x7FF }
+    pub(crate) fn id_of(&self, dir: Dir) -> Id
+        ensures value { result ≡ id_of self.now dir }
+        ensures spellable { IsSpellable result }
     {
         match dir {
             Dir::Tester => self.tester,
@@ -97,12 +98,25 @@ impl Config {
     pub(crate) fn direction_of(&self, id: Id) -> Option<Dir>
         ensures { result ≡ direction_of self.now id }
     {
-        if id == Id::Std(self.tester) {
+        if id == self.tester {
             Some(Dir::Tester)
-        } else if id == Id::Std(self.unit) {
+        } else if id == self.unit {
             Some(Dir::Unit)
         } else {
             None
         }
+    }
+}
+
+ghost use Rattle.std.specs.Prelude.{◌↔◌, IsTrue};
+ghost use Rattle.trace_canon.specs.Settings.{IsConfigurable};
+
+/// Whether the number of an identifier has no more bits than its format.
+fn is_configurable(id: Id) -> bool
+    ensures { IsTrue result ↔ IsConfigurable id }
+{
+    match id {
+        Id::Std(number) => number <= LARGEST_BASE_ID,
+        Id::Ext(number) => number <= LARGEST_EXTENDED_ID,
     }
 }

@@ -70,7 +70,7 @@ pub fn normalise<R: Source, W: Target>(
     // What the target tells, it still tells when all went well.
     ensures tells { W.tells writer.old → OnOk result (W.tells writer.new) }
 {
-    let pair = Pair::new(alloc)?;
+    let pair = Pair::new(alloc);
     let mut receiver = Receiver::start(config, pair, Ordering::start(alloc, config));
     match read_lines(config.max_bytes(), reader, &mut receiver, writer) {
         Ok(()) => answer_of(finish(receiver, writer)),

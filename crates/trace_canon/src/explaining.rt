@@ -9,7 +9,16 @@ use crate::receiver::EventTaker;
 use can_log::Dir;
 use isotp_receive::Event;
 use std::marker::PhantomData;
-use trace_io::{DeviceFault, Target};
+use trace_io::Target;
+
+/// Why a frame was not taken.
+#[derive(Clone, Copy, Debug)]
+pub(crate) enum ExplainingFault {
+    /// Memory was refused.
+    Memory,
+    /// The target failed.
+    Write,
+}
 
 /// Writes the lines of each event, and counts the replies that a canonical log leaves out.
 #[derive(Drop)]
@@ -40,7 +49,7 @@ impl<W: Target> EventTaker for Explaining<W> {
     ghost use Rattle.std.specs.Prelude.{◌≡◌, []};
     ghost use Rattle.trace_canon.specs.Explaining.{CountsRemoved, Explains, FailsAt};
 
-    type Fault = DeviceFault;
+    type Fault = ExplainingFault;
 
     type Device = W;
 
@@ -48,7 +57,7 @@ impl<W: Target> EventTaker for Explaining<W> {
         → Explains (W.tells s.1) (W.tells t.1) (W.failures s.1) (W.written s.1) T t.0.pending (W.failures t.1) (W.written t.1) };
 
     ghost stopped = { λ s T e fault t. CountsRemoved [] s.0.pending
-        → FailsAt (W.tells s.1) (W.tells t.1) (W.failures s.1) (W.written s.1) T e (W.failures t.1) (W.written t.1) };
+        → FailsAt (W.tells s.1) (W.tells t.1) (W.failures s.1) (W.written s.1) T e fault (W.failures t.1) (W.written t.1) };
 
     fn take(
         &mut self,
@@ -56,11 +65,18 @@ impl<W: Target> EventTaker for Explaining<W> {
         line: u64,
         dir: Dir,
         event: Event<'_>,
-    ) -> Result<(), DeviceFault> {
+    ) -> Result<(), ExplainingFault> {
         if device.failures() > MOST_FAILURES {
-            return Err(DeviceFault);
+            return Err(ExplainingFault::Write);
         }
         self.pending.take(dir, event.verdict);
-        write_event(device, &mut self.block, line, dir, event)
+        match write_event(device, &mut self.block, line, dir, event) {
+            Ok(()) => Ok(()),
+            Err(_failed) => Err(ExplainingFault::Write),
+        }
+    }
+
+    fn refused(&self, _device: &W) -> ExplainingFault {
+        ExplainingFault::Memory
     }
 }

@@ -14,7 +14,7 @@ ghost use Rattle.trace_io.specs.Stream.{BeginsAs};
 
 use crate::config::Config;
 use crate::events::write_end;
-use crate::explaining::Explaining;
+use crate::explaining::{Explaining, ExplainingFault};
 use crate::fault::Fault;
 use crate::lines::{LineFault, read_lines};
 use crate::receiver::Receiver;
@@ -59,7 +59,7 @@ pub fn explain<R: Source, W: Target>(
     // What the target tells, it still tells when all went well.
     ensures tells { W.tells writer.old → OnOk result (W.tells writer.new) }
 {
-    let pair = Pair::new(alloc)?;
+    let pair = Pair::new(alloc);
     let mut receiver = Receiver::start(config, pair, Explaining::start());
     match read_lines(config.max_bytes(), reader, &mut receiver, writer) {
         Ok(()) => explaining_answer(finish(receiver, writer)),
@@ -68,14 +68,15 @@ pub fn explain<R: Source, W: Target>(
 }
 
 /// What a fault of the lines is called.
-fn explaining_fault(fault: LineFault<DeviceFault>) -> Fault
+fn explaining_fault(fault: LineFault<ExplainingFault>) -> Fault
     ensures { result ≡ explaining_fault fault }
 {
     match fault {
         LineFault::BadLine { line, column } => Fault::BadLine { line, column },
         LineFault::LogLimit => Fault::LogLimit,
         LineFault::Read => Fault::Read,
-        LineFault::Taker(_) => Fault::Write,
+        LineFault::Taker(ExplainingFault::Memory) => Fault::Memory,
+        LineFault::Taker(ExplainingFault::Write) => Fault::Write,
     }
 }
 

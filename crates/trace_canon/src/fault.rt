@@ -14,7 +14,7 @@ pub enum Fault {
     #[error("line {line} column {column}: not a log line")]
     BadLine { line: u64, column: u32 },
     /// A first frame of the tester or the unit, in this line, announces this many bytes, more than a message may have.
-    #[error("line {line}: {announced} bytes announced, the limit is 65535")]
+    #[error("line {line}: {announced} bytes announced, the limit is 1048575")]
     Oversize { line: u64, announced: u32 },
     /// The log has more bytes than the limit.
     #[error("log longer than the limit")]
@@ -55,7 +55,7 @@ pub enum CompareFault {
 /// Why there is no such configuration.
 #[derive(Clone, Copy, Debug, PartialEq, Eq, Error)]
 pub enum ConfigFault {
-    /// An identifier is above 7FF.
+    /// A base identifier is above 7FF, or an extended one above 1FFFFFFF.
     #[error("identifier out of range")]
     IdRange,
     /// The tester and the unit have one identifier.

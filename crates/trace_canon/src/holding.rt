@@ -54,4 +54,8 @@ impl EventTaker for Holding {
             Verdict::Began | Verdict::Stored | Verdict::Flow => Ok(()),
         }
     }
+
+    fn refused(&self, _device: &()) -> HoldingFault {
+        HoldingFault::Memory
+    }
 }

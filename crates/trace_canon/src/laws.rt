@@ -2,7 +2,8 @@
 ghost use Rattle.trace_canon.specs.Laws.{DirectionIsById, OutcomeIsThere, OutcomeIsOne, CanonicalIsCanonical, SameMeaningSameText};
 ghost use Rattle.trace_canon.specs.Laws.{RecordingHasCanonicalLog, CleanSummaryIsCertificate, PendingAreTheRest};
 ghost use Rattle.trace_canon.specs.Laws.{EarlyTextStays, EarlyTextGrows, LinesReadAreThere, LinesReadAreOne};
-ghost use Rattle.trace_canon.specs.Laws.{ReadingIsThere, ReadingIsOne, FittingIsLongest, FaultLeavesFront, CanonicalLogLength};
+ghost use Rattle.trace_canon.specs.Laws.{ReadingIsThere, ReadingIsOne, FittingIsLongest, FaultLeavesFront};
+ghost use Rattle.trace_canon.specs.Laws.{CanonicalLogLength, CanonicalLogLengthBySides};
 ghost use Rattle.trace_canon.specs.Laws.{BadLineIsLowest, OversizeIsLowest, LargerLimitKeeps, SummaryCertifies};
 
 /// A frame has a direction exactly where its identifier is that of the direction.
@@ -81,9 +82,11 @@ pub fn fault_leaves_front()
     ensures { FaultLeavesFront }
 {}
 
-/// A canonical log has a line for each canonical frame, and all lines have one length where the identifiers do.
+/// A canonical log has a line for each canonical frame, as long as the identifier of its side has it; and all lines have one
+/// length where the identifiers do.
 pub fn canonical_log_length()
-    ensures { CanonicalLogLength }
+    ensures one { CanonicalLogLength }
+    ensures sides { CanonicalLogLengthBySides }
 {}
 
 /// What is accepted with messages up to a limit is accepted alike with a larger one, so a canonical log stays one.

@@ -1,16 +1,14 @@
 //! How long the canonical log of a meaning is.
-ghost use Rattle.std.specs.Prelude.{◌≡◌, ℕ, ◌+◌, ◌-◌, ◌^◌, ◌<◌, ◌≤◌, [], ◌∷◌, min, length, nat_le};
-ghost use Rattle.can_log.specs.declared.frame.Dir.{Dir};
+ghost use Rattle.std.specs.Prelude.{◌≡◌, ◌+◌, ◌-◌, ◌^◌, ◌<◌, ◌≤◌, [], ◌∷◌, min, length, nat_le};
 ghost use Rattle.isotp_receive.specs.declared.TheConstants.{MESSAGE_LIMIT};
 ghost use Rattle.uds_exchange.specs.ItemSeen.{item_value};
 ghost use Rattle.uds_exchange.specs.Meaning.{messages_of, flattened};
-ghost use Rattle.trace_canon.specs.Settings.{Settings};
 ghost use Rattle.trace_canon.specs.CanonicalLog.{canonical_log};
-ghost use Rattle.trace_canon.specs.Measuring.{HasLinesOf, HaveLength};
+ghost use Rattle.trace_canon.specs.Measuring.{HaveLength};
 
 use crate::config::Config;
-use crate::place::LINE;
 use crate::writer::has_frames;
+use can_log::{Dir, line_length};
 use isotp_segment::frame_count;
 use uds_exchange::{Item, Meaning};
 
@@ -21,7 +19,7 @@ pub(crate) fn fits(config: &Config, meaning: &Meaning) -> bool
     let mut length: u64 = 0;
     'items: for i in 0..meaning.len() {
         if let Some(item) = meaning.item(i) {
-            length = length.saturating_add(item_length(item));
+            length = length.saturating_add(item_length(config, item));
         }
     }
     length <= config.max_bytes()
@@ -54,28 +52,34 @@ fn messages_in(item: &Item) -> u64
 }
 
 /// How many bytes the canonical lines of an item have.
-fn item_length(item: &Item) -> u64
-    ensures { (settings : Settings) → HasLinesOf 46 settings → HaveLength settings (messages_of (item_value item.now)) result }
+fn item_length(config: &Config, item: &Item) -> u64
+    ensures { HaveLength config.now (messages_of (item_value item.now)) result }
 {
     match item {
         Item::Exchange { request, answer } => {
-            let length = message_length(request);
+            let length = message_length(config, Dir::Tester, request);
             match answer {
-                Some(answer) => length + message_length(answer),
+                Some(answer) => length + message_length(config, Dir::Unit, answer),
                 None => length,
             }
         }
-        Item::Stray { bytes, .. } => message_length(bytes),
+        Item::Stray { dir, bytes } => message_length(config, *dir, bytes),
     }
 }
 
-/// How many bytes the canonical lines of a message have, whoever sent it: under base identifiers all lines have one length.
-fn message_length(message: &[u8]) -> u64
-    ensures length { (settings : Settings) (d : Dir) → HasLinesOf 46 settings → HaveLength settings ((d, message.now) ∷ []) result }
+/// How many bytes the canonical lines of a message have. All but the continue frame are lines of its sender.
+fn message_length(config: &Config, sender: Dir, message: &[u8]) -> u64
+    ensures length { HaveLength config.now ((sender, message.now) ∷ []) result }
     ensures bounded { result < 2 ^ 32 }
 {
     if !has_frames(message) {
         return 0;
     }
-    LINE as u64 * frame_count(message.len())
+    let own = line_length(config.id_of(sender)) as u64;
+    let frames = frame_count(message.len());
+    if frames == 1 {
+        return own;
+    }
+    let other = line_length(config.id_of(sender.other())) as u64;
+    own * (frames - 1) + other
 }

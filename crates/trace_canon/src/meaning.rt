@@ -73,7 +73,7 @@ pub(crate) fn read_meaning<R: Source>(
     ensures read_fault { FailedIf Fault.Read result (R.failures reader.old) (R.failures reader.new) }
     ensures never_write { IfErr result (λ fault. fault ≢ Fault.Write) }
 {
-    let pair = Pair::new(alloc)?;
+    let pair = Pair::new(alloc);
     let taker = Holding {
         pairing: Pairing::new(alloc),
     };

@@ -95,6 +95,10 @@ impl<W: Target> EventTaker for Ordering<W> {
             Verdict::Began | Verdict::Stored | Verdict::Flow => Ok(()),
         }
     }
+
+    fn refused(&self, _device: &W) -> OrderingFault {
+        OrderingFault::Memory
+    }
 }
 
 /// The length that a dropped frame announced, where that was the reason.

@@ -2,6 +2,7 @@
 ghost use Rattle.std.specs.Prelude.{◌≡◌, ℕ, ◌+◌, ◌^◌, ◌<◌, ◌≤◌, List, [], ◌∷◌, ◌++◌, length, OnOk, IfErr, Option, Some, None, true};
 ghost use Rattle.can_log.specs.declared.frame.Stamped.{Stamped as StampedValue};
 ghost use Rattle.isotp_receive.specs.declared.TheConstants.{MESSAGE_LIMIT};
+ghost use Rattle.isotp_receive.specs.CleanTrace.{IsKept};
 ghost use Rattle.isotp_receive.specs.EventSeen.{seen_event};
 ghost use Rattle.isotp_receive.specs.Standing.{receptions_after};
 ghost use Rattle.isotp_receive.specs.Trace.{Entry};
@@ -38,6 +39,12 @@ pub(crate) trait EventTaker {
             → seen_event event.entry ≡ verdict MESSAGE_LIMIT T e → took start T (self.old, device.old) → took start (T ++ e ∷ []) (self.new, device.new)) }
         ensures err { IfErr result (λ fault. (start : Self × Self.Device) (T : List Entry) (e : Entry) → e.line ≡ line → e.dir ≡ dir → length T < 2 ^ 62
             → seen_event event.entry ≡ verdict MESSAGE_LIMIT T e → took start T (self.old, device.old) → stopped start T e fault (self.new, device.new)) };
+
+    /// Why no more events are taken, where memory was refused for the next frame of the trace. Memory is only asked for
+    /// where the frame can be received.
+    fn refused(&self, device: &Self::Device) -> Self::Fault
+        ensures { (start : Self × Self.Device) (T : List Entry) (e : Entry) → IsKept (verdict MESSAGE_LIMIT T e).told
+            → took start T (self.now, device.now) → stopped start T e result (self.now, device.now) };
 }
 
 /// What was counted in the frames of a log so far.
@@ -66,7 +73,7 @@ impl Counts {
     }
 }
 
-/// Takes one more frame of a direction.
+/// Takes one more frame of a direction. Where memory is refused for it, the taker says what that is called.
 fn receive<E: EventTaker>(
     pair: &mut Pair,
     counts: &mut Counts,
@@ -77,18 +84,22 @@ fn receive<E: EventTaker>(
     dir: Dir,
     frame: &Frame,
 ) -> Result<(), E::Fault>
-    ensures pair { (T : List Entry) → pair.old ≡ receptions_after MESSAGE_LIMIT T
-        → pair.new ≡ receptions_after MESSAGE_LIMIT (T ++ record { line = line; micros = micros; dir = dir; frame = frame.now } ∷ []) }
-    ensures counts { (T : List Entry) → pair.old ≡ receptions_after MESSAGE_LIMIT T
-        → CountsEvent counts.old (verdict MESSAGE_LIMIT T (record { line = line; micros = micros; dir = dir; frame = frame.now })) counts.new }
+    ensures pair { OnOk result ((T : List Entry) → pair.old ≡ receptions_after MESSAGE_LIMIT T
+        → pair.new ≡ receptions_after MESSAGE_LIMIT (T ++ record { line = line; micros = micros; dir = dir; frame = frame.now } ∷ [])) }
+    ensures counts { OnOk result ((T : List Entry) → pair.old ≡ receptions_after MESSAGE_LIMIT T
+        → CountsEvent counts.old (verdict MESSAGE_LIMIT T (record { line = line; micros = micros; dir = dir; frame = frame.now })) counts.new) }
     ensures ok { OnOk result ((start : E × E.Device) (T : List Entry) → pair.old ≡ receptions_after MESSAGE_LIMIT T → length T < 2 ^ 62
         → E.took start T (taker.old, device.old) → E.took start (T ++ record { line = line; micros = micros; dir = dir; frame = frame.now } ∷ []) (taker.new, device.new)) }
     ensures err { IfErr result (λ fault. (start : E × E.Device) (T : List Entry) → pair.old ≡ receptions_after MESSAGE_LIMIT T → length T < 2 ^ 62
         → E.took start T (taker.old, device.old) → E.stopped start T (record { line = line; micros = micros; dir = dir; frame = frame.now }) fault (taker.new, device.new)) }
 {
-    let event = pair.accept(line, micros, dir, frame);
-    counts.count(event);
-    taker.take(device, line, dir, event)
+    match pair.accept(line, micros, dir, frame) {
+        Ok(event) => {
+            counts.count(event);
+            taker.take(device, line, dir, event)
+        }
+        Err(_refused) => Err(taker.refused(device)),
+    }
 }
 
 /// The receptions of a log, and what was counted in it.

@@ -1,10 +1,12 @@
 //! What a run over a whole log gives.
 
 mod explanations;
+mod identifiers;
 mod items;
 mod meanings;
 
 use crate::{Config, Fault, Summary, normalise};
+use can_log::Id;
 use std::test::Fail;
 use trace_io::{FullAfter, Reading, Source, Target, Writing};
 
@@ -17,7 +19,7 @@ const CANONICAL: &[u8] =
     b"(0000000000.000000) can0 7E0#0322F190CCCCCCCC\n(0000000000.001000) can0 7E8#101462F190574241\n(0000000000.002000) can0 7E0#300000CCCCCCCCCC\n(0000000000.003000) can0 7E8#2133413543353045\n(0000000000.004000) can0 7E8#2246313233343536\n";
 
 pub(crate) fn config(max_bytes: u64) -> Result<Config, Fail> {
-    Ok(Config::new(0x7E0, 0x7E8, max_bytes)?)
+    Ok(Config::new(Id::Std(0x7E0), Id::Std(0x7E8), max_bytes)?)
 }
 
 fn run(
@@ -91,12 +93,12 @@ fn pending_and_strays(rt: HostRuntime) -> Result<(), Fail> {
     )?;
     assert_eq!(rt; answer, Err(Fault::BadLine { line: 3, column: 1 }));
     assert_eq!(rt; text.len(), 46);
-    let (answer, _) = run(&rt, 100, b"(1.000000) can0 7E8#1000000100004142\nx\n")?;
+    let (answer, _) = run(&rt, 100, b"(1.000000) can0 7E8#1000001000004142\nx\n")?;
     assert_eq!(rt;
         answer,
         Err(Fault::Oversize {
             line: 1,
-            announced: 65536
+            announced: 1048576
         })
     );
     Ok(())

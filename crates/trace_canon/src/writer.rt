@@ -140,7 +140,7 @@ fn write_frames<W: Target>(
         let Some(line) = place.next_line(config, sender, &frame) else {
             return write_all(writer, block.as_slice());
         };
-        gather(writer, block, &line)?;
+        gather(writer, block, line.as_slice())?;
     }
     write_all(writer, block.as_slice())
 }

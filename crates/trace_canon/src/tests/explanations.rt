@@ -88,19 +88,19 @@ fn a_repeated_sequence_number(rt: HostRuntime) -> Result<(), Fail> {
 
 #[test]
 fn more_announced_than_a_message_may_have(rt: HostRuntime) -> Result<(), Fail> {
-    let log = log_of(rt.alloc(), "7E8#1000000100004142")?;
+    let log = log_of(rt.alloc(), "7E8#1000001000004142")?;
     explains(
         &rt,
         rt.alloc(),
         log.as_slice(),
-        b"line 1: unit frame dropped: 65536 bytes announced\nlines 1 frames 1 messages 0 dropped 1 ended 0 unfinished 0 pending 0\n",
+        b"line 1: unit frame dropped: 1048576 bytes announced\nlines 1 frames 1 messages 0 dropped 1 ended 0 unfinished 0 pending 0\n",
     )?;
-    let log = log_of(rt.alloc(), "7E8#101462F190574241 7E8#1000000100004142")?;
+    let log = log_of(rt.alloc(), "7E8#101462F190574241 7E8#1000001000004142")?;
     explains(
         &rt,
         rt.alloc(),
         log.as_slice(),
-        b"line 2: unit reception from line 1 of 20 bytes ended: new start\nline 2: unit frame dropped: 65536 bytes announced\nlines 2 frames 2 messages 0 dropped 1 ended 1 unfinished 0 pending 0\n",
+        b"line 2: unit reception from line 1 of 20 bytes ended: new start\nline 2: unit frame dropped: 1048576 bytes announced\nlines 2 frames 2 messages 0 dropped 1 ended 1 unfinished 0 pending 0\n",
     )
 }
 

@@ -1,5 +1,6 @@
 //! What logs mean, by the calls that hold a meaning. No expected value comes from the program.
 use crate::{CompareFault, Comparison, Config, Fault, Summary, compare, list, meaning_of};
+use can_log::Id;
 use std::test::Fail;
 use trace_io::{FullAfter, Reading, Source, Writing};
 
@@ -54,7 +55,7 @@ const NOTHING: Summary = Summary {
 };
 
 fn config(max_bytes: u64) -> Result<Config, Fail> {
-    Ok(Config::new(0x7E0, 0x7E8, max_bytes)?)
+    Ok(Config::new(Id::Std(0x7E0), Id::Std(0x7E8), max_bytes)?)
 }
 
 /// A log of these frames.

@@ -1,23 +1,12 @@
-use Rattle.std.proofs.Common.{◌-◌, ◌<◌, ◌^◌, arith, length, sym, subst}
-use Rattle.isotp_receive.specs.declared.TheConstants.{MESSAGE_LIMIT}
-use Rattle.trace_canon.specs.declared.fault.Fault.TheVariants as fault
+use Rattle.std.proofs.Common.{◌-◌, ◌<◌, ◌^◌, arith, length}
 use Rattle.trace_canon.specs.declared.ordering.Ordering.{Ordering}
 use Rattle.trace_canon.specs.declared.receiver.Receiver.{Receiver}
 use Rattle.trace_canon.specs.declared.summary.Summary.{Summary}
-use Rattle.trace_canon.specs.Answers.{Answers}
-use Rattle.trace_canon.proofs.Normalised.{answers_of_lines, answers_end, fails_of_lines, fails_at_the_end, reads_at_the_end, tells_at_the_end, answers_nothing, canonical_again, recording_again, answer_is_certificate}
+use Rattle.trace_canon.proofs.Normalised.{answers_of_lines, answers_end, fails_of_lines, fails_at_the_end, reads_at_the_end, tells_at_the_end, canonical_again, recording_again, answer_is_certificate}
 use Rattle.trace_canon.proofs.Normalised.{writing, OrderedEvents, StoppedOrdering, ordered_nothing, has_not_put}
-use Rattle.trace_canon.proofs.Results.{handed_on}
 use Rattle.trace_canon.proofs.Runs.{TookLines, StoppedOnLine, starts_run, took_nothing, has_received, has_taken, has_stopped}
 use Rattle.trace_canon.proofs.Streams.{few_in_log}
 use Rattle.trace_canon.proofs.engine.normalise.Goals as goal
-
-pub returns-in_err-pair-clause-answer : goal.returns-in_err-pair-clause-answer
-returns-in_err-pair-clause-answer g c = λ reads writes log begins.
-    let old = g.W.Target.written c.args.writer.now in
-    let given = g.R.Source.given c.args.reader.now - g.R.Source.given c.args.reader.now in
-    subst (λ r. Answers MESSAGE_LIMIT c.args.config.now log given r old old) (sym (handed_on c.from_residual.result fault.Memory c.from_residual.ensures.1))
-    (answers_nothing c.args.config.now log given old (omega arith))
 
 pub returns-in-Err-clause-answer : goal.returns-in-Err-clause-answer
 returns-in-Err-clause-answer g c = λ reads told log begins.

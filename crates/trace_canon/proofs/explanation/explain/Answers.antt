@@ -1,22 +1,11 @@
 use Rattle.std.proofs.Common.{◌-◌, [], arith, sym, subst}
-use Rattle.isotp_receive.specs.declared.TheConstants.{MESSAGE_LIMIT}
 use Rattle.trace_canon.specs.declared.explaining.Explaining.{Explaining}
-use Rattle.trace_canon.specs.declared.fault.Fault.TheVariants as fault
 use Rattle.trace_canon.specs.declared.receiver.Receiver.{Receiver}
-use Rattle.trace_canon.specs.ExplainAnswers.{AnswersExplain}
 use Rattle.trace_canon.specs.Explaining.{CountsRemoved}
-use Rattle.trace_canon.proofs.Explanations.{explains_of_lines, explains_failures, explains_end, end_failures, end_reads, explains_nothing, certifies, told_at_the_end}
+use Rattle.trace_canon.proofs.Explanations.{explains_of_lines, explains_failures, explains_end, end_failures, end_reads, certifies, told_at_the_end}
 use Rattle.trace_canon.proofs.Explanations.{ExplainedEvents, FailedAtEvent, explained_nothing}
-use Rattle.trace_canon.proofs.Results.{handed_on}
 use Rattle.trace_canon.proofs.Runs.{TookLines, StoppedOnLine, starts_run, took_nothing, has_received, has_taken, has_stopped}
 use Rattle.trace_canon.proofs.explanation.explain.Goals as goal
-
-pub returns-in_err-pair-clause-answer : goal.returns-in_err-pair-clause-answer
-returns-in_err-pair-clause-answer g c = λ reads writes log begins.
-    let old = g.W.Target.written c.args.writer.now in
-    let given = g.R.Source.given c.args.reader.now - g.R.Source.given c.args.reader.now in
-    subst (λ r. AnswersExplain MESSAGE_LIMIT c.args.config.now log given r old old) (sym (handed_on c.from_residual.result fault.Memory c.from_residual.ensures.1))
-    (explains_nothing c.args.config.now log given old (omega arith))
 
 pub returns-in-Err-clause-answer : goal.returns-in-Err-clause-answer
 returns-in-Err-clause-answer g c = λ reads told log begins.

@@ -13,7 +13,7 @@ returns-in-Err-clause-answer g c = λ reads log begins.
     let begun : Receiver Holding × Unit {0} = (c.start-receiver.result, tt) in
     let now : Receiver Holding × Unit {0} = (c.read_lines.new.taker, tt) in
     let starts = starts_run settings _ c.start-receiver.result tt c.start-receiver.ensures in
-    let stands : begun.0.taker.pairing ≡ meaning [] = ap (λ (h : Holding). h.pairing) c.start-receiver.ensures.taker_is ∙ c.new-2.ensures in
+    let stands : begun.0.taker.pairing ≡ meaning [] = ap (λ (h : Holding). h.pairing) c.start-receiver.ensures.taker_is ∙ c.new.ensures in
     let nothing = took_nothing HeldEvents begun (held_nothing (begun.0.taker, begun.1)) in
     let read = c.in-Err.ensures.lines reads log (rw c.max_bytes.ensures.value begins) begun nothing in
     rw c.fault_of.ensures
@@ -28,7 +28,7 @@ returns-in-Ok-clause-answer g c = λ reads log begins.
     let begun : Receiver Holding × Unit {0} = (c.start-receiver.result, tt) in
     let now : Receiver Holding × Unit {0} = (c.read_lines.new.taker, tt) in
     let starts = starts_run settings _ c.start-receiver.result tt c.start-receiver.ensures in
-    let stands : begun.0.taker.pairing ≡ meaning [] = ap (λ (h : Holding). h.pairing) c.start-receiver.ensures.taker_is ∙ c.new-2.ensures in
+    let stands : begun.0.taker.pairing ≡ meaning [] = ap (λ (h : Holding). h.pairing) c.start-receiver.ensures.taker_is ∙ c.new.ensures in
     let nothing = took_nothing HeldEvents begun (held_nothing (begun.0.taker, begun.1)) in
     let read = c.in-Ok.ensures.lines reads log (rw c.max_bytes.ensures.value begins) begun nothing in
     let whats = read.0 in

@@ -24,16 +24,16 @@ frames-preserved g c =
     let lays = c.in-Some-next_line.ensures in
     let fits = rw lays.0 at lays.1 in
     let next : c.next_line.new.self ≡ behind c.frames.place (line_at settings c.frames.place.lines frame) = lays.2 ∙ ap (behind c.frames.place) lays.0 in
-    let text : text_from settings c.frames.place c.frames.sender-iterator ≡ c.in-Some-next_line.line ++ text_from settings c.next_line.new.self later =
+    let text : text_from settings c.frames.place c.frames.sender-iterator ≡ c.in-Some-next_line.line.items ++ text_from settings c.next_line.new.self later =
     ap (text_from settings c.frames.place) c.in-Some.ensures.steps ∙ text_step settings c.frames.place frame later fits
     ∙ ap (λ p. line_at settings c.frames.place.lines frame ++ text_from settings p later) (sym next)
     ∙ ap (λ l. l ++ text_from settings c.next_line.new.self later) (sym lays.0) in
     record {
       telling = λ told. c.in_ok-gather.ensures.tells (c.frames.invariant.telling told);
       written = λ told.
-          rest_gathered _ _ (g.W.Target.written c.frames.writer) c.frames.block.items c.in-Some-next_line.line (text_from settings c.next_line.new.self later) _ _
+          rest_gathered _ _ (g.W.Target.written c.frames.writer) c.frames.block.items c.in-Some-next_line.line.items (text_from settings c.next_line.new.self later) _ _
           (rest_along _ _ _ _ _ (c.frames.invariant.written told) (ap (λ x. c.frames.block.items ++ x) text))
-          (c.in_ok-gather.ensures.gathered (c.frames.invariant.telling told));
+          (rw c.as_slice-in-frames.ensures.value at c.in_ok-gather.ensures.gathered (c.frames.invariant.telling told));
       place = c.frames.invariant.place ∙ ap (place_after settings c.frames.place) c.in-Some.ensures.steps
           ∙ place_step settings c.frames.place frame later fits ∙ ap (λ p. place_after settings p later) (sym next);
       failures = c.in_ok-gather.ensures.failures ∙ c.frames.invariant.failures;
@@ -47,14 +47,14 @@ returns-in_err-gather-clause-written g c = λ told.
     let lays = c.in-Some-next_line.ensures in
     let fits = rw lays.0 at lays.1 in
     let next : c.next_line.new.self ≡ behind c.frames.place (line_at settings c.frames.place.lines frame) = lays.2 ∙ ap (behind c.frames.place) lays.0 in
-    let text : text_from settings c.frames.place c.frames.sender-iterator ≡ c.in-Some-next_line.line ++ text_from settings c.next_line.new.self later =
+    let text : text_from settings c.frames.place c.frames.sender-iterator ≡ c.in-Some-next_line.line.items ++ text_from settings c.next_line.new.self later =
     ap (text_from settings c.frames.place) c.in-Some.ensures.steps ∙ text_step settings c.frames.place frame later fits
     ∙ ap (λ p. line_at settings c.frames.place.lines frame ++ text_from settings p later) (sym next)
     ∙ ap (λ l. l ++ text_from settings c.next_line.new.self later) (sym lays.0) in
     rw (handed_on c.from_residual.result _ c.from_residual.ensures.1)
-    (rest_stops _ _ (g.W.Target.written c.frames.writer) c.frames.block.items c.in-Some-next_line.line (text_from settings c.next_line.new.self later) _
+    (rest_stops _ _ (g.W.Target.written c.frames.writer) c.frames.block.items c.in-Some-next_line.line.items (text_from settings c.next_line.new.self later) _
     (rest_along _ _ _ _ _ (c.frames.invariant.written told) (ap (λ x. c.frames.block.items ++ x) text))
-    (c.in_err-gather.ensures.gathered (c.frames.invariant.telling told)))
+    (rw c.as_slice-in-frames.ensures.value at c.in_err-gather.ensures.gathered (c.frames.invariant.telling told)))
 
 pub returns-in_default-clause-written : goal.returns-in_default-clause-written
 returns-in_default-clause-written g c = λ told.

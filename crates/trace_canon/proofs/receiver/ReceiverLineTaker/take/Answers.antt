@@ -1,5 +1,5 @@
 use Rattle.std.proofs.Common.{arith, ◌≡◌, ℕ, ◌+◌, [], ◌∷◌, ◌++◌, length, Some, None, ap, sym, subst, ◌∙◌}
-use Rattle.std.proofs.lemmas.Result.{on_ok_weaker, IfErr-weaker}
+use Rattle.std.proofs.lemmas.Result.{IfErr-weaker}
 use Rattle.isotp_receive.specs.declared.TheConstants.{MESSAGE_LIMIT}
 use Rattle.isotp_receive.specs.Trace.{Entry}
 use Rattle.isotp_receive.specs.Verdict.{verdict}
@@ -7,6 +7,7 @@ use Rattle.isotp_receive.specs.Standing.{receptions_after}
 use Rattle.trace_canon.specs.Settings.{direction_of}
 use Rattle.trace_canon.specs.Trace.{trace}
 use Rattle.trace_canon.specs.Receiving.{CountsEvent, entry_in}
+use Rattle.trace_canon.proofs.Results.{three_ok}
 use Rattle.trace_canon.proofs.Receivings.{few_frames, trace_same_blank, trace_same_foreign, trace_next, receives_same, receives_next}
 use Rattle.trace_canon.proofs.receiver.ReceiverLineTaker.take.Goals as goal
 
@@ -40,7 +41,7 @@ returns-clause-ok g c =
     let stamped = c.in-Some.stamped in
     let d = c.in-Some-direction_of.dir in
     let at : ℕ → Entry = λ line. record { line = line; micros = stamped.micros; dir = d; frame = stamped.frame } in
-    on_ok_weaker c.receive.result (λ taken start whats number few took. (
+    three_ok c.receive.result (λ stands counts taken start whats number few took. (
       took.0,
       λ fresh.
           let received = took.1 fresh in
@@ -53,12 +54,12 @@ returns-clause-ok g c =
           let T = trace start.0.config whats in (
             receives_next start.0.config whats c.args.what.now (entry_in whats stamped d) c.args.self.now.pair c.receive.new.pair c.args.self.now.lines c.args.line
                 c.args.self.now.counts c.receive.new.counts next number few
-                (c.receive.ensures.pair T received.0.pair_is ∙ ap (λ (e : Entry). receptions_after MESSAGE_LIMIT (T ++ e ∷ [])) here)
-                (subst (λ (e : Entry). CountsEvent c.args.self.now.counts (verdict MESSAGE_LIMIT T e) c.receive.new.counts) here (c.receive.ensures.counts T received.0.pair_is)) received.0,
+                (stands T received.0.pair_is ∙ ap (λ (e : Entry). receptions_after MESSAGE_LIMIT (T ++ e ∷ [])) here)
+                (subst (λ (e : Entry). CountsEvent c.args.self.now.counts (verdict MESSAGE_LIMIT T e) c.receive.new.counts) here (counts T received.0.pair_is)) received.0,
             subst (λ U. g.E.EventTaker.took (start.0.taker, start.1) U (c.receive.new.taker, c.receive.new.device)) (sym next)
                 (subst (λ (e : Entry). g.E.EventTaker.took (start.0.taker, start.1) (T ++ e ∷ []) (c.receive.new.taker, c.receive.new.device)) here (taken (start.0.taker, start.1) T received.0.pair_is (omega arith) received.1)),
           ),
-    )) c.receive.ensures.ok
+    )) c.receive.ensures.pair c.receive.ensures.counts c.receive.ensures.ok
 
 pub returns-clause-err : goal.returns-clause-err
 returns-clause-err g c =
