@@ -1,4 +1,5 @@
 pub mod Identifiers
+pub mod Commands
 pub mod Words
 pub mod Status
 pub mod Comparisons

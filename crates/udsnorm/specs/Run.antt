@@ -4,7 +4,7 @@ use Rattle.trace_canon.specs.Settings.{Settings}
 use Rattle.trace_canon.specs.Answers.{Answers}
 use Rattle.trace_canon.specs.Listed.{Lists}
 use Rattle.trace_canon.specs.ExplainAnswers.{AnswersExplain}
-use Rattle.trace_canon.specs.Compared.{Compares, fault_in}
+use Rattle.trace_canon.specs.Compared.{fault_in}
 use Rattle.trace_canon.specs.declared.comparing.Comparison.{Comparison}
 use Rattle.trace_canon.specs.declared.comparing.Comparison.TheVariants.{Same, Different}
 use Rattle.trace_canon.specs.declared.fault.CompareFault.{CompareFault}

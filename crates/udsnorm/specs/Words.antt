@@ -1,9 +1,14 @@
 -- What the commands and the texts of their options ask for.
-use Rattle.std.specs.Prelude.{◌≡◌, ℕ, List, [], codes, Option, Some, None, option_map, unwrap_or, Result, Ok, Err, ⊤, string_bytes, bytes_eq, IsSome, if◌then◌else◌}
-use Rattle.clap.specs.Matches.{first_value}
-use Rattle.clap.specs.declared.parser.matches.Found.{Found}
-use Rattle.can_log.specs.declared.frame.Id.TheVariants as id
+use Rattle.std.specs.Prelude.{◌≡◌, ◌≢◌, ◌⊎◌, ℕ, List, [], codes, Option, Some, None, option_map, unwrap_or, Result, Ok, Err, ⊤, string_bytes, bytes_eq, IsSome, IsErrAnd, if◌then◌else◌}
+use Rattle.std.specs.Str.Parse.{digits_value, without_leading_plus}
+use Rattle.clap.specs.Kinds.{IsAmong, Kinds}
+use Rattle.clap.specs.ValueTests.{is_unsigned_in}
+use Rattle.clap.specs.Walk.{Row, Text, first_of, one_of}
+use Rattle.clap.specs.declared.error.kind.ErrorKind.{ErrorKind}
+use Rattle.clap.specs.declared.error.kind.ErrorKind.TheVariants.{DisplayHelp, OutOfMemory}
+use Rattle.can_log.specs.declared.frame.Id.{Id}
 use Rattle.trace_canon.specs.Settings.{Settings, Configures}
+use Rattle.udsnorm.specs.Commands.{command_in, refusals}
 use Rattle.udsnorm.specs.Identifiers.{identifier_of}
 use Rattle.udsnorm.specs.declared.job.Job.{Job}
 use Rattle.udsnorm.specs.declared.job.Job.TheVariants as job
@@ -11,17 +16,17 @@ use Rattle.udsnorm.specs.declared.job.Plan.{Plan}
 use Rattle.udsnorm.specs.declared.job.WordsFault.{WordsFault}
 use Rattle.udsnorm.specs.declared.job.WordsFault.TheVariants.{Help, Words, Identifier, Config, Memory}
 
--- what the numbers of two identifiers and a limit ask for: a configuration, or the reason why there is none
-abbrev pub IsConfiguredAs : ℕ → ℕ → ℕ → Result Settings WordsFault → Type 0
-IsConfiguredAs tester unit limit (Ok settings) = Configures (id.Std tester) (id.Std unit) limit (Ok settings)
-IsConfiguredAs tester unit limit (Err (Config fault)) = Configures (id.Std tester) (id.Std unit) limit (Err fault)
+-- what two identifiers and a limit ask for: a configuration, or the reason why there is none
+abbrev pub IsConfiguredAs : Id → Id → ℕ → Result Settings WordsFault → Type 0
+IsConfiguredAs tester unit limit (Ok settings) = Configures tester unit limit (Ok settings)
+IsConfiguredAs tester unit limit (Err (Config fault)) = Configures tester unit limit (Err fault)
 IsConfiguredAs tester unit limit (Err (Help text)) = ⊥
 IsConfiguredAs tester unit limit (Err (Words text)) = ⊥
 IsConfiguredAs tester unit limit (Err Identifier) = ⊥
 IsConfiguredAs tester unit limit (Err Memory) = ⊥
 
 -- The same of the identifiers that two texts spell. Where one of them spells none, that is the reason.
-abbrev pub IsConfiguredBy : Option ℕ → Option ℕ → ℕ → Result Settings WordsFault → Type 0
+abbrev pub IsConfiguredBy : Option Id → Option Id → ℕ → Result Settings WordsFault → Type 0
 IsConfiguredBy (Some tester) (Some unit) limit result = IsConfiguredAs tester unit limit result
 IsConfiguredBy (Some tester) None limit result = result ≡ Err Identifier
 IsConfiguredBy None unit limit result = result ≡ Err Identifier
@@ -35,31 +40,76 @@ job_named name =
     else job.Normalise
 
 -- the identifier that the value of this option spells
-abbrev pub identifier_in : Found → List ℕ → Option ℕ
-identifier_in found option = identifier_of (unwrap_or (first_value found option) [])
+abbrev pub identifier_in : List Row → Text → Option Id
+identifier_in rows option = identifier_of (unwrap_or (first_of option rows) [])
 
--- the configuration of the values of `--tester` and `--unit`, and a limit
-abbrev pub IsConfiguredIn : Found → ℕ → Result Settings WordsFault → Type 0
-IsConfiguredIn found limit result = IsConfiguredBy (identifier_in found (codes "tester")) (identifier_in found (codes "unit")) limit result
+-- The number of 64 bits that a text spells in decimal digits, with a plus before them or without. Where it spells none,
+-- which the parser takes for no limit, 0.
+abbrev pub number_of : Option Text → ℕ
+number_of None = 0
+number_of (Some text) = if is_unsigned_in 0 18446744073709551615 text then digits_value 10 (without_leading_plus text) else 0
+
+-- the number that the value of `--limit` spells
+abbrev pub limit_in : List Row → ℕ
+limit_in rows = number_of (one_of (codes "limit") rows)
+
+-- the configuration of the values of `--tester`, `--unit` and `--limit`
+abbrev pub IsConfiguredIn : List Row → Result Settings WordsFault → Type 0
+IsConfiguredIn rows result = IsConfiguredBy (identifier_in rows (codes "tester")) (identifier_in rows (codes "unit")) (limit_in rows) result
 
 -- the files of a job: LOG, if it is there, or A and B
-abbrev pub AreFilesOf : Job → Found → Option (List ℕ) → Option (List ℕ) → Type 0
-AreFilesOf job.Normalise found one other = (one ≡ first_value found (codes "LOG")) × (other ≡ None)
-AreFilesOf job.List found one other = (one ≡ first_value found (codes "LOG")) × (other ≡ None)
-AreFilesOf job.Explain found one other = (one ≡ first_value found (codes "LOG")) × (other ≡ None)
-AreFilesOf job.Compare found one other =
-    (one ≡ first_value found (codes "A")) × (other ≡ first_value found (codes "B")) × IsSome one × IsSome other
+abbrev pub AreFilesOf : Job → List Row → Option Text → Option Text → Type 0
+AreFilesOf job.Normalise rows one other = (one ≡ first_of (codes "LOG") rows) × (other ≡ None)
+AreFilesOf job.List rows one other = (one ≡ first_of (codes "LOG") rows) × (other ≡ None)
+AreFilesOf job.Explain rows one other = (one ≡ first_of (codes "LOG") rows) × (other ≡ None)
+AreFilesOf job.Compare rows one other =
+    (one ≡ first_of (codes "A") rows) × (other ≡ first_of (codes "B") rows) × IsSome one × IsSome other
 
 -- The plan for this job that the options and files of the command ask for.
-pub record IsPlanOf (job : Job) (found : Found) (plan : Plan) : Type 0 where
+pub record IsPlanOf (job : Job) (rows : List Row) (plan : Plan) : Type 0 where
   pub job_is : plan.job ≡ job
-  pub config_is : (limit : ℕ) × IsConfiguredIn found limit (Ok plan.config)
-  pub files_are : AreFilesOf job found (option_map string_bytes plan.first) (option_map string_bytes plan.second)
+  pub config_is : IsConfiguredIn rows (Ok plan.config)
+  pub files_are : AreFilesOf job rows (option_map string_bytes plan.first) (option_map string_bytes plan.second)
 
--- why there is no such plan: the identifiers or the configuration, but where memory is refused or a file is not named
-abbrev pub IsRefusedFor : Found → ℕ → WordsFault → Type 0
-IsRefusedFor found limit Identifier = IsConfiguredIn found limit (Err Identifier)
-IsRefusedFor found limit (Config fault) = IsConfiguredIn found limit (Err (Config fault))
-IsRefusedFor found limit (Help text) = ⊥
-IsRefusedFor found limit (Words text) = ⊤
-IsRefusedFor found limit Memory = ⊤
+-- a comparison of which a file is not named
+abbrev pub LacksFile : Job → List Row → Type 0
+LacksFile job.Compare rows = (first_of (codes "A") rows ≡ None) ⊎ (first_of (codes "B") rows ≡ None)
+LacksFile job.Normalise rows = ⊥
+LacksFile job.List rows = ⊥
+LacksFile job.Explain rows = ⊥
+
+-- why there is no such plan: the identifiers, the configuration, a file that is not named, or that memory is refused
+abbrev pub IsRefusedFor : Job → List Row → WordsFault → Type 0
+IsRefusedFor job rows Identifier = IsConfiguredIn rows (Err Identifier)
+IsRefusedFor job rows (Config fault) = IsConfiguredIn rows (Err (Config fault))
+IsRefusedFor job rows (Help text) = ⊥
+IsRefusedFor job rows (Words text) = LacksFile job rows
+IsRefusedFor job rows Memory = ⊤
+
+-- a plan for the command that was found, or why there is none
+abbrev pub IsPlannedFrom : Option (Text × List Row) → Result Plan WordsFault → Type 0
+IsPlannedFrom None result = ⊥
+IsPlannedFrom (Some found) (Ok plan) = IsPlanOf (job_named found.0) found.1 plan
+IsPlannedFrom (Some found) (Err fault) = IsRefusedFor (job_named found.0) found.1 fault
+
+-- what an error of the parser of this kind is called
+abbrev pub IsCalled : ErrorKind → WordsFault → Type 0
+IsCalled kind (Help text) = kind ≡ DisplayHelp
+IsCalled kind (Words text) = (kind ≢ DisplayHelp) × (kind ≢ OutOfMemory)
+IsCalled kind Memory = kind ≡ OutOfMemory
+IsCalled kind Identifier = ⊥
+IsCalled kind (Config fault) = ⊥
+
+-- what is said of words that the parser does not take: help, where that was asked for, or what is wrong with them; or that
+-- memory is refused
+abbrev pub IsRefusedBy : Kinds → WordsFault → Type 0
+IsRefusedBy kinds (Help text) = IsAmong DisplayHelp kinds
+IsRefusedBy kinds (Words text) = (kind : ErrorKind) × (kind ≢ DisplayHelp) × IsAmong kind kinds
+IsRefusedBy kinds Memory = ⊤
+IsRefusedBy kinds Identifier = ⊥
+IsRefusedBy kinds (Config fault) = ⊥
+
+-- what the words ask for: the parser takes them, and the plan is that of the command which it finds; or it does not
+abbrev pub IsPlanned : List Text → Result Plan WordsFault → Type 0
+IsPlanned words result =
+    ((refusals words ≡ []) × IsPlannedFrom (command_in words) result) ⊎ IsErrAnd result (IsRefusedBy (refusals words))

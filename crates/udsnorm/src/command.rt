@@ -1,5 +1,9 @@
 //! The commands and their options, for the parser, with their help.
 
+ghost use Rattle.std.specs.Prelude.{◌≡◌, [], codes, false, IfOk};
+ghost use Rattle.clap.specs.Words.{app_of, new_rule, rule_of};
+ghost use Rattle.udsnorm.specs.Commands.{commands, required, with_files};
+
 use clap::{Arg, Command, value_parser};
 use std::alloc::{AllocError, Global};
 
@@ -66,7 +70,9 @@ Exit status: 0 the logs mean the same, 1 they differ, 2 wrong words, 3 a log is 
 Example: udsnorm compare yesterday.log today.log";
 
 /// All commands of the program.
-pub(crate) fn command<'a>(alloc: Global) -> Result<Command<'a>, AllocError> {
+pub(crate) fn command<'a>(alloc: Global) -> Result<Command<'a>, AllocError>
+    ensures { IfOk result (λ c. app_of c ≡ commands) }
+{
     let normalise = with_options(alloc, "normalise", "Writes the canonical log", OF_NORMALISE)?;
     let list = with_options(
         alloc,
@@ -98,8 +104,8 @@ pub(crate) fn command<'a>(alloc: Global) -> Result<Command<'a>, AllocError> {
         .subcommand(explain.arg(log(alloc))?)?
         .subcommand(
             compare
-                .arg(Arg::new(alloc, LEFT).required(true).help("The left log"))?
-                .arg(Arg::new(alloc, RIGHT).required(true).help("The right log"))?,
+                .arg(required_log(alloc, LEFT, "The left log"))?
+                .arg(required_log(alloc, RIGHT, "The right log"))?,
         )
 }
 
@@ -109,7 +115,9 @@ fn with_options<'a>(
     name: &'a str,
     about: &'a str,
     after_help: &'a str,
-) -> Result<Command<'a>, AllocError> {
+) -> Result<Command<'a>, AllocError>
+    ensures { IfOk result (λ c. app_of c ≡ record { top = with_files name.entry.now []; subs = [] }) }
+{
     Command::new(alloc, name)
         .about(about)
         .after_help(after_help)
@@ -117,14 +125,14 @@ fn with_options<'a>(
             Arg::new(alloc, TESTER)
                 .long(TESTER)
                 .value_name("ID")
-                .help("Identifier of the tester, three hexadecimal digits")
+                .help("Identifier of the tester, 3 or 8 hexadecimal digits")
                 .default_value("7E0"),
         )?
         .arg(
             Arg::new(alloc, UNIT)
                 .long(UNIT)
                 .value_name("ID")
-                .help("Identifier of the control unit, three hexadecimal digits")
+                .help("Identifier of the control unit, 3 or 8 hexadecimal digits")
                 .default_value("7E8"),
         )?
         .arg(
@@ -138,6 +146,17 @@ fn with_options<'a>(
 }
 
 /// The log to read.
-fn log<'a>(alloc: Global) -> Arg<'a> {
+fn log<'a>(alloc: Global) -> Arg<'a>
+    ensures rule { rule_of result ≡ new_rule (codes "LOG") }
+    ensures local { result.global ≡ false }
+{
     Arg::new(alloc, LOG).help("The recorded log; without it standard input is read")
+}
+
+/// One of the two logs to compare.
+fn required_log<'a>(alloc: Global, name: &'a str, help: &'a str) -> Arg<'a>
+    ensures rule { rule_of result ≡ required name.entry.now }
+    ensures local { result.global ≡ false }
+{
+    Arg::new(alloc, name).required(true).help(help)
 }

@@ -1,29 +1,23 @@
 //! An identifier as an option spells it.
 
 ghost use Rattle.std.specs.Prelude.{◌≡◌};
-ghost use Rattle.udsnorm.specs.Identifiers.{identifier_of, digit_of};
+ghost use Rattle.udsnorm.specs.Identifiers.{identifier_of};
 
-/// The number that exactly three hexadecimal digits spell, in either case.
-pub(crate) fn identifier(text: &str) -> Option<u16>
+use can_log::Id;
+
+/// The identifier that exactly three or exactly eight hexadecimal digits spell, in either case: a base identifier, or an
+/// extended one.
+#[tactic(auto, unfolding(crate::specs::Identifiers::identifier_of))]
+pub(crate) fn identifier(text: &str) -> Option<Id>
     ensures { result ≡ identifier_of text.now }
 {
-    let [high, middle, low] = text.as_bytes() else {
+    // A sign is no digit of an identifier.
+    if !text.as_bytes().iter().all(|byte| byte.is_ascii_hexdigit()) {
         return None;
-    };
-    let high = digit(*high)?;
-    let middle = digit(*middle)?;
-    let low = digit(*low)?;
-    Some(u16::from(high) * 256 + u16::from(middle) * 16 + u16::from(low))
-}
-
-/// The number of a hexadecimal digit.
-fn digit(byte: u8) -> Option<u8>
-    ensures { result ≡ digit_of byte }
-{
-    match byte {
-        b'0'..=b'9' => Some(byte - b'0'),
-        b'A'..=b'F' => Some(byte - b'A' + 10),
-        b'a'..=b'f' => Some(byte - b'a' + 10),
+    }
+    match text.len() {
+        3 => u16::from_str_radix(text, 16).ok().map(Id::Std),
+        8 => u32::from_str_radix(text, 16).ok().map(Id::Ext),
         _ => None,
     }
 }

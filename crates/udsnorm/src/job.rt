@@ -40,8 +40,8 @@ pub enum WordsFault {
     /// The words don't fit the commands and their options. This is the parser's text.
     #[error("{0}")]
     Words(String),
-    /// An identifier is not spelled by exactly three hexadecimal digits.
-    #[error("identifier is not three hexadecimal digits")]
+    /// An identifier is not spelled by exactly three or exactly eight hexadecimal digits.
+    #[error("identifier is not three or eight hexadecimal digits")]
     Identifier,
     /// There is no configuration of these identifiers and this limit.
     #[error("{0}")]

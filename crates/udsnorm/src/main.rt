@@ -20,6 +20,8 @@ mod identifiers;
 mod job;
 mod run;
 mod tell;
+#[cfg(test)]
+mod tests;
 mod text;
 mod words;
 

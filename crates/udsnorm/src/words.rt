@@ -1,15 +1,16 @@
 //! What the words of a command line ask for.
 
-ghost use Rattle.std.specs.Prelude.{◌≡◌, ◌≢◌, ℕ, None, IfOk, IfErr, IsSome, option_map, string_bytes};
-ghost use Rattle.clap.specs.Words.{found_of};
+ghost use Rattle.std.specs.Prelude.{◌≡◌, ◌≢◌, None, IfOk, IfErr, IsSome, map, option_map, string_bytes};
+ghost use Rattle.clap.specs.Words.{FailsBy, first_of, found_of, kind_of, rows_of, subcommand_rows_of};
+ghost use Rattle.udsnorm.specs.Commands.{command_in, refusals, words_or_normalise};
 ghost use Rattle.udsnorm.specs.Identifiers.{identifier_of};
-ghost use Rattle.udsnorm.specs.Words.{IsConfiguredBy, IsConfiguredIn, IsPlanOf, IsRefusedFor, job_named};
+ghost use Rattle.udsnorm.specs.Words.{IsCalled, IsConfiguredBy, IsConfiguredIn, IsPlanOf, IsPlanned, IsPlannedFrom, IsRefusedFor, job_named};
 
 use crate::command::{LEFT, LIMIT, LOG, RIGHT, TESTER, UNIT, command};
 use crate::identifiers::identifier;
 use crate::job::{Job, Plan, WordsFault};
-use clap::ArgMatches;
 use clap::error::ErrorKind;
+use clap::{ArgMatches, Error};
 use std::alloc::{AllocError, Global};
 use trace_canon::Config;
 
@@ -18,23 +19,36 @@ static NO_WORDS: [&str; 1] = ["normalise"];
 
 /// What the words ask for, those after the program's name.
 pub fn plan(alloc: Global, words: &[String]) -> Result<Plan, WordsFault>
+    // It is the plan of the command that the parser finds in the words, or says why there is none.
+    ensures words { IsPlanned (words_or_normalise (map string_bytes words.now)) result }
+
+    // A plan to compare has both files, and no other has a second.
     ensures both { IfOk result (λ plan. plan.job ≡ Job.Compare → IsSome plan.first × IsSome plan.second) }
     ensures one { IfOk result (λ plan. plan.job ≢ Job.Compare → plan.second ≡ None) }
 {
-    let command = command(alloc)?;
-    let found = if words.is_empty() {
-        command.try_get_matches_from(NO_WORDS.as_slice())
-    } else {
-        command.try_get_matches_from(words)
-    };
-    match found {
+    match found(alloc, words) {
         Ok(matches) => planned(alloc, &matches),
         Err(error) => Err(refusal(alloc, &error)?),
     }
 }
 
+/// What the parser finds in the words.
+fn found<'a>(alloc: Global, words: &'a [String]) -> Result<ArgMatches<'a>, Error>
+    ensures matches { IfOk result (λ m. subcommand_rows_of m ≡ command_in (words_or_normalise (map string_bytes words.entry.now))) }
+    ensures kinds { FailsBy (refusals (words_or_normalise (map string_bytes words.entry.now))) result }
+{
+    let command = command(alloc)?;
+    if words.is_empty() {
+        command.try_get_matches_from(NO_WORDS.as_slice())
+    } else {
+        command.try_get_matches_from(words)
+    }
+}
+
 /// What the parser's error is called.
-fn refusal(alloc: Global, error: &clap::Error) -> Result<WordsFault, AllocError> {
+fn refusal(alloc: Global, error: &Error) -> Result<WordsFault, AllocError>
+    ensures { IfOk result (IsCalled (kind_of error.now)) }
+{
     match error.kind() {
         ErrorKind::OutOfMemory => Ok(WordsFault::Memory),
         ErrorKind::DisplayHelp => Ok(WordsFault::Help(format!(in alloc; "{error}")?)),
@@ -42,15 +56,16 @@ fn refusal(alloc: Global, error: &clap::Error) -> Result<WordsFault, AllocError>
     }
 }
 
-/// What the parser found: a command, with its options and files.
+/// The plan of the command that the parser found.
 fn planned(alloc: Global, matches: &ArgMatches<'_>) -> Result<Plan, WordsFault>
+    requires { IsSome (subcommand_rows_of matches.now) }
+    ensures from { IsPlannedFrom (subcommand_rows_of matches.now) result }
     ensures both { IfOk result (λ plan. plan.job ≡ Job.Compare → IsSome plan.first × IsSome plan.second) }
     ensures one { IfOk result (λ plan. plan.job ≢ Job.Compare → plan.second ≡ None) }
 {
     match matches.subcommand() {
         Some((name, found)) => plan_of(alloc, job_named(name), found),
-        // The parser asks for a command.
-        None => Err(WordsFault::Words(String::new(alloc))),
+        None => unreachable!(),
     }
 }
 
@@ -68,19 +83,19 @@ fn job_named(name: &str) -> Job
 
 /// The plan of a job, by the options and files of its command.
 fn plan_of(alloc: Global, job: Job, found: &ArgMatches<'_>) -> Result<Plan, WordsFault>
-    ensures plan { IfOk result (IsPlanOf job (found_of found.now)) }
-    ensures fault { (limit : ℕ) × IfErr result (IsRefusedFor (found_of found.now) limit) }
+    ensures plan { IfOk result (IsPlanOf job (rows_of (found_of found.now))) }
+    ensures fault { IfErr result (IsRefusedFor job (rows_of (found_of found.now))) }
 {
     let config = configuration(found)?;
     if job != Job::Compare {
         return Ok(Plan {
             job,
             config,
-            first: copied(alloc, found.get_str(LOG))?,
+            first: copied(alloc, text_of(found, LOG))?,
             second: None,
         });
     }
-    let (Some(left), Some(right)) = (found.get_str(LEFT), found.get_str(RIGHT)) else {
+    let (Some(left), Some(right)) = (text_of(found, LEFT), text_of(found, RIGHT)) else {
         // The parser asks for both.
         return Err(WordsFault::Words(String::new(alloc)));
     };
@@ -94,10 +109,10 @@ fn plan_of(alloc: Global, job: Job, found: &ArgMatches<'_>) -> Result<Plan, Word
 
 /// The configuration that the options ask for. Each of them has a default.
 fn configuration(found: &ArgMatches<'_>) -> Result<Config, WordsFault>
-    ensures { (limit : ℕ) × IsConfiguredIn (found_of found.now) limit result }
+    ensures { IsConfiguredIn (rows_of (found_of found.now)) result }
 {
-    let tester = found.get_str(TESTER).unwrap_or("");
-    let unit = found.get_str(UNIT).unwrap_or("");
+    let tester = text_of(found, TESTER).unwrap_or("");
+    let unit = text_of(found, UNIT).unwrap_or("");
     let limit = found.get_one::<u64>(LIMIT).unwrap_or(0);
     configured(tester, unit, limit)
 }
@@ -110,6 +125,13 @@ fn configured(tester: &str, unit: &str, limit: u64) -> Result<Config, WordsFault
         return Err(WordsFault::Identifier);
     };
     Config::new(tester, unit, limit).map_err(WordsFault::Config)
+}
+
+/// The text of an option or a file, if it has one.
+fn text_of<'a>(found: &ArgMatches<'a>, name: &str) -> Option<&'a str>
+    ensures { option_map (λ t. t.now) result ≡ first_of name.now (rows_of (found_of found.now)) }
+{
+    found.get_str(name)
 }
 
 /// A text of its own, if there is one.

@@ -1,6 +1,3 @@
-use Rattle.std.proofs.Common.{sym, subst}
-use Rattle.isotp_receive.specs.declared.TheConstants.{MESSAGE_LIMIT}
-use Rattle.udsnorm.specs.Run.{EngineAnswers}
 use Rattle.udsnorm.proofs.Statuses.{status_of_end, kept_at_end}
 use Rattle.udsnorm.proofs.run.run_one.Goals as goal
 

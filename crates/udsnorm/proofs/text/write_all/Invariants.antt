@@ -1,4 +1,4 @@
-use Rattle.std.proofs.Common.{◌≡◌, ◌++◌, List, ℕ, length}
+use Rattle.std.proofs.Common.{◌≡◌, length}
 use Rattle.trace_canon.specs.Writing.{IsWritten}
 use Rattle.udsnorm.proofs.text.write_all.Given as goal
 

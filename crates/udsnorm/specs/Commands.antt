@@ -1,0 +1,59 @@
+-- The commands of the program with their options and files, as the parser takes them.
+use Rattle.std.specs.Prelude.{true, false, List, [], ◌∷◌, ◌++◌, Some, Option, codes}
+use Rattle.clap.specs.Faults.{fault_of}
+use Rattle.clap.specs.Kinds.{Kinds}
+use Rattle.clap.specs.Simple.{App, Shape, new_rule, new_shape, subcommand_of}
+use Rattle.clap.specs.Walk.{Row, Rule, Text}
+use Rattle.clap.specs.declared.builder.value_parser.ValueParser.TheVariants.{Unsigned}
+
+-- an option of one value, with the value that it has where it is not given
+abbrev pub option : Text → Text → Rule
+option name default = record (new_rule name) { long = Some name; value_names = 1; defaults = default ∷ [] }
+
+-- the options that every command takes; that of the limit is a number of 64 bits
+abbrev pub options : List Rule
+options =
+    option (codes "tester") (codes "7E0")
+    ∷ option (codes "unit") (codes "7E8")
+    ∷ record (option (codes "limit") (codes "1073741824")) { parser = Some (Unsigned 0 18446744073709551615) }
+    ∷ []
+
+-- a command with these files
+abbrev pub with_files : Text → List Rule → Shape
+with_files name files = record (new_shape name) { rules = options ++ files }
+
+-- a log that may be given, and one that has to be
+abbrev pub log : List Rule
+log = new_rule (codes "LOG") ∷ []
+
+abbrev pub required : Text → Rule
+required name = record (new_rule name) { required = true }
+
+-- the program: no option of its own, and one command has to be named
+abbrev pub commands : App
+commands = record {
+  top = record (new_shape (codes "udsnorm")) {
+    is_leaf = false;
+    no_binary_name = true;
+    disable_help_subcommand = true;
+    subcommand_required = true;
+  };
+  subs = with_files (codes "normalise") log
+      ∷ with_files (codes "list") log
+      ∷ with_files (codes "explain") log
+      ∷ with_files (codes "compare") (required (codes "A") ∷ required (codes "B") ∷ [])
+      ∷ [];
+}
+
+-- the words, or what stands for none
+abbrev pub words_or_normalise : List Text → List Text
+words_or_normalise [] = codes "normalise" ∷ []
+words_or_normalise (word ∷ words) = word ∷ words
+
+-- the command that the words name, with its options and files as they are found, where the parser takes the words
+abbrev pub command_in : List Text → Option (Text × List Row)
+command_in words = subcommand_of commands words
+
+-- what the parser may say of words that it does not take; it takes those of which it has nothing to say
+abbrev pub refusals : List Text → Kinds
+refusals words = fault_of commands words
