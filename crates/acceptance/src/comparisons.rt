@@ -1,109 +1,112 @@
 //! Whether two logs mean the same.
 
-use crate::run::{GIBIBYTE, VIN_LINES, log_of, log_of_frames, meaning};
+use crate::rows::{frames_marked, marked, name_of};
+use crate::run::{GIBIBYTE, VIN_LINES, log_of, meaning};
 use can_log::Dir::Unit;
+use can_log::Id;
 use std::alloc::Global;
+use std::io::Read;
 use std::test::Fail;
 use trace_canon::{CompareFault, Comparison, Config, Fault, compare};
 use trace_io::{Reading, Source};
 use uds_exchange::Item;
 
 /// Two logs compared, each between the tester 7E0 and the unit 7E8.
-pub(crate) fn compared(
+pub(crate) fn compared<A: Read + Drop, B: Read + Drop>(
     alloc: Global,
     limit: u64,
-    left: &[u8],
-    right: &[u8],
+    left: A,
+    right: B,
 ) -> Result<Result<Comparison, CompareFault>, Fail> {
-    let config = Config::new(0x7E0, 0x7E8, limit)?;
+    let config = Config::new(Id::Std(0x7E0), Id::Std(0x7E8), limit)?;
     let (mut left, mut right) = (Reading::new(left), Reading::new(right));
     Ok(compare(alloc, &config, &mut left, &mut right))
 }
 
 /// The frames of two logs, and the first item, counted from 0, at which they differ.
-#[derive(Clone, Copy)]
-struct Row {
-    name: &'static str,
-    left: &'static [&'static str],
-    right: &'static [&'static str],
-    item: Option<usize>,
-}
+const COMPARED: &str = "\
+a log without a line, and a foreign frame
+right 123#00
+found same
 
-const COMPARED: [Row; 9] = [
-    Row {
-        name: "a log without a line, and a foreign frame",
-        left: &[],
-        right: &["123#00"],
-        item: None,
-    },
-    Row {
-        name: "a pending reply before the answer",
-        left: &["7E0#0322F190", "7E8#0462F19041"],
-        right: &["7E0#0322F190", "7E8#037F2278", "7E8#0462F19041"],
-        item: None,
-    },
-    Row {
-        name: "a pending reply after the answer",
-        left: &["7E0#0322F190", "7E8#0462F19041"],
-        right: &["7E0#0322F190", "7E8#0462F19041", "7E8#037F2278"],
-        item: Some(1),
-    },
-    Row {
-        name: "a keep-alive before the answer and after it",
-        left: &["7E0#0322F190", "7E0#023E80", "7E8#0462F19041"],
-        right: &["7E0#0322F190", "7E8#0462F19041", "7E0#023E80"],
-        item: None,
-    },
-    Row {
-        name: "another request",
-        left: &["7E0#0322F190"],
-        right: &["7E0#0322F191"],
-        item: Some(0),
-    },
-    Row {
-        name: "another answer to the same request",
-        left: &["7E0#0322F190", "7E8#0462F19041"],
-        right: &["7E0#0322F190", "7E8#0462F19042"],
-        item: Some(0),
-    },
-    Row {
-        name: "no answer",
-        left: &["7E0#0322F190", "7E8#0462F19041"],
-        right: &["7E0#0322F190"],
-        item: Some(0),
-    },
-    Row {
-        name: "a stray of the other side",
-        left: &["7E0#0322F190", "7E8#023E80"],
-        right: &["7E0#0322F190", "7E0#023E80"],
-        item: Some(1),
-    },
-    Row {
-        name: "the first of two differences",
-        left: &["7E8#0101", "7E8#0102", "7E8#0103"],
-        right: &["7E8#0101", "7E8#0104", "7E8#0105"],
-        item: Some(1),
-    },
-];
+a pending reply before the answer
+left 7E0#0322F190
+left 7E8#0462F19041
+right 7E0#0322F190
+right 7E8#037F2278
+right 7E8#0462F19041
+found same
+
+a pending reply after the answer
+left 7E0#0322F190
+left 7E8#0462F19041
+right 7E0#0322F190
+right 7E8#0462F19041
+right 7E8#037F2278
+found item 1
+
+a keep-alive before the answer and after it
+left 7E0#0322F190
+left 7E0#023E80
+left 7E8#0462F19041
+right 7E0#0322F190
+right 7E8#0462F19041
+right 7E0#023E80
+found same
+
+another request
+left 7E0#0322F190
+right 7E0#0322F191
+found item 0
+
+another answer to the same request
+left 7E0#0322F190
+left 7E8#0462F19041
+right 7E0#0322F190
+right 7E8#0462F19042
+found item 0
+
+no answer
+left 7E0#0322F190
+left 7E8#0462F19041
+right 7E0#0322F190
+found item 0
+
+a stray of the other side
+left 7E0#0322F190
+left 7E8#023E80
+right 7E0#0322F190
+right 7E0#023E80
+found item 1
+
+the first of two differences
+left 7E8#0101
+left 7E8#0102
+left 7E8#0103
+right 7E8#0101
+right 7E8#0104
+right 7E8#0105
+found item 1
+";
 
 #[test]
 fn logs_differ_at_the_first_item_that_does(rt: HostRuntime) -> Result<(), Fail> {
     let alloc = rt.alloc();
-    for row in COMPARED {
-        let left = log_of_frames(alloc, row.left)?;
-        let right = log_of_frames(alloc, row.right)?;
-        let expected = match row.item {
-            Some(item) => Comparison::Different { item },
-            None => Comparison::Same,
-        };
+    for row in COMPARED.split("\n\n") {
+        let left = frames_marked(alloc, row, "left")?;
+        let right = frames_marked(alloc, row, "right")?;
+        let expected = marked(alloc, row, "found")?;
         let (left, right) = (left.as_bytes(), right.as_bytes());
         for (one, other) in [(left, right), (right, left)] {
-            let found = compared(alloc, GIBIBYTE, one, other)?;
-            assert_eq!(rt; found, Ok(expected), "{}", row.name);
+            let found = match compared(alloc, GIBIBYTE, one, other)?? {
+                Comparison::Same => String::from_str(alloc, "same\n")?,
+                Comparison::Different { item } => format!(in alloc; "item {item}\n")?,
+            };
+            assert_eq!(rt; found.as_str(), expected.as_str(), "{}", name_of(row));
         }
         for log in [left, right] {
             let found = compared(alloc, GIBIBYTE, log, log)?;
-            assert_eq!(rt; found, Ok(Comparison::Same), "{}", row.name);
+            assert_eq!(rt; found, Ok(Comparison::Same), "{}", name_of(row));
         }
     }
     Ok(())
@@ -138,7 +141,7 @@ fn the_log_that_is_refused_is_told(rt: HostRuntime) -> Result<(), Fail> {
 fn of_the_second_log_nothing_is_read_where_the_first_is_refused(
     rt: HostRuntime,
 ) -> Result<(), Fail> {
-    let config = Config::new(0x7E0, 0x7E8, GIBIBYTE)?;
+    let config = Config::new(Id::Std(0x7E0), Id::Std(0x7E8), GIBIBYTE)?;
     let (mut left, mut right) = (Reading::new(REFUSED), Reading::new(REFUSED));
     let found = compare(rt.alloc(), &config, &mut left, &mut right);
     assert_eq!(rt; found, Err(CompareFault::Left(PLACE)));

@@ -1,12 +1,26 @@
 //! Readers that are slow, fail or never end, and writers that are slow, fail or fill up.
 
-use crate::run::{GIBIBYTE, LINE, VIN_CANONICAL, VIN_LINES, front_of, log_of, run_over};
+use crate::comparisons::compared;
+use crate::run::{
+    GIBIBYTE, LINE, VIN_CANONICAL, VIN_LINES, byte_by_byte, explained, front_of, listed, log_of,
+    meaning, run_over,
+};
+use can_log::Id;
 use std::alloc::Global;
 use std::io::{ErrorKind, Write};
 use std::process::Abort;
 use std::test::Fail;
-use trace_canon::{Config, Fault, Summary, normalise};
+use trace_canon::{CompareFault, Config, Fault, Summary, explain, list, normalise};
 use trace_io::{Endless, FailsAfter, FailsAt, FullAfter, Reading, Short, Source, Target, Writing};
+
+/// A reader that gives one byte a call, until the read after so many bytes fails.
+fn failing(log: &[u8], given: usize) -> FailsAt<Short<&[u8]>> {
+    FailsAt {
+        inner: byte_by_byte(log),
+        after: Some(given as u64),
+        kind: ErrorKind::Other,
+    }
+}
 
 #[test]
 fn a_read_that_fails_after_so_many_bytes(rt: HostRuntime) -> Result<(), Fail> {
@@ -19,15 +33,7 @@ fn a_read_that_fails_after_so_many_bytes(rt: HostRuntime) -> Result<(), Fail> {
             38..212 => LINE,
             _ => 230,
         };
-        let byte_by_byte = Short {
-            inner: log.as_bytes(),
-            most: 1,
-        };
-        let at = FailsAt {
-            inner: byte_by_byte,
-            after: Some(given as u64),
-            kind: ErrorKind::Other,
-        };
+        let at = failing(log.as_bytes(), given);
         let after = FailsAfter {
             inner: log.as_bytes(),
             room: given,
@@ -48,13 +54,95 @@ fn a_read_that_fails_after_so_many_bytes(rt: HostRuntime) -> Result<(), Fail> {
     Ok(())
 }
 
+/// A session after two frames that mean nothing.
+const SESSION: [&str; 5] = [
+    "(1.000000) can0 7E8#40",
+    "(1.001000) can0 7E8#21",
+    "(1.002000) can0 7E0#0322F190",
+    "(1.003000) can0 7E0#023E80",
+    "(1.004000) can0 7E8#0462F19041",
+];
+
+const LISTED: [&str; 2] = [
+    "1 exchange ReadDataByIdentifier 22F190 -> positive 62F19041",
+    "2 stray tester 3E80",
+];
+
+const EXPLAINED: [&str; 3] = [
+    "line 1: unit frame dropped: unknown kind",
+    "line 2: unit frame dropped: consecutive frame unexpected",
+    "lines 5 frames 5 messages 3 dropped 2 ended 0 unfinished 0 pending 0",
+];
+
+#[test]
+fn a_read_that_fails_is_told_by_each_call(rt: HostRuntime) -> Result<(), Fail> {
+    let alloc = rt.alloc();
+    let (log, told) = (log_of(alloc, &SESSION)?, log_of(alloc, &EXPLAINED)?);
+    let log = log.as_bytes();
+    for given in 0..=log.len() {
+        let (answer, text) = listed(alloc, GIBIBYTE, failing(log, given))?;
+        assert_eq!(rt; answer, Err(Fault::Read), "{given} bytes listed");
+        assert!(rt; text.is_empty(), "{given} bytes listed");
+        let (answer, text) = explained(alloc, GIBIBYTE, failing(log, given))?;
+        assert_eq!(rt; answer, Err(Fault::Read), "{given} bytes explained");
+        let is_front = told.as_bytes().starts_with(text.as_slice());
+        assert!(rt; is_front, "{given} bytes explained");
+        let fault = meaning(alloc, GIBIBYTE, failing(log, given))?.err();
+        assert_eq!(rt; fault, Some(Fault::Read), "the meaning of {given} bytes");
+        let answer = compared(alloc, GIBIBYTE, failing(log, given), log)?;
+        assert_eq!(rt;
+            answer,
+            Err(CompareFault::Left(Fault::Read)),
+            "{given} bytes"
+        );
+        let answer = compared(alloc, GIBIBYTE, log, failing(log, given))?;
+        assert_eq!(rt;
+            answer,
+            Err(CompareFault::Right(Fault::Read)),
+            "{given} bytes"
+        );
+    }
+    Ok(())
+}
+
+/// Fails each write of a call that writes this text of a log, to a writer that takes one byte a call.
+macro_rules! assert_each_write_fails {
+    ($rt:expr, $call:path, $log:expr, $text:expr) => {
+        for room in 0..$text.len() {
+            let config = Config::new(Id::Std(0x7E0), Id::Std(0x7E8), GIBIBYTE)?;
+            let mut writer = Writing::new(FailsAt {
+                inner: Short {
+                    inner: Vec::new($rt.alloc()),
+                    most: 1,
+                },
+                after: Some(room as u64),
+                kind: ErrorKind::Other,
+            });
+            let answer = $call($rt.alloc(), &config, &mut Reading::new($log), &mut writer);
+            assert_eq!($rt; answer, Err(Fault::Write), "{room} bytes");
+            let taken = writer.into_inner().inner.inner;
+            assert_eq!($rt; taken.as_slice(), front_of($text, room), "{room} bytes");
+        }
+    };
+}
+
+#[test]
+fn a_write_that_fails_is_told_by_each_call(rt: HostRuntime) -> Result<(), Fail> {
+    let log = log_of(rt.alloc(), &SESSION)?;
+    let text = log_of(rt.alloc(), &LISTED)?;
+    assert_each_write_fails!(rt, list, log.as_bytes(), text.as_bytes());
+    let text = log_of(rt.alloc(), &EXPLAINED)?;
+    assert_each_write_fails!(rt, explain, log.as_bytes(), text.as_bytes());
+    Ok(())
+}
+
 /// What `normalise` answers over a log of the vehicle identification number, and the writer afterwards.
 fn write_to<W: Write + Drop>(
     alloc: Global,
     writer: W,
 ) -> Result<(Result<Summary, Fault>, W), Fail> {
     let log = log_of(alloc, &VIN_LINES)?;
-    let config = Config::new(0x7E0, 0x7E8, GIBIBYTE)?;
+    let config = Config::new(Id::Std(0x7E0), Id::Std(0x7E8), GIBIBYTE)?;
     let mut reader = Reading::new(log.as_bytes());
     let mut writer = Writing::new(writer);
     let answer = normalise(alloc, &config, &mut reader, &mut writer);
@@ -133,7 +221,7 @@ fn a_log_in_the_middle_of_which_writing_fails(rt: HostRuntime) -> Result<(), Fai
         after: Some(0),
         kind: ErrorKind::Other,
     });
-    let config = Config::new(0x7E0, 0x7E8, GIBIBYTE)?;
+    let config = Config::new(Id::Std(0x7E0), Id::Std(0x7E8), GIBIBYTE)?;
     let answer = normalise(alloc, &config, &mut reader, &mut writer);
     assert_eq!(rt; answer, Err(Fault::Write));
     assert!(rt; reader.given() <= 38 + 4095);
@@ -144,7 +232,7 @@ fn a_log_in_the_middle_of_which_writing_fails(rt: HostRuntime) -> Result<(), Fai
 
 #[test]
 fn a_reader_that_never_ends(rt: HostRuntime) -> Result<(), Fail> {
-    let config = Config::new(0x7E0, 0x7E8, 100)?;
+    let config = Config::new(Id::Std(0x7E0), Id::Std(0x7E8), 100)?;
     let mut reader = Endless::new(b'\n');
     let mut writer = Writing::new(Vec::new(rt.alloc()));
     let answer = normalise(rt.alloc(), &config, &mut reader, &mut writer);

@@ -31,6 +31,6 @@ mod recordings;
 #[cfg(test)]
 mod refusals;
 #[cfg(test)]
-mod refused_memory;
+mod rows;
 #[cfg(test)]
 mod run;

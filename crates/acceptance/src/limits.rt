@@ -30,11 +30,11 @@ const LOG_LIMIT: &str = "log longer than the limit";
 
 const OUTPUT_LIMIT: &str = "canonical log longer than the limit";
 
-const OVERSIZE: &str = "line 1: 65536 bytes announced, the limit is 65535";
+const OVERSIZE: &str = "line 1: 1048576 bytes announced, the limit is 1048575";
 
 const BAD_4: &str = "line 4 column 1: not a log line";
 
-const OVERSIZE_4: &str = "line 4: 65536 bytes announced, the limit is 65535";
+const OVERSIZE_4: &str = "line 4: 1048576 bytes announced, the limit is 1048575";
 
 /// A line of 21 bytes, in which a digit is missing, and the line feed that shows it.
 const HALF_BYTE: &str = "(1.000000) can0 7E0#0\n";
@@ -46,10 +46,10 @@ const UNFINISHED: &str = "(1.000000) can0 7E0#0";
 const AFTER_CR: &str = "(1.000000) can0 7E0#00\rx";
 
 /// An announcement of a byte too much in a line of 36 bytes, its line feed, and a refused line.
-const LONG: &str = "(1.000000) can0 7E8#1000000100004142\nx\n";
+const LONG: &str = "(1.000000) can0 7E8#1000001000004142\nx\n";
 
 /// The same announcement in a last line without a line feed.
-const LONG_LAST: &str = "(1.000000) can0 7E8#1000000100004142";
+const LONG_LAST: &str = "(1.000000) can0 7E8#1000001000004142";
 
 /// A single frame in a line of 22 bytes, line feed included.
 const ONE: &str = "(1.000000) a 7E0#0111\n";
@@ -64,7 +64,7 @@ const THREE_AND_BAD: &str =
 
 /// And an announcement of a byte too much after them, in 34 bytes.
 const THREE_AND_LONG: &str =
-    "(1.000000) can0 7E0#0111\n(1.000000) can0 7E0#0111\n(1.000000) can0 7E0#0111\n(1.000000) a 7E8#1000000100004142\n";
+    "(1.000000) can0 7E0#0111\n(1.000000) can0 7E0#0111\n(1.000000) can0 7E0#0111\n(1.000000) a 7E8#1000001000004142\n";
 
 /// A message of 20 bytes in one frame, in a last line of 70 bytes without a line feed.
 const FD_LAST: &str = "(1.000000) can0 7E8##000141101010101010101010101010101010101010101AAAA";

@@ -1,217 +1,152 @@
 //! Logs in which frames are lost: what is dropped, what ends, and what is left unfinished.
 
-use crate::run::{GIBIBYTE, byte_by_byte, explained, log_of, log_of_frames, normalised, told};
+use crate::rows::{frames_marked, marked};
+use crate::run::{GIBIBYTE, assert_row, explained, log_of, normalised, run_cut, told};
 use std::alloc::Global;
 use std::process::Abort;
 use std::test::Fail;
 use trace_canon::Fault;
 
-/// A log, what is told of it, its last line the counts, and the frames of its canonical log.
-#[derive(Clone, Copy)]
-struct Lossy {
-    name: &'static str,
-    frames: &'static [&'static str],
-    told: &'static [&'static str],
-    canonical: &'static [&'static str],
-}
+/// Logs in which something is lost, what is told of them, and the frames of their canonical logs.
+const LOSSY: &str = "\
+a message that never ends
+frame 7E8#101462F190574241
+told end: unit reception from line 1 of 20 bytes unfinished
+told lines 1 frames 1 messages 0 dropped 0 ended 0 unfinished 1 pending 0
 
-const LOSSY: [Lossy; 16] = [
-    Lossy {
-        name: "a message that never ends",
-        frames: &["7E8#101462F190574241"],
-        told: &[
-            "end: unit reception from line 1 of 20 bytes unfinished",
-            "lines 1 frames 1 messages 0 dropped 0 ended 0 unfinished 1 pending 0",
-        ],
-        canonical: &[],
-    },
-    Lossy {
-        name: "messages of both sides that never end",
-        frames: &["7E8#101462F190574241", "7E0#100A2EF190414243"],
-        told: &[
-            "end: tester reception from line 2 of 10 bytes unfinished",
-            "end: unit reception from line 1 of 20 bytes unfinished",
-            "lines 2 frames 2 messages 0 dropped 0 ended 0 unfinished 2 pending 0",
-        ],
-        canonical: &[],
-    },
-    Lossy {
-        name: "a single frame ends a reception",
-        frames: &["7E8#101462F190574241", "7E8#0462F19041"],
-        told: &[
-            "line 2: unit reception from line 1 of 20 bytes ended: new start",
-            "lines 2 frames 2 messages 1 dropped 0 ended 1 unfinished 0 pending 0",
-        ],
-        canonical: &["7E8#0462F19041CCCCCC"],
-    },
-    Lossy {
-        name: "an overflow before the first consecutive frame",
-        frames: &["7E8#101462F190574241", "7E0#320000", "7E8#2133413543353045"],
-        told: &[
-            "line 2: unit reception from line 1 of 20 bytes ended: overflow",
-            "line 3: unit frame dropped: consecutive frame unexpected",
-            "lines 3 frames 3 messages 0 dropped 1 ended 1 unfinished 0 pending 0",
-        ],
-        canonical: &[],
-    },
-    Lossy {
-        name: "an overflow after it",
-        frames: &[
-            "7E8#101462F190574241",
-            "7E8#2133413543353045",
-            "7E0#320000",
-            "7E8#2246313233343536",
-        ],
-        told: &[
-            "line 3: tester frame dropped: flow control unexpected",
-            "lines 4 frames 4 messages 1 dropped 1 ended 0 unfinished 0 pending 0",
-        ],
-        canonical: &[
-            "7E8#101462F190574241",
-            "7E0#300000CCCCCCCCCC",
-            "7E8#2133413543353045",
-            "7E8#2246313233343536",
-        ],
-    },
-    Lossy {
-        name: "a consecutive frame that is not the last, and shorter",
-        frames: &["7E8#101462F190574241", "7E8#21334135433530"],
-        told: &[
-            "line 2: unit reception from line 1 of 20 bytes ended: length",
-            "line 2: unit frame dropped: consecutive frame length",
-            "lines 2 frames 2 messages 0 dropped 1 ended 1 unfinished 0 pending 0",
-        ],
-        canonical: &[],
-    },
-    Lossy {
-        name: "a consecutive frame that is not the last, of 48 bytes among 64",
-        frames: &[
-            "7E8##01082620102030405060708090A0B0C0D0E0F101112131415161718191A1B1C1D1E1F202122232425262728292A2B2C2D2E2F303132333435363738393A3B3C3D",
-            "7E8##0213E3F404142434445464748494A4B4C4D4E4F505152535455565758595A5B5C5D5E5F606162636465666768696A6B6C",
-        ],
-        told: &[
-            "line 2: unit reception from line 1 of 130 bytes ended: length",
-            "line 2: unit frame dropped: consecutive frame length",
-            "lines 2 frames 2 messages 0 dropped 1 ended 1 unfinished 0 pending 0",
-        ],
-        canonical: &[],
-    },
-    Lossy {
-        name: "a last frame too short for what is missing",
-        frames: &["7E8##0101462F19057424133413543", "7E8#2135304546313233"],
-        told: &[
-            "line 2: unit reception from line 1 of 20 bytes ended: length",
-            "line 2: unit frame dropped: consecutive frame length",
-            "lines 2 frames 2 messages 0 dropped 1 ended 1 unfinished 0 pending 0",
-        ],
-        canonical: &[],
-    },
-    Lossy {
-        name: "a remote frame",
-        frames: &["7E0#R"],
-        told: &[
-            "line 1: tester frame dropped: remote frame",
-            "lines 1 frames 1 messages 0 dropped 1 ended 0 unfinished 0 pending 0",
-        ],
-        canonical: &[],
-    },
-    Lossy {
-        name: "an empty frame, and an unknown kind",
-        frames: &["7E0#", "7E8#40"],
-        told: &[
-            "line 1: tester frame dropped: empty frame",
-            "line 2: unit frame dropped: unknown kind",
-            "lines 2 frames 2 messages 0 dropped 2 ended 0 unfinished 0 pending 0",
-        ],
-        canonical: &[],
-    },
-    Lossy {
-        name: "flow control that is too short, and of an unknown status",
-        frames: &["7E8#101462F190574241", "7E0#3000", "7E0#330000"],
-        told: &[
-            "line 2: tester frame dropped: flow control too short",
-            "line 3: tester frame dropped: flow control status",
-            "end: unit reception from line 1 of 20 bytes unfinished",
-            "lines 3 frames 3 messages 0 dropped 2 ended 0 unfinished 1 pending 0",
-        ],
-        canonical: &[],
-    },
-    Lossy {
-        name: "frames that mean nothing leave a reception as it was",
-        frames: &[
-            "7E8#101462F190574241",
-            "7E8#R",
-            "7E8##0213341354335304546",
-            "7E8#",
-            "7E8#50",
-            "7E8#00",
-            "7E8#1007",
-            "7E8#3F",
-            "7E8#330000",
-            "7E8#2133413543353045",
-            "7E8#2246313233343536",
-        ],
-        told: &[
-            "line 2: unit frame dropped: remote frame",
-            "line 3: unit frame dropped: frame length",
-            "line 4: unit frame dropped: empty frame",
-            "line 5: unit frame dropped: unknown kind",
-            "line 6: unit frame dropped: single frame length",
-            "line 7: unit frame dropped: first frame length",
-            "line 8: unit frame dropped: flow control too short",
-            "line 9: unit frame dropped: flow control status",
-            "lines 11 frames 11 messages 1 dropped 8 ended 0 unfinished 0 pending 0",
-        ],
-        canonical: &[
-            "7E8#101462F190574241",
-            "7E0#300000CCCCCCCCCC",
-            "7E8#2133413543353045",
-            "7E8#2246313233343536",
-        ],
-    },
-    Lossy {
-        name: "an escaped length that needs no escape",
-        frames: &["7E8#100000000FFF4142"],
-        told: &[
-            "line 1: unit frame dropped: first frame length",
-            "lines 1 frames 1 messages 0 dropped 1 ended 0 unfinished 0 pending 0",
-        ],
-        canonical: &[],
-    },
-    Lossy {
-        name: "nine bytes are no frame of CAN FD",
-        frames: &["7E8##00562F19041424344AA"],
-        told: &[
-            "line 1: unit frame dropped: frame length",
-            "lines 1 frames 1 messages 0 dropped 1 ended 0 unfinished 0 pending 0",
-        ],
-        canonical: &[],
-    },
-    Lossy {
-        name: "the longest announcement",
-        frames: &["7E8#10000000FFFF4142"],
-        told: &[
-            "end: unit reception from line 1 of 65535 bytes unfinished",
-            "lines 1 frames 1 messages 0 dropped 0 ended 0 unfinished 1 pending 0",
-        ],
-        canonical: &[],
-    },
-    Lossy {
-        name: "a longer announcement of a foreign frame",
-        frames: &["123#1000000100004142"],
-        told: &["lines 1 frames 0 messages 0 dropped 0 ended 0 unfinished 0 pending 0"],
-        canonical: &[],
-    },
-];
+messages of both sides that never end
+frame 7E8#101462F190574241
+frame 7E0#100A2EF190414243
+told end: tester reception from line 2 of 10 bytes unfinished
+told end: unit reception from line 1 of 20 bytes unfinished
+told lines 2 frames 2 messages 0 dropped 0 ended 0 unfinished 2 pending 0
+
+a single frame ends a reception
+frame 7E8#101462F190574241
+frame 7E8#0462F19041
+told line 2: unit reception from line 1 of 20 bytes ended: new start
+told lines 2 frames 2 messages 1 dropped 0 ended 1 unfinished 0 pending 0
+canonical 7E8#0462F19041CCCCCC
+
+an overflow before the first consecutive frame
+frame 7E8#101462F190574241
+frame 7E0#320000
+frame 7E8#2133413543353045
+told line 2: unit reception from line 1 of 20 bytes ended: overflow
+told line 3: unit frame dropped: consecutive frame unexpected
+told lines 3 frames 3 messages 0 dropped 1 ended 1 unfinished 0 pending 0
+
+an overflow after it
+frame 7E8#101462F190574241
+frame 7E8#2133413543353045
+frame 7E0#320000
+frame 7E8#2246313233343536
+told line 3: tester frame dropped: flow control unexpected
+told lines 4 frames 4 messages 1 dropped 1 ended 0 unfinished 0 pending 0
+canonical 7E8#101462F190574241
+canonical 7E0#300000CCCCCCCCCC
+canonical 7E8#2133413543353045
+canonical 7E8#2246313233343536
+
+a consecutive frame that is not the last, and shorter
+frame 7E8#101462F190574241
+frame 7E8#21334135433530
+told line 2: unit reception from line 1 of 20 bytes ended: length
+told line 2: unit frame dropped: consecutive frame length
+told lines 2 frames 2 messages 0 dropped 1 ended 1 unfinished 0 pending 0
+
+a consecutive frame that is not the last, of 48 bytes among 64
+frame 7E8##01082620102030405060708090A0B0C0D0E0F101112131415161718191A1B1C1D1E1F202122232425262728292A2B2C2D2E2F303132333435363738393A3B3C3D
+frame 7E8##0213E3F404142434445464748494A4B4C4D4E4F505152535455565758595A5B5C5D5E5F606162636465666768696A6B6C
+told line 2: unit reception from line 1 of 130 bytes ended: length
+told line 2: unit frame dropped: consecutive frame length
+told lines 2 frames 2 messages 0 dropped 1 ended 1 unfinished 0 pending 0
+
+a last frame too short for what is missing
+frame 7E8##0101462F19057424133413543
+frame 7E8#2135304546313233
+told line 2: unit reception from line 1 of 20 bytes ended: length
+told line 2: unit frame dropped: consecutive frame length
+told lines 2 frames 2 messages 0 dropped 1 ended 1 unfinished 0 pending 0
+
+a remote frame
+frame 7E0#R
+told line 1: tester frame dropped: remote frame
+told lines 1 frames 1 messages 0 dropped 1 ended 0 unfinished 0 pending 0
+
+an empty frame, and an unknown kind
+frame 7E0#
+frame 7E8#40
+told line 1: tester frame dropped: empty frame
+told line 2: unit frame dropped: unknown kind
+told lines 2 frames 2 messages 0 dropped 2 ended 0 unfinished 0 pending 0
+
+flow control that is too short, and of an unknown status
+frame 7E8#101462F190574241
+frame 7E0#3000
+frame 7E0#330000
+told line 2: tester frame dropped: flow control too short
+told line 3: tester frame dropped: flow control status
+told end: unit reception from line 1 of 20 bytes unfinished
+told lines 3 frames 3 messages 0 dropped 2 ended 0 unfinished 1 pending 0
+
+frames that mean nothing leave a reception as it was
+frame 7E8#101462F190574241
+frame 7E8#R
+frame 7E8##0213341354335304546
+frame 7E8#
+frame 7E8#50
+frame 7E8#00
+frame 7E8#1007
+frame 7E8#3F
+frame 7E8#330000
+frame 7E8#2133413543353045
+frame 7E8#2246313233343536
+told line 2: unit frame dropped: remote frame
+told line 3: unit frame dropped: frame length
+told line 4: unit frame dropped: empty frame
+told line 5: unit frame dropped: unknown kind
+told line 6: unit frame dropped: single frame length
+told line 7: unit frame dropped: first frame length
+told line 8: unit frame dropped: flow control too short
+told line 9: unit frame dropped: flow control status
+told lines 11 frames 11 messages 1 dropped 8 ended 0 unfinished 0 pending 0
+canonical 7E8#101462F190574241
+canonical 7E0#300000CCCCCCCCCC
+canonical 7E8#2133413543353045
+canonical 7E8#2246313233343536
+
+an escaped length that needs no escape
+frame 7E8#100000000FFF4142
+told line 1: unit frame dropped: first frame length
+told lines 1 frames 1 messages 0 dropped 1 ended 0 unfinished 0 pending 0
+
+nine bytes are no frame of CAN FD
+frame 7E8##00562F19041424344AA
+told line 1: unit frame dropped: frame length
+told lines 1 frames 1 messages 0 dropped 1 ended 0 unfinished 0 pending 0
+
+the longest announcement
+frame 7E8#1000000FFFFF4142
+told end: unit reception from line 1 of 1048575 bytes unfinished
+told lines 1 frames 1 messages 0 dropped 0 ended 0 unfinished 1 pending 0
+
+an announcement of more than 16 bits hold
+frame 7E8#1000000100004142
+told end: unit reception from line 1 of 65536 bytes unfinished
+told lines 1 frames 1 messages 0 dropped 0 ended 0 unfinished 1 pending 0
+
+a longer announcement of a foreign frame
+frame 123#1000001000004142
+told lines 1 frames 0 messages 0 dropped 0 ended 0 unfinished 0 pending 0
+";
 
 #[test]
 fn what_is_lost_is_told(rt: HostRuntime) -> Result<(), Fail> {
     let alloc = rt.alloc();
-    for lossy in LOSSY {
-        let log = log_of_frames(alloc, lossy.frames)?;
-        let canonical = told(&rt, alloc, log.as_str(), lossy.told, lossy.name)?;
-        let expected = log_of_frames(alloc, lossy.canonical)?;
-        assert_eq!(rt; canonical.as_str(), expected.as_str(), "{}", lossy.name);
+    for row in LOSSY.split("\n\n") {
+        let log = frames_marked(alloc, row, "frame")?;
+        assert_row(&rt, alloc, log.as_str(), row)?;
     }
     Ok(())
 }
@@ -229,124 +164,110 @@ fn a_sequence_error_ends_the_reception(rt: HostRuntime) -> Result<(), Fail> {
         &rt,
         alloc,
         log.as_str(),
-        &[
-            "line 18: unit reception from line 1 of 130 bytes ended: sequence",
-            "line 18: unit frame dropped: sequence number 0 expected, F found",
-            "line 19: unit frame dropped: consecutive frame unexpected",
-            "line 20: unit frame dropped: consecutive frame unexpected",
-            "line 21: unit frame dropped: consecutive frame unexpected",
-            "lines 21 frames 21 messages 0 dropped 4 ended 1 unfinished 0 pending 0",
-        ],
+        "line 18: unit reception from line 1 of 130 bytes ended: sequence\n\
+         line 18: unit frame dropped: sequence number 0 expected, F found\n\
+         line 19: unit frame dropped: consecutive frame unexpected\n\
+         line 20: unit frame dropped: consecutive frame unexpected\n\
+         line 21: unit frame dropped: consecutive frame unexpected\n\
+         lines 21 frames 21 messages 0 dropped 4 ended 1 unfinished 0 pending 0\n",
         "number 15 comes twice",
     )?;
     assert!(rt; canonical.is_empty());
     Ok(())
 }
 
-const FIRST: &str = "(10.000000) can0 7E8#101462F190574241";
+/// Recordings of a message with other stamps, what is told of them, and the frames of their canonical logs.
+const STAMPED: &str = "\
+a second after the frame before
+line (10.000000) can0 7E8#101462F190574241
+line (10.500000) can0 7E8#2133413543353045
+line (11.500000) can0 7E8#2246313233343536
+told lines 3 frames 3 messages 1 dropped 0 ended 0 unfinished 0 pending 0
+canonical 7E8#101462F190574241
+canonical 7E0#300000CCCCCCCCCC
+canonical 7E8#2133413543353045
+canonical 7E8#2246313233343536
 
-const NUMBER_1: &str = "(10.500000) can0 7E8#2133413543353045";
+late by one microsecond
+line (10.000000) can0 7E8#101462F190574241
+line (10.500000) can0 7E8#2133413543353045
+line (11.500001) can0 7E8#2246313233343536
+told line 3: unit reception from line 1 of 20 bytes ended: late
+told line 3: unit frame dropped: consecutive frame late
+told lines 3 frames 3 messages 0 dropped 1 ended 1 unfinished 0 pending 0
 
-const LATE: &[&str] = &[
-    "line 3: unit reception from line 1 of 20 bytes ended: late",
-    "line 3: unit frame dropped: consecutive frame late",
-    "lines 3 frames 3 messages 0 dropped 1 ended 1 unfinished 0 pending 0",
-];
+a wait frame moves the deadline
+line (10.000000) can0 7E8#101462F190574241
+line (10.500000) can0 7E8#2133413543353045
+line (11.000000) can0 7E0#310000
+line (11.900000) can0 7E8#2246313233343536
+told lines 4 frames 4 messages 1 dropped 0 ended 0 unfinished 0 pending 0
+canonical 7E8#101462F190574241
+canonical 7E0#300000CCCCCCCCCC
+canonical 7E8#2133413543353045
+canonical 7E8#2246313233343536
 
-/// Recordings of a message of 20 bytes with other stamps, and what is told of them.
-const STAMPED: [(&str, &[&str], &[&str]); 8] = [
-    (
-        "a second after the frame before",
-        &[FIRST, NUMBER_1, "(11.500000) can0 7E8#2246313233343536"],
-        &["lines 3 frames 3 messages 1 dropped 0 ended 0 unfinished 0 pending 0"],
-    ),
-    (
-        "late by one microsecond",
-        &[FIRST, NUMBER_1, "(11.500001) can0 7E8#2246313233343536"],
-        LATE,
-    ),
-    (
-        "a wait frame moves the deadline",
-        &[
-            FIRST,
-            NUMBER_1,
-            "(11.000000) can0 7E0#310000",
-            "(11.900000) can0 7E8#2246313233343536",
-        ],
-        &["lines 4 frames 4 messages 1 dropped 0 ended 0 unfinished 0 pending 0"],
-    ),
-    (
-        "a wait frame of an earlier stamp moves it back",
-        &[
-            FIRST,
-            "(5.000000) can0 7E0#310000",
-            "(6.000001) can0 7E8#2133413543353045",
-        ],
-        LATE,
-    ),
-    (
-        "an overflow that nobody expects moves nothing",
-        &[
-            FIRST,
-            NUMBER_1,
-            "(11.400000) can0 7E0#320000",
-            "(11.500001) can0 7E8#2246313233343536",
-        ],
-        &[
-            "line 3: tester frame dropped: flow control unexpected",
-            "line 4: unit reception from line 1 of 20 bytes ended: late",
-            "line 4: unit frame dropped: consecutive frame late",
-            "lines 4 frames 4 messages 0 dropped 2 ended 1 unfinished 0 pending 0",
-        ],
-    ),
-    (
-        "stamps that go backwards",
-        &[FIRST, NUMBER_1, "(9.000000) can0 7E8#2246313233343536"],
-        &["lines 3 frames 3 messages 1 dropped 0 ended 0 unfinished 0 pending 0"],
-    ),
-    (
-        "from the first stamp to the last",
-        &[
-            "(0.000000) can0 7E8#100862F190414243",
-            "(9999999999.999999) can0 7E8#214445",
-        ],
-        &[
-            "line 2: unit reception from line 1 of 8 bytes ended: late",
-            "line 2: unit frame dropped: consecutive frame late",
-            "lines 2 frames 2 messages 0 dropped 1 ended 1 unfinished 0 pending 0",
-        ],
-    ),
-    (
-        "from the last stamp to the first",
-        &[
-            "(9999999999.999999) can0 7E8#100862F190414243",
-            "(0.000000) can0 7E8#214445",
-        ],
-        &["lines 2 frames 2 messages 1 dropped 0 ended 0 unfinished 0 pending 0"],
-    ),
-];
+a wait frame of an earlier stamp moves it back
+line (10.000000) can0 7E8#101462F190574241
+line (5.000000) can0 7E0#310000
+line (6.000001) can0 7E8#2133413543353045
+told line 3: unit reception from line 1 of 20 bytes ended: late
+told line 3: unit frame dropped: consecutive frame late
+told lines 3 frames 3 messages 0 dropped 1 ended 1 unfinished 0 pending 0
+
+an overflow that nobody expects moves nothing
+line (10.000000) can0 7E8#101462F190574241
+line (10.500000) can0 7E8#2133413543353045
+line (11.400000) can0 7E0#320000
+line (11.500001) can0 7E8#2246313233343536
+told line 3: tester frame dropped: flow control unexpected
+told line 4: unit reception from line 1 of 20 bytes ended: late
+told line 4: unit frame dropped: consecutive frame late
+told lines 4 frames 4 messages 0 dropped 2 ended 1 unfinished 0 pending 0
+
+stamps that go backwards
+line (10.000000) can0 7E8#101462F190574241
+line (10.500000) can0 7E8#2133413543353045
+line (9.000000) can0 7E8#2246313233343536
+told lines 3 frames 3 messages 1 dropped 0 ended 0 unfinished 0 pending 0
+canonical 7E8#101462F190574241
+canonical 7E0#300000CCCCCCCCCC
+canonical 7E8#2133413543353045
+canonical 7E8#2246313233343536
+
+from the first stamp to the last
+line (0.000000) can0 7E8#100862F190414243
+line (9999999999.999999) can0 7E8#214445
+told line 2: unit reception from line 1 of 8 bytes ended: late
+told line 2: unit frame dropped: consecutive frame late
+told lines 2 frames 2 messages 0 dropped 1 ended 1 unfinished 0 pending 0
+
+from the last stamp to the first
+line (9999999999.999999) can0 7E8#100862F190414243
+line (0.000000) can0 7E8#214445
+told lines 2 frames 2 messages 1 dropped 0 ended 0 unfinished 0 pending 0
+canonical 7E8#100862F190414243
+canonical 7E0#300000CCCCCCCCCC
+canonical 7E8#214445CCCCCCCCCC
+";
 
 #[test]
 fn a_consecutive_frame_is_late_after_a_second(rt: HostRuntime) -> Result<(), Fail> {
     let alloc = rt.alloc();
-    for (name, lines, expected) in STAMPED {
-        let log = log_of(alloc, lines)?;
-        let canonical = told(&rt, alloc, log.as_str(), expected, name)?;
-        let is_delivered = expected.len() == 1;
-        assert_eq!(rt; !canonical.is_empty(), is_delivered, "{name}");
+    for row in STAMPED.split("\n\n") {
+        let log = marked(alloc, row, "line")?;
+        assert_row(&rt, alloc, log.as_str(), row)?;
     }
     Ok(())
 }
 
-/// This is told of a log of which nothing is kept, read in one piece and byte by byte.
+/// This is told of a log of which nothing is kept.
 fn assert_told(rt: &impl Abort, alloc: Global, log: &str, expected: &str) -> Result<(), Fail> {
     let (summary, canonical) = normalised(rt, alloc, log)?;
     assert!(rt; canonical.is_empty());
-    let whole = explained(alloc, GIBIBYTE, log.as_bytes())?;
-    let cut = explained(alloc, GIBIBYTE, byte_by_byte(log.as_bytes()))?;
-    assert!(rt; cut == whole, "byte by byte");
-    assert_eq!(rt; whole.0, Ok(summary));
-    assert_eq!(rt; String::from_utf8(whole.1)?.as_str(), expected);
+    let (answer, text) = explained(alloc, GIBIBYTE, log.as_bytes())?;
+    assert_eq!(rt; answer, Ok(summary));
+    assert_eq!(rt; String::from_utf8(text)?.as_str(), expected);
     Ok(())
 }
 
@@ -392,45 +313,49 @@ fn each_first_frame_ends_the_one_before(rt: HostRuntime) -> Result<(), Fail> {
     assert_told(&rt, alloc, log.as_str(), expected.as_str())
 }
 
-/// Logs with an announcement of more than a message may have, and what is told of them.
-const TOO_LONG: [(&[&str], &[&str]); 3] = [
-    (
-        &["7E8#1000000100004142"],
-        &[
-            "line 1: unit frame dropped: 65536 bytes announced",
-            "lines 1 frames 1 messages 0 dropped 1 ended 0 unfinished 0 pending 0",
-        ],
-    ),
-    (
-        &["7E0#1000FFFFFFFF4142"],
-        &[
-            "line 1: tester frame dropped: 4294967295 bytes announced",
-            "lines 1 frames 1 messages 0 dropped 1 ended 0 unfinished 0 pending 0",
-        ],
-    ),
-    (
-        &[
-            "7E8#101462F190574241",
-            "7E8#1000000100004142",
-            "7E8#2133413543353045",
-        ],
-        &[
-            "line 2: unit reception from line 1 of 20 bytes ended: new start",
-            "line 2: unit frame dropped: 65536 bytes announced",
-            "line 3: unit frame dropped: consecutive frame unexpected",
-            "lines 3 frames 3 messages 0 dropped 2 ended 1 unfinished 0 pending 0",
-        ],
-    ),
-];
+/// Logs with an announcement of more than a message may have, why they are refused, and what is told of them.
+const TOO_LONG: &str = "\
+one byte too many
+frame 7E8#1000001000004142
+refused line 1: 1048576 bytes announced, the limit is 1048575
+told line 1: unit frame dropped: 1048576 bytes announced
+told lines 1 frames 1 messages 0 dropped 1 ended 0 unfinished 0 pending 0
+
+the longest length that 32 bits hold
+frame 7E8#1000FFFFFFFF4142
+refused line 1: 4294967295 bytes announced, the limit is 1048575
+told line 1: unit frame dropped: 4294967295 bytes announced
+told lines 1 frames 1 messages 0 dropped 1 ended 0 unfinished 0 pending 0
+
+the same of the tester
+frame 7E0#1000FFFFFFFF4142
+refused line 1: 4294967295 bytes announced, the limit is 1048575
+told line 1: tester frame dropped: 4294967295 bytes announced
+told lines 1 frames 1 messages 0 dropped 1 ended 0 unfinished 0 pending 0
+
+a reception that it ends
+frame 7E8#101462F190574241
+frame 7E8#1000001000004142
+frame 7E8#2133413543353045
+refused line 2: 1048576 bytes announced, the limit is 1048575
+told line 2: unit reception from line 1 of 20 bytes ended: new start
+told line 2: unit frame dropped: 1048576 bytes announced
+told line 3: unit frame dropped: consecutive frame unexpected
+told lines 3 frames 3 messages 0 dropped 2 ended 1 unfinished 0 pending 0
+";
 
 #[test]
 fn too_long_an_announcement_is_told_as_dropped(rt: HostRuntime) -> Result<(), Fail> {
     let alloc = rt.alloc();
-    for (frames, told) in TOO_LONG {
-        let (log, expected) = (log_of_frames(alloc, frames)?, log_of(alloc, told)?);
-        let (answer, text) = explained(alloc, GIBIBYTE, log.as_bytes())?;
-        assert_eq!(rt; answer.map(|summary| summary.messages), Ok(0), "{log}");
-        assert_eq!(rt; String::from_utf8(text)?.as_str(), expected.as_str());
+    for row in TOO_LONG.split("\n\n") {
+        let log = frames_marked(alloc, row, "frame")?;
+        let (answer, _) = run_cut(&rt, alloc, GIBIBYTE, log.as_bytes())?;
+        let fault = answer.err().ok_or("accepted")?;
+        let refused = format!(in alloc; "{fault}\n")?;
+        assert_eq!(rt; refused.as_str(), marked(alloc, row, "refused")?.as_str());
+        let (_, text) = explained(alloc, GIBIBYTE, log.as_bytes())?;
+        let told = marked(alloc, row, "told")?;
+        assert_eq!(rt; String::from_utf8(text)?.as_str(), told.as_str());
     }
     Ok(())
 }

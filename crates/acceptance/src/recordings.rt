@@ -161,7 +161,7 @@ fn size_and_padding_of_frames_change_nothing(rt: HostRuntime) -> Result<(), Fail
 }
 
 #[test]
-fn size_and_padding_of_frames_change_nothing_of_the_longest_message(
+fn size_and_padding_of_frames_change_nothing_of_a_message_of_65535_bytes(
     rt: HostRuntime,
 ) -> Result<(), Fail> {
     for (rx_dl, _) in SIZES {

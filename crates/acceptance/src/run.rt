@@ -1,5 +1,7 @@
 //! A log taken through the calls: what the other tests look at.
 
+use crate::rows::{frames_marked, marked, name_of};
+use can_log::Id;
 use std::alloc::{AllocError, Global};
 use std::io::Read;
 use std::process::Abort;
@@ -24,36 +26,36 @@ pub(crate) fn run(alloc: Global, limit: u64, log: &[u8]) -> Result<Ran, Fail> {
 
 /// The same, over any reader.
 pub(crate) fn run_over<R: Read + Drop>(alloc: Global, limit: u64, reader: R) -> Result<Ran, Fail> {
-    let config = Config::new(0x7E0, 0x7E8, limit)?;
+    let config = Config::new(Id::Std(0x7E0), Id::Std(0x7E8), limit)?;
     let mut writer = Writing::new(Vec::new(alloc));
     let answer = normalise(alloc, &config, &mut Reading::new(reader), &mut writer);
     Ok((answer, writer.into_inner()))
 }
 
 /// The items of a log, listed.
-pub(crate) fn listed(alloc: Global, limit: u64, log: &[u8]) -> Result<Ran, Fail> {
-    let config = Config::new(0x7E0, 0x7E8, limit)?;
+pub(crate) fn listed<R: Read + Drop>(alloc: Global, limit: u64, reader: R) -> Result<Ran, Fail> {
+    let config = Config::new(Id::Std(0x7E0), Id::Std(0x7E8), limit)?;
     let mut writer = Writing::new(Vec::new(alloc));
-    let answer = list(alloc, &config, &mut Reading::new(log), &mut writer);
+    let answer = list(alloc, &config, &mut Reading::new(reader), &mut writer);
     Ok((answer, writer.into_inner()))
 }
 
 /// What the frames of a log do, explained.
 pub(crate) fn explained<R: Read + Drop>(alloc: Global, limit: u64, reader: R) -> Result<Ran, Fail> {
-    let config = Config::new(0x7E0, 0x7E8, limit)?;
+    let config = Config::new(Id::Std(0x7E0), Id::Std(0x7E8), limit)?;
     let mut writer = Writing::new(Vec::new(alloc));
     let answer = explain(alloc, &config, &mut Reading::new(reader), &mut writer);
     Ok((answer, writer.into_inner()))
 }
 
 /// What a log means.
-pub(crate) fn meaning(
+pub(crate) fn meaning<R: Read + Drop>(
     alloc: Global,
     limit: u64,
-    log: &[u8],
+    reader: R,
 ) -> Result<Result<Meaning, Fault>, Fail> {
-    let config = Config::new(0x7E0, 0x7E8, limit)?;
-    Ok(meaning_of(alloc, &config, &mut Reading::new(log)))
+    let config = Config::new(Id::Std(0x7E0), Id::Std(0x7E8), limit)?;
+    Ok(meaning_of(alloc, &config, &mut Reading::new(reader)))
 }
 
 /// A reader that gives one byte a call.
@@ -64,12 +66,19 @@ pub(crate) fn byte_by_byte(log: &[u8]) -> Short<&[u8]> {
     }
 }
 
-/// A log normalised in one piece and byte by byte, which has to give the same. The calls that give its meaning accept it
-/// where this is accepted, and refuse it alike where not; then nothing is listed.
+/// A log normalised and explained, in one piece and byte by byte, which has to give the same. The calls that give its meaning
+/// accept it where this is accepted, and refuse it alike where not; then nothing is listed. So does its explanation, which
+/// knows no message too long and no canonical log.
 pub(crate) fn run_cut(rt: &impl Abort, alloc: Global, limit: u64, log: &[u8]) -> Result<Ran, Fail> {
     let whole = run(alloc, limit, log)?;
     let cut = run_over(alloc, limit, byte_by_byte(log))?;
     assert!(rt; cut == whole, "byte by byte");
+    let told = explained(alloc, limit, log)?;
+    let cut = explained(alloc, limit, byte_by_byte(log))?;
+    assert!(rt; cut == told, "explained byte by byte");
+    if !matches!(whole.0, Err(Fault::Oversize { .. } | Fault::OutputLimit)) {
+        assert_eq!(rt; told.0, whole.0, "explained");
+    }
     let (answer, text) = listed(alloc, limit, log)?;
     assert_eq!(rt; answer, whole.0, "listed");
     assert!(rt; answer.is_ok() || text.is_empty(), "listed");
@@ -103,36 +112,40 @@ pub(crate) fn normalised(
     Ok((summary, String::from_utf8(canonical)?))
 }
 
-/// The canonical log of a log that is accepted, and of which this is told, the counts last.
+/// This is told of a log that is accepted, the counts last. Its canonical log.
 pub(crate) fn told(
     rt: &impl Abort,
     alloc: Global,
     log: &str,
-    lines: &[&str],
+    expected: &str,
     name: &str,
 ) -> Result<String, Fail> {
     let (summary, canonical) = normalised(rt, alloc, log)?;
-    let whole = explained(alloc, GIBIBYTE, log.as_bytes())?;
-    let cut = explained(alloc, GIBIBYTE, byte_by_byte(log.as_bytes()))?;
-    assert!(rt; cut == whole, "{name}, byte by byte");
-    let (answer, text) = whole;
+    let (answer, text) = explained(alloc, GIBIBYTE, log.as_bytes())?;
     assert_eq!(rt; answer, Ok(summary), "{name}");
-    let (text, expected) = (String::from_utf8(text)?, log_of(alloc, lines)?);
-    assert_eq!(rt; text.as_str(), expected.as_str(), "{name}");
+    assert_eq!(rt; String::from_utf8(text)?.as_str(), expected, "{name}");
     Ok(canonical)
 }
 
-/// These items are listed of the log.
+/// Of a log is told what the row has as `told`, and its canonical log has the frames that the row has as `canonical`.
+pub(crate) fn assert_row(rt: &impl Abort, alloc: Global, log: &str, row: &str) -> Result<(), Fail> {
+    let expected = marked(alloc, row, "told")?;
+    let canonical = told(rt, alloc, log, expected.as_str(), name_of(row))?;
+    let frames = frames_marked(alloc, row, "canonical")?;
+    assert_eq!(rt; canonical.as_str(), frames.as_str(), "{}", name_of(row));
+    Ok(())
+}
+
+/// Of a log is listed what the row has as `item`.
 pub(crate) fn assert_listed(
     rt: &impl Abort,
     alloc: Global,
     log: &str,
-    lines: &[&str],
-    name: &str,
+    row: &str,
 ) -> Result<(), Fail> {
     let (_, text) = listed(alloc, GIBIBYTE, log.as_bytes())?;
-    let (text, expected) = (String::from_utf8(text)?, log_of(alloc, lines)?);
-    assert_eq!(rt; text.as_str(), expected.as_str(), "{name}");
+    let (text, expected) = (String::from_utf8(text)?, marked(alloc, row, "item")?);
+    assert_eq!(rt; text.as_str(), expected.as_str(), "{}", name_of(row));
     Ok(())
 }
 

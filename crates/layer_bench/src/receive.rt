@@ -9,11 +9,11 @@ use std::alloc::{AllocError, Global};
 /// The lengths and the last bytes of all messages that are received, of so many of this size, added up.
 pub(crate) fn sum_of_messages(alloc: Global, size: u64, count: u64) -> Result<u64, AllocError> {
     let frames = frames_of(alloc, size)?;
-    let mut pair = Pair::new(alloc)?;
+    let mut pair = Pair::new(alloc);
     let mut sum = 0u64;
     for _ in 0..count {
         for (dir, frame) in &frames {
-            if let Verdict::Message(message) = pair.accept(0, 0, *dir, frame).verdict {
+            if let Verdict::Message(message) = pair.accept(0, 0, *dir, frame)?.verdict {
                 sum = sum.wrapping_add(sum_of(message));
             }
         }

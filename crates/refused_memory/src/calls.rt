@@ -1,0 +1,322 @@
+//! The calls, each over every session.
+
+use crate::sessions::{Message, SESSIONS, Session};
+use can_log::{Dir, Frame, Id};
+use isotp_receive::{Pair, Verdict};
+use std::alloc::Global;
+use std::io::{Error, ErrorKind, Result as IoResult, Write};
+use std::test::Fail;
+use trace_canon::{CompareFault, Comparison, Config, Fault};
+use trace_io::{Reading, Writing};
+use uds_exchange::{Item, Meaning, MessageSink, OrderFault, Orderer, Pairing};
+
+/// How often a call was made until it answered: again, where it was refused memory.
+#[derive(Clone, Copy)]
+enum Made {
+    Once,
+    Again,
+}
+
+const TRIES: [Made; 2] = [Made::Once, Made::Again];
+
+const REFUSED_AGAIN: &str = "refused again";
+
+/// Ends a test with the session over which its call was refused memory.
+fn tell(made: Made, session: Session) -> Result<(), Fail> {
+    match made {
+        Made::Once => Ok(()),
+        Made::Again => Err(session.name)?,
+    }
+}
+
+fn config() -> Result<Config, Fail> {
+    Ok(Config::new(Id::Std(0x7E0), Id::Std(0x7E8), 1000)?)
+}
+
+#[test]
+fn pair_accept(rt: HostRuntime) -> Result<(), Fail> {
+    for session in SESSIONS {
+        tell(received(rt.alloc(), session)?, session)?;
+    }
+    Ok(())
+}
+
+/// Receives the frames of the session. Where one was refused memory, the message of its side is lost, and those of the other
+/// side are delivered all the same.
+fn received(alloc: Global, session: Session) -> Result<Made, Fail> {
+    let mut pair = Pair::new(alloc);
+    let mut sink = InOrder::new(session.messages);
+    let mut made = Made::Once;
+    for (dir, kind, data) in session.frames {
+        let frame = Frame::new(Id::Std(0x7E8), *kind, data).ok_or("no frame")?;
+        match pair.accept(0, 0, *dir, &frame) {
+            Err(_refused) => {
+                made = Made::Again;
+                sink.lost = Some(*dir);
+            }
+            Ok(event) => {
+                if let Verdict::Message(bytes) = event.verdict {
+                    sink.put(*dir, bytes)?;
+                }
+            }
+        }
+    }
+    sink.end()?;
+    Ok(made)
+}
+
+#[test]
+fn pairing_take(rt: HostRuntime) -> Result<(), Fail> {
+    for session in SESSIONS {
+        tell(paired(rt.alloc(), session)?, session)?;
+    }
+    Ok(())
+}
+
+/// Pairs the messages of the session. A message that was refused memory is taken again.
+fn paired(alloc: Global, session: Session) -> Result<Made, Fail> {
+    let mut pairing = Pairing::new(alloc);
+    let mut made = Made::Once;
+    for (dir, message) in session.messages {
+        if pairing.take(*dir, message).is_err() {
+            made = Made::Again;
+            pairing.take(*dir, message)?;
+        }
+    }
+    assert_means(&pairing.finish(), session)?;
+    Ok(made)
+}
+
+#[test]
+fn orderer_take(rt: HostRuntime) -> Result<(), Fail> {
+    for session in SESSIONS {
+        tell(ordered(rt.alloc(), session)?, session)?;
+    }
+    Ok(())
+}
+
+/// Orders the messages of the session. A message that was refused memory is taken again.
+fn ordered(alloc: Global, session: Session) -> Result<Made, Fail> {
+    let mut orderer = Orderer::new(alloc);
+    let mut sink = InOrder::new(session.ordered);
+    let mut made = Made::Once;
+    for (dir, message) in session.messages {
+        let answer = orderer.take(*dir, message, &mut sink);
+        if answer == Err(OrderFault::Memory) {
+            made = Made::Again;
+            orderer.take(*dir, message, &mut sink)?;
+        } else {
+            answer?;
+        }
+    }
+    orderer.finish(&mut sink)?;
+    sink.end()?;
+    Ok(made)
+}
+
+#[test]
+fn meaning_of(rt: HostRuntime) -> Result<(), Fail> {
+    for session in SESSIONS {
+        tell(meant(rt.alloc(), session)?, session)?;
+    }
+    Ok(())
+}
+
+fn meant(alloc: Global, session: Session) -> Result<Made, Fail> {
+    for made in TRIES {
+        match trace_canon::meaning_of(alloc, &config()?, &mut Reading::new(session.log)) {
+            Err(Fault::Memory) => {}
+            answer => {
+                assert_means(&answer?, session)?;
+                return Ok(made);
+            }
+        }
+    }
+    Err(REFUSED_AGAIN)?
+}
+
+/// A call that writes a text about a log, made over a session.
+macro_rules! written {
+    ($call:path, $alloc:expr, $log:expr, $text:expr) => {{
+        for made in TRIES {
+            let mut writer = Writing::new(Rest { of: $text });
+            match $call($alloc, &config()?, &mut Reading::new($log), &mut writer) {
+                Err(Fault::Memory) => {}
+                answer => {
+                    answer?;
+                    writer.into_inner().end()?;
+                    return Ok(made);
+                }
+            }
+        }
+        Err(REFUSED_AGAIN)?
+    }};
+}
+
+#[test]
+fn normalise(rt: HostRuntime) -> Result<(), Fail> {
+    for session in SESSIONS {
+        tell(normalised(rt.alloc(), session)?, session)?;
+    }
+    Ok(())
+}
+
+fn normalised(alloc: Global, session: Session) -> Result<Made, Fail> {
+    written!(
+        trace_canon::normalise,
+        alloc,
+        session.log,
+        session.canonical
+    )
+}
+
+#[test]
+fn list(rt: HostRuntime) -> Result<(), Fail> {
+    for session in SESSIONS {
+        tell(listed(rt.alloc(), session)?, session)?;
+    }
+    Ok(())
+}
+
+fn listed(alloc: Global, session: Session) -> Result<Made, Fail> {
+    written!(trace_canon::list, alloc, session.log, session.listed)
+}
+
+#[test]
+fn explain(rt: HostRuntime) -> Result<(), Fail> {
+    for session in SESSIONS {
+        tell(explained(rt.alloc(), session)?, session)?;
+    }
+    Ok(())
+}
+
+fn explained(alloc: Global, session: Session) -> Result<Made, Fail> {
+    written!(trace_canon::explain, alloc, session.log, session.explained)
+}
+
+#[test]
+fn compare(rt: HostRuntime) -> Result<(), Fail> {
+    for session in SESSIONS {
+        tell(compared(rt.alloc(), session)?, session)?;
+    }
+    Ok(())
+}
+
+/// Compares the log of a session with its canonical log.
+fn compared(alloc: Global, session: Session) -> Result<Made, Fail> {
+    for made in TRIES {
+        let mut log = Reading::new(session.log);
+        let mut canonical = Reading::new(session.canonical);
+        match trace_canon::compare(alloc, &config()?, &mut log, &mut canonical) {
+            Err(CompareFault::Left(Fault::Memory) | CompareFault::Right(Fault::Memory)) => {}
+            Ok(Comparison::Same) => return Ok(made),
+            _ => Err("not the same")?,
+        }
+    }
+    Err(REFUSED_AGAIN)?
+}
+
+/// What is still to be written of a text. Other bytes are refused, so that what was written is a front of it.
+#[derive(Drop)]
+struct Rest {
+    of: &'static [u8],
+}
+
+impl Rest {
+    fn end(&self) -> Result<(), Fail> {
+        if self.of.is_empty() {
+            Ok(())
+        } else {
+            Err("the text breaks off")?
+        }
+    }
+}
+
+impl Write for Rest {
+    fn write(&mut self, piece: &[u8]) -> IoResult<usize> {
+        match self.of.strip_prefix(piece) {
+            Some(rest) => {
+                self.of = rest;
+                Ok(piece.len())
+            }
+            None => Err(Error::from(ErrorKind::InvalidData)),
+        }
+    }
+
+    fn flush(&mut self) -> IoResult<()> {
+        Ok(())
+    }
+}
+
+/// What is still to be put of a list of messages. Another message than the next is refused; those of a side that lost one are
+/// not waited for.
+#[derive(Drop)]
+struct InOrder {
+    wanted: &'static [Message],
+    put: usize,
+    lost: Option<Dir>,
+}
+
+impl InOrder {
+    fn new(wanted: &'static [Message]) -> InOrder {
+        InOrder {
+            wanted,
+            put: 0,
+            lost: None,
+        }
+    }
+
+    /// The place of the next message that is waited for.
+    fn next(&self) -> usize {
+        let lost = self.lost;
+        let rest = self.wanted.iter().skip(self.put);
+        let skipped = rest.take_while(|(dir, _)| Some(*dir) == lost).count();
+        self.put.saturating_add(skipped)
+    }
+
+    fn end(&self) -> Result<(), Fail> {
+        if self.next() == self.wanted.len() {
+            Ok(())
+        } else {
+            Err("a message is missing")?
+        }
+    }
+}
+
+impl MessageSink for InOrder {
+    ghost use Rattle.std.specs.Prelude.{⊤};
+
+    type Fault = &'static str;
+
+    ghost after_ok = { λ old dir message new. ⊤ };
+
+    ghost after_err = { λ old dir message fault new. ⊤ };
+
+    fn put(&mut self, dir: Dir, message: &[u8]) -> Result<(), &'static str> {
+        let next = self.next();
+        match self.wanted.get(next) {
+            Some((sender, bytes)) if *sender == dir && *bytes == message => {
+                self.put = next.saturating_add(1);
+                Ok(())
+            }
+            _ => Err("another message than the next"),
+        }
+    }
+}
+
+/// The items of a meaning have the messages of the session in order.
+fn assert_means(meaning: &Meaning, session: Session) -> Result<(), Fail> {
+    let mut sink = InOrder::new(session.ordered);
+    for i in 0..meaning.len() {
+        match meaning.item(i).ok_or("an item is missing")? {
+            Item::Exchange { request, answer } => {
+                sink.put(Dir::Tester, request)?;
+                if let Some(answer) = answer {
+                    sink.put(Dir::Unit, answer)?;
+                }
+            }
+            Item::Stray { dir, bytes } => sink.put(*dir, bytes)?,
+        }
+    }
+    sink.end()
+}
