@@ -5,13 +5,14 @@ PREFIX ?= /usr/local
 CRATE := crates/udsnorm
 PROGRAM := $(CRATE)/out/udsnorm
 BUILD_LOG := $(CRATE)/out/build.txt
+VERSION := $(shell cat VERSION)
 
 MAN := $(PREFIX)/share/man/man1/udsnorm.1
 BASH := $(PREFIX)/share/bash-completion/completions/udsnorm
 ZSH := $(PREFIX)/share/zsh/site-functions/_udsnorm
 FISH := $(PREFIX)/share/fish/vendor_completions.d/udsnorm.fish
 
-.PHONY: build run test install uninstall bench
+.PHONY: build run test install install-built uninstall dist deb interop bench
 
 # Proves the program and what it stands on, and builds it. It says when it starts and when it ends on standard error; what
 # `rt` says is in a file, and shown where the build fails.
@@ -32,25 +33,43 @@ build:
 run: build
 	@$(PROGRAM) normalise '$(LOG)' || echo "udsnorm: exit status $$?" >&2
 
-# The tests of the built program, random logs through it, each growth of memory refused in turn, and then the gate: every proof from nothing, every test, every wrong body refused.
+# The tests of the built program, random and hostile logs through it, each growth of memory refused in turn, and then the gate: every proof from nothing, every test, every wrong body refused.
 test: build
 	@python3 tests/command_line.py $(PROGRAM)
 	@python3 tests/program.py $(PROGRAM)
 	@python3 tests/shipped.py $(PROGRAM)
+	@python3 tests/recipes.py $(PROGRAM)
+	@python3 tests/release.py $(PROGRAM)
 	@python3 tests/differential.py $(PROGRAM)
+	@python3 tests/hostile_input.py $(PROGRAM)
 	@python3 tests/refused_memory.py $(PROGRAM)
 	@rt ci
 
 # The program with its manual page and its completions for bash, zsh and fish. DESTDIR is put in front of each path.
 install: build
+	@$(MAKE) --no-print-directory install-built
+
+# The same of the program as it was built before. The manual page gets the version into its footer.
+install-built:
 	install -D -m 755 $(PROGRAM) $(DESTDIR)$(PREFIX)/bin/udsnorm
-	install -D -m 644 share/man/man1/udsnorm.1 $(DESTDIR)$(MAN)
+	sed '1s/"udsnorm"/"udsnorm $(VERSION)"/' share/man/man1/udsnorm.1 | install -D -m 644 /dev/stdin $(DESTDIR)$(MAN)
 	install -D -m 644 share/completions/udsnorm.bash $(DESTDIR)$(BASH)
 	install -D -m 644 share/completions/_udsnorm $(DESTDIR)$(ZSH)
 	install -D -m 644 share/completions/udsnorm.fish $(DESTDIR)$(FISH)
 
 uninstall:
 	rm -f $(DESTDIR)$(PREFIX)/bin/udsnorm $(DESTDIR)$(MAN) $(DESTDIR)$(BASH) $(DESTDIR)$(ZSH) $(DESTDIR)$(FISH)
+
+# A release for other machines, as a tarball and as a Debian package: each prints its path.
+dist: build
+	@packaging/dist $(PROGRAM) out
+
+deb: build
+	@packaging/deb $(PROGRAM) out
+
+# What other tools make of canonical logs, and the program of theirs. No part of `test`, since it needs these tools.
+interop: build
+	@python3 tests/interop.py $(PROGRAM)
 
 # How fast it is, beside other programs: a table, and no test.
 bench: build

@@ -20,11 +20,51 @@ EXPLANATION = b"lines 1 frames 1 messages 1 dropped 0 ended 0 unfinished 0 pendi
 TEXTS = {"normalise": CANONICAL, "list": LIST, "explain": EXPLANATION}
 
 NO_LOG_LINE = b"(1.000000) can0 7E0#0\n"
+OVERSIZE = b"(1.000000) can0 7E8#1000001000004142\n"
 BAD_PLACE = b"line 1 column 22: not a log line\n"
-NOT_DIGITS = b"identifier is not three hexadecimal digits\n"
+NOT_DIGITS = b"identifier is not three or eight hexadecimal digits\n"
 OUT_OF_RANGE = b"identifier out of range\n"
 SAME_IDENTIFIER = b"tester and unit have the same identifier\n"
 LIMIT_RANGE = b"limit out of range\n"
+
+# Words that ask for help, and lines of it, of which the first one begins it.
+PROGRAM_HELP = [
+    b"Gives recorded vehicle diagnostic sessions one canonical spelling",
+    b"Usage: udsnorm <COMMAND>",
+    b"Example: udsnorm compare yesterday.log today.log",
+]
+LIST_HELP = [
+    b"Writes the exchanges and stray messages",
+    b"Usage: udsnorm list [OPTIONS] [LOG]",
+    b"  [LOG]  The recorded log; without it standard input is read",
+    b"Example: udsnorm list --tester 7E1 --unit 7E9 recorded.log",
+]
+NORMALISE_HELP = [
+    b"Writes the canonical log",
+    b"Usage: udsnorm normalise [OPTIONS] [LOG]",
+    b"Example: udsnorm normalise recorded.log > canonical.log",
+]
+EXPLAIN_HELP = [
+    b"Writes which frames were dropped and which receptions ended early, and why",
+    b"Usage: udsnorm explain [OPTIONS] [LOG]",
+    b"Example: udsnorm explain recorded.log",
+]
+COMPARE_HELP = [
+    b"Says whether two logs have the same exchanges and stray messages",
+    b"Usage: udsnorm compare [OPTIONS] <A> <B>",
+    b"  <A>  The left log",
+    b"  <B>  The right log",
+    b"Example: udsnorm compare yesterday.log today.log",
+]
+HELPS = [
+    (["--help"], PROGRAM_HELP),
+    (["-h"], PROGRAM_HELP),
+    (["normalise", "--help"], NORMALISE_HELP),
+    (["list", "--help"], LIST_HELP),
+    (["explain", "-h"], EXPLAIN_HELP),
+    (["compare", "--help"], COMPARE_HELP),
+    (["list", "--tester", "7E", "-h"], LIST_HELP),
+]
 
 
 def jobs(cases):
@@ -56,6 +96,17 @@ def options(cases):
     cases.case("the largest limit", cases.run(["list", "--limit=1099511627776"], LOG), DONE, LIST)
 
 
+def extended_identifiers(cases):
+    """Eight digits are an extended identifier, in either case; equal numbers of two formats are two identifiers."""
+    extended = LOG.replace(b"7E0", b"18DA10F1")
+    for tester in ["18DA10F1", "18da10f1"]:
+        cases.case(f"--tester {tester}", cases.run(["list", "--tester", tester], extended), DONE, LIST)
+    cases.case("the canonical log of an extended identifier", cases.run(["normalise", "--tester=18da10f1"], extended), DONE, CANONICAL.replace(b"7E0", b"18DA10F1"))
+    cases.case("eight digits for a frame of three", cases.run(["list", "--tester", "000007E0"], LOG), DONE)
+    cases.case("eight digits for a frame of eight", cases.run(["list", "--tester", "000007E0"], LOG.replace(b"7E0", b"000007E0")), DONE, LIST)
+    cases.case("one number in two formats", cases.run(["list", "--tester", "7E0", "--unit", "000007E0"], LOG), DONE, LIST)
+
+
 def comparisons(cases):
     cases.case("a log compared with itself", cases.run(["compare", "a.log", "a.log"]), DONE, b"same\n")
     cases.case("a log compared with none", cases.run(["compare", "a.log", "empty.log"]), DIFFERENT, b"different at item 1\n")
@@ -70,8 +121,15 @@ def comparisons(cases):
         ("a directory for the right log, after a refused one", "refused.log", ".", REFUSAL, b"left: " + BAD_PLACE),
         ("a directory for the right log", "a.log", ".", DEVICE, b"right: read failed\n"),
         ("a directory for the left log", ".", "a.log", DEVICE, b"left: read failed\n"),
+        ("two empty names", "", "", DEVICE, b"left: read failed\n"),
+        ("a right log with a message above the limit", "a.log", "oversize.log", REFUSAL, b"right: line 1: 1048576 bytes announced, the limit is 1048575\n"),
     ]:
         cases.case(name, cases.run(["compare", left, right]), status, b"", error)
+    for limit, left, right, error in [
+        ("37", "empty.log", "a.log", b"right: log longer than the limit\n"),
+        ("45", "a.log", "a.log", b"left: canonical log longer than the limit\n"),
+    ]:
+        cases.case(f"compare --limit {limit}", cases.run(["compare", "--limit", limit, left, right]), REFUSAL, b"", error)
 
 
 def files_that_fail(cases):
@@ -82,20 +140,16 @@ def files_that_fail(cases):
 
 
 def help_texts(cases):
-    for name, words, line in [
-        ("of the program", ["--help"], b"Usage: udsnorm <COMMAND>"),
-        ("of the program, in short", ["-h"], b"Usage: udsnorm <COMMAND>"),
-        ("of list", ["list", "--help"], b"Usage: udsnorm list [OPTIONS] [LOG]"),
-        ("of compare", ["compare", "--help"], b"Usage: udsnorm compare [OPTIONS] <A> <B>"),
-        ("before wrong identifiers", ["list", "--tester", "7E", "-h"], b"Usage: udsnorm list [OPTIONS] [LOG]"),
-    ]:
+    """Each help begins with what the program or the command does, and fits on a screen."""
+    for words, lines in HELPS:
         status, output, error = cases.run(words)
-        lines = output.split(b"\n")
+        told = output.split(b"\n")
         wrong = [] if status == DONE and not error else [f"status {status}, error output {error!r}"]
-        wrong += [] if line in lines else [f"no line {line!r}"]
-        wrong += [] if lines[-1] == b"" and lines[-2] else ["no line feed at the end"]
-        wrong += [] if len(lines) <= 26 and max(map(len, lines)) <= 100 else ["more than a screen"]
-        cases.report(f"help {name}", wrong)
+        wrong += [f"no line {line!r}" for line in lines if line not in told]
+        wrong += [] if told[0] == lines[0] else [f"begins with {told[0]!r}"]
+        wrong += [] if told[-1] == b"" and told[-2] else ["no line feed at the end"]
+        wrong += [] if len(told) <= 26 and max(map(len, told)) <= 100 else ["more than a screen"]
+        cases.report(f"help by {words}", wrong)
     with open("/dev/full", "wb") as full:
         cases.case("help on a full disk", cases.run(["--help"], stdout=full), DONE, None)
 
@@ -103,7 +157,7 @@ def help_texts(cases):
 def wrong_words(cases):
     for words in [
         ["lis"], ["Normalise"], [""], ["help"], ["--version"], ["-V"], ["list", "--version"], ["--tester", "7E0"],
-        ["--limit", "5", "list"], ["a.log"], ["compare"], ["compare", "a"], ["compare", "a", "b", "c"], ["list", "a", "b"],
+        ["--limit", "5", "list"], ["a.log"], ["compare"], ["compare", "a"], ["compare", "--", "a"], ["compare", "--limit", "5", "a"], ["compare", "a", "b", "c"], ["list", "a", "b"],
         ["list", "--limit"], ["list", "--limit", "1", "--limit", "2"], ["list", "--tester=7E0", "--tester=7E0"],
         ["list", "--limi", "1"], ["list", "--limit=x"], ["list", "--limit=-1"], ["list", "--limit=1.5"], ["list", "--limit="],
         ["list", "--limit=18446744073709551616"], ["list", "--tester", "7E", "--limit", "x"], ["list", "-x"],
@@ -123,15 +177,21 @@ def wrong_values(cases):
         (["list", "--tester", "07E0"], NOT_DIGITS),
         (["list", "--tester", "+7E"], NOT_DIGITS),
         (["list", "--tester", "7G0"], NOT_DIGITS),
+        (["list", "--tester", "18DA10F"], NOT_DIGITS),
+        (["list", "--tester", "18DA10F10"], NOT_DIGITS),
+        (["list", "--tester", "+8DA10F1"], NOT_DIGITS),
         (["list", "--tester="], NOT_DIGITS),
         (["explain", "--unit", "7e"], NOT_DIGITS),
         (["compare", "--unit", "7e", "missing", "missing"], NOT_DIGITS),
         (["list", "--tester", "7E", "--unit", "800", "--limit", "0"], NOT_DIGITS),
         (["list", "--tester", "800"], OUT_OF_RANGE),
         (["list", "--unit", "FFF"], OUT_OF_RANGE),
+        (["list", "--tester", "20000000"], OUT_OF_RANGE),
+        (["list", "--unit", "FFFFFFFF"], OUT_OF_RANGE),
         (["list", "--tester", "800", "--unit", "800", "--limit", "0"], OUT_OF_RANGE),
         (["explain", "--unit", "7E0"], SAME_IDENTIFIER),
         (["explain", "--unit", "7e0", "--limit", "0"], SAME_IDENTIFIER),
+        (["list", "--tester", "18da10f1", "--unit", "18DA10F1"], SAME_IDENTIFIER),
         (["list", "--limit", "0"], LIMIT_RANGE),
         (["list", "--limit", "1099511627777"], LIMIT_RANGE),
         (["normalise", "--limit", "18446744073709551615"], LIMIT_RANGE),
@@ -148,12 +208,13 @@ def main():
     files = {
         "a.log": LOG, "-": LOG, "--limit": LOG, "größe.log": LOG, "empty.log": b"",
         "other.log": LOG.replace(b"7E0", b"7e2"), "refused.log": NO_LOG_LINE,
+        "oversize.log": OVERSIZE,
     }
     with tempfile.TemporaryDirectory() as folder:
         for name, log in files.items():
             Path(folder, name).write_bytes(log)
         os.chdir(folder)
-        for test in [jobs, options, comparisons, files_that_fail, help_texts, wrong_words, wrong_values]:
+        for test in [jobs, options, extended_identifiers, comparisons, files_that_fail, help_texts, wrong_words, wrong_values]:
             test(cases)
         os.chdir("/")
     cases.end()

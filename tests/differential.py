@@ -3,14 +3,17 @@
 
     tests/differential.py crates/udsnorm/out/udsnorm [--seconds NUMBER] [--seed NUMBER]
 
-First a sample log with each of its bytes replaced by bytes that a line may and may not have. Then, until the seconds are
-over, random ones: half of them are sessions whose frames are lost, repeated, exchanged and late; the others are made of a
-sample log or a session by changing bytes. Each log goes through one of the four jobs, half of them under a limit about the
-length of the log. The same seed gives the same runs; it is 1 where none is given, and the seconds 12.
+First examples/vin.log, 212 bytes, with each of its bytes replaced by each of seven bytes that a line may and may not have:
+1,484 logs, each through normalise and through explain. Each is accepted, or refused at the place that the oracle finds by
+trying what could follow. Then, until the seconds are over, random ones: half of them are sessions whose frames are lost,
+repeated, exchanged and late; the others are made of a sample log or a session by changing bytes. Each of these goes through
+one of the four jobs, half of them under a limit about the length of the log. The same seed gives the same runs; it is 1
+where none is given, and the seconds 12.
 Prints the log of each difference, and ends with `N passed, M failed`; its status is 1 where there was a difference.
 """
 
 import argparse
+import itertools
 import os
 import random
 import subprocess
@@ -26,6 +29,9 @@ EXAMPLES = Path(__file__).resolve().parent.parent / "examples"
 FRAME_LENGTHS = (8, 8, 8, 12, 16, 20, 24, 32, 48, 64)
 MICROS = (0, 1, 1000, 999_999, 1_000_000, 1_000_001, -1, -1_000_000, 241, 97_000)
 BYTES = b"\n\r (#_)RT0123456789ABCDEFabcdf.7E\xff\x00\x21\x7e"
+REPLACEMENTS = b"\0\n\r (F\xff"
+
+ORACLES = {"normalise": oracle.outcome, "list": oracle.listed, "explain": oracle.explained}
 
 
 def frames_of(rng, sender, message):
@@ -153,10 +159,8 @@ def mutated(rng, log):
 
 
 def replaced(log):
-    """The log with each of its bytes replaced."""
-    for at in range(len(log)):
-        for byte in b"\0\n\r (F\xff":
-            yield log[:at] + bytes([byte]) + log[at + 1 :]
+    """The log with each of its bytes replaced by each of these."""
+    return [log[:at] + bytes([byte]) + log[at + 1 :] for at in range(len(log)) for byte in REPLACEMENTS]
 
 
 def random_logs(seed):
@@ -192,28 +196,47 @@ def in_time(logs, seconds):
         yield log
 
 
-def difference(program, rng, folder, log):
-    """How the program's run over this log differs from what the log comes to, for one of the four jobs."""
-    limit = limit_for(rng, log)
-    job = rng.choice(("normalise", "normalise", "list", "explain", "explain", "compare"))
-    words = [job] if limit == oracle.GIBIBYTE else [job, "--limit", str(limit)]
-    if job == "compare":
-        other = rng.choice((oracle.outcome(log).written, mutated(rng, oracle.outcome(log).written), mutated(rng, log)))
-        pair = rng.sample((log, other), 2)
-        names = [folder / "left.log", folder / "right.log"]
-        for name, text in zip(names, pair):
-            name.write_bytes(text)
-        came, log = oracle.compared(*pair, limit), repr(pair)
-        found = run(program, [*words, *names], b"")
-    else:
-        came = {"normalise": oracle.outcome, "list": oracle.listed, "explain": oracle.explained}[job](log, limit)
-        found = run(program, words, log)
+def words_of(job, limit):
+    return [job] if limit == oracle.GIBIBYTE else [job, "--limit", str(limit)]
+
+
+def difference(program, job, log, limit=oracle.GIBIBYTE):
+    """How the program's run of a job over this log differs from what the log comes to."""
+    words = words_of(job, limit)
+    return unlike(words, log, run(program, words, log), ORACLES[job](log, limit))
+
+
+def difference_of_two(program, folder, pair, limit):
+    """The same, for a comparison of these logs."""
+    words, names = words_of("compare", limit), [folder / "left.log", folder / "right.log"]
+    for name, log in zip(names, pair):
+        name.write_bytes(log)
+    return unlike(words, pair, run(program, [*words, *names], b""), oracle.compared(*pair, limit))
+
+
+def unlike(words, log, found, came):
+    """What is told where a run is not as it should be."""
     status, written, told = found
     # Of a refused log an explanation has told of some of the frames before.
-    is_written = came.written.startswith(written) if came.fault and job == "explain" else came.written == written
+    is_written = came.written.startswith(written) if came.fault and words[0] == "explain" else came.written == written
     if is_written and (status, told) == (came.status, f"{came.fault}\n".encode() if came.fault else b""):
         return None
     return f"{words} {log!r}\n  {found}\n  {came}"
+
+
+def differences(program, logs):
+    """What is found of each of these logs by normalise and by explain."""
+    return (difference(program, job, log) for log in logs for job in ("normalise", "explain"))
+
+
+def random_difference(program, rng, folder, log):
+    """What is found of a log by one of the four jobs."""
+    limit = limit_for(rng, log)
+    job = rng.choice(("normalise", "normalise", "list", "explain", "explain", "compare"))
+    if job != "compare":
+        return difference(program, job, log, limit)
+    other = rng.choice((oracle.outcome(log).written, mutated(rng, oracle.outcome(log).written), mutated(rng, log)))
+    return difference_of_two(program, folder, rng.sample((log, other), 2), limit)
 
 
 def main():
@@ -222,18 +245,20 @@ def main():
     words.add_argument("--seconds", type=float, default=12)
     words.add_argument("--seed", type=int, default=1)
     given = words.parse_args()
-    passed, failed = 0, 0
     rng = random.Random(given.seed)
-    sample = (EXAMPLES / "vin.log").read_bytes()
+    logs = replaced((EXAMPLES / "vin.log").read_bytes())
+    if len(logs) != 1_484:
+        sys.exit("examples/vin.log has no longer 212 bytes")
+    passed = failed = 0
     with tempfile.TemporaryDirectory() as folder:
-        for logs in (replaced(sample), in_time(random_logs(given.seed), given.seconds)):
-            for log in logs:
-                found = difference(given.program, rng, Path(folder), log)
-                if found:
-                    failed += 1
-                    print(f"FAILED {found}", flush=True)
-                else:
-                    passed += 1
+        others = in_time(random_logs(given.seed), given.seconds)
+        at_random = (random_difference(given.program, rng, Path(folder), log) for log in others)
+        for found in itertools.chain(differences(given.program, logs), at_random):
+            if found:
+                failed += 1
+                print(f"FAILED {found}", flush=True)
+            else:
+                passed += 1
     print(f"{passed} passed, {failed} failed")
     sys.exit(1 if failed else 0)
 

@@ -1,9 +1,9 @@
 #!/usr/bin/env python3
 """What a log comes to, by the definitions alone.
 
-    tests/oracle.py [LIMIT] < LOG > CANONICAL
+    tests/oracle.py [LIMIT [TESTER UNIT]] < LOG > CANONICAL
 
-Writes the canonical log of a log between the tester 7E0 and the unit 7E8, and ends with the exit status that the program
+Writes the canonical log of a log between the tester and the unit, 7E0 and 7E8 where nothing else is said, and ends with the exit status that the program
 ends with. It shares no idea with the program: a line is one regular expression, a refused place is found by trying what
 could follow, each frame is judged by looking back over the frames before it, and the meaning is read off the whole list of
 messages. So it keeps no state and is slow, and it is meant to be read.
@@ -16,10 +16,9 @@ from collections import namedtuple
 
 TESTER, UNIT = "tester", "unit"
 OTHER = {TESTER: UNIT, UNIT: TESTER}
-SENDERS = {b"7E0": TESTER, b"7E8": UNIT}
-IDENTIFIERS = {TESTER: "7E0", UNIT: "7E8"}
+SIDES = {TESTER: "7E0", UNIT: "7E8"}
 
-MESSAGE_LIMIT = 65_535
+MESSAGE_LIMIT = 1_048_575
 N_CR = 1_000_000
 
 GIBIBYTE = 1 << 30
@@ -43,9 +42,11 @@ LINE = re.compile(
     re.VERBOSE,
 )
 
-# What completes the front of any line that can be completed: the ends of the shortest lines.
+# What completes the front of any line that can be completed, in at most 16 bytes: the ends of the shortest lines, a digit, the
+# digit of a raw length, and a mark.
 SHORTEST_LINES = (b"(0.000000) a 000#", b"(0.000000) a 00000000#")
-COMPLETIONS = {line[n:] for line in SHORTEST_LINES for n in range(len(line) + 1)} | {b"0", b"9", b"R"}
+ENDS = {line[n:] for line in SHORTEST_LINES for n in range(len(line) + 1)}
+COMPLETIONS = {end for end in ENDS if len(end) <= 16} | {b"0", b"9", b"R"}
 
 
 def without_return(line):
@@ -85,12 +86,13 @@ Nothing = namedtuple("Nothing", "reason")
 CONTINUE, WAIT, OVERFLOW = 0, 1, 2
 
 
-def trace(lines):
-    """The frames of the tester and the unit in these lines, in order."""
+def trace(lines, sides=SIDES):
+    """The frames of the tester and the unit in these lines, in order. Three digits never are the identifier that eight are."""
+    senders = {identifier.encode(): direction for direction, identifier in sides.items()}
     entries = []
     for number, line in enumerate(lines, 1):
         match = LINE.fullmatch(without_return(line))
-        sender = SENDERS.get(match["identifier"].upper()) if match else None
+        sender = senders.get(match["identifier"].upper()) if match else None
         if sender:
             micros = int(match["seconds"]) * 1_000_000 + int(match["micros"])
             digits = match["classic"] or match["whole"] or match["fd"] or b""
@@ -298,11 +300,11 @@ def canonical_frames(direction, message):
     return [(direction, head + message[:begun]), (OTHER[direction], b"\x30\x00\x00"), *consecutive]
 
 
-def canonical_lines(listed):
+def canonical_lines(listed, sides=SIDES):
     """The lines of the canonical log of messages in order."""
     frames = [frame for direction, message in listed for frame in canonical_frames(direction, message)]
     return [
-        f"({n // 1000:010d}.{n % 1000:03d}000) can0 {IDENTIFIERS[direction]}#{data.ljust(8, bytes([0xCC])).hex().upper()}\n"
+        f"({n // 1000:010d}.{n % 1000:03d}000) can0 {sides[direction]}#{data.ljust(8, bytes([0xCC])).hex().upper()}\n"
         for n, (direction, data) in enumerate(frames)
     ]
 
@@ -484,42 +486,42 @@ Outcome = namedtuple("Outcome", "status fault written")
 Refusal = namedtuple("Refusal", "fault lines")
 
 
-def refusal(log, limit, is_long_refused=True):
+def refusal(log, limit, is_long_refused=True, sides=SIDES):
     """Why a log is refused by its lines or its length, with the lines that were read before; None where it is not."""
     seen, is_whole = log[:limit], len(log) <= limit
     lines = cut(seen)
     ended = lines[: seen.count(b"\n")]
     for number, line in enumerate(lines, 1):
-        fault = line_fault(number, line, is_whole or number <= len(ended), is_long_refused)
+        fault = line_fault(number, line, is_whole or number <= len(ended), is_long_refused, sides)
         if fault:
             return Refusal(fault, lines[: number - 1])
     return None if is_whole else Refusal("log longer than the limit", ended)
 
 
-def line_fault(number, line, is_whole, is_long_refused):
+def line_fault(number, line, is_whole, is_long_refused, sides):
     """Why a line refuses its log: it is no line, or it announces too much. Of a line that goes on after the limit only a
     byte can be wrong."""
     if not is_legal(line):
         column = refused_column(line)
         return f"line {number} column {column}: not a log line" if is_whole or column <= len(line) else None
-    first = [entry.layout for entry in trace([line]) if isinstance(entry.layout, First)]
+    first = [entry.layout for entry in trace([line], sides) if isinstance(entry.layout, First)]
     if first and is_whole and is_long_refused and first[0].announced > MESSAGE_LIMIT:
         return f"line {number}: {first[0].announced} bytes announced, the limit is {MESSAGE_LIMIT}"
     return None
 
 
-def items_of(lines):
+def items_of(lines, sides=SIDES):
     """What a log of these lines means."""
-    return meaning(messages(trace(lines)))
+    return meaning(messages(trace(lines, sides)))
 
 
-def outcome(log, limit=GIBIBYTE):
+def outcome(log, limit=GIBIBYTE, sides=SIDES):
     """What a log comes to: its canonical log, or why it is refused, and what is written of the canonical log before."""
-    refused = refusal(log, limit)
+    refused = refusal(log, limit, sides=sides)
     if refused:
-        known = canonical_lines(early(messages(trace(refused.lines))))
+        known = canonical_lines(early(messages(trace(refused.lines, sides))), sides)
         return Outcome(REFUSED, refused.fault, fitting(known, limit))
-    text = canonical_lines(in_order(items_of(cut(log))))
+    text = canonical_lines(in_order(items_of(cut(log), sides)), sides)
     if sum(map(len, text)) > limit:
         return Outcome(REFUSED, "canonical log longer than the limit", fitting(text, limit))
     return Outcome(DONE, None, "".join(text).encode())
@@ -555,7 +557,8 @@ def compared(left, right, limit=GIBIBYTE):
 
 def main():
     limit = int(sys.argv[1]) if len(sys.argv) > 1 else GIBIBYTE
-    came = outcome(sys.stdin.buffer.read(), limit)
+    sides = dict(zip((TESTER, UNIT), sys.argv[2:])) or SIDES
+    came = outcome(sys.stdin.buffer.read(), limit, sides)
     sys.stdout.buffer.write(came.written)
     sys.exit(came.status)
 

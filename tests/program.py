@@ -20,11 +20,14 @@ from cases import DEVICE, DIFFERENT, DONE, REFUSAL, Cases
 FIRST_LOG = b"(1700000000.000000) can0 7E0#0322F190"
 FIRST_CANONICAL = b"(0000000000.000000) can0 7E0#0322F190CCCCCCCC\n"
 REFUSED = FIRST_LOG + b"\n(1700000000.100000) can0 7E8#0462F1\nx\n"
-OVERSIZE = b"(1.000000) can0 7E8#1000000100004142\n"
+OVERSIZE = b"(1.000000) can0 7E8#1000001000004142\n"
 
 TOP = Path(__file__).resolve().parent.parent
 EXAMPLES = TOP / "examples"
 COPIES = TOP / "crates" / "acceptance" / "src" / "examples.rt"
+
+# The identifiers of the examples that are not of 7E0 and 7E8.
+SIDES = {"extended-identifiers.log": {oracle.TESTER: "18DA10F1", oracle.UNIT: "18DAF110"}}
 
 READ_FAILED = b"read failed\n"
 WRITE_FAILED = b"write failed\n"
@@ -49,13 +52,13 @@ def logs(cases):
         "a message that is announced above the limit",
         cases.run(log=OVERSIZE),
         REFUSAL,
-        error=b"line 1: 65536 bytes announced, the limit is 65535\n",
+        error=b"line 1: 1048576 bytes announced, the limit is 1048575\n",
     )
     cases.case(
         "the same, explained",
         cases.run(["explain"], OVERSIZE),
         DONE,
-        b"line 1: unit frame dropped: 65536 bytes announced\n"
+        b"line 1: unit frame dropped: 1048576 bytes announced\n"
         b"lines 1 frames 1 messages 0 dropped 1 ended 0 unfinished 0 pending 0\n",
     )
     log, canonical = long_log(10_000_000)
@@ -65,18 +68,47 @@ def logs(cases):
     cases.case("a log of 10 MB that is refused at its end", cases.run(log=log + b"("), REFUSAL, canonical, bad_line(lines + 1, 2))
 
 
+def the_longest_message(cases):
+    """Its canonical log is its own, at a limit of its own length."""
+    canonical = canonical_of_unit(bytes(k % 251 for k in range(1_048_575)))
+    length = len(canonical)
+    is_long = length == 6_890_754 and canonical.count(b"\n") == 149_799
+    cases.report("the length of the longest message's canonical log", [] if is_long else [f"{length} bytes"])
+    cases.case("the canonical log of the longest message", cases.run(["normalise", "--limit", str(length)], canonical), DONE, canonical)
+    front = canonical[: 46 * 149_798]
+    told = b"end: unit reception from line 1 of 1048575 bytes unfinished\n"
+    told += b"lines 149798 frames 149798 messages 0 dropped 0 ended 0 unfinished 1 pending 0\n"
+    cases.case("the longest message without its last frame", cases.run(["explain"], front), DONE, told)
+    limit = ["normalise", "--limit", str(length - 1)]
+    cases.case("the same below its length", cases.run(limit, canonical), REFUSAL, error=b"log longer than the limit\n")
+
+
+def canonical_of_unit(message):
+    """The canonical log of a message of the unit that has more than 4,095 bytes."""
+    frames = [("7E8", b"\x10\x00" + len(message).to_bytes(4, "big") + message[:2]), ("7E0", b"\x30\x00\x00")]
+    for number, begin in enumerate(range(2, len(message), 7), 1):
+        frames.append(("7E8", bytes([0x20 | number % 16]) + message[begin : begin + 7]))
+    lines = []
+    for n, (identifier, data) in enumerate(frames):
+        digits = data.ljust(8, b"\xcc").hex().upper()
+        lines.append(f"({n // 1000:010d}.{n % 1000:03d}000) can0 {identifier}#{digits}\n")
+    return "".join(lines).encode()
+
+
 def examples(cases):
     """Each log of examples/ has the canonical log beside it, and is refused where there is none: then what has its place
     before the refused line is written."""
     for log in sorted(EXAMPLES.glob("*.log")):
-        found = cases.run(["normalise", log])
+        sides = SIDES.get(log.name, oracle.SIDES)
+        options = ["--tester", sides[oracle.TESTER], "--unit", sides[oracle.UNIT]] if log.name in SIDES else []
+        found = cases.run(["normalise", *options, log])
         canonical = log.with_suffix(".canonical")
-        came = oracle.outcome(log.read_bytes())
+        came = oracle.outcome(log.read_bytes(), sides=sides)
         if canonical.exists():
             cases.case(f"examples/{log.name}", found, DONE, canonical.read_bytes())
             is_same = came.written == canonical.read_bytes()
             cases.report(f"examples/{canonical.name} by the oracle", [] if is_same else ["another text"])
-            cases.case(f"examples/{log.name} compared with its canonical log", cases.run(["compare", log, canonical]), DONE, b"same\n")
+            cases.case(f"examples/{log.name} compared with its canonical log", cases.run(["compare", *options, log, canonical]), DONE, b"same\n")
         else:
             cases.case(f"examples/{log.name}, refused", found, came.status, came.written, None)
     vin = EXAMPLES / "vin.log"
@@ -88,10 +120,11 @@ def examples(cases):
 
 def copies(cases):
     """The tests of `acceptance` can't read files: each log that they have in their text is one of examples/, byte for byte."""
-    found = re.findall(r'name: "([^"]+\.log)",\s+lines: &\[(.*?)\]', COPIES.read_text(), re.DOTALL)
-    cases.report("logs in the tests of acceptance", [] if found else ["none was found"])
-    for name, lines in found:
-        copy = "".join(line + "\n" for line in re.findall(r'"(.*)"', lines))
+    tables = re.findall(r': &str = "\\\n(.*?)";', COPIES.read_text(), re.DOTALL)
+    rows = [row for table in tables for row in table.split("\n\n")]
+    cases.report("logs in the tests of acceptance", [] if rows else ["none was found"])
+    for name, *lines in (row.splitlines() for row in rows):
+        copy = "".join(f"{line.removeprefix('line ')}\n" for line in lines if line.startswith("line "))
         same = copy.encode() == (EXAMPLES / name).read_bytes()
         cases.report(f"examples/{name} in the tests of acceptance", [] if same else ["another text"])
 
@@ -192,7 +225,7 @@ def main():
     if len(sys.argv) != 2:
         sys.exit(__doc__)
     cases = Cases(os.path.abspath(sys.argv[1]))
-    for test in [logs, examples, copies, devices, memory]:
+    for test in [logs, the_longest_message, examples, copies, devices, memory]:
         test(cases)
     cases.end()
 

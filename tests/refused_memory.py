@@ -1,38 +1,89 @@
 #!/usr/bin/env python3
-"""Refuses each growth of memory in turn.
+"""Refuses each growth of memory in turn, and counts them.
 
     tests/refused_memory.py crates/udsnorm/out/udsnorm
 
-The built program, over each log of examples/ and a long one: whichever growth is refused, it ends with status 5 and has
-written a front of what it writes otherwise. The calls of the libraries that take memory, by the tests `refused_memory` of the crate `acceptance`: a
-call that is refused memory says so, and the same call made again gives what it gives otherwise.
+The built program, by each of its jobs over each log of examples/, two small sessions and a long log, and with words that
+it only answers: whichever growth is refused, it ends with status 5 and has written a front of what it writes otherwise.
+Each call of the libraries that takes memory, over three sessions, by the tests of the crate `refused_memory`: a call that
+is refused memory says so and has written a front of its text, and the same call made again gives what it gives otherwise.
+
+Two tables have the number of growths of each, so that one that slips in is seen: a count that is not the table's fails.
+The crate's tests are proved before they run, which takes a minute or two where they were not proved before.
 
 Prints a line for each case and ends with `N passed, M failed`; its status is 1 where a case failed.
 """
 
-import concurrent.futures
 import os
 import re
 import subprocess
 import sys
 import tempfile
+from collections import Counter
 from pathlib import Path
 
 TESTS = Path(__file__).resolve().parent
 EXAMPLES = TESTS.parent / "examples"
-ACCEPTANCE = TESTS.parent / "crates" / "acceptance"
-LONG_LOG = b"(1700000000.000000) can0 7E0#0322F190\n" * 30_000
+CALLS = TESTS.parent / "crates" / "refused_memory"
 
 MEMORY = 5
+# What the program says of a growth that is refused: over one log, and over two in the order in which it comes.
+TOLD = [b"out of memory\n"]
+TOLD_OF_TWO = [*TOLD, b"left: out of memory\n", b"right: out of memory\n"]
 MOST_GROWTHS = 1000
 # What the library that refuses a growth writes to standard error.
 REFUSED = b"refused\n"
-# How many growths of a run the parser of the command line swallows, at most.
-SWALLOWED = 1
-TRIES_AT_ONCE = min(4, os.cpu_count() or 1)
 
-# How a test says that its own call was refused memory.
-REFUSALS = ("error: AllocError", "error: Memory")
+# How many growths each call of the libraries has over each session of the crate.
+CALL_GROWTHS = """
+               vin  stray  both
+pair_accept      2      0     2
+pairing_take     3      4     3
+orderer_take     0      2     0
+normalise        2      2     2
+meaning_of       5      4     5
+list             5      4     5
+explain          2      0     2
+compare         10      8    13
+"""
+
+# How many growths each job has over each log, apart from those of its words; compare over the log and vin.log.
+JOB_GROWTHS = """
+                       normalise  list  explain  compare
+both-directions                3     8        3       13
+candump-any                    0     5        0       10
+candump-fd                     1     8        1       13
+candump-marks                  2     7        2       12
+extended-identifiers           0     2        0        7
+first                          0     2        0        7
+lost-frame                     2     6        2       11
+pending                        4     8        2       13
+refused                        0     2        0        2
+single-frames                  0     6        0       11
+vin-fd-crlf                    0     3        0        8
+vin                            2     5        2       10
+stray                          2     4        0        9
+both                           2     5        2       10
+long                           0     -        0        -
+"""
+
+# How many growths words of the command line have, and how many of them are swallowed inside the parser: the answer is then the
+# same. Most where it looks for words to suggest. A file that is missing is told before a job begins.
+WORD_GROWTHS = """
+                           growths  swallowed
+normalise missing               72          1
+list missing                    72          1
+explain missing                 72          1
+compare missing missing         83          1
+--help                          79          1
+list --help                    114          1
+lis                             79         13
+list --limi 1                   93         11
+list --limit x                  64          1
+compare a                      103          1
+list --tester 7E                69          1
+list --tester 800               69          1
+"""
 
 passed = 0
 failed = 0
@@ -46,6 +97,34 @@ def case(name, holds, seen):
     else:
         failed += 1
         print(f"FAILED {name}: {seen}", flush=True)
+
+
+def table(text):
+    """The rows of a table, each with its numbers by column. What stands before the numbers is the row's name."""
+    columns, *rows = (line.split() for line in text.strip().splitlines())
+    names = [" ".join(row[: -len(columns)]) for row in rows]
+    numbers = [zip(columns, row[-len(columns) :]) for row in rows]
+    return {name: {column: int(cell) for column, cell in cells if cell != "-"} for name, cells in zip(names, numbers)}
+
+
+def log_of(*frames):
+    """A log of these frames, a millisecond apart."""
+    return "".join(f"({n // 1000:010}.{n % 1000:03}000) can0 {frame}\n" for n, frame in enumerate(frames)).encode()
+
+
+# A keep-alive between a request and its response; messages of several frames of both sides at once; and many requests.
+LOGS = {
+    "stray": log_of("7E0#0322F190", "7E0#023E80", "7E8#0462F19041"),
+    "both": log_of(
+        "7E0#100A2EF190414243",
+        "7E8##01064" + bytes(range(62)).hex(),
+        "7E8#300000",
+        "7E0#300000",
+        "7E8##021" + bytes(range(62, 100)).hex() + "AA" * 9,
+        "7E0#2144454647",
+    ),
+    "long": b"(1700000000.000000) can0 7E0#0322F190\n" * 30_000,
+}
 
 
 def build_refuser(folder):
@@ -66,74 +145,90 @@ def run(program, words, refuser, growth):
     return done.returncode, done.stdout, done.stderr.removeprefix(REFUSED), done.stderr.startswith(REFUSED)
 
 
-def job_over(program, refuser, job, logs):
-    """Whichever growth is refused, the program says so, and has written a front of what it writes with ample memory. A
-    growth inside the parser is swallowed there: its answer is the same."""
-    words = [job, *map(str, logs)]
-    name = f"{job} {' '.join(log.name for log in logs)}"
+def words_refused(program, refuser, name, words, growths, swallowed):
+    """Whichever growth is refused, the program says so, and has written a front of what it writes with ample memory. Of a
+    comparison it says so without a side, then of the left log and then of the right one. So many growths are swallowed
+    inside the parser: its answer is the same."""
     done = subprocess.run([program, *words], capture_output=True, timeout=60)
     ample = done.returncode, done.stdout, done.stderr
-    swallowed = 0
+    told = TOLD_OF_TWO if "compare" in words else TOLD
+    same_answers = 0
     for growth in range(1, MOST_GROWTHS):
         status, output, fault, is_refused = run(program, words, refuser, growth)
         if not is_refused:
-            holds = growth > 1 and (status, output, fault) == ample and swallowed <= SWALLOWED
-            case(f"{name}, each of {growth - 1} growths refused", holds, (status, output[:100], swallowed))
+            holds = (growth - 1, same_answers) == (growths, swallowed) and (status, output, fault) == ample
+            seen = (f"{growth - 1} growths", f"{same_answers} swallowed", status, output[:100], fault)
+            case(f"{name}, each of {growths} growths refused", holds, seen)
             return
-        told = fault.removeprefix(b"left: ").removeprefix(b"right: ") == b"out of memory\n"
-        if status == MEMORY and told and done.stdout.startswith(output):
+        if status == MEMORY and fault in told and done.stdout.startswith(output):
+            told = told[told.index(fault) :]
             continue
         if (status, output, fault) != ample:
             case(f"{name}, growth {growth} refused", False, (status, output[:100], fault))
             return
-        swallowed += 1
+        same_answers += 1
     case(f"{name} comes to an end of its growths", False, MOST_GROWTHS)
 
 
-def the_program(program):
-    with tempfile.TemporaryDirectory() as folder:
-        refuser = build_refuser(folder)
-        long_log = Path(folder) / "long.log"
-        long_log.write_bytes(LONG_LOG)
-        for log in [*sorted(EXAMPLES.glob("*.log")), long_log]:
-            for job in ("normalise", "explain"):
-                job_over(program, refuser, job, [log])
-        for log in sorted(EXAMPLES.glob("*.log")):
-            job_over(program, refuser, "list", [log])
-            job_over(program, refuser, "compare", [log, EXAMPLES / "vin.log"])
+def the_program(program, refuser, folder):
+    logs = {path.stem: path for path in sorted(EXAMPLES.glob("*.log"))}
+    for name, log in LOGS.items():
+        logs[name] = folder / f"{name}.log"
+        logs[name].write_bytes(log)
+    of_words, of_jobs = table(WORD_GROWTHS), table(JOB_GROWTHS)
+    for words, expected in of_words.items():
+        words_refused(program, refuser, f"the words {words!r}", words.split(), **expected)
+    case("the table has each log", set(of_jobs) == set(logs), sorted(set(of_jobs) ^ set(logs)))
+    for name in sorted(set(of_jobs) & set(logs)):
+        for job, growths in of_jobs[name].items():
+            files = [logs[name], logs["vin"]] if job == "compare" else [logs[name]]
+            begun = of_words[" ".join([job, *["missing"] * len(files)])]
+            words = [job, *map(str, files)]
+            words_refused(program, refuser, f"{job} of {name}", words, begun["growths"] + growths, begun["swallowed"])
 
 
-def tests_with_refused(growth):
-    """What became of each test `refused_memory` with this growth refused: `ok`, or the error that it ended with."""
-    words = ["rt", "try", "--test", "--fail-alloc", str(growth)]
-    tried = subprocess.run(words, cwd=ACCEPTANCE, stdin=subprocess.DEVNULL, capture_output=True, text=True, timeout=600)
-    became = re.findall(r"^test refused_memory::(\w+) \.\.\. (?:(ok)|FAILED\n *(.*))$", tried.stdout, re.M)
-    return {name: ok or error for name, ok, error in became}
+def build_calls():
+    """The tests of the calls of the libraries, proved and built."""
+    words = ["rt", "test"]
+    done = subprocess.run(words, cwd=CALLS, stdin=subprocess.DEVNULL, capture_output=True, text=True, timeout=3600)
+    case("the tests of the libraries are proved, and pass with ample memory", done.returncode == 0, done.stdout[-1000:])
+    return CALLS / "out" / f"{CALLS.name}_tests"
 
 
-def the_libraries():
-    """Growth after growth, until none is left in any call that is made once."""
-    with concurrent.futures.ThreadPoolExecutor(TRIES_AT_ONCE) as tries:
-        for first in range(1, MOST_GROWTHS, TRIES_AT_ONCE):
-            growths = range(first, first + TRIES_AT_ONCE)
-            for growth, became in zip(growths, tries.map(tests_with_refused, growths)):
-                once = {name: what for name, what in became.items() if name.endswith("_once")}
-                again = {name: what for name, what in became.items() if name.endswith("_again")}
-                holds = once and len(once) == len(again) and set(again.values()) == {"ok"}
-                holds = holds and all(what == "ok" or what in REFUSALS for what in once.values())
-                refused = [name for name, what in once.items() if what != "ok"]
-                name = f"the libraries, growth {growth} refused in {len(refused)} of {len(once)} tests"
-                case(name, holds, became)
-                if not refused or not holds:
-                    return
-    case("the libraries come to an end of their growths", False, MOST_GROWTHS)
+def call_growths(tests, refuser, test):
+    """How many growths a test's call has over each session: whichever is refused, the test ends with the session's name.
+    None where it ends in another way."""
+    growths = Counter()
+    for growth in range(1, MOST_GROWTHS):
+        status, output, error, is_refused = run(tests, [test], refuser, growth)
+        if not is_refused:
+            return growths if status == 0 else None
+        session = re.match(rb'error: "(\w+)"\n', error)
+        if status == 0 or not session:
+            return None
+        growths[session[1].decode()] += 1
+    return None
+
+
+def the_libraries(refuser):
+    tests = build_calls()
+    found = subprocess.run([tests, "--list"], capture_output=True, text=True, timeout=60).stdout
+    rows, names = table(CALL_GROWTHS), re.findall(r"^calls::(\w+): test$", found, re.M)
+    case("the table has each call", set(rows) == set(names), sorted(set(rows) ^ set(names)))
+    for call, expected in rows.items():
+        found = call_growths(tests, refuser, f"calls::{call}")
+        holds = found is not None and {session: found[session] for session in expected} == expected
+        numbers = ", ".join(f"{number} over {session}" for session, number in expected.items())
+        case(f"{call}, each growth refused: {numbers}", holds and found.total() == sum(expected.values()), found)
 
 
 def main():
     if len(sys.argv) != 2:
         sys.exit(__doc__)
-    the_program(os.path.abspath(sys.argv[1]))
-    the_libraries()
+    with tempfile.TemporaryDirectory() as folder:
+        refuser = build_refuser(folder)
+        the_program(os.path.abspath(sys.argv[1]), refuser, Path(folder))
+        the_libraries(refuser)
     print(f"{passed} passed, {failed} failed")
     sys.exit(1 if failed else 0)
 

@@ -1,6 +1,6 @@
 #!/usr/bin/env python3
 """Tests of what is shipped beside the program: its manual page and its completions name every command and option that its
-help names, and `make install` and `make uninstall` know the same files.
+help names, `make install` and `make uninstall` know the same files, and `make run` and `make build` tell what they do.
 
     tests/shipped.py crates/udsnorm/out/udsnorm
 
@@ -11,9 +11,11 @@ import os
 import re
 import subprocess
 import sys
+import tempfile
 from pathlib import Path
 
 TOP = Path(__file__).resolve().parent.parent
+EXAMPLES = TOP / "examples"
 MANUAL = TOP / "share" / "man" / "man1" / "udsnorm.1"
 COMPLETIONS = sorted((TOP / "share" / "completions").iterdir())
 
@@ -91,16 +93,53 @@ def bash_completes():
         case(f"bash completes {' '.join(words)!r}", [] if found == want and not done.stderr else [str(found), done.stderr])
 
 
+# Also where `make test` runs this, the `make` below is the first one: it takes no words of the other, and its messages have no level.
+OUTERMOST = {name: value for name, value in os.environ.items() if name not in ("MAKEFLAGS", "MAKELEVEL", "MFLAGS")} | {"LC_ALL": "C"}
+
+
+def make(*words, **environment):
+    done = subprocess.run(["make", "-s", "-C", TOP, *words], capture_output=True, text=True, timeout=60, env=OUTERMOST | environment)
+    return done.returncode, done.stdout, done.stderr
+
+
 def install_is_undone():
     """Each file that `make install` puts somewhere is one that `make uninstall` removes."""
     plan = {}
     for goal in ["install", "uninstall"]:
-        words = ["make", "-n", "-C", TOP, goal, "DESTDIR=/stage", "PREFIX=/usr"]
-        done = subprocess.run(words, capture_output=True, text=True, timeout=60)
-        plan[goal] = set(re.findall(r"/stage/\S+", done.stdout))
+        _, told, _ = make("-n", goal, "DESTDIR=/stage", "PREFIX=/usr")
+        plan[goal] = set(re.findall(r"/stage/\S+", told))
     wrong = [] if len(plan["install"]) == 5 else [f"{len(plan['install'])} files"]
     wrong += sorted(plan["install"] ^ plan["uninstall"])
     case("uninstall removes what install puts somewhere", wrong)
+
+
+def make_run_tells_what_the_program_says():
+    """`make run` without its build: the canonical log and nothing else, and where it ends early the program's own words and status."""
+    canonical = (EXAMPLES / "first.canonical").read_text()
+    for log, want in [
+        ("examples/first.log", (0, canonical, "")),
+        ("examples/refused.log", (0, canonical, "line 2 column 37: not a log line\nudsnorm: exit status 3\n")),
+        ("examples/none.log", (0, "", "read failed\nudsnorm: exit status 4\n")),
+    ]:
+        found = make("-o", "build", "run", f"LOG={log}")
+        case(f"make run of {log}", [] if found == want else [str(found)])
+
+
+def make_build_tells_its_begin_and_end():
+    """`make build` in a folder of its own, with another `rt`: its own lines, and what `rt` said where that failed."""
+    begin = r"udsnorm: proving and building, .* goes to \S+/out/build.txt\n"
+    for name, status, end in [
+        ("that succeeds", 0, r"udsnorm: built in \d+ s: \S+/out/udsnorm\n"),
+        ("that fails", 1, r"no proof\nudsnorm: not built, after \d+ s\nmake: .*\n"),
+    ]:
+        with tempfile.TemporaryDirectory() as folder:
+            stub = Path(folder, "rt")
+            stub.write_text(f"#!/bin/sh\necho proved\necho no proof >&2\nexit {status}\n")
+            stub.chmod(0o755)
+            path = f"{folder}:{os.environ['PATH']}"
+            found = make("build", f"CRATE={folder}", PATH=path)
+        is_told = re.fullmatch(begin + end, found[2])
+        case(f"make build {name}", [] if (found[0] == 0) == (status == 0) and found[1] == "" and is_told else [str(found)])
 
 
 def main():
@@ -110,6 +149,8 @@ def main():
     manual_is_well_formed()
     bash_completes()
     install_is_undone()
+    make_run_tells_what_the_program_says()
+    make_build_tells_its_begin_and_end()
     print(f"{passed} passed, {failed} failed")
     sys.exit(1 if failed else 0)
 

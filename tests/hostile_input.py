@@ -1,0 +1,207 @@
+#!/usr/bin/env python3
+"""How much a log can make the built program write, keep and do: the numbers of docs/hostile-input.md.
+
+    tests/hostile_input.py crates/udsnorm/out/udsnorm
+
+Prints a line for each case, with what was measured, and ends with `N passed, M failed`; its status is 1 where a case failed.
+"""
+
+import itertools
+import os
+import re
+import subprocess
+import sys
+import time
+from fractions import Fraction
+from pathlib import Path
+
+import oracle
+from cases import DONE, REFUSAL, Cases
+
+# The shortest line with a frame of so many bytes, without its data digits and with its line feed.
+CLASSIC_LINE = len(b"(0.000000) a 7E8#\n")
+FD_LINE = len(b"(0.000000) a 7E8##0\n")
+CANONICAL_LINE = 46
+
+# The lengths that a frame may have, and those that a first frame may have.
+FRAME_LENGTHS = (*range(9), 12, 16, 20, 24, 32, 48, 64)
+RX_DLS = (8, 12, 16, 20, 24, 32, 48, 64)
+
+# What is written of a log, at most: so many bytes for so many bytes of it. By how many digits more than three the identifiers
+# of the sender and of the receiver have.
+MOST_CANONICAL = {(0, 0): Fraction(46, 13), (0, 5): Fraction(189, 52), (5, 0): Fraction(199, 57), (5, 5): Fraction(68, 19)}
+LONGEST_ITEM = "{} exchange DynamicallyDefineDataIdentifier 2C -> unanswered\n"
+LONGEST_ITEM_OF_ONE_FRAME = "{} exchange DynamicallyDefineDataIdentifier 2C000000000000 -> unanswered\n"
+LONGEST_DROP = "line {}: tester frame dropped: consecutive frame unexpected\n"
+
+# Lines in which most stands for their length, in one way or another.
+ONE_BYTE = b"(0.000000) a 7E8#0111\n"
+FOURTEEN_BYTES = b"(0.000000) a 7E8##0000E" + b"11" * 14 + b"\n"
+REQUEST = b"(0.000000) a 7E0#012C\n"
+LONG_REQUEST = b"(0.000000) a 7E0#072C000000000000\n"
+CONSECUTIVE = b"(0.000000) a 7E0#21\n"
+FIRST = b"(0.000000) a 7E0#10000000FFFF4142\n"
+FOREIGN = b"(0.000000) a 000#\n"
+BLANK = b"\n"
+LONGEST = b"(0000000000.000000)" + b" " * 16 + b"abcdefghijklmno" + b" " * 16 + b"18DAF110##0" + b"00" * 64 + b" " * 16 + b"T\n"
+
+# Kilobytes that the program has without a log, at most; bytes that it holds for each byte of one.
+PROGRAM_KILOBYTES = 4_000
+HELD = Fraction(17, 22)
+MEANT = Fraction(96, 22)
+
+REFUSED_LOGS = [b"x", b"(", b"\n" * 1000 + b"\xff" * 1000, LONGEST + b"(1.0\n" * 1000, b"(0.000000) a 7E8#1000FFFFFFFF4142\n" * 1000]
+
+
+def line_length(size):
+    """The shortest line with a frame of this many bytes."""
+    return (CLASSIC_LINE if size <= 8 else FD_LINE) + 2 * size
+
+
+def canonical_length(size, of_sender, of_receiver):
+    """The canonical lines of a message of this many bytes: those of the sender, and a flow control of the receiver."""
+    begun = 6 if size <= 4095 else 2
+    count = 1 if size <= 7 else 1 + -(-(size - begun) // 7)
+    return (CANONICAL_LINE + of_sender) * count + (0 if size <= 7 else CANONICAL_LINE + of_receiver)
+
+
+def shortest_recordings(size):
+    """The length and the number of lines of the shortest log of a message: in a single frame, and in frames of each length."""
+    if size <= 7:
+        yield line_length(size + 1), 1
+    for length in RX_DLS[1:]:
+        if size <= length - 2:
+            yield line_length(length), 1
+    for rx_dl in RX_DLS:
+        begun = rx_dl - (2 if size <= 4095 else 6)
+        if size >= (8 if rx_dl == 8 else rx_dl - 1):
+            count = -(-(size - begun) // (rx_dl - 1))
+            missing = size - begun - (count - 1) * (rx_dl - 1)
+            last = next(length for length in FRAME_LENGTHS if length > missing)
+            yield count * line_length(rx_dl) + line_length(last), count + 1
+
+
+def canonical_growth(cases):
+    """No message has a canonical log of more bytes for each byte of its shortest recording, and one has as many. Of the
+    lengths above 65,535 some are tried: there each byte more adds as much as any other."""
+    sizes = [*range(1, 65_536), *range(65_536, oracle.MESSAGE_LIMIT, 997), oracle.MESSAGE_LIMIT]
+    recordings = {size: [*shortest_recordings(size)] for size in sizes}
+    for (of_sender, of_receiver), expected in MOST_CANONICAL.items():
+        most, size = max(
+            (Fraction(canonical_length(size, of_sender, of_receiver), length + of_sender * lines), size)
+            for size, found in recordings.items()
+            for length, lines in found
+        )
+        name = f"identifiers of {3 + of_sender} and {3 + of_receiver} digits: a message of {size} bytes has {most} times its log"
+        cases.report(name, [] if most == expected else [f"not {expected}"])
+
+
+def longest_texts(cases):
+    """The logs of which most is written."""
+    log = FOURTEEN_BYTES * 10_000
+    status, text, _ = cases.run(["normalise"], log)
+    wrong = [] if status == DONE and len(text) == MOST_CANONICAL[0, 0] * len(log) else [f"status {status}, {len(text)} bytes"]
+    cases.report(f"normalise writes {len(text)} bytes of {len(log)}", wrong)
+    for job, line, longest in [
+        ("list", REQUEST, LONGEST_ITEM),
+        ("list", LONG_REQUEST, LONGEST_ITEM_OF_ONE_FRAME),
+        ("explain", CONSECUTIVE, LONGEST_DROP),
+    ]:
+        log = line * 10_000
+        status, text, _ = cases.run([job], log)
+        items = "".join(map(longest.format, range(1, 10_001))).encode()
+        wrong = [] if status == DONE and text.startswith(items) else [f"status {status}, {text[:100]!r}"]
+        cases.report(f"{job} writes {len(text)} bytes of {len(log)}", wrong)
+
+
+def drops(cases):
+    """What explain tells of a frame, for each byte of its line, is most for an unexpected consecutive frame: of all frames of
+    up to two bytes with each beginning, alone and after a first frame, in lines whose numbers have eight digits."""
+    most = Fraction(len(LONGEST_DROP.format(10**7)), len(CONSECUTIVE))
+    beginnings = (bytes(begun) for size in range(3) for begun in itertools.product((0x00, 0x10, 0x21, 0x22, 0x30, 0x32, 0x33, 0x40), repeat=size))
+    frames = [*beginnings, b"\x30\x00\x00", b"\x32\x00\x00", b"\x33\x00\x00", FIRST_DATA, b"\x10\x00" + b"\xff" * 6]
+    wrong = []
+    for before, sender, data in itertools.product(((), (("7E0", FIRST_DATA),)), ("7E0", "7E8"), frames):
+        log = b"".join(f"(0.000000) a {who}#{what.hex()}\n".encode() for who, what in (*before, (sender, data)))
+        told = oracle.frames_text(oracle.trace(log.split(b"\n")))
+        length = len(re.sub(r"line \d+", "line 10000000", told))
+        wrong += [repr(log)] if Fraction(length, len(log)) > most else []
+    cases.report(f"no frame has more told of it than {most} for each byte", wrong)
+
+
+FIRST_DATA = b"\x10\x00\x00\x00\xff\xff\x41\x42"
+
+
+def longest_lines(cases):
+    """The longest line that is read, and one byte more."""
+    cases.report(f"the longest line has {len(LONGEST) - 1} bytes", [] if len(LONGEST) - 1 == 222 else ["not 222"])
+    cases.case("the longest line, with a carriage return", cases.run(["explain"], LONGEST[:-1] + b"\r\n"), DONE, b"lines 1 frames 0 ..")
+
+
+def one_line_of_error(cases):
+    for job in ["normalise", "list", "explain"]:
+        for number, log in enumerate(REFUSED_LOGS):
+            status, _, error = cases.run([job], log)
+            is_told = job == "explain" and number == 4 and (status, error) == (DONE, b"")
+            is_line = status == REFUSAL and error.count(b"\n") == 1 and error.endswith(b"\n") and len(error) < 80
+            cases.report(f"{job} of refused log {number}: {error!r}", [] if is_told or is_line else [f"status {status}"])
+
+
+def peak(program, words, begun, line, size):
+    """The most kilobytes that a job has, until it has read a log of at least this size through a pipe. The log's length, too."""
+    run = subprocess.Popen([program, *words], stdin=subprocess.PIPE, stdout=subprocess.DEVNULL)
+    lines = 65_536 // len(line) + 1
+    blocks = size // (lines * len(line)) + 1
+    run.stdin.write(begun)
+    for _ in range(blocks):
+        run.stdin.write(line * lines)
+    run.stdin.flush()
+    # A pipe holds 65,536 bytes, of which no word can tell whether they were read.
+    time.sleep(0.1)
+    told = Path(f"/proc/{run.pid}/status").read_text()
+    run.stdin.close()
+    run.wait(timeout=60)
+    return int(re.search(r"^VmHWM:\s+(\d+) kB$", told, re.M)[1]), len(begun) + blocks * lines * len(line)
+
+
+def memory(cases):
+    """Held strays take 17 bytes for 22 bytes of a log; what a log means takes 96; explain and normalise hold nothing else."""
+    for job, begun, line, most in [
+        ("normalise", REQUEST, ONE_BYTE, HELD),
+        ("normalise", b"", REQUEST, 0),
+        ("normalise", b"", ONE_BYTE, 0),
+        ("normalise", b"", FIRST, 0),
+        ("explain", REQUEST, ONE_BYTE, 0),
+        ("explain", b"", CONSECUTIVE, 0),
+        ("list", REQUEST, ONE_BYTE, MEANT),
+        ("list", b"", REQUEST, MEANT),
+    ]:
+        kilobytes, length = peak(cases.program, [job], begun, line, 20_000_000)
+        allowed = PROGRAM_KILOBYTES + int(most * length) // 1024
+        name = f"{job} of {length} bytes, {begun!r} and then {line!r}: {kilobytes} kB"
+        cases.report(name, [] if kilobytes <= allowed else [f"more than {allowed} kB"])
+
+
+def work(cases):
+    """The jobs come to an end of logs of one kind of line. The time for each byte is printed, and nothing fails by it."""
+    size = 4_000_000
+    for line in [ONE_BYTE, FOURTEEN_BYTES, REQUEST, CONSECUTIVE, FIRST, FOREIGN, BLANK, LONGEST]:
+        log = REQUEST + line * (size // len(line))
+        for job in ["normalise", "list", "explain"]:
+            begun = time.monotonic()
+            status, _, _ = cases.run([job], log)
+            nanoseconds = (time.monotonic() - begun) * 1e9 / len(log)
+            wrong = [] if status == DONE else [f"status {status}"]
+            cases.report(f"{job} of {line[:40]!r}: {nanoseconds:.0f} ns for each byte", wrong)
+
+
+def main():
+    if len(sys.argv) != 2:
+        sys.exit(__doc__)
+    cases = Cases(os.path.abspath(sys.argv[1]))
+    for test in [canonical_growth, longest_texts, drops, longest_lines, one_line_of_error, memory, work]:
+        test(cases)
+    cases.end()
+
+
+main()

@@ -1,0 +1,147 @@
+#!/usr/bin/env python3
+"""Tests of docs/recipes.md: its commands, taken out of the page itself, print what stands there.
+
+    tests/recipes.py crates/udsnorm/out/udsnorm
+
+Each section is a session of bash in a folder of its own. Its blocks are:
+
+- `sh` without a name: the commands that copy sample logs to /tmp/try, done once a section, with the section's folder in its place;
+- `console TOOL...`: commands, each behind `$`, and what they print. Where a tool is missing the block is skipped. One of
+  `candump` needs a bus and is always skipped;
+- `sh NAME`: a script, saved as NAME for this section and those behind it.
+
+Prints a line for each case and ends with `N passed, M failed`; its status is 1 where a case failed.
+"""
+
+import os
+import re
+import shutil
+import subprocess
+import sys
+import tempfile
+from pathlib import Path
+
+from cases import Cases
+
+TOP = Path(__file__).resolve().parent.parent
+PAGE = TOP / "docs" / "recipes.md"
+
+# Stands behind what each command prints. The next command still finds the status in $?.
+MARK = "\x01"
+BEHIND = "\n__status=$?; printf '\\001'; (exit $__status)\n"
+
+
+def sections(page):
+    """The title and the blocks of each section: what stands behind the fence, the line, and the text."""
+    title, found, fence = "", [], None
+    for number, line in enumerate(page.split("\n"), 1):
+        if fence is not None and line == "```":
+            found[-1][1].append((fence, opened, text))
+            fence = None
+        elif fence is not None:
+            text.append(line)
+        elif line.startswith("```"):
+            fence, opened, text = line[3:].split(), number, []
+        elif line.startswith("#"):
+            title = line.lstrip("# ")
+            found.append((title, []))
+    return found
+
+
+def commands(text):
+    """The commands of a block, each with what it prints."""
+    pairs = []
+    for line in text:
+        if line.startswith("$ "):
+            pairs.append((line[2:], []))
+        else:
+            pairs[-1][1].append(line)
+    return pairs
+
+
+def missing_tool(tools):
+    for tool in tools:
+        if tool == "candump":
+            return "a bus"
+        if not shutil.which(tool):
+            return tool
+        if tool == "parallel" and "GNU parallel" not in version_text(tool):
+            return "GNU parallel"
+    return None
+
+
+def version_text(tool):
+    """Another program of the same name may know no such option."""
+    done = subprocess.run([tool, "--version"], stdin=subprocess.DEVNULL, capture_output=True, text=True, timeout=60)
+    return done.stdout
+
+
+def surroundings(home, program):
+    """What the commands see: the program by its name, and a git that knows who commits and no configuration of the machine."""
+    tools = home / "tools"
+    tools.mkdir()
+    (tools / "udsnorm").symlink_to(program)
+    who = {f"GIT_{role}_{part}": "test@example.com" for role in ("AUTHOR", "COMMITTER") for part in ("NAME", "EMAIL")}
+    found = {"PATH": f"{tools}:{os.environ['PATH']}", "HOME": str(home), "LC_ALL": "C", "GIT_CONFIG_NOSYSTEM": "1", **who}
+    return found
+
+
+def answers(folder, lines, environment):
+    """What each command line prints, on standard output and standard error together."""
+    script = "exec 2>&1\n" + "".join(line + BEHIND for line in lines)
+    done = subprocess.run(["bash", "-c", script], cwd=folder, env=environment, stdin=subprocess.DEVNULL, capture_output=True, text=True, timeout=120)
+    return done.stdout.split(MARK)[:-1]
+
+
+def run_section(cases, title, blocks, folder, environment):
+    """Each command of a section that is run is a case."""
+    wanted = []
+    for words, line, text in blocks:
+        kind, tools = (words + [""])[0], words[1:]
+        if kind != "console":
+            continue
+        lack = missing_tool(tools)
+        if lack:
+            print(f"skipped line {line} of {PAGE.name}: it needs {lack}", flush=True)
+            continue
+        wanted += commands(text)
+    came = answers(folder, [command for command, _ in wanted], environment)
+    for at, (command, lines) in enumerate(wanted):
+        want = "".join(line + "\n" for line in lines)
+        found = came[at] if at < len(came) else "nothing, since the session ended before"
+        cases.report(f"{title} $ {command}", [] if found == want else [f"printed {found!r}, not {want!r}"])
+
+
+def copy_logs(blocks, folder, environment):
+    script = "\n".join(line for words, _, text in blocks if words == ["sh"] for line in text)
+    subprocess.run(["bash", "-ec", script.replace("/tmp/try", str(folder))], cwd=TOP, env=environment, check=True, timeout=60)
+
+
+def save_scripts(blocks, folder):
+    for words, _, text in blocks:
+        if words[:1] == ["sh"] and len(words) == 2:
+            script = folder / words[1]
+            script.write_text("".join(line + "\n" for line in text))
+            script.chmod(0o755)
+
+
+def main():
+    if len(sys.argv) != 2:
+        sys.exit(__doc__)
+    cases = Cases(os.path.abspath(sys.argv[1]))
+    found = sections(PAGE.read_text())
+    with tempfile.TemporaryDirectory() as directory:
+        home = Path(directory)
+        environment = surroundings(home, cases.program)
+        for number, (title, blocks) in enumerate(found):
+            folder = home / str(number)
+            folder.mkdir()
+            copy_logs(found[0][1], folder, environment)
+            for _, before in found[: number + 1]:
+                save_scripts(before, folder)
+            run_section(cases, title, blocks, folder, environment)
+    cases.report("the page has recipes", [] if cases.passed + cases.failed >= 30 else ["fewer than 30 commands were found"])
+    cases.end()
+
+
+main()
