@@ -31,22 +31,29 @@ LIMIT_RANGE = b"limit out of range\n"
 PROGRAM_HELP = [
     b"Gives recorded vehicle diagnostic sessions one canonical spelling",
     b"Usage: udsnorm <COMMAND>",
+    b"  0  done, even if a log holds neither identifier; compare: the logs mean the same",
     b"Example: udsnorm compare yesterday.log today.log",
 ]
 LIST_HELP = [
     b"Writes the exchanges and stray messages",
     b"Usage: udsnorm list [OPTIONS] [LOG]",
     b"  [LOG]  The recorded log; without it standard input is read",
+    b"A log that holds neither identifier has no such line, and the status is 0. The last line of",
+    b"`udsnorm explain` then says `frames 0`.",
     b"Example: udsnorm list --tester 7E1 --unit 7E9 recorded.log",
 ]
 NORMALISE_HELP = [
     b"Writes the canonical log",
     b"Usage: udsnorm normalise [OPTIONS] [LOG]",
+    b"A log that holds neither identifier has an empty canonical log, and the status is 0. The last",
+    b"line of `udsnorm explain` then says `frames 0`.",
     b"Example: udsnorm normalise recorded.log > canonical.log",
 ]
 EXPLAIN_HELP = [
     b"Writes which frames were dropped and which receptions ended early, and why",
     b"Usage: udsnorm explain [OPTIONS] [LOG]",
+    b"Where it says `frames 0`, the log holds neither identifier: `normalise` and `list` write",
+    b"nothing of it, with status 0.",
     b"Example: udsnorm explain recorded.log",
 ]
 COMPARE_HELP = [
@@ -54,6 +61,8 @@ COMPARE_HELP = [
     b"Usage: udsnorm compare [OPTIONS] <A> <B>",
     b"  <A>  The left log",
     b"  <B>  The right log",
+    b"Two logs that hold neither identifier mean the same. The last line of `udsnorm explain` says",
+    b"`frames 0` of each.",
     b"Example: udsnorm compare yesterday.log today.log",
 ]
 HELPS = [

@@ -26,7 +26,7 @@ A LOG is what `candump -l` or `candump -L` writes; without LOG standard input is
 Without any words the program does `normalise`. `udsnorm COMMAND --help` has the options.
 
 Exit status:
-  0  done; compare: the logs mean the same
+  0  done, even if a log holds neither identifier; compare: the logs mean the same
   1  compare: the logs differ
   2  the command line asks for something that there is not
   3  a log is refused
@@ -39,6 +39,9 @@ const OF_NORMALISE: &str = "\
 The canonical log has each message in frames of 8 bytes, a millisecond apart. Two logs have
 the same canonical log exactly if they have the same exchanges and stray messages.
 
+A log that holds neither identifier has an empty canonical log, and the status is 0. The last
+line of `udsnorm explain` then says `frames 0`.
+
 Exit status: 0 done, 2 wrong words, 3 the log is refused, 4 reading or writing failed,
 5 out of memory.
 
@@ -48,6 +51,9 @@ const OF_LIST: &str = "\
 A line is an exchange (a request of the tester, and the unit's answer if there is one) or a
 stray message outside of any exchange.
 
+A log that holds neither identifier has no such line, and the status is 0. The last line of
+`udsnorm explain` then says `frames 0`.
+
 Exit status: 0 done, 2 wrong words, 3 the log is refused, 4 reading or writing failed,
 5 out of memory.
 
@@ -56,6 +62,9 @@ Example: udsnorm list --tester 7E1 --unit 7E9 recorded.log";
 const OF_EXPLAIN: &str = "\
 Each line names the line of the log. The last line counts what the log has.
 
+Where it says `frames 0`, the log holds neither identifier: `normalise` and `list` write
+nothing of it, with status 0.
+
 Exit status: 0 done, 2 wrong words, 3 the log is refused, 4 reading or writing failed,
 5 out of memory.
 
@@ -63,6 +72,9 @@ Example: udsnorm explain recorded.log";
 
 const OF_COMPARE: &str = "\
 Prints `same`, or `different at item N`, where N is the number that `list` gives the item.
+
+Two logs that hold neither identifier mean the same. The last line of `udsnorm explain` says
+`frames 0` of each.
 
 Exit status: 0 the logs mean the same, 1 they differ, 2 wrong words, 3 a log is refused,
 4 a file can't be opened, or reading or writing failed, 5 out of memory.
