@@ -33,10 +33,12 @@ build:
 run: build
 	@$(PROGRAM) normalise '$(LOG)' || echo "udsnorm: exit status $$?" >&2
 
-# The tests of the built program, random and hostile logs through it, each growth of memory refused in turn, and then the gate: every proof from nothing, every test, every wrong body refused.
+# The tests of the built program and of the documents, random and hostile logs through it, each growth of memory refused in
+# turn, and then the gate: every proof from nothing, every test, every wrong body refused.
 test: build
 	@python3 tests/command_line.py $(PROGRAM)
 	@python3 tests/program.py $(PROGRAM)
+	@python3 tests/documents.py
 	@python3 tests/shipped.py $(PROGRAM)
 	@python3 tests/recipes.py $(PROGRAM)
 	@python3 tests/release.py $(PROGRAM)

@@ -1,0 +1,212 @@
+#!/usr/bin/env python3
+"""Tests of the documents: what they say of the repository's files is so.
+
+    tests/documents.py
+
+- the picture of the crates is the one that scripts/draw-crates draws of crates.txt, and names each crate and dependency;
+- each link of each document to a file of the repository, and to a heading in it, leads somewhere;
+- the source files that documents name are there;
+- the table of must-fail edits in docs/proved.md is the one that scripts/must-fail-counts prints;
+- docs/definitions.md names each file of definitions, and each definition stands in the file that it names;
+- it has each definition that a public function's contract or a law cites.
+
+Prints a line for each case and ends with `N passed, M failed`; its status is 1 where a case failed.
+"""
+
+import re
+import subprocess
+import sys
+import tempfile
+from pathlib import Path
+from xml.etree import ElementTree
+
+from cases import Cases
+
+TOP = Path(__file__).resolve().parent.parent
+DOCS = TOP / "docs"
+PICTURE = DOCS / "crates.svg"
+DEFINITIONS = DOCS / "definitions.md"
+PROGRAM = "udsnorm"
+SVG = "{http://www.w3.org/2000/svg}"
+
+# Files of `specs/` that docs/definitions.md leaves out: the index, what laws say, and what says that it is a device of proof.
+INDEX = "Lib"
+DEVICE = re.compile(r"-- (A device|Devices) of proof\b")
+
+
+def files_below(folder):
+    """The files of a folder, without those that are built or hidden."""
+    for path in sorted(folder.iterdir()):
+        if path.name == "out" or path.name.startswith("."):
+            continue
+        if path.is_dir():
+            yield from files_below(path)
+        else:
+            yield path
+
+
+FILES = list(files_below(TOP))
+DOCUMENTS = [path for path in FILES if path.suffix == ".md"]
+
+
+def name_of(path):
+    return str(path.relative_to(TOP))
+
+
+def crates():
+    """What each crate stands on, by crates.txt."""
+    text = re.sub(r"#.*", "", (TOP / "crates.txt").read_text())
+    return {name: below.split() for name, below in re.findall(r"^(\w+):(.*)$", text, re.M)}
+
+
+def below(table, name):
+    """All that a crate stands on, over any number of crates."""
+    return set(table[name]).union(*(below(table, crate) for crate in table[name] if crate in table))
+
+
+def picture(cases):
+    with tempfile.TemporaryDirectory() as folder:
+        drawn = Path(folder, "crates.svg")
+        subprocess.run([TOP / "scripts" / "draw-crates", drawn], check=True, timeout=60)
+        wrong = [] if drawn.read_bytes() == PICTURE.read_bytes() else ["run scripts/draw-crates"]
+    cases.report("the picture is that of crates.txt", wrong)
+    table = crates()
+    boxes = {group.get("id"): group for group in ElementTree.parse(PICTURE).iter(f"{SVG}g")}
+    cases.report("the picture has each crate", [] if set(boxes) == set(table) else [str(sorted(set(boxes) ^ set(table)))])
+    shipped = {PROGRAM, *below(table, PROGRAM)}
+    for name in sorted(set(boxes) & set(table)):
+        words = re.findall(r"\w+", " ".join(text.text for text in boxes[name].iter(f"{SVG}text")))
+        kind = boxes[name].find(f"{SVG}rect").get("class")
+        wrong = [] if sorted(words) == sorted([name, *table[name]]) else [f"it names {words}"]
+        wrong += [] if kind == ("shipped" if name in shipped else "apart") else [f"it is {kind}"]
+        cases.report(f"the picture has all that {name} stands on", wrong)
+    alternative = re.search(r"!\[([^]]*)\]\(crates\.svg\)", (DOCS / "architecture.md").read_text())
+    words = re.findall(r"\w+", alternative[1]) if alternative else []
+    cases.report("the text in place of the picture names each crate", [f"no {name}" for name in table if name not in words])
+
+
+def prose(path):
+    """A document without its blocks of code, each of their lines left blank."""
+    return re.sub(r"^```.*?^```$", lambda block: "\n" * block[0].count("\n"), path.read_text(), flags=re.M | re.S)
+
+
+def anchors(path):
+    """What a link can name in a document: its headings in lower case, a hyphen for each space, without other signs."""
+    found = []
+    for heading in re.findall(r"^#+ +(.*?) *$", prose(path), re.M):
+        words = re.sub(r"\[([^]]*)\]\([^)]*\)", r"\1", heading).lower()
+        anchor = re.sub(r"[^\w\- ]", "", words).replace(" ", "-")
+        again = found.count(anchor)
+        found.append(f"{anchor}-{again}" if again else anchor)
+    return found
+
+
+def links(cases):
+    known = {*FILES, *(folder for path in FILES for folder in path.parents)}
+    count = 0
+    for document in DOCUMENTS:
+        wrong = []
+        text = re.sub(r"`[^`\n]*`", "", prose(document))
+        for link in re.findall(r"\]\(([^()\s]+)\)", text):
+            if re.match(r"\w+:", link):
+                continue
+            count += 1
+            file, _, anchor = link.partition("#")
+            target = (document.parent / file).resolve() if file else document
+            if target not in known:
+                wrong.append(f"no file {file}")
+            elif anchor and anchor not in anchors(target):
+                wrong.append(f"no heading {link}")
+        cases.report(f"the links of {name_of(document)}", wrong)
+    cases.report("links were found", [] if count >= 100 else [f"{count} alone"])
+
+
+def named_files(cases):
+    """A source file is named by the end of its path, from its crate or from the top. Answers to open goals come and go."""
+    paths = [f"/{name_of(path)}" for path in FILES]
+    for document in DOCUMENTS:
+        names = [name for words in re.findall(r"`([^`\n]+)`", prose(document)) for name in re.findall(r"[\w./-]+\.(?:rt|antt|py)\b", words)]
+        wrong = [f"no {name}" for name in names if not name.endswith("Answers.antt") and not any(path.endswith(f"/{name}") for path in paths)]
+        cases.report(f"the source files that {name_of(document)} names", wrong)
+
+
+def counts(cases):
+    table = subprocess.run([TOP / "scripts" / "must-fail-counts"], check=True, capture_output=True, text=True, timeout=60).stdout
+    found = table in (DOCS / "proved.md").read_text()
+    cases.report("the table of must-fail edits is that of the files", [] if found else ["put in what scripts/must-fail-counts prints"])
+
+
+def definition_rows(page):
+    """The rows of docs/definitions.md: crate, names of definitions, names of files."""
+    crate = None
+    for line in page.splitlines():
+        heading = re.match(r"## `(\w+)`", line)
+        crate = heading[1] if heading else crate
+        cells = line.split(" | ")
+        if crate and line.startswith("| `") and len(cells) >= 3:
+            yield crate, re.findall(r"`([^`]+)`", cells[0]), re.findall(r"`([^`]+)`", cells[1])
+
+
+def definitions(cases):
+    rows = list(definition_rows(DEFINITIONS.read_text()))
+    for crate in crates():
+        files = {path.stem: path.read_text() for path in sorted((TOP / "crates" / crate / "specs").glob("*.antt"))}
+        if not files:
+            continue
+        wanted = {name for name, text in files.items() if name != INDEX and not name.endswith("Laws") and not DEVICE.match(text)}
+        named = {file for of, _, row_files in rows if of == crate for file in row_files}
+        wrong = [f"no {file}" for file in sorted(wanted - named)]
+        wrong += [f"{file} is a device of proof, or not there" for file in sorted(named - wanted) if not file.endswith("Laws") or file not in files]
+        cases.report(f"the page of definitions names each file of {crate}", wrong)
+        wrong = []
+        for of, names, row_files in rows:
+            texts = "\n".join(files.get(file, "") for file in row_files)
+            wrong += [f"{name} is not in {', '.join(row_files)}" for name in names if of == crate and not is_defined(name, texts)]
+        cases.report(f"the definitions of {crate} stand in the files that it names", wrong)
+
+
+def is_defined(name, text):
+    """A definition, a record or a list of cases of this name, for other crates to cite."""
+    return re.search(rf"\bpub (?:record |data )?{re.escape(name)} ", text) is not None
+
+
+def contracts(text):
+    """The contracts of the public functions of a source file: what stands between their names and their bodies."""
+    return re.findall(r"^( *)pub fn \w+(.*?)^\1\{", text, re.M | re.S)
+
+
+def cited(path):
+    """The definitions that the public functions of a source file cite in their contracts, or the laws of a file of laws in
+    what they say: crate, file and name."""
+    text = path.read_text()
+    citing = " ".join(contract for _, contract in contracts(text)) if path.suffix == ".rt" else text
+    for crate, file, names in re.findall(r"use Rattle\.(\w+)\.specs\.(\w+)\.\{([^}]*)\}", text):
+        for name, alias in re.findall(r"(\w+)(?: as (\w+))?", names):
+            if re.search(rf"\b{alias or name}\b", citing):
+                yield crate, file, name
+
+
+def citations(cases):
+    """A law's statement is found by its name in a file of laws, and a case of a list of cases with that list."""
+    named = {name for _, names, _ in definition_rows(DEFINITIONS.read_text()) for name in names}
+    for crate in crates():
+        folder = TOP / "crates" / crate
+        citing = [path for path in FILES if (folder / "src") in path.parents or (path.parent == folder / "specs" and path.stem.endswith("Laws"))]
+        wrong = set()
+        for of, file, name in (row for path in citing for row in cited(path)):
+            definitions = TOP / "crates" / of / "specs" / f"{file}.antt"
+            is_listed = name in named or file.endswith("Laws") or not definitions.exists() or not is_defined(name, definitions.read_text())
+            wrong |= set() if is_listed else {f"no {name} of {of}"}
+        cases.report(f"the page has the definitions that public contracts and laws of {crate} cite", sorted(wrong))
+
+
+def main():
+    if len(sys.argv) != 1:
+        sys.exit(__doc__)
+    cases = Cases(None)
+    for test in [picture, links, named_files, counts, definitions, citations]:
+        test(cases)
+    cases.end()
+
+
+main()
