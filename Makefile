@@ -2,9 +2,9 @@
 
 LOG ?= examples/first.log
 PREFIX ?= /usr/local
-CRATE := crates/udsnorm
-PROGRAM := $(CRATE)/out/udsnorm
-BUILD_LOG := $(CRATE)/out/build.txt
+PROGRAM_CRATE := crates/udsnorm
+PROGRAM := $(PROGRAM_CRATE)/out/udsnorm
+BUILD_LOG := $(PROGRAM_CRATE)/out/build.txt
 VERSION := $(shell cat VERSION)
 
 MAN := $(PREFIX)/share/man/man1/udsnorm.1
@@ -12,15 +12,15 @@ BASH := $(PREFIX)/share/bash-completion/completions/udsnorm
 ZSH := $(PREFIX)/share/zsh/site-functions/_udsnorm
 FISH := $(PREFIX)/share/fish/vendor_completions.d/udsnorm.fish
 
-.PHONY: build run test install install-built uninstall dist deb interop bench
+.PHONY: build run check test install install-built uninstall dist deb interop bench
 
 # Proves the program and what it stands on, and builds it. It says when it starts and when it ends on standard error; what
 # `rt` says is in a file, and shown where the build fails.
 build:
-	@mkdir -p $(CRATE)/out
+	@mkdir -p $(PROGRAM_CRATE)/out
 	@begun=$$(date +%s); \
 	echo 'udsnorm: proving and building, the first time for some minutes; what rt says goes to $(BUILD_LOG)' >&2; \
-	if (cd $(CRATE) && rt run < /dev/null > /dev/null 2> out/build.txt); then \
+	if (cd $(PROGRAM_CRATE) && rt run < /dev/null > /dev/null 2> out/build.txt); then \
 		echo "udsnorm: built in $$(($$(date +%s) - begun)) s: $(PROGRAM)" >&2; \
 	else \
 		cat $(BUILD_LOG) >&2; \
@@ -32,6 +32,10 @@ build:
 # its own exit status is told, which make would hide behind an error of its own.
 run: build
 	@$(PROGRAM) normalise '$(LOG)' || echo "udsnorm: exit status $$?" >&2
+
+# What a change of CRATE touches, the quickest first: a line for each step, up to the first that fails.
+check:
+	@scripts/check $(CRATE)
 
 # The tests of the built program and of the documents, random and hostile logs through it, each growth of memory refused in
 # turn, and then the gate: every proof from nothing, every test, every wrong body refused.

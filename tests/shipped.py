@@ -1,6 +1,7 @@
 #!/usr/bin/env python3
 """Tests of what is shipped beside the program: its manual page and its completions name every command and option that its
-help names, `make install` and `make uninstall` know the same files, and `make run` and `make build` tell what they do.
+help names, `make install` and `make uninstall` know the same files, `make run` and `make build` tell what they do, and `make
+check` does what it tells, in the order of crates.txt.
 
     tests/shipped.py crates/udsnorm/out/udsnorm
 
@@ -137,9 +138,40 @@ def make_build_tells_its_begin_and_end():
             stub.write_text(f"#!/bin/sh\necho proved\necho no proof >&2\nexit {status}\n")
             stub.chmod(0o755)
             path = f"{folder}:{os.environ['PATH']}"
-            found = make("build", f"CRATE={folder}", PATH=path)
+            found = make("build", f"PROGRAM_CRATE={folder}", PATH=path)
         is_told = re.fullmatch(begin + end, found[2])
         case(f"make build {name}", [] if (found[0] == 0) == (status == 0) and found[1] == "" and is_told else [str(found)])
+
+
+# Stands for `rt` where `make check` is tried: it fails in this crate and with these words.
+FAILING_STUB = """#!/bin/sh
+[ "${PWD##*/} $*" != "%s" ] && exit
+echo 'a goal is not proved that the answer depends on'
+echo 'error: no proof'
+exit 1
+"""
+
+
+def make_check_goes_upwards():
+    """`make check` with another `rt`, up to the step that fails: each crate comes after those that it stands on."""
+    for crate, failing, steps in [
+        ("uds_message", "uds_message check", ["uds_message: rt fmt", "uds_message: rt check"]),
+        ("acceptance", "acceptance try --test", ["acceptance: rt fmt", "acceptance: rt check", "acceptance: rt try --test"]),
+        (
+            "isotp_segment",
+            "refused_memory check",
+            ["isotp_segment: rt fmt", "isotp_segment: rt check", "isotp_segment: rt try --test"]
+            + [f"{user}: rt check" for user in ["trace_canon", "layer_bench", "acceptance", "refused_memory"]],
+        ),
+    ]:
+        with tempfile.TemporaryDirectory() as folder:
+            stub = Path(folder, "rt")
+            stub.write_text(FAILING_STUB % failing)
+            stub.chmod(0o755)
+            status, output, error = make("check", f"CRATE={crate}", PATH=f"{folder}:{os.environ['PATH']}")
+        lines = re.sub(r" +(failed after )?\d+\.\d s$", r" \1", output, flags=re.M).splitlines()
+        want = [f"{step} " for step in steps[:-1]] + [f"{steps[-1]} failed after ", "  error: no proof", "The whole output is in out/check.txt"]
+        case(f"make check of {crate} where {failing} fails", [] if status and lines == want else [str(lines), error])
 
 
 def main():
@@ -151,6 +183,7 @@ def main():
     install_is_undone()
     make_run_tells_what_the_program_says()
     make_build_tells_its_begin_and_end()
+    make_check_goes_upwards()
     print(f"{passed} passed, {failed} failed")
     sys.exit(1 if failed else 0)
 
