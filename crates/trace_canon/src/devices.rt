@@ -14,6 +14,7 @@ pub(crate) fn write_all<W: Target>(writer: &mut W, text: &[u8]) -> Result<(), De
     ensures tells { W.tells writer.old → W.tells writer.new }
     ensures failures { MatchResult result
         (λ _. W.failures writer.new ≡ W.failures writer.old) (λ _. W.failures writer.new ≡ W.failures writer.old + 1) }
+    ensures no_empty_write { W.had_empty_write writer.new ≡ W.had_empty_write writer.old }
 {
     let mut rest = text;
     'writing: while !rest.is_empty() {

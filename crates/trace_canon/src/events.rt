@@ -29,6 +29,7 @@ pub(crate) fn write_event<W: Target>(
     ensures tells { W.tells writer.old → W.tells writer.new }
     ensures failures { MatchResult result
         (λ _. W.failures writer.new ≡ W.failures writer.old) (λ _. W.failures writer.new ≡ W.failures writer.old + 1) }
+    ensures no_empty_write { W.had_empty_write writer.new ≡ W.had_empty_write writer.old }
 {
     block.clear();
     gather_ended(writer, block, line, event.ended)?;
@@ -49,6 +50,7 @@ fn gather_ended<W: Target>(
     ensures tells { W.tells writer.old → W.tells writer.new }
     ensures failures { MatchResult result
         (λ _. W.failures writer.new ≡ W.failures writer.old) (λ _. W.failures writer.new ≡ W.failures writer.old + 1) }
+    ensures no_empty_write { W.had_empty_write writer.new ≡ W.had_empty_write writer.old }
 {
     match ended {
         None => Ok(()),
@@ -99,6 +101,7 @@ fn gather_dropped<W: Target>(
     ensures tells { W.tells writer.old → W.tells writer.new }
     ensures failures { MatchResult result
         (λ _. W.failures writer.new ≡ W.failures writer.old) (λ _. W.failures writer.new ≡ W.failures writer.old + 1) }
+    ensures no_empty_write { W.had_empty_write writer.new ≡ W.had_empty_write writer.old }
 {
     let Verdict::Dropped(reason) = verdict else {
         return Ok(());
@@ -129,6 +132,7 @@ fn gather_reason<W: Target>(
     ensures tells { W.tells writer.old → W.tells writer.new }
     ensures failures { MatchResult result
         (λ _. W.failures writer.new ≡ W.failures writer.old) (λ _. W.failures writer.new ≡ W.failures writer.old + 1) }
+    ensures no_empty_write { W.had_empty_write writer.new ≡ W.had_empty_write writer.old }
 {
     match reason {
         Reason::Pdu(fault) => gather_parts(
@@ -201,6 +205,7 @@ pub(crate) fn write_end<W: Target>(
     ensures tells { W.tells writer.old → W.tells writer.new }
     ensures failures { MatchResult result
         (λ _. W.failures writer.new ≡ W.failures writer.old) (λ _. W.failures writer.new ≡ W.failures writer.old + 1) }
+    ensures no_empty_write { W.had_empty_write writer.new ≡ W.had_empty_write writer.old }
 {
     block.clear();
     gather_unfinished(writer, block, Dir::Tester, pair.open(Dir::Tester))?;
@@ -222,6 +227,7 @@ fn gather_unfinished<W: Target>(
     ensures tells { W.tells writer.old → W.tells writer.new }
     ensures failures { MatchResult result
         (λ _. W.failures writer.new ≡ W.failures writer.old) (λ _. W.failures writer.new ≡ W.failures writer.old + 1) }
+    ensures no_empty_write { W.had_empty_write writer.new ≡ W.had_empty_write writer.old }
 {
     match begun {
         None => Ok(()),
@@ -253,6 +259,7 @@ fn gather_summary<W: Target>(
     ensures tells { W.tells writer.old → W.tells writer.new }
     ensures failures { MatchResult result
         (λ _. W.failures writer.new ≡ W.failures writer.old) (λ _. W.failures writer.new ≡ W.failures writer.old + 1) }
+    ensures no_empty_write { W.had_empty_write writer.new ≡ W.had_empty_write writer.old }
 {
     gather_parts(
         writer,

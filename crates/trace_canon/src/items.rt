@@ -24,6 +24,7 @@ pub(crate) fn write_items<W: Target>(writer: &mut W, meaning: &Meaning) -> Resul
     ensures tells { W.tells writer.old → W.tells writer.new }
     ensures failures { MatchResult result
         (λ _. W.failures writer.new ≡ W.failures writer.old) (λ _. W.failures writer.new ≡ W.failures writer.old + 1) }
+    ensures no_empty_write { W.had_empty_write writer.new ≡ W.had_empty_write writer.old }
 {
     let mut block = Block::new();
     'items: for i in 0..meaning.len() {
@@ -47,6 +48,7 @@ fn gather_item<W: Target>(
     ensures tells { W.tells writer.old → W.tells writer.new }
     ensures failures { MatchResult result
         (λ _. W.failures writer.new ≡ W.failures writer.old) (λ _. W.failures writer.new ≡ W.failures writer.old + 1) }
+    ensures no_empty_write { W.had_empty_write writer.new ≡ W.had_empty_write writer.old }
 {
     match item {
         Item::Exchange { request, answer } => {
@@ -92,6 +94,7 @@ fn gather_outcome<W: Target>(
     ensures tells { W.tells writer.old → W.tells writer.new }
     ensures failures { MatchResult result
         (λ _. W.failures writer.new ≡ W.failures writer.old) (λ _. W.failures writer.new ≡ W.failures writer.old + 1) }
+    ensures no_empty_write { W.had_empty_write writer.new ≡ W.had_empty_write writer.old }
 {
     match answer {
         None if suppresses(request) => gather_parts(writer, block, &[Part::Text("silent\n")]),

@@ -95,6 +95,7 @@ fn write_message<W: Target>(
     ensures counted { OnOk result (text.old.messages + 1 < 2 ^ 64 → text.new.messages ≡ text.old.messages + 1) }
     ensures failures { MatchResult result
         (λ _. W.failures writer.new ≡ W.failures writer.old) (λ _. W.failures writer.new ≡ W.failures writer.old + 1) }
+    ensures no_empty_write { W.had_empty_write writer.new ≡ W.had_empty_write writer.old }
 {
     text.messages = text.messages.saturating_add(1);
     if !has_frames(message) {
@@ -134,6 +135,7 @@ fn write_frames<W: Target>(
     ensures place { OnOk result (place.new ≡ place_after config.now place.old frames.entry) }
     ensures failures { MatchResult result
         (λ _. W.failures writer.new ≡ W.failures writer.old) (λ _. W.failures writer.new ≡ W.failures writer.old + 1) }
+    ensures no_empty_write { W.had_empty_write writer.new ≡ W.had_empty_write writer.old }
 {
     block.clear();
     'frames: for (sender, frame) in frames {

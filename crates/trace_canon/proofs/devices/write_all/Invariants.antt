@@ -7,6 +7,7 @@ invariant-writing g l = record {
   telling : g.W.Target.tells l.initial.writer → g.W.Target.tells l.writer;
   written : g.W.Target.tells l.initial.writer → IsWritten (g.W.Target.written l.initial.writer) l.text (g.W.Target.written l.writer) l.rest;
   failures : g.W.Target.failures l.writer ≡ g.W.Target.failures l.initial.writer;
+  no_empty_write : g.W.Target.had_empty_write l.writer ≡ g.W.Target.had_empty_write l.initial.writer;
 }
 
 abbrev pub decreases-writing : goal.decreases-writing

@@ -17,6 +17,7 @@ bytes-preserved g c =
           (subst (λ text. IsWritten (g.W.Target.written c.bytes.writer) (c.bytes.block.items ++ text) (g.W.Target.written c.gather.new.writer) c.gather.new.block.items)
           c.hexadecimal_digits.ensures (c.in_ok-gather.ensures.gathered (c.bytes.invariant.telling told)));
       failures = c.in_ok-gather.ensures.failures ∙ c.bytes.invariant.failures;
+      no_empty_write = c.gather.ensures.no_empty_write ∙ c.bytes.invariant.no_empty_write;
     }
 
 pub returns-in_err-gather-clause-gathered : goal.returns-in_err-gather-clause-gathered

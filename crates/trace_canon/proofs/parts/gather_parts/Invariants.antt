@@ -10,4 +10,5 @@ invariant-parts g l = record {
       → IsWritten (g.W.Target.written l.initial.writer) (l.initial.block.items ++ parts_text (take l.part-index l.parts))
       (g.W.Target.written l.writer) l.block.items;
   failures : g.W.Target.failures l.writer ≡ g.W.Target.failures l.initial.writer;
+  no_empty_write : g.W.Target.had_empty_write l.writer ≡ g.W.Target.had_empty_write l.initial.writer;
 }

@@ -10,4 +10,5 @@ invariant-frames g l = record {
       (l.block.items ++ text_from l.config l.place l.sender-iterator);
   place : place_after l.config l.initial.place l.fn.frames ≡ place_after l.config l.place l.sender-iterator;
   failures : g.W.Target.failures l.writer ≡ g.W.Target.failures l.initial.writer;
+  no_empty_write : g.W.Target.had_empty_write l.writer ≡ g.W.Target.had_empty_write l.initial.writer;
 }
