@@ -62,14 +62,16 @@ impl<'a, W: Target> MessageSink for CanonicalWriter<'a, W> {
     ghost after_ok = { λ s d m t.
         let old : Writer = record { config = s.text.now.config; place = s.text.now.place; messages = s.text.now.messages; failures = W.failures s.writer.now; written = W.written s.writer.now } in
         let new : Writer = record { config = t.text.now.config; place = t.text.now.place; messages = t.text.now.messages; failures = W.failures t.writer.now; written = W.written t.writer.now } in
-        (t.writer.ghost_name ≡ s.writer.ghost_name) × (t.text.ghost_name ≡ s.text.ghost_name) × PutsMessage old d m new
-        × (W.tells s.writer.now → W.tells t.writer.now × WritesLines old d m new) };
+        (W.had_empty_write t.writer.now ≡ W.had_empty_write s.writer.now)
+        × ((t.writer.ghost_name ≡ s.writer.ghost_name) × (t.text.ghost_name ≡ s.text.ghost_name) × PutsMessage old d m new
+        × (W.tells s.writer.now → W.tells t.writer.now × WritesLines old d m new)) };
 
     ghost after_err = { λ s d m e t.
         let old : Writer = record { config = s.text.now.config; place = s.text.now.place; messages = s.text.now.messages; failures = W.failures s.writer.now; written = W.written s.writer.now } in
         let new : Writer = record { config = t.text.now.config; place = t.text.now.place; messages = t.text.now.messages; failures = W.failures t.writer.now; written = W.written t.writer.now } in
-        (t.writer.ghost_name ≡ s.writer.ghost_name) × (t.text.ghost_name ≡ s.text.ghost_name) × FailsToPut old new
-        × (W.tells s.writer.now → W.tells t.writer.now × WritesFrontOfLines old d m new) };
+        (W.had_empty_write t.writer.now ≡ W.had_empty_write s.writer.now)
+        × ((t.writer.ghost_name ≡ s.writer.ghost_name) × (t.text.ghost_name ≡ s.text.ghost_name) × FailsToPut old new
+        × (W.tells s.writer.now → W.tells t.writer.now × WritesFrontOfLines old d m new)) };
 
     fn put(&mut self, dir: Dir, message: &[u8]) -> Result<(), DeviceFault> {
         if self.writer.failures() > MOST_FAILURES {
