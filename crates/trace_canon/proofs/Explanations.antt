@@ -37,7 +37,7 @@ use Rattle.trace_canon.specs.Refusal.{IsBadAt}
 use Rattle.trace_canon.specs.Settings.{Settings, direction_of}
 use Rattle.trace_canon.specs.Summing.{summary_of}
 use Rattle.trace_canon.specs.Trace.{trace, trace_from}
-use Rattle.trace_canon.specs.Writing.{HasFront}
+use Rattle.trace_io.specs.Written.{HasFront}
 use Rattle.trace_canon.proofs.EventTexts.{lines_stay, all_written}
 use Rattle.trace_canon.proofs.Explained.{all_taken}
 use Rattle.trace_canon.proofs.Runs.{TookEvents, StoppedOnEvent}

@@ -2,10 +2,9 @@
 ghost use Rattle.std.specs.Prelude.{◌≡◌, ◌+◌, ◌^◌, ◌≤◌, ◌++◌, MatchResult};
 ghost use Rattle.trace_canon.specs.Writing.{HasGathered};
 
-use crate::devices::write_all;
 use arrayvec::ArrayVec;
 use can_log::LONGEST_LINE;
-use trace_io::{DeviceFault, Target};
+use trace_io::{DeviceFault, Target, write_all};
 
 /// The most bytes that are gathered for one write: 64 canonical lines, the longest that there are.
 const BLOCK: usize = 64 * LONGEST_LINE;

@@ -1,19 +1,19 @@
 //! The text that explains a log: what each frame ended, why it was dropped, and what stands at the end.
 ghost use Rattle.std.specs.Prelude.{◌≡◌, ◌+◌, ◌^◌, ◌≤◌, ◌++◌, MatchResult};
 ghost use Rattle.isotp_receive.specs.EventSeen.{seen_event, seen_verdict};
-ghost use Rattle.trace_canon.specs.Writing.{HasGathered, HasWritten};
+ghost use Rattle.trace_io.specs.Written.{HasWritten};
+ghost use Rattle.trace_canon.specs.Writing.{HasGathered};
 ghost use Rattle.trace_canon.specs.ExplainText.{cause_text, layout_fault_text, reason_line, dropped_line, ended_line, event_text};
 ghost use Rattle.trace_canon.specs.ExplainText.{unfinished_line, unfinished_text, summary_line};
 
 use crate::block::Block;
-use crate::devices::write_all;
 use crate::items::direction_name;
 use crate::parts::{Part, gather_parts};
 use crate::summary::Summary;
 use can_log::Dir;
 use isotp_pdu::PduFault;
 use isotp_receive::{Cause, Ended, Event, Pair, Reason, Verdict};
-use trace_io::{DeviceFault, Target};
+use trace_io::{DeviceFault, Target, write_all};
 
 /// Writes the lines of a frame, which stands in this line and was sent by this side.
 pub(crate) fn write_event<W: Target>(

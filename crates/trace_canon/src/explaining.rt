@@ -2,14 +2,13 @@
 ghost use Rattle.std.specs.Prelude.{◌≡◌};
 
 use crate::block::Block;
-use crate::devices::MOST_FAILURES;
 use crate::events::write_event;
 use crate::pending::Pending;
 use crate::receiver::EventTaker;
 use can_log::Dir;
 use isotp_receive::Event;
 use std::marker::PhantomData;
-use trace_io::Target;
+use trace_io::{MOST_FAILURES, Target};
 
 /// Why a frame was not taken.
 #[derive(Clone, Copy, Debug)]

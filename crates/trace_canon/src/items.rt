@@ -2,15 +2,15 @@
 ghost use Rattle.std.specs.Prelude.{◌≡◌, ◌^◌, ◌≤◌, ◌+◌, ◌++◌, option_map, MatchResult};
 ghost use Rattle.uds_exchange.specs.ItemSeen.{item_value};
 ghost use Rattle.uds_message.specs.Message.{sid as first_byte_of};
-ghost use Rattle.trace_canon.specs.Writing.{HasGathered, HasWritten};
+ghost use Rattle.trace_io.specs.Written.{HasWritten};
+ghost use Rattle.trace_canon.specs.Writing.{HasGathered};
 ghost use Rattle.trace_canon.specs.Words.{direction_text};
 ghost use Rattle.trace_canon.specs.ListText.{code_of, item_line, list_text, outcome_line};
 
 use crate::block::Block;
-use crate::devices::write_all;
 use crate::parts::{Part, gather_parts};
 use can_log::Dir;
-use trace_io::{DeviceFault, Target};
+use trace_io::{DeviceFault, Target, write_all};
 use uds_exchange::{Item, Meaning};
 use uds_message::suppresses;
 

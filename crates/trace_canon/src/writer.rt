@@ -3,16 +3,16 @@ ghost use Rattle.std.specs.Prelude.{◌≡◌, ℕ, ◌+◌, ◌^◌, ◌<◌, �
 ghost use Rattle.can_log.specs.declared.frame.Dir.{Dir as DirValue};
 ghost use Rattle.isotp_receive.specs.declared.TheConstants.{MESSAGE_LIMIT};
 ghost use Rattle.isotp_segment.specs.CanonicalFrames.{canonical_frames};
-ghost use Rattle.trace_canon.specs.Writing.{HasWritten, text_from, place_after};
+ghost use Rattle.trace_io.specs.Written.{HasWritten};
+ghost use Rattle.trace_canon.specs.Writing.{text_from, place_after};
 
 use crate::block::{Block, gather};
 use crate::config::Config;
-use crate::devices::{MOST_FAILURES, write_all};
 use crate::place::Place;
 use can_log::Dir;
 use isotp_receive::MESSAGE_LIMIT;
 use isotp_segment::Segments;
-use trace_io::{DeviceFault, Target};
+use trace_io::{DeviceFault, MOST_FAILURES, Target, write_all};
 use uds_exchange::MessageSink;
 
 /// How far the text of a canonical log has come.

@@ -19,10 +19,12 @@ pub mod laws;
 mod reader;
 #[cfg(test)]
 mod tests;
+mod whole;
 mod writer;
 
 pub use device::{DeviceFault, Source, Target};
 pub use endless::Endless;
 pub use faulty::{FailsAfter, FailsAt, FullAfter, Short};
 pub use reader::Reading;
+pub use whole::{MOST_FAILURES, write_all};
 pub use writer::Writing;

@@ -17,10 +17,9 @@ ghost use Rattle.udsnorm.specs.Run.{EngineAnswers, IsStatusOf, IsStatusOfTwo, To
 use crate::comparison::comparison_line;
 use crate::job::{Job, Plan};
 use crate::tell::{tell_fault, tell_side};
-use crate::text::write_all;
 use std::alloc::Global;
 use trace_canon::{CompareFault, Comparison, Fault, Summary, compare, explain, list, normalise};
-use trace_io::{DeviceFault, Source, Target};
+use trace_io::{DeviceFault, Source, Target, write_all};
 
 /// Does a job over one log, and answers the exit status. The text goes to the output, which is flushed where the log was
 /// accepted, and the text of a fault to the error output, as far as that takes it.

@@ -1,6 +1,6 @@
 use Rattle.std.proofs.Common.{◌∙◌, sym, subst, arith, ap, take_all}
 use Rattle.trace_canon.specs.ListText.{list_text}
-use Rattle.trace_canon.specs.Writing.{IsWritten}
+use Rattle.trace_io.specs.Written.{IsWritten}
 use Rattle.trace_canon.proofs.ItemLines.{line_stops, one_more_line, is_there}
 use Rattle.trace_canon.proofs.Results.{handed_on}
 use Rattle.trace_canon.proofs.WrittenFronts.{gathered_written}

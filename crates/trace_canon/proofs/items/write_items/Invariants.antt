@@ -1,6 +1,6 @@
 use Rattle.std.proofs.Common.{◌≡◌, take}
 use Rattle.trace_canon.specs.ListText.{list_text}
-use Rattle.trace_canon.specs.Writing.{IsWritten}
+use Rattle.trace_io.specs.Written.{IsWritten}
 use Rattle.trace_canon.proofs.items.write_items.Given as goal
 
 abbrev pub invariant-items : goal.invariant-items

@@ -1,6 +1,6 @@
 use Rattle.std.proofs.Common.{◌++◌, refl, subst, get_or, ◌∙◌}
 use Rattle.can_log.specs.Digits.{hexadecimal}
-use Rattle.trace_canon.specs.Writing.{HasFront, IsWritten}
+use Rattle.trace_io.specs.Written.{HasFront, IsWritten}
 use Rattle.trace_canon.proofs.Results.{handed_on}
 use Rattle.trace_canon.proofs.WrittenFronts.{one_more_gathered, one_more_stops}
 use Rattle.trace_canon.proofs.parts.gather_bytes.Goals as goal

@@ -1,5 +1,5 @@
 use Rattle.std.proofs.Common.{◌≡◌, ◌++◌, take}
-use Rattle.trace_canon.specs.Writing.{IsWritten}
+use Rattle.trace_io.specs.Written.{IsWritten}
 use Rattle.trace_canon.proofs.parts.gather_bytes.Given as goal
 use Rattle.trace_canon.specs.Words.{bytes_text}
 

@@ -1,5 +1,5 @@
 use Rattle.std.proofs.Common.{◌≡◌, ◌++◌, take}
-use Rattle.trace_canon.specs.Writing.{IsWritten}
+use Rattle.trace_io.specs.Written.{IsWritten}
 use Rattle.trace_canon.proofs.parts.gather_parts.Given as goal
 use Rattle.trace_canon.specs.Parts.{parts_text}
 

@@ -1,5 +1,6 @@
 use Rattle.std.proofs.Common.{◌≡◌, ◌++◌}
-use Rattle.trace_canon.specs.Writing.{IsWritten, text_from, place_after}
+use Rattle.trace_io.specs.Written.{IsWritten}
+use Rattle.trace_canon.specs.Writing.{text_from, place_after}
 use Rattle.trace_canon.proofs.writer.write_frames.Given as goal
 
 abbrev pub invariant-frames : goal.invariant-frames
