@@ -11,7 +11,7 @@ use Rattle.isotp_receive.specs.declared.event.Reason.TheVariants as reason
 use Rattle.isotp_receive.specs.Verdict.{VerdictValue, dropped, EventValue, verdict}
 use Rattle.trace_canon.specs.ExplainText.{cause_text, reception_text, reason_line, ended_line, dropped_line, event_text, events_text, events_text_after}
 use Rattle.trace_canon.specs.Words.{direction_text}
-use Rattle.trace_canon.specs.Writing.{HasFront, IsWritten}
+use Rattle.trace_io.specs.Written.{HasFront, IsWritten}
 use Rattle.trace_canon.proofs.WrittenFronts.{front_longer, front_behind, written_behind}
 
 -- the lines of two lists of frames

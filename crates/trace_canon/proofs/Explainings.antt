@@ -8,7 +8,7 @@ use Rattle.trace_canon.specs.declared.explaining.ExplainingFault.TheVariants.{Me
 use Rattle.trace_canon.specs.declared.pending.Pending.{Pending}
 use Rattle.trace_canon.specs.ExplainText.{event_text}
 use Rattle.trace_canon.specs.Explaining.{CountsRemoved, Explains, FailsAt}
-use Rattle.trace_canon.specs.Writing.{HasFront}
+use Rattle.trace_io.specs.Written.{HasFront}
 use Rattle.trace_canon.proofs.EventTexts.{one_more_event, front_of_event, none_of_event}
 use Rattle.trace_canon.proofs.OneMoreFrame.{messages_more}
 

@@ -12,6 +12,7 @@ use Rattle.can_log.specs.WholeLog.{StandsAfter}
 use Rattle.can_log.specs.declared.frame.Dir.{Dir}
 use Rattle.can_log.specs.declared.frame.Stamped.{Stamped}
 use Rattle.trace_io.specs.declared.DeviceFault.{DeviceFault}
+use Rattle.trace_io.specs.declared.device.Target.{Ghosts}
 use Rattle.isotp_receive.specs.declared.TheConstants.{MESSAGE_LIMIT}
 use Rattle.isotp_receive.specs.Standing.{Receptions, receptions_after}
 use Rattle.trace_canon.specs.declared.explaining.Explaining.{Explaining}
@@ -36,7 +37,7 @@ use Rattle.trace_canon.specs.Refusal.{IsBadAt}
 use Rattle.trace_canon.specs.Settings.{Settings, direction_of}
 use Rattle.trace_canon.specs.Summing.{summary_of}
 use Rattle.trace_canon.specs.Trace.{trace, trace_from}
-use Rattle.trace_canon.specs.Writing.{HasFront}
+use Rattle.trace_io.specs.Written.{HasFront}
 use Rattle.trace_canon.proofs.EventTexts.{lines_stay, all_written}
 use Rattle.trace_canon.proofs.Explained.{all_taken}
 use Rattle.trace_canon.proofs.Runs.{TookEvents, StoppedOnEvent}
@@ -325,17 +326,21 @@ module _ (Told ToldThen : Type 0) (failures : ℕ) (old : List ℕ) (settings : 
 
 -- ---- what a run has explained
 
-module _ {W : Type 0} (Tells : W → Type 0) (failures : W → ℕ) (written : W → List ℕ) where
-  -- events were explained
+module _ {W : Type 0} (target : Ghosts W) where
+  -- events were explained, without an empty write
   abbrev pub ExplainedEvents : TookEvents (Explaining W) W
-  ExplainedEvents s T t =
-      CountsRemoved [] s.0.pending → Explains (Tells s.1) (Tells t.1) (failures s.1) (written s.1) T t.0.pending (failures t.1) (written t.1)
+  ExplainedEvents s T t = CountsRemoved [] s.0.pending
+      → Explains (target.tells s.1) (target.tells t.1) (target.failures s.1) (target.written s.1) T t.0.pending (target.failures t.1) (target.written t.1)
+      × (target.had_empty_write t.1 ≡ target.had_empty_write s.1)
 
   -- the run stopped at an event
   abbrev pub FailedAtEvent : StoppedOnEvent (Explaining W) W ExplainingFault
-  FailedAtEvent s T e why t =
-      CountsRemoved [] s.0.pending → FailsAt (Tells s.1) (Tells t.1) (failures s.1) (written s.1) T e why (failures t.1) (written t.1)
+  FailedAtEvent s T e why t = CountsRemoved [] s.0.pending
+      → FailsAt (target.tells s.1) (target.tells t.1) (target.failures s.1) (target.written s.1) T e why (target.failures t.1) (target.written t.1)
+      × (target.had_empty_write t.1 ≡ target.had_empty_write s.1)
 
   pub explained_nothing : (start : Explaining W × W) → ExplainedEvents start [] start
-  explained_nothing start counts =
-      record { removed = counts; failures_are = refl; telling = λ told. told; written = λ told. sym (append-nil (written start.1)) }
+  explained_nothing start counts = (
+    record { removed = counts; failures_are = refl; telling = λ told. told; written = λ told. sym (append-nil (target.written start.1)) },
+    refl,
+  )

@@ -8,7 +8,7 @@ use Rattle.uds_exchange.specs.Meaning.{ItemValue, exchange}
 use Rattle.uds_message.specs.Message.{sid}
 use Rattle.trace_canon.specs.Words.{bytes_text, service_text}
 use Rattle.trace_canon.specs.ListText.{item_line, outcome_line, list_text, list_text_from}
-use Rattle.trace_canon.specs.Writing.{HasFront, IsWritten}
+use Rattle.trace_io.specs.Written.{HasFront, IsWritten}
 use Rattle.trace_canon.proofs.WrittenFronts.{front_longer, front_behind, written_behind}
 
 -- the front of an exchange's line, up to what came of it

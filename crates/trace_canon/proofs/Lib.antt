@@ -28,6 +28,7 @@ pub mod OneMoreFrame
 pub mod Fitting
 pub mod Explained
 pub mod Puttings
+pub mod CanonicalSinks
 pub mod Orderings
 pub mod Holdings
 pub mod Lengths

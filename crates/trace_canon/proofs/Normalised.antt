@@ -12,6 +12,7 @@ use Rattle.isotp_pdu.specs.Reading.{layout_of}
 use Rattle.isotp_receive.specs.declared.TheConstants.{MESSAGE_LIMIT}
 use Rattle.isotp_receive.specs.Verdict.{messages}
 use Rattle.uds_exchange.specs.Order.{early}
+use Rattle.trace_io.specs.declared.device.Target.{Ghosts}
 use Rattle.trace_canon.specs.declared.fault.Fault.{Fault}
 use Rattle.trace_canon.specs.declared.fault.Fault.TheVariants as fault
 use Rattle.trace_canon.specs.declared.engine.EndFault.{EndFault}
@@ -300,29 +301,34 @@ answers_end Told ToldNow settings first log given whats (Err end_fault.Write) fa
 
 -- ---- what a run has put in order
 
-module _ {W : Type 0} (Tells : W → Type 0) (failures : W → ℕ) (written : W → List ℕ) where
+module _ {W : Type 0} (target : Ghosts W) where
   -- the text of a run, and its target
   abbrev pub writing : Ordering W × W → Writer
-  writing run = writer_of run.0.text (failures run.1) (written run.1)
+  writing run = writer_of run.0.text (target.failures run.1) (target.written run.1)
 
-  -- messages were put in order
+  -- messages were put in order, without an empty write
   abbrev pub OrderedEvents : TookEvents (Ordering W) W
-  OrderedEvents s T t = s.0.orderer ≡ stands_after [] → Orders (Tells s.1) (Tells t.1) (writing s) T t.0.orderer (writing t)
+  OrderedEvents s T t = s.0.orderer ≡ stands_after []
+      → Orders (target.tells s.1) (target.tells t.1) (writing s) T t.0.orderer (writing t) × (target.had_empty_write t.1 ≡ target.had_empty_write s.1)
 
   -- it stopped on an event
   abbrev pub StoppedOrdering : StoppedOnEvent (Ordering W) W OrderingFault
-  StoppedOrdering s T e why t = s.0.orderer ≡ stands_after [] → StopsAt (Tells s.1) (Tells t.1) (writing s) T e why (writing t)
+  StoppedOrdering s T e why t = s.0.orderer ≡ stands_after []
+      → StopsAt (target.tells s.1) (target.tells t.1) (writing s) T e why (writing t) × (target.had_empty_write t.1 ≡ target.had_empty_write s.1)
 
   pub ordered_nothing : (start : Ordering W × W) → OrderedEvents start [] start
-  ordered_nothing start stands = record {
-    stands = stands;
-    stood = record {
-      has_put = record { settings = refl; place = sym (place_none (writing start).config (writing start).place); counted = λ few. omega arith; failures = refl };
-      within = tt;
-      telling = λ told. told;
-      written = λ told. sym (ap (λ x. (writing start).written ++ x) (text_none (writing start).config (writing start).place) ∙ append-nil (writing start).written);
-    };
-  }
+  ordered_nothing start stands = (
+    record {
+      stands = stands;
+      stood = record {
+        has_put = record { settings = refl; place = sym (place_none (writing start).config (writing start).place); counted = λ few. omega arith; failures = refl };
+        within = tt;
+        telling = λ told. told;
+        written = λ told. sym (ap (λ x. (writing start).written ++ x) (text_none (writing start).config (writing start).place) ∙ append-nil (writing start).written);
+      };
+    },
+    refl,
+  )
 
   -- The run has put no message.
   pub record HasNotPut (settings : Settings) (start : Ordering W × W) : Type 0 where

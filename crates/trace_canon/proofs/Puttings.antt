@@ -173,6 +173,36 @@ module _ {S E : Type 0} (after_ok : AfterOk S) (after_err : AfterErr S E) (write
             since = ap (λ x. x ++ wrote.front) earlier.1 ∙ append_assoc (text_of_put first put) earlier.0 wrote.front;
           }
 
+-- ---- what no put changes
+
+-- it is the same after an Ok of a put
+abbrev pub KeptByOk : {S A : Type 0} → AfterOk S → (S → A) → Type 0
+KeptByOk {S = S} after_ok seen = (s : S) (d : Dir) (message : List ℕ) (t : S) → after_ok s d message t → seen t ≡ seen s
+
+-- and after an Err
+abbrev pub KeptByErr : {S A E : Type 0} → AfterErr S E → (S → A) → Type 0
+KeptByErr {S = S} {E = E} after_err seen = (s : S) (d : Dir) (message : List ℕ) (e : E) (t : S) → after_err s d message e t → seen t ≡ seen s
+
+pub puts_keep : {S A : Type 0} (after_ok : AfterOk S) (seen : S → A) → KeptByOk after_ok seen → (more : List Message) (s t : S) → Puts after_ok s more t
+    → seen t ≡ seen s
+puts_keep after_ok seen by_ok [] s t same = ap seen same
+puts_keep after_ok seen by_ok (x ∷ more) s t (u, ok, puts) = puts_keep after_ok seen by_ok more u t puts ∙ by_ok s x.0 x.1 u ok
+
+module _ {S A E : Type 0} (after_ok : AfterOk S) (after_err : AfterErr S E) (seen : S → A) (by_ok : KeptByOk after_ok seen) (by_err : KeptByErr after_err seen)
+    (s t : S) where
+  fails_keep : (more : List Message) (why : E) → Fails after_ok after_err s more why t → seen t ≡ seen s
+  fails_keep more why (front, next, rest, between, parts, puts, err) = by_err between next.0 next.1 why t err ∙ puts_keep after_ok seen by_ok front s between puts
+
+  pub due_keeps : (M : List Message) (message : Message) (why : OrderFault E) → StopsDue after_ok after_err M message s t why → seen t ≡ seen s
+  due_keeps M message (order_fault.Sink why) (due, is, fails) = fails_keep due why fails
+  due_keeps M message order_fault.Memory same = ap seen same
+  due_keeps M message order_fault.Failed stops = absurd stops
+
+  pub end_keeps : (more : List Message) (why : OrderFault E) → StopsAtEnd after_ok after_err more s t why → seen t ≡ seen s
+  end_keeps more (order_fault.Sink why) fails = fails_keep more why fails
+  end_keeps more order_fault.Memory stops = absurd stops
+  end_keeps more order_fault.Failed stops = absurd stops
+
 -- ---- one more message behind these
 
 module _ {S : Type 0} (writer_name text_name : S → ℕ) (state : S → Writer) (Tells : S → Type 0) (first : Writer) (M : List Message) (message : Message) (s t : S) where

@@ -1,14 +1,16 @@
 -- What a run over a log has taken since its start, whatever takes its events.
-use Rattle.std.proofs.Common.{◌≡◌, ℕ, List, [], refl, sym, subst, Option, Some}
+use Rattle.std.proofs.Common.{◌≡◌, ℕ, List, [], refl, sym, subst, Option, Some, Result, Ok, Err}
 use Rattle.can_log.specs.declared.frame.Dir.{Dir}
 use Rattle.can_log.specs.declared.frame.Stamped.{Stamped}
 use Rattle.isotp_receive.specs.Standing.{Receptions}
 use Rattle.isotp_receive.specs.Trace.{Entry}
+use Rattle.trace_canon.specs.declared.lines.LineFault.{LineFault}
+use Rattle.trace_canon.specs.declared.lines.LineFault.TheVariants as fault
 use Rattle.trace_canon.specs.declared.receiver.Counts.{Counts}
 use Rattle.trace_canon.specs.declared.receiver.Receiver.{Receiver}
 use Rattle.trace_canon.specs.Settings.{Settings, direction_of}
 use Rattle.trace_canon.specs.Trace.{trace, trace_from}
-use Rattle.trace_canon.specs.Reading.{Took, Stopped}
+use Rattle.trace_canon.specs.Reading.{Took, Stopped, TakesSome}
 use Rattle.trace_canon.specs.Receiving.{entry_in, IsStart, IsReceiverStart, Receives}
 
 receives_start : (settings : Settings) (pair : Receptions) (lines : ℕ) (counts : Counts) → IsStart pair lines counts → Receives settings [] pair lines counts
@@ -81,3 +83,20 @@ module _ {E W F : Type 0} (stopped : StoppedOnEvent E W F) where
       → StoppedOnLine start whats what why now → StopsOn settings (start.0.taker, start.1) whats what why (now.0.taker, now.1)
   has_stopped settings start now begun whats what why line =
       subst (λ s. StopsOn s (start.0.taker, start.1) whats what why (now.0.taker, now.1)) begun.config (line begun.nothing)
+
+-- what is known of a device after any events that were taken, and after any on which the run stopped, is known at the end of the lines
+module _ {E W F : Type 0} (took : TookEvents E W) (stopped : StoppedOnEvent E W F) (settings : Settings) (start now : Receiver E × W)
+    (begun : IsRunStart settings start) (Known : Type 0)
+    (by_taken : (T : List Entry) → took (start.0.taker, start.1) T (now.0.taker, now.1) → Known)
+    (by_stopped : (T : List Entry) (e : Entry) (why : F) → stopped (start.0.taker, start.1) T e why (now.0.taker, now.1) → Known) where
+  by_lines : (whats : List (Option Stamped)) → TookLines took start whats now → Known
+  by_lines whats lines = by_taken (trace settings whats) (has_taken took settings start now begun whats lines)
+
+  pub known_at_end : {A : Type 0} (result : Result A (LineFault F)) → TakesSome (TookLines took) (StoppedOnLine stopped) start result now → Known
+  known_at_end (Ok value) (whats, few, lines) = by_lines whats lines
+  known_at_end (Err (fault.BadLine line column)) (whats, lines) = by_lines whats lines
+  known_at_end (Err fault.LogLimit) (whats, lines) = by_lines whats lines
+  known_at_end (Err fault.Read) (whats, lines) = by_lines whats lines
+  known_at_end (Err (fault.Taker why)) (whats, what, line) =
+      let stops = has_stopped stopped settings start now begun whats what why line in
+      by_stopped (trace settings whats) (entry_in whats stops.0 stops.1) why stops.4

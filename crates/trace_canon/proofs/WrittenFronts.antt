@@ -3,7 +3,8 @@ use Rattle.std.proofs.Common.{◌≡◌, ℕ, ◌+◌, ◌<◌, List, [], ◌++�
 use Rattle.std.specs.List.{flat_map}
 use Rattle.std.proofs.lemmas.Grind.{flat_map-append}
 use Rattle.std.proofs.lemmas.List.{take_more, take-append-drop}
-use Rattle.trace_canon.specs.Writing.{HasFront, IsWritten, HasWritten, HasGathered}
+use Rattle.trace_io.specs.Written.{HasFront, IsWritten, HasWritten}
+use Rattle.trace_canon.specs.Writing.{HasGathered}
 
 -- nothing was written yet
 pub written_none : (old text : List ℕ) → IsWritten old text old text

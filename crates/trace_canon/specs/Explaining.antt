@@ -21,7 +21,7 @@ use Rattle.trace_canon.specs.declared.summary.Summary.{Summary}
 use Rattle.trace_canon.specs.ExplainText.{events_text, explain_text_of_lines}
 use Rattle.trace_canon.specs.Settings.{Settings}
 use Rattle.trace_canon.specs.Summing.{summary_of}
-use Rattle.trace_canon.specs.Writing.{HasFront}
+use Rattle.trace_io.specs.Written.{HasFront}
 
 -- the first byte of the request that waits after one more message, where that of the one before was this
 abbrev pub open_after : Option ℕ → Message → Option ℕ

@@ -3,26 +3,9 @@ use Rattle.std.specs.Prelude.{◌≡◌, ℕ, ◌+◌, ◌-◌, ◌<◌, ◌≤�
 use Rattle.can_log.specs.Canonical.{canonical_line}
 use Rattle.can_log.specs.Log.{ended_lines}
 use Rattle.can_log.specs.declared.frame.Dir.{Dir}
+use Rattle.trace_io.specs.Written.{HasFront, IsWritten}
 use Rattle.trace_canon.specs.Settings.{Settings, id_of}
 use Rattle.trace_canon.specs.CanonicalLog.{canonical_lines, lines_within}
-
--- new is old, and behind it a front of the text
-pub record HasFront (old text new : List ℕ) : Type 0 where
-  pub front : List ℕ
-  pub rest : List ℕ
-  pub parts : text ≡ front ++ rest
-  pub wrote : new ≡ old ++ front
-
--- what was written of a text: all of it, or a front of it where writing failed
-abbrev pub HasWritten : {A E : Type 0} → Result A E → List ℕ → List ℕ → List ℕ → Type 0
-HasWritten (Ok value) old text new = new ≡ old ++ text
-HasWritten (Err fault) old text new = HasFront old text new
-
--- What was written behind `old` is the text without this rest.
-pub record IsWritten (old text new rest : List ℕ) : Type 0 where
-  pub front : List ℕ
-  pub parts : text ≡ front ++ rest
-  pub wrote : new ≡ old ++ front
 
 -- what was gathered of a text: all of it was written but for what the block holds; or a front of it, where writing failed
 abbrev pub HasGathered : {A E : Type 0} → Result A E → List ℕ → List ℕ → List ℕ → List ℕ → Type 0

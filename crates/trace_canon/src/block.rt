@@ -2,10 +2,9 @@
 ghost use Rattle.std.specs.Prelude.{◌≡◌, ◌+◌, ◌^◌, ◌≤◌, ◌++◌, MatchResult};
 ghost use Rattle.trace_canon.specs.Writing.{HasGathered};
 
-use crate::devices::write_all;
 use arrayvec::ArrayVec;
 use can_log::LONGEST_LINE;
-use trace_io::{DeviceFault, Target};
+use trace_io::{DeviceFault, Target, write_all};
 
 /// The most bytes that are gathered for one write: 64 canonical lines, the longest that there are.
 const BLOCK: usize = 64 * LONGEST_LINE;
@@ -26,6 +25,7 @@ pub(crate) fn gather<W: Target>(
     ensures tells { W.tells writer.old → W.tells writer.new }
     ensures failures { MatchResult result
         (λ _. W.failures writer.new ≡ W.failures writer.old) (λ _. W.failures writer.new ≡ W.failures writer.old + 1) }
+    ensures no_empty_write { W.had_empty_write writer.new ≡ W.had_empty_write writer.old }
 {
     if block.remaining_capacity() < text.len() {
         write_all(writer, block.as_slice())?;

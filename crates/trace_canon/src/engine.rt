@@ -2,6 +2,7 @@
 ghost use Rattle.std.specs.Prelude.{◌≡◌, ℕ, ◌+◌, ◌-◌, ◌^◌, ◌<◌, ◌≤◌, List, ◌++◌, length, take, Option, OnOk, IfOk};
 ghost use Rattle.can_log.specs.Dir.{Message};
 ghost use Rattle.uds_exchange.specs.Meaning.{meaning, flattened};
+ghost use Rattle.uds_exchange.specs.Orderer.{stands_after};
 ghost use Rattle.trace_canon.specs.CanonicalLog.{canonical_log};
 ghost use Rattle.trace_canon.specs.Laws.{IsCanonicalFor, Records, Certifies};
 ghost use Rattle.can_log.specs.declared.frame.Stamped.{Stamped as StampedValue};
@@ -67,6 +68,9 @@ pub fn normalise<R: Source, W: Target>(
     ensures read_fault { FailedIf Fault.Read result (R.failures reader.old) (R.failures reader.new) }
     ensures write_fault { FailedIf Fault.Write result (W.failures writer.old) (W.failures writer.new) }
 
+    // No write is empty: with `write_fault`, each takes at least one byte or ends the call.
+    ensures no_empty_write { W.had_empty_write writer.new ≡ W.had_empty_write writer.old }
+
     // What the target tells, it still tells when all went well.
     ensures tells { W.tells writer.old → OnOk result (W.tells writer.new) }
 {
@@ -116,11 +120,12 @@ fn answer_of(end: Result<Summary, EndFault>) -> Result<Summary, Fault>
 
 /// Writes what is held, and sums up.
 fn finish<W: Target>(receiver: Receiver<Ordering<W>>, device: &mut W) -> Result<Summary, EndFault>
-    ensures { (start : W) (settings : Settings) (first : Writer) (whats : List (Option StampedValue)) → length whats < 2 ^ 62 → IsFirst settings first
+    ensures ends { (start : W) (settings : Settings) (first : Writer) (whats : List (Option StampedValue)) → length whats < 2 ^ 62 → IsFirst settings first
         → Receives settings whats receiver.pair receiver.lines receiver.counts
         → Orders (W.tells start) (W.tells device.old) first (trace settings whats) receiver.taker.orderer
         (writer_of receiver.taker.text (W.failures device.old) (W.written device.old))
         → Finishes (W.tells start) (W.tells device.new) settings first whats result (W.failures device.new) (W.written device.new) }
+    ensures no_empty_write { (M : List Message) → receiver.taker.orderer ≡ stands_after M → W.had_empty_write device.new ≡ W.had_empty_write device.old }
 {
     let Receiver {
         pair,

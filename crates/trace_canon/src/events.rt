@@ -1,19 +1,19 @@
 //! The text that explains a log: what each frame ended, why it was dropped, and what stands at the end.
 ghost use Rattle.std.specs.Prelude.{◌≡◌, ◌+◌, ◌^◌, ◌≤◌, ◌++◌, MatchResult};
 ghost use Rattle.isotp_receive.specs.EventSeen.{seen_event, seen_verdict};
-ghost use Rattle.trace_canon.specs.Writing.{HasGathered, HasWritten};
+ghost use Rattle.trace_io.specs.Written.{HasWritten};
+ghost use Rattle.trace_canon.specs.Writing.{HasGathered};
 ghost use Rattle.trace_canon.specs.ExplainText.{cause_text, layout_fault_text, reason_line, dropped_line, ended_line, event_text};
 ghost use Rattle.trace_canon.specs.ExplainText.{unfinished_line, unfinished_text, summary_line};
 
 use crate::block::Block;
-use crate::devices::write_all;
 use crate::items::direction_name;
 use crate::parts::{Part, gather_parts};
 use crate::summary::Summary;
 use can_log::Dir;
 use isotp_pdu::PduFault;
 use isotp_receive::{Cause, Ended, Event, Pair, Reason, Verdict};
-use trace_io::{DeviceFault, Target};
+use trace_io::{DeviceFault, Target, write_all};
 
 /// Writes the lines of a frame, which stands in this line and was sent by this side.
 pub(crate) fn write_event<W: Target>(
@@ -29,6 +29,7 @@ pub(crate) fn write_event<W: Target>(
     ensures tells { W.tells writer.old → W.tells writer.new }
     ensures failures { MatchResult result
         (λ _. W.failures writer.new ≡ W.failures writer.old) (λ _. W.failures writer.new ≡ W.failures writer.old + 1) }
+    ensures no_empty_write { W.had_empty_write writer.new ≡ W.had_empty_write writer.old }
 {
     block.clear();
     gather_ended(writer, block, line, event.ended)?;
@@ -49,6 +50,7 @@ fn gather_ended<W: Target>(
     ensures tells { W.tells writer.old → W.tells writer.new }
     ensures failures { MatchResult result
         (λ _. W.failures writer.new ≡ W.failures writer.old) (λ _. W.failures writer.new ≡ W.failures writer.old + 1) }
+    ensures no_empty_write { W.had_empty_write writer.new ≡ W.had_empty_write writer.old }
 {
     match ended {
         None => Ok(()),
@@ -99,6 +101,7 @@ fn gather_dropped<W: Target>(
     ensures tells { W.tells writer.old → W.tells writer.new }
     ensures failures { MatchResult result
         (λ _. W.failures writer.new ≡ W.failures writer.old) (λ _. W.failures writer.new ≡ W.failures writer.old + 1) }
+    ensures no_empty_write { W.had_empty_write writer.new ≡ W.had_empty_write writer.old }
 {
     let Verdict::Dropped(reason) = verdict else {
         return Ok(());
@@ -129,6 +132,7 @@ fn gather_reason<W: Target>(
     ensures tells { W.tells writer.old → W.tells writer.new }
     ensures failures { MatchResult result
         (λ _. W.failures writer.new ≡ W.failures writer.old) (λ _. W.failures writer.new ≡ W.failures writer.old + 1) }
+    ensures no_empty_write { W.had_empty_write writer.new ≡ W.had_empty_write writer.old }
 {
     match reason {
         Reason::Pdu(fault) => gather_parts(
@@ -201,6 +205,7 @@ pub(crate) fn write_end<W: Target>(
     ensures tells { W.tells writer.old → W.tells writer.new }
     ensures failures { MatchResult result
         (λ _. W.failures writer.new ≡ W.failures writer.old) (λ _. W.failures writer.new ≡ W.failures writer.old + 1) }
+    ensures no_empty_write { W.had_empty_write writer.new ≡ W.had_empty_write writer.old }
 {
     block.clear();
     gather_unfinished(writer, block, Dir::Tester, pair.open(Dir::Tester))?;
@@ -222,6 +227,7 @@ fn gather_unfinished<W: Target>(
     ensures tells { W.tells writer.old → W.tells writer.new }
     ensures failures { MatchResult result
         (λ _. W.failures writer.new ≡ W.failures writer.old) (λ _. W.failures writer.new ≡ W.failures writer.old + 1) }
+    ensures no_empty_write { W.had_empty_write writer.new ≡ W.had_empty_write writer.old }
 {
     match begun {
         None => Ok(()),
@@ -253,6 +259,7 @@ fn gather_summary<W: Target>(
     ensures tells { W.tells writer.old → W.tells writer.new }
     ensures failures { MatchResult result
         (λ _. W.failures writer.new ≡ W.failures writer.old) (λ _. W.failures writer.new ≡ W.failures writer.old + 1) }
+    ensures no_empty_write { W.had_empty_write writer.new ≡ W.had_empty_write writer.old }
 {
     gather_parts(
         writer,

@@ -2,14 +2,13 @@
 ghost use Rattle.std.specs.Prelude.{◌≡◌};
 
 use crate::block::Block;
-use crate::devices::MOST_FAILURES;
 use crate::events::write_event;
 use crate::pending::Pending;
 use crate::receiver::EventTaker;
 use can_log::Dir;
 use isotp_receive::Event;
 use std::marker::PhantomData;
-use trace_io::Target;
+use trace_io::{MOST_FAILURES, Target};
 
 /// Why a frame was not taken.
 #[derive(Clone, Copy, Debug)]
@@ -54,10 +53,12 @@ impl<W: Target> EventTaker for Explaining<W> {
     type Device = W;
 
     ghost took = { λ s T t. CountsRemoved [] s.0.pending
-        → Explains (W.tells s.1) (W.tells t.1) (W.failures s.1) (W.written s.1) T t.0.pending (W.failures t.1) (W.written t.1) };
+        → Explains (W.tells s.1) (W.tells t.1) (W.failures s.1) (W.written s.1) T t.0.pending (W.failures t.1) (W.written t.1)
+        × (W.had_empty_write t.1 ≡ W.had_empty_write s.1) };
 
     ghost stopped = { λ s T e fault t. CountsRemoved [] s.0.pending
-        → FailsAt (W.tells s.1) (W.tells t.1) (W.failures s.1) (W.written s.1) T e fault (W.failures t.1) (W.written t.1) };
+        → FailsAt (W.tells s.1) (W.tells t.1) (W.failures s.1) (W.written s.1) T e fault (W.failures t.1) (W.written t.1)
+        × (W.had_empty_write t.1 ≡ W.had_empty_write s.1) };
 
     fn take(
         &mut self,

@@ -56,6 +56,9 @@ pub fn explain<R: Source, W: Target>(
     ensures read_fault { FailedIf Fault.Read result (R.failures reader.old) (R.failures reader.new) }
     ensures write_fault { FailedIf Fault.Write result (W.failures writer.old) (W.failures writer.new) }
 
+    // No write is empty: with `write_fault`, each takes at least one byte or ends the call.
+    ensures no_empty_write { W.had_empty_write writer.new ≡ W.had_empty_write writer.old }
+
     // What the target tells, it still tells when all went well.
     ensures tells { W.tells writer.old → OnOk result (W.tells writer.new) }
 {
@@ -102,6 +105,7 @@ fn finish<W: Target>(
         (W.failures device.old) (W.written device.old)
         → Ends (W.tells start) failures written settings whats result (W.failures device.new) (W.written device.new) }
     ensures tells { W.tells device.old → OnOk result (W.tells device.new) }
+    ensures no_empty_write { W.had_empty_write device.new ≡ W.had_empty_write device.old }
 {
     let Receiver {
         pair,

@@ -2,15 +2,15 @@
 ghost use Rattle.std.specs.Prelude.{◌≡◌, ◌^◌, ◌≤◌, ◌+◌, ◌++◌, option_map, MatchResult};
 ghost use Rattle.uds_exchange.specs.ItemSeen.{item_value};
 ghost use Rattle.uds_message.specs.Message.{sid as first_byte_of};
-ghost use Rattle.trace_canon.specs.Writing.{HasGathered, HasWritten};
+ghost use Rattle.trace_io.specs.Written.{HasWritten};
+ghost use Rattle.trace_canon.specs.Writing.{HasGathered};
 ghost use Rattle.trace_canon.specs.Words.{direction_text};
 ghost use Rattle.trace_canon.specs.ListText.{code_of, item_line, list_text, outcome_line};
 
 use crate::block::Block;
-use crate::devices::write_all;
 use crate::parts::{Part, gather_parts};
 use can_log::Dir;
-use trace_io::{DeviceFault, Target};
+use trace_io::{DeviceFault, Target, write_all};
 use uds_exchange::{Item, Meaning};
 use uds_message::suppresses;
 
@@ -24,6 +24,7 @@ pub(crate) fn write_items<W: Target>(writer: &mut W, meaning: &Meaning) -> Resul
     ensures tells { W.tells writer.old → W.tells writer.new }
     ensures failures { MatchResult result
         (λ _. W.failures writer.new ≡ W.failures writer.old) (λ _. W.failures writer.new ≡ W.failures writer.old + 1) }
+    ensures no_empty_write { W.had_empty_write writer.new ≡ W.had_empty_write writer.old }
 {
     let mut block = Block::new();
     'items: for i in 0..meaning.len() {
@@ -47,6 +48,7 @@ fn gather_item<W: Target>(
     ensures tells { W.tells writer.old → W.tells writer.new }
     ensures failures { MatchResult result
         (λ _. W.failures writer.new ≡ W.failures writer.old) (λ _. W.failures writer.new ≡ W.failures writer.old + 1) }
+    ensures no_empty_write { W.had_empty_write writer.new ≡ W.had_empty_write writer.old }
 {
     match item {
         Item::Exchange { request, answer } => {
@@ -92,6 +94,7 @@ fn gather_outcome<W: Target>(
     ensures tells { W.tells writer.old → W.tells writer.new }
     ensures failures { MatchResult result
         (λ _. W.failures writer.new ≡ W.failures writer.old) (λ _. W.failures writer.new ≡ W.failures writer.old + 1) }
+    ensures no_empty_write { W.had_empty_write writer.new ≡ W.had_empty_write writer.old }
 {
     match answer {
         None if suppresses(request) => gather_parts(writer, block, &[Part::Text("silent\n")]),

@@ -30,7 +30,6 @@
 mod block;
 mod comparing;
 mod config;
-mod devices;
 mod engine;
 mod events;
 mod explaining;

@@ -43,6 +43,9 @@ pub fn list<R: Source, W: Target>(
     ensures read_fault { FailedIf Fault.Read result (R.failures reader.old) (R.failures reader.new) }
     ensures write_fault { FailedIf Fault.Write result (W.failures writer.old) (W.failures writer.new) }
 
+    // No write is empty: with `write_fault`, each takes at least one byte or ends the call.
+    ensures no_empty_write { W.had_empty_write writer.new ≡ W.had_empty_write writer.old }
+
     // What the target tells, it still tells when all went well.
     ensures tells { W.tells writer.old → OnOk result (W.tells writer.new) }
 {

@@ -67,11 +67,11 @@ impl<W: Target> EventTaker for Ordering<W> {
 
     ghost took = { λ s T t. s.0.orderer ≡ stands_after []
         → Orders (W.tells s.1) (W.tells t.1) (writer_of s.0.text (W.failures s.1) (W.written s.1)) T t.0.orderer
-        (writer_of t.0.text (W.failures t.1) (W.written t.1)) };
+        (writer_of t.0.text (W.failures t.1) (W.written t.1)) × (W.had_empty_write t.1 ≡ W.had_empty_write s.1) };
 
     ghost stopped = { λ s T e fault t. s.0.orderer ≡ stands_after []
         → StopsAt (W.tells s.1) (W.tells t.1) (writer_of s.0.text (W.failures s.1) (W.written s.1)) T e fault
-        (writer_of t.0.text (W.failures t.1) (W.written t.1)) };
+        (writer_of t.0.text (W.failures t.1) (W.written t.1)) × (W.had_empty_write t.1 ≡ W.had_empty_write s.1) };
 
     fn take(
         &mut self,
@@ -133,6 +133,7 @@ fn order<W: Target>(
         → HasPut first (early M) (writer_of text.old (W.failures device.old) (W.written device.old))
         → FailsToOrder (W.tells device.old) (W.tells device.new) first M (dir, message.now)
         (writer_of text.old (W.failures device.old) (W.written device.old)) fault (writer_of text.new (W.failures device.new) (W.written device.new))) }
+    ensures no_empty_write { (M : List Message) → orderer.old ≡ stands_after M → W.had_empty_write device.new ≡ W.had_empty_write device.old }
 {
     let mut sink = CanonicalWriter {
         writer: device,
@@ -169,6 +170,7 @@ pub(crate) fn finish_order<W: Target>(
         → EndedWrong (W.tells device.old) (W.tells device.new) first (early M) (flattened (meaning M))
         (writer_of text.old (W.failures device.old) (W.written device.old)) (writer_of text.new (W.failures device.new) (W.written device.new))) }
     ensures fault { IfErr result (λ fault. fault ≡ Write) }
+    ensures no_empty_write { (M : List Message) → orderer ≡ stands_after M → W.had_empty_write device.new ≡ W.had_empty_write device.old }
 {
     let mut sink = CanonicalWriter {
         writer: device,

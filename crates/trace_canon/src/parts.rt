@@ -45,6 +45,7 @@ pub(crate) fn gather_parts<W: Target>(
     ensures tells { W.tells writer.old → W.tells writer.new }
     ensures failures { MatchResult result
         (λ _. W.failures writer.new ≡ W.failures writer.old) (λ _. W.failures writer.new ≡ W.failures writer.old + 1) }
+    ensures no_empty_write { W.had_empty_write writer.new ≡ W.had_empty_write writer.old }
 {
     'parts: for part in parts {
         gather_part(writer, block, *part)?;
@@ -64,6 +65,7 @@ fn gather_part<W: Target>(
     ensures tells { W.tells writer.old → W.tells writer.new }
     ensures failures { MatchResult result
         (λ _. W.failures writer.new ≡ W.failures writer.old) (λ _. W.failures writer.new ≡ W.failures writer.old + 1) }
+    ensures no_empty_write { W.had_empty_write writer.new ≡ W.had_empty_write writer.old }
 {
     match part {
         Part::Text(text) => gather(writer, block, text.as_bytes()),
@@ -114,6 +116,7 @@ fn gather_bytes<W: Target>(
     ensures tells { W.tells writer.old → W.tells writer.new }
     ensures failures { MatchResult result
         (λ _. W.failures writer.new ≡ W.failures writer.old) (λ _. W.failures writer.new ≡ W.failures writer.old + 1) }
+    ensures no_empty_write { W.had_empty_write writer.new ≡ W.had_empty_write writer.old }
 {
     'bytes: for byte in bytes {
         gather(writer, block, &hexadecimal_digits(*byte))?;

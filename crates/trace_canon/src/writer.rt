@@ -3,16 +3,16 @@ ghost use Rattle.std.specs.Prelude.{◌≡◌, ℕ, ◌+◌, ◌^◌, ◌<◌, �
 ghost use Rattle.can_log.specs.declared.frame.Dir.{Dir as DirValue};
 ghost use Rattle.isotp_receive.specs.declared.TheConstants.{MESSAGE_LIMIT};
 ghost use Rattle.isotp_segment.specs.CanonicalFrames.{canonical_frames};
-ghost use Rattle.trace_canon.specs.Writing.{HasWritten, text_from, place_after};
+ghost use Rattle.trace_io.specs.Written.{HasWritten};
+ghost use Rattle.trace_canon.specs.Writing.{text_from, place_after};
 
 use crate::block::{Block, gather};
 use crate::config::Config;
-use crate::devices::{MOST_FAILURES, write_all};
 use crate::place::Place;
 use can_log::Dir;
 use isotp_receive::MESSAGE_LIMIT;
 use isotp_segment::Segments;
-use trace_io::{DeviceFault, Target};
+use trace_io::{DeviceFault, MOST_FAILURES, Target, write_all};
 use uds_exchange::MessageSink;
 
 /// How far the text of a canonical log has come.
@@ -62,14 +62,16 @@ impl<'a, W: Target> MessageSink for CanonicalWriter<'a, W> {
     ghost after_ok = { λ s d m t.
         let old : Writer = record { config = s.text.now.config; place = s.text.now.place; messages = s.text.now.messages; failures = W.failures s.writer.now; written = W.written s.writer.now } in
         let new : Writer = record { config = t.text.now.config; place = t.text.now.place; messages = t.text.now.messages; failures = W.failures t.writer.now; written = W.written t.writer.now } in
-        (t.writer.ghost_name ≡ s.writer.ghost_name) × (t.text.ghost_name ≡ s.text.ghost_name) × PutsMessage old d m new
-        × (W.tells s.writer.now → W.tells t.writer.now × WritesLines old d m new) };
+        (W.had_empty_write t.writer.now ≡ W.had_empty_write s.writer.now)
+        × ((t.writer.ghost_name ≡ s.writer.ghost_name) × (t.text.ghost_name ≡ s.text.ghost_name) × PutsMessage old d m new
+        × (W.tells s.writer.now → W.tells t.writer.now × WritesLines old d m new)) };
 
     ghost after_err = { λ s d m e t.
         let old : Writer = record { config = s.text.now.config; place = s.text.now.place; messages = s.text.now.messages; failures = W.failures s.writer.now; written = W.written s.writer.now } in
         let new : Writer = record { config = t.text.now.config; place = t.text.now.place; messages = t.text.now.messages; failures = W.failures t.writer.now; written = W.written t.writer.now } in
-        (t.writer.ghost_name ≡ s.writer.ghost_name) × (t.text.ghost_name ≡ s.text.ghost_name) × FailsToPut old new
-        × (W.tells s.writer.now → W.tells t.writer.now × WritesFrontOfLines old d m new) };
+        (W.had_empty_write t.writer.now ≡ W.had_empty_write s.writer.now)
+        × ((t.writer.ghost_name ≡ s.writer.ghost_name) × (t.text.ghost_name ≡ s.text.ghost_name) × FailsToPut old new
+        × (W.tells s.writer.now → W.tells t.writer.now × WritesFrontOfLines old d m new)) };
 
     fn put(&mut self, dir: Dir, message: &[u8]) -> Result<(), DeviceFault> {
         if self.writer.failures() > MOST_FAILURES {
@@ -95,6 +97,7 @@ fn write_message<W: Target>(
     ensures counted { OnOk result (text.old.messages + 1 < 2 ^ 64 → text.new.messages ≡ text.old.messages + 1) }
     ensures failures { MatchResult result
         (λ _. W.failures writer.new ≡ W.failures writer.old) (λ _. W.failures writer.new ≡ W.failures writer.old + 1) }
+    ensures no_empty_write { W.had_empty_write writer.new ≡ W.had_empty_write writer.old }
 {
     text.messages = text.messages.saturating_add(1);
     if !has_frames(message) {
@@ -134,6 +137,7 @@ fn write_frames<W: Target>(
     ensures place { OnOk result (place.new ≡ place_after config.now place.old frames.entry) }
     ensures failures { MatchResult result
         (λ _. W.failures writer.new ≡ W.failures writer.old) (λ _. W.failures writer.new ≡ W.failures writer.old + 1) }
+    ensures no_empty_write { W.had_empty_write writer.new ≡ W.had_empty_write writer.old }
 {
     block.clear();
     'frames: for (sender, frame) in frames {

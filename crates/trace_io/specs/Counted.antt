@@ -1,5 +1,5 @@
 -- What a contract sees of a reader or a writer that counts.
-use Rattle.std.specs.Prelude.{ℕ, ◌≤◌, ◌^◌}
+use Rattle.std.specs.Prelude.{ℕ, Bool, ◌≤◌, ◌^◌}
 
 -- a reader, with its calls, the bytes that they gave, and those that failed
 pub record CountedReader (R : Type 0) : Type 0 where
@@ -8,10 +8,11 @@ pub record CountedReader (R : Type 0) : Type 0 where
   pub given : ℕ
   pub failures : ℕ
 
--- a writer, with its calls that failed
+-- a writer, with its calls that failed, and whether a write took nothing and did not fail
 pub record CountedWriter (W : Type 0) : Type 0 where
   pub inner : W
   pub failures : ℕ
+  pub had_empty_write : Bool
 
 -- a byte without end, with the reads and the bytes that they gave
 pub record EndlessBytes : Type 0 where

@@ -1,8 +1,9 @@
 //! Where a log is read from, and where text is written to: devices that count.
 //!
 //! An engine reads from a [`Source`] and writes to a [`Target`]. Both say in their contracts which bytes they gave or took,
-//! and count what an engine promises about: calls, bytes and failures. [`Reading`] and [`Writing`] make them of std's
-//! readers and writers; [`Short`], [`FailsAt`], [`FailsAfter`], [`FullAfter`] and [`Endless`] are for tests of an engine.
+//! and count what an engine promises about: calls, bytes and failures. [`write_all`] writes a whole text. [`Reading`] and
+//! [`Writing`] make devices of std's readers and writers; [`Short`], [`FailsAt`], [`FailsAfter`], [`FullAfter`] and
+//! [`Endless`] are for tests of an engine.
 //!
 //! ```
 //! let mut reader = Reading::new(b"(1.000000) can0 7E0#00".as_slice());
@@ -19,10 +20,12 @@ pub mod laws;
 mod reader;
 #[cfg(test)]
 mod tests;
+mod whole;
 mod writer;
 
 pub use device::{DeviceFault, Source, Target};
 pub use endless::Endless;
 pub use faulty::{FailsAfter, FailsAt, FullAfter, Short};
 pub use reader::Reading;
+pub use whole::{MOST_FAILURES, write_all};
 pub use writer::Writing;

@@ -1,6 +1,7 @@
 //! What std's errors come to, and what the devices for tests give and take.
 use crate::{
     DeviceFault, Endless, FailsAfter, FailsAt, FullAfter, Reading, Short, Source, Target, Writing,
+    write_all,
 };
 use std::io;
 use std::io::ErrorKind;
@@ -86,6 +87,23 @@ fn short_devices_give_and_take_one_byte_a_call(rt: HostRuntime) {
     assert_eq!(rt; writer.write(b"ab"), Ok(1));
     assert_eq!(rt; writer.write(b"b"), Ok(1));
     assert_eq!(rt; writer.into_inner().inner.as_slice(), b"ab".as_slice());
+}
+
+#[test]
+fn a_text_is_written_whole_or_as_far_as_there_is_room(rt: HostRuntime) {
+    for (room, written) in [(0, b"".as_slice()), (2, b"ab"), (3, b"abc"), (4, b"abc")] {
+        let mut writer = Writing::new(Short {
+            inner: FullAfter {
+                inner: Vec::new(rt.alloc()),
+                room,
+            },
+            most: 1,
+        });
+        assert_eq!(rt; write_all(&mut writer, b""), Ok(()));
+        assert_eq!(rt; write_all(&mut writer, b"abc").is_ok(), room >= 3);
+        assert_eq!(rt; writer.failures(), u64::from(room < 3));
+        assert_eq!(rt; writer.into_inner().inner.inner.as_slice(), written);
+    }
 }
 
 #[test]

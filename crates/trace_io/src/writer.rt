@@ -1,5 +1,5 @@
 //! A writer of std as a target.
-ghost use Rattle.std.specs.Prelude.{◌≡◌, IsSome};
+ghost use Rattle.std.specs.Prelude.{◌≡◌, IsSome, false};
 ghost use Rattle.trace_io.specs.Stream.{told};
 
 use crate::device::{DeviceFault, Target};
@@ -13,6 +13,8 @@ use std::marker::Model;
 pub struct Writing<W> {
     inner: W,
     failures: u64,
+    /// Only contracts look at it.
+    had_empty_write: bool,
 }
 
 impl<W> Model for Writing<W> {
@@ -20,15 +22,19 @@ impl<W> Model for Writing<W> {
 
     ghost Value = { CountedWriter W };
 
-    ghost view = { λ w. record { inner = w.inner; failures = w.failures } };
+    ghost view = { λ w. record { inner = w.inner; failures = w.failures; had_empty_write = w.had_empty_write } };
 }
 
 impl<W> Writing<W> {
     /// A writer that was not yet written to through this device: the count begins at 0.
     pub fn new(inner: W) -> Self
-        ensures { result ≡ record { inner = inner; failures = 0 } }
+        ensures { result ≡ record { inner = inner; failures = 0; had_empty_write = false } }
     {
-        Writing { inner, failures: 0 }
+        Writing {
+            inner,
+            failures: 0,
+            had_empty_write: false,
+        }
     }
 
     /// The writer inside, as the writes have left it.
@@ -47,9 +53,15 @@ impl<W: Write> Target for Writing<W> {
 
     ghost failures = { λ w. w.failures };
 
+    ghost had_empty_write = { λ w. w.had_empty_write };
+
     fn write(&mut self, piece: &[u8]) -> Result<usize, DeviceFault> {
         match self.inner.write(piece) {
-            Ok(n) if n > 0 || piece.is_empty() => Ok(n),
+            Ok(n) if n > 0 => Ok(n),
+            Ok(_) if piece.is_empty() => {
+                self.had_empty_write = true;
+                Ok(0)
+            }
             _ => {
                 self.failures += 1;
                 Err(DeviceFault)

@@ -17,10 +17,9 @@ ghost use Rattle.udsnorm.specs.Run.{EngineAnswers, IsStatusOf, IsStatusOfTwo, To
 use crate::comparison::comparison_line;
 use crate::job::{Job, Plan};
 use crate::tell::{tell_fault, tell_side};
-use crate::text::write_all;
 use std::alloc::Global;
 use trace_canon::{CompareFault, Comparison, Fault, Summary, compare, explain, list, normalise};
-use trace_io::{DeviceFault, Source, Target};
+use trace_io::{DeviceFault, Source, Target, write_all};
 
 /// Does a job over one log, and answers the exit status. The text goes to the output, which is flushed where the log was
 /// accepted, and the text of a fault to the error output, as far as that takes it.
@@ -40,6 +39,9 @@ pub fn run_one<R: Source, W: Target, E: Target>(
     ensures run { (answer : Result SummaryValue FaultValue) × IsStatusOf answer result
         × (R.tells input.old → W.tells out.old → (log : List ℕ) → BeginsAs (R.front input.old) (plan.now.config.max_bytes + 1) log
         → EngineAnswers plan.now.job MESSAGE_LIMIT plan.now.config log (R.given input.new - R.given input.old) answer (W.written out.old) (W.written out.new)) }
+
+    // No write to the output is empty.
+    ensures no_empty_write { W.had_empty_write out.new ≡ W.had_empty_write out.old }
 
     // The status is 4 exactly where a device failed.
     ensures device { (result ≡ 4) ↔ ((R.failures input.old < R.failures input.new) ⊎ (W.failures out.old < W.failures out.new)) }
@@ -62,6 +64,7 @@ fn do_job<R: Source, W: Target>(
         → EngineAnswers plan.now.job MESSAGE_LIMIT plan.now.config log (R.given input.new - R.given input.old) result (W.written out.old) (W.written out.new) }
     ensures read_fault { FailedIf Fault.Read result (R.failures input.old) (R.failures input.new) }
     ensures write_fault { FailedIf Fault.Write result (W.failures out.old) (W.failures out.new) }
+    ensures no_empty_write { W.had_empty_write out.new ≡ W.had_empty_write out.old }
     ensures tells { W.tells out.old → OnOk result (W.tells out.new) }
 {
     match plan.job {
@@ -79,6 +82,7 @@ fn end_run<W: Target, E: Target>(answer: Result<Summary, Fault>, out: &mut W, er
     ensures status { EndsWith answer (W.failures out.old) (W.failures out.new) result }
     ensures written { MatchResult answer
         (λ _. W.tells out.old → W.written out.new ≡ W.written out.old) (λ _. W.written out.new ≡ W.written out.old) }
+    ensures no_empty_write { W.had_empty_write out.new ≡ W.had_empty_write out.old }
 {
     match answer {
         Ok(_) => match out.flush() {
@@ -112,6 +116,9 @@ pub fn run_two<A: Source, B: Source, W: Target, E: Target>(
         → BeginsAs (A.front left.old) (plan.now.config.max_bytes + 1) one → BeginsAs (B.front right.old) (plan.now.config.max_bytes + 1) other
         → Compares MESSAGE_LIMIT plan.now.config one other answer) }
 
+    // No write to the output is empty.
+    ensures no_empty_write { W.had_empty_write out.new ≡ W.had_empty_write out.old }
+
     // The status is 4 exactly where a device failed.
     ensures device { (result ≡ 4) ↔ ((A.failures left.old < A.failures left.new)
         ⊎ ((B.failures right.old < B.failures right.new) ⊎ (W.failures out.old < W.failures out.new))) }
@@ -130,6 +137,7 @@ fn end_comparison<W: Target, E: Target>(
     requires err { IsLowCount (E.failures err.old) }
     ensures status { EndsTwoWith answer (W.failures out.old) (W.failures out.new) result }
     ensures line { W.tells out.old → TookLine answer result (W.written out.old) (W.written out.new) }
+    ensures no_empty_write { W.had_empty_write out.new ≡ W.had_empty_write out.old }
 {
     match answer {
         Ok(comparison) => match write_comparison(comparison, out) {
@@ -146,6 +154,7 @@ fn write_comparison<W: Target>(comparison: Comparison, out: &mut W) -> Result<()
     ensures written { W.tells out.old → OnOk result (W.written out.new ≡ W.written out.old ++ comparison_line comparison) }
     ensures failures { MatchResult result
         (λ _. W.failures out.new ≡ W.failures out.old) (λ _. W.failures out.new ≡ W.failures out.old + 1) }
+    ensures no_empty_write { W.had_empty_write out.new ≡ W.had_empty_write out.old }
 {
     write_all(out, comparison_line(comparison).as_slice())?;
     out.flush()

@@ -6,9 +6,9 @@ ghost use Rattle.trace_io.specs.Counted.{IsLowCount};
 ghost use Rattle.udsnorm.specs.Status.{status_of, words_status_of};
 
 use crate::job::{Job, Plan, WordsFault};
-use crate::text::{write_all, write_line};
+use crate::text::write_line;
 use trace_canon::{CompareFault, Fault};
-use trace_io::Target;
+use trace_io::{Target, write_all};
 
 /// Tells why the words ask for nothing that the program does: help on the output, anything else on the error output.
 /// Answers the exit status, also where that can't be told.

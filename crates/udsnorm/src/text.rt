@@ -3,12 +3,11 @@
 ghost use Rattle.std.specs.Prelude.{◌≡◌, ◌+◌, ◌^◌, ◌<◌, ◌≤◌, ◌++◌, length, IfOk, MatchResult};
 ghost use Rattle.std.specs.Fmt.{decimal};
 ghost use Rattle.arrayvec.specs.ArrayVec.{array_vec_len};
-ghost use Rattle.trace_canon.specs.Writing.{HasWritten};
 ghost use Rattle.trace_io.specs.Counted.{IsLowCount};
 
 use arrayvec::{ArrayString, ArrayVec};
 use std::fmt::{Display, Write};
-use trace_io::{DeviceFault, Target};
+use trace_io::{DeviceFault, Target, write_all};
 
 /// Room for the longest line that is told: an announcement that is too long, in the right log.
 const LONGEST_LINE: usize = 96;
@@ -29,22 +28,6 @@ pub(crate) fn write_line<W: Target, D: Display + Drop>(
     // What is told always fits.
     let _ = writeln!(line, "{message}");
     write_all(target, line.as_str().as_bytes())
-}
-
-/// Writes all of the text. A target that fails has taken a part of it.
-pub(crate) fn write_all<W: Target>(target: &mut W, text: &[u8]) -> Result<(), DeviceFault>
-    requires { IsLowCount (W.failures target.old) }
-    ensures written { W.tells target.old → HasWritten result (W.written target.old) text.now (W.written target.new) }
-    ensures tells { W.tells target.old → W.tells target.new }
-    ensures failures { MatchResult result
-        (λ _. W.failures target.new ≡ W.failures target.old) (λ _. W.failures target.new ≡ W.failures target.old + 1) }
-{
-    let mut rest = text;
-    'writing: while !rest.is_empty() {
-        let n = target.write(rest)?;
-        rest = &rest[n..];
-    }
-    Ok(())
 }
 
 /// Puts a text behind the line.

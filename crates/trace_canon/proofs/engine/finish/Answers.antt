@@ -6,8 +6,8 @@ use Rattle.trace_canon.proofs.Finished.{put_all, finishes_over, finishes_well, f
 use Rattle.trace_canon.proofs.Summaries.{left_out}
 use Rattle.trace_canon.proofs.engine.finish.Goals as goal
 
-pub returns : goal.returns
-returns g c = λ start settings first whats few is_first received orders.
+pub returns-clause-ends : goal.returns-clause-ends
+returns-clause-ends g c = λ start settings first whats few is_first received orders.
     let W = g.W.Target in
     let receiver = c.args.receiver in
     let before = writer_of receiver.taker.text (W.failures c.args.device.now) (W.written c.args.device.now) in
@@ -19,8 +19,8 @@ returns g c = λ start settings first whats few is_first received orders.
     finishes_well (W.tells start) (W.tells c.args.device.now) (W.tells c.finish_order.new.device) settings first before now whats receiver.pair receiver.lines
     receiver.counts receiver.taker.orderer few is_first received orders c.sum_up.result end (sym c.is_over.ensures ∙ c.if-is_over.false) (c.sum_up.ensures settings whats received pending)
 
-pub returns-then-is_over : goal.returns-then-is_over
-returns-then-is_over g c = λ start settings first whats few is_first received orders.
+pub returns-then-is_over-clause-ends : goal.returns-then-is_over-clause-ends
+returns-then-is_over-clause-ends g c = λ start settings first whats few is_first received orders.
     let W = g.W.Target in
     let before = writer_of c.args.receiver.taker.text (W.failures c.args.device.now) (W.written c.args.device.now) in
     let now = writer_of c.finish_order.new.text (W.failures c.finish_order.new.device) (W.written c.finish_order.new.device) in
@@ -28,8 +28,8 @@ returns-then-is_over g c = λ start settings first whats few is_first received o
     finishes_over (W.tells start) (W.tells c.args.device.now) (W.tells c.finish_order.new.device) settings first before now whats c.args.receiver.pair c.args.receiver.lines
     c.args.receiver.counts c.args.receiver.taker.orderer few is_first received orders end (sym c.is_over.ensures ∙ c.if-is_over.true)
 
-pub returns-in-Err : goal.returns-in-Err
-returns-in-Err g c = λ start settings first whats few is_first received orders.
+pub returns-in-Err-clause-ends : goal.returns-in-Err-clause-ends
+returns-in-Err-clause-ends g c = λ start settings first whats few is_first received orders.
     let W = g.W.Target in
     let before = writer_of c.args.receiver.taker.text (W.failures c.args.device.now) (W.written c.args.device.now) in
     let now = writer_of c.finish_order.new.text (W.failures c.finish_order.new.device) (W.written c.finish_order.new.device) in

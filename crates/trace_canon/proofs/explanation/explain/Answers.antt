@@ -1,10 +1,10 @@
-use Rattle.std.proofs.Common.{◌-◌, [], arith, sym, subst}
+use Rattle.std.proofs.Common.{◌-◌, [], arith, sym, subst, ◌∙◌, Err}
 use Rattle.trace_canon.specs.declared.explaining.Explaining.{Explaining}
 use Rattle.trace_canon.specs.declared.receiver.Receiver.{Receiver}
 use Rattle.trace_canon.specs.Explaining.{CountsRemoved}
 use Rattle.trace_canon.proofs.Explanations.{explains_of_lines, explains_failures, explains_end, end_failures, end_reads, certifies, told_at_the_end}
 use Rattle.trace_canon.proofs.Explanations.{ExplainedEvents, FailedAtEvent, explained_nothing}
-use Rattle.trace_canon.proofs.Runs.{TookLines, StoppedOnLine, starts_run, took_nothing, has_received, has_taken, has_stopped}
+use Rattle.trace_canon.proofs.Runs.{TookLines, StoppedOnLine, starts_run, took_nothing, has_received, has_taken, has_stopped, known_at_end}
 use Rattle.trace_canon.proofs.explanation.explain.Goals as goal
 
 pub returns-in-Err-clause-answer : goal.returns-in-Err-clause-answer
@@ -13,18 +13,18 @@ returns-in-Err-clause-answer g c = λ reads told log begins.
     let settings = c.args.config.now in
     let begun : Receiver (Explaining g.row.W.Denot) × g.row.W.Denot = (c.start-receiver.result, c.args.writer.now) in
     let now : Receiver (Explaining g.row.W.Denot) × g.row.W.Denot = (c.read_lines.new.taker, c.read_lines.new.device) in
-    let took = ExplainedEvents W.tells W.failures W.written in
+    let took = ExplainedEvents W in
     let starts = starts_run settings c.start.result c.start-receiver.result c.args.writer.now c.start-receiver.ensures in
     let counts : CountsRemoved [] begun.0.taker.pending = subst (λ (t : Explaining g.row.W.Denot). CountsRemoved [] t.pending) (sym c.start-receiver.ensures.taker_is) c.start.ensures in
-    let nothing = took_nothing took begun (explained_nothing W.tells W.failures W.written (begun.0.taker, begun.1)) in
-    let stopped = FailedAtEvent W.tells W.failures W.written in
+    let nothing = took_nothing took begun (explained_nothing W (begun.0.taker, begun.1)) in
+    let stopped = FailedAtEvent W in
     let given = g.R.Source.given c.read_lines.new.reader - g.R.Source.given c.args.reader.now in
     let read = c.in-Err.ensures.lines reads log (rw c.max_bytes.ensures.value begins) begun nothing in
     rw c.explaining_fault.ensures
     (explains_of_lines (W.tells begun.1) (W.tells now.1) (W.failures begun.1) (W.written begun.1) now.0.taker.pending (W.failures now.1) (W.written now.1) settings
     (TookLines took) (StoppedOnLine stopped) begun now
-    (λ whats lines. has_taken took settings begun now starts whats lines counts)
-    (λ whats what why line. (let stops = has_stopped stopped settings begun now starts whats what why line in (stops.0, stops.1, stops.2, stops.3, stops.4 counts)))
+    (λ whats lines. (has_taken took settings begun now starts whats lines counts).0)
+    (λ whats what why line. (let stops = has_stopped stopped settings begun now starts whats what why line in (stops.0, stops.1, stops.2, stops.3, (stops.4 counts).0)))
     (Unit {0}) log given told c.in-Err.fault c.max_bytes.result c.max_bytes.ensures.value read)
 
 pub returns-in-Err-clause-write_fault : goal.returns-in-Err-clause-write_fault
@@ -33,17 +33,17 @@ returns-in-Err-clause-write_fault g c =
     let settings = c.args.config.now in
     let begun : Receiver (Explaining g.row.W.Denot) × g.row.W.Denot = (c.start-receiver.result, c.args.writer.now) in
     let now : Receiver (Explaining g.row.W.Denot) × g.row.W.Denot = (c.read_lines.new.taker, c.read_lines.new.device) in
-    let took = ExplainedEvents W.tells W.failures W.written in
+    let took = ExplainedEvents W in
     let starts = starts_run settings c.start.result c.start-receiver.result c.args.writer.now c.start-receiver.ensures in
     let counts : CountsRemoved [] begun.0.taker.pending = subst (λ (t : Explaining g.row.W.Denot). CountsRemoved [] t.pending) (sym c.start-receiver.ensures.taker_is) c.start.ensures in
-    let nothing = took_nothing took begun (explained_nothing W.tells W.failures W.written (begun.0.taker, begun.1)) in
-    let stopped = FailedAtEvent W.tells W.failures W.written in
+    let nothing = took_nothing took begun (explained_nothing W (begun.0.taker, begun.1)) in
+    let stopped = FailedAtEvent W in
     let takes = c.in-Err.ensures.takes begun nothing in
     rw c.explaining_fault.ensures
     (explains_failures (W.tells begun.1) (W.tells now.1) (W.failures begun.1) (W.written begun.1) now.0.taker.pending (W.failures now.1) (W.written now.1) settings
     (TookLines took) (StoppedOnLine stopped) begun now
-    (λ whats lines. has_taken took settings begun now starts whats lines counts)
-    (λ whats what why line. (let stops = has_stopped stopped settings begun now starts whats what why line in (stops.0, stops.1, stops.2, stops.3, stops.4 counts)))
+    (λ whats lines. (has_taken took settings begun now starts whats lines counts).0)
+    (λ whats what why line. (let stops = has_stopped stopped settings begun now starts whats what why line in (stops.0, stops.1, stops.2, stops.3, (stops.4 counts).0)))
     (Unit {0}) c.requires.writer c.in-Err.fault takes)
 
 pub finish-requires : goal.finish-requires
@@ -52,12 +52,12 @@ finish-requires g c =
     let settings = c.args.config.now in
     let begun : Receiver (Explaining g.row.W.Denot) × g.row.W.Denot = (c.start-receiver.result, c.args.writer.now) in
     let now : Receiver (Explaining g.row.W.Denot) × g.row.W.Denot = (c.read_lines.new.taker, c.read_lines.new.device) in
-    let took = ExplainedEvents W.tells W.failures W.written in
+    let took = ExplainedEvents W in
     let starts = starts_run settings c.start.result c.start-receiver.result c.args.writer.now c.start-receiver.ensures in
     let counts : CountsRemoved [] begun.0.taker.pending = subst (λ (t : Explaining g.row.W.Denot). CountsRemoved [] t.pending) (sym c.start-receiver.ensures.taker_is) c.start.ensures in
-    let nothing = took_nothing took begun (explained_nothing W.tells W.failures W.written (begun.0.taker, begun.1)) in
+    let nothing = took_nothing took begun (explained_nothing W (begun.0.taker, begun.1)) in
     let takes = c.in-Ok.ensures.takes begun nothing in
-    let same = (has_taken took settings begun now starts takes.0 takes.2 counts).failures_are in
+    let same = (has_taken took settings begun now starts takes.0 takes.2 counts).0.failures_are in
     omega (arith, c.requires.writer, same)
 
 pub returns-in-Ok-clause-answer : goal.returns-in-Ok-clause-answer
@@ -66,15 +66,15 @@ returns-in-Ok-clause-answer g c = λ reads told log begins.
     let settings = c.args.config.now in
     let begun : Receiver (Explaining g.row.W.Denot) × g.row.W.Denot = (c.start-receiver.result, c.args.writer.now) in
     let now : Receiver (Explaining g.row.W.Denot) × g.row.W.Denot = (c.read_lines.new.taker, c.read_lines.new.device) in
-    let took = ExplainedEvents W.tells W.failures W.written in
+    let took = ExplainedEvents W in
     let starts = starts_run settings c.start.result c.start-receiver.result c.args.writer.now c.start-receiver.ensures in
     let counts : CountsRemoved [] begun.0.taker.pending = subst (λ (t : Explaining g.row.W.Denot). CountsRemoved [] t.pending) (sym c.start-receiver.ensures.taker_is) c.start.ensures in
-    let nothing = took_nothing took begun (explained_nothing W.tells W.failures W.written (begun.0.taker, begun.1)) in
+    let nothing = took_nothing took begun (explained_nothing W (begun.0.taker, begun.1)) in
     let given = g.R.Source.given c.read_lines.new.reader - g.R.Source.given c.args.reader.now in
     let read = c.in-Ok.ensures.lines reads log (rw c.max_bytes.ensures.value begins) begun nothing in
     let whats = read.0 in
     let received = has_received took settings begun now starts whats read.5 in
-    let explains = has_taken took settings begun now starts whats read.5 counts in
+    let explains = (has_taken took settings begun now starts whats read.5 counts).0 in
     let ends = c.finish.ensures.ends begun.1 settings (W.failures begun.1) (W.written begun.1) whats received explains in
     rw c.explaining_answer.ensures
     (explains_end (W.tells begun.1) (W.failures begun.1) (W.written begun.1) settings log given whats c.finish.result
@@ -86,13 +86,13 @@ returns-in-Ok-clause-write_fault g c =
     let settings = c.args.config.now in
     let begun : Receiver (Explaining g.row.W.Denot) × g.row.W.Denot = (c.start-receiver.result, c.args.writer.now) in
     let now : Receiver (Explaining g.row.W.Denot) × g.row.W.Denot = (c.read_lines.new.taker, c.read_lines.new.device) in
-    let took = ExplainedEvents W.tells W.failures W.written in
+    let took = ExplainedEvents W in
     let starts = starts_run settings c.start.result c.start-receiver.result c.args.writer.now c.start-receiver.ensures in
     let counts : CountsRemoved [] begun.0.taker.pending = subst (λ (t : Explaining g.row.W.Denot). CountsRemoved [] t.pending) (sym c.start-receiver.ensures.taker_is) c.start.ensures in
-    let nothing = took_nothing took begun (explained_nothing W.tells W.failures W.written (begun.0.taker, begun.1)) in
+    let nothing = took_nothing took begun (explained_nothing W (begun.0.taker, begun.1)) in
     let takes = c.in-Ok.ensures.takes begun nothing in
     let received = has_received took settings begun now starts takes.0 takes.2 in
-    let explains = has_taken took settings begun now starts takes.0 takes.2 counts in
+    let explains = (has_taken took settings begun now starts takes.0 takes.2 counts).0 in
     let ends = c.finish.ensures.ends begun.1 settings (W.failures begun.1) (W.written begun.1) takes.0 received explains in
     rw c.explaining_answer.ensures
     (end_failures (W.tells begun.1) (W.failures begun.1) (W.written begun.1) settings takes.0 c.finish.result
@@ -104,13 +104,39 @@ returns-in-Ok-clause-tells g c = λ told.
     let settings = c.args.config.now in
     let begun : Receiver (Explaining g.row.W.Denot) × g.row.W.Denot = (c.start-receiver.result, c.args.writer.now) in
     let now : Receiver (Explaining g.row.W.Denot) × g.row.W.Denot = (c.read_lines.new.taker, c.read_lines.new.device) in
-    let took = ExplainedEvents W.tells W.failures W.written in
+    let took = ExplainedEvents W in
     let starts = starts_run settings c.start.result c.start-receiver.result c.args.writer.now c.start-receiver.ensures in
     let counts : CountsRemoved [] begun.0.taker.pending = subst (λ (t : Explaining g.row.W.Denot). CountsRemoved [] t.pending) (sym c.start-receiver.ensures.taker_is) c.start.ensures in
-    let nothing = took_nothing took begun (explained_nothing W.tells W.failures W.written (begun.0.taker, begun.1)) in
+    let nothing = took_nothing took begun (explained_nothing W (begun.0.taker, begun.1)) in
     let takes = c.in-Ok.ensures.takes begun nothing in
-    let explains = has_taken took settings begun now starts takes.0 takes.2 counts in
+    let explains = (has_taken took settings begun now starts takes.0 takes.2 counts).0 in
     rw c.explaining_answer.ensures (told_at_the_end (W.tells c.finish.new.device) c.finish.result (c.finish.ensures.tells (explains.telling told)))
+
+pub returns-in-Err-clause-no_empty_write : goal.returns-in-Err-clause-no_empty_write
+returns-in-Err-clause-no_empty_write g c =
+    let W = g.W.Target in
+    let settings = c.args.config.now in
+    let begun : Receiver (Explaining g.row.W.Denot) × g.row.W.Denot = (c.start-receiver.result, c.args.writer.now) in
+    let now : Receiver (Explaining g.row.W.Denot) × g.row.W.Denot = (c.read_lines.new.taker, c.read_lines.new.device) in
+    let took = ExplainedEvents W in
+    let starts = starts_run settings c.start.result c.start-receiver.result c.args.writer.now c.start-receiver.ensures in
+    let counts : CountsRemoved [] begun.0.taker.pending = subst (λ (t : Explaining g.row.W.Denot). CountsRemoved [] t.pending) (sym c.start-receiver.ensures.taker_is) c.start.ensures in
+    let nothing = took_nothing took begun (explained_nothing W (begun.0.taker, begun.1)) in
+    known_at_end took (FailedAtEvent W) settings begun now starts _ (λ T explained. (explained counts).1) (λ T e why halts. (halts counts).1)
+    {A = Unit {0}} (Err c.in-Err.fault) (c.in-Err.ensures.takes begun nothing)
+
+pub returns-in-Ok-clause-no_empty_write : goal.returns-in-Ok-clause-no_empty_write
+returns-in-Ok-clause-no_empty_write g c =
+    let W = g.W.Target in
+    let settings = c.args.config.now in
+    let begun : Receiver (Explaining g.row.W.Denot) × g.row.W.Denot = (c.start-receiver.result, c.args.writer.now) in
+    let now : Receiver (Explaining g.row.W.Denot) × g.row.W.Denot = (c.read_lines.new.taker, c.read_lines.new.device) in
+    let took = ExplainedEvents W in
+    let starts = starts_run settings c.start.result c.start-receiver.result c.args.writer.now c.start-receiver.ensures in
+    let counts : CountsRemoved [] begun.0.taker.pending = subst (λ (t : Explaining g.row.W.Denot). CountsRemoved [] t.pending) (sym c.start-receiver.ensures.taker_is) c.start.ensures in
+    let nothing = took_nothing took begun (explained_nothing W (begun.0.taker, begun.1)) in
+    let takes = c.in-Ok.ensures.takes begun nothing in
+    c.finish.ensures.no_empty_write ∙ (has_taken took settings begun now starts takes.0 takes.2 counts).1
 
 pub returns-in-Ok-clause-read_fault : goal.returns-in-Ok-clause-read_fault
 returns-in-Ok-clause-read_fault g c =

@@ -1,6 +1,6 @@
 use Rattle.std.proofs.Common.{◌∙◌, sym, subst, arith, ap, take_all}
 use Rattle.trace_canon.specs.ListText.{list_text}
-use Rattle.trace_canon.specs.Writing.{IsWritten}
+use Rattle.trace_io.specs.Written.{IsWritten}
 use Rattle.trace_canon.proofs.ItemLines.{line_stops, one_more_line, is_there}
 use Rattle.trace_canon.proofs.Results.{handed_on}
 use Rattle.trace_canon.proofs.WrittenFronts.{gathered_written}
@@ -25,6 +25,7 @@ items-preserved g c =
             (g.W.Target.written w.gather_item.new.writer) w.gather_item.new.block.items (sym w.in-Some.ensures) (c.items.invariant.gathered told)
             (w.in_ok-gather_item.ensures.gathered (c.items.invariant.telling told)));
         failures = ap g.W.Target.failures w.writer-is ∙ w.in_ok-gather_item.ensures.failures ∙ c.items.invariant.failures;
+        no_empty_write = ap g.W.Target.had_empty_write w.writer-is ∙ w.gather_item.ensures.no_empty_write ∙ c.items.invariant.no_empty_write;
       }
       | in_default w ↦ absurd (is_there c.args.meaning.now c.items.i (omega (arith, c.len-i-end.ensures)) (sym w.in_default.ensures))
     ]

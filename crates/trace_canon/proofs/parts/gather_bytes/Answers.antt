@@ -1,6 +1,6 @@
 use Rattle.std.proofs.Common.{◌++◌, refl, subst, get_or, ◌∙◌}
 use Rattle.can_log.specs.Digits.{hexadecimal}
-use Rattle.trace_canon.specs.Writing.{HasFront, IsWritten}
+use Rattle.trace_io.specs.Written.{HasFront, IsWritten}
 use Rattle.trace_canon.proofs.Results.{handed_on}
 use Rattle.trace_canon.proofs.WrittenFronts.{one_more_gathered, one_more_stops}
 use Rattle.trace_canon.proofs.parts.gather_bytes.Goals as goal
@@ -17,6 +17,7 @@ bytes-preserved g c =
           (subst (λ text. IsWritten (g.W.Target.written c.bytes.writer) (c.bytes.block.items ++ text) (g.W.Target.written c.gather.new.writer) c.gather.new.block.items)
           c.hexadecimal_digits.ensures (c.in_ok-gather.ensures.gathered (c.bytes.invariant.telling told)));
       failures = c.in_ok-gather.ensures.failures ∙ c.bytes.invariant.failures;
+      no_empty_write = c.gather.ensures.no_empty_write ∙ c.bytes.invariant.no_empty_write;
     }
 
 pub returns-in_err-gather-clause-gathered : goal.returns-in_err-gather-clause-gathered

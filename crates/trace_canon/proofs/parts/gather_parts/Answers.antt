@@ -12,6 +12,7 @@ parts-preserved g c = record {
       (g.W.Target.written c.parts.writer) c.parts.block.items _ _ c.parts-test.true refl (c.parts.invariant.gathered told)
       (c.in_ok-gather_part.ensures.gathered (c.parts.invariant.telling told));
   failures = c.in_ok-gather_part.ensures.failures ∙ c.parts.invariant.failures;
+  no_empty_write = c.gather_part.ensures.no_empty_write ∙ c.parts.invariant.no_empty_write;
 }
 
 pub returns-in_err-gather_part-clause-gathered : goal.returns-in_err-gather_part-clause-gathered

@@ -14,6 +14,7 @@ frames-init g c = record {
       ∙ ap (λ x. text_from c.args.config.now c.args.place.now x) c.into_iter-sender-iterator.ensures.into_iter_gives));
   place = ap (λ x. place_after c.args.config.now c.args.place.now x) (sym c.into_iter-sender-iterator.ensures.into_iter_gives);
   failures = refl;
+  no_empty_write = refl;
 }
 
 pub frames-preserved : goal.frames-preserved
@@ -37,6 +38,7 @@ frames-preserved g c =
       place = c.frames.invariant.place ∙ ap (place_after settings c.frames.place) c.in-Some.ensures.steps
           ∙ place_step settings c.frames.place frame later fits ∙ ap (λ p. place_after settings p later) (sym next);
       failures = c.in_ok-gather.ensures.failures ∙ c.frames.invariant.failures;
+      no_empty_write = c.gather.ensures.no_empty_write ∙ c.frames.invariant.no_empty_write;
     }
 
 pub returns-in_err-gather-clause-written : goal.returns-in_err-gather-clause-written

@@ -1,5 +1,6 @@
 use Rattle.std.proofs.Common.{◌≡◌, ◌++◌}
-use Rattle.trace_canon.specs.Writing.{IsWritten, text_from, place_after}
+use Rattle.trace_io.specs.Written.{IsWritten}
+use Rattle.trace_canon.specs.Writing.{text_from, place_after}
 use Rattle.trace_canon.proofs.writer.write_frames.Given as goal
 
 abbrev pub invariant-frames : goal.invariant-frames
@@ -10,4 +11,5 @@ invariant-frames g l = record {
       (l.block.items ++ text_from l.config l.place l.sender-iterator);
   place : place_after l.config l.initial.place l.fn.frames ≡ place_after l.config l.place l.sender-iterator;
   failures : g.W.Target.failures l.writer ≡ g.W.Target.failures l.initial.writer;
+  no_empty_write : g.W.Target.had_empty_write l.writer ≡ g.W.Target.had_empty_write l.initial.writer;
 }

@@ -1,0 +1,26 @@
+//! The whole of a text written.
+ghost use Rattle.std.specs.Prelude.{◌≡◌, ℕ, ◌+◌, ◌^◌, ◌<◌, ◌≤◌, List, ◌++◌, length, MatchResult};
+ghost use Rattle.trace_io.specs.Counted.{IsLowCount};
+ghost use Rattle.trace_io.specs.Written.{HasWritten};
+
+use crate::device::{DeviceFault, Target};
+
+/// How often a target may have failed before a text is written to it. No run of an engine reaches it.
+pub const MOST_FAILURES: u64 = 1 << 62;
+
+/// Writes all of the text, and nothing where that is empty. A target that fails has taken a part of it.
+pub fn write_all<W: Target>(target: &mut W, text: &[u8]) -> Result<(), DeviceFault>
+    requires { IsLowCount (W.failures target.old) }
+    ensures written { W.tells target.old → HasWritten result (W.written target.old) text.now (W.written target.new) }
+    ensures tells { W.tells target.old → W.tells target.new }
+    ensures failures { MatchResult result
+        (λ _. W.failures target.new ≡ W.failures target.old) (λ _. W.failures target.new ≡ W.failures target.old + 1) }
+    ensures no_empty_write { W.had_empty_write target.new ≡ W.had_empty_write target.old }
+{
+    let mut rest = text;
+    'writing: while !rest.is_empty() {
+        let n = target.write(rest)?;
+        rest = &rest[n..];
+    }
+    Ok(())
+}
