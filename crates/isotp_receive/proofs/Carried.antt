@@ -9,7 +9,7 @@ use Rattle.can_log.specs.declared.frame.Dir.{Dir}
 use Rattle.isotp_receive.specs.Trace.{Entry, single, first, role, At}
 use Rattle.isotp_receive.specs.Standing.{Standing, stands}
 use Rattle.isotp_receive.specs.Recording.{IsRisingFrom, IsSegmented, Carries, unsegmented, segmented, Transfer, IsIn, last_or}
-use Rattle.isotp_receive.specs.Heard.{heard}
+use Rattle.isotp_receive.proofs.Heard.{heard}
 use Rattle.isotp_receive.specs.Machine.{after}
 use Rattle.isotp_receive.proofs.ListPositions.{get-same, get-here}
 use Rattle.isotp_receive.proofs.PositionLists.{above-least, first-or-later}

@@ -18,7 +18,7 @@ use Rattle.isotp_receive.specs.Verdict.{VerdictValue, message, began, stored, fl
 use Rattle.isotp_receive.specs.Recording.{IsConsecutiveFrame, IsRisingFrom, IsSegmented, Carries, unsegmented, segmented, Transfer, IsTransfer, IsIn, last_or, AllBefore, AreApart, EachPair}
 use Rattle.isotp_receive.specs.Recording.{IsGiven, IsIdle, IsRecording}
 use Rattle.isotp_receive.specs.FramesOf.{IsConsecutiveWithin, AreFramesOf, alone, together, AreGivenTheirFrames, CarriesMessage, IsGivenOnce, EachBelongsOnce}
-use Rattle.isotp_receive.specs.Heard.{placed}
+use Rattle.isotp_receive.proofs.Heard.{placed}
 use Rattle.isotp_receive.proofs.ListPositions.{get-same}
 use Rattle.isotp_receive.proofs.PositionLists.{above-least, below-last, last-in, numbered-in}
 use Rattle.isotp_receive.proofs.Directions.{same}

@@ -5,19 +5,18 @@ use Rattle.std.proofs.lemmas.Bool.{lt-ltb, le-ltb, le-leb, eq-eqb, cases_lt}
 use Rattle.std.proofs.lemmas.List.{take_all, get_or-drop}
 use Rattle.std.proofs.lemmas.Grind.{get_or_after_one}
 use Rattle.can_log.specs.declared.frame.Dir.{Dir}
-use Rattle.isotp_receive.specs.declared.reception.Judged.TheVariants as judged_as
 use Rattle.isotp_receive.specs.Trace.{Entry, consecutive, role, At}
 use Rattle.isotp_receive.specs.Places.{bytes_in_first, bytes_before, FitsAs}
 use Rattle.isotp_receive.specs.OnTime.{n_cr}
-use Rattle.isotp_receive.specs.Standing.{Standing}
-use Rattle.isotp_receive.specs.Verdict.{is_on_time, expected, has_length}
+use Rattle.isotp_receive.specs.Fit.{one_more, last}
+use Rattle.isotp_receive.specs.Standing.{Standing, is_on_time, expected, has_length, fit_of}
 use Rattle.isotp_receive.specs.Recording.{IsSegmented}
-use Rattle.isotp_receive.specs.Machine.{after, fresh, judged}
+use Rattle.isotp_receive.specs.Machine.{after, fresh}
 use Rattle.isotp_receive.proofs.Fronts.{front-goes-on}
 use Rattle.isotp_receive.proofs.ListPositions.{get-same}
 use Rattle.isotp_receive.proofs.Readings.{first_from, next_from}
 use Rattle.isotp_receive.proofs.Fits.{fits-more, fits-last}
-use Rattle.isotp_receive.proofs.Judgement.{is-more, is-last}
+use Rattle.isotp_receive.proofs.FitTests.{is-more, is-last}
 use Rattle.isotp_receive.proofs.References.{moved, same-reference, begins-at}
 use Rattle.isotp_receive.proofs.HeardByRole.{completed}
 use Rattle.isotp_receive.proofs.UnderWay.{UnderWay}
@@ -78,8 +77,8 @@ module _ (limit : ℕ) (T : List Entry) (d : Dir) (n : ℕ) (e : Entry) (at : At
 
   -- ---- the last one
 
-  judged-last : (st : Standing) (m : List ℕ) (s : UnderWay T d n st m (n ∷ [])) → judged st e.micros s.parts.0.sequence_number s.parts.0.can_dl ≡ judged_as.Last
-  judged-last st m s =
+  fits-as-last : (st : Standing) (m : List ℕ) (s : UnderWay T d n st m (n ∷ [])) → fit_of st e.micros s.parts.0.sequence_number s.parts.0.can_dl ≡ last
+  fits-as-last st m s =
       let next = is-next st m [] s in
       let part = s.parts.0 in
       let r = s.start.rx_dl in
@@ -113,16 +112,16 @@ module _ (limit : ℕ) (T : List Entry) (d : Dir) (n : ℕ) (e : Entry) (at : At
       let announces = s.announces in
       let whole_len : st.len ≡ length m = s.len ∙ s.announces in
       let enough : length m ≤ bytes_before s.in_first r s.number + length part.bytes = omega arith in
-      rw (next.kind, judged-last st m s) (ap (λ l. l ∷ []) (ap (λ j. take j (st.bytes ++ part.bytes)) whole_len ∙ next.grown ∙ take_all _ m enough))
+      rw (next.kind, fits-as-last st m s) (ap (λ l. l ∷ []) (ap (λ j. take j (st.bytes ++ part.bytes)) whole_len ∙ next.grown ∙ take_all _ m enough))
 
   pub last-after : (st : Standing) (m : List ℕ) (s : UnderWay T d n st m (n ∷ [])) → after limit (Some st) e.micros (role d e) ≡ None
-  last-after st m s = let next = is-next st m [] s in rw (next.kind, judged-last st m s) refl
+  last-after st m s = let next = is-next st m [] s in rw (next.kind, fits-as-last st m s) refl
 
   -- ---- one that is not the last
 
   module _ (st : Standing) (m : List ℕ) (c : ℕ) (cs : List ℕ) (s : UnderWay T d n st m (n ∷ c ∷ cs)) where
-    judged-more : judged st e.micros s.parts.0.sequence_number s.parts.0.can_dl ≡ judged_as.More
-    judged-more =
+    fits-as-more : fit_of st e.micros s.parts.0.sequence_number s.parts.0.can_dl ≡ one_more
+    fits-as-more =
         let next = is-next st m (c ∷ cs) s in
         let part = s.parts.0 in
         let left = s.left in
@@ -140,10 +139,10 @@ module _ (limit : ℕ) (T : List Entry) (d : Dir) (n : ℕ) (e : Entry) (at : At
     grown-by = record st { taken = st.taken + 1; bytes = st.bytes ++ s.parts.0.bytes; reference = e.micros }
 
     pub more-told : completed (Some st) e.micros (role d e) ≡ []
-    more-told = let next = is-next st m (c ∷ cs) s in rw (next.kind, judged-more) refl
+    more-told = let next = is-next st m (c ∷ cs) s in rw (next.kind, fits-as-more) refl
 
     pub more-after : after limit (Some st) e.micros (role d e) ≡ Some grown-by
-    more-after = let next = is-next st m (c ∷ cs) s in rw (next.kind, judged-more) refl
+    more-after = let next = is-next st m (c ∷ cs) s in rw (next.kind, fits-as-more) refl
 
     pub more-under-way : UnderWay T d (suc n) grown-by m (c ∷ cs)
     more-under-way =

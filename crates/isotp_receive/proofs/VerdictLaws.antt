@@ -24,11 +24,11 @@ use Rattle.isotp_receive.specs.VerdictTable.{wrong_number, wrong_length, stored_
 use Rattle.isotp_receive.specs.Delivers.{in_frames}
 use Rattle.isotp_receive.proofs.ListPositions.{get-same, get-here}
 use Rattle.isotp_receive.proofs.Directions.{same-self}
-use Rattle.isotp_receive.proofs.Judgement.{last-ends-nothing}
+use Rattle.isotp_receive.proofs.FitTests.{last-ends-nothing}
 use Rattle.isotp_receive.proofs.StandingLaws.{stands-open, open-stands}
 use Rattle.isotp_receive.proofs.DeliversLaws.{message-delivers}
-use Rattle.isotp_receive.proofs.JudgedFrames as judged
-use Rattle.isotp_receive.proofs.JudgedFrames.{on-own, ended-is}
+use Rattle.isotp_receive.proofs.FittedFrames as fitted
+use Rattle.isotp_receive.proofs.FittedFrames.{on-own, ended-is}
 
 -- ---- the verdict, by the reading of the frame
 
@@ -100,14 +100,17 @@ tabled limit T e _ (too_long len rx_dl bytes x h over ends) =
     ∙ both _ x (dropped (reason.TooLong len)) (ends-so limit T e x ends) (ap (λ b. cond b began (dropped (reason.TooLong len))) (lt-leb len limit over))
 tabled limit T e _ (next_unexpected sequence_number can_dl bytes h none) =
     verdict-by limit T e _ h ∙ ap (λ o. on_consecutive e.dir o e.micros sequence_number can_dl bytes) (none-open limit T e e.dir none)
-tabled limit T e _ (next_late sequence_number can_dl bytes i k h o off) =
-    judged.late limit T e i k sequence_number can_dl bytes (role-by e sequence_number can_dl bytes h) o off
-tabled limit T e _ (wrong_number sequence_number can_dl bytes i k h o on apart) =
-    judged.number limit T e i k sequence_number can_dl bytes (role-by e sequence_number can_dl bytes h) o on apart
-tabled limit T e _ (wrong_length sequence_number can_dl bytes i k h o on number apart) =
-    judged.size limit T e i k sequence_number can_dl bytes (role-by e sequence_number can_dl bytes h) o on number apart
-tabled limit T e _ (stored_frame sequence_number can_dl bytes i k h o on fits less) =
-    judged.kept limit T e i k sequence_number can_dl bytes (role-by e sequence_number can_dl bytes h) o on fits less
+tabled limit T e _ (next_late n) =
+    fitted.late limit T e n.begun n.number n.sequence_number n.can_dl n.bytes (role-by e n.sequence_number n.can_dl n.bytes n.read) n.reception n.fits
+tabled limit T e _ (wrong_number n) =
+    fitted.number limit T e n.begun n.number n.sequence_number n.can_dl n.bytes (role-by e n.sequence_number n.can_dl n.bytes n.read) n.reception
+    n.fits.0 n.fits.1
+tabled limit T e _ (wrong_length n) =
+    fitted.size limit T e n.begun n.number n.sequence_number n.can_dl n.bytes (role-by e n.sequence_number n.can_dl n.bytes n.read) n.reception
+    n.fits.0 n.fits.1 n.fits.2
+tabled limit T e _ (stored_frame n) =
+    fitted.kept limit T e n.begun n.number n.sequence_number n.can_dl n.bytes (role-by e n.sequence_number n.can_dl n.bytes n.read) n.reception
+    n.fits.0 n.fits.1 n.fits.2
 tabled limit T e _ (last_frame m c) =
     let is_e : c.frame ≡ e = get-same (T ++ e ∷ []) (length T) c.frame e c.stands (get-here T [] e) in
     let goes : role e.dir e ≡ consecutive c.sequence_number c.can_dl c.bytes = ap (role e.dir) (sym is_e) ∙ c.kind in
@@ -143,7 +146,7 @@ consecutive-row limit T e sequence_number can_dl bytes None h is =
     (refused None reason.NextUnexpected, next_unexpected sequence_number can_dl bytes h (nothing-open limit T e e.dir is))
 consecutive-row limit T e sequence_number can_dl bytes (Some st) h is =
     let s = stands-open limit T (e ∷ []) e.dir st is in
-    judged.has-row limit T e s.begun s.number sequence_number can_dl bytes (role-by e sequence_number can_dl bytes h) s.is_open h
+    fitted.has-row limit T e s.begun s.number sequence_number can_dl bytes (role-by e sequence_number can_dl bytes h) s.is_open h
 
 overflow-row : (limit : ℕ) (T : List Entry) (e : Entry) (i k : ℕ) → layout_of e.frame ≡ Ok (layout.flow_control Overflow)
     → IsOpenBefore limit T e (other_direction e.dir) i k → (a : EventValue) × HasVerdict limit T e a

@@ -12,8 +12,10 @@ use Rattle.isotp_receive.specs.declared.event.Cause.TheVariants as cause
 use Rattle.isotp_receive.specs.declared.event.Ended.{Ended}
 use Rattle.isotp_receive.specs.declared.event.Reason.TheVariants as reason
 use Rattle.isotp_receive.specs.Trace.{Entry, FirstFrame}
-use Rattle.isotp_receive.specs.Places.{bytes_in_first, FitsAs}
+use Rattle.isotp_receive.specs.Places.{bytes_in_first}
 use Rattle.isotp_receive.specs.OnTime.{IsOnTime}
+use Rattle.isotp_receive.specs.Fit.{Fit, FitsSo}
+use Rattle.isotp_receive.specs.Fit as fit
 use Rattle.isotp_receive.specs.OpenReception.{IsOpenAt}
 use Rattle.isotp_receive.specs.Delivers.{Completes}
 use Rattle.isotp_receive.specs.Verdict.{EventValue, message, began, stored, flowed, refused}
@@ -37,16 +39,17 @@ EndsByNewStart limit T e (Some ended) =
     (begun : ℕ) × (number : ℕ) × (reception : IsOpenBefore limit T e e.dir begun number)
     × (ended ≡ ended_by e.dir reception.start cause.NewStart)
 
--- the consecutive frame e, of a reception that began at `begun`, is on time
-abbrev pub ComesOnTime : ℕ → List Entry → Entry → ℕ → Type 0
-ComesOnTime limit T e begun = IsOnTime (T ++ e ∷ []) e.dir begun (length T) e
-
--- and it fits as the next one of the reception that is open
-abbrev pub FitsNext :
-    (limit : ℕ) (T : List Entry) (e : Entry) (begun number sequence_number can_dl : ℕ) → IsOpenBefore limit T e e.dir begun number → Type 0
-FitsNext limit T e begun number sequence_number can_dl reception =
-    FitsAs (bytes_in_first reception.frame.frame.bytes) reception.start.rx_dl reception.start.len
-    reception.count (number + 1) sequence_number can_dl
+-- e is a consecutive frame, a reception of its direction is open when it comes, and so it fits as the next one
+pub record FitsOpen (limit : ℕ) (T : List Entry) (e : Entry) (fit : Fit) : Type 0 where
+  pub sequence_number : ℕ
+  pub can_dl : ℕ
+  pub bytes : List ℕ
+  pub read : layout_of e.frame ≡ Ok (layout.consecutive sequence_number can_dl bytes)
+  pub begun : ℕ
+  pub number : ℕ
+  pub reception : IsOpenBefore limit T e e.dir begun number
+  pub fits : FitsSo (bytes_in_first reception.frame.frame.bytes) reception.start.rx_dl reception.start.len reception.count (number + 1)
+      sequence_number can_dl (IsOnTime (T ++ e ∷ []) e.dir begun (length T) e) fit
 
 -- the verdict on the frame e after the frames T
 pub data HasVerdict (limit : ℕ) (T : List Entry) (e : Entry) : EventValue → Type 0 where
@@ -67,24 +70,14 @@ pub data HasVerdict (limit : ℕ) (T : List Entry) (e : Entry) : EventValue → 
   next_unexpected : (sequence_number can_dl : ℕ) (bytes : List ℕ)
       → layout_of e.frame ≡ Ok (layout.consecutive sequence_number can_dl bytes) → NothingOpen limit T e e.dir
       → HasVerdict limit T e (refused None reason.NextUnexpected)
-  next_late : (sequence_number can_dl : ℕ) (bytes : List ℕ) (begun number : ℕ)
-      → layout_of e.frame ≡ Ok (layout.consecutive sequence_number can_dl bytes)
-      → (reception : IsOpenBefore limit T e e.dir begun number) → (ComesOnTime limit T e begun → ⊥)
-      → HasVerdict limit T e (refused (Some (ended_by e.dir reception.start cause.Late)) reason.NextLate)
-  wrong_number : (sequence_number can_dl : ℕ) (bytes : List ℕ) (begun number : ℕ)
-      → layout_of e.frame ≡ Ok (layout.consecutive sequence_number can_dl bytes)
-      → (reception : IsOpenBefore limit T e e.dir begun number) → ComesOnTime limit T e begun → sequence_number ≢ (number + 1) % 16
+  next_late : (next : FitsOpen limit T e fit.late)
+      → HasVerdict limit T e (refused (Some (ended_by e.dir next.reception.start cause.Late)) reason.NextLate)
+  wrong_number : (next : FitsOpen limit T e fit.wrong_number)
       → HasVerdict limit T e
-      (refused (Some (ended_by e.dir reception.start cause.Sequence)) (reason.NextSequence ((number + 1) % 16) sequence_number))
-  wrong_length : (sequence_number can_dl : ℕ) (bytes : List ℕ) (begun number : ℕ)
-      → layout_of e.frame ≡ Ok (layout.consecutive sequence_number can_dl bytes)
-      → (reception : IsOpenBefore limit T e e.dir begun number) → ComesOnTime limit T e begun → sequence_number ≡ (number + 1) % 16
-      → (FitsNext limit T e begun number sequence_number can_dl reception → ⊥)
-      → HasVerdict limit T e (refused (Some (ended_by e.dir reception.start cause.Length)) reason.NextLength)
-  stored_frame : (sequence_number can_dl : ℕ) (bytes : List ℕ) (begun number : ℕ)
-      → layout_of e.frame ≡ Ok (layout.consecutive sequence_number can_dl bytes)
-      → (reception : IsOpenBefore limit T e e.dir begun number) → ComesOnTime limit T e begun
-      → FitsNext limit T e begun number sequence_number can_dl reception → number + 1 < reception.count
+      (refused (Some (ended_by e.dir next.reception.start cause.Sequence)) (reason.NextSequence ((next.number + 1) % 16) next.sequence_number))
+  wrong_length : (next : FitsOpen limit T e fit.wrong_length)
+      → HasVerdict limit T e (refused (Some (ended_by e.dir next.reception.start cause.Length)) reason.NextLength)
+  stored_frame : FitsOpen limit T e fit.one_more
       → HasVerdict limit T e (record { ended = None; told = stored })
   last_frame : (whole : List ℕ) → Completes limit (T ++ e ∷ []) (length T) e.dir whole
       → HasVerdict limit T e (record { ended = None; told = message whole })

@@ -10,9 +10,10 @@ use Rattle.isotp_pdu.specs.Reading.{layout_of}
 use Rattle.isotp_receive.specs.Trace.{Entry, At}
 use Rattle.isotp_receive.specs.Places.{bytes_in_first, bytes_before, FitsAs}
 use Rattle.isotp_receive.specs.OnTime.{n_cr, IsReference, IsOnTime}
-use Rattle.isotp_receive.specs.Standing.{Standing, fits_length, stands}
+use Rattle.isotp_receive.specs.Fit.{one_more, last}
+use Rattle.isotp_receive.specs.Standing.{Standing, fits_length, wants_more, stands}
 use Rattle.isotp_receive.specs.OpenReception.{IsOpenAt}
-use Rattle.isotp_receive.specs.Verdict.{verdict, wants_more}
+use Rattle.isotp_receive.specs.Verdict.{on_fit, verdict}
 use Rattle.isotp_receive.specs.CleanTrace.{IsCleanEvent}
 use Rattle.isotp_receive.proofs.Promises.{what_stands_is_open, what_is_open_stands, one_is_open, places_agree_on_fit, one_reference}
 use Rattle.isotp_segment.proofs.OpenReceptions.{IsClosedAt, same-entry}
@@ -78,7 +79,7 @@ module _ (limit : ℕ) (T rest : List Entry) (d : Dir) (begun number : ℕ)
       let next : (sequence_number == (standing.taken + 1) % 16) ≡ true = eq-eqb _ _ (fit.0 ∙ ap (λ n. (n + 1) % 16) (sym k.taken)) in
       let size : fits_length standing.len standing.rx_dl (length standing.bytes) can_dl ≡ true = rw (k.len, k.rx_dl, k.size) fit.1 in
       rw (own, is, k.standing_there, time, next, size)
-      (cond_both (wants_more standing) _ _ IsCleanEvent
+      (cond_both (wants_more standing) one_more last (λ fit. IsCleanEvent (on_fit e.dir standing fit sequence_number bytes))
       (λ _. record { goes_on = refl; kept = tt })
       (λ _. record { goes_on = refl; kept = tt }))
 
