@@ -75,26 +75,32 @@ module _ (limit : ℕ) (d : Dir) (before : List Entry) (e0 : Entry) (s : FirstFr
       let enough : s.len ≤ length (s.bytes ++ carried d since) + length bytes = omega arith in
       let regroup : before ++ e0 ∷ (since ++ x ∷ rest) ≡ (before ++ e0 ∷ since) ++ x ∷ rest = sym (append_assoc before (e0 ∷ since) (x ∷ rest)) in
       record {
-        begun = length before;
-        number = k;
-        is_open = o;
-        last = all_came;
-        frame = x;
-        sequence_number = sequence_number;
-        can_dl = can_dl;
-        bytes = bytes;
-        stands = get-behind (before ++ e0 ∷ (since ++ x ∷ rest)) (before ++ e0 ∷ since) rest (suc (length before) + length since) x regroup
-            (omega (arith, length-append before (e0 ∷ since)));
-        kind = goes;
-        fits = record {
-          from_one = omega arith;
-          to_last = omega arith;
-          in_sequence = w.number;
-          full = λ less. absurd (omega arith);
-          last_low = λ same. omega arith;
-          last_high = λ same. w.high;
+        fit = record {
+          begun = length before;
+          number = k;
+          is_open = o;
+          next = record {
+            frame = x;
+            stands = get-behind (before ++ e0 ∷ (since ++ x ∷ rest)) (before ++ e0 ∷ since) rest (suc (length before) + length since) x regroup
+                (omega (arith, length-append before (e0 ∷ since)));
+            sequence_number = sequence_number;
+            can_dl = can_dl;
+            bytes = bytes;
+            kind = goes;
+          };
+          fits = (
+            on-time-from _ d (length before) _ (reference d s.micros since) x (refers d before e0 s since (x ∷ rest) begins) (le-leb _ _ w.on_time),
+            record {
+              from_one = omega arith;
+              to_last = omega arith;
+              in_sequence = w.number;
+              full = λ less. absurd (omega arith);
+              last_low = λ same. omega arith;
+              last_high = λ same. w.high;
+            },
+            all_came,
+          );
         };
-        on_time = on-time-from _ d (length before) _ (reference d s.micros since) x (refers d before e0 s since (x ∷ rest) begins) (le-leb _ _ w.on_time);
         size = omega (arith, length-take s.len ((s.bytes ++ carried d since) ++ bytes), length-append (s.bytes ++ carried d since) bytes);
         places = whole-at limit d before e0 s since begins opens rest x sequence_number can_dl bytes goes enough ends;
       }
@@ -125,43 +131,44 @@ completed-in : (limit : ℕ) (T : List Entry) (d : Dir) (e : Entry) (m : List �
     → completed (stands limit d T) e.micros (role d e) ≡ m ∷ []
 unfolding completes
 completed-in limit T d e m c =
-    let o = c.is_open in
-    let s = o.start in
-    let is_e : c.frame ≡ e = get-same (T ++ e ∷ []) (length T) c.frame e c.stands (get-here T [] e) in
-    let goes : role d e ≡ consecutive c.sequence_number c.can_dl c.bytes = ap (role d) (sym is_e) ∙ c.kind in
-    let w = stands-there limit d T (e ∷ []) c.begun c.number o in
+    let next = c.fit.next in
+    let o = c.fit.is_open in
+    let s = o.begins.start in
+    let is_e : next.frame ≡ e = get-same (T ++ e ∷ []) (length T) next.frame e next.stands (get-here T [] e) in
+    let goes : role d e ≡ consecutive next.sequence_number next.can_dl next.bytes = ap (role d) (sym is_e) ∙ next.kind in
+    let w = stands-there limit d T (e ∷ []) c.fit.begun c.fit.number o in
     let before = w.before in
     let since = w.since in
     let taken = w.taken in
     let st = standing_of d s since in
-    let now : stands limit d T ≡ Some st = ap (stands limit d) w.splits ∙ open-stands-here limit d before since o.frame s o.kind w.opens in
-    let whole : T ++ e ∷ [] ≡ before ++ o.frame ∷ (since ++ e ∷ []) = sym (regrouped T (e ∷ []) before since o.frame w.splits) in
-    let ends = split-length T before since o.frame w.splits in
-    let size = come-by-places limit d o.frame s since o.kind w.opens in
-    let ends_all = c.last in
+    let now : stands limit d T ≡ Some st = ap (stands limit d) w.splits ∙ open-stands-here limit d before since o.begins.frame s o.begins.kind w.opens in
+    let whole : T ++ e ∷ [] ≡ before ++ o.begins.frame ∷ (since ++ e ∷ []) = sym (regrouped T (e ∷ []) before since o.begins.frame w.splits) in
+    let ends = split-length T before since o.begins.frame w.splits in
+    let size = come-by-places limit d o.begins.frame s since o.begins.kind w.opens in
+    let ends_all = c.fit.fits.2 in
     let below : consecutive_frames_in d since < o.count = omega arith in
     let product = ap (λ j. j * (s.rx_dl - 1)) taken in
-    let fit = (fits-join (bytes_in_first o.frame.frame.bytes) s.rx_dl s.len o.count (consecutive_frames_in d since) c.sequence_number c.can_dl o.least below).0
-    (subst (λ k. FitsAs (bytes_in_first o.frame.frame.bytes) s.rx_dl s.len o.count (k + 1) c.sequence_number c.can_dl) taken c.fits) in
-    let on : IsOnTime (before ++ o.frame ∷ (since ++ e ∷ [])) d (length before) (suc (length before) + length since) e =
-    on-time-same d _ _ _ _ _ _ _ _ whole (sym w.place) (sym ends) is_e c.on_time in
-    let on_time = on-time-to _ d (length before) _ (reference d s.micros since) e (refers d before o.frame s since (e ∷ []) o.kind) on in
+    let fit = (fits-join (bytes_in_first o.begins.frame.frame.bytes) s.rx_dl s.len o.count (consecutive_frames_in d since) next.sequence_number next.can_dl o.least below).0
+    (subst (λ k. FitsAs (bytes_in_first o.begins.frame.frame.bytes) s.rx_dl s.len o.count (k + 1) next.sequence_number next.can_dl) taken c.fit.fits.1) in
+    let on : IsOnTime (before ++ o.begins.frame ∷ (since ++ e ∷ [])) d (length before) (suc (length before) + length since) e =
+    on-time-same d _ _ _ _ _ _ _ _ whole (sym w.place) (sym ends) is_e c.fit.fits.0 in
+    let on_time = on-time-to _ d (length before) _ (reference d s.micros since) e (refers d before o.begins.frame s since (e ∷ []) o.begins.kind) on in
     let all : o.count ≡ consecutive_frames_in d since + 1 = omega arith in
     let product_all = ap (λ j. j * (s.rx_dl - 1)) all in
     let enough = o.least.enough in
     let short : st.len ≤ length st.bytes + (st.rx_dl - 1) = omega arith in
-    let fits : has_length st c.can_dl ≡ true = subst (λ h. fits_length s.len s.rx_dl h c.can_dl ≡ true) (sym size) fit.1 in
-    let j : fit_of st e.micros c.sequence_number c.can_dl ≡ last =
-    is-last st e.micros c.sequence_number c.can_dl on_time (eq-eqb _ _ fit.0) fits (le-ltb _ _ short) in
-    let got = completes limit d before o.frame s since [] o.kind w.opens e c.sequence_number c.can_dl c.bytes goes j in
-    let from = first_from d o.frame s o.kind in
-    let places : AtPlaces (before ++ o.frame ∷ (since ++ e ∷ [])) d (length before) o.frame s.rx_dl m =
-    subst (λ i. AtPlaces (before ++ o.frame ∷ (since ++ e ∷ [])) d i o.frame s.rx_dl m) (sym w.place)
-    (subst (λ t. AtPlaces t d c.begun o.frame s.rx_dl m) whole c.places) in
-    let same : take s.len ((s.bytes ++ carried d since) ++ c.bytes) ≡ m =
-    same-message (before ++ o.frame ∷ (since ++ e ∷ [])) d (length before) o.frame s.rx_dl (take s.len ((s.bytes ++ carried d since) ++ c.bytes)) m
+    let fits : has_length st next.can_dl ≡ true = subst (λ h. fits_length s.len s.rx_dl h next.can_dl ≡ true) (sym size) fit.1 in
+    let j : fit_of st e.micros next.sequence_number next.can_dl ≡ last =
+    is-last st e.micros next.sequence_number next.can_dl on_time (eq-eqb _ _ fit.0) fits (le-ltb _ _ short) in
+    let got = completes limit d before o.begins.frame s since [] o.begins.kind w.opens e next.sequence_number next.can_dl next.bytes goes j in
+    let from = first_from d o.begins.frame s o.begins.kind in
+    let places : AtPlaces (before ++ o.begins.frame ∷ (since ++ e ∷ [])) d (length before) o.begins.frame s.rx_dl m =
+    subst (λ i. AtPlaces (before ++ o.begins.frame ∷ (since ++ e ∷ [])) d i o.begins.frame s.rx_dl m) (sym w.place)
+    (subst (λ t. AtPlaces t d c.fit.begun o.begins.frame s.rx_dl m) whole c.places) in
+    let same : take s.len ((s.bytes ++ carried d since) ++ next.bytes) ≡ m =
+    same-message (before ++ o.begins.frame ∷ (since ++ e ∷ [])) d (length before) o.begins.frame s.rx_dl (take s.len ((s.bytes ++ carried d since) ++ next.bytes)) m
     (omega arith) got.places places (got.size ∙ sym c.size) in
-    let told : completed_by (fit_of st e.micros c.sequence_number c.can_dl) st c.bytes ≡ m ∷ [] = ap (λ j. completed_by j st c.bytes) j ∙ ap (λ x. x ∷ []) same in
+    let told : completed_by (fit_of st e.micros next.sequence_number next.can_dl) st next.bytes ≡ m ∷ [] = ap (λ j. completed_by j st next.bytes) j ∙ ap (λ x. x ∷ []) same in
     ap (λ x. completed x e.micros (role d e)) now ∙ ap (completed (Some st) e.micros) goes ∙ told
 
 completed-all : (limit : ℕ) (T : List Entry) (d : Dir) (e : Entry) (m : List ℕ) → Delivers limit (T ++ e ∷ []) (length T) d m
