@@ -132,7 +132,7 @@ module _ (limit : ℕ) (T : List Entry) (d : Dir) (n : ℕ) (e : Entry) (at : At
       → Advanced limit T d n e (after limit o e.micros r) ps (completed o e.micros r)
   advance _ _ nothing _ kind (t_single m closed) wide =
       let whole = whole_from d e m kind in
-      deliver [] (n ∷ []) m (record { some = whole.some; fits = (let few = whole.few in omega arith); rising = (omega arith, tt); carried = unsegmented e at kind })
+      deliver [] (n ∷ []) m (record { some = whole.some; fits = (let few = whole.few in omega arith); rising = (omega arith, tt); carried = unsegmented (record { entry = e; stands = at; kind = kind }) })
       refl (λ p a. absurd a) only_new (λ p a. elim a [ inl is ↦ omega arith | inr none ↦ absurd none ]) (inl refl) (rw kind tt)
   advance _ _ nothing _ kind (t_first s closed fits) wide =
       rw (le-leb _ _ fits) (keep (Some (fresh s)) [] (n ∷ []) (under (begun limit T d n e at s kind fits)) (λ p a. absurd a) only_new (λ _. inl refl))

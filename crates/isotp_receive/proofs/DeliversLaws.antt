@@ -80,7 +80,7 @@ module _ (limit : ℕ) (d : Dir) (before : List Entry) (e0 : Entry) (s : FirstFr
           number = k;
           is_open = o;
           next = record {
-            frame = x;
+            entry = x;
             stands = get-behind (before ++ e0 ∷ (since ++ x ∷ rest)) (before ++ e0 ∷ since) rest (suc (length before) + length since) x regroup
                 (omega (arith, length-append before (e0 ∷ since)));
             sequence_number = sequence_number;
@@ -107,7 +107,7 @@ module _ (limit : ℕ) (d : Dir) (before : List Entry) (e0 : Entry) (s : FirstFr
 
 delivered : (limit : ℕ) (T : List Entry) (d : Dir) (e : Entry) (rest : List Entry) (m : List ℕ) (ms : List (List ℕ)) (r : Role) (o : Option Standing)
     → role d e ≡ r → stands limit d T ≡ o → completed o e.micros r ≡ m ∷ ms → Delivers limit (T ++ e ∷ rest) (length T) d m
-delivered limit T d e rest m ms (single x) o is now h = in_one_frame e (get-here T rest e) (let same : x ≡ m = cc in is ∙ ap single same)
+delivered limit T d e rest m ms (single x) o is now h = in_one_frame (record { entry = e; stands = get-here T rest e; kind = (let same : x ≡ m = cc in is ∙ ap single same) })
 delivered limit T d e rest m ms (consecutive sequence_number can_dl bytes) None is now h = absurd (cc)
 delivered limit T d e rest m ms (consecutive sequence_number can_dl bytes) (Some st) is now h =
     let w = found limit d T st now in
@@ -134,25 +134,25 @@ completed-in limit T d e m c =
     let next = c.fit.next in
     let o = c.fit.is_open in
     let s = o.begins.start in
-    let is_e : next.frame ≡ e = get-same (T ++ e ∷ []) (length T) next.frame e next.stands (get-here T [] e) in
+    let is_e : next.entry ≡ e = get-same (T ++ e ∷ []) (length T) next.entry e next.stands (get-here T [] e) in
     let goes : role d e ≡ consecutive next.sequence_number next.can_dl next.bytes = ap (role d) (sym is_e) ∙ next.kind in
     let w = stands-there limit d T (e ∷ []) c.fit.begun c.fit.number o in
     let before = w.before in
     let since = w.since in
     let taken = w.taken in
     let st = standing_of d s since in
-    let now : stands limit d T ≡ Some st = ap (stands limit d) w.splits ∙ open-stands-here limit d before since o.begins.frame s o.begins.kind w.opens in
-    let whole : T ++ e ∷ [] ≡ before ++ o.begins.frame ∷ (since ++ e ∷ []) = sym (regrouped T (e ∷ []) before since o.begins.frame w.splits) in
-    let ends = split-length T before since o.begins.frame w.splits in
-    let size = come-by-places limit d o.begins.frame s since o.begins.kind w.opens in
+    let now : stands limit d T ≡ Some st = ap (stands limit d) w.splits ∙ open-stands-here limit d before since o.begins.entry s o.begins.kind w.opens in
+    let whole : T ++ e ∷ [] ≡ before ++ o.begins.entry ∷ (since ++ e ∷ []) = sym (regrouped T (e ∷ []) before since o.begins.entry w.splits) in
+    let ends = split-length T before since o.begins.entry w.splits in
+    let size = come-by-places limit d o.begins.entry s since o.begins.kind w.opens in
     let ends_all = c.fit.fits.2 in
     let below : consecutive_frames_in d since < o.count = omega arith in
     let product = ap (λ j. j * (s.rx_dl - 1)) taken in
-    let fit = (fits-join (bytes_in_first o.begins.frame.frame.bytes) s.rx_dl s.len o.count (consecutive_frames_in d since) next.sequence_number next.can_dl o.least below).0
-    (subst (λ k. FitsAs (bytes_in_first o.begins.frame.frame.bytes) s.rx_dl s.len o.count (k + 1) next.sequence_number next.can_dl) taken c.fit.fits.1) in
-    let on : IsOnTime (before ++ o.begins.frame ∷ (since ++ e ∷ [])) d (length before) (suc (length before) + length since) e =
+    let fit = (fits-join (bytes_in_first o.begins.entry.frame.bytes) s.rx_dl s.len o.count (consecutive_frames_in d since) next.sequence_number next.can_dl o.least below).0
+    (subst (λ k. FitsAs (bytes_in_first o.begins.entry.frame.bytes) s.rx_dl s.len o.count (k + 1) next.sequence_number next.can_dl) taken c.fit.fits.1) in
+    let on : IsOnTime (before ++ o.begins.entry ∷ (since ++ e ∷ [])) d (length before) (suc (length before) + length since) e =
     on-time-same d _ _ _ _ _ _ _ _ whole (sym w.place) (sym ends) is_e c.fit.fits.0 in
-    let on_time = on-time-to _ d (length before) _ (reference d s.micros since) e (refers d before o.begins.frame s since (e ∷ []) o.begins.kind) on in
+    let on_time = on-time-to _ d (length before) _ (reference d s.micros since) e (refers d before o.begins.entry s since (e ∷ []) o.begins.kind) on in
     let all : o.count ≡ consecutive_frames_in d since + 1 = omega arith in
     let product_all = ap (λ j. j * (s.rx_dl - 1)) all in
     let enough = o.least.enough in
@@ -160,22 +160,22 @@ completed-in limit T d e m c =
     let fits : has_length st next.can_dl ≡ true = subst (λ h. fits_length s.len s.rx_dl h next.can_dl ≡ true) (sym size) fit.1 in
     let j : fit_of st e.micros next.sequence_number next.can_dl ≡ last =
     is-last st e.micros next.sequence_number next.can_dl on_time (eq-eqb _ _ fit.0) fits (le-ltb _ _ short) in
-    let got = completes limit d before o.begins.frame s since [] o.begins.kind w.opens e next.sequence_number next.can_dl next.bytes goes j in
-    let from = first_from d o.begins.frame s o.begins.kind in
-    let places : AtPlaces (before ++ o.begins.frame ∷ (since ++ e ∷ [])) d (length before) o.begins.frame s.rx_dl m =
-    subst (λ i. AtPlaces (before ++ o.begins.frame ∷ (since ++ e ∷ [])) d i o.begins.frame s.rx_dl m) (sym w.place)
-    (subst (λ t. AtPlaces t d c.fit.begun o.begins.frame s.rx_dl m) whole c.places) in
+    let got = completes limit d before o.begins.entry s since [] o.begins.kind w.opens e next.sequence_number next.can_dl next.bytes goes j in
+    let from = first_from d o.begins.entry s o.begins.kind in
+    let places : AtPlaces (before ++ o.begins.entry ∷ (since ++ e ∷ [])) d (length before) o.begins.entry s.rx_dl m =
+    subst (λ i. AtPlaces (before ++ o.begins.entry ∷ (since ++ e ∷ [])) d i o.begins.entry s.rx_dl m) (sym w.place)
+    (subst (λ t. AtPlaces t d c.fit.begun o.begins.entry s.rx_dl m) whole c.places) in
     let same : take s.len ((s.bytes ++ carried d since) ++ next.bytes) ≡ m =
-    same-message (before ++ o.begins.frame ∷ (since ++ e ∷ [])) d (length before) o.begins.frame s.rx_dl (take s.len ((s.bytes ++ carried d since) ++ next.bytes)) m
+    same-message (before ++ o.begins.entry ∷ (since ++ e ∷ [])) d (length before) o.begins.entry s.rx_dl (take s.len ((s.bytes ++ carried d since) ++ next.bytes)) m
     (omega arith) got.places places (got.size ∙ sym c.size) in
     let told : completed_by (fit_of st e.micros next.sequence_number next.can_dl) st next.bytes ≡ m ∷ [] = ap (λ j. completed_by j st next.bytes) j ∙ ap (λ x. x ∷ []) same in
     ap (λ x. completed x e.micros (role d e)) now ∙ ap (completed (Some st) e.micros) goes ∙ told
 
 completed-all : (limit : ℕ) (T : List Entry) (d : Dir) (e : Entry) (m : List ℕ) → Delivers limit (T ++ e ∷ []) (length T) d m
     → completed (stands limit d T) e.micros (role d e) ≡ m ∷ []
-completed-all limit T d e m (in_one_frame x at kind) =
-    let is_e : x ≡ e = get-same (T ++ e ∷ []) (length T) x e at (get-here T [] e) in
-    let kind_e : role d e ≡ single m = ap (role d) (sym is_e) ∙ kind in
+completed-all limit T d e m (in_one_frame one) =
+    let is_e : one.entry ≡ e = get-same (T ++ e ∷ []) (length T) one.entry e one.stands (get-here T [] e) in
+    let kind_e : role d e ≡ single m = ap (role d) (sym is_e) ∙ one.kind in
     ap (completed (stands limit d T) e.micros) kind_e
 completed-all limit T d e m (in_frames c) = completed-in limit T d e m c
 

@@ -64,7 +64,7 @@ module _ (limit : ℕ) (T : List Entry) (e : Entry) (i k sequence_number can_dl 
   OnTime = IsOnTime (T ++ e ∷ []) e.dir i (length T) e
 
   abbrev pub Fits : Type 0
-  Fits = FitsAs (bytes_in_first o.begins.frame.frame.bytes) o.begins.start.rx_dl o.begins.start.len o.count (k + 1) sequence_number can_dl
+  Fits = FitsAs (bytes_in_first o.begins.entry.frame.bytes) o.begins.start.rx_dl o.begins.start.len o.count (k + 1) sequence_number can_dl
 
   -- ---- what stands, and its tests in the words of the table
 
@@ -85,17 +85,17 @@ module _ (limit : ℕ) (T : List Entry) (e : Entry) (i k sequence_number can_dl 
   meets =
       let d = e.dir in
       let s = o.begins.start in
-      let f = bytes_in_first o.begins.frame.frame.bytes in
+      let f = bytes_in_first o.begins.entry.frame.bytes in
       let w = stands-there limit d T (e ∷ []) i k o in
       let n = consecutive_frames_in d w.since in
       let st = standing_of d s w.since in
-      let now : stands limit d T ≡ Some st = ap (stands limit d) w.splits ∙ open-stands-here limit d w.before w.since o.begins.frame s o.begins.kind w.opens in
+      let now : stands limit d T ≡ Some st = ap (stands limit d) w.splits ∙ open-stands-here limit d w.before w.since o.begins.entry s o.begins.kind w.opens in
       let on : verdict limit T e ≡ on_consecutive d (Some st) e.micros sequence_number can_dl bytes =
       on-own limit T e sequence_number can_dl bytes goes ∙ ap (λ x. on_consecutive d x e.micros sequence_number can_dl bytes) now in
-      let whole : w.before ++ o.begins.frame ∷ (w.since ++ e ∷ []) ≡ T ++ e ∷ [] = regrouped T (e ∷ []) w.before w.since o.begins.frame w.splits in
-      let ends = split-length T w.before w.since o.begins.frame w.splits in
-      let ref = refers d w.before o.begins.frame s w.since (e ∷ []) o.begins.kind in
-      let size = come-by-places limit d o.begins.frame s w.since o.begins.kind w.opens in
+      let whole : w.before ++ o.begins.entry ∷ (w.since ++ e ∷ []) ≡ T ++ e ∷ [] = regrouped T (e ∷ []) w.before w.since o.begins.entry w.splits in
+      let ends = split-length T w.before w.since o.begins.entry w.splits in
+      let ref = refers d w.before o.begins.entry s w.since (e ∷ []) o.begins.kind in
+      let size = come-by-places limit d o.begins.entry s w.since o.begins.kind w.opens in
       let taken = w.taken in
       let product = ap (λ j. (j + 1) * (s.rx_dl - 1)) taken in
       let more = o.more in
@@ -171,18 +171,18 @@ module _ (limit : ℕ) (T : List Entry) (e : Entry) (i k sequence_number can_dl 
 
   last-row : (whole : List ℕ) → Delivers limit (T ++ e ∷ []) (length T) e.dir whole → (a : EventValue) × HasVerdict limit T e a
   last-row whole (in_frames c) = (record { ended = None; told = message whole }, last_frame whole c)
-  last-row whole (in_one_frame x at kind) =
-      let is_e : x ≡ e = get-same (T ++ e ∷ []) (length T) x e at (get-here T [] e) in
-      let one : single whole ≡ consecutive sequence_number can_dl bytes = sym kind ∙ ap (role e.dir) is_e ∙ goes in
+  last-row whole (in_one_frame one) =
+      let is_e : one.entry ≡ e = get-same (T ++ e ∷ []) (length T) one.entry e one.stands (get-here T [] e) in
+      let both : single whole ≡ consecutive sequence_number can_dl bytes = sym one.kind ∙ ap (role e.dir) is_e ∙ goes in
       absurd (cc)
 
   so : (f : Fit)
-      → FitsSo (bytes_in_first o.begins.frame.frame.bytes) o.begins.start.rx_dl o.begins.start.len o.count (k + 1) sequence_number can_dl OnTime f → FitsNext limit T e f
+      → FitsSo (bytes_in_first o.begins.entry.frame.bytes) o.begins.start.rx_dl o.begins.start.len o.count (k + 1) sequence_number can_dl OnTime f → FitsNext limit T e f
   so f fits = record {
     begun = i;
     number = k;
     is_open = o;
-    next = record { frame = e; stands = get-here T [] e; sequence_number = sequence_number; can_dl = can_dl; bytes = bytes; kind = goes };
+    next = record { entry = e; stands = get-here T [] e; sequence_number = sequence_number; can_dl = can_dl; bytes = bytes; kind = goes };
     fits = fits;
   }
 

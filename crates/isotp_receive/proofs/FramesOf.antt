@@ -118,8 +118,8 @@ own-within limit T ts t shared others i p x e first_in last_in low high at own =
 -- no other frame stands there
 not-consecutive : (T : List Entry) (d : Dir) (p : ℕ) (e : Entry) → At T p e → consecutive_by (role d e) ≡ 0 → ConsecutiveFrameAt T d p → ⊥
 not-consecutive T d p e at zero_by c =
-    let is_e : c.frame ≡ e = get-same T p c.frame e c.stands at in
-    let zero : consecutive_by (role d c.frame) ≡ 0 = ap (λ x. consecutive_by (role d x)) is_e ∙ zero_by in
+    let is_e : c.entry ≡ e = get-same T p c.entry e c.stands at in
+    let zero : consecutive_by (role d c.entry) ≡ 0 = ap (λ x. consecutive_by (role d x)) is_e ∙ zero_by in
     let one = ap consecutive_by c.kind in omega arith
 
 module _ (limit : ℕ) (T : List Entry) (d : Dir) (m : List ℕ) (i : ℕ) (cs : List ℕ) (l : IsSegmented T d m i cs) (rising : IsRisingFrom 0 (i ∷ cs))
@@ -136,13 +136,13 @@ module _ (limit : ℕ) (T : List Entry) (d : Dir) (m : List ℕ) (i : ℕ) (cs :
       let low = below-last 0 i i cs rising (inl refl) in
       elim (cases_lt c.fit.begun i) [
         | inl before ↦ absurd (elim (cases_lt i (last_or i cs)) [
-          | inl below ↦ no-first c.fit.is_open.begins.start l.begins.start _ _ _ _ (role d l.begins.frame) l.begins.kind (c.fit.is_open.each i l.begins.frame before below l.begins.stands)
+          | inl below ↦ no-first c.fit.is_open.begins.start l.begins.start _ _ _ _ (role d l.begins.entry) l.begins.kind (c.fit.is_open.each i l.begins.entry before below l.begins.stands)
           | inr most ↦ (let here : last_or i cs ≡ i = omega arith in
-              not-consecutive T d (last_or i cs) l.begins.frame (subst (λ j. At T j l.begins.frame) (sym here) l.begins.stands) (ap consecutive_by l.begins.kind) c.fit.next)
+              not-consecutive T d (last_or i cs) l.begins.entry (subst (λ j. At T j l.begins.entry) (sym here) l.begins.stands) (ap consecutive_by l.begins.kind) c.fit.next)
         ])
-        | inr from ↦ elim (mine c.fit.begun c.fit.is_open.begins.frame (omega arith) (omega arith) c.fit.is_open.begins.stands (rw c.fit.is_open.begins.kind tt)) [
+        | inr from ↦ elim (mine c.fit.begun c.fit.is_open.begins.entry (omega arith) (omega arith) c.fit.is_open.begins.stands (rw c.fit.is_open.begins.kind tt)) [
           | inl is ↦ is
-          | inr j ↦ absurd (not-consecutive T d c.fit.begun c.fit.is_open.begins.frame c.fit.is_open.begins.stands (ap consecutive_by c.fit.is_open.begins.kind) (at-cs c.fit.begun j))
+          | inr j ↦ absurd (not-consecutive T d c.fit.begun c.fit.is_open.begins.entry c.fit.is_open.begins.stands (ap consecutive_by c.fit.is_open.begins.kind) (at-cs c.fit.begun j))
         ]
       ]
 
@@ -153,7 +153,7 @@ module _ (limit : ℕ) (T : List Entry) (d : Dir) (m : List ℕ) (i : ℕ) (cs :
   of-within : (x : ℕ) → IsConsecutiveWithin T d i (last_or i cs) x → IsIn x cs
   of-within x w =
       let later = w.later in
-      elim (mine x w.next.frame (omega arith) w.within w.next.stands (rw w.next.kind tt)) [
+      elim (mine x w.next.entry (omega arith) w.within w.next.stands (rw w.next.kind tt)) [
         | inl is ↦ absurd (omega arith)
         | inr j ↦ j
       ]
@@ -161,7 +161,7 @@ module _ (limit : ℕ) (T : List Entry) (d : Dir) (m : List ℕ) (i : ℕ) (cs :
   -- the last of them is no single frame
   last-kind : (e : Entry) → At T (last_or i cs) e → role d e ≡ single m → ⊥
   last-kind e at kind = elim (last-in i cs) [
-    | inl is ↦ (let there : At T i e = subst (λ j. At T j e) is at in let is_e : e ≡ l.begins.frame = get-same T i e l.begins.frame there l.begins.stands in
+    | inl is ↦ (let there : At T i e = subst (λ j. At T j e) is at in let is_e : e ≡ l.begins.entry = get-same T i e l.begins.entry there l.begins.stands in
         apart m l.begins.start (sym kind ∙ ap (role d) is_e ∙ l.begins.kind))
     | inr j ↦ not-consecutive T d (last_or i cs) e at (ap consecutive_by kind) (at-cs (last_or i cs) j)
   ] where
@@ -169,14 +169,14 @@ module _ (limit : ℕ) (T : List Entry) (d : Dir) (m : List ℕ) (i : ℕ) (cs :
     apart m s h = cc
 
   segmented-frames : Delivers limit T (last_or i cs) d m → AreFramesOf limit T d m (i ∷ cs)
-  segmented-frames (in_one_frame e at kind) = absurd (last-kind e at kind)
+  segmented-frames (in_one_frame one) = absurd (last-kind one.entry one.stands one.kind)
   segmented-frames (in_frames c) = together c (started c) (λ x. (within-of x, of-within x))
 
 -- ---- each message is given the positions of its frames
 
 frames-of : (limit : ℕ) (T : List Entry) (d : Dir) (m ps : List ℕ) → Carries T d m ps → IsRisingFrom 0 ps → Delivers limit T (last_or 0 ps) d m
     → ((i p x : ℕ) (e : Entry) → IsIn i ps → IsIn p ps → i ≤ x → x ≤ p → At T x e → IsOwn (role d e) → IsIn x ps) → AreFramesOf limit T d m ps
-frames-of limit T d m _ (unsegmented e at kind) rising delivers mine = alone e at kind
+frames-of limit T d m _ (unsegmented one) rising delivers mine = alone one
 frames-of limit T d m _ (segmented {begun = i} {positions = cs} l) rising delivers mine =
     segmented-frames limit T d m i cs l rising (λ x e low high at own. mine i (last_or i cs) x e (inl refl) (last-in i cs) low high at own) delivers
 

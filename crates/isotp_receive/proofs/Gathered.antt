@@ -105,7 +105,7 @@ module _ (limit : ℕ) (T : List Entry) (d : Dir) (n : ℕ) (e : Entry) (at : At
         let r = u.start.rx_dl in
         let from = next_from d e sequence_number can_dl bytes kind in
         record {
-          next = record { frame = e; stands = at; sequence_number = sequence_number; can_dl = can_dl; bytes = bytes; kind = kind };
+          next = record { entry = e; stands = at; sequence_number = sequence_number; can_dl = can_dl; bytes = bytes; kind = kind };
           fits = fits;
           on_time = (u.latest, u.last, u.refers, u.at, rw u.time at late);
           holds = λ b lt inside.
@@ -218,7 +218,7 @@ module _ (limit : ℕ) (T : List Entry) (d : Dir) (n : ℕ) (e : Entry) (at : At
           last_high = λ same. omega arith;
         } in
         record {
-          begins = record { frame = u.frame; stands = u.here; start = u.start; kind = u.kind };
+          begins = record { entry = u.frame; stands = u.here; start = u.start; kind = u.kind };
           announces = omega arith;
           least = record {
             enough = omega arith;

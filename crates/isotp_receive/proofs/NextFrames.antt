@@ -45,7 +45,7 @@ module _ (limit : ℕ) (T : List Entry) (d : Dir) (n : ℕ) (e : Entry) (at : At
       let part = s.parts.0 in
       let f = s.in_first in
       let r = s.start.rx_dl in
-      let is_e : part.next.frame ≡ e = get-same T n part.next.frame e part.next.stands at in
+      let is_e : part.next.entry ≡ e = get-same T n part.next.entry e part.next.stands at in
       let kind : role d e ≡ consecutive part.next.sequence_number part.next.can_dl part.next.bytes = ap (role d) (sym is_e) ∙ part.next.kind in
       let from = next_from d e part.next.sequence_number part.next.can_dl part.next.bytes kind in
       let left = s.left in
@@ -187,14 +187,14 @@ module _ (limit : ℕ) (T : List Entry) (d : Dir) (n : ℕ) (e : Entry) (at : At
 
   pub begun-under-way : (m cs : List ℕ) (l : IsSegmented T d m n cs) → UnderWay T d (suc n) (fresh l.begins.start) m cs
   begun-under-way m cs l =
-      let is_e : l.begins.frame ≡ e = get-same T n l.begins.frame e l.begins.stands at in
-      let from = first_from d l.begins.frame l.begins.start l.begins.kind in
-      let f = bytes_in_first l.begins.frame.frame.bytes in
+      let is_e : l.begins.entry ≡ e = get-same T n l.begins.entry e l.begins.stands at in
+      let from = first_from d l.begins.entry l.begins.start l.begins.kind in
+      let f = bytes_in_first l.begins.entry.frame.bytes in
       let r = l.begins.start.rx_dl in
       let announces = l.announces in
       let grown = front-goes-on m [] l.begins.start.bytes 0 refl (omega arith) (λ b lt in_m.
-      l.holds (0 + b) (omega arith) ∙ ap (λ j. get_or l.begins.frame.frame.bytes j 0) (let j : r - f + (0 + b) ≡ r - f + b = omega arith in j)
-      ∙ sym (get_or-drop (r - f) l.begins.frame.frame.bytes b 0) ∙ ap (λ x. get_or x b 0) (sym from.lies)) in
+      l.holds (0 + b) (omega arith) ∙ ap (λ j. get_or l.begins.entry.frame.bytes j 0) (let j : r - f + (0 + b) ≡ r - f + b = omega arith in j)
+      ∙ sym (get_or-drop (r - f) l.begins.entry.frame.bytes b 0) ∙ ap (λ x. get_or x b 0) (sym from.lies)) in
       let sum : 0 + length l.begins.start.bytes ≡ bytes_before f r 0 = omega arith in
       record {
         begun = n;

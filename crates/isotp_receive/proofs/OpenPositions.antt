@@ -107,7 +107,7 @@ open-there limit d before e0 s since rest begins opens =
     record {
       later = omega arith;
       inside = omega (arith, length-append before (e0 ∷ (since ++ rest)), length-append since rest);
-      begins = record { frame = e0; stands = get-here before (since ++ rest) e0; start = s; kind = begins };
+      begins = record { entry = e0; stands = get-here before (since ++ rest) e0; start = s; kind = begins };
       fits = open_since.within;
       count = found.0;
       least = found.1;
@@ -133,52 +133,52 @@ module _ (limit : ℕ) (d : Dir) (T rest : List Entry) (begun number : ℕ) (o :
   pub record StandsThere : Type 0 where
     pub before : List Entry
     pub since : List Entry
-    pub splits : T ≡ before ++ o.begins.frame ∷ since
+    pub splits : T ≡ before ++ o.begins.entry ∷ since
     pub place : length before ≡ begun
     pub opens : is_open limit d o.begins.start since ≡ true
     pub taken : number ≡ consecutive_frames_in d since
 
   -- each frame since keeps it open
-  keeps-each : (before since : List Entry) → T ≡ before ++ o.begins.frame ∷ since → length before ≡ begun → number ≡ consecutive_frames_in d since
+  keeps-each : (before since : List Entry) → T ≡ before ++ o.begins.entry ∷ since → length before ≡ begun → number ≡ consecutive_frames_in d since
       → (b after : List Entry) (x : Entry) → since ≡ b ++ x ∷ after → keep d o.begins.start [] b ≡ true → keeps_by d o.begins.start b x.micros (role d x) ≡ true
   keeps-each before since is place taken b after x splits kept =
       let c = suc (length before) + length b in
       let size_since = ap length splits ∙ length-append b (x ∷ after) in
       let count_since = ap (consecutive_frames_in d) splits ∙ taken-append d b (x ∷ after) in
-      let ends = split-length T before since o.begins.frame is in
-      let whole : T ++ rest ≡ before ++ o.begins.frame ∷ (b ++ x ∷ (after ++ rest)) =
-      sym (regrouped T rest before since o.begins.frame is) ∙ ap (λ l. before ++ o.begins.frame ∷ l) (sym (regrouped since rest b after x splits)) in
-      let regroup : before ++ o.begins.frame ∷ (b ++ x ∷ (after ++ rest)) ≡ (before ++ o.begins.frame ∷ b) ++ x ∷ (after ++ rest) =
-      sym (append_assoc before (o.begins.frame ∷ b) (x ∷ (after ++ rest))) in
-      let at = get-behind (T ++ rest) (before ++ o.begins.frame ∷ b) (after ++ rest) c x (whole ∙ regroup) (omega (arith, length-append before (o.begins.frame ∷ b))) in
+      let ends = split-length T before since o.begins.entry is in
+      let whole : T ++ rest ≡ before ++ o.begins.entry ∷ (b ++ x ∷ (after ++ rest)) =
+      sym (regrouped T rest before since o.begins.entry is) ∙ ap (λ l. before ++ o.begins.entry ∷ l) (sym (regrouped since rest b after x splits)) in
+      let regroup : before ++ o.begins.entry ∷ (b ++ x ∷ (after ++ rest)) ≡ (before ++ o.begins.entry ∷ b) ++ x ∷ (after ++ rest) =
+      sym (append_assoc before (o.begins.entry ∷ b) (x ∷ (after ++ rest))) in
+      let at = get-behind (T ++ rest) (before ++ o.begins.entry ∷ b) (after ++ rest) c x (whole ∙ regroup) (omega (arith, length-append before (o.begins.entry ∷ b))) in
       let leaves = o.each c x (omega arith) (omega arith) at in
       let here : between (T ++ rest) begun c ≡ b =
-      ap (λ l. between l begun c) whole ∙ ap (λ j. between (before ++ o.begins.frame ∷ (b ++ x ∷ (after ++ rest))) j c) (sym place)
-      ∙ range-behind before o.begins.frame b (x ∷ (after ++ rest)) in
+      ap (λ l. between l begun c) whole ∙ ap (λ j. between (before ++ o.begins.entry ∷ (b ++ x ∷ (after ++ rest))) j c) (sym place)
+      ∙ range-behind before o.begins.entry b (x ∷ (after ++ rest)) in
       let below : consecutive_frames_in d b < o.count = (let more = o.more in omega arith) in
       let room = o.least.fewer (consecutive_frames_in d b) below in
-      let same = room-join d o.begins.frame o.begins.start (consecutive_frames_in d b) o.begins.kind in
-      keeps-from d before o.begins.frame o.begins.start o.begins.kind o.count o.least b x (after ++ rest) (come-after d o.begins.start b kept (omega arith)) (role d x) below
+      let same = room-join d o.begins.entry o.begins.start (consecutive_frames_in d b) o.begins.kind in
+      keeps-from d before o.begins.entry o.begins.start o.begins.kind o.count o.least b x (after ++ rest) (come-after d o.begins.start b kept (omega arith)) (role d x) below
       (same-leaves d o.begins.start _ o.count begun (length before) _ _ c c _ _ x (role d x) (ap (consecutive_frames_in d) here) whole (sym place) refl leaves)
 
   pub stands-there : StandsThere
   stands-there =
       let later = o.later in
-      let there : At T begun o.begins.frame = sym (get-left T rest begun later) ∙ o.begins.stands in
-      let w = split-at T begun o.begins.frame there in
+      let there : At T begun o.begins.entry = sym (get-left T rest begun later) ∙ o.begins.stands in
+      let w = split-at T begun o.begins.entry there in
       let before = w.0 in
       let since = w.1 in
       let place = w.3 in
-      let whole : T ++ rest ≡ before ++ o.begins.frame ∷ (since ++ rest) = sym (regrouped T rest before since o.begins.frame w.2) in
+      let whole : T ++ rest ≡ before ++ o.begins.entry ∷ (since ++ rest) = sym (regrouped T rest before since o.begins.entry w.2) in
       let taken : number ≡ consecutive_frames_in d since =
       o.taken ∙ ap (consecutive_frames_in d) (ap (λ l. between l begun (length T)) whole
-      ∙ ap (λ j. between (before ++ o.begins.frame ∷ (since ++ rest)) j (length T)) (sym place)
-      ∙ ap (between (before ++ o.begins.frame ∷ (since ++ rest)) (length before)) (sym (split-length T before since o.begins.frame w.2))
-      ∙ range-behind before o.begins.frame since rest) in
+      ∙ ap (λ j. between (before ++ o.begins.entry ∷ (since ++ rest)) j (length T)) (sym place)
+      ∙ ap (between (before ++ o.begins.entry ∷ (since ++ rest)) (length before)) (sym (split-length T before since o.begins.entry w.2))
+      ∙ range-behind before o.begins.entry since rest) in
       let kept = keep-from-each d o.begins.start since (keeps-each before since w.2 place taken) in
       let room : carried_after o.begins.start (consecutive_frames_in d since) < o.begins.start.len =
       (let less = o.least.fewer (consecutive_frames_in d since) (subst (λ j. j < o.count) taken o.more) in
-      let same = room-join d o.begins.frame o.begins.start (consecutive_frames_in d since) o.begins.kind in omega arith) in
+      let same = room-join d o.begins.entry o.begins.start (consecutive_frames_in d since) o.begins.kind in omega arith) in
       record {
         before = before;
         since = since;

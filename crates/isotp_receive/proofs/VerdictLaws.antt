@@ -94,15 +94,15 @@ module _ (limit : ℕ) (T : List Entry) (e : Entry) where
 
 record NextIs (limit : ℕ) (T : List Entry) (e : Entry) (f : Fit) (n : FitsNext limit T e f) : Type 0 where
   kind : role e.dir e ≡ consecutive n.next.sequence_number n.next.can_dl n.next.bytes
-  fits : FitsSo (bytes_in_first n.is_open.begins.frame.frame.bytes) n.is_open.begins.start.rx_dl n.is_open.begins.start.len n.is_open.count
+  fits : FitsSo (bytes_in_first n.is_open.begins.entry.frame.bytes) n.is_open.begins.start.rx_dl n.is_open.begins.start.len n.is_open.count
       (n.number + 1) n.next.sequence_number n.next.can_dl (IsOnTime (T ++ e ∷ []) e.dir n.begun (length T) e) f
 
 next-is : (limit : ℕ) (T : List Entry) (e : Entry) {f : Fit} (n : FitsNext limit T e f) → NextIs limit T e f n
 next-is limit T e {f = f} n =
-    let is_e : n.next.frame ≡ e = get-same (T ++ e ∷ []) (length T) n.next.frame e n.next.stands (get-here T [] e) in
+    let is_e : n.next.entry ≡ e = get-same (T ++ e ∷ []) (length T) n.next.entry e n.next.stands (get-here T [] e) in
     record {
       kind = ap (role e.dir) (sym is_e) ∙ n.next.kind;
-      fits = subst (λ x. FitsSo (bytes_in_first n.is_open.begins.frame.frame.bytes) n.is_open.begins.start.rx_dl n.is_open.begins.start.len
+      fits = subst (λ x. FitsSo (bytes_in_first n.is_open.begins.entry.frame.bytes) n.is_open.begins.start.rx_dl n.is_open.begins.start.len
           n.is_open.count (n.number + 1) n.next.sequence_number n.next.can_dl (IsOnTime (T ++ e ∷ []) e.dir n.begun (length T) x) f) is_e n.fits;
     }
 

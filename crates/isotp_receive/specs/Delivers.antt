@@ -1,7 +1,7 @@
 -- The messages that a trace delivers (ISO 15765-2, section 9.6), by looking back over the whole trace.
 use Rattle.std.specs.Prelude.{◌≡◌, ℕ, List, length}
 use Rattle.can_log.specs.declared.frame.Dir.{Dir}
-use Rattle.isotp_receive.specs.Trace.{Entry, At, single, role}
+use Rattle.isotp_receive.specs.Trace.{Entry, SingleFrameAt}
 use Rattle.isotp_receive.specs.Places.{AtPlaces}
 use Rattle.isotp_receive.specs.Fit.{last}
 use Rattle.isotp_receive.specs.OpenReception.{FitsOpen}
@@ -11,9 +11,9 @@ pub record Completes (limit : ℕ) (T : List Entry) (position : ℕ) (d : Dir) (
   pub fit : FitsOpen limit T d position last
   -- the message has the announced length, and its bytes stand at their places
   pub size : length message ≡ fit.is_open.begins.start.len
-  pub places : AtPlaces T d fit.begun fit.is_open.begins.frame fit.is_open.begins.start.rx_dl message
+  pub places : AtPlaces T d fit.begun fit.is_open.begins.entry fit.is_open.begins.start.rx_dl message
 
 -- the frame at `position` delivers the message of d: a single frame that holds it, or the last frame of its reception
 pub data Delivers (limit : ℕ) (T : List Entry) (position : ℕ) (d : Dir) (message : List ℕ) : Type 0 where
-  in_one_frame : (entry : Entry) → At T position entry → role d entry ≡ single message → Delivers limit T position d message
+  in_one_frame : SingleFrameAt T d position message → Delivers limit T position d message
   in_frames : Completes limit T position d message → Delivers limit T position d message

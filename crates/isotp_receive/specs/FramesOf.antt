@@ -6,7 +6,7 @@ use Rattle.isotp_pdu.specs.Layout.{Layout}
 use Rattle.isotp_pdu.specs.Reading.{layout_of}
 use Rattle.isotp_pdu.specs.Layout as layout
 use Rattle.isotp_pdu.specs.declared.PduFault.{PduFault}
-use Rattle.isotp_receive.specs.Trace.{Entry, At, ConsecutiveFrameAt, single, role}
+use Rattle.isotp_receive.specs.Trace.{Entry, At, SingleFrameAt, ConsecutiveFrameAt}
 use Rattle.isotp_receive.specs.Delivers.{Completes}
 use Rattle.isotp_receive.specs.Recording.{Transfer, IsIn, IsGiven, last_or}
 
@@ -20,7 +20,7 @@ pub record IsConsecutiveWithin (T : List Entry) (d : Dir) (begun position place 
 -- frame of the reception that the last of them completes with it, and of all consecutive frames of d since
 -- (ISO 15765-2, section 9.6).
 pub data AreFramesOf (limit : ℕ) (T : List Entry) (d : Dir) (message : List ℕ) : List ℕ → Type 0 where
-  alone : {position : ℕ} (e : Entry) → At T position e → role d e ≡ single message → AreFramesOf limit T d message (position ∷ [])
+  alone : {position : ℕ} → SingleFrameAt T d position message → AreFramesOf limit T d message (position ∷ [])
   together : {begun : ℕ} {positions : List ℕ}
       (completed : Completes limit T (last_or begun positions) d message) → completed.fit.begun ≡ begun
       → ((place : ℕ) → IsIn place positions ↔ IsConsecutiveWithin T d begun (last_or begun positions) place)

@@ -29,10 +29,10 @@ pub record IsOpenAt (limit : ℕ) (T : List Entry) (d : Dir) (begun number posit
   pub fits : begins.start.len ≤ limit
   -- so many consecutive frames hold the rest
   pub count : ℕ
-  pub least : IsConsecutiveCount (bytes_in_first begins.frame.frame.bytes) begins.start.rx_dl begins.start.len count
+  pub least : IsConsecutiveCount (bytes_in_first begins.entry.frame.bytes) begins.start.rx_dl begins.start.len count
   -- each frame strictly between leaves the reception open
   pub each : (place : ℕ) (entry : Entry) → begun < place → place < position → At T place entry
-      → LeavesOpen begins.start (bytes_in_first begins.frame.frame.bytes) count (consecutive_frames_in d (between T begun place))
+      → LeavesOpen begins.start (bytes_in_first begins.entry.frame.bytes) count (consecutive_frames_in d (between T begun place))
       (IsOnTime T d begun place entry) (role d entry)
   -- `number` of them are consecutive frames of d, and more are to come
   pub taken : number ≡ consecutive_frames_in d (between T begun position)
@@ -44,8 +44,8 @@ pub record FitsOpen (limit : ℕ) (T : List Entry) (d : Dir) (position : ℕ) (f
   pub number : ℕ
   pub is_open : IsOpenAt limit T d begun number position
   pub next : ConsecutiveFrameAt T d position
-  pub fits : FitsSo (bytes_in_first is_open.begins.frame.frame.bytes) is_open.begins.start.rx_dl is_open.begins.start.len is_open.count
-      (number + 1) next.sequence_number next.can_dl (IsOnTime T d begun position next.frame) fit
+  pub fits : FitsSo (bytes_in_first is_open.begins.entry.frame.bytes) is_open.begins.start.rx_dl is_open.begins.start.len is_open.count
+      (number + 1) next.sequence_number next.can_dl (IsOnTime T d begun position next.entry) fit
 
 -- What stands at `position` for d: a reception is open there, and this is what is known of it. Its bytes are those that
 -- have come.
@@ -57,8 +57,8 @@ pub record IsStandingAt (limit : ℕ) (T : List Entry) (d : Dir) (position : ℕ
   pub len : standing.len ≡ is_open.begins.start.len
   pub rx_dl : standing.rx_dl ≡ is_open.begins.start.rx_dl
   pub taken : standing.taken ≡ number
-  pub size : length standing.bytes ≡ bytes_before (bytes_in_first is_open.begins.frame.frame.bytes) standing.rx_dl number
-  pub places : AtPlaces T d begun is_open.begins.frame standing.rx_dl standing.bytes
+  pub size : length standing.bytes ≡ bytes_before (bytes_in_first is_open.begins.entry.frame.bytes) standing.rx_dl number
+  pub places : AtPlaces T d begun is_open.begins.entry standing.rx_dl standing.bytes
   -- at `latest` stands the reference frame of what comes next
   pub latest : ℕ
   pub last : Entry

@@ -9,7 +9,7 @@ use Rattle.isotp_pdu.specs.Reading.{layout_of}
 use Rattle.isotp_pdu.specs.Layout as layout
 use Rattle.isotp_pdu.specs.declared.PduFault.{PduFault}
 use Rattle.isotp_pdu.specs.declared.Status.TheVariants.{Continue, Wait, Overflow}
-use Rattle.isotp_receive.specs.Trace.{Entry, At, FirstFrame, FirstFrameAt, ConsecutiveFrameAt, single, role}
+use Rattle.isotp_receive.specs.Trace.{Entry, At, FirstFrame, SingleFrameAt, FirstFrameAt, ConsecutiveFrameAt}
 use Rattle.isotp_receive.specs.Places.{bytes_in_first, bytes_before, IsConsecutiveCount, FitsAs}
 use Rattle.isotp_receive.specs.OnTime.{IsOnTime}
 
@@ -20,9 +20,9 @@ pub record IsConsecutiveFrame (T : List Entry) (d : Dir) (message : List ℕ) (b
     (in_first count number position : ℕ) : Type 0 where
   pub next : ConsecutiveFrameAt T d position
   pub fits : FitsAs in_first start.rx_dl start.len count number next.sequence_number next.can_dl
-  pub on_time : IsOnTime T d begun position next.frame
+  pub on_time : IsOnTime T d begun position next.entry
   pub holds : (offset : ℕ) → offset < start.rx_dl - 1 → bytes_before in_first start.rx_dl (number - 1) + offset < length message
-      → slice_index message (bytes_before in_first start.rx_dl (number - 1) + offset) ≡ slice_index next.frame.frame.bytes (1 + offset)
+      → slice_index message (bytes_before in_first start.rx_dl (number - 1) + offset) ≡ slice_index next.entry.frame.bytes (1 + offset)
 
 -- `Holds` of each of the positions and its number, which is `number` for the first
 abbrev pub EachNumbered : (ℕ → ℕ → Type 0) → ℕ → List ℕ → Type 0
@@ -34,16 +34,16 @@ EachNumbered Holds number (position ∷ positions) = Holds number position × Ea
 pub record IsSegmented (T : List Entry) (d : Dir) (message : List ℕ) (begun : ℕ) (positions : List ℕ) : Type 0 where
   pub begins : FirstFrameAt T d begun
   pub announces : begins.start.len ≡ length message
-  pub least : IsConsecutiveCount (bytes_in_first begins.frame.frame.bytes) begins.start.rx_dl begins.start.len (length positions)
+  pub least : IsConsecutiveCount (bytes_in_first begins.entry.frame.bytes) begins.start.rx_dl begins.start.len (length positions)
   pub consecutive_frames :
-      EachNumbered (IsConsecutiveFrame T d message begun begins.start (bytes_in_first begins.frame.frame.bytes) (length positions)) 1 positions
-  pub holds : (place : ℕ) → place < bytes_in_first begins.frame.frame.bytes
-      → slice_index message place ≡ slice_index begins.frame.frame.bytes (begins.start.rx_dl - bytes_in_first begins.frame.frame.bytes + place)
+      EachNumbered (IsConsecutiveFrame T d message begun begins.start (bytes_in_first begins.entry.frame.bytes) (length positions)) 1 positions
+  pub holds : (place : ℕ) → place < bytes_in_first begins.entry.frame.bytes
+      → slice_index message place ≡ slice_index begins.entry.frame.bytes (begins.start.rx_dl - bytes_in_first begins.entry.frame.bytes + place)
 
 -- The frames at these positions carry the message of direction d: one single frame that holds it, or a first frame and
 -- its consecutive frames.
 pub data Carries (T : List Entry) (d : Dir) (message : List ℕ) : List ℕ → Type 0 where
-  unsegmented : {position : ℕ} (e : Entry) → At T position e → role d e ≡ single message → Carries T d message (position ∷ [])
+  unsegmented : {position : ℕ} → SingleFrameAt T d position message → Carries T d message (position ∷ [])
   segmented : {begun : ℕ} {positions : List ℕ} → IsSegmented T d message begun positions → Carries T d message (begun ∷ positions)
 
 -- each is above the one before, and all are at least `least`

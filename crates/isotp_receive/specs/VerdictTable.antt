@@ -60,13 +60,13 @@ pub data HasVerdict (limit : ℕ) (T : List Entry) (e : Entry) : EventValue → 
   next_unexpected : (sequence_number can_dl : ℕ) (bytes : List ℕ)
       → layout_of e.frame ≡ Ok (layout.consecutive sequence_number can_dl bytes) → NothingOpen limit T e e.dir
       → HasVerdict limit T e (refused None reason.NextUnexpected)
-  next_late : (next : FitsNext limit T e fit.late)
-      → HasVerdict limit T e (refused (Some (ended_by e.dir next.is_open.begins.start cause.Late)) reason.NextLate)
-  wrong_number : (next : FitsNext limit T e fit.wrong_number)
+  next_late : (fits : FitsNext limit T e fit.late)
+      → HasVerdict limit T e (refused (Some (ended_by e.dir fits.is_open.begins.start cause.Late)) reason.NextLate)
+  wrong_number : (fits : FitsNext limit T e fit.wrong_number)
       → HasVerdict limit T e
-      (refused (Some (ended_by e.dir next.is_open.begins.start cause.Sequence)) (reason.NextSequence ((next.number + 1) % 16) next.next.sequence_number))
-  wrong_length : (next : FitsNext limit T e fit.wrong_length)
-      → HasVerdict limit T e (refused (Some (ended_by e.dir next.is_open.begins.start cause.Length)) reason.NextLength)
+      (refused (Some (ended_by e.dir fits.is_open.begins.start cause.Sequence)) (reason.NextSequence ((fits.number + 1) % 16) fits.next.sequence_number))
+  wrong_length : (fits : FitsNext limit T e fit.wrong_length)
+      → HasVerdict limit T e (refused (Some (ended_by e.dir fits.is_open.begins.start cause.Length)) reason.NextLength)
   stored_frame : FitsNext limit T e fit.one_more
       → HasVerdict limit T e (record { ended = None; told = stored })
   last_frame : (whole : List ℕ) → Completes limit (T ++ e ∷ []) (length T) e.dir whole

@@ -85,7 +85,7 @@ module _ (identifier : Dir → Id) (line micros : ℕ) (T : List Entry) (d : Dir
       let bytes = drop (place_of len number) message in
       record {
         next = record {
-          frame = entry identifier line micros (begun + (1 + number)) (d, filled (consecutive_control number) bytes);
+          entry = entry identifier line micros (begun + (1 + number)) (d, filled (consecutive_control number) bytes);
           stands = at-consecutive identifier line micros T d message begun stand number (omega arith) one below;
           sequence_number = number % 16;
           can_dl = 8;
@@ -126,7 +126,7 @@ module _ (identifier : Dir → Id) (line micros : ℕ) (T : List Entry) (d : Dir
       let size : length (range_with_len (begun + 2) count) ≡ count = length-range_with_len (begun + 2) count in
       record {
         begins = record {
-          frame = entry identifier line micros begun (d, filled (first_control len) message);
+          entry = entry identifier line micros begun (d, filled (first_control len) message);
           stands = at-first identifier line micros T d message begun stand (omega arith) (omega arith);
           start = start;
           kind = starts;
@@ -149,8 +149,11 @@ module _ (identifier : Dir → Id) (line micros limit : ℕ) (bits : limit < 2 ^
           some = some;
           fits = fits;
           rising = rw t (omega arith, tt);
-          carried = rw t (unsegmented _ (at-single identifier line micros T d message begun stand short (omega arith))
-              (single-role identifier line micros d begun message some short));
+          carried = rw t (unsegmented (record {
+            entry = _;
+            stands = at-single identifier line micros T d message begun stand short (omega arith);
+            kind = single-role identifier line micros d begun message some short;
+          }));
         })
     | inr t ↦
         (let long = leb-false (length message) 7 t in

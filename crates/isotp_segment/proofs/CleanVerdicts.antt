@@ -22,7 +22,7 @@ use Rattle.isotp_segment.proofs.OpenReceptions.{IsClosedAt, same-entry}
 module _ (limit : ℕ) (T rest : List Entry) (d : Dir) (begun number : ℕ)
     (reception : IsOpenAt limit (T ++ rest) d begun number (length T)) where
   abbrev in_first : ℕ
-  in_first = bytes_in_first reception.begins.frame.frame.bytes
+  in_first = bytes_in_first reception.begins.entry.frame.bytes
 
   -- what is known of it
   record IsKnown (standing : Standing) : Type 0 where
@@ -38,8 +38,8 @@ module _ (limit : ℕ) (T rest : List Entry) (d : Dir) (begun number : ℕ)
       let found = what_is_open_stands limit T rest d begun number reception in
       let all = what_stands_is_open limit T rest d found.0 found.1 in
       let same = one_is_open limit (T ++ rest) d all.begun all.number begun number (length T) all.is_open reception in
-      let same_frame : all.is_open.begins.frame ≡ reception.begins.frame =
-      same-entry (T ++ rest) begun _ _ (subst (λ p. At (T ++ rest) p all.is_open.begins.frame) same.0 all.is_open.begins.stands) reception.begins.stands in
+      let same_frame : all.is_open.begins.entry ≡ reception.begins.entry =
+      same-entry (T ++ rest) begun _ _ (subst (λ p. At (T ++ rest) p all.is_open.begins.entry) same.0 all.is_open.begins.stands) reception.begins.stands in
       let same_start : all.is_open.begins.start ≡ reception.begins.start =
       (let left = all.is_open.begins.kind in let right = reception.begins.kind in cc) in (
         found.0,

@@ -28,7 +28,7 @@ module _ (identifier : Dir → Id) (line micros limit : ℕ) (T : List Entry) (d
     begins-at p frame at is =
         let there = subst (λ q. At T q (entry identifier line micros q frame)) is at in
         begins-reception heard (entry identifier line micros from frame) reception.begins.start
-        (ap (role heard) (same-entry T from _ reception.begins.frame there reception.begins.stands) ∙ reception.begins.kind)
+        (ap (role heard) (same-entry T from _ reception.begins.entry there reception.begins.stands) ∙ reception.begins.kind)
 
     not-alone : length message ≤ 7 → begun ≡ from → ⊥
     not-alone short is =

@@ -63,14 +63,14 @@ module _ (limit : ℕ) (T : List Entry) (d : Dir) (position : ℕ) (message : Li
   -- as the next of the reception, on time
   abbrev pub IsNext : ℕ → Entry → ℕ → ℕ → Type 0
   IsNext place e sequence_number can_dl =
-      FitsAs (bytes_in_first completed.fit.is_open.begins.frame.frame.bytes) completed.fit.is_open.begins.start.rx_dl completed.fit.is_open.begins.start.len completed.fit.is_open.count
+      FitsAs (bytes_in_first completed.fit.is_open.begins.entry.frame.bytes) completed.fit.is_open.begins.start.rx_dl completed.fit.is_open.begins.start.len completed.fit.is_open.count
       (consecutive_frames_in d (between T completed.fit.begun place) + 1) sequence_number can_dl
       × IsOnTime T d completed.fit.begun place e
 
   next-at-end : (e : Entry) (sequence_number can_dl : ℕ) (bytes : List ℕ) → At T position e → role d e ≡ consecutive sequence_number can_dl bytes
       → IsNext position e sequence_number can_dl
   next-at-end e sequence_number can_dl bytes at is =
-      let same = same-entry T position e completed.fit.next.frame at completed.fit.next.stands in
+      let same = same-entry T position e completed.fit.next.entry at completed.fit.next.stands in
       let kind = completed.fit.next.kind in
       let same_number : completed.fit.next.sequence_number ≡ sequence_number = cc in
       let same_length : completed.fit.next.can_dl ≡ can_dl = cc in
@@ -80,7 +80,7 @@ module _ (limit : ℕ) (T : List Entry) (d : Dir) (position : ℕ) (message : Li
       → role d e ≡ consecutive sequence_number can_dl bytes → IsNext place e sequence_number can_dl
   next-since place e sequence_number can_dl bytes later most at is = elim (cases_lt place position) [
     | inl before ↦
-        subst (LeavesOpen completed.fit.is_open.begins.start (bytes_in_first completed.fit.is_open.begins.frame.frame.bytes) completed.fit.is_open.count
+        subst (LeavesOpen completed.fit.is_open.begins.start (bytes_in_first completed.fit.is_open.begins.entry.frame.bytes) completed.fit.is_open.count
         (consecutive_frames_in d (between T completed.fit.begun place)) (IsOnTime T d completed.fit.begun place e)) is
         (completed.fit.is_open.each place e later before at)
     | inr least ↦
@@ -93,13 +93,13 @@ module _ (limit : ℕ) (T : List Entry) (d : Dir) (position : ℕ) (message : Li
   pub closed-behind : (number later : ℕ) → position < later → IsOpenAt limit T d completed.fit.begun number later → ⊥
   closed-behind number later behind reception =
       let its = completed.fit.is_open in
-      let same_frame : reception.begins.frame ≡ its.begins.frame = same-entry T completed.fit.begun reception.begins.frame its.begins.frame reception.begins.stands its.begins.stands in
+      let same_frame : reception.begins.entry ≡ its.begins.entry = same-entry T completed.fit.begun reception.begins.entry its.begins.entry reception.begins.stands its.begins.stands in
       let same_start : reception.begins.start ≡ its.begins.start = (let one = reception.begins.kind in let two = its.begins.kind in cc) in
-      let same_count = one-count (bytes_in_first its.begins.frame.frame.bytes) its.begins.start.rx_dl its.begins.start.len reception.count its.count
-      (subst (λ s. IsConsecutiveCount (bytes_in_first its.begins.frame.frame.bytes) s.rx_dl s.len reception.count) same_start
+      let same_count = one-count (bytes_in_first its.begins.entry.frame.bytes) its.begins.start.rx_dl its.begins.start.len reception.count its.count
+      (subst (λ s. IsConsecutiveCount (bytes_in_first its.begins.entry.frame.bytes) s.rx_dl s.len reception.count) same_start
       (subst (λ f. IsConsecutiveCount (bytes_in_first f.frame.bytes) reception.begins.start.rx_dl reception.begins.start.len reception.count) same_frame reception.least))
       its.least in
-      let counts : consecutive_by (role d completed.fit.next.frame) ≡ 1 = ap consecutive_by completed.fit.next.kind in
+      let counts : consecutive_by (role d completed.fit.next.entry) ≡ 1 = ap consecutive_by completed.fit.next.kind in
       absurd (omega (
         arith,
         same_count,
@@ -108,5 +108,5 @@ module _ (limit : ℕ) (T : List Entry) (d : Dir) (position : ℕ) (message : Li
         reception.more,
         its.taken,
         completed.fit.fits.2,
-        counted-between d T completed.fit.begun position later completed.fit.next.frame its.later behind completed.fit.next.stands,
+        counted-between d T completed.fit.begun position later completed.fit.next.entry its.later behind completed.fit.next.stands,
       ))
