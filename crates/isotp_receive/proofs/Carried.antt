@@ -9,7 +9,7 @@ use Rattle.can_log.specs.declared.frame.Dir.{Dir}
 use Rattle.isotp_receive.specs.Trace.{Entry, single, first, role, At}
 use Rattle.isotp_receive.specs.Standing.{Standing, stands}
 use Rattle.isotp_receive.specs.Recording.{IsRisingFrom, IsSegmented, Carries, unsegmented, segmented, Transfer, IsIn, last_or}
-use Rattle.isotp_receive.specs.Heard.{heard}
+use Rattle.isotp_receive.proofs.Heard.{heard}
 use Rattle.isotp_receive.specs.Machine.{after}
 use Rattle.isotp_receive.proofs.ListPositions.{get-same, get-here}
 use Rattle.isotp_receive.proofs.PositionLists.{above-least, first-or-later}
@@ -133,12 +133,12 @@ module _ (limit : ℕ) (T : List Entry) (d : Dir) (n : ℕ) (e : Entry) (at : At
 
     starts_long : (o : Option Standing) (m cs : List ℕ) (gs : List Transfer) → length m ≤ limit → IsSegmented T d m n cs
         → AreCarried limit T d gs → cs ++ all_positions gs ≡ rest → Stepped o ((last_or n cs, m) ∷ placed_of gs)
-    starts_long o m [] gs fits l carried same = absurd (let from = first_from d l.frame l.start l.kind in let enough = l.least.enough in omega arith)
+    starts_long o m [] gs fits l carried same = absurd (let from = first_from d l.begins.entry l.begins.start l.begins.kind in let enough = l.least.enough in omega arith)
     starts_long o m (c ∷ cs) gs fits l carried same =
-        let is_e : l.frame ≡ e = get-same T n l.frame e l.stands at in
-        let kind_e : role d e ≡ first l.start = ap (role d) (sym is_e) ∙ l.kind in
+        let is_e : l.begins.entry ≡ e = get-same T n l.begins.entry e l.begins.stands at in
+        let kind_e : role d e ≡ first l.begins.start = ap (role d) (sym is_e) ∙ l.begins.kind in
         let announces = l.announces in
-        let within : nat_le l.start.len limit ≡ true = le-leb _ _ (omega arith) in
+        let within : nat_le l.begins.start.len limit ≡ true = le-leb _ _ (omega arith) in
         record {
           cs = c ∷ cs;
           out' = (last_or c cs, m) ∷ [];
@@ -152,7 +152,7 @@ module _ (limit : ℕ) (T : List Entry) (d : Dir) (n : ℕ) (e : Entry) (at : At
 
     starts : (o : Option Standing) (m ps : List ℕ) (gs : List Transfer) → length m ≤ limit → Carries T d m ps
         → AreCarried limit T d gs → ps ++ all_positions gs ≡ n ∷ rest → Stepped o ((last_or 0 ps, m) ∷ placed_of gs)
-    starts o m _ gs fits (unsegmented {position = p} x there kind) carried same = starts_one o m p gs x there kind (cc) carried (cc)
+    starts o m _ gs fits (unsegmented {position = p} one) carried same = starts_one o m p gs one.entry one.stands one.kind (cc) carried (cc)
     starts o m _ gs fits (segmented {begun = i} {positions = cs} l) carried same =
         let here : i ≡ n = cc in
         let more : cs ++ all_positions gs ≡ rest = cc in
@@ -178,8 +178,8 @@ module _ (limit : ℕ) (T : List Entry) (d : Dir) (n : ℕ) (e : Entry) (at : At
 -- ---- all frames
 
 has-first : (T : List Entry) (d : Dir) (m ps : List ℕ) → Carries T d m ps → (p : ℕ) × (e : Entry) × (rest : List ℕ) × (ps ≡ p ∷ rest) × At T p e
-has-first T d m _ (unsegmented {position = p} e there kind) = (p, e, [], refl, there)
-has-first T d m _ (segmented {begun = i} {positions = cs} l) = (i, l.frame, cs, refl, l.stands)
+has-first T d m _ (unsegmented {position = p} one) = (p, one.entry, [], refl, one.stands)
+has-first T d m _ (segmented {begun = i} {positions = cs} l) = (i, l.begins.entry, cs, refl, l.begins.stands)
 
 -- nothing is left at the end
 over : (limit : ℕ) (T : List Entry) (d : Dir) (o : Option Standing) (cs : List ℕ) (out : List (ℕ × List ℕ)) (gs : List Transfer) → State T d (length T) o cs out
@@ -191,7 +191,7 @@ over limit T d _ _ _ (g ∷ gs) closed carried rising =
     absurd (let inside = slice_get_within T w.0 w.1 w.4 in let a = above.0 in omega arith)
 over limit T d _ _ _ gs (opened {c = c} s) carried rising =
     let part = s.parts.0 in
-    absurd (let inside = slice_get_within T c part.frame part.stands in let a = rising.0 in omega arith)
+    absurd (let inside = slice_get_within T c part.next.entry part.next.stands in let a = rising.0 in omega arith)
 
 run : (limit : ℕ) (before T : List Entry) (d : Dir) (n : ℕ) (past es : List Entry) → n ≡ length past → T ≡ past ++ es
     → (o : Option Standing) (cs : List ℕ) (out : List (ℕ × List ℕ)) (gs : List Transfer) → State T d n o cs out → stands limit d (before ++ past) ≡ o → AreCarried limit T d gs

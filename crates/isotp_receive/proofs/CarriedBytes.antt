@@ -1,14 +1,14 @@
 -- The bytes that the consecutive frames of a list carry, each w of them: which frame carries which byte.
-use Rattle.std.proofs.Common.{◌≡◌, ℕ, zero, suc, ◌==◌, ◌+◌, ◌-◌, ◌*◌, ◌%◌, ◌<◌, true, List, [], ◌∷◌, ◌++◌, length, get_or, nat_le, refl, ◌∙◌, ap, arith}
-use Rattle.std.proofs.lemmas.Bool.{and_parts}
+use Rattle.std.proofs.Common.{◌≡◌, ℕ, zero, suc, ◌+◌, ◌-◌, ◌*◌, ◌<◌, true, List, [], ◌∷◌, ◌++◌, length, get_or, refl, ◌∙◌, ap, arith}
 use Rattle.std.proofs.lemmas.List.{get_or_append_left, get_or-append-add}
 use Rattle.can_log.specs.declared.frame.Dir.{Dir}
 use Rattle.isotp_receive.specs.Trace.{Entry, FirstFrame, Role, single, first, consecutive, continue_or_wait, overflow, no_part, role}
 use Rattle.isotp_receive.specs.Places.{consecutive_by, consecutive_frames_in}
-use Rattle.isotp_receive.specs.Standing.{carried_by, carried, carried_after, keeps_by, keep}
+use Rattle.isotp_receive.specs.Standing.{carried_by, carried, standing_of, carried_after, keeps_by, keep}
 use Rattle.isotp_receive.proofs.Readings.{next_from}
 use Rattle.isotp_receive.proofs.CountedFrames.{taken-append}
-use Rattle.isotp_receive.proofs.FullFrames.{fits_full}
+use Rattle.isotp_receive.proofs.FullFrames.{fits_full, come-before}
+use Rattle.isotp_receive.proofs.FitTests.{was-next}
 use Rattle.isotp_receive.proofs.OpenLaws.{kept-at}
 
 -- each consecutive frame carries w bytes
@@ -31,12 +31,13 @@ pub all-full : (d : Dir) (s : FirstFrame) (es : List Entry) → keep d s [] es �
 unfolding AllFull
 all-full d s es kept room b after x sequence_number can_dl bytes splits kind =
     let here : keeps_by d s b x.micros (consecutive sequence_number can_dl bytes) ≡ true = rw kind at (kept-at d s es kept b after x splits) in
-    let fits = (and_parts (sequence_number == (consecutive_frames_in d b + 1) % 16) _ (and_parts (nat_le x.micros _) _ here).1).1 in
+    let next = was-next (standing_of d s b) x.micros sequence_number can_dl here in
+    let come = come-before d s es b (x ∷ after) kept room splits in
     let count = ap (consecutive_frames_in d) splits ∙ taken-append d b (x ∷ after) in
     let one : consecutive_by (role d x) ≡ 1 = ap consecutive_by kind in
     let sum : consecutive_frames_in d es ≡ consecutive_frames_in d b + 1 + consecutive_frames_in d after = omega arith in
     let product = ap (λ k. k * (s.rx_dl - 1)) sum in
-    let full : can_dl ≡ s.rx_dl = fits_full s.len s.rx_dl (carried_after s (consecutive_frames_in d b)) can_dl fits (omega arith) in
+    let full : can_dl ≡ s.rx_dl = fits_full s.len s.rx_dl (length (s.bytes ++ carried d b)) can_dl next.fits (omega arith) in
     let own = next_from d x sequence_number can_dl bytes kind in
     omega arith
 

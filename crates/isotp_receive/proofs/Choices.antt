@@ -47,17 +47,17 @@ module _ {X : Type 0} where
   some-fails true false f b y h = refl
   some-fails false q f b y h = refl
 
-  last-passes : (o q f f' b : Bool) (x y : X) → f ≡ f' → true ≡ b → x ≡ y → cond (o && (q && f)) (Some x) None ≡ cond (o && (q && (f' && b))) (Some y) None
-  last-passes o q f f' b x y hf hb e = rw (hf, ← hb, and-true, e)
+  last-passes : (o q f b : Bool) (x y : X) → true ≡ b → x ≡ y → cond (o && (q && f)) (Some x) None ≡ cond (o && (q && (f && b))) (Some y) None
+  last-passes o q f b x y hb e = rw (← hb, and-true, e)
 
-  -- One of the tests moves behind the others: where b' passes so does b, and where the first tests pass, f is f' and b' is b''.
-  pub moved-behind : (a b b' b'' k o q f f' : Bool) (x y : X) → (b' ≡ true → b ≡ true)
-      → (a ≡ true → b ≡ true → k ≡ true → (f ≡ f') × (b' ≡ b'')) → x ≡ y
-      → cond (a && (b' && (k && (o && (q && f))))) (Some x) None ≡ cond (a && (b && k)) (cond (o && (q && (f' && b''))) (Some y) None) None
-  moved-behind false b b' b'' k o q f f' x y mono same e = refl
-  moved-behind true false true b'' k o q f f' x y mono same e = absurd (false≢true (mono refl))
-  moved-behind true false false b'' k o q f f' x y mono same e = refl
-  moved-behind true true true b'' false o q f f' x y mono same e = refl
-  moved-behind true true false b'' false o q f f' x y mono same e = refl
-  moved-behind true true true b'' true o q f f' x y mono same e = last-passes o q f f' b'' x y (same refl refl refl).0 (same refl refl refl).1 e
-  moved-behind true true false b'' true o q f f' x y mono same e = some-fails o q f' b'' y (same refl refl refl).1
+  -- One of the tests moves behind the others: where b' passes so does b, and where the first tests pass, b' is b''.
+  pub moved-behind : (a b b' b'' k o q f : Bool) (x y : X) → (b' ≡ true → b ≡ true)
+      → (a ≡ true → b ≡ true → k ≡ true → b' ≡ b'') → x ≡ y
+      → cond (a && (b' && (k && (o && (q && f))))) (Some x) None ≡ cond (a && (b && k)) (cond (o && (q && (f && b''))) (Some y) None) None
+  moved-behind false b b' b'' k o q f x y mono same e = refl
+  moved-behind true false true b'' k o q f x y mono same e = absurd (false≢true (mono refl))
+  moved-behind true false false b'' k o q f x y mono same e = refl
+  moved-behind true true true b'' false o q f x y mono same e = refl
+  moved-behind true true false b'' false o q f x y mono same e = refl
+  moved-behind true true true b'' true o q f x y mono same e = last-passes o q f b'' x y (same refl refl refl) e
+  moved-behind true true false b'' true o q f x y mono same e = some-fails o q f b'' y (same refl refl refl)

@@ -1,5 +1,5 @@
 -- What a frame with a clean verdict may be to a direction, by what stands there.
-use Rattle.std.proofs.Common.{◌≡◌, ℕ, ◌≤◌, List, nat_le, ◌==◌, Option, Some, None, Result, Ok, Err, refl, cond, inl, inr, subst}
+use Rattle.std.proofs.Common.{◌≡◌, ℕ, ◌≤◌, List, nat_le, ◌==◌, Option, Some, None, Result, Ok, Err, refl, cond, inl, inr}
 use Rattle.std.proofs.lemmas.Bool.{cases_Bool, leb-true}
 use Rattle.can_log.specs.Dir.{other_direction}
 use Rattle.can_log.specs.declared.frame.Dir.{Dir}
@@ -8,25 +8,22 @@ use Rattle.isotp_pdu.specs.declared.Status.TheVariants.{Continue, Wait, Overflow
 use Rattle.isotp_pdu.specs.Layout.{Layout}
 use Rattle.isotp_pdu.specs.Layout as layout
 use Rattle.isotp_pdu.specs.Reading.{layout_of}
-use Rattle.isotp_receive.specs.declared.reception.Judged.{Judged}
-use Rattle.isotp_receive.specs.declared.reception.Judged.TheVariants as judged_as
 use Rattle.isotp_receive.specs.declared.event.Reason.TheVariants as as_reason
 use Rattle.isotp_receive.specs.declared.event.Cause.{Cause}
 use Rattle.isotp_receive.specs.Trace.{Entry, FirstFrame, Role, single, first, consecutive, continue_or_wait, no_part, role, own_role, other_role, same_direction}
-use Rattle.isotp_receive.specs.Standing.{Standing, stands}
-use Rattle.isotp_receive.specs.Verdict.{began, dropped, verdict, on_layout, on_overflow, ended_as}
+use Rattle.isotp_receive.specs.Fit.{Fit, late, wrong_number, wrong_length, one_more, last}
+use Rattle.isotp_receive.specs.Standing.{Standing, fit_of, stands}
+use Rattle.isotp_receive.specs.Verdict.{began, dropped, verdict, on_fit, on_layout, on_overflow, ended_as}
 use Rattle.isotp_receive.specs.CleanTrace.{IsKept}
-use Rattle.isotp_receive.specs.Machine.{judged, on_judged}
 use Rattle.isotp_receive.proofs.Directions.{same}
-use Rattle.isotp_receive.proofs.Judgement.{on-judged}
 
 -- what a frame of this role may be where o stands
 pub data Turn (limit : ℕ) (o : Option Standing) (micros : ℕ) : Role → Type 0 where
   t_single : (m : List ℕ) → o ≡ None → Turn limit o micros (single m)
   t_first : (s : FirstFrame) → o ≡ None → s.len ≤ limit → Turn limit o micros (first s)
-  t_more : (st : Standing) (sequence_number can_dl : ℕ) (bytes : List ℕ) → o ≡ Some st → judged st micros sequence_number can_dl ≡ judged_as.More
+  t_more : (st : Standing) (sequence_number can_dl : ℕ) (bytes : List ℕ) → o ≡ Some st → fit_of st micros sequence_number can_dl ≡ one_more
       → Turn limit o micros (consecutive sequence_number can_dl bytes)
-  t_last : (st : Standing) (sequence_number can_dl : ℕ) (bytes : List ℕ) → o ≡ Some st → judged st micros sequence_number can_dl ≡ judged_as.Last
+  t_last : (st : Standing) (sequence_number can_dl : ℕ) (bytes : List ℕ) → o ≡ Some st → fit_of st micros sequence_number can_dl ≡ last
       → Turn limit o micros (consecutive sequence_number can_dl bytes)
   t_continue_or_wait : Turn limit o micros continue_or_wait
   t_no_part : Turn limit o micros no_part
@@ -43,14 +40,14 @@ kept-first limit len h = elim (cases_Bool (nat_le len limit)) [
   | inr t ↦ absurd (rw t at h)
 ]
 
-turn-judged : (limit : ℕ) (d : Dir) (st : Standing) (micros sequence_number can_dl : ℕ) (bytes : List ℕ) (j : Judged)
-    → judged st micros sequence_number can_dl ≡ j → IsKept (on_judged d st j sequence_number bytes).told
+turn-fit : (limit : ℕ) (d : Dir) (st : Standing) (micros sequence_number can_dl : ℕ) (bytes : List ℕ) (fit : Fit)
+    → fit_of st micros sequence_number can_dl ≡ fit → IsKept (on_fit d st fit sequence_number bytes).told
     → Turn limit (Some st) micros (consecutive sequence_number can_dl bytes)
-turn-judged limit d st micros sequence_number can_dl bytes judged_as.More e h = t_more st sequence_number can_dl bytes refl e
-turn-judged limit d st micros sequence_number can_dl bytes judged_as.Last e h = t_last st sequence_number can_dl bytes refl e
-turn-judged limit d st micros sequence_number can_dl bytes judged_as.Late e h = absurd h
-turn-judged limit d st micros sequence_number can_dl bytes judged_as.Sequence e h = absurd h
-turn-judged limit d st micros sequence_number can_dl bytes judged_as.Length e h = absurd h
+turn-fit limit d st micros sequence_number can_dl bytes one_more e h = t_more st sequence_number can_dl bytes refl e
+turn-fit limit d st micros sequence_number can_dl bytes last e h = t_last st sequence_number can_dl bytes refl e
+turn-fit limit d st micros sequence_number can_dl bytes late e h = absurd h
+turn-fit limit d st micros sequence_number can_dl bytes wrong_number e h = absurd h
+turn-fit limit d st micros sequence_number can_dl bytes wrong_length e h = absurd h
 
 turn-own : (limit : ℕ) (d : Dir) (own others : Option Standing) (line micros : ℕ) (r : Result Layout PduFault)
     → (on_layout limit d own others micros r).ended ≡ None → IsKept (on_layout limit d own others micros r).told → Turn limit own micros (own_role line micros r)
@@ -59,8 +56,8 @@ turn-own limit d own others line micros (Ok (layout.single m)) h k = t_single m 
 turn-own limit d own others line micros (Ok (layout.first len rx_dl bytes)) h k = t_first _ (not-ended _ d own h) (kept-first limit len k)
 turn-own limit d None others line micros (Ok (layout.consecutive sequence_number can_dl bytes)) h k = absurd k
 turn-own limit d (Some st) others line micros (Ok (layout.consecutive sequence_number can_dl bytes)) h k =
-    turn-judged limit d st micros sequence_number can_dl bytes (judged st micros sequence_number can_dl) refl
-    (subst (λ a. IsKept a.told) (on-judged d st micros sequence_number can_dl bytes) k)
+    turn-fit limit d st micros sequence_number can_dl bytes (fit_of st micros sequence_number can_dl) refl
+    k
 turn-own limit d own others line micros (Ok (layout.flow_control s)) h k = t_no_part
 
 -- ---- to the other one

@@ -5,14 +5,14 @@ use Rattle.std.specs.List.{AllByRecursion}
 use Rattle.std.proofs.lemmas.Bool.{le-leb}
 use Rattle.can_log.specs.Dir.{Message}
 use Rattle.can_log.specs.declared.frame.Dir.{Dir}
-use Rattle.isotp_receive.specs.declared.reception.Judged.TheVariants as judged_as
 use Rattle.isotp_receive.specs.Trace.{Entry, Role, consecutive, role, At}
-use Rattle.isotp_receive.specs.Standing.{Standing}
+use Rattle.isotp_receive.specs.Fit.{one_more, last}
+use Rattle.isotp_receive.specs.Standing.{Standing, fit_of}
 use Rattle.isotp_receive.specs.Recording.{unsegmented, segmented, Transfer, IsTransfer, IsIn, last_or, IsGiven}
-use Rattle.isotp_receive.specs.Machine.{after, fresh, judged}
+use Rattle.isotp_receive.specs.Machine.{after, fresh}
 use Rattle.isotp_receive.proofs.PositionLists.{in-append, in-left, in-right, rising-append, last-snoc}
 use Rattle.isotp_receive.proofs.Readings.{whole_from, next_from}
-use Rattle.isotp_receive.proofs.Judgement.{was-last}
+use Rattle.isotp_receive.proofs.FitTests.{was-last}
 use Rattle.isotp_receive.proofs.References.{still, moved}
 use Rattle.isotp_receive.proofs.HeardByRole.{completed}
 use Rattle.isotp_receive.proofs.OwnFrames.{IsOwn}
@@ -65,7 +65,7 @@ module _ (limit : ℕ) (T : List Entry) (d : Dir) (n : ℕ) (e : Entry) (at : At
   deliver : (ps places : List ℕ) (m : List ℕ) → IsTransfer limit T (record { dir = d; message = m; positions = places }) → last_or 0 places ≡ n
       → ((p : ℕ) → IsIn p ps → IsIn p places) → ((p : ℕ) → IsIn p places → IsIn p ps ⊎ (p ≡ n)) → ((p : ℕ) → IsIn p places → p ≤ n)
       → IsIn n places → IsOwn (role d e) → Advanced limit T d n e None ps (m ∷ [])
-  deliver ps places m given last keeps lows most now own = record {
+  deliver ps places m given ends keeps lows most now own = record {
     left = [];
     state = nothing;
     lows = λ p i. absurd i;
@@ -73,7 +73,7 @@ module _ (limit : ℕ) (T : List Entry) (d : Dir) (n : ℕ) (e : Entry) (at : At
     told_out = refl;
     each = (given, tt);
     out_lows = ((refl, λ p i. elim (lows p i) [ inl a ↦ inl a | inr b ↦ inr (omega arith) ]), tt);
-    out_lasts = (last, tt);
+    out_lasts = (ends, tt);
     out_own = λ p i. own;
     shape = inr (record { dir = d; message = m; positions = places }, refl, refl, refl, most);
     keeps = λ p i. inr (inl (keeps p i));
@@ -98,12 +98,12 @@ module _ (limit : ℕ) (T : List Entry) (d : Dir) (n : ℕ) (e : Entry) (at : At
         Advanced limit T d n e (after limit (Some st) e.micros (consecutive sequence_number can_dl bytes)) (i ∷ cs)
         (completed (Some st) e.micros (consecutive sequence_number can_dl bytes))
 
-    on-more : judged st e.micros sequence_number can_dl ≡ judged_as.More → StepsOn
+    on-more : fit_of st e.micros sequence_number can_dl ≡ one_more → StepsOn
     on-more j =
         rw j (keep _ (i ∷ cs) (i ∷ (cs ++ n ∷ [])) (under (grow limit T d n e at st i cs u sequence_number can_dl bytes kind j))
         (λ p a. in-left p (i ∷ cs) (n ∷ []) a) (λ p a. is_new p i cs a) (λ _. in-right n (i ∷ cs) (n ∷ []) (inl refl)))
 
-    on-last : judged st e.micros sequence_number can_dl ≡ judged_as.Last → StepsOn
+    on-last : fit_of st e.micros sequence_number can_dl ≡ last → StepsOn
     on-last j =
         let l = complete limit T d n e at st i cs u sequence_number can_dl bytes kind j in
         let w = was-last st e.micros sequence_number can_dl j in
@@ -132,7 +132,7 @@ module _ (limit : ℕ) (T : List Entry) (d : Dir) (n : ℕ) (e : Entry) (at : At
       → Advanced limit T d n e (after limit o e.micros r) ps (completed o e.micros r)
   advance _ _ nothing _ kind (t_single m closed) wide =
       let whole = whole_from d e m kind in
-      deliver [] (n ∷ []) m (record { some = whole.some; fits = (let few = whole.few in omega arith); rising = (omega arith, tt); carried = unsegmented e at kind })
+      deliver [] (n ∷ []) m (record { some = whole.some; fits = (let few = whole.few in omega arith); rising = (omega arith, tt); carried = unsegmented (record { entry = e; stands = at; kind = kind }) })
       refl (λ p a. absurd a) only_new (λ p a. elim a [ inl is ↦ omega arith | inr none ↦ absurd none ]) (inl refl) (rw kind tt)
   advance _ _ nothing _ kind (t_first s closed fits) wide =
       rw (le-leb _ _ fits) (keep (Some (fresh s)) [] (n ∷ []) (under (begun limit T d n e at s kind fits)) (λ p a. absurd a) only_new (λ _. inl refl))
@@ -144,10 +144,10 @@ module _ (limit : ℕ) (T : List Entry) (d : Dir) (n : ℕ) (e : Entry) (at : At
   advance _ _ (under u) _ kind (t_first s closed fits) wide = absurd (cc)
   advance _ _ (under {st = st} {i = i} {cs = cs} u) _ kind (t_more other sequence_number can_dl bytes is j) wide =
       let one : other ≡ st = cc in
-      on-more st i cs u sequence_number can_dl bytes kind (subst (λ x. judged x e.micros sequence_number can_dl ≡ judged_as.More) one j)
+      on-more st i cs u sequence_number can_dl bytes kind (subst (λ x. fit_of x e.micros sequence_number can_dl ≡ one_more) one j)
   advance _ _ (under {st = st} {i = i} {cs = cs} u) _ kind (t_last other sequence_number can_dl bytes is j) wide =
       let one : other ≡ st = cc in
-      on-last st i cs u sequence_number can_dl bytes kind (subst (λ x. judged x e.micros sequence_number can_dl ≡ judged_as.Last) one j)
+      on-last st i cs u sequence_number can_dl bytes kind (subst (λ x. fit_of x e.micros sequence_number can_dl ≡ last) one j)
   advance _ _ (under {st = st} {i = i} {cs = cs} u) _ kind t_continue_or_wait wide =
       let low : i ≤ n = (let a = u.refers.from in let b = u.refers.below in omega arith) in
       let later = one-later limit T d n st i cs u e.micros n e (moved T d n i e low at (rw kind tt)) at refl in

@@ -14,15 +14,15 @@ use Rattle.isotp_pdu.specs.declared.Status.TheVariants.{Continue, Wait, Overflow
 use Rattle.isotp_pdu.specs.Layout.{Layout}
 use Rattle.isotp_pdu.specs.Layout as layout
 use Rattle.isotp_pdu.specs.Reading.{layout_of}
-use Rattle.isotp_receive.specs.declared.reception.Judged.TheVariants as judged_as
-use Rattle.isotp_receive.specs.declared.reception.Judged.{Judged}
 use Rattle.isotp_receive.specs.Trace.{Entry, Role, single, first, consecutive, continue_or_wait, overflow, no_part, role, own_role, other_role, same_direction, At}
-use Rattle.isotp_receive.specs.Standing.{Standing, stands}
+use Rattle.isotp_receive.specs.Fit.{Fit}
+use Rattle.isotp_receive.specs.Fit as fit
+use Rattle.isotp_receive.specs.Standing.{Standing, fit_of, stands}
 use Rattle.isotp_receive.specs.Verdict.{VerdictValue, message, began, stored, flowed, dropped, verdict, told_message, messages, messages_after}
 use Rattle.isotp_receive.specs.Recording.{Transfer, IsTransfer, IsIn, last_or, AreApart, EachPair, IsGiven, IsIdle, IsRecording}
 use Rattle.isotp_receive.specs.CleanTrace.{IsKept, EachClean, IsClean}
-use Rattle.isotp_receive.specs.Heard.{placed}
-use Rattle.isotp_receive.specs.Machine.{after, judged}
+use Rattle.isotp_receive.proofs.Heard.{placed}
+use Rattle.isotp_receive.specs.Machine.{after}
 use Rattle.isotp_receive.proofs.ListPositions.{get-same, get-here}
 use Rattle.isotp_receive.proofs.Directions.{same, same-self, other-apart}
 use Rattle.isotp_receive.proofs.OneMore.{one_more}
@@ -87,19 +87,19 @@ placed-told n d stored = refl
 placed-told n d flowed = refl
 placed-told n d (dropped r) = refl
 
-one-judged : (n : ℕ) (d : Dir) (j : Judged) (s : Standing) (bytes : List ℕ)
-    → map {B = Message} (λ x. (d, x.1)) (at_place n (completed_by j s bytes)) ≡ map {B = Message} (λ m. (d, m)) (completed_by j s bytes)
-one-judged n d judged_as.Last s bytes = refl
-one-judged n d judged_as.More s bytes = refl
-one-judged n d judged_as.Late s bytes = refl
-one-judged n d judged_as.Sequence s bytes = refl
-one-judged n d judged_as.Length s bytes = refl
+one-fit : (n : ℕ) (d : Dir) (f : Fit) (s : Standing) (bytes : List ℕ)
+    → map {B = Message} (λ x. (d, x.1)) (at_place n (completed_by f s bytes)) ≡ map {B = Message} (λ m. (d, m)) (completed_by f s bytes)
+one-fit n d fit.last s bytes = refl
+one-fit n d fit.one_more s bytes = refl
+one-fit n d fit.late s bytes = refl
+one-fit n d fit.wrong_number s bytes = refl
+one-fit n d fit.wrong_length s bytes = refl
 
 one-completed : (n : ℕ) (d : Dir) (o : Option Standing) (micros : ℕ) (r : Role)
     → map {B = Message} (λ x. (d, x.1)) (at_place n (completed o micros r)) ≡ map {B = Message} (λ m. (d, m)) (completed o micros r)
 one-completed n d o micros (single m) = refl
 one-completed n d None micros (consecutive sequence_number can_dl bytes) = refl
-one-completed n d (Some s) micros (consecutive sequence_number can_dl bytes) = one-judged n d (judged s micros sequence_number can_dl) s bytes
+one-completed n d (Some s) micros (consecutive sequence_number can_dl bytes) = one-fit n d (fit_of s micros sequence_number can_dl) s bytes
 one-completed n d o micros (first s) = refl
 one-completed n d o micros continue_or_wait = refl
 one-completed n d o micros overflow = refl

@@ -1,7 +1,8 @@
 -- What a list of frames counts, carries, refers to and keeps: with one more frame, and of two lists joined.
-use Rattle.std.proofs.Common.{◌≡◌, ℕ, ◌+◌, ◌&&◌, List, [], ◌∷◌, ◌++◌, refl, sym, ◌∙◌, ap, arith, append_assoc}
+use Rattle.std.proofs.Common.{◌≡◌, ℕ, ◌+◌, ◌&&◌, true, List, [], ◌∷◌, ◌++◌, refl, sym, ◌∙◌, ap, arith, append_assoc}
 use Rattle.std.proofs.lemmas.List.{append-nil}
 use Rattle.std.proofs.Math.Bool.{and-true, and_assoc}
+use Rattle.std.proofs.lemmas.Bool.{and_parts, and_from}
 use Rattle.can_log.specs.declared.frame.Dir.{Dir}
 use Rattle.isotp_receive.specs.Trace.{Entry, FirstFrame, role}
 use Rattle.isotp_receive.specs.Places.{consecutive_by, consecutive_frames_in}
@@ -33,3 +34,10 @@ keep-snoc d s past (x ∷ es) e =
     ap (λ b. here && b) (keep-snoc d s (past ++ x ∷ []) es e)
     ∙ sym (and_assoc here behind (keeps_by d s ((past ++ x ∷ []) ++ es) e.micros (role d e)))
     ∙ ap (λ p. (here && behind) && keeps_by d s p e.micros (role d e)) (append_assoc past (x ∷ []) es)
+
+-- what is kept by a list is kept by the first of it
+pub keep-front : (d : Dir) (s : FirstFrame) (past xs ys : List Entry) → keep d s past (xs ++ ys) ≡ true → keep d s past xs ≡ true
+keep-front d s past [] ys h = refl
+keep-front d s past (x ∷ xs) ys h =
+    let parts = and_parts (keeps_by d s past x.micros (role d x)) _ h in
+    and_from _ _ parts.0 (keep-front d s (past ++ x ∷ []) xs ys parts.1)

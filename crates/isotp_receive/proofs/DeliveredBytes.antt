@@ -63,12 +63,12 @@ abbrev Fits : ℕ → List ℕ → Type 0
 Fits limit m = (1 ≤ length m) × (length m ≤ limit)
 
 delivered_fits : (limit : ℕ) (T : List Entry) (position : ℕ) (d : Dir) (m : List ℕ) → 64 ≤ limit → Delivers limit T position d m → Fits limit m
-delivered_fits limit T position d m least (in_one_frame e stood kind) =
-    let whole = whole_from d e m kind in
+delivered_fits limit T position d m least (in_one_frame one) =
+    let whole = whole_from d one.entry m one.kind in
     (whole.some, omega (arith, whole.few))
 delivered_fits limit T position d m least (in_frames c) =
-    let first = first_from d c.is_open.frame c.is_open.start c.is_open.kind in
-    (omega (arith, c.size, first.fewer), omega (arith, c.size, c.is_open.fits))
+    let first = first_from d c.fit.is_open.begins.entry c.fit.is_open.begins.start c.fit.is_open.begins.kind in
+    (omega (arith, c.size, first.fewer), omega (arith, c.size, c.fit.is_open.fits))
 
 pub messages_fit : MessagesFit
 messages_fit limit T least =
@@ -97,30 +97,30 @@ from_places m each = recursion_from_All (λ b. b < 256) m (All-from_get_or (λ b
 
 module _ (limit : ℕ) (T : List Entry) (position : ℕ) (d : Dir) (m : List ℕ) (hold : HoldBytes T) (c : Completes limit T position d m) where
   -- behind the first frame a byte stands in a consecutive one
-  behind_first : (place before offset : ℕ) → place < length m → offset < c.is_open.start.rx_dl - 1
-      → place ≡ bytes_in_first c.is_open.frame.frame.bytes + (before * (c.is_open.start.rx_dl - 1) + offset) → get_or m place 0 < 256
+  behind_first : (place before offset : ℕ) → place < length m → offset < c.fit.is_open.begins.start.rx_dl - 1
+      → place ≡ bytes_in_first c.fit.is_open.begins.entry.frame.bytes + (before * (c.fit.is_open.begins.start.rx_dl - 1) + offset) → get_or m place 0 < 256
   behind_first place before offset inside less is =
       let there = c.places.in_consecutive before offset less (omega arith) in
       subst (λ n. n < 256) (sym (ap (λ j. get_or m j 0) is ∙ there.3))
       (byte_at there.1.frame.bytes (1 + offset) (frame_at T there.0 there.1 there.2.stands hold))
 
   byte_of_message : (place : ℕ) → place < length m → get_or m place 0 < 256
-  byte_of_message place inside = elim (cases_lt place (bytes_in_first c.is_open.frame.frame.bytes)) [
+  byte_of_message place inside = elim (cases_lt place (bytes_in_first c.fit.is_open.begins.entry.frame.bytes)) [
     | inl below ↦
-        (let bytes = c.is_open.frame.frame.bytes in
+        (let bytes = c.fit.is_open.begins.entry.frame.bytes in
         subst (λ n. n < 256) (sym (c.places.in_first place inside below))
-        (byte_at bytes (c.is_open.start.rx_dl - bytes_in_first bytes + place) (frame_at T c.begun c.is_open.frame c.is_open.stands hold)))
+        (byte_at bytes (c.fit.is_open.begins.start.rx_dl - bytes_in_first bytes + place) (frame_at T c.fit.begun c.fit.is_open.begins.entry c.fit.is_open.begins.stands hold)))
     | inr behind ↦
-        (let wide = (first_from d c.is_open.frame c.is_open.start c.is_open.kind).wide in
-        let rest = place - bytes_in_first c.is_open.frame.frame.bytes in
-        let parts = div-add-mod' rest (c.is_open.start.rx_dl - 1) in
-        behind_first place (rest / (c.is_open.start.rx_dl - 1)) (rest % (c.is_open.start.rx_dl - 1)) inside (mod-lt rest (omega arith)) (omega arith))
+        (let wide = (first_from d c.fit.is_open.begins.entry c.fit.is_open.begins.start c.fit.is_open.begins.kind).wide in
+        let rest = place - bytes_in_first c.fit.is_open.begins.entry.frame.bytes in
+        let parts = div-add-mod' rest (c.fit.is_open.begins.start.rx_dl - 1) in
+        behind_first place (rest / (c.fit.is_open.begins.start.rx_dl - 1)) (rest % (c.fit.is_open.begins.start.rx_dl - 1)) inside (mod-lt rest (omega arith)) (omega arith))
   ]
 
 delivered_bytes : (limit : ℕ) (T : List Entry) (position : ℕ) (d : Dir) (m : List ℕ) → HoldBytes T → Delivers limit T position d m → AreBytes m
-delivered_bytes limit T position d m hold (in_one_frame e stands kind) =
-    let lies = (whole_from d e m kind).lies in
-    let frame = subst AreBytes lies.2 (frame_at T position e stands hold) in
+delivered_bytes limit T position d m hold (in_one_frame one) =
+    let lies = (whole_from d one.entry m one.kind).lies in
+    let frame = subst AreBytes lies.2 (frame_at T position one.entry one.stands hold) in
     AllByRecursion-front (λ b. b < 256) m lies.1 (AllByRecursion-back (λ b. b < 256) lies.0 (m ++ lies.1) frame)
 delivered_bytes limit T position d m hold (in_frames c) = from_places m (byte_of_message limit T position d m hold c)
 

@@ -19,16 +19,13 @@ use Rattle.isotp_pdu.specs.declared.Status.TheVariants.{Continue, Wait, Overflow
 use Rattle.isotp_receive.specs.declared.event.Ended.{Ended}
 use Rattle.isotp_receive.specs.declared.event.Cause.TheVariants as cause
 use Rattle.isotp_receive.specs.declared.event.Reason.TheVariants as reason
-use Rattle.isotp_receive.specs.declared.reception.Judged.{Judged}
-use Rattle.isotp_receive.specs.declared.reception.Judged.TheVariants as judged_as
 use Rattle.isotp_receive.specs.Trace.{Entry}
-use Rattle.isotp_receive.specs.Standing.{Standing, stands}
-use Rattle.isotp_receive.specs.Verdict.{VerdictValue, message, began, stored, flowed, dropped, EventValue, verdict, refused, ended_as, on_layout, on_consecutive, on_flow_control}
-use Rattle.isotp_receive.specs.Machine.{judged, on_judged}
+use Rattle.isotp_receive.specs.Fit.{Fit, late, wrong_number, wrong_length, one_more, last}
+use Rattle.isotp_receive.specs.Standing.{Standing, fit_of, stands}
+use Rattle.isotp_receive.specs.Verdict.{VerdictValue, message, began, stored, flowed, dropped, EventValue, verdict, refused, ended_as, on_fit, on_layout, on_consecutive, on_flow_control}
 use Rattle.isotp_receive.specs.CleanTrace.{IsKept, EachClean, IsClean}
 use Rattle.isotp_receive.specs.Events.{events_after, is_dropped, dropped_in, ended_in, unfinished_in, oversize_in, too_long_in}
 use Rattle.isotp_receive.specs.MessageLaws.{EventsGoOn, EventsAreAsMany, TooLongIsAnnounced, CleanIsCounted}
-use Rattle.isotp_receive.proofs.Judgement.{on-judged}
 
 -- ---- a trace that goes on
 
@@ -144,18 +141,17 @@ clean_is_counted limit T = (clean_counts_none limit T, counts_none_is_clean limi
 abbrev NoLength : EventValue → Type 0
 NoLength event = too_long_in event.told ≡ None
 
-judged_length : (d : Dir) (standing : Standing) (judged : Judged) (number : ℕ) (bytes : List ℕ) → NoLength (on_judged d standing judged number bytes)
-judged_length d standing judged_as.Late number bytes = refl
-judged_length d standing judged_as.Sequence number bytes = refl
-judged_length d standing judged_as.Length number bytes = refl
-judged_length d standing judged_as.More number bytes = refl
-judged_length d standing judged_as.Last number bytes = refl
+fit_length : (d : Dir) (standing : Standing) (fit : Fit) (number : ℕ) (bytes : List ℕ) → NoLength (on_fit d standing fit number bytes)
+fit_length d standing late number bytes = refl
+fit_length d standing wrong_number number bytes = refl
+fit_length d standing wrong_length number bytes = refl
+fit_length d standing one_more number bytes = refl
+fit_length d standing last number bytes = refl
 
 consecutive_length : (d : Dir) (own : Option Standing) (micros number can_dl : ℕ) (bytes : List ℕ) → NoLength (on_consecutive d own micros number can_dl bytes)
 consecutive_length d None micros number can_dl bytes = refl
 consecutive_length d (Some standing) micros number can_dl bytes =
-    ap (λ (event : EventValue). too_long_in event.told) (on-judged d standing micros number can_dl bytes)
-    ∙ judged_length d standing (judged standing micros number can_dl) number bytes
+    fit_length d standing (fit_of standing micros number can_dl) number bytes
 
 flow_length : (d : Dir) (other : Option Standing) (status : Status) → NoLength (on_flow_control d other status)
 flow_length d None Continue = refl

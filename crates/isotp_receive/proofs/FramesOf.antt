@@ -11,14 +11,14 @@ use Rattle.isotp_pdu.specs.declared.PduFault.{PduFault}
 use Rattle.isotp_pdu.specs.Layout.{Layout}
 use Rattle.isotp_pdu.specs.Layout as layout
 use Rattle.isotp_pdu.specs.Reading.{layout_of}
-use Rattle.isotp_receive.specs.Trace.{Entry, FirstFrame, Role, single, first, consecutive, continue_or_wait, overflow, no_part, role, same_direction, At}
+use Rattle.isotp_receive.specs.Trace.{Entry, FirstFrame, ConsecutiveFrameAt, single, first, role, same_direction, At}
 use Rattle.isotp_receive.specs.Places.{consecutive_by}
 use Rattle.isotp_receive.specs.Delivers.{Completes, Delivers, in_one_frame, in_frames}
 use Rattle.isotp_receive.specs.Verdict.{VerdictValue, message, began, stored, flowed, dropped, verdict}
 use Rattle.isotp_receive.specs.Recording.{IsConsecutiveFrame, IsRisingFrom, IsSegmented, Carries, unsegmented, segmented, Transfer, IsTransfer, IsIn, last_or, AllBefore, AreApart, EachPair}
 use Rattle.isotp_receive.specs.Recording.{IsGiven, IsIdle, IsRecording}
 use Rattle.isotp_receive.specs.FramesOf.{IsConsecutiveWithin, AreFramesOf, alone, together, AreGivenTheirFrames, CarriesMessage, IsGivenOnce, EachBelongsOnce}
-use Rattle.isotp_receive.specs.Heard.{placed}
+use Rattle.isotp_receive.proofs.Heard.{placed}
 use Rattle.isotp_receive.proofs.ListPositions.{get-same}
 use Rattle.isotp_receive.proofs.PositionLists.{above-least, below-last, last-in, numbered-in}
 use Rattle.isotp_receive.proofs.Directions.{same}
@@ -115,60 +115,45 @@ own-within limit T ts t shared others i p x e first_in last_in low high at own =
 
 -- ---- the frames of a segmented message
 
-record ConsecutiveAt (T : List Entry) (d : Dir) (p : ℕ) : Type 0 where
-  frame : Entry
-  stands : At T p frame
-  kind : consecutive_by (role d frame) ≡ 1
-
-consecutive-own : (r : Role) → consecutive_by r ≡ 1 → IsOwn r
-consecutive-own (consecutive sequence_number can_dl bytes) h = tt
-consecutive-own (single m) h = tt
-consecutive-own (first s) h = tt
-consecutive-own continue_or_wait h = absurd (omega arith)
-consecutive-own overflow h = absurd (omega arith)
-consecutive-own no_part h = absurd (omega arith)
-
 -- no other frame stands there
-not-consecutive : (T : List Entry) (d : Dir) (p : ℕ) (e : Entry) → At T p e → consecutive_by (role d e) ≡ 0 → ConsecutiveAt T d p → ⊥
+not-consecutive : (T : List Entry) (d : Dir) (p : ℕ) (e : Entry) → At T p e → consecutive_by (role d e) ≡ 0 → ConsecutiveFrameAt T d p → ⊥
 not-consecutive T d p e at zero_by c =
-    let is_e : c.frame ≡ e = get-same T p c.frame e c.stands at in
-    let zero : consecutive_by (role d c.frame) ≡ 0 = ap (λ x. consecutive_by (role d x)) is_e ∙ zero_by in
-    let one = c.kind in omega arith
+    let is_e : c.entry ≡ e = get-same T p c.entry e c.stands at in
+    let zero : consecutive_by (role d c.entry) ≡ 0 = ap (λ x. consecutive_by (role d x)) is_e ∙ zero_by in
+    let one = ap consecutive_by c.kind in omega arith
 
 module _ (limit : ℕ) (T : List Entry) (d : Dir) (m : List ℕ) (i : ℕ) (cs : List ℕ) (l : IsSegmented T d m i cs) (rising : IsRisingFrom 0 (i ∷ cs))
     (mine : (x : ℕ) (e : Entry) → i ≤ x → x ≤ last_or i cs → At T x e → IsOwn (role d e) → IsIn x (i ∷ cs)) where
-  at-cs : (x : ℕ) → IsIn x cs → ConsecutiveAt T d x
+  at-cs : (x : ℕ) → IsIn x cs → ConsecutiveFrameAt T d x
   at-cs x j =
-      let w = numbered-in (IsConsecutiveFrame T d m i l.start _ _) 1 x cs l.consecutive_frames j in
-      record { frame = w.1.frame; stands = w.1.stands; kind = ap consecutive_by w.1.kind }
+      let w = numbered-in (IsConsecutiveFrame T d m i l.begins.start _ _) 1 x cs l.consecutive_frames j in
+      w.1.next
 
   -- the reception that the last of them completes began with the first
-  started : (c : Completes limit T (last_or i cs) d m) → c.begun ≡ i
+  started : (c : Completes limit T (last_or i cs) d m) → c.fit.begun ≡ i
   started c =
-      let later = c.is_open.later in
+      let later = c.fit.is_open.later in
       let low = below-last 0 i i cs rising (inl refl) in
-      elim (cases_lt c.begun i) [
+      elim (cases_lt c.fit.begun i) [
         | inl before ↦ absurd (elim (cases_lt i (last_or i cs)) [
-          | inl below ↦ no-first c.is_open.start l.start _ _ _ _ (role d l.frame) l.kind (c.is_open.each i l.frame before below l.stands)
+          | inl below ↦ no-first c.fit.is_open.begins.start l.begins.start _ _ _ _ (role d l.begins.entry) l.begins.kind (c.fit.is_open.each i l.begins.entry before below l.begins.stands)
           | inr most ↦ (let here : last_or i cs ≡ i = omega arith in
-              not-consecutive T d (last_or i cs) l.frame (subst (λ j. At T j l.frame) (sym here) l.stands) (ap consecutive_by l.kind)
-              (record { frame = c.frame; stands = c.stands; kind = ap consecutive_by c.kind }))
+              not-consecutive T d (last_or i cs) l.begins.entry (subst (λ j. At T j l.begins.entry) (sym here) l.begins.stands) (ap consecutive_by l.begins.kind) c.fit.next)
         ])
-        | inr from ↦ elim (mine c.begun c.is_open.frame (omega arith) (omega arith) c.is_open.stands (rw c.is_open.kind tt)) [
+        | inr from ↦ elim (mine c.fit.begun c.fit.is_open.begins.entry (omega arith) (omega arith) c.fit.is_open.begins.stands (rw c.fit.is_open.begins.kind tt)) [
           | inl is ↦ is
-          | inr j ↦ absurd (not-consecutive T d c.begun c.is_open.frame c.is_open.stands (ap consecutive_by c.is_open.kind) (at-cs c.begun j))
+          | inr j ↦ absurd (not-consecutive T d c.fit.begun c.fit.is_open.begins.entry c.fit.is_open.begins.stands (ap consecutive_by c.fit.is_open.begins.kind) (at-cs c.fit.begun j))
         ]
       ]
 
   within-of : (x : ℕ) → IsIn x cs → IsConsecutiveWithin T d i (last_or i cs) x
   within-of x j =
-      let c = at-cs x j in
-      record { later = above-least (suc i) x cs rising.1 j; within = below-last 0 x i cs rising (inr j); frame = c.frame; stands = c.stands; kind = c.kind }
+      record { later = above-least (suc i) x cs rising.1 j; within = below-last 0 x i cs rising (inr j); next = at-cs x j }
 
   of-within : (x : ℕ) → IsConsecutiveWithin T d i (last_or i cs) x → IsIn x cs
   of-within x w =
       let later = w.later in
-      elim (mine x w.frame (omega arith) w.within w.stands (consecutive-own (role d w.frame) w.kind)) [
+      elim (mine x w.next.entry (omega arith) w.within w.next.stands (rw w.next.kind tt)) [
         | inl is ↦ absurd (omega arith)
         | inr j ↦ j
       ]
@@ -176,22 +161,22 @@ module _ (limit : ℕ) (T : List Entry) (d : Dir) (m : List ℕ) (i : ℕ) (cs :
   -- the last of them is no single frame
   last-kind : (e : Entry) → At T (last_or i cs) e → role d e ≡ single m → ⊥
   last-kind e at kind = elim (last-in i cs) [
-    | inl is ↦ (let there : At T i e = subst (λ j. At T j e) is at in let is_e : e ≡ l.frame = get-same T i e l.frame there l.stands in
-        apart m l.start (sym kind ∙ ap (role d) is_e ∙ l.kind))
+    | inl is ↦ (let there : At T i e = subst (λ j. At T j e) is at in let is_e : e ≡ l.begins.entry = get-same T i e l.begins.entry there l.begins.stands in
+        apart m l.begins.start (sym kind ∙ ap (role d) is_e ∙ l.begins.kind))
     | inr j ↦ not-consecutive T d (last_or i cs) e at (ap consecutive_by kind) (at-cs (last_or i cs) j)
   ] where
     apart : (m : List ℕ) (s : FirstFrame) → single m ≡ first s → ⊥
     apart m s h = cc
 
   segmented-frames : Delivers limit T (last_or i cs) d m → AreFramesOf limit T d m (i ∷ cs)
-  segmented-frames (in_one_frame e at kind) = absurd (last-kind e at kind)
+  segmented-frames (in_one_frame one) = absurd (last-kind one.entry one.stands one.kind)
   segmented-frames (in_frames c) = together c (started c) (λ x. (within-of x, of-within x))
 
 -- ---- each message is given the positions of its frames
 
 frames-of : (limit : ℕ) (T : List Entry) (d : Dir) (m ps : List ℕ) → Carries T d m ps → IsRisingFrom 0 ps → Delivers limit T (last_or 0 ps) d m
     → ((i p x : ℕ) (e : Entry) → IsIn i ps → IsIn p ps → i ≤ x → x ≤ p → At T x e → IsOwn (role d e) → IsIn x ps) → AreFramesOf limit T d m ps
-frames-of limit T d m _ (unsegmented e at kind) rising delivers mine = alone e at kind
+frames-of limit T d m _ (unsegmented one) rising delivers mine = alone one
 frames-of limit T d m _ (segmented {begun = i} {positions = cs} l) rising delivers mine =
     segmented-frames limit T d m i cs l rising (λ x e low high at own. mine i (last_or i cs) x e (inl refl) (last-in i cs) low high at own) delivers
 

@@ -1,16 +1,16 @@
 -- The consecutive frames of a reception that is open are full: each carries RX_DL - 1 bytes.
-use Rattle.std.proofs.Common.{◌≡◌, ℕ, ◌==◌, ◌+◌, ◌-◌, ◌*◌, ◌%◌, ◌<◌, ◌≤◌, true, List, [], ◌∷◌, ◌++◌, length, nat_lt, nat_le, ap, arith}
+use Rattle.std.proofs.Common.{◌≡◌, ℕ, ◌+◌, ◌-◌, ◌*◌, ◌<◌, ◌≤◌, true, List, [], ◌∷◌, ◌++◌, length, nat_lt, nat_le, ap, sym, ◌∙◌, arith}
 use Rattle.std.proofs.Common.{length-append, append_assoc}
 use Rattle.std.proofs.lemmas.List.{append-nil}
 use Rattle.std.proofs.lemmas.Bool.{and_parts, ltb-true, leb-true, eqb-true, lt-ltb, false≢true}
 use Rattle.can_log.specs.declared.frame.Dir.{Dir}
 use Rattle.isotp_receive.specs.Trace.{Entry, FirstFrame, Role, single, first, consecutive, continue_or_wait, overflow, no_part, role}
-use Rattle.isotp_receive.specs.OnTime.{n_cr}
 use Rattle.isotp_receive.specs.Places.{consecutive_by, consecutive_frames_in}
-use Rattle.isotp_receive.specs.Standing.{carried_by, carried, reference, carried_after, fits_length, keeps_by, keep, is_open}
+use Rattle.isotp_receive.specs.Standing.{carried_by, carried, standing_of, carried_after, fits_length, keeps_by, keep, is_open}
 use Rattle.isotp_receive.proofs.Products.{sum-grows}
 use Rattle.isotp_receive.proofs.Readings.{IsRoleOf, role_from}
-use Rattle.isotp_receive.proofs.CountedFrames.{taken-append, taken-snoc, carried-snoc}
+use Rattle.isotp_receive.proofs.CountedFrames.{taken-append, taken-snoc, carried-snoc, keep-front}
+use Rattle.isotp_receive.proofs.FitTests.{was-next}
 
 -- what the test says of a reception that is open after these frames
 pub record IsOpenAfter (limit : ℕ) (d : Dir) (s : FirstFrame) (es : List Entry) : Type 0 where
@@ -37,8 +37,9 @@ carried-one : (d : Dir) (s : FirstFrame) (past : List Entry) (micros : ℕ) (x :
     → length (carried d past) ≡ consecutive_frames_in d past * (s.rx_dl - 1)
     → length (carried d past ++ carried_by r) ≡ (consecutive_frames_in d past + consecutive_by r) * (s.rx_dl - 1)
 carried-one d s past micros x (consecutive sequence_number can_dl bytes) from h below full =
-    let fits = (and_parts (sequence_number == (consecutive_frames_in d past + 1) % 16) _ (and_parts (nat_le micros (reference d s.micros past + n_cr)) _ h).1).1 in
-    let whole_frame : can_dl ≡ s.rx_dl = fits_full s.len s.rx_dl (carried_after s (consecutive_frames_in d past)) can_dl fits (omega arith) in
+    let next = was-next (standing_of d s past) micros sequence_number can_dl h in
+    let size = length-append s.bytes (carried d past) in
+    let whole_frame : can_dl ≡ s.rx_dl = fits_full s.len s.rx_dl (length (s.bytes ++ carried d past)) can_dl next.fits (omega arith) in
     simp length-append (omega arith)
 carried-one d s past micros x (single m) from h below full = absurd (false≢true h)
 carried-one d s past micros x (first f) from h below full = absurd (false≢true h)
@@ -75,8 +76,19 @@ pub carried-full : (d : Dir) (s : FirstFrame) (es : List Entry) → keep d s [] 
 carried-full d s es kept room = carried-behind d s [] es kept room (omega arith)
 
 -- and what has come of the message
+pub come-after : (d : Dir) (s : FirstFrame) (es : List Entry) → keep d s [] es ≡ true → carried_after s (consecutive_frames_in d es) < s.len
+    → length (s.bytes ++ carried d es) ≡ carried_after s (consecutive_frames_in d es)
+come-after d s es kept room = omega (arith, length-append s.bytes (carried d es), carried-full d s es kept room)
+
 pub come-so-far : (limit : ℕ) (d : Dir) (s : FirstFrame) (es : List Entry) → is_open limit d s es ≡ true
     → length (s.bytes ++ carried d es) ≡ carried_after s (consecutive_frames_in d es)
-come-so-far limit d s es opens =
-    let after = open-after limit d s es opens in
-    omega (arith, length-append s.bytes (carried d es), carried-full d s es after.kept after.room)
+come-so-far limit d s es opens = let after = open-after limit d s es opens in come-after d s es after.kept after.room
+
+-- before one of these frames too
+pub come-before : (d : Dir) (s : FirstFrame) (es b after : List Entry) → keep d s [] es ≡ true → carried_after s (consecutive_frames_in d es) < s.len
+    → es ≡ b ++ after → length (s.bytes ++ carried d b) ≡ carried_after s (consecutive_frames_in d b)
+come-before d s es b after kept room splits =
+    let count = ap (consecutive_frames_in d) splits ∙ taken-append d b after in
+    let product = ap (λ k. k * (s.rx_dl - 1)) count in
+    let grows = sum-grows (length s.bytes) (consecutive_frames_in d b) (consecutive_frames_in d after) (s.rx_dl - 1) in
+    come-after d s b (keep-front d s [] b after (ap (keep d s []) (sym splits) ∙ kept)) (omega arith)

@@ -4,17 +4,17 @@ use Rattle.std.proofs.Common.{arith, length-append, length-take, inl, inr, get_o
 use Rattle.std.proofs.lemmas.List.{take_all, take_at, take-take, take-append-le, get_or-drop, get_or_append_left, get_or-append-add}
 use Rattle.std.proofs.lemmas.Grind.{get_or_after_one}
 use Rattle.can_log.specs.declared.frame.Dir.{Dir}
-use Rattle.isotp_receive.specs.declared.reception.Judged.TheVariants as judged_as
 use Rattle.isotp_receive.specs.Trace.{Entry, FirstFrame, first, consecutive, role, At}
 use Rattle.isotp_receive.specs.Places.{bytes_in_first, bytes_before, FitsAs}
 use Rattle.isotp_receive.specs.OnTime.{n_cr, IsReference}
-use Rattle.isotp_receive.specs.Standing.{Standing}
+use Rattle.isotp_receive.specs.Fit.{one_more, last}
+use Rattle.isotp_receive.specs.Standing.{Standing, fit_of}
 use Rattle.isotp_receive.specs.Recording.{IsConsecutiveFrame, EachNumbered, IsRisingFrom, IsSegmented, IsIn}
-use Rattle.isotp_receive.specs.Machine.{fresh, judged}
+use Rattle.isotp_receive.specs.Machine.{fresh}
 use Rattle.isotp_receive.proofs.Products.{sum-grows}
 use Rattle.isotp_receive.proofs.PositionLists.{in-append, rising-append, numbered-snoc}
 use Rattle.isotp_receive.proofs.Readings.{first_from, next_from}
-use Rattle.isotp_receive.proofs.Judgement.{was-more, was-last}
+use Rattle.isotp_receive.proofs.FitTests.{was-more, was-last}
 use Rattle.isotp_receive.proofs.References.{moved, begins-at}
 
 -- before position n a first frame stands at `begun`, and its consecutive frames so far at cs
@@ -105,12 +105,7 @@ module _ (limit : ℕ) (T : List Entry) (d : Dir) (n : ℕ) (e : Entry) (at : At
         let r = u.start.rx_dl in
         let from = next_from d e sequence_number can_dl bytes kind in
         record {
-          frame = e;
-          sequence_number = sequence_number;
-          can_dl = can_dl;
-          bytes = bytes;
-          stands = at;
-          kind = kind;
+          next = record { entry = e; stands = at; sequence_number = sequence_number; can_dl = can_dl; bytes = bytes; kind = kind };
           fits = fits;
           on_time = (u.latest, u.last, u.refers, u.at, rw u.time at late);
           holds = λ b lt inside.
@@ -126,7 +121,7 @@ module _ (limit : ℕ) (T : List Entry) (d : Dir) (n : ℕ) (e : Entry) (at : At
 
     -- ---- one more consecutive frame
 
-    pub grow : judged st e.micros sequence_number can_dl ≡ judged_as.More
+    pub grow : fit_of st e.micros sequence_number can_dl ≡ one_more
         → Gathered limit T d (suc n) (record st { taken = st.taken + 1; bytes = st.bytes ++ bytes; reference = e.micros }) i (cs ++ n ∷ [])
     grow j =
         let w = was-more st e.micros sequence_number can_dl j in
@@ -189,7 +184,7 @@ module _ (limit : ℕ) (T : List Entry) (d : Dir) (n : ℕ) (e : Entry) (at : At
 
     -- ---- the last one
 
-    pub complete : judged st e.micros sequence_number can_dl ≡ judged_as.Last → IsSegmented T d (take st.len (st.bytes ++ bytes)) i (cs ++ n ∷ [])
+    pub complete : fit_of st e.micros sequence_number can_dl ≡ last → IsSegmented T d (take st.len (st.bytes ++ bytes)) i (cs ++ n ∷ [])
     complete j =
         let w = was-last st e.micros sequence_number can_dl j in
         let low = w.low in
@@ -223,10 +218,7 @@ module _ (limit : ℕ) (T : List Entry) (d : Dir) (n : ℕ) (e : Entry) (at : At
           last_high = λ same. omega arith;
         } in
         record {
-          frame = u.frame;
-          start = u.start;
-          stands = u.here;
-          kind = u.kind;
+          begins = record { entry = u.frame; stands = u.here; start = u.start; kind = u.kind };
           announces = omega arith;
           least = record {
             enough = omega arith;

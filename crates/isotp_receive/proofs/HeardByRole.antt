@@ -1,5 +1,5 @@
 -- What a frame tells a direction, by the role that it has for it: the message that it completes, or nothing.
-use Rattle.std.proofs.Common.{◌≡◌, ℕ, List, [], ◌∷◌, ◌++◌, take, nat_le, ◌==◌, Option, Some, None, Result, Ok, Err, refl, sym, ◌∙◌, ap, cond, inl, inr}
+use Rattle.std.proofs.Common.{◌≡◌, ℕ, List, [], ◌∷◌, ◌++◌, take, nat_le, ◌==◌, Option, Some, None, Result, Ok, Err, refl, sym, ap, cond, inl, inr}
 use Rattle.std.proofs.lemmas.Bool.{cases_Bool}
 use Rattle.can_log.specs.Dir.{other_direction}
 use Rattle.can_log.specs.declared.frame.Dir.{Dir}
@@ -8,29 +8,26 @@ use Rattle.isotp_pdu.specs.Reading.{layout_of}
 use Rattle.isotp_pdu.specs.Layout as layout
 use Rattle.isotp_pdu.specs.declared.PduFault.{PduFault}
 use Rattle.isotp_pdu.specs.declared.Status.TheVariants.{Continue, Wait, Overflow}
-use Rattle.isotp_receive.specs.declared.reception.Judged.TheVariants as judged_as
-use Rattle.isotp_receive.specs.declared.reception.Judged.{Judged}
 use Rattle.isotp_receive.specs.declared.event.Reason.TheVariants as as_reason
 use Rattle.isotp_receive.specs.Trace.{Entry, Role, single, first, consecutive, continue_or_wait, overflow, no_part, role, own_role, other_role, same_direction}
-use Rattle.isotp_receive.specs.Standing.{Standing, stands}
-use Rattle.isotp_receive.specs.Verdict.{began, dropped, verdict, on_layout, on_continue_or_wait, on_overflow}
-use Rattle.isotp_receive.specs.Heard.{placed}
-use Rattle.isotp_receive.specs.Machine.{judged, on_judged}
+use Rattle.isotp_receive.specs.Fit.{Fit, late, wrong_number, wrong_length, one_more, last}
+use Rattle.isotp_receive.specs.Standing.{Standing, fit_of, stands}
+use Rattle.isotp_receive.specs.Verdict.{began, dropped, verdict, on_fit, on_layout, on_continue_or_wait, on_overflow}
+use Rattle.isotp_receive.proofs.Heard.{placed}
 use Rattle.isotp_receive.proofs.Directions.{same}
-use Rattle.isotp_receive.proofs.Judgement.{on-judged}
 
 -- the message that a frame of this role completes, where this stands
-abbrev pub completed_by : Judged → Standing → List ℕ → List (List ℕ)
-completed_by judged_as.Last s bytes = take s.len (s.bytes ++ bytes) ∷ []
-completed_by judged_as.More s bytes = []
-completed_by judged_as.Late s bytes = []
-completed_by judged_as.Sequence s bytes = []
-completed_by judged_as.Length s bytes = []
+abbrev pub completed_by : Fit → Standing → List ℕ → List (List ℕ)
+completed_by last s bytes = take s.len (s.bytes ++ bytes) ∷ []
+completed_by one_more s bytes = []
+completed_by late s bytes = []
+completed_by wrong_number s bytes = []
+completed_by wrong_length s bytes = []
 
 abbrev pub completed : Option Standing → ℕ → Role → List (List ℕ)
 completed o micros (single m) = m ∷ []
 completed None micros (consecutive sequence_number can_dl bytes) = []
-completed (Some s) micros (consecutive sequence_number can_dl bytes) = completed_by (judged s micros sequence_number can_dl) s bytes
+completed (Some s) micros (consecutive sequence_number can_dl bytes) = completed_by (fit_of s micros sequence_number can_dl) s bytes
 completed o micros (first s) = []
 completed o micros continue_or_wait = []
 completed o micros overflow = []
@@ -40,13 +37,13 @@ abbrev pub at_place : ℕ → List (List ℕ) → List (ℕ × List ℕ)
 at_place n [] = []
 at_place n (m ∷ ms) = (n, m) ∷ []
 
-placed-judged : (n : ℕ) (d : Dir) (s : Standing) (j : Judged) (sequence_number : ℕ) (bytes : List ℕ)
-    → placed n (on_judged d s j sequence_number bytes).told ≡ at_place n (completed_by j s bytes)
-placed-judged n d s judged_as.Last sequence_number bytes = refl
-placed-judged n d s judged_as.More sequence_number bytes = refl
-placed-judged n d s judged_as.Late sequence_number bytes = refl
-placed-judged n d s judged_as.Sequence sequence_number bytes = refl
-placed-judged n d s judged_as.Length sequence_number bytes = refl
+placed-fit : (n : ℕ) (d : Dir) (s : Standing) (fit : Fit) (sequence_number : ℕ) (bytes : List ℕ)
+    → placed n (on_fit d s fit sequence_number bytes).told ≡ at_place n (completed_by fit s bytes)
+placed-fit n d s last sequence_number bytes = refl
+placed-fit n d s one_more sequence_number bytes = refl
+placed-fit n d s late sequence_number bytes = refl
+placed-fit n d s wrong_number sequence_number bytes = refl
+placed-fit n d s wrong_length sequence_number bytes = refl
 
 placed-pace : (n : ℕ) (o : Option Standing) → placed n (on_continue_or_wait o).told ≡ []
 placed-pace n None = refl
@@ -67,7 +64,7 @@ placed-reading n limit d own others line micros (Ok (layout.single m)) = refl
 placed-reading n limit d own others line micros (Ok (layout.first len rx_dl bytes)) = placed-first n limit len
 placed-reading n limit d None others line micros (Ok (layout.consecutive sequence_number can_dl bytes)) = refl
 placed-reading n limit d (Some s) others line micros (Ok (layout.consecutive sequence_number can_dl bytes)) =
-    ap (λ a. placed n a.told) (on-judged d s micros sequence_number can_dl bytes) ∙ placed-judged n d s (judged s micros sequence_number can_dl) sequence_number bytes
+    placed-fit n d s (fit_of s micros sequence_number can_dl) sequence_number bytes
 placed-reading n limit d own others line micros (Ok (layout.flow_control Continue)) = placed-pace n others
 placed-reading n limit d own others line micros (Ok (layout.flow_control Wait)) = placed-pace n others
 placed-reading n limit d own others line micros (Ok (layout.flow_control Overflow)) = placed-overflow n (other_direction d) others

@@ -10,9 +10,9 @@ pub mod Readings
 pub mod Fits
 -- what stands after one more frame, as the code keeps it
 pub mod CountedFrames
+pub mod FitTests
 pub mod FullFrames
 pub mod StandsAlone
-pub mod Judgement
 pub mod OneMore
 pub mod BothDirections
 pub mod Growths
@@ -26,9 +26,10 @@ pub mod BytesAtPlaces
 pub mod SameMessage
 pub mod StandingLaws
 -- verdicts
+pub mod Heard
 pub mod HeardByRole
 pub mod DeliversLaws
-pub mod JudgedFrames
+pub mod FittedFrames
 pub mod VerdictLaws
 -- the messages of a trace
 pub mod MessagesOfMore

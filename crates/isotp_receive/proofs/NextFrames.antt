@@ -5,19 +5,18 @@ use Rattle.std.proofs.lemmas.Bool.{lt-ltb, le-ltb, le-leb, eq-eqb, cases_lt}
 use Rattle.std.proofs.lemmas.List.{take_all, get_or-drop}
 use Rattle.std.proofs.lemmas.Grind.{get_or_after_one}
 use Rattle.can_log.specs.declared.frame.Dir.{Dir}
-use Rattle.isotp_receive.specs.declared.reception.Judged.TheVariants as judged_as
 use Rattle.isotp_receive.specs.Trace.{Entry, consecutive, role, At}
 use Rattle.isotp_receive.specs.Places.{bytes_in_first, bytes_before, FitsAs}
 use Rattle.isotp_receive.specs.OnTime.{n_cr}
-use Rattle.isotp_receive.specs.Standing.{Standing}
-use Rattle.isotp_receive.specs.Verdict.{is_on_time, expected, has_length}
+use Rattle.isotp_receive.specs.Fit.{one_more, last}
+use Rattle.isotp_receive.specs.Standing.{Standing, is_on_time, expected, has_length, fit_of}
 use Rattle.isotp_receive.specs.Recording.{IsSegmented}
-use Rattle.isotp_receive.specs.Machine.{after, fresh, judged}
+use Rattle.isotp_receive.specs.Machine.{after, fresh}
 use Rattle.isotp_receive.proofs.Fronts.{front-goes-on}
 use Rattle.isotp_receive.proofs.ListPositions.{get-same}
 use Rattle.isotp_receive.proofs.Readings.{first_from, next_from}
 use Rattle.isotp_receive.proofs.Fits.{fits-more, fits-last}
-use Rattle.isotp_receive.proofs.Judgement.{is-more, is-last}
+use Rattle.isotp_receive.proofs.FitTests.{is-more, is-last}
 use Rattle.isotp_receive.proofs.References.{moved, same-reference, begins-at}
 use Rattle.isotp_receive.proofs.HeardByRole.{completed}
 use Rattle.isotp_receive.proofs.UnderWay.{UnderWay}
@@ -41,14 +40,14 @@ module _ (limit : ℕ) (T : List Entry) (d : Dir) (n : ℕ) (e : Entry) (at : At
     fits : FitsAs s.in_first s.start.rx_dl s.start.len s.count (s.number + 1) sequence_number can_dl
     grown : take (length m) (st.bytes ++ bytes) ≡ take (bytes_before s.in_first s.start.rx_dl s.number + length bytes) m
 
-  is-next : (st : Standing) (m cs : List ℕ) (s : UnderWay T d n st m (n ∷ cs)) → IsNextOf st m cs s s.parts.0.sequence_number s.parts.0.can_dl s.parts.0.bytes
+  is-next : (st : Standing) (m cs : List ℕ) (s : UnderWay T d n st m (n ∷ cs)) → IsNextOf st m cs s s.parts.0.next.sequence_number s.parts.0.next.can_dl s.parts.0.next.bytes
   is-next st m cs s =
       let part = s.parts.0 in
       let f = s.in_first in
       let r = s.start.rx_dl in
-      let is_e : part.frame ≡ e = get-same T n part.frame e part.stands at in
-      let kind : role d e ≡ consecutive part.sequence_number part.can_dl part.bytes = ap (role d) (sym is_e) ∙ part.kind in
-      let from = next_from d e part.sequence_number part.can_dl part.bytes kind in
+      let is_e : part.next.entry ≡ e = get-same T n part.next.entry e part.next.stands at in
+      let kind : role d e ≡ consecutive part.next.sequence_number part.next.can_dl part.next.bytes = ap (role d) (sym is_e) ∙ part.next.kind in
+      let from = next_from d e part.next.sequence_number part.next.can_dl part.next.bytes kind in
       let left = s.left in
       let has_more = s.least.fewer s.number (omega arith) in
       let announces = s.announces in
@@ -61,7 +60,7 @@ module _ (limit : ℕ) (T : List Entry) (d : Dir) (n : ℕ) (e : Entry) (at : At
       let late_last : e.micros ≤ s.last.micros + n_cr = rw same_last at late in
       let back : s.number + 1 - 1 ≡ s.number = omega arith in
       let product = ap (λ j. j * (r - 1)) back in
-      let short : part.can_dl ≤ r = at_most f r s.start.len s.count (s.number + 1) part.sequence_number part.can_dl part.fits (omega arith) in
+      let short : part.next.can_dl ≤ r = at_most f r s.start.len s.count (s.number + 1) part.next.sequence_number part.next.can_dl part.fits (omega arith) in
       record {
         kind = kind;
         have = ap length s.bytes ∙ omega (arith, length-take (bytes_before f r s.number) m);
@@ -70,7 +69,7 @@ module _ (limit : ℕ) (T : List Entry) (d : Dir) (n : ℕ) (e : Entry) (at : At
         expected_one = eq-eqb _ _ (rw s.taken part.fits.in_sequence);
         carried = from.size;
         fits = part.fits;
-        grown = front-goes-on m st.bytes part.bytes (bytes_before f r s.number) s.bytes (omega arith) (λ b lt in_m.
+        grown = front-goes-on m st.bytes part.next.bytes (bytes_before f r s.number) s.bytes (omega arith) (λ b lt in_m.
             ap (λ j. get_or m (bytes_before f r j + b) 0) (sym back)
             ∙ part.holds b (let c = from.size in omega arith) (omega (arith, product))
             ∙ ap (λ x. get_or x.frame.bytes (1 + b) 0) is_e ∙ sym (get_or_after_one e.frame.bytes b 0) ∙ ap (λ l. get_or l b 0) (sym from.lies));
@@ -78,8 +77,8 @@ module _ (limit : ℕ) (T : List Entry) (d : Dir) (n : ℕ) (e : Entry) (at : At
 
   -- ---- the last one
 
-  judged-last : (st : Standing) (m : List ℕ) (s : UnderWay T d n st m (n ∷ [])) → judged st e.micros s.parts.0.sequence_number s.parts.0.can_dl ≡ judged_as.Last
-  judged-last st m s =
+  fits-as-last : (st : Standing) (m : List ℕ) (s : UnderWay T d n st m (n ∷ [])) → fit_of st e.micros s.parts.0.next.sequence_number s.parts.0.next.can_dl ≡ last
+  fits-as-last st m s =
       let next = is-next st m [] s in
       let part = s.parts.0 in
       let r = s.start.rx_dl in
@@ -96,9 +95,9 @@ module _ (limit : ℕ) (T : List Entry) (d : Dir) (n : ℕ) (e : Entry) (at : At
       let have = next.have in
       let below = next.below in
       let wide = s.wide in
-      let fits : has_length st part.can_dl ≡ true =
-      fits-last st.len st.rx_dl (length st.bytes) part.can_dl (omega arith) (omega arith) (omega arith) (omega arith) in
-      is-last st e.micros part.sequence_number part.can_dl next.on_time next.expected_one fits (le-ltb _ _ (omega arith))
+      let fits : has_length st part.next.can_dl ≡ true =
+      fits-last st.len st.rx_dl (length st.bytes) part.next.can_dl (omega arith) (omega arith) (omega arith) (omega arith) in
+      is-last st e.micros part.next.sequence_number part.next.can_dl next.on_time next.expected_one fits (le-ltb _ _ (omega arith))
 
   pub last-told : (st : Standing) (m : List ℕ) (s : UnderWay T d n st m (n ∷ [])) → completed (Some st) e.micros (role d e) ≡ m ∷ []
   last-told st m s =
@@ -112,17 +111,17 @@ module _ (limit : ℕ) (T : List Entry) (d : Dir) (n : ℕ) (e : Entry) (at : At
       let carried = next.carried in
       let announces = s.announces in
       let whole_len : st.len ≡ length m = s.len ∙ s.announces in
-      let enough : length m ≤ bytes_before s.in_first r s.number + length part.bytes = omega arith in
-      rw (next.kind, judged-last st m s) (ap (λ l. l ∷ []) (ap (λ j. take j (st.bytes ++ part.bytes)) whole_len ∙ next.grown ∙ take_all _ m enough))
+      let enough : length m ≤ bytes_before s.in_first r s.number + length part.next.bytes = omega arith in
+      rw (next.kind, fits-as-last st m s) (ap (λ l. l ∷ []) (ap (λ j. take j (st.bytes ++ part.next.bytes)) whole_len ∙ next.grown ∙ take_all _ m enough))
 
   pub last-after : (st : Standing) (m : List ℕ) (s : UnderWay T d n st m (n ∷ [])) → after limit (Some st) e.micros (role d e) ≡ None
-  last-after st m s = let next = is-next st m [] s in rw (next.kind, judged-last st m s) refl
+  last-after st m s = let next = is-next st m [] s in rw (next.kind, fits-as-last st m s) refl
 
   -- ---- one that is not the last
 
   module _ (st : Standing) (m : List ℕ) (c : ℕ) (cs : List ℕ) (s : UnderWay T d n st m (n ∷ c ∷ cs)) where
-    judged-more : judged st e.micros s.parts.0.sequence_number s.parts.0.can_dl ≡ judged_as.More
-    judged-more =
+    fits-as-more : fit_of st e.micros s.parts.0.next.sequence_number s.parts.0.next.can_dl ≡ one_more
+    fits-as-more =
         let next = is-next st m (c ∷ cs) s in
         let part = s.parts.0 in
         let left = s.left in
@@ -133,17 +132,17 @@ module _ (limit : ℕ) (T : List Entry) (d : Dir) (n : ℕ) (e : Entry) (at : At
         let rx_dl = s.rx_dl in
         let have = next.have in
         let wide = s.wide in
-        let fits : has_length st part.can_dl ≡ true = fits-more st.len st.rx_dl (length st.bytes) part.can_dl (omega arith) (omega arith) (omega arith) in
-        is-more st e.micros part.sequence_number part.can_dl next.on_time next.expected_one fits (lt-ltb _ _ (omega arith))
+        let fits : has_length st part.next.can_dl ≡ true = fits-more st.len st.rx_dl (length st.bytes) part.next.can_dl (omega arith) (omega arith) (omega arith) in
+        is-more st e.micros part.next.sequence_number part.next.can_dl next.on_time next.expected_one fits (lt-ltb _ _ (omega arith))
 
     abbrev pub grown-by : Standing
-    grown-by = record st { taken = st.taken + 1; bytes = st.bytes ++ s.parts.0.bytes; reference = e.micros }
+    grown-by = record st { taken = st.taken + 1; bytes = st.bytes ++ s.parts.0.next.bytes; reference = e.micros }
 
     pub more-told : completed (Some st) e.micros (role d e) ≡ []
-    more-told = let next = is-next st m (c ∷ cs) s in rw (next.kind, judged-more) refl
+    more-told = let next = is-next st m (c ∷ cs) s in rw (next.kind, fits-as-more) refl
 
     pub more-after : after limit (Some st) e.micros (role d e) ≡ Some grown-by
-    more-after = let next = is-next st m (c ∷ cs) s in rw (next.kind, judged-more) refl
+    more-after = let next = is-next st m (c ∷ cs) s in rw (next.kind, fits-as-more) refl
 
     pub more-under-way : UnderWay T d (suc n) grown-by m (c ∷ cs)
     more-under-way =
@@ -159,8 +158,8 @@ module _ (limit : ℕ) (T : List Entry) (d : Dir) (n : ℕ) (e : Entry) (at : At
         let have = next.have in
         let wide = s.wide in
         let announces = s.announces in
-        let inside : length (st.bytes ++ part.bytes) ≤ length m = omega (arith, length-append st.bytes part.bytes) in
-        let size : bytes_before f r s.number + length part.bytes ≡ bytes_before f r (s.number + 1) = omega arith in
+        let inside : length (st.bytes ++ part.next.bytes) ≤ length m = omega (arith, length-append st.bytes part.next.bytes) in
+        let size : bytes_before f r s.number + length part.next.bytes ≡ bytes_before f r (s.number + 1) = omega arith in
         let low : s.begun ≤ n = (let a = s.refers.from in let b = s.refers.below in omega arith) in
         record {
           begun = s.begun;
@@ -174,7 +173,7 @@ module _ (limit : ℕ) (T : List Entry) (d : Dir) (n : ℕ) (e : Entry) (at : At
           len = s.len;
           rx_dl = s.rx_dl;
           taken = ap (λ j. j + 1) s.taken;
-          bytes = sym (take_all (length m) (st.bytes ++ part.bytes) inside) ∙ next.grown ∙ ap (λ j. take j m) size;
+          bytes = sym (take_all (length m) (st.bytes ++ part.next.bytes) inside) ∙ next.grown ∙ ap (λ j. take j m) size;
           left = omega arith;
           parts = s.parts.1;
           latest = n;
@@ -186,20 +185,20 @@ module _ (limit : ℕ) (T : List Entry) (d : Dir) (n : ℕ) (e : Entry) (at : At
 
   -- ---- the frame at n is the first frame of a message
 
-  pub begun-under-way : (m cs : List ℕ) (l : IsSegmented T d m n cs) → UnderWay T d (suc n) (fresh l.start) m cs
+  pub begun-under-way : (m cs : List ℕ) (l : IsSegmented T d m n cs) → UnderWay T d (suc n) (fresh l.begins.start) m cs
   begun-under-way m cs l =
-      let is_e : l.frame ≡ e = get-same T n l.frame e l.stands at in
-      let from = first_from d l.frame l.start l.kind in
-      let f = bytes_in_first l.frame.frame.bytes in
-      let r = l.start.rx_dl in
+      let is_e : l.begins.entry ≡ e = get-same T n l.begins.entry e l.begins.stands at in
+      let from = first_from d l.begins.entry l.begins.start l.begins.kind in
+      let f = bytes_in_first l.begins.entry.frame.bytes in
+      let r = l.begins.start.rx_dl in
       let announces = l.announces in
-      let grown = front-goes-on m [] l.start.bytes 0 refl (omega arith) (λ b lt in_m.
-      l.holds (0 + b) (omega arith) ∙ ap (λ j. get_or l.frame.frame.bytes j 0) (let j : r - f + (0 + b) ≡ r - f + b = omega arith in j)
-      ∙ sym (get_or-drop (r - f) l.frame.frame.bytes b 0) ∙ ap (λ x. get_or x b 0) (sym from.lies)) in
-      let sum : 0 + length l.start.bytes ≡ bytes_before f r 0 = omega arith in
+      let grown = front-goes-on m [] l.begins.start.bytes 0 refl (omega arith) (λ b lt in_m.
+      l.holds (0 + b) (omega arith) ∙ ap (λ j. get_or l.begins.entry.frame.bytes j 0) (let j : r - f + (0 + b) ≡ r - f + b = omega arith in j)
+      ∙ sym (get_or-drop (r - f) l.begins.entry.frame.bytes b 0) ∙ ap (λ x. get_or x b 0) (sym from.lies)) in
+      let sum : 0 + length l.begins.start.bytes ≡ bytes_before f r 0 = omega arith in
       record {
         begun = n;
-        start = l.start;
+        start = l.begins.start;
         in_first = f;
         count = length cs;
         number = 0;
@@ -209,7 +208,7 @@ module _ (limit : ℕ) (T : List Entry) (d : Dir) (n : ℕ) (e : Entry) (at : At
         len = refl;
         rx_dl = refl;
         taken = refl;
-        bytes = sym (take_all (length m) l.start.bytes (omega arith)) ∙ grown ∙ ap (λ j. take j m) sum;
+        bytes = sym (take_all (length m) l.begins.start.bytes (omega arith)) ∙ grown ∙ ap (λ j. take j m) sum;
         left = omega arith;
         parts = l.consecutive_frames;
         latest = n;

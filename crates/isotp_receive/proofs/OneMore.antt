@@ -7,15 +7,14 @@ use Rattle.std.proofs.Math.Bool.{and-true}
 use Rattle.can_log.specs.declared.frame.Dir.{Dir}
 use Rattle.isotp_receive.specs.Trace.{Entry, FirstFrame, Role, single, first, consecutive, continue_or_wait, overflow, no_part, role}
 use Rattle.isotp_receive.specs.Places.{consecutive_by, consecutive_frames_in}
-use Rattle.isotp_receive.specs.Standing.{carried_by, carried, referred, reference, carried_after, fits_length, keeps_by, keep, is_open, Standing, standing_of, since, or_else, stands}
-use Rattle.isotp_receive.specs.Verdict.{is_on_time, expected, has_length, wants_more}
+use Rattle.isotp_receive.specs.Standing.{carried_by, carried, referred, reference, carried_after, is_on_time, expected, has_length, wants_more, keeps_by, keep, is_open, Standing, standing_of, since, or_else, stands}
 use Rattle.isotp_receive.specs.Machine.{continued_by, continued, continue, after}
 use Rattle.isotp_receive.proofs.Choices.{stopped, unchanged, stopped-at-zero, moved-behind}
 use Rattle.isotp_receive.proofs.Readings.{IsRoleOf, role_from}
 use Rattle.isotp_receive.proofs.CountedFrames.{taken-snoc, carried-snoc, reference-snoc, keep-snoc}
 use Rattle.isotp_receive.proofs.FullFrames.{carried-full}
 use Rattle.isotp_receive.proofs.StandsAlone.{since-alone}
-use Rattle.isotp_receive.proofs.Judgement.{by_tests}
+use Rattle.isotp_receive.proofs.FitTests.{by_tests, next-tests}
 
 -- ---- a reception goes on where all tests pass
 
@@ -74,14 +73,22 @@ module _ (limit : ℕ) (d : Dir) (s : FirstFrame) (es : List Entry) (micros : �
   one-later (single m) = stopped within (nat_lt (carried_after s (consecutive_frames_in d es + 0)) s.len) kept (is_open limit d s es) _ ∙ pulled (single m)
   one-later (first f) = stopped within (nat_lt (carried_after s (consecutive_frames_in d es + 0)) s.len) kept (is_open limit d s es) _ ∙ pulled (first f)
   one-later (consecutive sequence_number can_dl bytes) =
-      moved-behind within room (nat_lt (carried_after s (consecutive_frames_in d es + 1)) s.len) (wants_more st) kept
-      (is_on_time st micros) (sequence_number == expected st)
-      (fits_length s.len s.rx_dl (carried_after s (consecutive_frames_in d es)) can_dl) (has_length st can_dl) _ _
+      ap (λ next. cond (within && (nat_lt (carried_after s (consecutive_frames_in d es + 1)) s.len && (kept && next))) (Some (record {
+        line = s.line;
+        len = s.len;
+        rx_dl = s.rx_dl;
+        taken = consecutive_frames_in d es + 1;
+        bytes = s.bytes ++ (carried d es ++ bytes);
+        reference = micros;
+      })) None)
+      (next-tests st micros sequence_number can_dl)
+      ∙ moved-behind within room (nat_lt (carried_after s (consecutive_frames_in d es + 1)) s.len) (wants_more st) kept
+      (is_on_time st micros) (sequence_number == expected st) (has_length st can_dl) _ _
       (λ h. lt-ltb _ _ (omega (arith, ltb-true (carried_after s (consecutive_frames_in d es + 1)) s.len h)))
       (λ ha hb hk.
       let have : length st.bytes ≡ carried_after s (consecutive_frames_in d es) =
       simp length-append (omega (arith, carried-full d s es hk (ltb-true _ _ hb))) in
-      (ap (λ n. fits_length s.len s.rx_dl n can_dl) (sym have), ap (λ n. nat_lt n s.len) (omega (arith, have))))
+      ap (λ n. nat_lt n s.len) (omega (arith, have)))
       (ap (λ b. record { line = s.line; len = s.len; rx_dl = s.rx_dl; taken = consecutive_frames_in d es + 1; bytes = b; reference = micros })
       (sym (append_assoc s.bytes (carried d es) bytes)))
       ∙ ap (λ o. cond (is_open limit d s es) o None) (sym (goes_if st micros sequence_number can_dl bytes))

@@ -8,25 +8,31 @@ use Rattle.can_log.specs.declared.frame.Dir.{Dir}
 use Rattle.isotp_receive.specs.Trace.{Entry, FirstFrame, Role, single, first, consecutive, continue_or_wait, overflow, no_part, role}
 use Rattle.isotp_receive.specs.Standing.{keeps_by, keep, is_open, Standing, standing_of, since, or_else, stands}
 use Rattle.isotp_receive.proofs.ListPositions.{cons-head, cons-tail}
+use Rattle.isotp_receive.proofs.CountedFrames.{keep-snoc}
 use Rattle.isotp_receive.proofs.StandsAlone.{since-alone}
 
 -- ---- each frame since leaves it open
 
+-- where each does, so long as those before it do
+keep-from : (d : Dir) (s : FirstFrame) (past es : List Entry) → keep d s [] past ≡ true
+    → ((between after : List Entry) (e : Entry) → es ≡ between ++ e ∷ after → keep d s [] (past ++ between) ≡ true
+    → keeps_by d s (past ++ between) e.micros (role d e) ≡ true) → keep d s past es ≡ true
+keep-from d s past [] before h = refl
+keep-from d s past (e ∷ es) before h =
+    let here : keeps_by d s past e.micros (role d e) ≡ true =
+    subst (λ p. keeps_by d s p e.micros (role d e) ≡ true) (append-nil past) (h [] es e refl (rw append-nil before)) in
+    and_from _ _ here
+    (keep-from d s (past ++ e ∷ []) es (keep-snoc d s [] past e ∙ and_from _ _ before here)
+    (λ between after x q kept. rw append_assoc (h (e ∷ between) after x (ap (λ l. e ∷ l) q) (rw append_assoc at kept))))
+
+pub keep-from-each : (d : Dir) (s : FirstFrame) (es : List Entry)
+    → ((between after : List Entry) (e : Entry) → es ≡ between ++ e ∷ after → keep d s [] between ≡ true
+    → IsTrue (keeps_by d s between e.micros (role d e))) → keep d s [] es ≡ true
+keep-from-each d s es h = keep-from d s [] es refl h
+
 Each : Dir → FirstFrame → List Entry → List Entry → Type 0
 Each d s past es =
     (between after : List Entry) (e : Entry) → es ≡ between ++ e ∷ after → keeps_by d s (past ++ between) e.micros (role d e) ≡ true
-
-keep-from : (d : Dir) (s : FirstFrame) (past es : List Entry) → Each d s past es → keep d s past es ≡ true
-unfolding Each
-keep-from d s past [] h = refl
-keep-from d s past (e ∷ es) h =
-    and_from _ _ (subst (λ p. keeps_by d s p e.micros (role d e) ≡ true) (append-nil past) (h [] es e refl))
-    (keep-from d s (past ++ e ∷ []) es (λ between after x q. rw append_assoc (h (e ∷ between) after x (ap (λ l. e ∷ l) q))))
-
-pub keep-from-each : (d : Dir) (s : FirstFrame) (es : List Entry)
-    → ((between after : List Entry) (e : Entry) → es ≡ between ++ e ∷ after → IsTrue (keeps_by d s between e.micros (role d e))) → keep d s [] es ≡ true
-unfolding Each
-keep-from-each d s es h = keep-from d s [] es h
 
 keep-each : (d : Dir) (s : FirstFrame) (past es : List Entry) → keep d s past es ≡ true → Each d s past es
 unfolding Each

@@ -1,18 +1,19 @@
 -- A reception that is open by the positions of a trace stands, and what stands is open by them.
-use Rattle.std.proofs.Common.{◌≡◌, ℕ, suc, ◌+◌, ◌%◌, ◌<◌, true, List, ◌∷◌, ◌++◌, length, nat_lt, nat_le, ◌==◌, refl, sym, ◌∙◌, ap, arith, subst}
+use Rattle.std.proofs.Common.{◌≡◌, ℕ, suc, ◌+◌, ◌<◌, true, List, [], ◌∷◌, ◌++◌, length, nat_lt, refl, sym, ◌∙◌, ap, arith, subst}
 use Rattle.std.proofs.Common.{append_assoc, length-append}
 use Rattle.std.proofs.lemmas.Bool.{and_parts, and_from, ltb-true, lt-ltb, le-leb, eqb-true, eq-eqb, false≢true}
 use Rattle.can_log.specs.declared.frame.Dir.{Dir}
 use Rattle.isotp_receive.specs.Trace.{Entry, At, FirstFrame, Role, single, first, consecutive, continue_or_wait, overflow, no_part, role}
 use Rattle.isotp_receive.specs.Places.{bytes_in_first, bytes_before, IsConsecutiveCount, consecutive_frames_in, between}
-use Rattle.isotp_receive.specs.OnTime.{n_cr, IsOnTime}
-use Rattle.isotp_receive.specs.Standing.{reference, carried_after, fits_length, keeps_by, is_open}
+use Rattle.isotp_receive.specs.OnTime.{IsOnTime}
+use Rattle.isotp_receive.specs.Standing.{carried, reference, standing_of, carried_after, fits_length, keeps_by, keep, is_open}
 use Rattle.isotp_receive.specs.OpenReception.{LeavesOpen, IsOpenAt}
 use Rattle.isotp_receive.proofs.ListPositions.{get-here, get-behind, get-left, split-at, split-behind, range-behind, regrouped, split-length}
 use Rattle.isotp_receive.proofs.Readings.{first_from}
 use Rattle.isotp_receive.proofs.Fits.{room-join, fits-join}
 use Rattle.isotp_receive.proofs.CountedFrames.{taken-append}
-use Rattle.isotp_receive.proofs.FullFrames.{open-after}
+use Rattle.isotp_receive.proofs.FullFrames.{open-after, come-after, come-before}
+use Rattle.isotp_receive.proofs.FitTests.{was-next, is-next-one}
 use Rattle.isotp_receive.proofs.OpenLaws.{kept-at, keep-from-each}
 use Rattle.isotp_receive.proofs.References.{refers, on-time-from, on-time-to}
 use Rattle.isotp_receive.proofs.ConsecutiveCounts.{below-count, count-exists}
@@ -20,25 +21,25 @@ use Rattle.isotp_receive.proofs.ConsecutiveCounts.{below-count, count-exists}
 -- ---- a frame x behind the frames b, which stand behind the first frame e0 that began the reception s
 
 module _ (d : Dir) (before : List Entry) (e0 : Entry) (s : FirstFrame) (begins : role d e0 ≡ first s)
-    (n : ℕ) (least : IsConsecutiveCount (bytes_in_first e0.frame.bytes) s.rx_dl s.len n) (b : List Entry) (x : Entry) (after : List Entry) where
+    (n : ℕ) (least : IsConsecutiveCount (bytes_in_first e0.frame.bytes) s.rx_dl s.len n) (b : List Entry) (x : Entry) (after : List Entry)
+    (come : length (s.bytes ++ carried d b) ≡ carried_after s (consecutive_frames_in d b)) where
   abbrev pub LeavesItOpen : Role → Type 0
   LeavesItOpen r =
       LeavesOpen s (bytes_in_first e0.frame.bytes) n (consecutive_frames_in d b)
       (IsOnTime (before ++ e0 ∷ (b ++ x ∷ after)) d (length before) (suc (length before) + length b) x) r
 
-  size : carried_after s (consecutive_frames_in d b) ≡ bytes_before (bytes_in_first e0.frame.bytes) s.rx_dl (consecutive_frames_in d b)
-  size = room-join d e0 s (consecutive_frames_in d b) begins
+  size : length (s.bytes ++ carried d b) ≡ bytes_before (bytes_in_first e0.frame.bytes) s.rx_dl (consecutive_frames_in d b)
+  size = come ∙ room-join d e0 s (consecutive_frames_in d b) begins
 
   pub leaves-by : (r : Role) → keeps_by d s b x.micros r ≡ true → LeavesItOpen r
   leaves-by (consecutive sequence_number can_dl bytes) h =
-      let on = and_parts (nat_le x.micros (reference d s.micros b + n_cr)) _ h in
-      let number = and_parts (sequence_number == (consecutive_frames_in d b + 1) % 16) _ on.1 in
+      let next = was-next (standing_of d s b) x.micros sequence_number can_dl h in
       let fits : fits_length s.len s.rx_dl (bytes_before (bytes_in_first e0.frame.bytes) s.rx_dl (consecutive_frames_in d b)) can_dl ≡ true =
-      subst (λ have. fits_length s.len s.rx_dl have can_dl ≡ true) size number.1 in
+      subst (λ have. fits_length s.len s.rx_dl have can_dl ≡ true) size next.fits in
       let have = ltb-true _ _ (and_parts (nat_lt _ s.len) _ fits).0 in
       let below = below-count (bytes_in_first e0.frame.bytes) s.rx_dl s.len n (consecutive_frames_in d b) least have in (
-        (fits-join (bytes_in_first e0.frame.bytes) s.rx_dl s.len n (consecutive_frames_in d b) sequence_number can_dl least below).1 (eqb-true _ _ number.0, fits),
-        on-time-from _ d (length before) _ (reference d s.micros b) x (refers d before e0 s b (x ∷ after) begins) on.0,
+        (fits-join (bytes_in_first e0.frame.bytes) s.rx_dl s.len n (consecutive_frames_in d b) sequence_number can_dl least below).1 (eqb-true _ _ next.number, fits),
+        on-time-from _ d (length before) _ (reference d s.micros b) x (refers d before e0 s b (x ∷ after) begins) next.on_time,
       )
   leaves-by (single m) h = absurd (false≢true h)
   leaves-by (first f) h = absurd (false≢true h)
@@ -49,8 +50,11 @@ module _ (d : Dir) (before : List Entry) (e0 : Entry) (s : FirstFrame) (begins :
   keeps-from : (r : Role) → consecutive_frames_in d b < n → LeavesItOpen r → keeps_by d s b x.micros r ≡ true
   keeps-from (consecutive sequence_number can_dl bytes) below h =
       let fit = (fits-join (bytes_in_first e0.frame.bytes) s.rx_dl s.len n (consecutive_frames_in d b) sequence_number can_dl least below).0 h.0 in
-      and_from _ _ (on-time-to _ d (length before) _ (reference d s.micros b) x (refers d before e0 s b (x ∷ after) begins) h.1)
-      (and_from _ _ (eq-eqb _ _ fit.0) (subst (λ have. fits_length s.len s.rx_dl have can_dl ≡ true) (sym size) fit.1))
+      is-next-one (standing_of d s b) x.micros sequence_number can_dl (record {
+        on_time = on-time-to _ d (length before) _ (reference d s.micros b) x (refers d before e0 s b (x ∷ after) begins) h.1;
+        number = eq-eqb _ _ fit.0;
+        fits = subst (λ have. fits_length s.len s.rx_dl have can_dl ≡ true) (sym size) fit.1;
+      })
   keeps-from (single m) below h = absurd h
   keeps-from (first f) below h = absurd h
   keeps-from continue_or_wait below h = refl
@@ -103,10 +107,7 @@ open-there limit d before e0 s since rest begins opens =
     record {
       later = omega arith;
       inside = omega (arith, length-append before (e0 ∷ (since ++ rest)), length-append since rest);
-      frame = e0;
-      start = s;
-      stands = get-here before (since ++ rest) e0;
-      kind = begins;
+      begins = record { entry = e0; stands = get-here before (since ++ rest) e0; start = s; kind = begins };
       fits = open_since.within;
       count = found.0;
       least = found.1;
@@ -117,7 +118,8 @@ open-there limit d before e0 s since rest begins opens =
           ap (λ l. between l (length before) c) w.whole
           ∙ ap (between (before ++ e0 ∷ (w.b ++ x ∷ (w.after ++ rest))) (length before)) w.place
           ∙ range-behind before e0 w.b (x ∷ (w.after ++ rest)) in
-          let leaves = leaves-by d before e0 s begins found.0 found.1 w.b x (w.after ++ rest) (role d x) kept in
+          let come = come-before d s since w.b (x ∷ w.after) open_since.kept open_since.room w.splits in
+          let leaves = leaves-by d before e0 s begins found.0 found.1 w.b x (w.after ++ rest) come (role d x) kept in
           same-leaves d s _ found.0 (length before) (length before) _ _ _ c _ _ x (role d x)
           (ap (consecutive_frames_in d) (sym here)) (sym w.whole) refl (sym w.place) leaves;
       taken = ap (consecutive_frames_in d) (sym (range-behind before e0 since rest));
@@ -131,50 +133,52 @@ module _ (limit : ℕ) (d : Dir) (T rest : List Entry) (begun number : ℕ) (o :
   pub record StandsThere : Type 0 where
     pub before : List Entry
     pub since : List Entry
-    pub splits : T ≡ before ++ o.frame ∷ since
+    pub splits : T ≡ before ++ o.begins.entry ∷ since
     pub place : length before ≡ begun
-    pub opens : is_open limit d o.start since ≡ true
+    pub opens : is_open limit d o.begins.start since ≡ true
     pub taken : number ≡ consecutive_frames_in d since
 
   -- each frame since keeps it open
-  keeps-each : (before since : List Entry) → T ≡ before ++ o.frame ∷ since → length before ≡ begun → number ≡ consecutive_frames_in d since
-      → (b after : List Entry) (x : Entry) → since ≡ b ++ x ∷ after → keeps_by d o.start b x.micros (role d x) ≡ true
-  keeps-each before since is place taken b after x splits =
+  keeps-each : (before since : List Entry) → T ≡ before ++ o.begins.entry ∷ since → length before ≡ begun → number ≡ consecutive_frames_in d since
+      → (b after : List Entry) (x : Entry) → since ≡ b ++ x ∷ after → keep d o.begins.start [] b ≡ true → keeps_by d o.begins.start b x.micros (role d x) ≡ true
+  keeps-each before since is place taken b after x splits kept =
       let c = suc (length before) + length b in
       let size_since = ap length splits ∙ length-append b (x ∷ after) in
       let count_since = ap (consecutive_frames_in d) splits ∙ taken-append d b (x ∷ after) in
-      let ends = split-length T before since o.frame is in
-      let whole : T ++ rest ≡ before ++ o.frame ∷ (b ++ x ∷ (after ++ rest)) =
-      sym (regrouped T rest before since o.frame is) ∙ ap (λ l. before ++ o.frame ∷ l) (sym (regrouped since rest b after x splits)) in
-      let regroup : before ++ o.frame ∷ (b ++ x ∷ (after ++ rest)) ≡ (before ++ o.frame ∷ b) ++ x ∷ (after ++ rest) =
-      sym (append_assoc before (o.frame ∷ b) (x ∷ (after ++ rest))) in
-      let at = get-behind (T ++ rest) (before ++ o.frame ∷ b) (after ++ rest) c x (whole ∙ regroup) (omega (arith, length-append before (o.frame ∷ b))) in
+      let ends = split-length T before since o.begins.entry is in
+      let whole : T ++ rest ≡ before ++ o.begins.entry ∷ (b ++ x ∷ (after ++ rest)) =
+      sym (regrouped T rest before since o.begins.entry is) ∙ ap (λ l. before ++ o.begins.entry ∷ l) (sym (regrouped since rest b after x splits)) in
+      let regroup : before ++ o.begins.entry ∷ (b ++ x ∷ (after ++ rest)) ≡ (before ++ o.begins.entry ∷ b) ++ x ∷ (after ++ rest) =
+      sym (append_assoc before (o.begins.entry ∷ b) (x ∷ (after ++ rest))) in
+      let at = get-behind (T ++ rest) (before ++ o.begins.entry ∷ b) (after ++ rest) c x (whole ∙ regroup) (omega (arith, length-append before (o.begins.entry ∷ b))) in
       let leaves = o.each c x (omega arith) (omega arith) at in
       let here : between (T ++ rest) begun c ≡ b =
-      ap (λ l. between l begun c) whole ∙ ap (λ j. between (before ++ o.frame ∷ (b ++ x ∷ (after ++ rest))) j c) (sym place)
-      ∙ range-behind before o.frame b (x ∷ (after ++ rest)) in
+      ap (λ l. between l begun c) whole ∙ ap (λ j. between (before ++ o.begins.entry ∷ (b ++ x ∷ (after ++ rest))) j c) (sym place)
+      ∙ range-behind before o.begins.entry b (x ∷ (after ++ rest)) in
       let below : consecutive_frames_in d b < o.count = (let more = o.more in omega arith) in
-      keeps-from d before o.frame o.start o.kind o.count o.least b x (after ++ rest) (role d x) below
-      (same-leaves d o.start _ o.count begun (length before) _ _ c c _ _ x (role d x) (ap (consecutive_frames_in d) here) whole (sym place) refl leaves)
+      let room = o.least.fewer (consecutive_frames_in d b) below in
+      let same = room-join d o.begins.entry o.begins.start (consecutive_frames_in d b) o.begins.kind in
+      keeps-from d before o.begins.entry o.begins.start o.begins.kind o.count o.least b x (after ++ rest) (come-after d o.begins.start b kept (omega arith)) (role d x) below
+      (same-leaves d o.begins.start _ o.count begun (length before) _ _ c c _ _ x (role d x) (ap (consecutive_frames_in d) here) whole (sym place) refl leaves)
 
   pub stands-there : StandsThere
   stands-there =
       let later = o.later in
-      let there : At T begun o.frame = sym (get-left T rest begun later) ∙ o.stands in
-      let w = split-at T begun o.frame there in
+      let there : At T begun o.begins.entry = sym (get-left T rest begun later) ∙ o.begins.stands in
+      let w = split-at T begun o.begins.entry there in
       let before = w.0 in
       let since = w.1 in
       let place = w.3 in
-      let whole : T ++ rest ≡ before ++ o.frame ∷ (since ++ rest) = sym (regrouped T rest before since o.frame w.2) in
+      let whole : T ++ rest ≡ before ++ o.begins.entry ∷ (since ++ rest) = sym (regrouped T rest before since o.begins.entry w.2) in
       let taken : number ≡ consecutive_frames_in d since =
       o.taken ∙ ap (consecutive_frames_in d) (ap (λ l. between l begun (length T)) whole
-      ∙ ap (λ j. between (before ++ o.frame ∷ (since ++ rest)) j (length T)) (sym place)
-      ∙ ap (between (before ++ o.frame ∷ (since ++ rest)) (length before)) (sym (split-length T before since o.frame w.2))
-      ∙ range-behind before o.frame since rest) in
-      let kept = keep-from-each d o.start since (keeps-each before since w.2 place taken) in
-      let room : carried_after o.start (consecutive_frames_in d since) < o.start.len =
+      ∙ ap (λ j. between (before ++ o.begins.entry ∷ (since ++ rest)) j (length T)) (sym place)
+      ∙ ap (between (before ++ o.begins.entry ∷ (since ++ rest)) (length before)) (sym (split-length T before since o.begins.entry w.2))
+      ∙ range-behind before o.begins.entry since rest) in
+      let kept = keep-from-each d o.begins.start since (keeps-each before since w.2 place taken) in
+      let room : carried_after o.begins.start (consecutive_frames_in d since) < o.begins.start.len =
       (let less = o.least.fewer (consecutive_frames_in d since) (subst (λ j. j < o.count) taken o.more) in
-      let same = room-join d o.frame o.start (consecutive_frames_in d since) o.kind in omega arith) in
+      let same = room-join d o.begins.entry o.begins.start (consecutive_frames_in d since) o.begins.kind in omega arith) in
       record {
         before = before;
         since = since;

@@ -56,12 +56,12 @@ own-other d x e apart h = elim (cases_Bool (same_direction x e.dir)) [
 -- ---- the frames that carry a message are its own
 
 pub own-at : (T : List Entry) (d : Dir) (m ps : List ℕ) (p : ℕ) → Carries T d m ps → IsIn p ps → (x : Entry) × At T p x × IsOwn (role d x)
-own-at T d m _ p (unsegmented x there kind) (inl is) = (x, subst (λ j. At T j x) (sym is) there, rw kind tt)
-own-at T d m _ p (unsegmented x there kind) (inr none) = absurd none
-own-at T d m _ p (segmented l) (inl is) = (l.frame, subst (λ j. At T j l.frame) (sym is) l.stands, rw l.kind tt)
+own-at T d m _ p (unsegmented one) (inl is) = (one.entry, subst (λ j. At T j one.entry) (sym is) one.stands, rw one.kind tt)
+own-at T d m _ p (unsegmented one) (inr none) = absurd none
+own-at T d m _ p (segmented l) (inl is) = (l.begins.entry, subst (λ j. At T j l.begins.entry) (sym is) l.begins.stands, rw l.begins.kind tt)
 own-at T d m _ p (segmented {begun = begun} {positions = positions} l) (inr i) =
-    let w = numbered-in (IsConsecutiveFrame T d m begun l.start _ _) 1 p positions l.consecutive_frames i in
-    (w.1.frame, w.1.stands, rw w.1.kind tt)
+    let w = numbered-in (IsConsecutiveFrame T d m begun l.begins.start _ _) 1 p positions l.consecutive_frames i in
+    (w.1.next.entry, w.1.next.stands, rw w.1.next.kind tt)
 
 pub carries-own : (T : List Entry) (d : Dir) (m ps : List ℕ) (p : ℕ) (e : Entry) → Carries T d m ps → IsIn p ps → At T p e → IsOwn (role d e)
 carries-own T d m ps p e carried i at = (let w = own-at T d m ps p carried i in subst (λ x. IsOwn (role d x)) (get-same T p w.0 e w.1 at) w.2)

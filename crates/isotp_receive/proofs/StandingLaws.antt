@@ -51,11 +51,11 @@ stands-open limit T rest d st h =
 -- ---- what is open stands
 
 pub open-stands : (limit : ℕ) (T rest : List Entry) (d : Dir) (i k : ℕ) (o : IsOpenAt limit (T ++ rest) d i k (length T))
-    → (st : Standing) × (stands limit d T ≡ Some st) × (st.line ≡ o.start.line) × (st.len ≡ o.start.len) × (st.taken ≡ k)
+    → (st : Standing) × (stands limit d T ≡ Some st) × (st.line ≡ o.begins.start.line) × (st.len ≡ o.begins.start.len) × (st.taken ≡ k)
 open-stands limit T rest d i k o =
     let w = stands-there limit d T rest i k o in (
-      standing_of d o.start w.since,
-      ap (stands limit d) w.splits ∙ open-stands-here limit d w.before w.since o.frame o.start o.kind w.opens,
+      standing_of d o.begins.start w.since,
+      ap (stands limit d) w.splits ∙ open-stands-here limit d w.before w.since o.begins.entry o.begins.start o.begins.kind w.opens,
       refl,
       refl,
       sym w.taken,
@@ -70,7 +70,7 @@ no-first s x f n j on r is h = rw is at h
 pub one-open : (limit : ℕ) (T : List Entry) (d : Dir) (i k j l p : ℕ) → IsOpenAt limit T d i k p → IsOpenAt limit T d j l p → (i ≡ j) × (k ≡ l)
 one-open limit T d i k j l p a b = (same, a.taken ∙ ap (λ q. consecutive_frames_in d (between T q p)) same ∙ sym b.taken) where
   apart : (i k j l : ℕ) → IsOpenAt limit T d i k p → IsOpenAt limit T d j l p → i < j → ⊥
-  apart i k j l a b less = no-first a.start b.start _ _ _ _ (role d b.frame) b.kind (a.each j b.frame less b.later b.stands)
+  apart i k j l a b less = no-first a.begins.start b.begins.start _ _ _ _ (role d b.begins.entry) b.begins.kind (a.each j b.begins.entry less b.later b.begins.stands)
 
   same : i ≡ j
   same = elim (cases_lt i j) [
@@ -98,25 +98,25 @@ same-record x y line len rx_dl taken bytes reference =
 same-standing : (limit : ℕ) (T : List Entry) (d : Dir) (p : ℕ) (x y : Standing) → IsStandingAt limit T d p x → IsStandingAt limit T d p y → x ≡ y
 same-standing limit T d p x y a b =
     let one = one-open limit T d a.begun a.number b.begun b.number p a.is_open b.is_open in
-    let there : At T a.begun b.is_open.frame = subst (λ j. At T j b.is_open.frame) (sym one.0) b.is_open.stands in
-    let frame : a.is_open.frame ≡ b.is_open.frame = get-same T a.begun a.is_open.frame b.is_open.frame a.is_open.stands there in
-    let start : a.is_open.start ≡ b.is_open.start = first-same (sym a.is_open.kind ∙ ap (role d) frame ∙ b.is_open.kind) in
+    let there : At T a.begun b.is_open.begins.entry = subst (λ j. At T j b.is_open.begins.entry) (sym one.0) b.is_open.begins.stands in
+    let frame : a.is_open.begins.entry ≡ b.is_open.begins.entry = get-same T a.begun a.is_open.begins.entry b.is_open.begins.entry a.is_open.begins.stands there in
+    let start : a.is_open.begins.start ≡ b.is_open.begins.start = first-same (sym a.is_open.begins.kind ∙ ap (role d) frame ∙ b.is_open.begins.kind) in
     let rx_dl : x.rx_dl ≡ y.rx_dl = a.rx_dl ∙ ap (λ s. s.rx_dl) start ∙ sym b.rx_dl in
     let size : length x.bytes ≡ length y.bytes =
     a.size ∙ ap (λ e. bytes_before (bytes_in_first e.frame.bytes) x.rx_dl a.number) frame
-    ∙ ap (λ r. bytes_before (bytes_in_first b.is_open.frame.frame.bytes) r a.number) rx_dl
-    ∙ ap (λ k. bytes_before (bytes_in_first b.is_open.frame.frame.bytes) y.rx_dl k) one.1 ∙ sym b.size in
-    let places : AtPlaces T d a.begun a.is_open.frame x.rx_dl y.bytes =
-    subst (λ r. AtPlaces T d a.begun a.is_open.frame r y.bytes) (sym rx_dl)
+    ∙ ap (λ r. bytes_before (bytes_in_first b.is_open.begins.entry.frame.bytes) r a.number) rx_dl
+    ∙ ap (λ k. bytes_before (bytes_in_first b.is_open.begins.entry.frame.bytes) y.rx_dl k) one.1 ∙ sym b.size in
+    let places : AtPlaces T d a.begun a.is_open.begins.entry x.rx_dl y.bytes =
+    subst (λ r. AtPlaces T d a.begun a.is_open.begins.entry r y.bytes) (sym rx_dl)
     (subst (λ e. AtPlaces T d a.begun e y.rx_dl y.bytes) (sym frame)
-    (subst (λ i. AtPlaces T d i b.is_open.frame y.rx_dl y.bytes) (sym one.0) b.places)) in
-    let from = first_from d a.is_open.frame a.is_open.start a.is_open.kind in
+    (subst (λ i. AtPlaces T d i b.is_open.begins.entry y.rx_dl y.bytes) (sym one.0) b.places)) in
+    let from = first_from d a.is_open.begins.entry a.is_open.begins.start a.is_open.begins.kind in
     let announced = a.rx_dl in
     let same_latest : a.latest ≡ b.latest =
     same-reference T d a.begun p a.latest b.latest a.refers (subst (λ i. IsReference T d i p b.latest) (sym one.0) b.refers) in
     let last : a.last ≡ b.last = get-same T a.latest a.last b.last a.stands (subst (λ q. At T q b.last) (sym same_latest) b.stands) in
     same-record x y (a.line ∙ ap (λ s. s.line) start ∙ sym b.line) (a.len ∙ ap (λ s. s.len) start ∙ sym b.len) rx_dl (a.taken ∙ one.1 ∙ sym b.taken)
-    (same-message T d a.begun a.is_open.frame x.rx_dl x.bytes y.bytes (omega arith) a.places places size)
+    (same-message T d a.begun a.is_open.begins.entry x.rx_dl x.bytes y.bytes (omega arith) a.places places size)
     (a.reference ∙ ap (λ e. e.micros) last ∙ sym b.reference)
 
 -- and so it is what stands

@@ -9,7 +9,7 @@ use Rattle.can_log.specs.Dir.{Message}
 use Rattle.can_log.specs.declared.frame.Dir.{Dir}
 use Rattle.isotp_receive.specs.Trace.{Entry, same_direction}
 use Rattle.isotp_receive.specs.Verdict.{VerdictValue, message, began, stored, flowed, dropped, verdict, told_message, messages_after}
-use Rattle.isotp_receive.specs.Heard.{placed, heard}
+use Rattle.isotp_receive.proofs.Heard.{placed, heard}
 use Rattle.isotp_receive.proofs.ListPositions.{cons-head}
 use Rattle.isotp_receive.proofs.Choices.{none-chosen}
 use Rattle.isotp_receive.proofs.Directions.{same, same-self, apart-flipped}

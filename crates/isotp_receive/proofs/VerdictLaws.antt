@@ -1,5 +1,5 @@
 -- The verdict on a frame is the one that the table has.
-use Rattle.std.proofs.Common.{zero, inl, inr, nat_le, Option, ◌≡◌, ℕ, suc, List, [], ◌∷◌, ◌++◌, length, ◌==◌, Some, None, Result, Ok, Err, refl, sym, ◌∙◌, ap}
+use Rattle.std.proofs.Common.{zero, inl, inr, nat_le, Option, ◌≡◌, ℕ, suc, ◌+◌, List, [], ◌∷◌, ◌++◌, length, ◌==◌, Some, None, Result, Ok, Err, refl, sym, ◌∙◌, ap}
 use Rattle.std.proofs.Common.{arith, cond, subst}
 use Rattle.std.specs.Prelude.{◌↔◌, ◌≢◌}
 use Rattle.std.proofs.lemmas.Bool.{ne_eqb, le-leb, lt-leb, leb-true, leb-false, cases_Bool}
@@ -17,18 +17,21 @@ use Rattle.isotp_receive.specs.declared.event.Cause.TheVariants as cause
 use Rattle.isotp_receive.specs.declared.event.Ended.{Ended}
 use Rattle.isotp_receive.specs.declared.event.Reason.TheVariants as reason
 use Rattle.isotp_receive.specs.Trace.{Entry, consecutive, role}
+use Rattle.isotp_receive.specs.Places.{bytes_in_first}
+use Rattle.isotp_receive.specs.OnTime.{IsOnTime}
+use Rattle.isotp_receive.specs.Fit.{Fit, FitsSo}
 use Rattle.isotp_receive.specs.Standing.{Standing, stands}
 use Rattle.isotp_receive.specs.Verdict.{EventValue, VerdictValue, message, began, flowed, dropped, refused, ended_as, on_overflow, verdict, on_layout, on_consecutive}
-use Rattle.isotp_receive.specs.VerdictTable.{IsOpenBefore, NothingOpen, ended_by, EndsByNewStart, HasVerdict, no_layout, single_frame, first_frame, too_long, next_unexpected, next_late}
+use Rattle.isotp_receive.specs.VerdictTable.{IsOpenBefore, FitsNext, NothingOpen, ended_by, EndsByNewStart, HasVerdict, no_layout, single_frame, first_frame, too_long, next_unexpected, next_late}
 use Rattle.isotp_receive.specs.VerdictTable.{wrong_number, wrong_length, stored_frame, last_frame, flow_unexpected, flow, overflow_in_time, overflow_too_late}
 use Rattle.isotp_receive.specs.Delivers.{in_frames}
 use Rattle.isotp_receive.proofs.ListPositions.{get-same, get-here}
 use Rattle.isotp_receive.proofs.Directions.{same-self}
-use Rattle.isotp_receive.proofs.Judgement.{last-ends-nothing}
+use Rattle.isotp_receive.proofs.FitTests.{last-ends-nothing}
 use Rattle.isotp_receive.proofs.StandingLaws.{stands-open, open-stands}
 use Rattle.isotp_receive.proofs.DeliversLaws.{message-delivers}
-use Rattle.isotp_receive.proofs.JudgedFrames as judged
-use Rattle.isotp_receive.proofs.JudgedFrames.{on-own, ended-is}
+use Rattle.isotp_receive.proofs.FittedFrames as fitted
+use Rattle.isotp_receive.proofs.FittedFrames.{on-own, ended-is}
 
 -- ---- the verdict, by the reading of the frame
 
@@ -70,10 +73,10 @@ module _ (limit : ℕ) (T : List Entry) (e : Entry) where
   nothing-open d none i k o = (let w = open-stands limit T (e ∷ []) d i k o in absurd (none-some w.0 (sym none ∙ w.1)))
 
   some-open : (d : Dir) (i k : ℕ) (c : Cause) (o : IsOpenBefore limit T e d i k)
-      → (st : Standing) × (stands limit d T ≡ Some st) × (ended_as c d (Some st) ≡ Some (ended_by d o.start c)) × (st.taken ≡ k)
+      → (st : Standing) × (stands limit d T ≡ Some st) × (ended_as c d (Some st) ≡ Some (ended_by d o.begins.start c)) × (st.taken ≡ k)
   some-open d i k c o =
       let w = open-stands limit T (e ∷ []) d i k o in
-      (w.0, w.1, ended-is d o.start w.0 c w.2 w.3, w.4)
+      (w.0, w.1, ended-is d o.begins.start w.0 c w.2 w.3, w.4)
 
   ends-so : (x : Option Ended) → EndsByNewStart limit T e x → ended_as cause.NewStart e.dir (stands limit e.dir T) ≡ x
   ends-so None none = ap (ended_as cause.NewStart e.dir) (none-open e.dir none)
@@ -85,7 +88,23 @@ module _ (limit : ℕ) (T : List Entry) (e : Entry) where
   new-start None is = (None, nothing-open e.dir is)
   new-start (Some st) is =
       let s = stands-open limit T (e ∷ []) e.dir st is in
-      (Some (ended_by e.dir s.is_open.start cause.NewStart), (s.begun, s.number, s.is_open, refl))
+      (Some (ended_by e.dir s.is_open.begins.start cause.NewStart), (s.begun, s.number, s.is_open, refl))
+
+-- ---- the frame at the end is e
+
+record NextIs (limit : ℕ) (T : List Entry) (e : Entry) (f : Fit) (n : FitsNext limit T e f) : Type 0 where
+  kind : role e.dir e ≡ consecutive n.next.sequence_number n.next.can_dl n.next.bytes
+  fits : FitsSo (bytes_in_first n.is_open.begins.entry.frame.bytes) n.is_open.begins.start.rx_dl n.is_open.begins.start.len n.is_open.count
+      (n.number + 1) n.next.sequence_number n.next.can_dl (IsOnTime (T ++ e ∷ []) e.dir n.begun (length T) e) f
+
+next-is : (limit : ℕ) (T : List Entry) (e : Entry) {f : Fit} (n : FitsNext limit T e f) → NextIs limit T e f n
+next-is limit T e {f = f} n =
+    let is_e : n.next.entry ≡ e = get-same (T ++ e ∷ []) (length T) n.next.entry e n.next.stands (get-here T [] e) in
+    record {
+      kind = ap (role e.dir) (sym is_e) ∙ n.next.kind;
+      fits = subst (λ x. FitsSo (bytes_in_first n.is_open.begins.entry.frame.bytes) n.is_open.begins.start.rx_dl n.is_open.begins.start.len
+          n.is_open.count (n.number + 1) n.next.sequence_number n.next.can_dl (IsOnTime (T ++ e ∷ []) e.dir n.begun (length T) x) f) is_e n.fits;
+    }
 
 -- ---- what the table has is the verdict
 
@@ -100,20 +119,23 @@ tabled limit T e _ (too_long len rx_dl bytes x h over ends) =
     ∙ both _ x (dropped (reason.TooLong len)) (ends-so limit T e x ends) (ap (λ b. cond b began (dropped (reason.TooLong len))) (lt-leb len limit over))
 tabled limit T e _ (next_unexpected sequence_number can_dl bytes h none) =
     verdict-by limit T e _ h ∙ ap (λ o. on_consecutive e.dir o e.micros sequence_number can_dl bytes) (none-open limit T e e.dir none)
-tabled limit T e _ (next_late sequence_number can_dl bytes i k h o off) =
-    judged.late limit T e i k sequence_number can_dl bytes (role-by e sequence_number can_dl bytes h) o off
-tabled limit T e _ (wrong_number sequence_number can_dl bytes i k h o on apart) =
-    judged.number limit T e i k sequence_number can_dl bytes (role-by e sequence_number can_dl bytes h) o on apart
-tabled limit T e _ (wrong_length sequence_number can_dl bytes i k h o on number apart) =
-    judged.size limit T e i k sequence_number can_dl bytes (role-by e sequence_number can_dl bytes h) o on number apart
-tabled limit T e _ (stored_frame sequence_number can_dl bytes i k h o on fits less) =
-    judged.kept limit T e i k sequence_number can_dl bytes (role-by e sequence_number can_dl bytes h) o on fits less
+tabled limit T e _ (next_late n) =
+    let w = next-is limit T e n in fitted.late limit T e n.begun n.number n.next.sequence_number n.next.can_dl n.next.bytes w.kind n.is_open w.fits
+tabled limit T e _ (wrong_number n) =
+    let w = next-is limit T e n in
+    fitted.number limit T e n.begun n.number n.next.sequence_number n.next.can_dl n.next.bytes w.kind n.is_open w.fits.0 w.fits.1
+tabled limit T e _ (wrong_length n) =
+    let w = next-is limit T e n in
+    fitted.size limit T e n.begun n.number n.next.sequence_number n.next.can_dl n.next.bytes w.kind n.is_open w.fits.0 w.fits.1 w.fits.2
+tabled limit T e _ (stored_frame n) =
+    let w = next-is limit T e n in
+    fitted.kept limit T e n.begun n.number n.next.sequence_number n.next.can_dl n.next.bytes w.kind n.is_open w.fits.0 w.fits.1 w.fits.2
 tabled limit T e _ (last_frame m c) =
-    let is_e : c.frame ≡ e = get-same (T ++ e ∷ []) (length T) c.frame e c.stands (get-here T [] e) in
-    let goes : role e.dir e ≡ consecutive c.sequence_number c.can_dl c.bytes = ap (role e.dir) (sym is_e) ∙ c.kind in
+    let next = c.fit.next in
+    let goes = (next-is limit T e c.fit).kind in
     let told = (message-delivers limit T e m).1 (in_frames c) in
-    let is = on-own limit T e c.sequence_number c.can_dl c.bytes goes in
-    let ends = last-ends-nothing e.dir (stands limit e.dir T) e.micros c.sequence_number c.can_dl c.bytes m (ap (λ a. a.told) (sym is) ∙ told) in
+    let is = on-own limit T e next.sequence_number next.can_dl next.bytes goes in
+    let ends = last-ends-nothing e.dir (stands limit e.dir T) e.micros next.sequence_number next.can_dl next.bytes m (ap (λ a. a.told) (sym is) ∙ told) in
     both (verdict limit T e) None (message m) (ap (λ a. a.ended) is ∙ ends) told
 tabled limit T e _ (flow_unexpected s h none) =
     verdict-by limit T e _ h
@@ -143,7 +165,7 @@ consecutive-row limit T e sequence_number can_dl bytes None h is =
     (refused None reason.NextUnexpected, next_unexpected sequence_number can_dl bytes h (nothing-open limit T e e.dir is))
 consecutive-row limit T e sequence_number can_dl bytes (Some st) h is =
     let s = stands-open limit T (e ∷ []) e.dir st is in
-    judged.has-row limit T e s.begun s.number sequence_number can_dl bytes (role-by e sequence_number can_dl bytes h) s.is_open h
+    fitted.has-row limit T e s.begun s.number sequence_number can_dl bytes (role-by e sequence_number can_dl bytes h) s.is_open
 
 overflow-row : (limit : ℕ) (T : List Entry) (e : Entry) (i k : ℕ) → layout_of e.frame ≡ Ok (layout.flow_control Overflow)
     → IsOpenBefore limit T e (other_direction e.dir) i k → (a : EventValue) × HasVerdict limit T e a

@@ -6,8 +6,7 @@ use Rattle.isotp_pdu.specs.Layout.{Layout}
 use Rattle.isotp_pdu.specs.Reading.{layout_of}
 use Rattle.isotp_pdu.specs.Layout as layout
 use Rattle.isotp_pdu.specs.declared.PduFault.{PduFault}
-use Rattle.isotp_receive.specs.Trace.{Entry, At, single, role}
-use Rattle.isotp_receive.specs.Places.{consecutive_by}
+use Rattle.isotp_receive.specs.Trace.{Entry, At, SingleFrameAt, ConsecutiveFrameAt}
 use Rattle.isotp_receive.specs.Delivers.{Completes}
 use Rattle.isotp_receive.specs.Recording.{Transfer, IsIn, IsGiven, last_or}
 
@@ -15,17 +14,15 @@ use Rattle.isotp_receive.specs.Recording.{Transfer, IsIn, IsGiven, last_or}
 pub record IsConsecutiveWithin (T : List Entry) (d : Dir) (begun position place : ℕ) : Type 0 where
   pub later : begun < place
   pub within : place ≤ position
-  pub frame : Entry
-  pub stands : At T place frame
-  pub kind : consecutive_by (role d frame) ≡ 1
+  pub next : ConsecutiveFrameAt T d place
 
 -- The positions are those of the frames that make the message of d: of the single frame that delivers it; or of the first
 -- frame of the reception that the last of them completes with it, and of all consecutive frames of d since
 -- (ISO 15765-2, section 9.6).
 pub data AreFramesOf (limit : ℕ) (T : List Entry) (d : Dir) (message : List ℕ) : List ℕ → Type 0 where
-  alone : {position : ℕ} (e : Entry) → At T position e → role d e ≡ single message → AreFramesOf limit T d message (position ∷ [])
+  alone : {position : ℕ} → SingleFrameAt T d position message → AreFramesOf limit T d message (position ∷ [])
   together : {begun : ℕ} {positions : List ℕ}
-      (completed : Completes limit T (last_or begun positions) d message) → completed.begun ≡ begun
+      (completed : Completes limit T (last_or begun positions) d message) → completed.fit.begun ≡ begun
       → ((place : ℕ) → IsIn place positions ↔ IsConsecutiveWithin T d begun (last_or begun positions) place)
       → AreFramesOf limit T d message (begun ∷ positions)
 

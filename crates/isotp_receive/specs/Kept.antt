@@ -1,6 +1,9 @@
 -- A device of proof: a reception as the code keeps it, its head apart from its bytes.
 use Rattle.std.specs.Prelude.{ℕ, ◌<◌, ◌≤◌, List, length, Option, Some, None}
 use Rattle.isotp_receive.specs.declared.reception.Head.{Head}
+use Rattle.isotp_receive.specs.declared.reception.FrameFit.{FrameFit}
+use Rattle.isotp_receive.specs.declared.reception.FrameFit.TheVariants as as_fit
+use Rattle.isotp_receive.specs.Fit.{Fit, late, wrong_number, wrong_length, one_more, last}
 use Rattle.isotp_receive.specs.Standing.{Standing}
 
 -- what a caller sees of the two
@@ -11,6 +14,14 @@ stands_as head bytes = record { line = head.line; len = head.len; rx_dl = head.r
 abbrev pub standing : Option Head → List ℕ → Option Standing
 standing None bytes = None
 standing (Some head) bytes = Some (stands_as head bytes)
+
+-- how a consecutive frame fits
+abbrev pub seen_fit : FrameFit → Fit
+seen_fit as_fit.Late = late
+seen_fit as_fit.WrongNumber = wrong_number
+seen_fit as_fit.WrongLength = wrong_length
+seen_fit as_fit.OneMore = one_more
+seen_fit as_fit.Last = last
 
 -- what holds of the two between calls
 pub record Fitting (limit : ℕ) (head : Head) (bytes : List ℕ) : Type 0 where

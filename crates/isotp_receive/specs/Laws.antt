@@ -21,7 +21,7 @@ abbrev pub WhatIsOpenStands : Type 0
 WhatIsOpenStands =
     (limit : ℕ) (T rest : List Entry) (d : Dir) (begun number : ℕ) (reception : IsOpenAt limit (T ++ rest) d begun number (length T))
     → (standing : Standing) × (stands limit d T ≡ Some standing)
-    × (standing.line ≡ reception.start.line) × (standing.len ≡ reception.start.len) × (standing.taken ≡ number)
+    × (standing.line ≡ reception.begins.start.line) × (standing.len ≡ reception.begins.start.len) × (standing.taken ≡ number)
 
 -- What stands is fixed by its definition: a record of all that is known of the reception that is open there is what stands.
 abbrev pub WhatStandsIsFixed : Type 0

@@ -1,6 +1,7 @@
 pub mod Trace
 pub mod Places
 pub mod OnTime
+pub mod Fit
 pub mod Standing
 pub mod OpenReception
 pub mod Delivers
@@ -17,7 +18,6 @@ pub mod Growth
 pub mod EventSeen
 pub mod Recorded
 pub mod Taken
-pub mod Heard
 pub mod Machine
 pub mod Kept
 pub mod ReceptionLending

@@ -1,50 +1,27 @@
 -- A device of proof: the receptions as the code keeps them, one step per frame. No public clause cites what stands here
 -- but through the laws that join it to what stands after a trace.
-use Rattle.std.specs.Prelude.{ℕ, ◌+◌, List, ◌++◌, take, nat_le, ◌==◌, if◌then◌else◌, Option, Some, None, Result}
+use Rattle.std.specs.Prelude.{ℕ, ◌+◌, List, ◌++◌, nat_le, ◌==◌, if◌then◌else◌, Option, Some, None, Result}
 use Rattle.can_log.specs.declared.frame.Dir.{Dir}
 use Rattle.can_log.specs.declared.frame.Dir.TheVariants.{Tester, Unit}
 use Rattle.isotp_pdu.specs.Layout.{Layout}
 use Rattle.isotp_pdu.specs.declared.PduFault.{PduFault}
-use Rattle.isotp_receive.specs.declared.reception.Judged.{Judged}
-use Rattle.isotp_receive.specs.declared.reception.Judged.TheVariants as judged_as
-use Rattle.isotp_receive.specs.declared.event.Cause.TheVariants as cause
-use Rattle.isotp_receive.specs.declared.event.Reason.TheVariants as reason
-use Rattle.isotp_receive.specs.Verdict.{EventValue, stored, message, refused, ended_as, is_on_time, expected, has_length, wants_more}
+use Rattle.isotp_receive.specs.Fit.{Fit, late, wrong_number, wrong_length, one_more, last}
 use Rattle.isotp_receive.specs.Trace.{FirstFrame, Role, single, first, consecutive, continue_or_wait, overflow, no_part, own_role, other_role}
-use Rattle.isotp_receive.specs.Standing.{Standing, Receptions}
+use Rattle.isotp_receive.specs.Standing.{Standing, fit_of, Receptions}
 
--- what a consecutive frame is to the reception that stands: the first that holds
-abbrev pub judged : Standing → ℕ → ℕ → ℕ → Judged
-judged standing micros sequence_number can_dl =
-    if is_on_time standing micros then
-    (if sequence_number == expected standing then
-    (if has_length standing can_dl then (if wants_more standing then judged_as.More else judged_as.Last) else judged_as.Length)
-    else judged_as.Sequence)
-    else judged_as.Late
-
--- the answer to a consecutive frame that was judged so
-abbrev pub on_judged : Dir → Standing → Judged → ℕ → List ℕ → EventValue
-on_judged d standing judged_as.Late sequence_number bytes = refused (ended_as cause.Late d (Some standing)) reason.NextLate
-on_judged d standing judged_as.Sequence sequence_number bytes =
-    refused (ended_as cause.Sequence d (Some standing)) (reason.NextSequence (expected standing) sequence_number)
-on_judged d standing judged_as.Length sequence_number bytes = refused (ended_as cause.Length d (Some standing)) reason.NextLength
-on_judged d standing judged_as.More sequence_number bytes = record { ended = None; told = stored }
-on_judged d standing judged_as.Last sequence_number bytes =
-    record { ended = None; told = message (take standing.len (standing.bytes ++ bytes)) }
-
--- a reception that stands, after a consecutive frame that was judged so
-abbrev pub continued_by : Judged → Standing → ℕ → List ℕ → Option Standing
-continued_by judged_as.More standing micros bytes =
+-- a reception that stands, after a consecutive frame that fits so
+abbrev pub continued_by : Fit → Standing → ℕ → List ℕ → Option Standing
+continued_by one_more standing micros bytes =
     Some (record standing { taken = standing.taken + 1; bytes = standing.bytes ++ bytes; reference = micros })
-continued_by judged_as.Last standing micros bytes = None
-continued_by judged_as.Late standing micros bytes = None
-continued_by judged_as.Sequence standing micros bytes = None
-continued_by judged_as.Length standing micros bytes = None
+continued_by last standing micros bytes = None
+continued_by late standing micros bytes = None
+continued_by wrong_number standing micros bytes = None
+continued_by wrong_length standing micros bytes = None
 
 -- a reception that stands, after one more frame
 abbrev pub continued : Standing → ℕ → Role → Option Standing
 continued standing micros (consecutive sequence_number can_dl bytes) =
-    continued_by (judged standing micros sequence_number can_dl) standing micros bytes
+    continued_by (fit_of standing micros sequence_number can_dl) standing micros bytes
 continued standing micros continue_or_wait = Some (record standing { reference = micros })
 continued standing micros overflow = if standing.taken == 0 then None else Some standing
 continued standing micros no_part = Some standing

@@ -1,9 +1,10 @@
 -- Receptions that are open (ISO 15765-2, sections 9.6 and 9.8), by looking back over the whole trace.
 use Rattle.std.specs.Prelude.{◌≡◌, ◌<◌, ◌≤◌, ℕ, ◌+◌, List, length, ⊤}
 use Rattle.can_log.specs.declared.frame.Dir.{Dir}
-use Rattle.isotp_receive.specs.Trace.{Entry, At, FirstFrame, Role, single, first, consecutive, continue_or_wait, overflow, no_part, role}
+use Rattle.isotp_receive.specs.Trace.{Entry, At, FirstFrame, FirstFrameAt, ConsecutiveFrameAt, Role, single, first, consecutive, continue_or_wait, overflow, no_part, role}
 use Rattle.isotp_receive.specs.Places.{bytes_in_first, bytes_before, IsConsecutiveCount, FitsAs, consecutive_frames_in, between, AtPlaces}
 use Rattle.isotp_receive.specs.OnTime.{IsReference, IsOnTime}
+use Rattle.isotp_receive.specs.Fit.{Fit, FitsSo}
 use Rattle.isotp_receive.specs.Standing.{Standing}
 
 -- A frame of this role leaves a reception open that the first frame `start` began, `in_first` bytes in it and `count`
@@ -24,21 +25,27 @@ pub record IsOpenAt (limit : ℕ) (T : List Entry) (d : Dir) (begun number posit
   pub later : begun < position
   pub inside : position ≤ length T
   -- at `begun` stands a first frame of d that announces at most the limit
-  pub frame : Entry
-  pub start : FirstFrame
-  pub stands : At T begun frame
-  pub kind : role d frame ≡ first start
-  pub fits : start.len ≤ limit
+  pub begins : FirstFrameAt T d begun
+  pub fits : begins.start.len ≤ limit
   -- so many consecutive frames hold the rest
   pub count : ℕ
-  pub least : IsConsecutiveCount (bytes_in_first frame.frame.bytes) start.rx_dl start.len count
+  pub least : IsConsecutiveCount (bytes_in_first begins.entry.frame.bytes) begins.start.rx_dl begins.start.len count
   -- each frame strictly between leaves the reception open
   pub each : (place : ℕ) (entry : Entry) → begun < place → place < position → At T place entry
-      → LeavesOpen start (bytes_in_first frame.frame.bytes) count (consecutive_frames_in d (between T begun place))
+      → LeavesOpen begins.start (bytes_in_first begins.entry.frame.bytes) count (consecutive_frames_in d (between T begun place))
       (IsOnTime T d begun place entry) (role d entry)
   -- `number` of them are consecutive frames of d, and more are to come
   pub taken : number ≡ consecutive_frames_in d (between T begun position)
   pub more : number < count
+
+-- At `position` stands a consecutive frame of d, where a reception is open, and it fits so as the next one.
+pub record FitsOpen (limit : ℕ) (T : List Entry) (d : Dir) (position : ℕ) (fit : Fit) : Type 0 where
+  pub begun : ℕ
+  pub number : ℕ
+  pub is_open : IsOpenAt limit T d begun number position
+  pub next : ConsecutiveFrameAt T d position
+  pub fits : FitsSo (bytes_in_first is_open.begins.entry.frame.bytes) is_open.begins.start.rx_dl is_open.begins.start.len is_open.count
+      (number + 1) next.sequence_number next.can_dl (IsOnTime T d begun position next.entry) fit
 
 -- What stands at `position` for d: a reception is open there, and this is what is known of it. Its bytes are those that
 -- have come.
@@ -46,12 +53,12 @@ pub record IsStandingAt (limit : ℕ) (T : List Entry) (d : Dir) (position : ℕ
   pub begun : ℕ
   pub number : ℕ
   pub is_open : IsOpenAt limit T d begun number position
-  pub line : standing.line ≡ is_open.start.line
-  pub len : standing.len ≡ is_open.start.len
-  pub rx_dl : standing.rx_dl ≡ is_open.start.rx_dl
+  pub line : standing.line ≡ is_open.begins.start.line
+  pub len : standing.len ≡ is_open.begins.start.len
+  pub rx_dl : standing.rx_dl ≡ is_open.begins.start.rx_dl
   pub taken : standing.taken ≡ number
-  pub size : length standing.bytes ≡ bytes_before (bytes_in_first is_open.frame.frame.bytes) standing.rx_dl number
-  pub places : AtPlaces T d begun is_open.frame standing.rx_dl standing.bytes
+  pub size : length standing.bytes ≡ bytes_before (bytes_in_first is_open.begins.entry.frame.bytes) standing.rx_dl number
+  pub places : AtPlaces T d begun is_open.begins.entry standing.rx_dl standing.bytes
   -- at `latest` stands the reference frame of what comes next
   pub latest : ℕ
   pub last : Entry

@@ -9,7 +9,7 @@ use Rattle.isotp_pdu.specs.Reading.{layout_of}
 use Rattle.isotp_pdu.specs.Layout as layout
 use Rattle.isotp_pdu.specs.declared.PduFault.{PduFault}
 use Rattle.isotp_pdu.specs.declared.Status.TheVariants.{Continue, Wait, Overflow}
-use Rattle.isotp_receive.specs.Trace.{Entry, At, FirstFrame, single, first, consecutive, role}
+use Rattle.isotp_receive.specs.Trace.{Entry, At, FirstFrame, SingleFrameAt, FirstFrameAt, ConsecutiveFrameAt}
 use Rattle.isotp_receive.specs.Places.{bytes_in_first, bytes_before, IsConsecutiveCount, FitsAs}
 use Rattle.isotp_receive.specs.OnTime.{IsOnTime}
 
@@ -18,16 +18,11 @@ use Rattle.isotp_receive.specs.OnTime.{IsOnTime}
 -- as the message goes; what follows them is padding of any value (section 9.6.4).
 pub record IsConsecutiveFrame (T : List Entry) (d : Dir) (message : List ℕ) (begun : ℕ) (start : FirstFrame)
     (in_first count number position : ℕ) : Type 0 where
-  pub frame : Entry
-  pub sequence_number : ℕ
-  pub can_dl : ℕ
-  pub bytes : List ℕ
-  pub stands : At T position frame
-  pub kind : role d frame ≡ consecutive sequence_number can_dl bytes
-  pub fits : FitsAs in_first start.rx_dl start.len count number sequence_number can_dl
-  pub on_time : IsOnTime T d begun position frame
+  pub next : ConsecutiveFrameAt T d position
+  pub fits : FitsAs in_first start.rx_dl start.len count number next.sequence_number next.can_dl
+  pub on_time : IsOnTime T d begun position next.entry
   pub holds : (offset : ℕ) → offset < start.rx_dl - 1 → bytes_before in_first start.rx_dl (number - 1) + offset < length message
-      → slice_index message (bytes_before in_first start.rx_dl (number - 1) + offset) ≡ slice_index frame.frame.bytes (1 + offset)
+      → slice_index message (bytes_before in_first start.rx_dl (number - 1) + offset) ≡ slice_index next.entry.frame.bytes (1 + offset)
 
 -- `Holds` of each of the positions and its number, which is `number` for the first
 abbrev pub EachNumbered : (ℕ → ℕ → Type 0) → ℕ → List ℕ → Type 0
@@ -37,21 +32,18 @@ EachNumbered Holds number (position ∷ positions) = Holds number position × Ea
 -- At `begun` stands a first frame that announces the length of the message, and at the further positions stand the
 -- consecutive frames, as many as are wanted, with the bytes of the message.
 pub record IsSegmented (T : List Entry) (d : Dir) (message : List ℕ) (begun : ℕ) (positions : List ℕ) : Type 0 where
-  pub frame : Entry
-  pub start : FirstFrame
-  pub stands : At T begun frame
-  pub kind : role d frame ≡ first start
-  pub announces : start.len ≡ length message
-  pub least : IsConsecutiveCount (bytes_in_first frame.frame.bytes) start.rx_dl start.len (length positions)
+  pub begins : FirstFrameAt T d begun
+  pub announces : begins.start.len ≡ length message
+  pub least : IsConsecutiveCount (bytes_in_first begins.entry.frame.bytes) begins.start.rx_dl begins.start.len (length positions)
   pub consecutive_frames :
-      EachNumbered (IsConsecutiveFrame T d message begun start (bytes_in_first frame.frame.bytes) (length positions)) 1 positions
-  pub holds : (place : ℕ) → place < bytes_in_first frame.frame.bytes
-      → slice_index message place ≡ slice_index frame.frame.bytes (start.rx_dl - bytes_in_first frame.frame.bytes + place)
+      EachNumbered (IsConsecutiveFrame T d message begun begins.start (bytes_in_first begins.entry.frame.bytes) (length positions)) 1 positions
+  pub holds : (place : ℕ) → place < bytes_in_first begins.entry.frame.bytes
+      → slice_index message place ≡ slice_index begins.entry.frame.bytes (begins.start.rx_dl - bytes_in_first begins.entry.frame.bytes + place)
 
 -- The frames at these positions carry the message of direction d: one single frame that holds it, or a first frame and
 -- its consecutive frames.
 pub data Carries (T : List Entry) (d : Dir) (message : List ℕ) : List ℕ → Type 0 where
-  unsegmented : {position : ℕ} (e : Entry) → At T position e → role d e ≡ single message → Carries T d message (position ∷ [])
+  unsegmented : {position : ℕ} → SingleFrameAt T d position message → Carries T d message (position ∷ [])
   segmented : {begun : ℕ} {positions : List ℕ} → IsSegmented T d message begun positions → Carries T d message (begun ∷ positions)
 
 -- each is above the one before, and all are at least `least`

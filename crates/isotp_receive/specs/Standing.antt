@@ -1,11 +1,12 @@
 -- The reception of a direction that stands after a list of frames: a function that looks back over the whole list. It is
 -- the short spelling, for contracts and proofs, of `IsOpenAt` and `IsStandingAt`; public laws join them both ways.
-use Rattle.std.specs.Prelude.{ℕ, ◌+◌, ◌-◌, ◌%◌, Bool, true, false, ◌&&◌, List, [], ◌∷◌, ◌++◌, length, nat_lt, nat_le, ◌==◌, if◌then◌else◌, Option, Some, None}
+use Rattle.std.specs.Prelude.{ℕ, ◌+◌, ◌-◌, ◌%◌, Bool, true, false, ◌&&◌, List, [], ◌∷◌, ◌++◌, length, not, nat_lt, nat_le, ◌==◌, if◌then◌else◌, Option, Some, None}
 use Rattle.can_log.specs.declared.frame.Dir.{Dir}
 use Rattle.can_log.specs.declared.frame.Dir.TheVariants.{Tester, Unit}
 use Rattle.isotp_receive.specs.Trace.{Entry, FirstFrame, Role, single, first, consecutive, continue_or_wait, overflow, no_part, role}
 use Rattle.isotp_receive.specs.Places.{bytes_before, consecutive_frames_in}
 use Rattle.isotp_receive.specs.OnTime.{n_cr}
+use Rattle.isotp_receive.specs.Fit.{Fit, late, wrong_number, wrong_length, one_more, last}
 
 -- the bytes that the consecutive frames of the direction carry
 abbrev pub carried_by : Role → List ℕ
@@ -35,39 +36,6 @@ abbrev pub reference : Dir → ℕ → List Entry → ℕ
 reference d earlier [] = earlier
 reference d earlier (e ∷ rest) = reference d (referred (role d e) e.micros earlier) rest
 
--- how many bytes of the message a first frame and `number` consecutive frames of full length carry
-abbrev pub carried_after : FirstFrame → ℕ → ℕ
-carried_after start number = bytes_before (length start.bytes) start.rx_dl number
-
--- A consecutive frame of this length fits where `have` bytes of `len` are there. One that is not the last is
--- as long as the first frame. The last has what is missing, and is no longer than the first frame.
-abbrev pub fits_length : ℕ → ℕ → ℕ → ℕ → Bool
-fits_length len rx_dl have can_dl =
-    nat_lt have len
-    && (if nat_lt (have + (rx_dl - 1)) len then can_dl == rx_dl else nat_le (1 + (len - have)) can_dl && nat_le can_dl rx_dl)
-
--- The frame leaves a reception open that began with `start`, where `past` stands between the two.
-abbrev pub keeps_by : Dir → FirstFrame → List Entry → ℕ → Role → Bool
-keeps_by d start past micros (consecutive sequence_number can_dl bytes) =
-    nat_le micros (reference d start.micros past + n_cr)
-    && (sequence_number == (consecutive_frames_in d past + 1) % 16
-    && fits_length start.len start.rx_dl (carried_after start (consecutive_frames_in d past)) can_dl)
-keeps_by d start past micros overflow = nat_lt 0 (consecutive_frames_in d past)
-keeps_by d start past micros (single message) = false
-keeps_by d start past micros (first other) = false
-keeps_by d start past micros continue_or_wait = true
-keeps_by d start past micros no_part = true
-
--- each of the frames does, where `past` stands before them
-abbrev pub keep : Dir → FirstFrame → List Entry → List Entry → Bool
-keep d start past [] = true
-keep d start past (e ∷ rest) = keeps_by d start past e.micros (role d e) && keep d start (past ++ e ∷ []) rest
-
--- a reception that began with `start` is open after these frames, and not complete
-abbrev pub is_open : ℕ → Dir → FirstFrame → List Entry → Bool
-is_open limit d start frames =
-    nat_le start.len limit && (nat_lt (carried_after start (consecutive_frames_in d frames)) start.len && keep d start [] frames)
-
 -- what is known of a reception: line, length and CAN_DL of its first frame, how many consecutive frames it took, the
 -- bytes that have come, and the time that N_Cr runs from
 pub record Standing : Type 0 where
@@ -88,6 +56,70 @@ standing_of d start frames = record {
   bytes = start.bytes ++ carried d frames;
   reference = reference d start.micros frames;
 }
+
+-- how many bytes of the message a first frame and `number` consecutive frames of full length carry
+abbrev pub carried_after : FirstFrame → ℕ → ℕ
+carried_after start number = bytes_before (length start.bytes) start.rx_dl number
+
+-- A consecutive frame of this length fits where `have` bytes of `len` are there. One that is not the last is
+-- as long as the first frame. The last has what is missing, and is no longer than the first frame.
+abbrev pub fits_length : ℕ → ℕ → ℕ → ℕ → Bool
+fits_length len rx_dl have can_dl =
+    nat_lt have len
+    && (if nat_lt (have + (rx_dl - 1)) len then can_dl == rx_dl else nat_le (1 + (len - have)) can_dl && nat_le can_dl rx_dl)
+
+-- a consecutive frame of this time is on time
+abbrev pub is_on_time : Standing → ℕ → Bool
+is_on_time standing micros = nat_le micros (standing.reference + n_cr)
+
+-- the sequence number of the next consecutive frame
+abbrev pub expected : Standing → ℕ
+expected standing = (standing.taken + 1) % 16
+
+-- a consecutive frame of this CAN_DL is as long as the next one has to be
+abbrev pub has_length : Standing → ℕ → Bool
+has_length standing can_dl = fits_length standing.len standing.rx_dl (length standing.bytes) can_dl
+
+-- the next consecutive frame isn't the last
+abbrev pub wants_more : Standing → Bool
+wants_more standing = nat_lt (length standing.bytes + (standing.rx_dl - 1)) standing.len
+
+-- how a consecutive frame of this time, sequence number and CAN_DL fits
+abbrev pub fit_of : Standing → ℕ → ℕ → ℕ → Fit
+fit_of standing micros sequence_number can_dl =
+    if not (is_on_time standing micros) then late
+    else if not (sequence_number == expected standing) then wrong_number
+    else if not (has_length standing can_dl) then wrong_length
+    else if wants_more standing then one_more
+    else last
+
+-- it is the next one
+abbrev pub is_next : Fit → Bool
+is_next late = false
+is_next wrong_number = false
+is_next wrong_length = false
+is_next one_more = true
+is_next last = true
+
+-- The frame leaves a reception open that began with `start`, where `past` stands between the two.
+abbrev pub keeps_by : Dir → FirstFrame → List Entry → ℕ → Role → Bool
+keeps_by d start past micros (consecutive sequence_number can_dl bytes) =
+    is_next (fit_of (standing_of d start past) micros sequence_number can_dl)
+keeps_by d start past micros overflow = nat_lt 0 (consecutive_frames_in d past)
+keeps_by d start past micros (single message) = false
+keeps_by d start past micros (first other) = false
+keeps_by d start past micros continue_or_wait = true
+keeps_by d start past micros no_part = true
+
+-- each of the frames does, where `past` stands before them
+abbrev pub keep : Dir → FirstFrame → List Entry → List Entry → Bool
+keep d start past [] = true
+keep d start past (e ∷ rest) = keeps_by d start past e.micros (role d e) && keep d start (past ++ e ∷ []) rest
+
+-- a reception that began with `start` is open after these frames, and not complete
+abbrev pub is_open : ℕ → Dir → FirstFrame → List Entry → Bool
+is_open limit d start frames =
+    nat_le start.len limit && (nat_lt (carried_after start (consecutive_frames_in d frames)) start.len && keep d start [] frames)
 
 -- the one that began with a frame of this role, and is open after these frames
 abbrev pub since : ℕ → Dir → Role → List Entry → Option Standing

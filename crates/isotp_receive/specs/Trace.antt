@@ -71,3 +71,25 @@ other_role (Err fault) = no_part
 -- what the frame e is to the reception of d
 unfoldable pub role : Dir → Entry → Role
 role d e = if same_direction d e.dir then own_role e.line e.micros (layout_of e.frame) else other_role (layout_of e.frame)
+
+-- at the position of T stands a single frame of d that holds the message
+pub record SingleFrameAt (T : List Entry) (d : Dir) (position : ℕ) (message : List ℕ) : Type 0 where
+  pub entry : Entry
+  pub stands : At T position entry
+  pub kind : role d entry ≡ single message
+
+-- at the position of T stands a first frame of d
+pub record FirstFrameAt (T : List Entry) (d : Dir) (position : ℕ) : Type 0 where
+  pub entry : Entry
+  pub stands : At T position entry
+  pub start : FirstFrame
+  pub kind : role d entry ≡ first start
+
+-- at the position of T stands a consecutive frame of d
+pub record ConsecutiveFrameAt (T : List Entry) (d : Dir) (position : ℕ) : Type 0 where
+  pub entry : Entry
+  pub stands : At T position entry
+  pub sequence_number : ℕ
+  pub can_dl : ℕ
+  pub bytes : List ℕ
+  pub kind : role d entry ≡ consecutive sequence_number can_dl bytes

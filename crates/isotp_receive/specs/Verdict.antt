@@ -1,5 +1,5 @@
 -- What a frame does after the frames before it, and the messages of a trace.
-use Rattle.std.specs.Prelude.{ℕ, ◌+◌, ◌-◌, ◌%◌, Bool, List, [], ◌∷◌, ◌++◌, length, take, not, nat_lt, nat_le, ◌==◌, if◌then◌else◌, Option, Some, None}
+use Rattle.std.specs.Prelude.{ℕ, List, [], ◌∷◌, ◌++◌, take, nat_le, ◌==◌, if◌then◌else◌, Option, Some, None}
 use Rattle.std.specs.Prelude.{Result, Ok, Err}
 use Rattle.can_log.specs.Dir.{other_direction, Message}
 use Rattle.can_log.specs.declared.frame.Dir.{Dir}
@@ -15,8 +15,8 @@ use Rattle.isotp_receive.specs.declared.event.Ended.{Ended}
 use Rattle.isotp_receive.specs.declared.event.Reason.{Reason}
 use Rattle.isotp_receive.specs.declared.event.Reason.TheVariants as reason
 use Rattle.isotp_receive.specs.Trace.{Entry}
-use Rattle.isotp_receive.specs.OnTime.{n_cr}
-use Rattle.isotp_receive.specs.Standing.{Standing, fits_length, stands}
+use Rattle.isotp_receive.specs.Fit.{Fit, late, wrong_number, wrong_length, one_more, last}
+use Rattle.isotp_receive.specs.Standing.{Standing, expected, fit_of, stands}
 
 -- what becomes of a frame: it completes a message, begins a reception, is stored, is flow control, or is dropped
 pub data VerdictValue : Type 0 where
@@ -40,33 +40,20 @@ ended_as cause d (Some standing) = Some (record { dir = d; begun_line = standing
 abbrev pub refused : Option Ended → Reason → EventValue
 refused ended reason = record { ended = ended; told = dropped reason }
 
--- a consecutive frame of this time is on time
-abbrev pub is_on_time : Standing → ℕ → Bool
-is_on_time standing micros = nat_le micros (standing.reference + n_cr)
+-- a consecutive frame that fits so: it is refused and ends what stands, or is stored, or completes the message
+abbrev pub on_fit : Dir → Standing → Fit → ℕ → List ℕ → EventValue
+on_fit d standing late sequence_number bytes = refused (ended_as cause.Late d (Some standing)) reason.NextLate
+on_fit d standing wrong_number sequence_number bytes =
+    refused (ended_as cause.Sequence d (Some standing)) (reason.NextSequence (expected standing) sequence_number)
+on_fit d standing wrong_length sequence_number bytes = refused (ended_as cause.Length d (Some standing)) reason.NextLength
+on_fit d standing one_more sequence_number bytes = record { ended = None; told = stored }
+on_fit d standing last sequence_number bytes = record { ended = None; told = message (take standing.len (standing.bytes ++ bytes)) }
 
--- the sequence number of the next consecutive frame
-abbrev pub expected : Standing → ℕ
-expected standing = (standing.taken + 1) % 16
-
--- a consecutive frame of this CAN_DL is as long as the next one has to be
-abbrev pub has_length : Standing → ℕ → Bool
-has_length standing can_dl = fits_length standing.len standing.rx_dl (length standing.bytes) can_dl
-
--- the next consecutive frame isn't the last
-abbrev pub wants_more : Standing → Bool
-wants_more standing = nat_lt (length standing.bytes + (standing.rx_dl - 1)) standing.len
-
--- a consecutive frame, where this stands: the first that holds of late, wrong number, wrong length; else it is stored, or
--- the last
+-- a consecutive frame, by how it fits what stands
 abbrev pub on_consecutive : Dir → Option Standing → ℕ → ℕ → ℕ → List ℕ → EventValue
 on_consecutive d None micros sequence_number can_dl bytes = refused None reason.NextUnexpected
 on_consecutive d (Some standing) micros sequence_number can_dl bytes =
-    if not (is_on_time standing micros) then refused (ended_as cause.Late d (Some standing)) reason.NextLate
-    else if not (sequence_number == expected standing)
-    then refused (ended_as cause.Sequence d (Some standing)) (reason.NextSequence (expected standing) sequence_number)
-    else if not (has_length standing can_dl) then refused (ended_as cause.Length d (Some standing)) reason.NextLength
-    else if wants_more standing then record { ended = None; told = stored }
-    else record { ended = None; told = message (take standing.len (standing.bytes ++ bytes)) }
+    on_fit d standing (fit_of standing micros sequence_number can_dl) sequence_number bytes
 
 -- a continue or wait frame is expected where this stands for the other direction
 abbrev pub on_continue_or_wait : Option Standing → EventValue

@@ -12,9 +12,9 @@ use Rattle.isotp_receive.specs.declared.event.Cause.TheVariants as cause
 use Rattle.isotp_receive.specs.declared.event.Ended.{Ended}
 use Rattle.isotp_receive.specs.declared.event.Reason.TheVariants as reason
 use Rattle.isotp_receive.specs.Trace.{Entry, FirstFrame}
-use Rattle.isotp_receive.specs.Places.{bytes_in_first, FitsAs}
-use Rattle.isotp_receive.specs.OnTime.{IsOnTime}
-use Rattle.isotp_receive.specs.OpenReception.{IsOpenAt}
+use Rattle.isotp_receive.specs.Fit.{Fit}
+use Rattle.isotp_receive.specs.Fit as fit
+use Rattle.isotp_receive.specs.OpenReception.{IsOpenAt, FitsOpen}
 use Rattle.isotp_receive.specs.Delivers.{Completes}
 use Rattle.isotp_receive.specs.Verdict.{EventValue, message, began, stored, flowed, refused}
 
@@ -35,18 +35,11 @@ abbrev pub EndsByNewStart : ℕ → List Entry → Entry → Option Ended → Ty
 EndsByNewStart limit T e None = NothingOpen limit T e e.dir
 EndsByNewStart limit T e (Some ended) =
     (begun : ℕ) × (number : ℕ) × (reception : IsOpenBefore limit T e e.dir begun number)
-    × (ended ≡ ended_by e.dir reception.start cause.NewStart)
+    × (ended ≡ ended_by e.dir reception.begins.start cause.NewStart)
 
--- the consecutive frame e, of a reception that began at `begun`, is on time
-abbrev pub ComesOnTime : ℕ → List Entry → Entry → ℕ → Type 0
-ComesOnTime limit T e begun = IsOnTime (T ++ e ∷ []) e.dir begun (length T) e
-
--- and it fits as the next one of the reception that is open
-abbrev pub FitsNext :
-    (limit : ℕ) (T : List Entry) (e : Entry) (begun number sequence_number can_dl : ℕ) → IsOpenBefore limit T e e.dir begun number → Type 0
-FitsNext limit T e begun number sequence_number can_dl reception =
-    FitsAs (bytes_in_first reception.frame.frame.bytes) reception.start.rx_dl reception.start.len
-    reception.count (number + 1) sequence_number can_dl
+-- after T the consecutive frame e comes, and so it fits as the next one of the reception that is open then
+abbrev pub FitsNext : ℕ → List Entry → Entry → Fit → Type 0
+FitsNext limit T e fit = FitsOpen limit (T ++ e ∷ []) e.dir (length T) fit
 
 -- the verdict on the frame e after the frames T
 pub data HasVerdict (limit : ℕ) (T : List Entry) (e : Entry) : EventValue → Type 0 where
@@ -67,24 +60,14 @@ pub data HasVerdict (limit : ℕ) (T : List Entry) (e : Entry) : EventValue → 
   next_unexpected : (sequence_number can_dl : ℕ) (bytes : List ℕ)
       → layout_of e.frame ≡ Ok (layout.consecutive sequence_number can_dl bytes) → NothingOpen limit T e e.dir
       → HasVerdict limit T e (refused None reason.NextUnexpected)
-  next_late : (sequence_number can_dl : ℕ) (bytes : List ℕ) (begun number : ℕ)
-      → layout_of e.frame ≡ Ok (layout.consecutive sequence_number can_dl bytes)
-      → (reception : IsOpenBefore limit T e e.dir begun number) → (ComesOnTime limit T e begun → ⊥)
-      → HasVerdict limit T e (refused (Some (ended_by e.dir reception.start cause.Late)) reason.NextLate)
-  wrong_number : (sequence_number can_dl : ℕ) (bytes : List ℕ) (begun number : ℕ)
-      → layout_of e.frame ≡ Ok (layout.consecutive sequence_number can_dl bytes)
-      → (reception : IsOpenBefore limit T e e.dir begun number) → ComesOnTime limit T e begun → sequence_number ≢ (number + 1) % 16
+  next_late : (fits : FitsNext limit T e fit.late)
+      → HasVerdict limit T e (refused (Some (ended_by e.dir fits.is_open.begins.start cause.Late)) reason.NextLate)
+  wrong_number : (fits : FitsNext limit T e fit.wrong_number)
       → HasVerdict limit T e
-      (refused (Some (ended_by e.dir reception.start cause.Sequence)) (reason.NextSequence ((number + 1) % 16) sequence_number))
-  wrong_length : (sequence_number can_dl : ℕ) (bytes : List ℕ) (begun number : ℕ)
-      → layout_of e.frame ≡ Ok (layout.consecutive sequence_number can_dl bytes)
-      → (reception : IsOpenBefore limit T e e.dir begun number) → ComesOnTime limit T e begun → sequence_number ≡ (number + 1) % 16
-      → (FitsNext limit T e begun number sequence_number can_dl reception → ⊥)
-      → HasVerdict limit T e (refused (Some (ended_by e.dir reception.start cause.Length)) reason.NextLength)
-  stored_frame : (sequence_number can_dl : ℕ) (bytes : List ℕ) (begun number : ℕ)
-      → layout_of e.frame ≡ Ok (layout.consecutive sequence_number can_dl bytes)
-      → (reception : IsOpenBefore limit T e e.dir begun number) → ComesOnTime limit T e begun
-      → FitsNext limit T e begun number sequence_number can_dl reception → number + 1 < reception.count
+      (refused (Some (ended_by e.dir fits.is_open.begins.start cause.Sequence)) (reason.NextSequence ((fits.number + 1) % 16) fits.next.sequence_number))
+  wrong_length : (fits : FitsNext limit T e fit.wrong_length)
+      → HasVerdict limit T e (refused (Some (ended_by e.dir fits.is_open.begins.start cause.Length)) reason.NextLength)
+  stored_frame : FitsNext limit T e fit.one_more
       → HasVerdict limit T e (record { ended = None; told = stored })
   last_frame : (whole : List ℕ) → Completes limit (T ++ e ∷ []) (length T) e.dir whole
       → HasVerdict limit T e (record { ended = None; told = message whole })
@@ -99,7 +82,7 @@ pub data HasVerdict (limit : ℕ) (T : List Entry) (e : Entry) : EventValue → 
   overflow_in_time : (begun : ℕ) → layout_of e.frame ≡ Ok (layout.flow_control Overflow)
       → (reception : IsOpenBefore limit T e (other_direction e.dir) begun 0)
       → HasVerdict limit T e
-      (record { ended = Some (ended_by (other_direction e.dir) reception.start cause.Overflow); told = flowed })
+      (record { ended = Some (ended_by (other_direction e.dir) reception.begins.start cause.Overflow); told = flowed })
   overflow_too_late : (begun number : ℕ) → layout_of e.frame ≡ Ok (layout.flow_control Overflow)
       → IsOpenBefore limit T e (other_direction e.dir) begun number → 0 < number
       → HasVerdict limit T e (refused None reason.FlowUnexpected)

@@ -84,12 +84,14 @@ module _ (identifier : Dir → Id) (line micros : ℕ) (T : List Entry) (d : Dir
       let before = reference-of number one below in
       let bytes = drop (place_of len number) message in
       record {
-        frame = entry identifier line micros (begun + (1 + number)) (d, filled (consecutive_control number) bytes);
-        sequence_number = number % 16;
-        can_dl = 8;
-        bytes = drop 1 (filled (consecutive_control number) bytes);
-        stands = at-consecutive identifier line micros T d message begun stand number (omega arith) one below;
-        kind = consecutive-role identifier line micros d (begun + (1 + number)) number bytes;
+        next = record {
+          entry = entry identifier line micros (begun + (1 + number)) (d, filled (consecutive_control number) bytes);
+          stands = at-consecutive identifier line micros T d message begun stand number (omega arith) one below;
+          sequence_number = number % 16;
+          can_dl = 8;
+          bytes = drop 1 (filled (consecutive_control number) bytes);
+          kind = consecutive-role identifier line micros d (begun + (1 + number)) number bytes;
+        };
         fits = record { from_one = one; to_last = most; in_sequence = refl; full = λ _. refl; last_low = λ last. omega arith; last_high = λ _. omega arith };
         on_time = (
           begun + number,
@@ -123,10 +125,12 @@ module _ (identifier : Dir → Id) (line micros : ℕ) (T : List Entry) (d : Dir
       let few = room_in_first-few len in
       let size : length (range_with_len (begun + 2) count) ≡ count = length-range_with_len (begun + 2) count in
       record {
-        frame = entry identifier line micros begun (d, filled (first_control len) message);
-        start = start;
-        stands = at-first identifier line micros T d message begun stand (omega arith) (omega arith);
-        kind = starts;
+        begins = record {
+          entry = entry identifier line micros begun (d, filled (first_control len) message);
+          stands = at-first identifier line micros T d message begun stand (omega arith) (omega arith);
+          start = start;
+          kind = starts;
+        };
         announces = refl;
         least = rw (held, size) (count-least len (omega arith));
         consecutive_frames = rw (held, size) (parts-from count 1 (begun + 2) (omega arith) (omega arith) (omega arith));
@@ -145,8 +149,11 @@ module _ (identifier : Dir → Id) (line micros limit : ℕ) (bits : limit < 2 ^
           some = some;
           fits = fits;
           rising = rw t (omega arith, tt);
-          carried = rw t (unsegmented _ (at-single identifier line micros T d message begun stand short (omega arith))
-              (single-role identifier line micros d begun message some short));
+          carried = rw t (unsegmented (record {
+            entry = _;
+            stands = at-single identifier line micros T d message begun stand short (omega arith);
+            kind = single-role identifier line micros d begun message some short;
+          }));
         })
     | inr t ↦
         (let long = leb-false (length message) 7 t in

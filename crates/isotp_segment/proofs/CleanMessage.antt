@@ -62,17 +62,17 @@ module _ (identifier : Dir → Id) (line micros limit : ℕ) (bits : limit < 2 ^
     completed = its.completed
 
     abbrev number : ℕ
-    number = consecutive_frames_in d (between T completed.begun here)
+    number = consecutive_frames_in d (between T completed.fit.begun here)
 
-    reception : IsOpenAt limit T d completed.begun number here
+    reception : IsOpenAt limit T d completed.fit.begun number here
     reception =
-        open-since limit T d completed.begun completed.number its.last completed.is_open here
+        open-since limit T d completed.fit.begun completed.fit.number its.last completed.fit.is_open here
         (omega (arith, its.from)) (omega (arith, its.ends))
 
     go-on-clean : begun + 1 ≡ here → IsCleanEvent (verdict limit past e)
     go-on-clean is =
         clean-as _ (begun + 1) (at-continue identifier line micros T d message begun sent.stand long (omega arith)) is
-        (continue-clean limit past rest d completed.begun number reception _ (other-of-other d) (layout-continue (identifier (other_direction d))))
+        (continue-clean limit past rest d completed.fit.begun number reception _ (other-of-other d) (layout-continue (identifier (other_direction d))))
 
     next-clean : (k : ℕ) → 1 ≤ k → begun + (1 + k) ≡ here → IsCleanEvent (verdict limit past e)
     unfolding reception open-since
@@ -83,7 +83,7 @@ module _ (identifier : Dir → Id) (line micros limit : ℕ) (bits : limit < 2 ^
         let next = next-since limit T d its.last message completed here (entry identifier line micros here frame) (k % 16) 8 _
         (omega (arith, its.from)) (omega (arith, its.ends)) at_here (consecutive-role identifier line micros d here k _) in
         clean-as _ (begun + (1 + k)) at is
-        (consecutive-clean limit past rest d completed.begun number reception _ (k % 16) 8 _ refl (layout-consecutive (identifier d) k _) next.0 next.1)
+        (consecutive-clean limit past rest d completed.fit.begun number reception _ (k % 16) 8 _ refl (layout-consecutive (identifier d) k _) next.0 next.1)
 
   further-clean : 7 < length message → begun < here → here < begun + total_count (length message) → IsCleanEvent (verdict limit past e)
   further-clean long later below =

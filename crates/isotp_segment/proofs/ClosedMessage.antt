@@ -27,8 +27,8 @@ module _ (identifier : Dir → Id) (line micros limit : ℕ) (T : List Entry) (d
         → (heard ≡ frame.0) × IsFirst (layout_of (classic (identifier frame.0) frame.1))
     begins-at p frame at is =
         let there = subst (λ q. At T q (entry identifier line micros q frame)) is at in
-        begins-reception heard (entry identifier line micros from frame) reception.start
-        (ap (role heard) (same-entry T from _ reception.frame there reception.stands) ∙ reception.kind)
+        begins-reception heard (entry identifier line micros from frame) reception.begins.start
+        (ap (role heard) (same-entry T from _ reception.begins.entry there reception.begins.stands) ∙ reception.begins.kind)
 
     not-alone : length message ≤ 7 → begun ≡ from → ⊥
     not-alone short is =

@@ -30,10 +30,7 @@ unfoldable pub open-since : (limit : ℕ) (T : List Entry) (d : Dir) (begun numb
 open-since limit T d begun number position reception place later most = record {
   later = later;
   inside = omega (arith, reception.inside);
-  frame = reception.frame;
-  start = reception.start;
-  stands = reception.stands;
-  kind = reception.kind;
+  begins = reception.begins;
   fits = reception.fits;
   count = reception.count;
   least = reception.least;
@@ -66,26 +63,26 @@ module _ (limit : ℕ) (T : List Entry) (d : Dir) (position : ℕ) (message : Li
   -- as the next of the reception, on time
   abbrev pub IsNext : ℕ → Entry → ℕ → ℕ → Type 0
   IsNext place e sequence_number can_dl =
-      FitsAs (bytes_in_first completed.is_open.frame.frame.bytes) completed.is_open.start.rx_dl completed.is_open.start.len completed.is_open.count
-      (consecutive_frames_in d (between T completed.begun place) + 1) sequence_number can_dl
-      × IsOnTime T d completed.begun place e
+      FitsAs (bytes_in_first completed.fit.is_open.begins.entry.frame.bytes) completed.fit.is_open.begins.start.rx_dl completed.fit.is_open.begins.start.len completed.fit.is_open.count
+      (consecutive_frames_in d (between T completed.fit.begun place) + 1) sequence_number can_dl
+      × IsOnTime T d completed.fit.begun place e
 
   next-at-end : (e : Entry) (sequence_number can_dl : ℕ) (bytes : List ℕ) → At T position e → role d e ≡ consecutive sequence_number can_dl bytes
       → IsNext position e sequence_number can_dl
   next-at-end e sequence_number can_dl bytes at is =
-      let same = same-entry T position e completed.frame at completed.stands in
-      let kind = completed.kind in
-      let same_number : completed.sequence_number ≡ sequence_number = cc in
-      let same_length : completed.can_dl ≡ can_dl = cc in
-      rw (same, ← same_number, ← same_length, ← completed.is_open.taken) (completed.fits, completed.on_time)
+      let same = same-entry T position e completed.fit.next.entry at completed.fit.next.stands in
+      let kind = completed.fit.next.kind in
+      let same_number : completed.fit.next.sequence_number ≡ sequence_number = cc in
+      let same_length : completed.fit.next.can_dl ≡ can_dl = cc in
+      rw (same, ← same_number, ← same_length, ← completed.fit.is_open.taken) (completed.fit.fits.1, completed.fit.fits.0)
 
-  pub next-since : (place : ℕ) (e : Entry) (sequence_number can_dl : ℕ) (bytes : List ℕ) → completed.begun < place → place ≤ position → At T place e
+  pub next-since : (place : ℕ) (e : Entry) (sequence_number can_dl : ℕ) (bytes : List ℕ) → completed.fit.begun < place → place ≤ position → At T place e
       → role d e ≡ consecutive sequence_number can_dl bytes → IsNext place e sequence_number can_dl
   next-since place e sequence_number can_dl bytes later most at is = elim (cases_lt place position) [
     | inl before ↦
-        subst (LeavesOpen completed.is_open.start (bytes_in_first completed.is_open.frame.frame.bytes) completed.is_open.count
-        (consecutive_frames_in d (between T completed.begun place)) (IsOnTime T d completed.begun place e)) is
-        (completed.is_open.each place e later before at)
+        subst (LeavesOpen completed.fit.is_open.begins.start (bytes_in_first completed.fit.is_open.begins.entry.frame.bytes) completed.fit.is_open.count
+        (consecutive_frames_in d (between T completed.fit.begun place)) (IsOnTime T d completed.fit.begun place e)) is
+        (completed.fit.is_open.each place e later before at)
     | inr least ↦
         (let last : position ≡ place = omega arith in
         subst (λ p. IsNext p e sequence_number can_dl) last
@@ -93,16 +90,16 @@ module _ (limit : ℕ) (T : List Entry) (d : Dir) (position : ℕ) (message : Li
   ]
 
   -- behind that frame the reception is open no more
-  pub closed-behind : (number later : ℕ) → position < later → IsOpenAt limit T d completed.begun number later → ⊥
+  pub closed-behind : (number later : ℕ) → position < later → IsOpenAt limit T d completed.fit.begun number later → ⊥
   closed-behind number later behind reception =
-      let its = completed.is_open in
-      let same_frame : reception.frame ≡ its.frame = same-entry T completed.begun reception.frame its.frame reception.stands its.stands in
-      let same_start : reception.start ≡ its.start = (let one = reception.kind in let two = its.kind in cc) in
-      let same_count = one-count (bytes_in_first its.frame.frame.bytes) its.start.rx_dl its.start.len reception.count its.count
-      (subst (λ s. IsConsecutiveCount (bytes_in_first its.frame.frame.bytes) s.rx_dl s.len reception.count) same_start
-      (subst (λ f. IsConsecutiveCount (bytes_in_first f.frame.bytes) reception.start.rx_dl reception.start.len reception.count) same_frame reception.least))
+      let its = completed.fit.is_open in
+      let same_frame : reception.begins.entry ≡ its.begins.entry = same-entry T completed.fit.begun reception.begins.entry its.begins.entry reception.begins.stands its.begins.stands in
+      let same_start : reception.begins.start ≡ its.begins.start = (let one = reception.begins.kind in let two = its.begins.kind in cc) in
+      let same_count = one-count (bytes_in_first its.begins.entry.frame.bytes) its.begins.start.rx_dl its.begins.start.len reception.count its.count
+      (subst (λ s. IsConsecutiveCount (bytes_in_first its.begins.entry.frame.bytes) s.rx_dl s.len reception.count) same_start
+      (subst (λ f. IsConsecutiveCount (bytes_in_first f.frame.bytes) reception.begins.start.rx_dl reception.begins.start.len reception.count) same_frame reception.least))
       its.least in
-      let counts : consecutive_by (role d completed.frame) ≡ 1 = ap consecutive_by completed.kind in
+      let counts : consecutive_by (role d completed.fit.next.entry) ≡ 1 = ap consecutive_by completed.fit.next.kind in
       absurd (omega (
         arith,
         same_count,
@@ -110,6 +107,6 @@ module _ (limit : ℕ) (T : List Entry) (d : Dir) (position : ℕ) (message : Li
         reception.taken,
         reception.more,
         its.taken,
-        completed.last,
-        counted-between d T completed.begun position later completed.frame its.later behind completed.stands,
+        completed.fit.fits.2,
+        counted-between d T completed.fit.begun position later completed.fit.next.entry its.later behind completed.fit.next.stands,
       ))

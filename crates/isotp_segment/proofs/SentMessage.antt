@@ -26,11 +26,11 @@ pub record IsCompleted (limit : ℕ) (T : List Entry) (d : Dir) (message : List 
   pub last : ℕ
   pub ends : last + 1 ≡ begun + total_count (length message)
   pub completed : Completes limit T last d message
-  pub from : completed.begun ≡ begun
+  pub from : completed.fit.begun ≡ begun
 
 two-or-more : (limit : ℕ) (T : List Entry) (d : Dir) (message : List ℕ) (begun next : ℕ) (positions : List ℕ)
     → AreFramesOf limit T d message (begun ∷ next ∷ positions)
-    → (completed : Completes limit T (last_or next positions) d message) × (completed.begun ≡ begun)
+    → (completed : Completes limit T (last_or next positions) d message) × (completed.fit.begun ≡ begun)
 two-or-more limit T d message begun next positions (together completed from only) = (completed, from)
 
 pub is-completed : (limit : ℕ) (T : List Entry) (d : Dir) (message : List ℕ) (begun : ℕ) → 7 < length message

@@ -1,17 +1,18 @@
 -- What the code keeps of a meaning, and what it makes of one more message.
 use Rattle.std.proofs.Common.{◌≡◌, ◌≢◌, ℕ, ◌<◌, not, ◌&&◌, List, [], ◌∷◌, ◌++◌, length, get_or, Option, Some, None, refl, sym, ◌∙◌, ap, arith, inl, inr, option_map, length-append}
-use Rattle.std.specs.Prelude.{slice_get, slice_set}
+use Rattle.std.specs.Prelude.{◌⊎◌, slice_get, slice_set}
 use Rattle.std.proofs.lemmas.Option.{slice_get_read, slice_get_within, slice_get-map, same_Some, none-some}
 use Rattle.std.proofs.lemmas.List.{map-append, length-map}
 use Rattle.std.proofs.lemmas.Bool.{cases_Bool}
 use Rattle.can_log.specs.Dir.{Message}
 use Rattle.uds_message.specs.Message.{sid, is_final_for, is_pending_for}
 use Rattle.uds_exchange.specs.declared.item.Item.{Item}
-use Rattle.uds_exchange.specs.declared.roles.Role.{Role}
-use Rattle.uds_exchange.specs.declared.roles.Role.TheVariants as role
+use Rattle.uds_exchange.specs.declared.step.Step.{Step}
+use Rattle.uds_exchange.specs.declared.step.Step.TheVariants as step
 use Rattle.uds_exchange.specs.Meaning.{ItemValue, exchange, stray_of, is_from_tester, is_tester_request, is_answer_to, is_pending_reply_to}
 use Rattle.uds_exchange.specs.ItemSeen.{item_value, item_values}
-use Rattle.uds_exchange.specs.Pairing.{waiting, waiting_sid, IsOpenAt, role_if_open, role_at, joined_by, joined}
+use Rattle.uds_exchange.specs.Pairing.{waiting, waiting_sid, IsOpenAt, joined_by, joined}
+use Rattle.uds_exchange.specs.Steps.{step_if_open, step_at}
 use Rattle.uds_exchange.proofs.Waiting.{sid_of, waiting-stray, waiting-request, waiting-at, waiting-answered}
 
 pub item-at : (xs : List Item) (i : ℕ) (x : Item) → x ≡ get_or xs i x → i < length xs
@@ -28,36 +29,41 @@ item_values-push xs ys y h = ap item_values h ∙ map-append item_value xs (y �
 pub length-item_values : (xs : List Item) → length (item_values xs) ≡ length xs
 length-item_values xs = length-map xs item_value
 
--- the items after a message that has this role
-pub after : Role → List ItemValue → Option (ℕ × List ℕ) → Message → List ItemValue
-after (role.Request s) its w x = its ++ exchange x.1 None ∷ []
-after role.Answer its (Some w) x = slice_set its w.0 (exchange w.1 (Some x.1))
-after role.Answer its None x = its
-after role.Removed its w x = its
-after role.Stray its w x = its ++ stray_of x ∷ []
+-- the message belongs to no exchange, whether a request is open or not
+abbrev pub IsStray : Step → Type 0
+IsStray s = (s ≡ step.Hold) ⊎ (s ≡ step.Pass)
 
-joined_by-role : (its : List ItemValue) (w : Option (ℕ × List ℕ)) (x : Message) → joined_by w its x ≡ after (role_if_open (sid_of w) x) its w x
+-- the items after this step with a message
+pub after : Step → List ItemValue → Option (ℕ × List ℕ) → Message → List ItemValue
+after (step.Request s) its w x = its ++ exchange x.1 None ∷ []
+after step.Answer its (Some w) x = slice_set its w.0 (exchange w.1 (Some x.1))
+after step.Answer its None x = its
+after step.Removed its w x = its
+after step.Hold its w x = its ++ stray_of x ∷ []
+after step.Pass its w x = its ++ stray_of x ∷ []
+
+joined_by-step : (its : List ItemValue) (w : Option (ℕ × List ℕ)) (x : Message) → joined_by w its x ≡ after (step_if_open (sid_of w) x) its w x
 unfolding after
-joined_by-role its None x = refl
-joined_by-role its (Some w) x =
+joined_by-step its None x = refl
+joined_by-step its (Some w) x =
     elim (cases_Bool (is_answer_to w.1 x)) [
       | inl e ↦ rw e refl
       | inr e ↦ elim (cases_Bool (is_pending_reply_to w.1 x)) [ inl q ↦ rw (e, q) refl | inr q ↦ rw (e, q) refl ]
     ]
 
-joined-role : (its : List ItemValue) (x : Message) → joined its x ≡ after (role_at (waiting_sid its) x) its (waiting its) x
+joined-step : (its : List ItemValue) (x : Message) → joined its x ≡ after (step_at (waiting_sid its) x) its (waiting its) x
 unfolding after
-joined-role its x =
-    elim (cases_Bool (is_tester_request x)) [ inl e ↦ rw e refl | inr e ↦ rw e (joined_by-role its (waiting its) x) ]
+joined-step its x =
+    elim (cases_Bool (is_tester_request x)) [ inl e ↦ rw e refl | inr e ↦ rw e (joined_by-step its (waiting its) x) ]
 
-not-request : (s : ℕ) (o : Option ℕ) (x : Message) → role.Request s ≡ role_if_open o x → ⊥
+not-request : (s : ℕ) (o : Option ℕ) (x : Message) → step.Request s ≡ step_if_open o x → ⊥
 not-request s None x h = cc
 not-request s (Some w) x h =
     elim (cases_Bool (not (is_from_tester x.0) && is_final_for w x.1)) [
-      | inl e ↦ (let no : role.Request s ≡ role.Answer = rw e at h in cc)
+      | inl e ↦ (let no : step.Request s ≡ step.Answer = rw e at h in cc)
       | inr e ↦ elim (cases_Bool (not (is_from_tester x.0) && is_pending_for w x.1)) [
-        | inl q ↦ (let no : role.Request s ≡ role.Removed = rw (e, q) at h in cc)
-        | inr q ↦ (let no : role.Request s ≡ role.Stray = rw (e, q) at h in cc)
+        | inl q ↦ (let no : step.Request s ≡ step.Removed = rw (e, q) at h in cc)
+        | inr q ↦ (let no : step.Request s ≡ step.Hold = rw (e, q) at h in cc)
       ]
     ]
 
@@ -65,70 +71,71 @@ not-longer : (its : List ItemValue) (i : ItemValue) → its ++ i ∷ [] ≢ its
 not-longer its i same = omega (arith, length-append its (i ∷ []), ap length same)
 
 -- an answer needs a request that waits
-answer-waits : (w : Option (ℕ × List ℕ)) (x : Message) → role.Answer ≡ role_at (sid_of w) x → (v : ℕ × List ℕ) × (w ≡ Some v)
+answer-waits : (w : Option (ℕ × List ℕ)) (x : Message) → step.Answer ≡ step_at (sid_of w) x → (v : ℕ × List ℕ) × (w ≡ Some v)
 answer-waits (Some v) x h = (v, refl)
 answer-waits None x h =
     elim (cases_Bool (is_tester_request x)) [
-      | inl e ↦ absurd (let no : role.Answer ≡ role.Request (sid x.1) = rw e at h in cc)
-      | inr e ↦ absurd (let no : role.Answer ≡ role.Stray = rw e at h in cc)
+      | inl e ↦ absurd (let no : step.Answer ≡ step.Request (sid x.1) = rw e at h in cc)
+      | inr e ↦ absurd (let no : step.Answer ≡ step.Pass = rw e at h in cc)
     ]
 
 module _ (its now : List ItemValue) (is : its ≡ now) (open_sid : Option ℕ) (last : ℕ) (kept : IsOpenAt its open_sid last) (x : Message) where
-  joins : (r : Role) → r ≡ role_at open_sid x → joined now x ≡ after r its (waiting its) x
+  joins : (r : Step) → r ≡ step_at open_sid x → joined now x ≡ after r its (waiting its) x
   joins r h =
       ap (λ l. joined l x) (sym is)
-      ∙ joined-role its x
-      ∙ ap (λ o. after (role_at o x) its (waiting its) x) kept.first_byte
+      ∙ joined-step its x
+      ∙ ap (λ o. after (step_at o x) its (waiting its) x) kept.first_byte
       ∙ ap (λ r. after r its (waiting its) x) (sym h)
 
-  pub joins-request : (s : ℕ) → role.Request s ≡ role_at open_sid x → its ++ exchange x.1 None ∷ [] ≡ joined now x
+  pub joins-request : (s : ℕ) → step.Request s ≡ step_at open_sid x → its ++ exchange x.1 None ∷ [] ≡ joined now x
   unfolding after
-  joins-request s h = sym (joins (role.Request s) h)
+  joins-request s h = sym (joins (step.Request s) h)
 
   -- a request's first byte is what the code keeps of it
-  pub request-sid : (s : ℕ) → role.Request s ≡ role_at open_sid x → s ≡ sid x.1
+  pub request-sid : (s : ℕ) → step.Request s ≡ step_at open_sid x → s ≡ sid x.1
   request-sid s h =
       elim (cases_Bool (is_tester_request x)) [
-        | inl e ↦ (let same : role.Request s ≡ role.Request (sid x.1) = rw e at h in cc)
+        | inl e ↦ (let same : step.Request s ≡ step.Request (sid x.1) = rw e at h in cc)
         | inr e ↦ absurd (not-request s open_sid x (rw e at h))
       ]
 
-  pub joins-stray : role.Stray ≡ role_at open_sid x → its ++ stray_of x ∷ [] ≡ joined now x
+  pub joins-stray : (r : Step) → r ≡ step_at open_sid x → IsStray r → its ++ stray_of x ∷ [] ≡ joined now x
   unfolding after
-  joins-stray h = sym (joins role.Stray h)
+  joins-stray r h (inl hold) = sym (joins step.Hold (sym hold ∙ h))
+  joins-stray r h (inr pass) = sym (joins step.Pass (sym pass ∙ h))
 
-  pub answered-at : role.Answer ≡ role_at open_sid x → (w : ℕ × List ℕ) × (waiting its ≡ Some w)
-  answered-at h = answer-waits (waiting its) x (h ∙ ap (λ o. role_at o x) (sym kept.first_byte))
+  pub answered-at : step.Answer ≡ step_at open_sid x → (w : ℕ × List ℕ) × (waiting its ≡ Some w)
+  answered-at h = answer-waits (waiting its) x (h ∙ ap (λ o. step_at o x) (sym kept.first_byte))
 
-  pub answered-below : role.Answer ≡ role_at open_sid x → last < length its
+  pub answered-below : step.Answer ≡ step_at open_sid x → last < length its
   answered-below h =
       let w = answered-at h in
       omega (arith, kept.place w.0 w.1, slice_get_within its w.0.0 (exchange w.0.1 None) (waiting-at its w.0 w.1))
 
   -- the place holds the exchange that waits
-  pub answered-exchange : (h : role.Answer ≡ role_at open_sid x) → slice_get its last ≡ Some (exchange (answered-at h).0.1 None)
+  pub answered-exchange : (h : step.Answer ≡ step_at open_sid x) → slice_get its last ≡ Some (exchange (answered-at h).0.1 None)
   unfolding answered-at
   answered-exchange h =
       let w = answered-at h in
       ap (slice_get its) (sym (kept.place w.0 w.1)) ∙ waiting-at its w.0 w.1
 
-  pub joins-answer : (h : role.Answer ≡ role_at open_sid x) → slice_set its last (exchange (answered-at h).0.1 (Some x.1)) ≡ joined now x
+  pub joins-answer : (h : step.Answer ≡ step_at open_sid x) → slice_set its last (exchange (answered-at h).0.1 (Some x.1)) ≡ joined now x
   unfolding after answered-at
   joins-answer h =
       let w = answered-at h in
       ap (λ i. slice_set its i (exchange w.0.1 (Some x.1))) (sym (kept.place w.0 w.1))
-      ∙ sym (joins role.Answer h ∙ ap (λ o. after role.Answer its o x) w.1)
+      ∙ sym (joins step.Answer h ∙ ap (λ o. after step.Answer its o x) w.1)
 
-  -- a message with one of these roles changes the items
-  pub changes-stray : role.Stray ≡ role_at open_sid x → joined now x ≢ now
-  changes-stray h same = not-longer its (stray_of x) (joins-stray h ∙ same ∙ sym is)
+  -- a message with one of these steps changes the items
+  pub changes-stray : (r : Step) → r ≡ step_at open_sid x → IsStray r → joined now x ≢ now
+  changes-stray r h stray same = not-longer its (stray_of x) (joins-stray r h stray ∙ same ∙ sym is)
 
-  pub changes-answer : role.Answer ≡ role_at open_sid x → joined now x ≢ now
+  pub changes-answer : step.Answer ≡ step_at open_sid x → joined now x ≢ now
   unfolding after
   changes-answer h same =
       let w = answered-at h in
       let answered : slice_set its w.0.0 (exchange w.0.1 (Some x.1)) ≡ its =
-      sym (joins role.Answer h ∙ ap (λ o. after role.Answer its o x) w.1) ∙ same ∙ sym is in
+      sym (joins step.Answer h ∙ ap (λ o. after step.Answer its o x) w.1) ∙ same ∙ sym is in
       none-some _ (sym (waiting-answered its w.0 x.1 w.1) ∙ ap waiting answered ∙ w.1)
 
 -- what is kept of the longer list

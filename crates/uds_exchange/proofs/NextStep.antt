@@ -6,8 +6,8 @@ use Rattle.uds_message.specs.Message.{sid}
 use Rattle.uds_exchange.specs.Meaning.{ItemValue, is_tester_request, is_answer_to, is_pending_reply_to, meaning, flattened}
 use Rattle.uds_exchange.specs.Order.{held_in, held, early}
 use Rattle.uds_exchange.specs.Orderer.{Standing, stands_after, IsDue, PutsDue, IsHeld, StopsDue}
-use Rattle.uds_exchange.specs.Pairing.{waiting, waiting_sid, role_at, joined_by, joined}
-use Rattle.uds_exchange.specs.Steps.{due_for, due, next_for, next, Stops}
+use Rattle.uds_exchange.specs.Pairing.{waiting, waiting_sid, joined_by, joined}
+use Rattle.uds_exchange.specs.Steps.{step_at, due_for, due, next_for, next, Stops}
 use Rattle.uds_exchange.specs.Sink.{AfterOk, AfterErr, Puts}
 use Rattle.uds_exchange.specs.declared.orderer.OrderFault.{OrderFault}
 use Rattle.uds_exchange.specs.declared.orderer.OrderFault.TheVariants as fault
@@ -30,7 +30,7 @@ stands-is M =
     (ap (option_map sid) (open-request-waits (meaning M)) ∙ sid-of-request (waiting (meaning M)))
 
 due-by-same : (w : Option (ℕ × List ℕ)) (xs : List Message) (x : Message) → is_tester_request x ≡ false
-    → due_for (role_at (sid_of w) x) (sid_of w) xs x ≡ due_by w xs x
+    → due_for (step_at (sid_of w) x) xs x ≡ due_by w xs x
 due-by-same None xs x r = rw r refl
 due-by-same (Some w) xs x r =
     elim (cases_Bool (is_answer_to w.1 x)) [
@@ -43,7 +43,7 @@ due-same its x =
     elim (cases_Bool (is_tester_request x)) [ inl e ↦ rw e refl | inr e ↦ (due-by-same (waiting its) (held_in its) x e ∙ rw e refl) ]
 
 next-by : (its : List ItemValue) (x : Message) (w : Option (ℕ × List ℕ)) → is_tester_request x ≡ false → waiting its ≡ w
-    → standing (joined_by w its x) ≡ next_for (role_at (sid_of w) x) (standing its) (sid_of w) x
+    → standing (joined_by w its x) ≡ next_for (step_at (sid_of w) x) (standing its) x
 next-by its x None r h = rw (r, waiting-stray its x.0 x.1, h, (early-stray its x.0 x.1 h).1, none-held its h) refl
 next-by its x (Some w) r h =
     elim (cases_Bool (is_answer_to w.1 x)) [

@@ -1,10 +1,8 @@
 -- Devices of proof: a meaning that grows by one message, and what the code keeps of it.
-use Rattle.std.specs.Prelude.{◌≡◌, ℕ, suc, not, ◌&&◌, List, [], ◌∷◌, ◌++◌, Option, Some, None, option_map, if◌then◌else◌, slice_set}
+use Rattle.std.specs.Prelude.{◌≡◌, ℕ, suc, List, [], ◌∷◌, ◌++◌, Option, Some, None, option_map, if◌then◌else◌, slice_set}
 use Rattle.can_log.specs.Dir.{Message}
-use Rattle.uds_message.specs.Message.{sid, is_final_for, is_pending_for}
-use Rattle.uds_exchange.specs.declared.roles.Role.{Role as RoleInCode}
-use Rattle.uds_exchange.specs.declared.roles.Role.TheVariants as role
-use Rattle.uds_exchange.specs.Meaning.{ItemValue, exchange, stray, stray_of, is_from_tester, is_tester_request, is_answer_to, is_pending_reply_to}
+use Rattle.uds_message.specs.Message.{sid}
+use Rattle.uds_exchange.specs.Meaning.{ItemValue, exchange, stray, stray_of, is_tester_request, is_answer_to, is_pending_reply_to}
 use Rattle.uds_exchange.specs.Order.{has_exchange}
 
 -- a place and a request, with one more item before it
@@ -27,18 +25,6 @@ waiting_sid items = option_map (λ place. sid place.1) (waiting items)
 pub record IsOpenAt (items : List ItemValue) (open_sid : Option ℕ) (last : ℕ) : Type 0 where
   pub first_byte : waiting_sid items ≡ open_sid
   pub place : (found : ℕ × List ℕ) → waiting items ≡ Some found → found.0 ≡ last
-
--- what a message is where a request with this first byte is open
-abbrev pub role_if_open : Option ℕ → Message → RoleInCode
-role_if_open None message = role.Stray
-role_if_open (Some service) message =
-    if not (is_from_tester message.0) && is_final_for service message.1 then role.Answer
-    else if not (is_from_tester message.0) && is_pending_for service message.1 then role.Removed
-    else role.Stray
-
--- what a message is, where this is the first byte of the open request
-abbrev pub role_at : Option ℕ → Message → RoleInCode
-role_at open_sid message = if is_tester_request message then role.Request (sid message.1) else role_if_open open_sid message
 
 -- the items after one more message that is no request, where this exchange waits
 abbrev pub joined_by : Option (ℕ × List ℕ) → List ItemValue → Message → List ItemValue

@@ -1,38 +1,51 @@
--- Devices of proof: what an orderer does with one more message, from what it holds, and messages that lie end to end.
-use Rattle.std.specs.Prelude.{ℕ, ◌+◌, List, [], ◌∷◌, ◌++◌, Option, Some, None, take, drop, ◌≡◌, true, false}
+-- Devices of proof: what becomes of one more message by the open request alone, what an orderer does with it, and messages that lie end to end.
+use Rattle.std.specs.Prelude.{ℕ, ◌+◌, not, ◌&&◌, if◌then◌else◌, List, [], ◌∷◌, ◌++◌, Option, Some, None, take, drop, ◌≡◌, true, false}
 use Rattle.can_log.specs.Dir.{Message}
+use Rattle.uds_message.specs.Message.{sid, is_final_for, is_pending_for}
 use Rattle.uds_exchange.specs.declared.held.Extent.{Extent}
-use Rattle.uds_exchange.specs.declared.roles.Role.{Role}
-use Rattle.uds_exchange.specs.declared.roles.Role.TheVariants as role
+use Rattle.uds_exchange.specs.declared.step.Step.{Step}
+use Rattle.uds_exchange.specs.declared.step.Step.TheVariants as step
 use Rattle.uds_exchange.specs.declared.orderer.OrderFault.{OrderFault}
 use Rattle.uds_exchange.specs.declared.orderer.OrderFault.TheVariants as fault
-use Rattle.uds_exchange.specs.Pairing.{role_at}
+use Rattle.uds_exchange.specs.Meaning.{is_from_tester, is_tester_request}
 use Rattle.uds_exchange.specs.Sink.{AfterOk, AfterErr, Fails}
 use Rattle.uds_exchange.specs.Orderer.{Standing}
 
--- the messages that are due with a message of this role, behind those that are held
-abbrev pub due_for : Role → Option ℕ → List Message → Message → List Message
-due_for (role.Request service) open_sid holds message = holds ++ message ∷ []
-due_for role.Answer open_sid holds message = message ∷ holds
-due_for role.Removed open_sid holds message = []
-due_for role.Stray None holds message = message ∷ []
-due_for role.Stray (Some service) holds message = []
+-- what becomes of a message that is no request, where this is the first byte of the open request
+abbrev pub step_if_open : Option ℕ → Message → Step
+step_if_open None message = step.Pass
+step_if_open (Some service) message =
+    if not (is_from_tester message.0) && is_final_for service message.1 then step.Answer
+    else if not (is_from_tester message.0) && is_pending_for service message.1 then step.Removed
+    else step.Hold
+
+-- what becomes of a message, where this is the first byte of the open request
+abbrev pub step_at : Option ℕ → Message → Step
+step_at open_sid message = if is_tester_request message then step.Request (sid message.1) else step_if_open open_sid message
+
+-- the messages that have their place by this step with a message, where these are held
+abbrev pub due_for : Step → List Message → Message → List Message
+due_for (step.Request service) holds message = holds ++ message ∷ []
+due_for step.Answer holds message = message ∷ holds
+due_for step.Removed holds message = []
+due_for step.Hold holds message = []
+due_for step.Pass holds message = message ∷ []
 
 -- what is due with one more message
 abbrev pub due : Standing → Message → List Message
-due standing message = due_for (role_at standing.open_sid message) standing.open_sid standing.holds message
+due standing message = due_for (step_at standing.open_sid message) standing.holds message
 
--- what the orderer holds after it
-abbrev pub next_for : Role → Standing → Option ℕ → Message → Standing
-next_for (role.Request service) standing open_sid message = record standing { open_sid = Some service; holds = [] }
-next_for role.Answer standing open_sid message = record standing { open_sid = None; holds = [] }
-next_for role.Removed standing open_sid message = standing
-next_for role.Stray standing None message = standing
-next_for role.Stray standing (Some service) message = record standing { holds = standing.holds ++ message ∷ [] }
+-- what the orderer is after this step
+abbrev pub next_for : Step → Standing → Message → Standing
+next_for (step.Request service) standing message = record standing { open_sid = Some service; holds = [] }
+next_for step.Answer standing message = record standing { open_sid = None; holds = [] }
+next_for step.Removed standing message = standing
+next_for step.Hold standing message = record standing { holds = standing.holds ++ message ∷ [] }
+next_for step.Pass standing message = standing
 
 -- what the orderer is after one more message
 abbrev pub next : Standing → Message → Standing
-next standing message = next_for (role_at standing.open_sid message) standing standing.open_sid message
+next standing message = next_for (step_at standing.open_sid message) standing message
 
 -- what a fault leaves, at this message; memory is refused only where the message would be held
 abbrev pub Stops : {Sink Fault : Type 0} → AfterOk Sink → AfterErr Sink Fault → Message → Standing → Sink → Standing → Sink → OrderFault Fault → Type 0

@@ -19,8 +19,8 @@ pub mod laws;
 mod meaning;
 mod orderer;
 mod pairing;
-mod roles;
 mod sink;
+mod step;
 #[cfg(test)]
 mod tests;
 

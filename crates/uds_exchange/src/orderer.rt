@@ -9,8 +9,8 @@ ghost use Rattle.uds_exchange.specs.Steps.{due, due_for, next, Stops};
 ghost use Rattle.uds_exchange.specs.declared.orderer.OrderFault.TheVariants.{Memory, Failed};
 
 use crate::held::Held;
-use crate::roles::{Role, role_of};
 use crate::sink::MessageSink;
+use crate::step::{Step, step_of};
 use can_log::Dir;
 use std::alloc::Global;
 use std::marker::Model;
@@ -120,46 +120,46 @@ impl Orderer {
         if self.failed {
             return Err(OrderFault::Failed);
         }
-        let role = role_of(self.open_sid, dir, message);
-        if let (Role::Stray, Some(_)) = (role, self.open_sid) {
+        let step = step_of(self.open_sid, dir, message);
+        if let Step::Hold = step {
             return self.held.push(dir, message).map_err(|_| OrderFault::Memory);
         }
-        if let Err(fault) = put_due(role, &self.held, dir, message, sink) {
+        if let Err(fault) = put_due(step, &self.held, dir, message, sink) {
             self.failed = true;
             return Err(OrderFault::Sink(fault));
         }
-        match role {
-            Role::Request(sid) => {
+        match step {
+            Step::Request(sid) => {
                 self.held.clear();
                 self.open_sid = Some(sid);
             }
-            Role::Answer => {
+            Step::Answer => {
                 self.held.clear();
                 self.open_sid = None;
             }
-            Role::Removed | Role::Stray => {}
+            Step::Removed | Step::Hold | Step::Pass => {}
         }
         Ok(())
     }
 }
 
-/// Puts what is due with a message of this role; a stray has its place where no request is open.
+/// Puts what has its place by this step with a message.
 fn put_due<S: MessageSink>(
-    role: Role,
+    step: Step,
     held: &Held,
     dir: Dir,
     message: &[u8],
     sink: &mut S,
 ) -> Result<(), S::Fault>
-    ensures ok { OnOk result (Puts S.after_ok sink.old (due_for role None held.now (dir, message.now)) sink.new) }
+    ensures ok { OnOk result (Puts S.after_ok sink.old (due_for step held.now (dir, message.now)) sink.new) }
     ensures err { IfErr result (λ e. Fails S.after_ok S.after_err sink.old
-        (due_for role None held.now (dir, message.now)) e sink.new) }
+        (due_for step held.now (dir, message.now)) e sink.new) }
 {
-    match role {
-        Role::Request(_) => put_behind(held, dir, message, sink),
-        Role::Answer => put_before(dir, message, held, sink),
-        Role::Removed => Ok(()),
-        Role::Stray => sink.put(dir, message),
+    match step {
+        Step::Request(_) => put_behind(held, dir, message, sink),
+        Step::Answer => put_before(dir, message, held, sink),
+        Step::Removed | Step::Hold => Ok(()),
+        Step::Pass => sink.put(dir, message),
     }
 }
 

@@ -8,7 +8,7 @@ ghost use Rattle.uds_exchange.specs.Pairing.{joined};
 
 use crate::item::Item;
 use crate::meaning::Meaning;
-use crate::roles::{Role, role_of};
+use crate::step::{Step, step_of};
 use can_log::Dir;
 use std::alloc::{AllocError, Global};
 use std::marker::Model;
@@ -74,8 +74,8 @@ impl Pairing {
         ensures err { OnErr result (self.new ≡ self.old) }
         ensures changes { OnErr result (joined self.old (dir, message.now) ≢ self.old) }
     {
-        match role_of(self.open_sid, dir, message) {
-            Role::Request(sid) => {
+        match step_of(self.open_sid, dir, message) {
+            Step::Request(sid) => {
                 let request = copy(self.alloc, message)?;
                 let last = self.items.len();
                 self.items.push(Item::Exchange {
@@ -86,14 +86,14 @@ impl Pairing {
                 self.last = last;
                 Ok(())
             }
-            Role::Answer => {
+            Step::Answer => {
                 let answer = copy(self.alloc, message)?;
                 set_answer(&mut self.items, self.last, answer);
                 self.open_sid = None;
                 Ok(())
             }
-            Role::Removed => Ok(()),
-            Role::Stray => {
+            Step::Removed => Ok(()),
+            Step::Hold | Step::Pass => {
                 let bytes = copy(self.alloc, message)?;
                 self.items.push(Item::Stray { dir, bytes })?;
                 Ok(())

@@ -63,22 +63,22 @@ returns-in_ok-answer-in-Answer-clause-ok c =
     ∙ ap (λ m. slice_set its last (exchange w.0.1 (Some m))) c.in_ok-answer-in-Answer.ensures
     ∙ joins-answer its c.args.self.now c.self.view_is c.self.inside.open_sid last c.self.invariant x c.in-Answer.ensures
 
-pub invariant_of-self-in-Stray : goal.invariant_of-self-in-Stray
-invariant_of-self-in-Stray c =
+pub invariant_of-self-in-Hold : goal.invariant_of-self-in-Hold
+invariant_of-self-in-Hold c =
     let its = item_values c.self.inside.items.items in
-    let bytes = c.in_ok-bytes-in-Stray.bytes in
-    let pushed = item_values-push c.self.inside.items.items c.push-in-Stray.new.self.items (item.Stray c.args.dir bytes) c.in_ok-push-in-Stray.ensures.items in
+    let bytes = c.in_ok-bytes-in-Hold.bytes in
+    let pushed = item_values-push c.self.inside.items.items c.push-in-Hold.new.self.items (item.Stray c.args.dir bytes) c.in_ok-push-in-Hold.ensures.items in
     subst (λ (l : List ItemValue). IsOpenAt l c.self.inside.open_sid c.self.inside.last) (sym pushed)
     (kept-stray its c.self.inside.open_sid c.self.inside.last (c.args.dir, bytes.items) c.self.invariant)
 
-pub returns-in_ok-push-in-Stray-clause-ok : goal.returns-in_ok-push-in-Stray-clause-ok
-returns-in_ok-push-in-Stray-clause-ok c =
+pub returns-in_ok-push-in-Hold-clause-ok : goal.returns-in_ok-push-in-Hold-clause-ok
+returns-in_ok-push-in-Hold-clause-ok c =
     let its = item_values c.self.inside.items.items in
-    let bytes = c.in_ok-bytes-in-Stray.bytes in
-    item_values-push c.self.inside.items.items c.push-in-Stray.new.self.items (item.Stray c.args.dir bytes) c.in_ok-push-in-Stray.ensures.items
-    ∙ ap (λ m. its ++ stray c.args.dir m ∷ []) c.in_ok-bytes-in-Stray.ensures
+    let bytes = c.in_ok-bytes-in-Hold.bytes in
+    item_values-push c.self.inside.items.items c.push-in-Hold.new.self.items (item.Stray c.args.dir bytes) c.in_ok-push-in-Hold.ensures.items
+    ∙ ap (λ m. its ++ stray c.args.dir m ∷ []) c.in_ok-bytes-in-Hold.ensures
     ∙ joins-stray its c.args.self.now c.self.view_is c.self.inside.open_sid c.self.inside.last c.self.invariant
-    (c.args.dir, c.args.message.now) c.in-Stray.ensures
+    (c.args.dir, c.args.message.now) c.step_of.result c.step_of.ensures c.in-Hold.is
 
 pub returns-in_err-answer-in-Answer-clause-changes : goal.returns-in_err-answer-in-Answer-clause-changes
 returns-in_err-answer-in-Answer-clause-changes c =
@@ -86,8 +86,8 @@ returns-in_err-answer-in-Answer-clause-changes c =
     (changes-answer (item_values c.self.inside.items.items) c.args.self.now c.self.view_is c.self.inside.open_sid c.self.inside.last c.self.invariant
     (c.args.dir, c.args.message.now) c.in-Answer.ensures)
 
-pub returns-in_err-push-in-Stray-clause-changes : goal.returns-in_err-push-in-Stray-clause-changes
-returns-in_err-push-in-Stray-clause-changes c =
-    on_err c.from_residual-in_err-push-in-Stray.result _
+pub returns-in_err-push-in-Hold-clause-changes : goal.returns-in_err-push-in-Hold-clause-changes
+returns-in_err-push-in-Hold-clause-changes c =
+    on_err c.from_residual-in_err-push-in-Hold.result _
     (changes-stray (item_values c.self.inside.items.items) c.args.self.now c.self.view_is c.self.inside.open_sid c.self.inside.last c.self.invariant
-    (c.args.dir, c.args.message.now) c.in-Stray.ensures)
+    (c.args.dir, c.args.message.now) c.step_of.result c.step_of.ensures c.in-Hold.is)

@@ -8,22 +8,22 @@ use Rattle.isotp_pdu.specs.Layout.{Layout}
 use Rattle.isotp_pdu.specs.Layout as layout
 use Rattle.isotp_pdu.specs.Reading.{layout_of}
 use Rattle.isotp_pdu.specs.declared.PduFault.{PduFault}
-use Rattle.isotp_receive.specs.declared.reception.Judged.{Judged}
-use Rattle.isotp_receive.specs.declared.reception.Judged.TheVariants as judged_as
 use Rattle.isotp_receive.specs.declared.event.Cause.{Cause}
 use Rattle.isotp_receive.specs.declared.event.Cause.TheVariants as cause
 use Rattle.isotp_receive.specs.declared.event.Reason.TheVariants as reason
 use Rattle.isotp_receive.specs.Trace.{Entry, FirstFrame, single, consecutive, role, own_role}
-use Rattle.isotp_receive.specs.Standing.{Standing, reference, fits_length, standing_of, stands}
+use Rattle.isotp_receive.specs.OnTime.{IsOnTime}
+use Rattle.isotp_receive.specs.Fit.{Fit, FitsSo}
+use Rattle.isotp_receive.specs.Fit as fit
+use Rattle.isotp_receive.specs.Standing.{Standing, reference, fits_length, standing_of, is_on_time, expected, has_length, wants_more, fit_of, stands}
 use Rattle.isotp_receive.specs.Places.{bytes_in_first, bytes_before, consecutive_frames_in, FitsAs}
-use Rattle.isotp_receive.specs.Verdict.{EventValue, message, stored, refused, ended_as, verdict, on_consecutive, is_on_time, expected, has_length, wants_more}
-use Rattle.isotp_receive.specs.VerdictTable.{IsOpenBefore, ended_by, ComesOnTime, FitsNext, HasVerdict, next_late, wrong_number, wrong_length, stored_frame, last_frame}
-use Rattle.isotp_receive.specs.Machine.{judged, on_judged}
+use Rattle.isotp_receive.specs.Verdict.{EventValue, message, stored, refused, ended_as, verdict, on_fit, on_consecutive}
+use Rattle.isotp_receive.specs.VerdictTable.{IsOpenBefore, ended_by, FitsNext, HasVerdict, next_late, wrong_number, wrong_length, stored_frame, last_frame}
 use Rattle.isotp_receive.specs.Delivers.{Delivers, in_one_frame, in_frames}
 use Rattle.isotp_receive.proofs.ListPositions.{get-same, get-here, regrouped, split-length}
 use Rattle.isotp_receive.proofs.Directions.{same-self}
 use Rattle.isotp_receive.proofs.Fits.{fits-join}
-use Rattle.isotp_receive.proofs.Judgement.{is-late, is-wrong-number, is-wrong-length, is-more, is-last, on-judged}
+use Rattle.isotp_receive.proofs.FitTests.{is-late, is-wrong-number, is-wrong-length, is-more, is-last}
 use Rattle.isotp_receive.proofs.OpenLaws.{open-stands-here}
 use Rattle.isotp_receive.proofs.References.{refers, on-time-same, on-time-from, on-time-to}
 use Rattle.isotp_receive.proofs.ConsecutiveCounts.{below-count}
@@ -60,36 +60,42 @@ ended-is d s st c line len =
 
 module _ (limit : ℕ) (T : List Entry) (e : Entry) (i k sequence_number can_dl : ℕ) (bytes : List ℕ)
     (goes : role e.dir e ≡ consecutive sequence_number can_dl bytes) (o : IsOpenBefore limit T e e.dir i k) where
+  abbrev pub OnTime : Type 0
+  OnTime = IsOnTime (T ++ e ∷ []) e.dir i (length T) e
+
+  abbrev pub Fits : Type 0
+  Fits = FitsAs (bytes_in_first o.begins.entry.frame.bytes) o.begins.start.rx_dl o.begins.start.len o.count (k + 1) sequence_number can_dl
+
   -- ---- what stands, and its tests in the words of the table
 
   record Meets : Type 0 where
     st : Standing
-    is : verdict limit T e ≡ on_judged e.dir st (judged st e.micros sequence_number can_dl) sequence_number bytes
-    line : st.line ≡ o.start.line
-    len : st.len ≡ o.start.len
+    is : verdict limit T e ≡ on_fit e.dir st (fit_of st e.micros sequence_number can_dl) sequence_number bytes
+    line : st.line ≡ o.begins.start.line
+    len : st.len ≡ o.begins.start.len
     next : expected st ≡ (k + 1) % 16
-    time_to : ComesOnTime limit T e i → is_on_time st e.micros ≡ true
-    time_from : is_on_time st e.micros ≡ true → ComesOnTime limit T e i
-    fits_to : FitsNext limit T e i k sequence_number can_dl o → (sequence_number ≡ (k + 1) % 16) × (has_length st can_dl ≡ true)
-    fits_from : sequence_number ≡ (k + 1) % 16 → has_length st can_dl ≡ true → FitsNext limit T e i k sequence_number can_dl o
+    time_to : OnTime → is_on_time st e.micros ≡ true
+    time_from : is_on_time st e.micros ≡ true → OnTime
+    fits_to : Fits → (sequence_number ≡ (k + 1) % 16) × (has_length st can_dl ≡ true)
+    fits_from : sequence_number ≡ (k + 1) % 16 → has_length st can_dl ≡ true → Fits
     more_to : k + 1 < o.count → wants_more st ≡ true
     more_from : wants_more st ≡ true → k + 1 < o.count
 
   meets : Meets
   meets =
       let d = e.dir in
-      let s = o.start in
-      let f = bytes_in_first o.frame.frame.bytes in
+      let s = o.begins.start in
+      let f = bytes_in_first o.begins.entry.frame.bytes in
       let w = stands-there limit d T (e ∷ []) i k o in
       let n = consecutive_frames_in d w.since in
       let st = standing_of d s w.since in
-      let now : stands limit d T ≡ Some st = ap (stands limit d) w.splits ∙ open-stands-here limit d w.before w.since o.frame s o.kind w.opens in
+      let now : stands limit d T ≡ Some st = ap (stands limit d) w.splits ∙ open-stands-here limit d w.before w.since o.begins.entry s o.begins.kind w.opens in
       let on : verdict limit T e ≡ on_consecutive d (Some st) e.micros sequence_number can_dl bytes =
       on-own limit T e sequence_number can_dl bytes goes ∙ ap (λ x. on_consecutive d x e.micros sequence_number can_dl bytes) now in
-      let whole : w.before ++ o.frame ∷ (w.since ++ e ∷ []) ≡ T ++ e ∷ [] = regrouped T (e ∷ []) w.before w.since o.frame w.splits in
-      let ends = split-length T w.before w.since o.frame w.splits in
-      let ref = refers d w.before o.frame s w.since (e ∷ []) o.kind in
-      let size = come-by-places limit d o.frame s w.since o.kind w.opens in
+      let whole : w.before ++ o.begins.entry ∷ (w.since ++ e ∷ []) ≡ T ++ e ∷ [] = regrouped T (e ∷ []) w.before w.since o.begins.entry w.splits in
+      let ends = split-length T w.before w.since o.begins.entry w.splits in
+      let ref = refers d w.before o.begins.entry s w.since (e ∷ []) o.begins.kind in
+      let size = come-by-places limit d o.begins.entry s w.since o.begins.kind w.opens in
       let taken = w.taken in
       let product = ap (λ j. (j + 1) * (s.rx_dl - 1)) taken in
       let more = o.more in
@@ -99,7 +105,7 @@ module _ (limit : ℕ) (T : List Entry) (e : Entry) (i k sequence_number can_dl 
       let number_is : (k + 1) % 16 ≡ (n + 1) % 16 = ap (λ j. (j + 1) % 16) taken in
       record {
         st = st;
-        is = on ∙ on-judged d st e.micros sequence_number can_dl bytes;
+        is = on;
         line = refl;
         len = refl;
         next = sym number_is;
@@ -108,8 +114,8 @@ module _ (limit : ℕ) (T : List Entry) (e : Entry) (i k sequence_number can_dl 
         time_from = λ t. on-time-same d _ _ _ _ _ _ e e whole w.place ends refl
             (on-time-from _ d (length w.before) _ (reference d s.micros w.since) e ref t);
         fits_to = λ fits.
-            let fit = join.0 (subst (λ j. FitsAs f s.rx_dl s.len o.count (j + 1) sequence_number can_dl) taken fits) in
-            (fit.0 ∙ sym number_is, length_is ∙ fit.1);
+            let tests = join.0 (subst (λ j. FitsAs f s.rx_dl s.len o.count (j + 1) sequence_number can_dl) taken fits) in
+            (tests.0 ∙ sym number_is, length_is ∙ tests.1);
         fits_from = λ number fits.
             subst (λ j. FitsAs f s.rx_dl s.len o.count (j + 1) sequence_number can_dl) (sym taken)
             (join.1 (number ∙ number_is, sym length_is ∙ fits));
@@ -118,76 +124,88 @@ module _ (limit : ℕ) (T : List Entry) (e : Entry) (i k sequence_number can_dl 
             below-count f s.rx_dl s.len o.count (k + 1) o.least (omega arith));
       }
 
-  -- what it was judged to be
-  judged-so : (m : Meets) (j : Judged) → judged m.st e.micros sequence_number can_dl ≡ j → verdict limit T e ≡ on_judged e.dir m.st j sequence_number bytes
-  judged-so m j h = m.is ∙ ap (λ x. on_judged e.dir m.st x sequence_number bytes) h
+  -- so it fits
+  fits-so : (m : Meets) (f : Fit) → fit_of m.st e.micros sequence_number can_dl ≡ f → verdict limit T e ≡ on_fit e.dir m.st f sequence_number bytes
+  fits-so m f h = m.is ∙ ap (λ x. on_fit e.dir m.st x sequence_number bytes) h
 
   -- and the reception that it ended
-  ends-by : (m : Meets) (c : Cause) → ended_as c e.dir (Some m.st) ≡ Some (ended_by e.dir o.start c)
-  ends-by m c = ended-is e.dir o.start m.st c m.line m.len
+  ends-by : (m : Meets) (c : Cause) → ended_as c e.dir (Some m.st) ≡ Some (ended_by e.dir o.begins.start c)
+  ends-by m c = ended-is e.dir o.begins.start m.st c m.line m.len
 
   -- ---- the verdict is that of the row
 
-  pub late : (ComesOnTime limit T e i → ⊥) → verdict limit T e ≡ refused (Some (ended_by e.dir o.start cause.Late)) reason.NextLate
+  pub late : (OnTime → ⊥) → verdict limit T e ≡ refused (Some (ended_by e.dir o.begins.start cause.Late)) reason.NextLate
   late off =
       let m = meets in
       let off_time = false_from_ne_true (is_on_time m.st e.micros) (λ t. off (m.time_from t)) in
-      judged-so m judged_as.Late (is-late m.st e.micros sequence_number can_dl off_time)
+      fits-so m fit.late (is-late m.st e.micros sequence_number can_dl off_time)
       ∙ ap (λ x. refused x reason.NextLate) (ends-by m cause.Late)
 
-  pub number : ComesOnTime limit T e i → sequence_number ≢ (k + 1) % 16
-      → verdict limit T e ≡ refused (Some (ended_by e.dir o.start cause.Sequence)) (reason.NextSequence ((k + 1) % 16) sequence_number)
+  pub number : OnTime → sequence_number ≢ (k + 1) % 16
+      → verdict limit T e ≡ refused (Some (ended_by e.dir o.begins.start cause.Sequence)) (reason.NextSequence ((k + 1) % 16) sequence_number)
   number on apart =
       let m = meets in
       let other = ne_eqb sequence_number (expected m.st) (λ same. apart (same ∙ m.next)) in
-      judged-so m judged_as.Sequence (is-wrong-number m.st e.micros sequence_number can_dl (m.time_to on) other)
+      fits-so m fit.wrong_number (is-wrong-number m.st e.micros sequence_number can_dl (m.time_to on) other)
       ∙ ap (λ x. refused x (reason.NextSequence (expected m.st) sequence_number)) (ends-by m cause.Sequence)
-      ∙ ap (λ x. refused (Some (ended_by e.dir o.start cause.Sequence)) (reason.NextSequence x sequence_number)) m.next
+      ∙ ap (λ x. refused (Some (ended_by e.dir o.begins.start cause.Sequence)) (reason.NextSequence x sequence_number)) m.next
 
-  pub size : ComesOnTime limit T e i → sequence_number ≡ (k + 1) % 16 → (FitsNext limit T e i k sequence_number can_dl o → ⊥)
-      → verdict limit T e ≡ refused (Some (ended_by e.dir o.start cause.Length)) reason.NextLength
+  pub size : OnTime → sequence_number ≡ (k + 1) % 16 → (Fits → ⊥)
+      → verdict limit T e ≡ refused (Some (ended_by e.dir o.begins.start cause.Length)) reason.NextLength
   size on number apart =
       let m = meets in
       let expected_one = eq-eqb sequence_number (expected m.st) (number ∙ sym m.next) in
       let other = false_from_ne_true (has_length m.st can_dl) (λ t. apart (m.fits_from number t)) in
-      judged-so m judged_as.Length (is-wrong-length m.st e.micros sequence_number can_dl (m.time_to on) expected_one other)
+      fits-so m fit.wrong_length (is-wrong-length m.st e.micros sequence_number can_dl (m.time_to on) expected_one other)
       ∙ ap (λ x. refused x reason.NextLength) (ends-by m cause.Length)
 
-  pub kept : ComesOnTime limit T e i → FitsNext limit T e i k sequence_number can_dl o → k + 1 < o.count
+  pub kept : OnTime → Fits → k + 1 < o.count
       → verdict limit T e ≡ record { ended = None; told = stored }
   kept on fits less =
       let m = meets in
-      let fit = m.fits_to fits in
-      let expected_one = eq-eqb sequence_number (expected m.st) (fit.0 ∙ sym m.next) in
-      judged-so m judged_as.More (is-more m.st e.micros sequence_number can_dl (m.time_to on) expected_one fit.1 (m.more_to less))
+      let tests = m.fits_to fits in
+      let expected_one = eq-eqb sequence_number (expected m.st) (tests.0 ∙ sym m.next) in
+      fits-so m fit.one_more (is-more m.st e.micros sequence_number can_dl (m.time_to on) expected_one tests.1 (m.more_to less))
 
   -- ---- and it has a row
 
   last-row : (whole : List ℕ) → Delivers limit (T ++ e ∷ []) (length T) e.dir whole → (a : EventValue) × HasVerdict limit T e a
   last-row whole (in_frames c) = (record { ended = None; told = message whole }, last_frame whole c)
-  last-row whole (in_one_frame x at kind) =
-      let is_e : x ≡ e = get-same (T ++ e ∷ []) (length T) x e at (get-here T [] e) in
-      let one : single whole ≡ consecutive sequence_number can_dl bytes = sym kind ∙ ap (role e.dir) is_e ∙ goes in
+  last-row whole (in_one_frame one) =
+      let is_e : one.entry ≡ e = get-same (T ++ e ∷ []) (length T) one.entry e one.stands (get-here T [] e) in
+      let both : single whole ≡ consecutive sequence_number can_dl bytes = sym one.kind ∙ ap (role e.dir) is_e ∙ goes in
       absurd (cc)
 
-  pub has-row : layout_of e.frame ≡ Ok (layout.consecutive sequence_number can_dl bytes) → (a : EventValue) × HasVerdict limit T e a
-  has-row h = by_tests meets where
+  so : (f : Fit)
+      → FitsSo (bytes_in_first o.begins.entry.frame.bytes) o.begins.start.rx_dl o.begins.start.len o.count (k + 1) sequence_number can_dl OnTime f → FitsNext limit T e f
+  so f fits = record {
+    begun = i;
+    number = k;
+    is_open = o;
+    next = record { entry = e; stands = get-here T [] e; sequence_number = sequence_number; can_dl = can_dl; bytes = bytes; kind = goes };
+    fits = fits;
+  }
+
+  pub has-row : (a : EventValue) × HasVerdict limit T e a
+  has-row = by_tests meets where
     by_tests : Meets → (a : EventValue) × HasVerdict limit T e a
     by_tests m = elim (cases_Bool (is_on_time m.st e.micros)) [
-      | inr t ↦ (_, next_late sequence_number can_dl bytes i k h o (λ on. false≢true (sym t ∙ m.time_to on)))
+      | inr t ↦ (_, next_late (so fit.late (λ on. false≢true (sym t ∙ m.time_to on))))
       | inl t ↦ elim (cases_Bool (sequence_number == expected m.st)) [
         | inr q ↦ (
           _,
-          wrong_number sequence_number can_dl bytes i k h o (m.time_from t)
-              (λ same. false≢true (sym q ∙ eq-eqb sequence_number (expected m.st) (same ∙ sym m.next))),
+          wrong_number (so fit.wrong_number (
+            m.time_from t,
+            λ same. false≢true (sym q ∙ eq-eqb sequence_number (expected m.st) (same ∙ sym m.next)),
+          )),
         )
         | inl q ↦ (let number : sequence_number ≡ (k + 1) % 16 = eqb-true sequence_number (expected m.st) q ∙ m.next in
             elim (cases_Bool (has_length m.st can_dl)) [
-              | inr f ↦ (_, wrong_length sequence_number can_dl bytes i k h o (m.time_from t) number (λ fits. false≢true (sym f ∙ (m.fits_to fits).1)))
+              | inr f ↦ (_, wrong_length (so fit.wrong_length (m.time_from t, number, λ fits. false≢true (sym f ∙ (m.fits_to fits).1))))
               | inl f ↦ elim (cases_Bool (wants_more m.st)) [
-                | inl b ↦ (_, stored_frame sequence_number can_dl bytes i k h o (m.time_from t) (m.fits_from number f) (m.more_from b))
+                | inl b ↦ (_, stored_frame (so fit.one_more (m.time_from t, m.fits_from number f, m.more_from b)))
                 | inr b ↦ (let whole = take m.st.len (m.st.bytes ++ bytes) in
-                    let is = judged-so m judged_as.Last (is-last m.st e.micros sequence_number can_dl t q f b) in
+                    let is = fits-so m fit.last (is-last m.st e.micros sequence_number can_dl t q f b) in
                     last-row whole ((message-delivers limit T e whole).0 (ap (λ a. a.told) is)))
               ]
             ])

@@ -1,4 +1,4 @@
--- A device of proof: the messages of one direction that a trace delivers, each with the position of the frame that completes it.
+-- The messages of one direction that a trace delivers, each with the position of the frame that completes it.
 use Rattle.std.specs.Prelude.{ℕ, suc, List, [], ◌∷◌, ◌++◌, if◌then◌else◌}
 use Rattle.can_log.specs.declared.frame.Dir.{Dir}
 use Rattle.isotp_receive.specs.Trace.{Entry, same_direction}

@@ -1,0 +1,45 @@
+//! What becomes of a message, by the request that is open.
+
+ghost use Rattle.std.specs.Prelude.{◌≡◌};
+ghost use Rattle.uds_exchange.specs.Steps.{step_at};
+
+use can_log::Dir;
+use uds_message::{Answer, TesterKind, answers, tester_kind};
+
+/// What becomes of a message.
+#[derive(Clone, Copy)]
+pub(crate) enum Step {
+    /// A request with this first byte. It ends the part of the request before it.
+    Request(u8),
+    /// The answer to the open request.
+    Answer,
+    /// A reply that says that the answer to the open request is pending: it is left out.
+    Removed,
+    /// None of these, while a request is open: the answer would come before it, so it waits.
+    Hold,
+    /// None of these, and no request is open: it has its place.
+    Pass,
+}
+
+/// What becomes of a message, where `open_sid` is the first byte of the request that waits for its answer.
+pub(crate) fn step_of(open_sid: Option<u8>, dir: Dir, message: &[u8]) -> Step
+    ensures { result ≡ step_at open_sid (dir, message.now) }
+{
+    let stray = if open_sid.is_some() {
+        Step::Hold
+    } else {
+        Step::Pass
+    };
+    match (dir, open_sid) {
+        (Dir::Tester, _) => match tester_kind(message) {
+            TesterKind::Request => Step::Request(message[0]),
+            TesterKind::KeepAlive | TesterKind::Other => stray,
+        },
+        (Dir::Unit, None) => stray,
+        (Dir::Unit, Some(sid)) => match answers(sid, message) {
+            Answer::Final => Step::Answer,
+            Answer::Pending => Step::Removed,
+            Answer::No => stray,
+        },
+    }
+}
