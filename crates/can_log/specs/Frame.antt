@@ -17,7 +17,12 @@ most_bytes kind.Classic = 8
 most_bytes kind.Fd = 64
 most_bytes kind.Remote = 0
 
--- a base identifier has 11 bits, and an extended one any value
+-- an identifier that a bus carries: a base one has 11 bits, an extended one 29
+abbrev pub IsCanIdentifier : Id → Type 0
+IsCanIdentifier (id.Std number) = number ≤ 0x7FF
+IsCanIdentifier (id.Ext number) = number ≤ 0x1FFFFFFF
+
+-- an identifier that a log spells: a base one has 11 bits, and an extended one any value
 abbrev pub IsIdentifier : Id → Type 0
 IsIdentifier (id.Std number) = number ≤ 0x7FF
 IsIdentifier (id.Ext number) = ⊤

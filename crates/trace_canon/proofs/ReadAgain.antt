@@ -9,8 +9,9 @@ use Rattle.trace_canon.specs.Answers.{Answers}
 use Rattle.std.specs.Prelude.{◌&&◌, is_none}
 use Rattle.std.specs.List.{AllByRecursion, list_all}
 use Rattle.std.proofs.lemmas.Bool.{le-leb, leb-true, and_parts}
-use Rattle.can_log.specs.Canonical.{IsSpellable, canonical_stamped, canonical_line, canonical_length}
+use Rattle.can_log.specs.Canonical.{canonical_stamped, canonical_line, canonical_length}
 use Rattle.can_log.specs.Dir.{Message}
+use Rattle.can_log.specs.Frame.{IsCanIdentifier}
 use Rattle.can_log.specs.Log.{log_lines, LinesMean, LogMeans, ended_lines}
 use Rattle.can_log.specs.declared.frame.Dir.{Dir}
 use Rattle.can_log.specs.declared.frame.Dir.TheVariants as dir
@@ -29,7 +30,7 @@ use Rattle.isotp_segment.specs.Timed.{timed, HasFrames, all_frames}
 use Rattle.isotp_segment.proofs.Promises.{canonical_frames_are_full, canonical_frames_are_a_recording, canonical_frames_are_clean}
 use Rattle.uds_exchange.specs.Meaning.{ItemValue, meaning, flattened, removed_messages}
 use Rattle.uds_exchange.proofs.Promises.{meaning_is_kept, none_is_lost, none_is_made_up}
-use Rattle.trace_canon.specs.Settings.{Settings, IsConfigurable, AreSettings, id_of}
+use Rattle.trace_canon.specs.Settings.{Settings, AreSettings, id_of}
 use Rattle.trace_canon.specs.Trace.{trace_from, trace}
 use Rattle.trace_canon.specs.Messages.{messages_of_lines, meaning_of_lines, HasMeaning}
 use Rattle.trace_canon.specs.CanonicalLog.{canonical_lines, lines_size, log_of_frames, canonical_log, canonical_log_of_lines}
@@ -45,14 +46,10 @@ use Rattle.trace_canon.proofs.OneMoreFrame.{kept_is_within}
 
 -- ---- the lines of a canonical log
 
--- a line can spell each identifier
-is_spellable : (identifier : Id) → IsConfigurable identifier → IsSpellable identifier
-is_spellable (id.Std number) is = is
-is_spellable (id.Ext number) is = is
-
-spellable : (settings : Settings) (d : Dir) → AreSettings settings → IsSpellable (id_of settings d)
-spellable settings dir.Tester are = is_spellable settings.tester are.tester
-spellable settings dir.Unit are = is_spellable settings.unit are.unit
+-- a line can spell the identifier of each side
+spellable : (settings : Settings) (d : Dir) → AreSettings settings → IsCanIdentifier (id_of settings d)
+spellable settings dir.Tester are = are.tester
+spellable settings dir.Unit are = are.unit
 
 -- what the line of a frame means
 abbrev stamped_at : Settings → ℕ → Dir × List ℕ → Stamped
