@@ -8,7 +8,7 @@ use Rattle.can_log.specs.Log.{log_lines, LinesMean, ended_lines, IsRefusedIn}
 use Rattle.can_log.specs.Scanning.{Standing}
 use Rattle.can_log.specs.WholeLog.{StandsAfter}
 use Rattle.can_log.specs.declared.frame.Stamped.{Stamped}
-use Rattle.can_log.proofs.EachElement.{AllByRecursion-append}
+use Rattle.can_log.proofs.Promises.{AllByRecursion-append}
 use Rattle.can_log.proofs.Promises.{line_means_at_most_one, line_means_or_nothing, completable_has_no_line_feed, lines_have_no_line_feed, log_lines_go_on}
 use Rattle.can_log.proofs.Promises.{lines_mean_one_more, refused_lines, refused_line_means_nothing}
 use Rattle.trace_canon.specs.Refusal.{EachPasses}

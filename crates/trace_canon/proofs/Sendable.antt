@@ -7,7 +7,7 @@ use Rattle.can_log.specs.Dir.{Message}
 use Rattle.can_log.specs.Log.{LinesMean}
 use Rattle.can_log.specs.declared.frame.Dir.{Dir}
 use Rattle.can_log.specs.declared.frame.Stamped.{Stamped}
-use Rattle.can_log.proofs.EachElement.{AllByRecursion-both}
+use Rattle.can_log.proofs.Promises.{AllByRecursion-both}
 use Rattle.can_log.proofs.Promises.{line_records_bytes}
 use Rattle.isotp_receive.specs.Trace.{Entry}
 use Rattle.isotp_receive.specs.Verdict.{messages}
