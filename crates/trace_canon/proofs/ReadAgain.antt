@@ -15,15 +15,13 @@ use Rattle.can_log.specs.Frame.{IsCanIdentifier}
 use Rattle.can_log.specs.Log.{log_lines, LinesMean, LogMeans, ended_lines}
 use Rattle.can_log.specs.declared.frame.Dir.{Dir}
 use Rattle.can_log.specs.declared.frame.Dir.TheVariants as dir
-use Rattle.can_log.specs.declared.frame.Id.{Id}
-use Rattle.can_log.specs.declared.frame.Id.TheVariants as id
 use Rattle.can_log.specs.declared.frame.Stamped.{Stamped}
-use Rattle.can_log.proofs.EachElement.{AllByRecursion-append, AllByRecursion-tested, AllByRecursion-weaker}
+use Rattle.can_log.proofs.Promises.{AllByRecursion-append, AllByRecursion-tested, AllByRecursion-weaker}
 use Rattle.can_log.proofs.Promises.{canonical_line_means, canonical_line_length, log_means_at_most_one, lines_are_log}
 use Rattle.isotp_receive.specs.CleanTrace.{IsClean, EachClean}
 use Rattle.isotp_receive.specs.Trace.{Entry}
 use Rattle.isotp_receive.specs.Verdict.{messages}
-use Rattle.isotp_receive.proofs.Promises.{recording_delivers, clean_trace_is_a_recording, clean_is_counted}
+use Rattle.isotp_receive.proofs.Promises.{recording_delivers, clean_trace_is_a_recording, kept_is_within, clean_is_counted}
 use Rattle.isotp_segment.specs.CanonicalFrames.{canonical_frames}
 use Rattle.isotp_segment.specs.Laws.{IsFullFrame}
 use Rattle.isotp_segment.specs.Timed.{timed, HasFrames, all_frames}
@@ -42,7 +40,6 @@ use Rattle.trace_canon.specs.Laws.{CanonicalLogLength, CanonicalLogLengthBySides
 use Rattle.trace_canon.proofs.Directions.{direction_of_id}
 use Rattle.trace_canon.proofs.LogLines.{lines_are_few}
 use Rattle.trace_canon.proofs.Sendable.{AreBytes, IsSendable, messages_sendable, trace_of_bytes}
-use Rattle.trace_canon.proofs.OneMoreFrame.{kept_is_within}
 
 -- ---- the lines of a canonical log
 
@@ -237,7 +234,7 @@ text_of_meaning limit settings log accepted items is has =
     is.2.spelled ∙ ap (canonical_log_of_lines limit settings) same ∙ ap (λ x. canonical_log limit settings (flattened x)) (sym has.found)
 
 -- a log has one meaning
-one_meaning : (limit : ℕ) (settings : Settings) (log : List ℕ) (items others : List ItemValue) → HasMeaning limit settings log items
+pub one_meaning : (limit : ℕ) (settings : Settings) (log : List ℕ) (items others : List ItemValue) → HasMeaning limit settings log items
     → HasMeaning limit settings log others → items ≡ others
 one_meaning limit settings log items others is other =
     is.found ∙ ap (meaning_of_lines limit settings) (log_means_at_most_one log is.whats other.whats is.means other.means) ∙ sym other.found

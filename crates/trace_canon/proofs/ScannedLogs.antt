@@ -9,7 +9,6 @@ use Rattle.can_log.specs.Refused.{IsRefusedPlace, IsUnfinishedAt}
 use Rattle.can_log.specs.Scanning.{Standing}
 use Rattle.can_log.specs.WholeLog.{StandsAfter}
 use Rattle.can_log.specs.declared.frame.Stamped.{Stamped}
-use Rattle.can_log.specs.declared.scanner.Scan.TheVariants as scan
 use Rattle.can_log.proofs.Promises.{refused_log_means_nothing, lines_mean_as_many, lines_mean_one_more, lines_are_log}
 use Rattle.trace_canon.specs.Settings.{Settings}
 use Rattle.trace_canon.specs.Refusal.{oversize, announces_within, EachPasses, EachWithin, IsBadLine, IsOversizeLine, IsNotRefused}
