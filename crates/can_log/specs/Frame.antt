@@ -1,5 +1,6 @@
 -- What a contract sees of a frame, and which frames there are (ISO 11898-1).
-use Rattle.std.specs.Prelude.{ℕ, ◌≤◌, List, length, ⊤}
+use Rattle.std.specs.Prelude.{ℕ, ◌<◌, ◌≤◌, List, length, ⊤}
+use Rattle.std.specs.List.{AllByRecursion}
 use Rattle.can_log.specs.declared.frame.Id.{Id}
 use Rattle.can_log.specs.declared.frame.Id.TheVariants as id
 use Rattle.can_log.specs.declared.frame.Kind.{Kind}
@@ -10,6 +11,10 @@ pub record FrameValue : Type 0 where
   pub id : Id
   pub kind : Kind
   pub bytes : List ℕ
+
+-- each of the numbers is a byte
+abbrev pub AreBytes : List ℕ → Type 0
+AreBytes numbers = AllByRecursion (λ b. b < 256) numbers
 
 -- how many data bytes a frame of the kind carries at most
 abbrev pub most_bytes : Kind → ℕ

@@ -1,7 +1,8 @@
 -- What the public laws of the messages of a trace, and of what its frames do, say.
-use Rattle.std.specs.Prelude.{◌≡◌, ◌≤◌, ◌<◌, ◌↔◌, ℕ, List, ◌++◌, length, None, Ok}
+use Rattle.std.specs.Prelude.{◌≡◌, ◌≤◌, ◌↔◌, ℕ, List, ◌++◌, length, None, Ok}
 use Rattle.std.specs.List.{AllByRecursion}
 use Rattle.can_log.specs.Dir.{Message}
+use Rattle.can_log.specs.Frame.{AreBytes}
 use Rattle.can_log.specs.declared.frame.Dir.{Dir}
 use Rattle.isotp_pdu.specs.Layout as layout
 use Rattle.isotp_pdu.specs.Reading.{layout_of}
@@ -23,10 +24,13 @@ abbrev pub MessagesFit : Type 0
 MessagesFit = (limit : ℕ) (T : List Entry) → 64 ≤ limit
     → AllByRecursion (λ (message : Message). (1 ≤ length message.1) × (length message.1 ≤ limit)) (messages limit T)
 
--- where the frames of a trace hold bytes, so do its messages
+-- the frames of a trace hold bytes
+abbrev pub HoldBytes : List Entry → Type 0
+HoldBytes T = AllByRecursion (λ (e : Entry). AreBytes e.frame.bytes) T
+
+-- where they do, so do its messages
 abbrev pub MessagesHoldBytes : Type 0
-MessagesHoldBytes = (limit : ℕ) (T : List Entry) → AllByRecursion (λ (e : Entry). AllByRecursion (λ b. b < 256) e.frame.bytes) T
-    → AllByRecursion (λ (message : Message). AllByRecursion (λ b. b < 256) message.1) (messages limit T)
+MessagesHoldBytes = (limit : ℕ) (T : List Entry) → HoldBytes T → AllByRecursion (λ (message : Message). AreBytes message.1) (messages limit T)
 
 -- the frames of a trace that goes on do what the first frames do, and then what the others do
 abbrev pub EventsGoOn : Type 0

@@ -8,9 +8,10 @@ use Rattle.std.proofs.lemmas.List.{take_more}
 use Rattle.std.proofs.lemmas.List.Concat.{flat_map-append}
 use Rattle.std.proofs.lemmas.Option.{slice_get_within, get_or_from_slice_get}
 use Rattle.std.specs.Prelude.{min, slice_get}
-use Rattle.std.specs.List.{AllByRecursion, range_with_len}
+use Rattle.std.specs.List.{range_with_len}
 use Rattle.can_log.specs.Canonical.{canonical_length}
 use Rattle.can_log.specs.Dir.{Message, other_direction}
+use Rattle.can_log.specs.Frame.{AreBytes}
 use Rattle.can_log.specs.Log.{ended_lines}
 use Rattle.can_log.specs.declared.frame.Dir.{Dir}
 use Rattle.can_log.specs.declared.frame.Dir.TheVariants as dir
@@ -27,7 +28,7 @@ use Rattle.trace_canon.proofs.ReadAgain.{lines_length}
 use Rattle.trace_canon.proofs.Texts.{frames_of_one, all_frames-append}
 
 -- each element of a list of bytes is one
-pub each_is_byte : (bytes : List ℕ) → ((i : ℕ) → get_or bytes i 0 < 256) → AllByRecursion (λ b. b < 256) bytes
+pub each_is_byte : (bytes : List ℕ) → ((i : ℕ) → get_or bytes i 0 < 256) → AreBytes bytes
 each_is_byte [] each = tt
 each_is_byte (b ∷ bytes) each = (each 0, each_is_byte bytes (λ i. each (suc i)))
 
@@ -90,20 +91,20 @@ long_size settings d message own other count some fits total several is other_is
     ∙ omega arith
 
 -- and so those of a message
-length_by_size : (settings : Settings) (d : Dir) (message : List ℕ) (size : ℕ) → AllByRecursion (λ b. b < 256) message
+length_by_size : (settings : Settings) (d : Dir) (message : List ℕ) (size : ℕ) → AreBytes message
     → lines_size settings (canonical_frames MESSAGE_LIMIT d message) ≡ size → HaveLength settings ((d, message) ∷ []) size
 length_by_size settings d message size bytes is = λ n.
     ap (λ frames. length (ended_lines (canonical_lines settings n frames))) (frames_of_one MESSAGE_LIMIT d message)
     ∙ lines_length settings n (canonical_frames MESSAGE_LIMIT d message) (canonical_frames_are_full MESSAGE_LIMIT d message (omega arith) bytes)
     ∙ is
 
-pub length_of_single : (settings : Settings) (d : Dir) (message : List ℕ) (own count : ℕ) → AllByRecursion (λ b. b < 256) message
+pub length_of_single : (settings : Settings) (d : Dir) (message : List ℕ) (own count : ℕ) → AreBytes message
     → 1 ≤ length message → length message ≤ MESSAGE_LIMIT → count ≡ total_count (length message) → count ≡ 1 → own ≡ canonical_length (id_of settings d)
     → HaveLength settings ((d, message) ∷ []) own
 length_of_single settings d message own count bytes some fits total one is =
     length_by_size settings d message own bytes (single_size settings d message own some fits (sym total ∙ one) is)
 
-pub length_of_several : (settings : Settings) (d : Dir) (message : List ℕ) (own other count : ℕ) → AllByRecursion (λ b. b < 256) message
+pub length_of_several : (settings : Settings) (d : Dir) (message : List ℕ) (own other count : ℕ) → AreBytes message
     → 1 ≤ length message → length message ≤ MESSAGE_LIMIT → count ≡ total_count (length message) → count ≢ 1 → own ≡ canonical_length (id_of settings d)
     → other ≡ canonical_length (id_of settings (other_direction d)) → HaveLength settings ((d, message) ∷ []) (own * (count - 1) + other)
 length_of_several settings d message own other count bytes some fits total several is other_is =

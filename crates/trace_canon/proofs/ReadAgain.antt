@@ -11,7 +11,7 @@ use Rattle.std.specs.List.{AllByRecursion, list_all}
 use Rattle.std.proofs.lemmas.Bool.{le-leb, leb-true, and_parts}
 use Rattle.can_log.specs.Canonical.{canonical_stamped, canonical_line, canonical_length}
 use Rattle.can_log.specs.Dir.{Message}
-use Rattle.can_log.specs.Frame.{IsCanIdentifier}
+use Rattle.can_log.specs.Frame.{AreBytes, IsCanIdentifier}
 use Rattle.can_log.specs.Log.{log_lines, LinesMean, LogMeans, ended_lines}
 use Rattle.can_log.specs.declared.frame.Dir.{Dir}
 use Rattle.can_log.specs.declared.frame.Dir.TheVariants as dir
@@ -39,7 +39,7 @@ use Rattle.trace_canon.specs.Laws.{Records, Certifies, IsMessageLimit, IsCleanSu
 use Rattle.trace_canon.specs.Laws.{CanonicalLogLength, CanonicalLogLengthBySides, CleanSummaryIsCertificate, SummaryCertifies, PendingAreTheRest}
 use Rattle.trace_canon.proofs.Directions.{direction_of_id}
 use Rattle.trace_canon.proofs.LogLines.{lines_are_few}
-use Rattle.trace_canon.proofs.Sendable.{AreBytes, IsSendable, messages_sendable, trace_of_bytes}
+use Rattle.trace_canon.proofs.Sendable.{IsSendable, messages_sendable, trace_of_bytes}
 
 -- ---- the lines of a canonical log
 
