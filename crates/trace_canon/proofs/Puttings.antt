@@ -13,7 +13,8 @@ use Rattle.uds_exchange.specs.declared.orderer.OrderFault.{OrderFault}
 use Rattle.uds_exchange.specs.declared.orderer.OrderFault.TheVariants as order_fault
 use Rattle.uds_exchange.specs.Sink.{AfterOk, AfterErr, Puts, Fails}
 use Rattle.trace_canon.specs.Writing.{text_from, place_after}
-use Rattle.trace_canon.specs.Putting.{Writer, PutsMessage, WritesLines, FailsToPut, WritesFrontOfLines, HasPut, text_of_put, HasWrittenAll, HasWrittenSome, Ordered, Broke, FailsToOrder, stopped_by, Ended, EndedWrong}
+use Rattle.trace_canon.specs.Putting.{Writer, PutsMessage, WritesLines, FailsToPut, WritesFrontOfLines, HasPut, text_of_put, HasWrittenAll}
+use Rattle.trace_canon.specs.Putting.{HasWrittenSome, Ordered, Broke, FailsToOrder, stopped_by, Ended, EndedWrong}
 use Rattle.trace_canon.proofs.CanonicalWriting.{text_append, place_append}
 use Rattle.trace_canon.proofs.Texts.{frames_of_one, all_frames-append}
 

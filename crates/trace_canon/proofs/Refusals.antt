@@ -141,7 +141,8 @@ same_line passes (line ∷ lines) (first ∷ other_lines) text other_text later 
     absurd legal
 same_line passes (line ∷ lines) (first ∷ other_lines) text other_text later other_later (one ∷ whats) [] what other parts legal each means fails other_legal other_each other_means other_fails =
     absurd other_legal
-same_line passes (line ∷ lines) (first ∷ other_lines) text other_text later other_later (one ∷ whats) (two ∷ other_whats) what other parts legal each means fails other_legal other_each other_means other_fails =
+same_line passes (line ∷ lines) (first ∷ other_lines) text other_text later other_later (one ∷ whats) (two ∷ other_whats) what other
+    parts legal each means fails other_legal other_each other_means other_fails =
     let first_is : line ≡ first = cc in
     let rest : lines ++ text ∷ later ≡ other_lines ++ other_text ∷ other_later = cc in
     let again = same_line passes lines other_lines text other_text later other_later whats other_whats what other rest legal.1 each.1 means fails other_legal.1 other_each.1 other_means other_fails in
