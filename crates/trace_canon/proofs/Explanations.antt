@@ -41,7 +41,7 @@ use Rattle.trace_canon.proofs.Explained.{all_taken}
 use Rattle.trace_canon.proofs.Runs.{TookEvents, StoppedOnEvent}
 use Rattle.trace_canon.proofs.Normalised.{bad_in_front, bad_at_end}
 use Rattle.trace_canon.proofs.ReadAgain.{clean_summary_is_certificate}
-use Rattle.trace_canon.proofs.ReadLines.{stands_lines, stands_read, read_begins, lines_read_are_there}
+use Rattle.trace_canon.proofs.ReadLines.{stands_lines, stands_read, read_begins, lines_read_are_there, all_lines_read}
 use Rattle.trace_canon.proofs.Receivings.{trace_next}
 use Rattle.trace_canon.proofs.ScannedLogs.{IsBadBehind, bad_counts, read_before_place, no_place_counts}
 use Rattle.trace_canon.proofs.Traces.{trace_from-append}
@@ -152,15 +152,7 @@ writes_front_at_end : (limit : ℕ) (settings : Settings) (log : List ℕ) (give
     → WritesFrontOfText limit settings log given fault old new
 writes_front_at_end limit settings log given fault whats old new means few last front = record {
   whats = whats;
-  read = record {
-    lines = log_lines log;
-    later = [];
-    parts = sym (append-nil (log_lines log));
-    means = means;
-    each = all_taken whats;
-    given = inr (last, few);
-    ends = tt;
-  };
+  read = all_lines_read takes_all (counts_last fault) (min given settings.max_bytes) log whats means (all_taken whats) last few;
   written = front.front;
   missing = front.rest;
   wrote = front.wrote;
