@@ -1,13 +1,10 @@
 -- What a line records are bytes: each is spelled by two hexadecimal digits.
-use Rattle.std.proofs.Common.{ℕ, ◌<◌, List, Some, None, subst, sym}
-use Rattle.std.specs.List.{AllByRecursion}
+use Rattle.std.proofs.Common.{Some, None, subst, sym}
 use Rattle.can_log.specs.declared.frame.Stamped.{Stamped}
+use Rattle.can_log.specs.Frame.{AreBytes}
 use Rattle.can_log.specs.Line.{Body, classic, remote, fd, IsBody, data_of}
 use Rattle.can_log.specs.Laws.{LineRecordsBytes}
 use Rattle.can_log.proofs.SpelledBytes.{spelled_are_bytes}
-
-abbrev AreBytes : List ℕ → Type 0
-AreBytes bytes = AllByRecursion (λ b. b < 256) bytes
 
 body_has_bytes : (body : Body) → IsBody body → AreBytes (data_of body)
 body_has_bytes (classic digits None) is = spelled_are_bytes digits is.0.each

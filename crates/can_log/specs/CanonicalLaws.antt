@@ -1,14 +1,14 @@
 -- What a canonical line promises.
 use Rattle.std.specs.Prelude.{◌≡◌, ℕ, ◌^◌, ◌<◌, List, length, Some}
-use Rattle.std.specs.List.{AllByRecursion}
 use Rattle.can_log.specs.declared.frame.Id.{Id}
+use Rattle.can_log.specs.Frame.{AreBytes, IsCanIdentifier}
 use Rattle.can_log.specs.Line.{LineMeans}
 use Rattle.can_log.specs.Refused.{NoLineFeed}
-use Rattle.can_log.specs.Canonical.{IsSpellable, canonical_text, canonical_line, canonical_length, canonical_stamped}
+use Rattle.can_log.specs.Canonical.{canonical_text, canonical_line, canonical_length, canonical_stamped}
 
 -- The text of eight bytes means the classic frame with them, of a base or an extended identifier, at n milliseconds.
 abbrev pub CanonicalLineMeans : Type 0
-CanonicalLineMeans = (n : ℕ) (identifier : Id) (bytes : List ℕ) → n < 10 ^ 13 → IsSpellable identifier → length bytes ≡ 8 → AllByRecursion (λ b. b < 256) bytes
+CanonicalLineMeans = (n : ℕ) (identifier : Id) (bytes : List ℕ) → n < 10 ^ 13 → IsCanIdentifier identifier → length bytes ≡ 8 → AreBytes bytes
     → LineMeans (canonical_text n identifier bytes) (Some (canonical_stamped n identifier bytes))
 
 -- The text has no line feed inside.

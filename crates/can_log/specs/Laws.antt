@@ -1,9 +1,10 @@
 -- What holds of lines and logs, whoever reads them.
-use Rattle.std.specs.Prelude.{◌≡◌, ℕ, ◌<◌, ◌≤◌, ◌⊎◌, List, [], ◌∷◌, ◌++◌, Option, Some, Ok, length}
-use Rattle.std.specs.List.{AllByRecursion, concat}
+use Rattle.std.specs.Prelude.{◌≡◌, ℕ, ◌≤◌, ◌⊎◌, List, [], ◌∷◌, ◌++◌, Option, Some, Ok, length}
+use Rattle.std.specs.List.{concat}
 use Rattle.can_log.specs.declared.scanner.Scan.{Scan}
 use Rattle.can_log.specs.declared.frame.Stamped.{Stamped}
 use Rattle.hex.specs.Hex.{decode_of}
+use Rattle.can_log.specs.Frame.{AreBytes}
 use Rattle.can_log.specs.Line.{IsDataText, LineMeans, MeansNothing, bytes_spelled}
 use Rattle.can_log.specs.Refused.{NoLineFeed, HasCompletion, HasNoCompletion}
 use Rattle.can_log.specs.Log.{LogMeans, IsRefusedIn}
@@ -28,7 +29,7 @@ LineIsShort = (bytes : List ℕ) (what : Option Stamped) → LineMeans bytes wha
 
 -- what a line records are bytes
 abbrev pub LineRecordsBytes : Type 0
-LineRecordsBytes = (bytes : List ℕ) (stamped : Stamped) → LineMeans bytes (Some stamped) → AllByRecursion (λ b. b < 256) stamped.frame.bytes
+LineRecordsBytes = (bytes : List ℕ) (stamped : Stamped) → LineMeans bytes (Some stamped) → AreBytes stamped.frame.bytes
 
 -- the bytes that the digits of data spell are those that the crate `hex` decodes of them
 abbrev pub DataIsWhatHexDecodes : Type 0

@@ -2,8 +2,9 @@
 ghost use Rattle.std.specs.Prelude.{◌≡◌, ◌+◌, ◌^◌, ◌<◌, ◌≤◌, [], ◌∷◌, Some};
 ghost use Rattle.std.specs.List.{flat_map, replace_range};
 ghost use Rattle.can_log.specs.Digits.{digit, digits, hexadecimal};
-ghost use Rattle.can_log.specs.Canonical.{IsSpellable, canonical_length, canonical_line, canonical_stamped};
+ghost use Rattle.can_log.specs.Canonical.{canonical_length, canonical_line, canonical_stamped};
 ghost use Rattle.can_log.specs.Filled.{filled_line};
+ghost use Rattle.can_log.specs.Frame.{IsCanIdentifier};
 ghost use Rattle.can_log.specs.Log.{LogMeans};
 
 use crate::frame::Id;
@@ -21,7 +22,7 @@ pub const LONGEST_LINE: usize = 51;
 /// `(0000000000.012000) can0 18DA10F1#0322F190CCCCCCCC`.
 pub fn line_bytes(n: u64, id: Id, data: &[u8; 8]) -> ArrayVec<u8, LONGEST_LINE>
     requires n { n < 10 ^ 13 }
-    requires id { IsSpellable id }
+    requires id { IsCanIdentifier id }
     ensures bytes { result.items ≡ canonical_line n id «data».now }
     ensures means { LogMeans result.items (Some (canonical_stamped n id «data».now) ∷ []) }
 {

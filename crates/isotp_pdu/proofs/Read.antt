@@ -1,5 +1,6 @@
 -- What the function answers of a frame holds of it: the bytes spell the layout, or the fault is the lowest that applies.
-use Rattle.std.proofs.Common.{◌≡◌, ℕ, ◌+◌, ◌-◌, ◌*◌, ◌%◌, ◌/◌, ◌<◌, ◌≤◌, ◌^◌, true, false, ◌&&◌, List, [], ◌∷◌, length, nat_lt, nat_le, ◌==◌, take, drop, Result, Ok, Err, refl, ap, arith, cond, inl, inr, length-take, length-append, slice_index}
+use Rattle.std.proofs.Common.{◌≡◌, ℕ, ◌+◌, ◌-◌, ◌*◌, ◌%◌, ◌/◌, ◌<◌, ◌≤◌, ◌^◌, true, false, ◌&&◌, List, [], ◌∷◌, length, nat_lt, nat_le, ◌==◌}
+use Rattle.std.proofs.Common.{take, drop, Result, Ok, Err, refl, ap, arith, cond, inl, inr, length-take, length-append, slice_index}
 use Rattle.std.specs.Prelude.{◌≢◌, slice_range, IsTrue}
 use Rattle.std.proofs.lemmas.Bool.{and_parts, and_from, both_ways, ltb-true, ltb-false, eqb-true, eqb-false, leb-true, leb-false, cond_both, eq-eqb, le-leb, lt-ltb}
 use Rattle.std.proofs.lemmas.List.{take-append-drop}

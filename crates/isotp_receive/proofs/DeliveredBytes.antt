@@ -6,14 +6,15 @@ use Rattle.std.proofs.Math.Nat.{mod-lt}
 use Rattle.std.proofs.lemmas.Nat.{div-add-mod'}
 use Rattle.std.proofs.lemmas.Bool.{cases_lt}
 use Rattle.std.proofs.lemmas.List.Elements.{All-from_get_or, recursion_from_All}
+use Rattle.can_log.specs.Frame.{AreBytes}
 use Rattle.can_log.specs.Dir.{Message}
 use Rattle.can_log.specs.declared.frame.Dir.{Dir}
-use Rattle.can_log.proofs.EachElement.{AllByRecursion-append, AllByRecursion-front, AllByRecursion-back}
+use Rattle.can_log.proofs.Promises.{AllByRecursion-append, AllByRecursion-front, AllByRecursion-back}
 use Rattle.isotp_receive.specs.Trace.{Entry, At}
 use Rattle.isotp_receive.specs.Places.{bytes_in_first}
 use Rattle.isotp_receive.specs.Delivers.{Completes, Delivers, in_one_frame, in_frames}
 use Rattle.isotp_receive.specs.Verdict.{VerdictValue, message, began, stored, flowed, dropped, verdict, told_message, messages_after}
-use Rattle.isotp_receive.specs.MessageLaws.{MessagesAreFew, MessagesFit, MessagesHoldBytes}
+use Rattle.isotp_receive.specs.MessageLaws.{MessagesAreFew, MessagesFit, HoldBytes, MessagesHoldBytes}
 use Rattle.isotp_receive.proofs.Readings.{whole_from, first_from}
 use Rattle.isotp_receive.proofs.DeliversLaws.{message-delivers}
 
@@ -75,12 +76,6 @@ messages_fit limit T least =
     each_message limit (Fits limit) T (λ past e later m parts delivers. delivered_fits limit (past ++ e ∷ []) (length past) e.dir m least delivers) [] T refl
 
 -- ---- what they hold
-
-abbrev AreBytes : List ℕ → Type 0
-AreBytes bytes = AllByRecursion (λ b. b < 256) bytes
-
-abbrev HoldBytes : List Entry → Type 0
-HoldBytes T = AllByRecursion (λ (e : Entry). AreBytes e.frame.bytes) T
 
 byte_at : (bytes : List ℕ) (place : ℕ) → AreBytes bytes → get_or bytes place 0 < 256
 byte_at [] place small = omega arith

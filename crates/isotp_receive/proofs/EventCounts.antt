@@ -25,7 +25,7 @@ use Rattle.isotp_receive.specs.Standing.{Standing, fit_of, stands}
 use Rattle.isotp_receive.specs.Verdict.{VerdictValue, message, began, stored, flowed, dropped, EventValue, verdict, refused, ended_as, on_fit, on_layout, on_consecutive, on_flow_control}
 use Rattle.isotp_receive.specs.CleanTrace.{IsKept, EachClean, IsClean}
 use Rattle.isotp_receive.specs.Events.{events_after, is_dropped, dropped_in, ended_in, unfinished_in, oversize_in, too_long_in}
-use Rattle.isotp_receive.specs.MessageLaws.{EventsGoOn, EventsAreAsMany, TooLongIsAnnounced, CleanIsCounted}
+use Rattle.isotp_receive.specs.MessageLaws.{EventsGoOn, EventsAreAsMany, TooLongIsAnnounced, KeptIsWithin, CleanIsCounted}
 
 -- ---- a trace that goes on
 
@@ -179,3 +179,14 @@ pub too_long_is_announced : TooLongIsAnnounced
 unfolding verdict
 too_long_is_announced limit T e =
     layout_length limit e.dir (stands limit e.dir T) (stands limit (other_direction e.dir) T) e.micros (layout_of e.frame)
+
+-- and a frame that is not dropped announces no such length
+kept_is_short : (told : VerdictValue) → IsKept told → too_long_in told ≡ None
+kept_is_short (message bytes) kept = refl
+kept_is_short began kept = refl
+kept_is_short stored kept = refl
+kept_is_short flowed kept = refl
+kept_is_short (dropped reason) kept = absurd kept
+
+pub kept_is_within : KeptIsWithin
+kept_is_within limit T e kept = sym (too_long_is_announced limit T e) ∙ kept_is_short (verdict limit T e).told kept

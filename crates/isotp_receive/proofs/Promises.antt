@@ -1,5 +1,5 @@
--- The proofs of the public laws, each under the name of its statement in specs/, for the crates above to cite. Nothing
--- else of proofs/ is for them.
+-- The proofs of the public laws, each under the name of its statement in specs/, for the crates above to cite; and at the
+-- end small facts of lists, positions and directions. Nothing else of proofs/ is for them.
 pub use Rattle.isotp_receive.proofs.StandingLaws.{stands-open as what_stands_is_open, open-stands as what_is_open_stands, standing-is-fixed as what_stands_is_fixed, one-open as one_is_open}
 pub use Rattle.isotp_receive.proofs.StandingLaws.{kept-bytes as keeps_fewer_bytes}
 pub use Rattle.isotp_receive.proofs.DeliversLaws.{message-delivers as a_message_is_delivered}
@@ -10,7 +10,11 @@ pub use Rattle.isotp_receive.proofs.Delivered.{delivers-at-last as recording_del
 pub use Rattle.isotp_receive.proofs.FrameLaws.{by-frames as recording_delivers_by_frames, certificate as clean_trace_is_a_recording}
 pub use Rattle.isotp_receive.proofs.MessagesOfMore.{messages_go_on}
 pub use Rattle.isotp_receive.proofs.DeliveredBytes.{messages_are_few, messages_fit, messages_hold_bytes}
-pub use Rattle.isotp_receive.proofs.EventCounts.{events_go_on, events_are_as_many, too_long_is_announced, clean_is_counted}
+pub use Rattle.isotp_receive.proofs.EventCounts.{events_go_on, events_are_as_many, too_long_is_announced, kept_is_within, clean_is_counted}
 pub use Rattle.isotp_receive.proofs.Readings.{first_frame_is_read}
 pub use Rattle.isotp_receive.proofs.References.{same-reference as one_reference}
 pub use Rattle.isotp_receive.proofs.Growths.{stands-without as refused_leaves_the_other}
+pub use Rattle.isotp_receive.proofs.ListPositions.{get-here, get-left, get-drop}
+pub use Rattle.isotp_receive.proofs.Fronts.{take_over}
+pub use Rattle.isotp_receive.proofs.PositionLists.{last-in}
+pub use Rattle.isotp_receive.proofs.Directions.{same-self}

@@ -6,6 +6,7 @@ use Rattle.can_log.specs.declared.frame.Dir.TheVariants as dir
 use Rattle.isotp_pdu.specs.Layout.{Layout}
 use Rattle.isotp_pdu.specs.Layout as layout
 use Rattle.isotp_pdu.specs.declared.PduFault.{PduFault}
+use Rattle.isotp_receive.specs.declared.event.Reason.{Reason}
 use Rattle.isotp_receive.specs.declared.event.Reason.TheVariants as reason
 use Rattle.isotp_receive.specs.Standing.{stands}
 use Rattle.isotp_receive.specs.Trace.{Entry}
@@ -48,15 +49,19 @@ oversize_in limit (Ok (layout.consecutive sequence_number can_dl bytes)) = None
 oversize_in limit (Ok (layout.flow_control status)) = None
 oversize_in limit (Err fault) = None
 
+-- the length that a dropped frame announced, where that was the reason
+abbrev pub announced_by : Reason → Option ℕ
+announced_by (reason.TooLong announced) = Some announced
+announced_by (reason.Pdu fault) = None
+announced_by reason.FlowUnexpected = None
+announced_by reason.NextUnexpected = None
+announced_by reason.NextLate = None
+announced_by (reason.NextSequence expected found) = None
+announced_by reason.NextLength = None
+
 -- the announced length of a frame that is dropped as too long
 abbrev pub too_long_in : VerdictValue → Option ℕ
-too_long_in (dropped (reason.TooLong announced)) = Some announced
-too_long_in (dropped (reason.Pdu fault)) = None
-too_long_in (dropped reason.FlowUnexpected) = None
-too_long_in (dropped reason.NextUnexpected) = None
-too_long_in (dropped reason.NextLate) = None
-too_long_in (dropped (reason.NextSequence expected found)) = None
-too_long_in (dropped reason.NextLength) = None
+too_long_in (dropped why) = announced_by why
 too_long_in (message bytes) = None
 too_long_in began = None
 too_long_in stored = None

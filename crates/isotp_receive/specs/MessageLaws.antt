@@ -1,13 +1,14 @@
 -- What the public laws of the messages of a trace, and of what its frames do, say.
-use Rattle.std.specs.Prelude.{◌≡◌, ◌≤◌, ◌<◌, ◌↔◌, ℕ, List, ◌++◌, length, Ok}
+use Rattle.std.specs.Prelude.{◌≡◌, ◌≤◌, ◌↔◌, ℕ, List, ◌++◌, length, None, Ok}
 use Rattle.std.specs.List.{AllByRecursion}
 use Rattle.can_log.specs.Dir.{Message}
+use Rattle.can_log.specs.Frame.{AreBytes}
 use Rattle.can_log.specs.declared.frame.Dir.{Dir}
 use Rattle.isotp_pdu.specs.Layout as layout
 use Rattle.isotp_pdu.specs.Reading.{layout_of}
 use Rattle.isotp_receive.specs.Trace.{Entry, FirstFrame, first, role}
 use Rattle.isotp_receive.specs.Verdict.{messages, messages_after, verdict}
-use Rattle.isotp_receive.specs.CleanTrace.{IsClean}
+use Rattle.isotp_receive.specs.CleanTrace.{IsClean, IsKept}
 use Rattle.isotp_receive.specs.Events.{events_after, events, dropped_in, ended_in, unfinished_in, oversize_in, too_long_in}
 
 -- a trace that goes on delivers the messages of its first frames, and then those of the others
@@ -23,10 +24,13 @@ abbrev pub MessagesFit : Type 0
 MessagesFit = (limit : ℕ) (T : List Entry) → 64 ≤ limit
     → AllByRecursion (λ (message : Message). (1 ≤ length message.1) × (length message.1 ≤ limit)) (messages limit T)
 
--- where the frames of a trace hold bytes, so do its messages
+-- the frames of a trace hold bytes
+abbrev pub HoldBytes : List Entry → Type 0
+HoldBytes T = AllByRecursion (λ (e : Entry). AreBytes e.frame.bytes) T
+
+-- where they do, so do its messages
 abbrev pub MessagesHoldBytes : Type 0
-MessagesHoldBytes = (limit : ℕ) (T : List Entry) → AllByRecursion (λ (e : Entry). AllByRecursion (λ b. b < 256) e.frame.bytes) T
-    → AllByRecursion (λ (message : Message). AllByRecursion (λ b. b < 256) message.1) (messages limit T)
+MessagesHoldBytes = (limit : ℕ) (T : List Entry) → HoldBytes T → AllByRecursion (λ (message : Message). AreBytes message.1) (messages limit T)
 
 -- the frames of a trace that goes on do what the first frames do, and then what the others do
 abbrev pub EventsGoOn : Type 0
@@ -44,6 +48,10 @@ FirstFrameIsRead = (d : Dir) (e : Entry) (start : FirstFrame) → role d e ≡ f
 -- a frame is dropped as too long exactly where it announces a length above the limit, and with that length
 abbrev pub TooLongIsAnnounced : Type 0
 TooLongIsAnnounced = (limit : ℕ) (T : List Entry) (e : Entry) → too_long_in (verdict limit T e).told ≡ oversize_in limit (layout_of e.frame)
+
+-- so a frame that is not dropped announces none
+abbrev pub KeptIsWithin : Type 0
+KeptIsWithin = (limit : ℕ) (T : List Entry) (e : Entry) → IsKept (verdict limit T e).told → oversize_in limit (layout_of e.frame) ≡ None
 
 -- a trace is clean exactly where nothing of it is counted as dropped, ended or unfinished
 abbrev pub CleanIsCounted : Type 0

@@ -5,7 +5,7 @@ ghost use Rattle.isotp_receive.specs.declared.TheConstants.{MESSAGE_LIMIT};
 ghost use Rattle.isotp_receive.specs.Laws.{WhatStandsIsOpen, WhatIsOpenStands, WhatStandsIsFixed, OneIsOpen, OneReference, KeepsFewerBytes};
 ghost use Rattle.isotp_receive.specs.Laws.{AMessageIsDelivered, TheVerdictIsTabled, PlacesAgreeOnBytes, PlacesAgreeOnFit};
 ghost use Rattle.isotp_receive.specs.MessageLaws.{MessagesGoOn, MessagesAreFew, MessagesFit, MessagesHoldBytes};
-ghost use Rattle.isotp_receive.specs.MessageLaws.{EventsGoOn, EventsAreAsMany, FirstFrameIsRead, TooLongIsAnnounced, CleanIsCounted};
+ghost use Rattle.isotp_receive.specs.MessageLaws.{EventsGoOn, EventsAreAsMany, FirstFrameIsRead, TooLongIsAnnounced, KeptIsWithin, CleanIsCounted};
 ghost use Rattle.isotp_receive.specs.Growth.{RefusedLeavesTheOther};
 
 /// What stands after a trace is the reception that is open at its end by the positions of its frames,
@@ -85,6 +85,11 @@ pub fn first_frame_is_read()
 /// A frame is dropped as too long exactly where it announces a length above the limit.
 pub fn too_long_is_announced()
     ensures { TooLongIsAnnounced }
+{}
+
+/// A frame that is not dropped announces no length above the limit.
+pub fn kept_is_within()
+    ensures { KeptIsWithin }
 {}
 
 /// A trace is clean exactly where nothing of it is counted as dropped, ended or unfinished.

@@ -11,10 +11,9 @@ use Rattle.isotp_receive.specs.Trace.{Entry, At}
 use Rattle.isotp_receive.specs.Verdict.{verdict}
 use Rattle.isotp_receive.specs.FramesOf.{AreGivenTheirFrames}
 use Rattle.isotp_receive.specs.CleanTrace.{IsCleanEvent, EachClean, IsClean}
-use Rattle.isotp_receive.proofs.Promises.{recording_delivers_by_frames}
+use Rattle.isotp_receive.proofs.Promises.{recording_delivers_by_frames, get-here}
 use Rattle.isotp_segment.specs.CanonicalFrames.{total_count}
 use Rattle.isotp_segment.specs.Timed.{timed, HasFrames, all_frames}
-use Rattle.isotp_segment.proofs.Lists.{get-here}
 use Rattle.isotp_segment.proofs.TimedFrames.{StandFrom}
 use Rattle.isotp_segment.proofs.AllFrames.{AreLastFrom, all-of-them, those-behind, those-of-first, none-left}
 use Rattle.isotp_segment.proofs.OpenReceptions.{IsClosedAt}

@@ -5,7 +5,7 @@ use Rattle.std.proofs.lemmas.Bool.{cases_lt}
 use Rattle.can_log.specs.declared.frame.Dir.{Dir}
 use Rattle.isotp_receive.specs.Trace.{Entry, At, role}
 use Rattle.isotp_receive.specs.Places.{IsConsecutiveCount, consecutive_by, consecutive_frames_in, between}
-use Rattle.isotp_receive.proofs.ListPositions.{get-drop}
+use Rattle.isotp_receive.proofs.Promises.{get-drop}
 
 -- the more frames, the more consecutive frames are among them
 pub counted-more : (d : Dir) (few many : ℕ) (es : List Entry) → few ≤ many

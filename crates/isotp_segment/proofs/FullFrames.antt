@@ -1,9 +1,10 @@
 -- Each canonical frame has 8 bytes; and the one frame of a short message.
 use Rattle.std.proofs.Common.{◌≡◌, ◌-◌, ◌<◌, ◌^◌, ◌==◌, ◌&&◌, [], ◌∷◌, ◌++◌, ◌∙◌}
 use Rattle.std.proofs.Common.{ℕ, zero, suc, List, length, map, drop, nat_le, true, false, refl, sym, subst, ap, arith, inl, inr}
-use Rattle.std.specs.List.{AllByRecursion, range_with_len}
+use Rattle.std.specs.List.{range_with_len}
 use Rattle.std.proofs.lemmas.Bool.{le-leb, lt-leb, leb-true, leb-false, cases_Bool, and_parts}
 use Rattle.can_log.specs.Dir.{other_direction}
+use Rattle.can_log.specs.Frame.{AreBytes}
 use Rattle.can_log.specs.declared.frame.Dir.{Dir}
 use Rattle.isotp_pdu.specs.Layout.{single}
 use Rattle.isotp_pdu.proofs.Promises.{layout_is_read}
@@ -13,10 +14,6 @@ use Rattle.isotp_segment.proofs.Bytes.{byte_at, filled_by_place, length-filled}
 use Rattle.isotp_segment.proofs.Frames.{frames_of, frame-single}
 use Rattle.isotp_segment.proofs.Layouts.{classic, layout-single}
 use Rattle.isotp_segment.proofs.Lists.{AllByRecursion-drop, AllByRecursion-map-range}
-
--- each number is that of a byte
-abbrev AreBytes : List ℕ → Type 0
-AreBytes bytes = AllByRecursion (λ b. b < 256) bytes
 
 byte_at-below : (bytes : List ℕ) (i : ℕ) → AreBytes bytes → byte_at bytes i < 256
 byte_at-below [] i each = omega arith

@@ -3,7 +3,7 @@ use Rattle.std.proofs.Common.{◌≡◌, ℕ, ◌-◌, ◌≤◌, List, ◌++◌
 use Rattle.std.specs.Prelude.{replicate}
 use Rattle.std.proofs.Math.Seq.{take-append_seam, drop-append_seam}
 use Rattle.std.proofs.lemmas.List.{append-nil, take-append-le, drop-replicate, take-replicate}
-use Rattle.isotp_receive.proofs.Fronts.{take_over}
+use Rattle.isotp_receive.proofs.Promises.{take_over}
 use Rattle.isotp_segment.specs.CanonicalFrames.{filled, padding}
 use borrow.Rule.Slice.PartMut.{put_mid}
 

@@ -3,7 +3,7 @@ use Rattle.std.proofs.Common.{◌≡◌, ℕ, suc, ◌+◌, ◌-◌, ◌<◌, �
 use Rattle.std.specs.List.{range_with_len}
 use Rattle.std.proofs.lemmas.Bool.{leb-false, cases_Bool}
 use Rattle.isotp_receive.specs.Recording.{IsIn, last_or}
-use Rattle.isotp_receive.proofs.PositionLists.{last-in}
+use Rattle.isotp_receive.proofs.Promises.{last-in}
 use Rattle.isotp_segment.specs.CanonicalFrames.{consecutive_count, total_count}
 use Rattle.isotp_segment.proofs.Ranges.{range-bounds, last_or-range}
 use Rattle.isotp_segment.proofs.Counts.{room_in_first-few}

@@ -1,5 +1,5 @@
 -- Canonical frames as the entries of a trace: which stands at which position, and what it is to the receptions.
-use Rattle.std.proofs.Common.{◌≡◌, ℕ, zero, suc, ◌+◌, ◌*◌, ◌<◌, ◌≤◌, true, false, List, [], ◌∷◌, ◌++◌, length, take, Some, Result, refl, ◌∙◌, ap, arith}
+use Rattle.std.proofs.Common.{◌≡◌, ℕ, zero, suc, ◌+◌, ◌*◌, ◌<◌, ◌≤◌, false, List, [], ◌∷◌, ◌++◌, length, take, Some, Result, refl, ◌∙◌, ap, arith}
 use Rattle.std.specs.Prelude.{slice_get}
 use Rattle.std.proofs.lemmas.Option.{slice_get-get_or}
 use Rattle.std.proofs.lemmas.List.FromFn.{get_or-map-range_with_len}
@@ -11,18 +11,14 @@ use Rattle.isotp_pdu.specs.declared.PduFault.{PduFault}
 use Rattle.isotp_pdu.specs.Layout.{Layout}
 use Rattle.isotp_pdu.specs.Reading.{layout_of}
 use Rattle.isotp_receive.specs.Trace.{Entry, At, role, own_role, other_role, same_direction}
-use Rattle.isotp_receive.proofs.ListPositions.{get-left}
+use Rattle.isotp_receive.proofs.Promises.{get-left, same-self}
 use Rattle.isotp_segment.specs.CanonicalFrames.{total_count, canonical_frame, canonical_frames}
 use Rattle.isotp_segment.specs.Timed.{timed}
 use Rattle.isotp_segment.proofs.Lists.{get-later}
 use Rattle.isotp_segment.proofs.Frames.{frames_of, length-canonical_frames}
 use Rattle.isotp_segment.proofs.Layouts.{classic}
 
--- a direction is itself, and not the other one
-self : (d : Dir) → same_direction d d ≡ true
-self Tester = refl
-self Unit = refl
-
+-- a direction is not the other one
 not-other : (d : Dir) → same_direction d (other_direction d) ≡ false
 not-other Tester = refl
 not-other Unit = refl
@@ -50,7 +46,7 @@ module _ (identifier : Dir → Id) (line micros : ℕ) (d : Dir) (n : ℕ) (byte
   pub role-own : layout_of (classic (identifier d) bytes) ≡ r
       → role d (entry identifier line micros n (d, bytes)) ≡ own_role (line + n) (micros + n * 1000) r
   unfolding role
-  role-own is = rw (self d, is) refl
+  role-own is = rw (same-self d, is) refl
 
   pub role-other : layout_of (classic (identifier (other_direction d)) bytes) ≡ r
       → role d (entry identifier line micros n (other_direction d, bytes)) ≡ other_role r

@@ -1,7 +1,8 @@
 -- What the public laws of canonical frames say.
-use Rattle.std.specs.Prelude.{◌≡◌, ◌<◌, ◌≤◌, ◌^◌, ℕ, List, [], ◌∷◌, ◌++◌, length, take}
+use Rattle.std.specs.Prelude.{◌≡◌, ◌<◌, ◌≤◌, ◌^◌, ◌+◌, ℕ, List, [], ◌∷◌, ◌++◌, length, take}
 use Rattle.std.specs.List.{AllByRecursion}
 use Rattle.can_log.specs.Dir.{Message}
+use Rattle.can_log.specs.Frame.{AreBytes}
 use Rattle.can_log.specs.declared.frame.Dir.{Dir}
 use Rattle.can_log.specs.declared.frame.Id.{Id}
 use Rattle.can_log.specs.declared.frame.Kind.TheVariants.{Classic}
@@ -11,8 +12,12 @@ use Rattle.isotp_receive.specs.Places.{IsConsecutiveCount}
 use Rattle.isotp_receive.specs.Verdict.{messages}
 use Rattle.isotp_receive.specs.Recording.{IsRecording}
 use Rattle.isotp_receive.specs.CleanTrace.{IsClean}
-use Rattle.isotp_segment.specs.CanonicalFrames.{room_in_first, consecutive_count, canonical_frames}
+use Rattle.isotp_segment.specs.CanonicalFrames.{room_in_first, consecutive_count, total_count, canonical_frames}
 use Rattle.isotp_segment.specs.Timed.{timed, HasFrames, all_frames}
+
+-- how many frames a message has: one up to 7 bytes, and above that the first frame, the continue frame and the consecutive ones
+abbrev pub TotalCountByLength : Type 0
+TotalCountByLength = (len : ℕ) → (len ≤ 7 → total_count len ≡ 1) × (7 < len → total_count len ≡ 2 + consecutive_count len)
 
 -- the count of a message's consecutive frames is the least that holds what the first frame leaves
 abbrev pub ConsecutiveCountIsLeast : Type 0
@@ -21,12 +26,12 @@ ConsecutiveCountIsLeast = (len : ℕ) → 7 < len → IsConsecutiveCount (room_i
 -- a frame of 8 bytes
 pub record IsFullFrame (frame : Dir × List ℕ) : Type 0 where
   pub full : length frame.1 ≡ 8
-  pub bytes : AllByRecursion (λ b. b < 256) frame.1
+  pub bytes : AreBytes frame.1
 
 -- each canonical frame of a message of bytes has 8 bytes
 abbrev pub CanonicalFramesAreFull : Type 0
 CanonicalFramesAreFull = (limit : ℕ) (d : Dir) (message : List ℕ)
-    → limit < 2 ^ 32 → AllByRecursion (λ b. b < 256) message → AllByRecursion IsFullFrame (canonical_frames limit d message)
+    → limit < 2 ^ 32 → AreBytes message → AllByRecursion IsFullFrame (canonical_frames limit d message)
 
 -- the frames of the message are one, of the same side: a single frame that holds it, under any identifier
 pub record AreOneSingleFrame (d : Dir) (message : List ℕ) (frames : List (Dir × List ℕ)) : Type 0 where

@@ -17,7 +17,7 @@ use Rattle.trace_canon.specs.LinesRead.{counts_last, AreGiven}
 use Rattle.trace_canon.specs.Outcome.{IsReadWhole}
 use Rattle.trace_canon.specs.Answers.{piece_length, WritesFront, WritesEagerly, Answers}
 use Rattle.trace_canon.proofs.Texts.{Begins, begins_again, early_text_stays, early_text_grows}
-use Rattle.trace_canon.proofs.ReadLines.{stands_lines, stands_read, read_begins, read_more, lines_read_are_there}
+use Rattle.trace_canon.proofs.ReadLines.{stands_lines, stands_read, read_begins, read_more, lines_read_are_there, all_lines_read}
 use Rattle.trace_canon.proofs.ScannedLogs.{IsBadBehind, bad_line, read_before_place, oversize_taken, oversize_last, read_before_oversize, not_refused_at_limit}
 
 -- ---- refused
@@ -149,15 +149,7 @@ pub writes_front_at_end : (limit : ℕ) (settings : Settings) (log : List ℕ) (
     → Begins written (canonical_log_of_lines limit settings whats) → WritesFront limit settings log given fault old new
 writes_front_at_end limit settings log given fault whats written old new means few last each wrote begins = record {
   whats = whats;
-  read = record {
-    lines = log_lines log;
-    later = [];
-    parts = sym (append-nil (log_lines log));
-    means = means;
-    each = each;
-    given = inr (last, few);
-    ends = tt;
-  };
+  read = all_lines_read (announces_within limit settings) (counts_last fault) (min given settings.max_bytes) log whats means each last few;
   written = written;
   missing = begins.0;
   wrote = wrote;

@@ -21,7 +21,7 @@ reading_is_there settings log = elim (log_is_legal_or_refused log) [
     | inl long ↦ (Err too_long, (λ line column bad. refused_log_means_nothing log line column legal.0 bad.place legal.1, long))
   ]
   | inr refused ↦ elim (counts_or_not (length (ended_lines refused.2.lines) + refused.1) settings log) [
-    | inl counts ↦ (Err (no_line refused.0 refused.1), record { place = refused.2; counts = counts; within = all_taken refused.2.whats })
+    | inl counts ↦ (Err (no_line refused.0 refused.1), record { place = refused.2; counts = counts })
     | inr none ↦ (
       Err too_long,
       (

@@ -33,7 +33,6 @@ use Rattle.trace_canon.specs.Laws.{Certifies}
 use Rattle.trace_canon.specs.LinesRead.{counts_last, AreGiven}
 use Rattle.trace_canon.specs.Reading.{Took, Stopped, StopsInLog, StopsAtEnd, ReadsLog, TakesSome}
 use Rattle.trace_canon.specs.Receiving.{entry_in}
-use Rattle.trace_canon.specs.Refusal.{IsBadAt}
 use Rattle.trace_canon.specs.Settings.{Settings, direction_of}
 use Rattle.trace_canon.specs.Summing.{summary_of}
 use Rattle.trace_canon.specs.Trace.{trace, trace_from}
@@ -43,22 +42,13 @@ use Rattle.trace_canon.proofs.Explained.{all_taken}
 use Rattle.trace_canon.proofs.Runs.{TookEvents, StoppedOnEvent}
 use Rattle.trace_canon.proofs.Normalised.{bad_in_front, bad_at_end}
 use Rattle.trace_canon.proofs.ReadAgain.{clean_summary_is_certificate}
-use Rattle.trace_canon.proofs.ReadLines.{stands_lines, stands_read, read_begins, lines_read_are_there}
+use Rattle.trace_canon.proofs.ReadLines.{stands_lines, stands_read, read_begins, lines_read_are_there, all_lines_read}
 use Rattle.trace_canon.proofs.Receivings.{trace_next}
-use Rattle.trace_canon.proofs.ScannedLogs.{IsBadBehind, read_before_place, none_taken}
+use Rattle.trace_canon.proofs.ScannedLogs.{IsBadBehind, bad_counts, read_before_place, no_place_counts}
 use Rattle.trace_canon.proofs.Traces.{trace_from-append}
 use Rattle.trace_canon.proofs.WrittenFronts.{front_behind}
 
 -- ---- refused, or reading failed
-
-bad_counts : (settings : Settings) (log : List ℕ) (line column : ℕ) (whats : List (Option Stamped)) (bytes : ℕ) → IsBadBehind log line column whats bytes
-    → bytes ≤ settings.max_bytes → IsBadAt takes_all settings log line column
-bad_counts settings log line column whats bytes bad few = record { place = bad.place; counts = counts bad.within; within = all_taken bad.place.whats }
-  where
-    counts : (length (ended_lines bad.place.lines) + column ≤ bytes) ⊎ (length log ≤ bytes)
-        → (length (ended_lines bad.place.lines) + column ≤ settings.max_bytes) ⊎ (length log ≤ settings.max_bytes)
-    counts (inl place) = inl (omega arith)
-    counts (inr short) = inr (omega arith)
 
 -- a place is refused
 explains_bad : (limit : ℕ) (settings : Settings) (log : List ℕ) (given line column : ℕ) (whats : List (Option Stamped)) (bytes : ℕ) (old new : List ℕ)
@@ -79,7 +69,7 @@ explains_limit : (limit : ℕ) (settings : Settings) (log : List ℕ) (given : �
     → settings.max_bytes ≤ given → new ≡ old ++ events_text limit (trace settings whats) → AnswersExplain limit settings log given (Err fault.LogLimit) old new
 explains_limit limit settings log given front rest whats standing old new stands parts full long come wrote =
     let count : length front ≡ min given settings.max_bytes = omega arith in (
-      (λ line column bad. no_bad line column bad bad.counts, long),
+      (no_place_counts settings log front rest whats standing stands parts full long, long),
       record {
         whats = whats;
         read = stands_read takes_all true (min given settings.max_bytes) log front rest whats standing stands parts count (all_taken whats)
@@ -87,11 +77,6 @@ explains_limit limit settings log given front rest whats standing old new stands
         wrote = wrote;
       },
     )
-  where
-    no_bad : (line column : ℕ) (bad : IsBadAt takes_all settings log line column)
-        → (length (ended_lines bad.place.lines) + column ≤ settings.max_bytes) ⊎ (length log ≤ settings.max_bytes) → ⊥
-    no_bad line column bad (inl within) = none_taken log front rest whats standing line column stands parts bad.place (omega arith)
-    no_bad line column bad (inr short) = absurd (omega arith)
 
 -- reading failed, and all bytes that were given were taken
 explains_read : (limit : ℕ) (settings : Settings) (log : List ℕ) (given : ℕ) (front rest : List ℕ) (whats : List (Option Stamped)) (standing : Standing)
@@ -168,15 +153,7 @@ writes_front_at_end : (limit : ℕ) (settings : Settings) (log : List ℕ) (give
     → WritesFrontOfText limit settings log given fault old new
 writes_front_at_end limit settings log given fault whats old new means few last front = record {
   whats = whats;
-  read = record {
-    lines = log_lines log;
-    later = [];
-    parts = sym (append-nil (log_lines log));
-    means = means;
-    each = all_taken whats;
-    given = inr (last, few);
-    ends = tt;
-  };
+  read = all_lines_read takes_all (counts_last fault) (min given settings.max_bytes) log whats means (all_taken whats) last few;
   written = front.front;
   missing = front.rest;
   wrote = front.wrote;

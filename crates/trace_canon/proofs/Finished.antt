@@ -1,5 +1,5 @@
 -- What a run has written in the end, and what was counted.
-use Rattle.std.proofs.Common.{◌≡◌, ℕ, ◌+◌, ◌-◌, ◌<◌, ◌≤◌, ◌^◌, true, false, List, [], ◌∷◌, ◌++◌, length, arith, refl, ap, sym, subst, ◌∙◌, inl, inr, Option, Some, None, length-append}
+use Rattle.std.proofs.Common.{◌≡◌, ℕ, ◌+◌, ◌<◌, ◌≤◌, ◌^◌, true, false, List, [], ◌∷◌, ◌++◌, length, arith, refl, ap, sym, subst, ◌∙◌, inl, inr, Option, Some, None, length-append}
 use Rattle.std.specs.Prelude.{is_none, option_to_list, option_map}
 use Rattle.std.specs.List.{AllByRecursion}
 use Rattle.std.proofs.lemmas.Bool.{cases_lt}
@@ -23,6 +23,7 @@ use Rattle.trace_canon.specs.declared.summary.Summary.{Summary}
 use Rattle.trace_canon.specs.declared.receiver.Counts.{Counts}
 use Rattle.trace_canon.specs.Receiving.{Receives}
 use Rattle.isotp_receive.specs.Standing.{Receptions}
+use Rattle.isotp_receive.specs.Trace.{Entry}
 use Rattle.uds_exchange.specs.Meaning.{flattened}
 use Rattle.uds_exchange.specs.Order.{early}
 use Rattle.uds_exchange.specs.Orderer.{Standing}
@@ -109,13 +110,16 @@ each_from settings n [] all = tt
 each_from settings n (None ∷ whats) all = (ap is_none (oversize_of_blank MESSAGE_LIMIT settings), each_from settings (n + 1) whats all)
 each_from settings n (Some stamped ∷ whats) all = by (direction_of settings stamped.frame.id) refl (λ rest. each_from settings (n + 1) whats rest)
   where
+    entries : Option Dir → List Entry
+    entries o = option_to_list (option_map (λ dir. record { line = n; micros = stamped.micros; dir = dir; frame = stamped.frame }) o)
+
     by : (d : Option Dir) → direction_of settings stamped.frame.id ≡ d
         → (AllByRecursion AnnouncesWithin (trace_from settings (n + 1) whats) → EachWithin MESSAGE_LIMIT settings whats) → EachWithin MESSAGE_LIMIT settings (Some stamped ∷ whats)
     by None is later =
-        let rest = subst (λ o. AllByRecursion AnnouncesWithin (option_to_list (option_map (λ dir. record { line = n; micros = stamped.micros; dir = dir; frame = stamped.frame }) o) ++ trace_from settings (n + 1) whats)) is all in
+        let rest = subst (λ o. AllByRecursion AnnouncesWithin (entries o ++ trace_from settings (n + 1) whats)) is all in
         (ap is_none (oversize_of_foreign MESSAGE_LIMIT settings stamped is), later rest)
     by (Some d) is later =
-        let both = subst (λ o. AllByRecursion AnnouncesWithin (option_to_list (option_map (λ dir. record { line = n; micros = stamped.micros; dir = dir; frame = stamped.frame }) o) ++ trace_from settings (n + 1) whats)) is all in
+        let both = subst (λ o. AllByRecursion AnnouncesWithin (entries o ++ trace_from settings (n + 1) whats)) is all in
         (ap is_none (oversize_of_one settings stamped d is ∙ both.0), later both.1)
 
 pub each_within : (settings : Settings) (whats : List (Option Stamped)) → AllByRecursion AnnouncesWithin (trace settings whats) → EachWithin MESSAGE_LIMIT settings whats

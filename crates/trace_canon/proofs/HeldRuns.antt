@@ -1,5 +1,6 @@
 -- What a run answers that holds a log's meaning, from what its parts have promised.
-use Rattle.std.proofs.Common.{◌≡◌, Bool, true, false, nat_le, ℕ, ◌≤◌, List, [], ◌++◌, length, take, drop, arith, refl, ap, sym, subst, ◌∙◌, ◌⊎◌, inl, inr, Option, Some, None, Err, append_assoc, length-append, length-take}
+use Rattle.std.proofs.Common.{◌≡◌, Bool, true, false, nat_le, ℕ, ◌≤◌, List, [], ◌++◌, length, take, drop, arith, refl, ap, sym}
+use Rattle.std.proofs.Common.{subst, ◌∙◌, ◌⊎◌, inl, inr, Option, Some, None, Err, append_assoc, length-append, length-take}
 use Rattle.std.specs.List.{AllByRecursion}
 use Rattle.std.specs.Option.{ok_or}
 use Rattle.std.proofs.lemmas.Bool.{leb-true, leb-false}
@@ -50,7 +51,8 @@ module _ (settings : Settings) (log : List ℕ) (given : ℕ) where
       let all = ap length stops.stops.parts ∙ length-append stops.stops.front stops.stops.rest in
       let parts : log ≡ stops.stops.front ++ (stops.stops.rest ++ drop given log) =
       sym (take-append-drop given log) ∙ ap (λ x. x ++ drop given log) stops.stops.parts ∙ append_assoc stops.stops.front stops.stops.rest (drop given log) in
-      (oversize_taken MESSAGE_LIMIT settings log stops.stops.front (stops.stops.rest ++ drop given log) whats what stops.stops.standing line announced stops.stops.stands parts (omega arith) (omega arith)
+      (oversize_taken MESSAGE_LIMIT settings log stops.stops.front (stops.stops.rest ++ drop given log) whats what stops.stops.standing line announced
+      stops.stops.stands parts (omega arith) (omega arith)
       (each_within settings whats within) (line_announces settings what stamped d (Some announced) is direction announces)).over
   tells_oversize line announced whats what (stamped, d, is, direction, (within, at, announces)) (inr (short, all, stops)) =
       (oversize_last MESSAGE_LIMIT settings log whats what line announced stops.means short (omega arith)

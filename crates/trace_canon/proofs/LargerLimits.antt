@@ -8,7 +8,7 @@ use Rattle.can_log.specs.Dir.{Message, other_direction}
 use Rattle.can_log.specs.declared.frame.Dir.{Dir}
 use Rattle.can_log.specs.declared.frame.Dir.TheVariants as dir
 use Rattle.can_log.specs.declared.frame.Stamped.{Stamped}
-use Rattle.can_log.proofs.EachElement.{AllByRecursion-append}
+use Rattle.can_log.proofs.Promises.{AllByRecursion-append}
 use Rattle.isotp_pdu.specs.Layout.{Layout}
 use Rattle.isotp_pdu.specs.Layout as layout
 use Rattle.isotp_pdu.specs.Reading.{layout_of}

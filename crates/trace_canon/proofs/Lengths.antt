@@ -8,32 +8,29 @@ use Rattle.std.proofs.lemmas.List.{take_more}
 use Rattle.std.proofs.lemmas.List.Concat.{flat_map-append}
 use Rattle.std.proofs.lemmas.Option.{slice_get_within, get_or_from_slice_get}
 use Rattle.std.specs.Prelude.{min, slice_get}
-use Rattle.std.specs.List.{AllByRecursion, range_with_len}
+use Rattle.std.specs.List.{range_with_len}
 use Rattle.can_log.specs.Canonical.{canonical_length}
 use Rattle.can_log.specs.Dir.{Message, other_direction}
+use Rattle.can_log.specs.Frame.{AreBytes}
 use Rattle.can_log.specs.Log.{ended_lines}
 use Rattle.can_log.specs.declared.frame.Dir.{Dir}
 use Rattle.can_log.specs.declared.frame.Dir.TheVariants as dir
 use Rattle.isotp_receive.specs.declared.TheConstants.{MESSAGE_LIMIT}
 use Rattle.isotp_segment.specs.CanonicalFrames.{consecutive_count, total_count, canonical_frame, canonical_frames}
 use Rattle.isotp_segment.specs.Timed.{all_frames}
-use Rattle.isotp_segment.proofs.Promises.{canonical_frames_are_full}
+use Rattle.isotp_segment.proofs.Promises.{canonical_frames_are_full, total_count_by_length}
 use Rattle.uds_exchange.specs.Meaning.{ItemValue, exchange, messages_of, flattened}
 use Rattle.trace_canon.specs.Settings.{Settings, id_of}
 use Rattle.trace_canon.specs.CanonicalLog.{canonical_lines, lines_size, log_of_frames, canonical_log}
 use Rattle.trace_canon.specs.Measuring.{HaveLength}
 use Rattle.trace_canon.proofs.CanonicalLogs.{canonical_lines-append}
 use Rattle.trace_canon.proofs.ReadAgain.{lines_length}
-use Rattle.trace_canon.proofs.Texts.{all_frames-append}
+use Rattle.trace_canon.proofs.Texts.{frames_of_one, all_frames-append}
 
 -- each element of a list of bytes is one
-pub each_is_byte : (bytes : List ℕ) → ((i : ℕ) → get_or bytes i 0 < 256) → AllByRecursion (λ b. b < 256) bytes
+pub each_is_byte : (bytes : List ℕ) → ((i : ℕ) → get_or bytes i 0 < 256) → AreBytes bytes
 each_is_byte [] each = tt
 each_is_byte (b ∷ bytes) each = (each 0, each_is_byte bytes (λ i. each (suc i)))
-
--- the frames of one message
-frames_of_one : (d : Dir) (message : List ℕ) → all_frames MESSAGE_LIMIT ((d, message) ∷ []) ≡ canonical_frames MESSAGE_LIMIT d message
-frames_of_one d message = append-nil (canonical_frames MESSAGE_LIMIT d message)
 
 -- the frames of a message that has some
 frames_by_number : (d : Dir) (message : List ℕ) → 1 ≤ length message → length message ≤ MESSAGE_LIMIT
@@ -70,18 +67,11 @@ consecutive_size settings d message own number (suc count) long later is =
     let more : own * suc count ≡ own * count + own = simp unary_clauses refl in
     omega arith
 
--- how many frames there are
-one_frame : (len : ℕ) → len ≤ 7 → total_count len ≡ 1
-one_frame len short = (let one = le-leb len 7 short in rw one refl)
-
-several_frames : (len : ℕ) → 7 < len → total_count len ≡ 2 + consecutive_count len
-several_frames len long = (let more = lt-leb len 7 long in rw more refl)
-
 -- the lines of the frames of a message
 single_size : (settings : Settings) (d : Dir) (message : List ℕ) (own : ℕ) → 1 ≤ length message → length message ≤ MESSAGE_LIMIT → total_count (length message) ≡ 1
     → own ≡ canonical_length (id_of settings d) → lines_size settings (canonical_frames MESSAGE_LIMIT d message) ≡ own
 single_size settings d message own some fits one is =
-    let short : length message ≤ 7 = elim (cases_lt 7 (length message)) [ inl long ↦ absurd (omega (arith, several_frames (length message) long, one)) | inr few ↦ few ] in
+    let short : length message ≤ 7 = elim (cases_lt 7 (length message)) [ inl long ↦ absurd (omega (arith, (total_count_by_length (length message)).1 long, one)) | inr few ↦ few ] in
     let sent = ap (λ e. canonical_length (id_of settings e)) (single_sender d message 0 short) in
     ap (lines_size settings) (frames_by_number d message some fits ∙ ap (λ k. map (canonical_frame d message) (range_with_len 0 k)) one)
     ∙ omega arith
@@ -90,8 +80,8 @@ long_size : (settings : Settings) (d : Dir) (message : List ℕ) (own other coun
     → count ≡ total_count (length message) → count ≢ 1 → own ≡ canonical_length (id_of settings d) → other ≡ canonical_length (id_of settings (other_direction d))
     → lines_size settings (canonical_frames MESSAGE_LIMIT d message) ≡ own * (count - 1) + other
 long_size settings d message own other count some fits total several is other_is =
-    let long : 7 < length message = elim (cases_lt 7 (length message)) [ inl long ↦ long | inr few ↦ absurd (several (total ∙ one_frame (length message) few)) ] in
-    let more : total_count (length message) ≡ suc (suc (consecutive_count (length message))) = omega (arith, several_frames (length message) long) in
+    let long : 7 < length message = elim (cases_lt 7 (length message)) [ inl long ↦ long | inr few ↦ absurd (several (total ∙ (total_count_by_length (length message)).0 few)) ] in
+    let more : total_count (length message) ≡ suc (suc (consecutive_count (length message))) = omega (arith, (total_count_by_length (length message)).1 long) in
     let first = ap (λ e. canonical_length (id_of settings e)) (first_sender d message long) in
     let continue = ap (λ e. canonical_length (id_of settings e)) (continue_sender d message long) in
     let rest = consecutive_size settings d message own 2 (consecutive_count (length message)) long (omega arith) is in
@@ -101,20 +91,20 @@ long_size settings d message own other count some fits total several is other_is
     ∙ omega arith
 
 -- and so those of a message
-length_by_size : (settings : Settings) (d : Dir) (message : List ℕ) (size : ℕ) → AllByRecursion (λ b. b < 256) message
+length_by_size : (settings : Settings) (d : Dir) (message : List ℕ) (size : ℕ) → AreBytes message
     → lines_size settings (canonical_frames MESSAGE_LIMIT d message) ≡ size → HaveLength settings ((d, message) ∷ []) size
 length_by_size settings d message size bytes is = λ n.
-    ap (λ frames. length (ended_lines (canonical_lines settings n frames))) (frames_of_one d message)
+    ap (λ frames. length (ended_lines (canonical_lines settings n frames))) (frames_of_one MESSAGE_LIMIT d message)
     ∙ lines_length settings n (canonical_frames MESSAGE_LIMIT d message) (canonical_frames_are_full MESSAGE_LIMIT d message (omega arith) bytes)
     ∙ is
 
-pub length_of_single : (settings : Settings) (d : Dir) (message : List ℕ) (own count : ℕ) → AllByRecursion (λ b. b < 256) message
+pub length_of_single : (settings : Settings) (d : Dir) (message : List ℕ) (own count : ℕ) → AreBytes message
     → 1 ≤ length message → length message ≤ MESSAGE_LIMIT → count ≡ total_count (length message) → count ≡ 1 → own ≡ canonical_length (id_of settings d)
     → HaveLength settings ((d, message) ∷ []) own
 length_of_single settings d message own count bytes some fits total one is =
     length_by_size settings d message own bytes (single_size settings d message own some fits (sym total ∙ one) is)
 
-pub length_of_several : (settings : Settings) (d : Dir) (message : List ℕ) (own other count : ℕ) → AllByRecursion (λ b. b < 256) message
+pub length_of_several : (settings : Settings) (d : Dir) (message : List ℕ) (own other count : ℕ) → AreBytes message
     → 1 ≤ length message → length message ≤ MESSAGE_LIMIT → count ≡ total_count (length message) → count ≢ 1 → own ≡ canonical_length (id_of settings d)
     → other ≡ canonical_length (id_of settings (other_direction d)) → HaveLength settings ((d, message) ∷ []) (own * (count - 1) + other)
 length_of_several settings d message own other count bytes some fits total several is other_is =
@@ -124,7 +114,7 @@ length_of_several settings d message own other count bytes some fits total sever
 pub length_of_none : (settings : Settings) (d : Dir) (message : List ℕ) → canonical_frames MESSAGE_LIMIT d message ≡ [] → HaveLength settings ((d, message) ∷ []) 0
 unfolding canonical_lines
 length_of_none settings d message none = λ n.
-    ap (λ frames. length (ended_lines (canonical_lines settings n frames))) (frames_of_one d message ∙ none)
+    ap (λ frames. length (ended_lines (canonical_lines settings n frames))) (frames_of_one MESSAGE_LIMIT d message ∙ none)
 
 -- messages after messages
 pub lengths_add : (settings : Settings) (one two : List Message) (a b : ℕ) → HaveLength settings one a → HaveLength settings two b → HaveLength settings (one ++ two) (a + b)

@@ -1,4 +1,3 @@
-pub mod ReadsAndWrites
 pub mod Directions
 pub mod Traces
 pub mod CanonicalLogs

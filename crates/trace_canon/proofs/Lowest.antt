@@ -1,15 +1,14 @@
 -- What refuses a log is the first thing that can: told by line numbers alone.
 use Rattle.std.proofs.Common.{◌≡◌, ℕ, ◌+◌, ◌<◌, ◌≤◌, Bool, true, List, [], ◌∷◌, ◌++◌, length, arith, refl, ap, sym, subst, ◌∙◌, Option, Some, inl, inr}
 use Rattle.std.proofs.Common.{append_assoc, length-append}
-use Rattle.std.specs.Prelude.{◌⊎◌}
 use Rattle.std.proofs.lemmas.Bool.{cases_lt}
 use Rattle.can_log.specs.Line.{LineMeans}
 use Rattle.can_log.specs.Log.{log_lines, LinesMean, ended_lines, IsRefusedIn}
 use Rattle.can_log.specs.declared.frame.Stamped.{Stamped}
 use Rattle.can_log.proofs.Promises.{line_means_at_most_one, log_is_legal_or_refused, lines_mean_as_many, lines_mean_in_parts, refused_lines, refused_line_means_nothing}
 use Rattle.trace_canon.specs.Settings.{Settings}
-use Rattle.trace_canon.specs.Refusal.{oversize, announces_within, EachPasses, EachWithin, IsBadLine, IsOversizeLine}
-use Rattle.trace_canon.specs.Laws.{CountsAsBad, CountsAsOversize, BadLineIsLowest, OversizeIsLowest}
+use Rattle.trace_canon.specs.Refusal.{oversize, announces_within, EachPasses, EachWithin, Counts, CountsAsBad, IsBadLine, CountsAsOversize, IsOversizeLine}
+use Rattle.trace_canon.specs.Laws.{BadLineIsLowest, OversizeIsLowest}
 use Rattle.trace_canon.proofs.LogLines.{length-ended_lines}
 use Rattle.trace_canon.proofs.Refusals.{refused_behind, announcing_fails, failing_announces}
 use Rattle.trace_canon.proofs.ScannedLogs.{splits}
@@ -42,25 +41,25 @@ none_over limit settings all meant before text later what announced means each p
 
 behind_bad : (limit : ℕ) (settings : Settings) (log : List ℕ) (line column other announced : ℕ) → IsBadLine limit settings log line column
     → CountsAsOversize limit settings log other announced → line < other
-behind_bad limit settings log line column other announced bad over = elim (cases_lt (length bad.place.lines) (length over.before)) [
-  | inl fewer ↦ (let one = bad.place.at in let two = over.at in omega arith)
+behind_bad limit settings log line column other announced bad over = elim (cases_lt (length bad.found.place.lines) (length over.before)) [
+  | inl fewer ↦ (let one = bad.found.place.at in let two = over.at in omega arith)
   | inr more ↦
-      let both = sym (refused_lines log line column bad.place) ∙ over.parts in
-      let split = splits bad.place.lines (log_lines bad.place.rest) over.before (over.text ∷ over.later) both more in
+      let both = sym (refused_lines log line column bad.found.place) ∙ over.parts in
+      let split = splits bad.found.place.lines (log_lines bad.found.place.rest) over.before (over.text ∷ over.later) both more in
       absurd (inside split.0 split.1 split.2)
 ]
   where
-    inside : (mid : List (List ℕ)) → bad.place.lines ≡ over.before ++ mid → over.text ∷ over.later ≡ mid ++ log_lines bad.place.rest → ⊥
-    inside [] lines_are rest_is = (refused_line_means_nothing bad.place.rest column over.text over.later bad.place.here (sym rest_is)).0 over.what over.means
+    inside : (mid : List (List ℕ)) → bad.found.place.lines ≡ over.before ++ mid → over.text ∷ over.later ≡ mid ++ log_lines bad.found.place.rest → ⊥
+    inside [] lines_are rest_is = (refused_line_means_nothing bad.found.place.rest column over.text over.later bad.found.place.here (sym rest_is)).0 over.what over.means
     inside (first ∷ mid) lines_are rest_is =
         let same : first ≡ over.text = cc in
-        none_over limit settings bad.place.lines bad.place.whats over.before over.text mid over.what announced bad.place.legal bad.within
+        none_over limit settings bad.found.place.lines bad.found.place.whats over.before over.text mid over.what announced bad.found.place.legal bad.within
         (lines_are ∙ ap (λ x. over.before ++ x ∷ mid) same) over.means over.announces
 
 -- the first line that announces too much counts, where a later one or the refused place behind it does
 first_counts : (limit : ℕ) (settings : Settings) (log : List ℕ) (lines more : List (List ℕ)) (bytes : ℕ) (found : FailsFirst (announces_within limit settings) lines)
     (announced : ℕ) → oversize limit settings found.what ≡ Some announced → log_lines log ≡ lines ++ more → length (ended_lines lines) ≤ bytes
-    → (bytes ≤ settings.max_bytes) ⊎ (length log ≤ settings.max_bytes) → CountsAsOversize limit settings log (length found.front + 1) announced
+    → Counts bytes settings log → CountsAsOversize limit settings log (length found.front + 1) announced
 first_counts limit settings log lines more bytes found announced is parts few counts = record {
   before = found.front;
   text = found.text;
@@ -73,8 +72,8 @@ first_counts limit settings log lines more bytes found announced is parts few co
   counts = counted counts;
 }
   where
-    counted : (bytes ≤ settings.max_bytes) ⊎ (length log ≤ settings.max_bytes)
-        → (length (ended_lines (found.front ++ found.text ∷ [])) ≤ settings.max_bytes) ⊎ (length log ≤ settings.max_bytes)
+    counted : Counts bytes settings log
+        → Counts (length (ended_lines (found.front ++ found.text ∷ []))) settings log
     counted (inr short) = inr short
     counted (inl within) =
         let all = ap (λ x. length (ended_lines x)) (found.parts ∙ sym (append_assoc found.front (found.text ∷ []) found.later)) in
@@ -89,7 +88,7 @@ first_is_early passes lines found =
 
 bad_is_first : (limit : ℕ) (settings : Settings) (log : List ℕ) (line column : ℕ) (bad : CountsAsBad settings log line column)
     → ((other announced : ℕ) → CountsAsOversize limit settings log other announced → line < other) → IsBadLine limit settings log line column
-bad_is_first limit settings log line column bad lowest = record { place = bad.place; counts = bad.counts; within = within }
+bad_is_first limit settings log line column bad lowest = record { found = bad; within = within }
   where
     within : EachWithin limit settings bad.place.whats
     within = elim (all_or_first (announces_within limit settings) bad.place.lines bad.place.whats bad.place.legal) [
@@ -106,7 +105,7 @@ bad_is_first limit settings log line column bad lowest = record { place = bad.pl
 
 pub bad_line_is_lowest : BadLineIsLowest
 bad_line_is_lowest limit settings log line column = (
-  λ bad. (record { place = bad.place; counts = bad.counts }, λ other announced over. behind_bad limit settings log line column other announced bad over),
+  λ bad. (bad.found, λ other announced over. behind_bad limit settings log line column other announced bad over),
   λ both. bad_is_first limit settings log line column both.0 both.1,
 )
 
@@ -115,30 +114,30 @@ bad_line_is_lowest limit settings log line column = (
 bad_behind_over : (limit : ℕ) (settings : Settings) (log : List ℕ) (line announced other column : ℕ) → IsOversizeLine limit settings log line announced
     → CountsAsBad settings log other column → line < other
 bad_behind_over limit settings log line announced other column over bad =
-    let parts = sym (refused_lines log other column bad.place) ∙ over.parts in
-    let begins = refused_behind bad.place.lines bad.place.whats bad.place.rest column over.lines over.text over.later over.whats over.what
-    bad.place.legal bad.place.here parts over.legal over.means in
-    let long = ap length begins.1 ∙ length-append over.whats (over.what ∷ begins.0) in
+    let parts = sym (refused_lines log other column bad.place) ∙ over.found.parts in
+    let begins = refused_behind bad.place.lines bad.place.whats bad.place.rest column over.found.before over.found.text over.found.later over.whats over.found.what
+    bad.place.legal bad.place.here parts over.legal over.found.means in
+    let long = ap length begins.1 ∙ length-append over.whats (over.found.what ∷ begins.0) in
     let as_many = lines_mean_as_many bad.place.lines bad.place.whats bad.place.legal in
-    let too = lines_mean_as_many over.lines over.whats over.legal in
-    let one = over.at in
+    let too = lines_mean_as_many over.found.before over.whats over.legal in
+    let one = over.found.at in
     let two = bad.place.at in
     omega arith
 
 over_behind_over : (limit : ℕ) (settings : Settings) (log : List ℕ) (line announced other more : ℕ) → IsOversizeLine limit settings log line announced
     → CountsAsOversize limit settings log other more → line ≤ other
-over_behind_over limit settings log line announced other more over too = elim (cases_lt (length too.before) (length over.lines)) [
-  | inr later ↦ (let one = over.at in let two = too.at in omega arith)
+over_behind_over limit settings log line announced other more over too = elim (cases_lt (length too.before) (length over.found.before)) [
+  | inr later ↦ (let one = over.found.at in let two = too.at in omega arith)
   | inl fewer ↦
-      let split = splits over.lines (over.text ∷ over.later) too.before (too.text ∷ too.later) (sym over.parts ∙ too.parts) (omega arith) in
+      let split = splits over.found.before (over.found.text ∷ over.found.later) too.before (too.text ∷ too.later) (sym over.found.parts ∙ too.parts) (omega arith) in
       absurd (inside fewer split.0 split.1 split.2)
 ]
   where
-    inside : length too.before < length over.lines → (mid : List (List ℕ)) → over.lines ≡ too.before ++ mid → too.text ∷ too.later ≡ mid ++ over.text ∷ over.later → ⊥
+    inside : length too.before < length over.found.before → (mid : List (List ℕ)) → over.found.before ≡ too.before ++ mid → too.text ∷ too.later ≡ mid ++ over.found.text ∷ over.found.later → ⊥
     inside fewer [] lines_are rest_is = let all = ap length lines_are ∙ length-append too.before [] in absurd (omega arith)
     inside fewer (first ∷ mid) lines_are rest_is =
         let same : first ≡ too.text = cc in
-        none_over limit settings over.lines over.whats too.before too.text mid too.what more over.legal over.within
+        none_over limit settings over.found.before over.whats too.before too.text mid too.what more over.legal over.within
         (lines_are ∙ ap (λ x. too.before ++ x ∷ mid) same) too.means too.announces
 
 module _ (limit : ℕ) (settings : Settings) (log : List ℕ) (line announced : ℕ) (over : CountsAsOversize limit settings log line announced)
@@ -148,20 +147,7 @@ module _ (limit : ℕ) (settings : Settings) (log : List ℕ) (line announced : 
   lines_long = length-ended_lines over.before (over.text ∷ [])
 
   over_is_first : (whats : List (Option Stamped)) → LinesMean over.before whats → IsOversizeLine limit settings log line announced
-  over_is_first whats legal = record {
-    lines = over.before;
-    whats = whats;
-    text = over.text;
-    what = over.what;
-    later = over.later;
-    parts = over.parts;
-    at = over.at;
-    legal = legal;
-    within = within;
-    means = over.means;
-    announces = over.announces;
-    counts = over.counts;
-  }
+  over_is_first whats legal = record { found = over; whats = whats; legal = legal; within = within }
     where
       within : EachWithin limit settings whats
       within = elim (all_or_first (announces_within limit settings) over.before whats legal) [
@@ -178,8 +164,8 @@ module _ (limit : ℕ) (settings : Settings) (log : List ℕ) (line announced : 
 
   -- a refused place in a line before it counts
   place_counts : (other column : ℕ) (place : IsRefusedIn log other column) (first : List ℕ) (mid : List (List ℕ)) → over.before ≡ place.lines ++ first ∷ mid
-      → column ≤ length first + 1 → (length (ended_lines (over.before ++ over.text ∷ [])) ≤ settings.max_bytes) ⊎ (length log ≤ settings.max_bytes)
-      → (length (ended_lines place.lines) + column ≤ settings.max_bytes) ⊎ (length log ≤ settings.max_bytes)
+      → column ≤ length first + 1 → Counts (length (ended_lines (over.before ++ over.text ∷ []))) settings log
+      → Counts (length (ended_lines place.lines) + column) settings log
   place_counts other column place first mid lines_are few (inr short) = inr short
   place_counts other column place first mid lines_are few (inl within) =
       let all = ap (λ x. length (ended_lines x)) lines_are in
@@ -223,17 +209,7 @@ module _ (limit : ℕ) (settings : Settings) (log : List ℕ) (line announced : 
 pub oversize_is_lowest : OversizeIsLowest
 oversize_is_lowest limit settings log line announced = (
   λ over. (
-    record {
-      before = over.lines;
-      text = over.text;
-      what = over.what;
-      later = over.later;
-      parts = over.parts;
-      at = over.at;
-      means = over.means;
-      announces = over.announces;
-      counts = over.counts;
-    },
+    over.found,
     λ other column bad. bad_behind_over limit settings log line announced other column over bad,
     λ other more too. over_behind_over limit settings log line announced other more over too,
   ),

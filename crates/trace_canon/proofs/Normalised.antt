@@ -1,5 +1,6 @@
 -- What a run answers where it ends with a fault of the lines, from what its parts have promised.
-use Rattle.std.proofs.Common.{◌≡◌, Bool, true, ℕ, ◌≤◌, List, [], ◌∷◌, ◌++◌, length, take, drop, arith, refl, ap, sym, subst, ◌∙◌, ◌⊎◌, inl, inr, Option, Some, None, Result, Ok, Err, ◌^◌, append-nil, append_assoc, length-append, length-take}
+use Rattle.std.proofs.Common.{◌≡◌, Bool, true, ℕ, ◌≤◌, List, [], ◌∷◌, ◌++◌, length, take, drop, arith, refl, ap, sym, subst, ◌∙◌, ◌⊎◌}
+use Rattle.std.proofs.Common.{inl, inr, Option, Some, None, Result, Ok, Err, ◌^◌, append-nil, append_assoc, length-append, length-take}
 use Rattle.std.specs.Prelude.{is_none, min}
 use Rattle.std.specs.List.{AllByRecursion}
 use Rattle.std.proofs.lemmas.List.{take-append-drop, length-take-le}
@@ -44,7 +45,8 @@ use Rattle.trace_canon.specs.Failing.{FailedIf}
 use Rattle.trace_canon.specs.TextSeen.{writer_of}
 use Rattle.trace_canon.specs.declared.ordering.Ordering.{Ordering}
 use Rattle.uds_exchange.specs.Meaning.{meaning, flattened}
-use Rattle.trace_canon.proofs.Answered.{answers_bad, answers_oversize, answers_oversize_last, answers_limit, answers_read, HaveCome, taken_have_come, all_have_come, writes_front, writes_front_at_end, writes_eagerly, answers_accepted, answers_output_limit}
+use Rattle.trace_canon.proofs.Answered.{answers_bad, answers_oversize, answers_oversize_last, answers_limit, answers_read, HaveCome, taken_have_come}
+use Rattle.trace_canon.proofs.Answered.{all_have_come, writes_front, writes_front_at_end, writes_eagerly, answers_accepted, answers_output_limit}
 use Rattle.trace_canon.proofs.Finished.{text_is_fitting, each_within, oversize_of_one}
 use Rattle.trace_canon.proofs.Receivings.{trace_next}
 use Rattle.trace_canon.proofs.Runs.{TookEvents, StoppedOnEvent}

@@ -1,29 +1,15 @@
 -- One more frame of a trace, or one more line: the messages with it, and what it announces.
-use Rattle.std.proofs.Common.{◌≡◌, ℕ, List, [], ◌∷◌, ◌++◌, refl, ap, sym, ◌∙◌, Some, None, append-nil}
+use Rattle.std.proofs.Common.{◌≡◌, ℕ, List, [], ◌∷◌, ◌++◌, refl, ap, ◌∙◌, Some, None, append-nil}
 use Rattle.can_log.specs.declared.frame.Stamped.{Stamped}
-use Rattle.isotp_pdu.specs.Reading.{layout_of}
 use Rattle.isotp_receive.specs.Trace.{Entry}
-use Rattle.isotp_receive.specs.Verdict.{VerdictValue, message, began, stored, flowed, dropped, told_message, messages, verdict}
-use Rattle.isotp_receive.specs.CleanTrace.{IsKept}
-use Rattle.isotp_receive.specs.Events.{oversize_in, too_long_in}
-use Rattle.isotp_receive.proofs.Promises.{messages_go_on, too_long_is_announced}
+use Rattle.isotp_receive.specs.Verdict.{told_message, messages, verdict}
+use Rattle.isotp_receive.proofs.Promises.{messages_go_on}
 use Rattle.trace_canon.specs.Settings.{Settings, direction_of}
 use Rattle.trace_canon.specs.Refusal.{oversize}
 
 pub messages_more : (limit : ℕ) (T : List Entry) (e : Entry) → messages limit (T ++ e ∷ []) ≡ messages limit T ++ told_message e.dir (verdict limit T e).told
 messages_more limit T e =
     messages_go_on limit T (e ∷ []) ∙ ap (λ x. messages limit T ++ x) (append-nil (told_message e.dir (verdict limit T e).told))
-
--- a frame that is not dropped announces nothing above the limit
-kept_is_short : (told : VerdictValue) → IsKept told → too_long_in told ≡ None
-kept_is_short (message bytes) kept = refl
-kept_is_short began kept = refl
-kept_is_short stored kept = refl
-kept_is_short flowed kept = refl
-kept_is_short (dropped reason) kept = absurd kept
-
-pub kept_is_within : (limit : ℕ) (past : List Entry) (e : Entry) → IsKept (verdict limit past e).told → oversize_in limit (layout_of e.frame) ≡ None
-kept_is_within limit past e kept = sym (too_long_is_announced limit past e) ∙ kept_is_short (verdict limit past e).told kept
 
 -- a blank line announces nothing, and neither does a foreign frame
 pub oversize_of_blank : (limit : ℕ) (settings : Settings) → oversize limit settings None ≡ None

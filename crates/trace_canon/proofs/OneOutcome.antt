@@ -22,10 +22,10 @@ same_oversize : (limit : ℕ) (settings : Settings) (log : List ℕ) (line other
 same_oversize limit settings log line other announced other_announced one two =
     let same = oversize_is_one limit settings log line other announced other_announced one two in
     let long = ap length same.lines_are in
-    let one_at = one.at in
-    let two_at = two.at in
+    let one_at = one.found.at in
+    let two_at = two.found.at in
     let line_is : line ≡ other = omega arith in
-    let both : Some announced ≡ Some other_announced = sym one.announces ∙ ap (oversize limit settings) same.what_is ∙ two.announces in
+    let both : Some announced ≡ Some other_announced = sym one.found.announces ∙ ap (oversize limit settings) same.what_is ∙ two.found.announces in
     let announced_is : announced ≡ other_announced = cc in
     ap (λ l. oversize_message l announced) line_is ∙ ap (oversize_message other) announced_is
 
@@ -35,7 +35,7 @@ bad_is : (limit : ℕ) (settings : Settings) (log : List ℕ) (line column : ℕ
 bad_is limit settings log line column (Ok accepted) bad is =
     absurd ((whole_is_not_refused limit settings log is.0 is.1).no_bad_line line column bad)
 bad_is limit settings log line column (Err (bad_line other_line other_column)) bad is =
-    let same = refused_place_is_one log other_line other_column line column is.place bad.place in
+    let same = refused_place_is_one log other_line other_column line column is.found.place bad.found.place in
     ap (λ l. Err (bad_line l other_column)) same.0 ∙ ap (λ c. Err (bad_line line c)) same.1
 bad_is limit settings log line column (Err (oversize_message other announced)) bad is =
     absurd (bad_line_alone limit settings log line column other announced bad is)

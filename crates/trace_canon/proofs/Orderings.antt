@@ -3,23 +3,23 @@ use Rattle.std.proofs.Common.{◌≡◌, ℕ, List, [], ◌∷◌, ◌++◌, ref
 use Rattle.std.specs.List.{AllByRecursion}
 use Rattle.can_log.specs.Dir.{Message}
 use Rattle.can_log.specs.declared.frame.Dir.{Dir}
+use Rattle.can_log.proofs.Promises.{AllByRecursion-append}
 use Rattle.isotp_pdu.specs.Reading.{layout_of}
 use Rattle.isotp_receive.specs.declared.TheConstants.{MESSAGE_LIMIT}
 use Rattle.isotp_receive.specs.declared.event.Event.{Event}
 use Rattle.isotp_receive.specs.declared.event.Verdict.TheVariants as as_verdict
 use Rattle.isotp_receive.specs.declared.event.Reason.{Reason}
-use Rattle.isotp_receive.specs.declared.event.Reason.TheVariants as reason
 use Rattle.isotp_receive.specs.CleanTrace.{IsKept}
 use Rattle.isotp_receive.specs.EventSeen.{seen_event, seen_verdict}
 use Rattle.isotp_receive.specs.Trace.{Entry}
 use Rattle.isotp_receive.specs.Verdict.{VerdictValue, message, began, stored, flowed, dropped, messages, told_message, verdict}
-use Rattle.isotp_receive.specs.Events.{oversize_in, too_long_in}
-use Rattle.isotp_receive.proofs.Promises.{too_long_is_announced}
+use Rattle.isotp_receive.specs.Events.{oversize_in, announced_by, too_long_in}
+use Rattle.isotp_receive.proofs.Promises.{too_long_is_announced, kept_is_within}
 use Rattle.uds_exchange.specs.Order.{early}
 use Rattle.uds_exchange.specs.Orderer.{Standing, stands_after}
 use Rattle.trace_canon.specs.declared.ordering.OrderingFault.{OrderingFault}
 use Rattle.trace_canon.specs.declared.ordering.OrderingFault.TheVariants as fault
-use Rattle.trace_canon.specs.Ordering.{announced_by, AnnouncesWithin, Orders, StopsAt}
+use Rattle.trace_canon.specs.Ordering.{AnnouncesWithin, Orders, StopsAt}
 use Rattle.trace_canon.specs.Putting.{Writer, HasPut, HasWrittenAll, HasWrittenSome, Ordered, FailsToOrder}
 use Rattle.trace_canon.proofs.OneMoreFrame.{messages_more}
 
@@ -29,37 +29,20 @@ pub told_by : (event : Event) (T : List Entry) (e : Entry) (told : VerdictValue)
 told_by event T e told is seen = sym (ap (λ v. v.told) seen) ∙ is
 
 -- what it announced
-announced_told : (r : Reason) → too_long_in (dropped r) ≡ announced_by r
-announced_told (reason.TooLong announced) = refl
-announced_told (reason.Pdu fault) = refl
-announced_told reason.FlowUnexpected = refl
-announced_told reason.NextUnexpected = refl
-announced_told reason.NextLate = refl
-announced_told (reason.NextSequence expected found) = refl
-announced_told reason.NextLength = refl
-
 pub announces : (T : List Entry) (e : Entry) (told : VerdictValue) (o : Option ℕ) → (verdict MESSAGE_LIMIT T e).told ≡ told → too_long_in told ≡ o
     → oversize_in MESSAGE_LIMIT (layout_of e.frame) ≡ o
 announces T e told o is too_long = sym (too_long_is_announced MESSAGE_LIMIT T e) ∙ ap too_long_in is ∙ too_long
 
 pub announces_dropped : (T : List Entry) (e : Entry) (r : Reason) (o : Option ℕ) → (verdict MESSAGE_LIMIT T e).told ≡ dropped r → announced_by r ≡ o
     → oversize_in MESSAGE_LIMIT (layout_of e.frame) ≡ o
-announces_dropped T e r o is by = announces T e (dropped r) o is (announced_told r ∙ by)
+announces_dropped T e r o is by = announces T e (dropped r) o is by
 
 -- a frame that is received announces no message above the limit
-received_within : (told : VerdictValue) → IsKept told → too_long_in told ≡ None
-received_within (message bytes) kept = refl
-received_within began kept = refl
-received_within stored kept = refl
-received_within flowed kept = refl
-received_within (dropped r) kept = absurd kept
-
 pub announces_kept : (T : List Entry) (e : Entry) → IsKept (verdict MESSAGE_LIMIT T e).told → AnnouncesWithin e
-announces_kept T e kept = announces T e (verdict MESSAGE_LIMIT T e).told None refl (received_within (verdict MESSAGE_LIMIT T e).told kept)
+announces_kept T e kept = kept_is_within MESSAGE_LIMIT T e kept
 
 pub each_more : (T : List Entry) (e : Entry) → AllByRecursion AnnouncesWithin T → AnnouncesWithin e → AllByRecursion AnnouncesWithin (T ++ e ∷ [])
-each_more [] e each one = (one, tt)
-each_more (x ∷ T) e each one = (each.0, each_more T e each.1 one)
+each_more T e each one = AllByRecursion-append AnnouncesWithin T (e ∷ []) each (one, tt)
 
 -- the messages with the one that a frame completes
 pub message_next : (T : List Entry) (e : Entry) (d : Dir) (bytes : List ℕ) → e.dir ≡ d → (verdict MESSAGE_LIMIT T e).told ≡ message bytes

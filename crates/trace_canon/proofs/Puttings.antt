@@ -13,18 +13,16 @@ use Rattle.uds_exchange.specs.declared.orderer.OrderFault.{OrderFault}
 use Rattle.uds_exchange.specs.declared.orderer.OrderFault.TheVariants as order_fault
 use Rattle.uds_exchange.specs.Sink.{AfterOk, AfterErr, Puts, Fails}
 use Rattle.trace_canon.specs.Writing.{text_from, place_after}
-use Rattle.trace_canon.specs.Putting.{Writer, PutsMessage, WritesLines, FailsToPut, WritesFrontOfLines, HasPut, text_of_put, HasWrittenAll, HasWrittenSome, Ordered, Broke, FailsToOrder, stopped_by, Ended, EndedWrong}
+use Rattle.trace_canon.specs.Putting.{Writer, PutsMessage, WritesLines, FailsToPut, WritesFrontOfLines, HasPut, text_of_put, HasWrittenAll}
+use Rattle.trace_canon.specs.Putting.{HasWrittenSome, Ordered, Broke, FailsToOrder, stopped_by, Ended, EndedWrong}
 use Rattle.trace_canon.proofs.CanonicalWriting.{text_append, place_append}
-use Rattle.trace_canon.proofs.Texts.{all_frames-append}
+use Rattle.trace_canon.proofs.Texts.{frames_of_one, all_frames-append}
 
 -- ---- one message more
 
-frames_of_one : (d : Dir) (message : List ℕ) → all_frames MESSAGE_LIMIT ((d, message) ∷ []) ≡ canonical_frames MESSAGE_LIMIT d message
-frames_of_one d message = append-nil (canonical_frames MESSAGE_LIMIT d message)
-
 frames_more : (put : List Message) (d : Dir) (message : List ℕ)
     → all_frames MESSAGE_LIMIT (put ++ (d, message) ∷ []) ≡ all_frames MESSAGE_LIMIT put ++ canonical_frames MESSAGE_LIMIT d message
-frames_more put d message = all_frames-append MESSAGE_LIMIT put ((d, message) ∷ []) ∙ ap (λ x. all_frames MESSAGE_LIMIT put ++ x) (frames_of_one d message)
+frames_more put d message = all_frames-append MESSAGE_LIMIT put ((d, message) ∷ []) ∙ ap (λ x. all_frames MESSAGE_LIMIT put ++ x) (frames_of_one MESSAGE_LIMIT d message)
 
 -- where the text stands behind messages and one more
 place_more : (first : Writer) (put : List Message) (frames : List (Dir × List ℕ)) (old : Writer) → HasPut first put old

@@ -9,27 +9,26 @@ use Rattle.trace_canon.specs.Answers.{Answers}
 use Rattle.std.specs.Prelude.{◌&&◌, is_none}
 use Rattle.std.specs.List.{AllByRecursion, list_all}
 use Rattle.std.proofs.lemmas.Bool.{le-leb, leb-true, and_parts}
-use Rattle.can_log.specs.Canonical.{IsSpellable, canonical_stamped, canonical_line, canonical_length}
+use Rattle.can_log.specs.Canonical.{canonical_stamped, canonical_line, canonical_length}
 use Rattle.can_log.specs.Dir.{Message}
+use Rattle.can_log.specs.Frame.{AreBytes, IsCanIdentifier}
 use Rattle.can_log.specs.Log.{log_lines, LinesMean, LogMeans, ended_lines}
 use Rattle.can_log.specs.declared.frame.Dir.{Dir}
 use Rattle.can_log.specs.declared.frame.Dir.TheVariants as dir
-use Rattle.can_log.specs.declared.frame.Id.{Id}
-use Rattle.can_log.specs.declared.frame.Id.TheVariants as id
 use Rattle.can_log.specs.declared.frame.Stamped.{Stamped}
-use Rattle.can_log.proofs.EachElement.{AllByRecursion-append, AllByRecursion-tested, AllByRecursion-weaker}
+use Rattle.can_log.proofs.Promises.{AllByRecursion-append, AllByRecursion-tested, AllByRecursion-weaker}
 use Rattle.can_log.proofs.Promises.{canonical_line_means, canonical_line_length, log_means_at_most_one, lines_are_log}
 use Rattle.isotp_receive.specs.CleanTrace.{IsClean, EachClean}
 use Rattle.isotp_receive.specs.Trace.{Entry}
 use Rattle.isotp_receive.specs.Verdict.{messages}
-use Rattle.isotp_receive.proofs.Promises.{recording_delivers, clean_trace_is_a_recording, clean_is_counted}
+use Rattle.isotp_receive.proofs.Promises.{recording_delivers, clean_trace_is_a_recording, kept_is_within, clean_is_counted}
 use Rattle.isotp_segment.specs.CanonicalFrames.{canonical_frames}
 use Rattle.isotp_segment.specs.Laws.{IsFullFrame}
 use Rattle.isotp_segment.specs.Timed.{timed, HasFrames, all_frames}
 use Rattle.isotp_segment.proofs.Promises.{canonical_frames_are_full, canonical_frames_are_a_recording, canonical_frames_are_clean}
 use Rattle.uds_exchange.specs.Meaning.{ItemValue, meaning, flattened, removed_messages}
 use Rattle.uds_exchange.proofs.Promises.{meaning_is_kept, none_is_lost, none_is_made_up}
-use Rattle.trace_canon.specs.Settings.{Settings, IsConfigurable, AreSettings, id_of}
+use Rattle.trace_canon.specs.Settings.{Settings, AreSettings, id_of}
 use Rattle.trace_canon.specs.Trace.{trace_from, trace}
 use Rattle.trace_canon.specs.Messages.{messages_of_lines, meaning_of_lines, HasMeaning}
 use Rattle.trace_canon.specs.CanonicalLog.{canonical_lines, lines_size, log_of_frames, canonical_log, canonical_log_of_lines}
@@ -40,19 +39,14 @@ use Rattle.trace_canon.specs.Laws.{Records, Certifies, IsMessageLimit, IsCleanSu
 use Rattle.trace_canon.specs.Laws.{CanonicalLogLength, CanonicalLogLengthBySides, CleanSummaryIsCertificate, SummaryCertifies, PendingAreTheRest}
 use Rattle.trace_canon.proofs.Directions.{direction_of_id}
 use Rattle.trace_canon.proofs.LogLines.{lines_are_few}
-use Rattle.trace_canon.proofs.Sendable.{AreBytes, IsSendable, messages_sendable, trace_of_bytes}
-use Rattle.trace_canon.proofs.OneMoreFrame.{kept_is_within}
+use Rattle.trace_canon.proofs.Sendable.{IsSendable, messages_sendable, trace_of_bytes}
 
 -- ---- the lines of a canonical log
 
--- a line can spell each identifier
-is_spellable : (identifier : Id) → IsConfigurable identifier → IsSpellable identifier
-is_spellable (id.Std number) is = is
-is_spellable (id.Ext number) is = is
-
-spellable : (settings : Settings) (d : Dir) → AreSettings settings → IsSpellable (id_of settings d)
-spellable settings dir.Tester are = is_spellable settings.tester are.tester
-spellable settings dir.Unit are = is_spellable settings.unit are.unit
+-- a line can spell the identifier of each side
+spellable : (settings : Settings) (d : Dir) → AreSettings settings → IsCanIdentifier (id_of settings d)
+spellable settings dir.Tester are = are.tester
+spellable settings dir.Unit are = are.unit
 
 -- what the line of a frame means
 abbrev stamped_at : Settings → ℕ → Dir × List ℕ → Stamped
@@ -240,7 +234,7 @@ text_of_meaning limit settings log accepted items is has =
     is.2.spelled ∙ ap (canonical_log_of_lines limit settings) same ∙ ap (λ x. canonical_log limit settings (flattened x)) (sym has.found)
 
 -- a log has one meaning
-one_meaning : (limit : ℕ) (settings : Settings) (log : List ℕ) (items others : List ItemValue) → HasMeaning limit settings log items
+pub one_meaning : (limit : ℕ) (settings : Settings) (log : List ℕ) (items others : List ItemValue) → HasMeaning limit settings log items
     → HasMeaning limit settings log others → items ≡ others
 one_meaning limit settings log items others is other =
     is.found ∙ ap (meaning_of_lines limit settings) (log_means_at_most_one log is.whats other.whats is.means other.means) ∙ sym other.found

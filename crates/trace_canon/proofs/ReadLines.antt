@@ -4,12 +4,11 @@ use Rattle.std.proofs.Common.{append-nil, append_assoc, length-append}
 use Rattle.std.specs.Prelude.{◌⊎◌}
 use Rattle.std.proofs.lemmas.Bool.{cases_lt, cases_Bool}
 use Rattle.can_log.specs.Line.{LineMeans}
-use Rattle.can_log.specs.Log.{log_lines, LinesMean, ended_lines, IsRefusedIn}
+use Rattle.can_log.specs.Log.{log_lines, LinesMean, LogMeans, ended_lines, IsRefusedIn}
 use Rattle.can_log.specs.Scanning.{Standing}
 use Rattle.can_log.specs.WholeLog.{StandsAfter}
 use Rattle.can_log.specs.declared.frame.Stamped.{Stamped}
-use Rattle.can_log.proofs.EachElement.{AllByRecursion-append}
-use Rattle.can_log.proofs.Promises.{line_means_at_most_one, line_means_or_nothing, completable_has_no_line_feed, lines_have_no_line_feed, log_lines_go_on}
+use Rattle.can_log.proofs.Promises.{AllByRecursion-append, line_means_at_most_one, line_means_or_nothing, completable_has_no_line_feed, lines_have_no_line_feed, log_lines_go_on}
 use Rattle.can_log.proofs.Promises.{lines_mean_one_more, refused_lines, refused_line_means_nothing}
 use Rattle.trace_canon.specs.Refusal.{EachPasses}
 use Rattle.trace_canon.specs.LinesRead.{AreGiven, EndsBefore, AreLinesRead}
@@ -165,6 +164,19 @@ next_ends_behind front rest line later whats standing stands is =
     let one_long = length-append (line ++ 10 ∷ []) [] in
     let feed_long = length-append line (10 ∷ []) in
     omega arith
+
+-- all lines of a log that was given whole
+pub all_lines_read : (passes : Option Stamped → Bool) (with_last : Bool) (count : ℕ) (log : List ℕ) (whats : List (Option Stamped)) → LogMeans log whats
+    → EachPasses passes whats → with_last ≡ true → length log ≤ count → AreLinesRead passes with_last count log whats
+all_lines_read passes with_last count log whats means each last few = record {
+  lines = log_lines log;
+  later = [];
+  parts = sym (append-nil (log_lines log));
+  means = means;
+  each = each;
+  given = inr (last, few);
+  ends = tt;
+}
 
 -- so the lines that it has taken are those that were given with these bytes
 pub stands_read : (passes : Option Stamped → Bool) (with_last : Bool) (count : ℕ) (log front rest : List ℕ) (whats : List (Option Stamped)) (standing : Standing)

@@ -20,7 +20,7 @@ use Rattle.trace_canon.proofs.OneMoreFrame.{messages_more}
 
 -- ---- counts
 
-abbrev one_if : Bool → ℕ
+abbrev pub one_if : Bool → ℕ
 one_if true = 1
 one_if false = 0
 
@@ -42,7 +42,7 @@ told_count d stored = refl
 told_count d flowed = refl
 told_count d (dropped reason) = refl
 
-more_exactly : (b : Bool) (n : ℕ) → n < 2 ^ 62 → more_if b n ≡ n + one_if b
+pub more_exactly : (b : Bool) (n : ℕ) → n < 2 ^ 62 → more_if b n ≡ n + one_if b
 more_exactly true n small = omega arith
 more_exactly false n small = omega arith
 

@@ -92,21 +92,21 @@ failing_announces limit settings what fails = go (oversize limit settings what) 
 pub bad_line_alone : (limit : ℕ) (settings : Settings) (log : List ℕ) (line column other announced : ℕ) → IsBadLine limit settings log line column
     → IsOversizeLine limit settings log other announced → ⊥
 bad_line_alone limit settings log line column other announced bad over =
-    let parts = sym (refused_lines log line column bad.place) ∙ over.parts in
-    let begins = refused_behind bad.place.lines bad.place.whats bad.place.rest column over.lines over.text over.later over.whats over.what
-    bad.place.legal bad.place.here parts over.legal over.means in
-    fails_within (announces_within limit settings) bad.place.whats over.whats over.what bad.within begins
-    (announcing_fails limit settings over.what announced over.announces)
+    let parts = sym (refused_lines log line column bad.found.place) ∙ over.found.parts in
+    let begins = refused_behind bad.found.place.lines bad.found.place.whats bad.found.place.rest column over.found.before over.found.text over.found.later over.whats over.found.what
+    bad.found.place.legal bad.found.place.here parts over.legal over.found.means in
+    fails_within (announces_within limit settings) bad.found.place.whats over.whats over.found.what bad.within begins
+    (announcing_fails limit settings over.found.what announced over.found.announces)
 
 -- a legal log in which no line announces too much is not refused
 pub legal_is_not_refused : (limit : ℕ) (settings : Settings) (log : List ℕ) (whats : List (Option Stamped)) → LogMeans log whats
     → EachWithin limit settings whats → IsNotRefused limit settings log
 legal_is_not_refused limit settings log whats means each = record {
-  no_bad_line = λ line column bad. refused_log_means_nothing log line column whats bad.place means;
+  no_bad_line = λ line column bad. refused_log_means_nothing log line column whats bad.found.place means;
   no_oversize = λ line announced over.
-      fails_within (announces_within limit settings) whats over.whats over.what each
-      (means_before (log_lines log) over.lines over.text over.later whats over.whats over.what means over.parts over.legal over.means)
-      (announcing_fails limit settings over.what announced over.announces);
+      fails_within (announces_within limit settings) whats over.whats over.found.what each
+      (means_before (log_lines log) over.found.before over.found.text over.found.later whats over.whats over.found.what means over.found.parts over.legal over.found.means)
+      (announcing_fails limit settings over.found.what announced over.found.announces);
 }
 
 -- two lines that announce too much, each behind lines that don't, are the same line
@@ -141,7 +141,8 @@ same_line passes (line ∷ lines) (first ∷ other_lines) text other_text later 
     absurd legal
 same_line passes (line ∷ lines) (first ∷ other_lines) text other_text later other_later (one ∷ whats) [] what other parts legal each means fails other_legal other_each other_means other_fails =
     absurd other_legal
-same_line passes (line ∷ lines) (first ∷ other_lines) text other_text later other_later (one ∷ whats) (two ∷ other_whats) what other parts legal each means fails other_legal other_each other_means other_fails =
+same_line passes (line ∷ lines) (first ∷ other_lines) text other_text later other_later (one ∷ whats) (two ∷ other_whats) what other
+    parts legal each means fails other_legal other_each other_means other_fails =
     let first_is : line ≡ first = cc in
     let rest : lines ++ text ∷ later ≡ other_lines ++ other_text ∷ other_later = cc in
     let again = same_line passes lines other_lines text other_text later other_later whats other_whats what other rest legal.1 each.1 means fails other_legal.1 other_each.1 other_means other_fails in
@@ -153,8 +154,10 @@ same_line passes (line ∷ lines) (first ∷ other_lines) text other_text later 
 
 pub oversize_is_one : (limit : ℕ) (settings : Settings) (log : List ℕ) (line other announced other_announced : ℕ)
     (one : IsOversizeLine limit settings log line announced) (two : IsOversizeLine limit settings log other other_announced)
-    → IsSameLine one.lines two.lines one.text two.text one.what two.what
+    → IsSameLine one.found.before two.found.before one.found.text two.found.text one.found.what two.found.what
 oversize_is_one limit settings log line other announced other_announced one two =
-    same_line (announces_within limit settings) one.lines two.lines one.text two.text one.later two.later one.whats two.whats one.what two.what
-    (sym one.parts ∙ two.parts) one.legal one.within one.means (announcing_fails limit settings one.what announced one.announces)
-    two.legal two.within two.means (announcing_fails limit settings two.what other_announced two.announces)
+    let a = one.found in
+    let b = two.found in
+    same_line (announces_within limit settings) a.before b.before a.text b.text a.later b.later one.whats two.whats a.what b.what
+    (sym a.parts ∙ b.parts) one.legal one.within a.means (announcing_fails limit settings a.what announced a.announces)
+    two.legal two.within b.means (announcing_fails limit settings b.what other_announced b.announces)

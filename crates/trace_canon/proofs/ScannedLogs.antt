@@ -9,10 +9,9 @@ use Rattle.can_log.specs.Refused.{IsRefusedPlace, IsUnfinishedAt}
 use Rattle.can_log.specs.Scanning.{Standing}
 use Rattle.can_log.specs.WholeLog.{StandsAfter}
 use Rattle.can_log.specs.declared.frame.Stamped.{Stamped}
-use Rattle.can_log.specs.declared.scanner.Scan.TheVariants as scan
 use Rattle.can_log.proofs.Promises.{refused_log_means_nothing, lines_mean_as_many, lines_mean_one_more, lines_are_log}
 use Rattle.trace_canon.specs.Settings.{Settings}
-use Rattle.trace_canon.specs.Refusal.{oversize, announces_within, EachPasses, EachWithin, IsBadLine, IsOversizeLine, IsNotRefused}
+use Rattle.trace_canon.specs.Refusal.{oversize, announces_within, EachPasses, EachWithin, Counts, CountsAsBad, IsBadLine, IsOversizeLine, IsNotRefused}
 use Rattle.trace_canon.specs.LinesRead.{AreLinesRead}
 use Rattle.trace_canon.proofs.LogLines.{ended_log_lines, length-ended_lines}
 use Rattle.trace_canon.proofs.Refusals.{means_before, fails_within, announcing_fails}
@@ -27,18 +26,20 @@ pub record IsBadBehind (log : List ℕ) (line column : ℕ) (whats : List (Optio
   pub before : length (ended_lines place.lines) ≤ bytes
   pub within : (length (ended_lines place.lines) + column ≤ bytes) ⊎ (length log ≤ bytes)
 
-pub bad_line : (limit : ℕ) (settings : Settings) (log : List ℕ) (line column : ℕ) (whats : List (Option Stamped)) (bytes : ℕ) → IsBadBehind log line column whats bytes
-    → bytes ≤ settings.max_bytes → EachWithin limit settings whats → IsBadLine limit settings log line column
-bad_line limit settings log line column whats bytes bad few each = record {
-  place = bad.place;
-  counts = counts bad.within;
-  within = subst (EachWithin limit settings) (sym bad.behind) each;
-}
+-- so it counts where these are no more than the limit, and refuses the log where no line before it announces too much
+pub bad_counts : (settings : Settings) (log : List ℕ) (line column : ℕ) (whats : List (Option Stamped)) (bytes : ℕ) → IsBadBehind log line column whats bytes
+    → bytes ≤ settings.max_bytes → CountsAsBad settings log line column
+bad_counts settings log line column whats bytes bad few = record { place = bad.place; counts = counts bad.within }
   where
-    counts : (length (ended_lines bad.place.lines) + column ≤ bytes) ⊎ (length log ≤ bytes)
-        → (length (ended_lines bad.place.lines) + column ≤ settings.max_bytes) ⊎ (length log ≤ settings.max_bytes)
+    counts : (length (ended_lines bad.place.lines) + column ≤ bytes) ⊎ (length log ≤ bytes) → Counts (length (ended_lines bad.place.lines) + column) settings log
     counts (inl place) = inl (omega arith)
     counts (inr short) = inr (omega arith)
+
+pub bad_line : (limit : ℕ) (settings : Settings) (log : List ℕ) (line column : ℕ) (whats : List (Option Stamped)) (bytes : ℕ) → IsBadBehind log line column whats bytes
+    → bytes ≤ settings.max_bytes → EachWithin limit settings whats → IsBadLine limit settings log line column
+unfolding bad_counts
+bad_line limit settings log line column whats bytes bad few each =
+    record { found = bad_counts settings log line column whats bytes bad few; within = subst (EachWithin limit settings) (sym bad.behind) each }
 
 -- the lines before it were read
 pub read_before_place : (passes : Option Stamped → Bool) (with_last : Bool) (count : ℕ) (log : List ℕ) (line column : ℕ) (whats : List (Option Stamped)) (bytes : ℕ)
@@ -54,7 +55,7 @@ read_before_place passes with_last count log line column whats bytes bad few eac
 pub record IsOversizeBehind (limit : ℕ) (settings : Settings) (log : List ℕ) (line announced : ℕ) (whats : List (Option Stamped)) (bytes : ℕ) : Type 0 where
   pub over : IsOversizeLine limit settings log line announced
   pub behind : over.whats ≡ whats
-  pub before : length (ended_lines over.lines) ≤ bytes
+  pub before : length (ended_lines over.found.before) ≤ bytes
 
 -- a line that ended announces too much: the scanner has taken it, and stands behind these bytes
 pub oversize_taken : (limit : ℕ) (settings : Settings) (log front rest : List ℕ) (whats : List (Option Stamped)) (what : Option Stamped) (standing : Standing)
@@ -69,19 +70,21 @@ oversize_taken limit settings log front rest whats what standing line announced 
     let all_long = length-ended_lines ends.0 (ends.1 ∷ []) in
     record {
       over = record {
-        lines = ends.0;
+        found = record {
+          before = ends.0;
+          text = ends.1;
+          what = what;
+          later = log_lines (standing.line ++ rest);
+          parts = stands_lines log front rest (whats ++ what ∷ []) standing stands parts ∙ ap (λ x. x ++ log_lines (standing.line ++ rest)) ends.2
+              ∙ append_assoc ends.0 (ends.1 ∷ []) (log_lines (standing.line ++ rest));
+          at = omega arith;
+          means = ends.4;
+          announces = announces;
+          counts = inl (omega arith);
+        };
         whats = whats;
-        text = ends.1;
-        what = what;
-        later = log_lines (standing.line ++ rest);
-        parts = stands_lines log front rest (whats ++ what ∷ []) standing stands parts ∙ ap (λ x. x ++ log_lines (standing.line ++ rest)) ends.2
-            ∙ append_assoc ends.0 (ends.1 ∷ []) (log_lines (standing.line ++ rest));
-        at = omega arith;
         legal = ends.3;
         within = each;
-        means = ends.4;
-        announces = announces;
-        counts = inl (omega arith);
       };
       behind = refl;
       before = omega arith;
@@ -106,18 +109,20 @@ oversize_last limit settings log whats what line announced means short at each a
     let as_many = lines_mean_as_many ends.0 whats ends.3 in
     record {
       over = record {
-        lines = ends.0;
+        found = record {
+          before = ends.0;
+          text = ends.1;
+          what = what;
+          later = [];
+          parts = ends.2;
+          at = omega arith;
+          means = ends.4;
+          announces = announces;
+          counts = inr short;
+        };
         whats = whats;
-        text = ends.1;
-        what = what;
-        later = [];
-        parts = ends.2;
-        at = omega arith;
         legal = ends.3;
         within = each;
-        means = ends.4;
-        announces = announces;
-        counts = inr short;
       };
       behind = refl;
       before = lines_before_last log ends.0 ends.1 ends.2;
@@ -128,11 +133,11 @@ pub read_before_oversize : (limit : ℕ) (settings : Settings) (with_last : Bool
     (bytes : ℕ) → IsOversizeBehind limit settings log line announced whats bytes → bytes ≤ count
     → AreLinesRead (announces_within limit settings) with_last count log whats
 read_before_oversize limit settings with_last count log line announced whats bytes found few =
-    let over = found.over in
+    let over = found.over.found in
     let before = found.before in
     subst (AreLinesRead (announces_within limit settings) with_last count log) found.behind
-    (read_before_failing (announces_within limit settings) with_last count log over.lines over.whats over.text over.what over.later over.parts over.legal
-    over.within over.means (announcing_fails limit settings over.what announced over.announces) (omega arith))
+    (read_before_failing (announces_within limit settings) with_last count log over.before found.over.whats over.text over.what over.later over.parts found.over.legal
+    found.over.within over.means (announcing_fails limit settings over.what announced over.announces) (omega arith))
 
 -- ---- a log that is longer than the limit
 
@@ -229,62 +234,66 @@ none_taken log front rest whats standing line column stands parts place within =
 -- a line that announces too much is none of those that it has taken
 none_announces : (limit : ℕ) (settings : Settings) (log front rest : List ℕ) (whats : List (Option Stamped)) (standing : Standing) (line announced : ℕ)
     → StandsAfter front whats standing → log ≡ front ++ rest → EachWithin limit settings whats → (over : IsOversizeLine limit settings log line announced)
-    → length front < length (ended_lines (over.lines ++ over.text ∷ []))
-none_announces limit settings log front rest whats standing line announced stands parts each over = elim (cases_lt (length over.lines) (length stands.lines)) [
+    → length front < length (ended_lines (over.found.before ++ over.found.text ∷ []))
+none_announces limit settings log front rest whats standing line announced stands parts each over = elim (cases_lt (length over.found.before) (length stands.lines)) [
   | inl fewer ↦ absurd (taken fewer)
   | inr more ↦ behind more
 ]
   where
-    both : stands.lines ++ log_lines (standing.line ++ rest) ≡ over.lines ++ over.text ∷ over.later
-    both = sym (stands_lines log front rest whats standing stands parts) ∙ over.parts
+    both : stands.lines ++ log_lines (standing.line ++ rest) ≡ over.found.before ++ over.found.text ∷ over.found.later
+    both = sym (stands_lines log front rest whats standing stands parts) ∙ over.found.parts
 
-    taken : length over.lines < length stands.lines → ⊥
+    taken : length over.found.before < length stands.lines → ⊥
     taken fewer =
-        let one_more : stands.lines ++ log_lines (standing.line ++ rest) ≡ (over.lines ++ over.text ∷ []) ++ over.later =
-        both ∙ sym (append_assoc over.lines (over.text ∷ []) over.later) in
-        let long = length-append over.lines (over.text ∷ []) in
-        let split = splits stands.lines (log_lines (standing.line ++ rest)) (over.lines ++ over.text ∷ []) over.later one_more (omega arith) in
-        let here : stands.lines ≡ over.lines ++ over.text ∷ split.0 = split.1 ∙ append_assoc over.lines (over.text ∷ []) split.0 in
-        fails_within (announces_within limit settings) whats over.whats over.what each
-        (means_before stands.lines over.lines over.text split.0 whats over.whats over.what stands.means here over.legal over.means)
-        (announcing_fails limit settings over.what announced over.announces)
+        let one_more : stands.lines ++ log_lines (standing.line ++ rest) ≡ (over.found.before ++ over.found.text ∷ []) ++ over.found.later =
+        both ∙ sym (append_assoc over.found.before (over.found.text ∷ []) over.found.later) in
+        let long = length-append over.found.before (over.found.text ∷ []) in
+        let split = splits stands.lines (log_lines (standing.line ++ rest)) (over.found.before ++ over.found.text ∷ []) over.found.later one_more (omega arith) in
+        let here : stands.lines ≡ over.found.before ++ over.found.text ∷ split.0 = split.1 ∙ append_assoc over.found.before (over.found.text ∷ []) split.0 in
+        fails_within (announces_within limit settings) whats over.whats over.found.what each
+        (means_before stands.lines over.found.before over.found.text split.0 whats over.whats over.found.what stands.means here over.legal over.found.means)
+        (announcing_fails limit settings over.found.what announced over.found.announces)
 
-    behind : length stands.lines ≤ length over.lines → length front < length (ended_lines (over.lines ++ over.text ∷ []))
+    behind : length stands.lines ≤ length over.found.before → length front < length (ended_lines (over.found.before ++ over.found.text ∷ []))
     behind more =
-        let one_more : (over.lines ++ over.text ∷ []) ++ over.later ≡ stands.lines ++ log_lines (standing.line ++ rest) =
-        append_assoc over.lines (over.text ∷ []) over.later ∙ sym both in
-        let long = length-append over.lines (over.text ∷ []) in
-        let split = splits (over.lines ++ over.text ∷ []) over.later stands.lines (log_lines (standing.line ++ rest)) one_more (omega arith) in
+        let one_more : (over.found.before ++ over.found.text ∷ []) ++ over.found.later ≡ stands.lines ++ log_lines (standing.line ++ rest) =
+        append_assoc over.found.before (over.found.text ∷ []) over.found.later ∙ sym both in
+        let long = length-append over.found.before (over.found.text ∷ []) in
+        let split = splits (over.found.before ++ over.found.text ∷ []) over.found.later stands.lines (log_lines (standing.line ++ rest)) one_more (omega arith) in
         first_is split.0 split.1 split.2
       where
-        first_is : (mid : List (List ℕ)) → over.lines ++ over.text ∷ [] ≡ stands.lines ++ mid → log_lines (standing.line ++ rest) ≡ mid ++ over.later
-            → length front < length (ended_lines (over.lines ++ over.text ∷ []))
+        first_is : (mid : List (List ℕ)) → over.found.before ++ over.found.text ∷ [] ≡ stands.lines ++ mid → log_lines (standing.line ++ rest) ≡ mid ++ over.found.later
+            → length front < length (ended_lines (over.found.before ++ over.found.text ∷ []))
         first_is [] is lines_are =
             let one = ap length is ∙ length-append stands.lines [] in
-            let long = length-append over.lines (over.text ∷ []) in
+            let long = length-append over.found.before (over.found.text ∷ []) in
             absurd (omega arith)
         first_is (first ∷ mid) is lines_are =
-            let past = next_ends_behind front rest first (mid ++ over.later) whats standing stands lines_are in
+            let past = next_ends_behind front rest first (mid ++ over.found.later) whats standing stands lines_are in
             let same = ap (λ x. length (ended_lines x)) (is ∙ sym (append_assoc stands.lines (first ∷ []) mid)) in
             let long = length-ended_lines (stands.lines ++ first ∷ []) mid in
             omega arith
+
+-- no refused place counts, where a scanner has taken as many bytes as the limit
+pub no_place_counts : (settings : Settings) (log front rest : List ℕ) (whats : List (Option Stamped)) (standing : Standing) → StandsAfter front whats standing
+    → log ≡ front ++ rest → length front ≡ settings.max_bytes → settings.max_bytes < length log → (line column : ℕ) → ¬ CountsAsBad settings log line column
+no_place_counts settings log front rest whats standing stands parts full long line column bad = no_bad bad.counts
+  where
+    no_bad : Counts (length (ended_lines bad.place.lines) + column) settings log → ⊥
+    no_bad (inl within) = none_taken log front rest whats standing line column stands parts bad.place (omega arith)
+    no_bad (inr short) = absurd (omega arith)
 
 -- nothing that a scanner has taken refuses the log, where it has taken as many bytes as the limit
 pub not_refused_at_limit : (limit : ℕ) (settings : Settings) (log front rest : List ℕ) (whats : List (Option Stamped)) (standing : Standing)
     → StandsAfter front whats standing → log ≡ front ++ rest → length front ≡ settings.max_bytes → settings.max_bytes < length log
     → EachWithin limit settings whats → IsNotRefused limit settings log
 not_refused_at_limit limit settings log front rest whats standing stands parts full long each = record {
-  no_bad_line = λ line column bad. no_bad line column bad bad.counts;
-  no_oversize = λ line announced over. no_over line announced over over.counts;
+  no_bad_line = λ line column bad. no_place_counts settings log front rest whats standing stands parts full long line column bad.found;
+  no_oversize = λ line announced over. no_over line announced over over.found.counts;
 }
   where
-    no_bad : (line column : ℕ) (bad : IsBadLine limit settings log line column)
-        → (length (ended_lines bad.place.lines) + column ≤ settings.max_bytes) ⊎ (length log ≤ settings.max_bytes) → ⊥
-    no_bad line column bad (inl within) = none_taken log front rest whats standing line column stands parts bad.place (omega arith)
-    no_bad line column bad (inr short) = absurd (omega arith)
-
     no_over : (line announced : ℕ) (over : IsOversizeLine limit settings log line announced)
-        → (length (ended_lines (over.lines ++ over.text ∷ [])) ≤ settings.max_bytes) ⊎ (length log ≤ settings.max_bytes) → ⊥
+        → Counts (length (ended_lines (over.found.before ++ over.found.text ∷ []))) settings log → ⊥
     no_over line announced over (inl within) =
         let behind = none_announces limit settings log front rest whats standing line announced stands parts each over in
         absurd (omega arith)

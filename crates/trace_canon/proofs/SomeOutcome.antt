@@ -1,5 +1,5 @@
 -- Each log has an outcome.
-use Rattle.std.proofs.Common.{◌≡◌, ℕ, ◌+◌, ◌<◌, ◌≤◌, Bool, true, false, List, [], ◌∷◌, ◌++◌, length, arith, refl, ap, sym, ◌∙◌, inl, inr, Option, Some, Result, Ok, Err, append_assoc}
+use Rattle.std.proofs.Common.{◌≡◌, ℕ, ◌+◌, ◌<◌, Bool, true, false, List, [], ◌∷◌, ◌++◌, length, arith, refl, ap, sym, ◌∙◌, inl, inr, Option, Some, Result, Ok, Err, append_assoc}
 use Rattle.std.specs.Prelude.{◌⊎◌}
 use Rattle.std.proofs.lemmas.Bool.{cases_lt, cases_Bool}
 use Rattle.can_log.specs.Line.{LineMeans}
@@ -9,7 +9,7 @@ use Rattle.can_log.proofs.Promises.{log_is_legal_or_refused, refused_place_is_on
 use Rattle.trace_canon.specs.Settings.{Settings}
 use Rattle.trace_canon.specs.CanonicalLog.{canonical_log_of_lines}
 use Rattle.trace_canon.specs.Summing.{summary_of}
-use Rattle.trace_canon.specs.Refusal.{Refusal, bad_line, oversize_message, long_log, long_canonical_log, oversize, announces_within, EachPasses, EachWithin, IsBadLine, IsOversizeLine}
+use Rattle.trace_canon.specs.Refusal.{Refusal, bad_line, oversize_message, long_log, long_canonical_log, oversize, announces_within, EachPasses, EachWithin, Counts, IsBadLine, IsOversizeLine}
 use Rattle.trace_canon.specs.Outcome.{Accepted, IsReadWhole, IsOutcome}
 use Rattle.trace_canon.specs.Laws.{OutcomeIsThere}
 use Rattle.trace_canon.proofs.Refusals.{refused_behind, fails_within, failing_announces, announcing_fails, legal_is_not_refused, same_line}
@@ -60,10 +60,6 @@ all_or_first passes (line ∷ lines) (what ∷ whats) means = elim (cases_Bool (
 
 -- ---- its outcome
 
--- what is among the first bytes of a log, as many as the limit, or the log is longer than that
-abbrev pub Counts : ℕ → Settings → List ℕ → Type 0
-Counts place settings log = (place ≤ settings.max_bytes) ⊎ (length log ≤ settings.max_bytes)
-
 pub record DoesNotCount (place : ℕ) (settings : Settings) (log : List ℕ) : Type 0 where
   pub behind : settings.max_bytes < place
   pub long : settings.max_bytes < length log
@@ -102,29 +98,31 @@ oversize_line : (limit : ℕ) (settings : Settings) (log : List ℕ) (found : Fa
     → oversize limit settings found.what ≡ Some announced → Counts (length (ended_lines (found.front ++ found.text ∷ []))) settings log
     → IsOversizeLine limit settings log (length found.front + 1) announced
 oversize_line limit settings log found announced is counts = record {
-  lines = found.front;
+  found = record {
+    before = found.front;
+    text = found.text;
+    what = found.what;
+    later = found.later;
+    parts = found.parts;
+    at = refl;
+    means = found.means;
+    announces = is;
+    counts = counts;
+  };
   whats = found.whats;
-  text = found.text;
-  what = found.what;
-  later = found.later;
-  parts = found.parts;
-  at = refl;
   legal = found.legal;
   within = found.each;
-  means = found.means;
-  announces = is;
-  counts = counts;
 }
 
 -- all such lines are one
 same_position : (limit : ℕ) (settings : Settings) (log : List ℕ) (found : FailsFirst (announces_within limit settings) (log_lines log))
     (other announced : ℕ) (over : IsOversizeLine limit settings log other announced)
-    → length (ended_lines (found.front ++ found.text ∷ [])) ≡ length (ended_lines (over.lines ++ over.text ∷ []))
+    → length (ended_lines (found.front ++ found.text ∷ [])) ≡ length (ended_lines (over.found.before ++ over.found.text ∷ []))
 same_position limit settings log found other announced over =
-    let same = same_line (announces_within limit settings) found.front over.lines found.text over.text found.later over.later found.whats over.whats
-    found.what over.what (sym found.parts ∙ over.parts) found.legal found.each found.means found.fails
-    over.legal over.within over.means (announcing_fails limit settings over.what announced over.announces) in
-    ap (λ x. length (ended_lines (x ++ found.text ∷ []))) same.lines_are ∙ ap (λ x. length (ended_lines (over.lines ++ x ∷ []))) same.text_is
+    let same = same_line (announces_within limit settings) found.front over.found.before found.text over.found.text found.later over.found.later found.whats over.whats
+    found.what over.found.what (sym found.parts ∙ over.found.parts) found.legal found.each found.means found.fails
+    over.legal over.within over.found.means (announcing_fails limit settings over.found.what announced over.found.announces) in
+    ap (λ x. length (ended_lines (x ++ found.text ∷ []))) same.lines_are ∙ ap (λ x. length (ended_lines (over.found.before ++ x ∷ []))) same.text_is
 
 -- where a line announces too much, and no place is refused before it
 one_announces : (limit : ℕ) (settings : Settings) (log : List ℕ) → FailsFirst (announces_within limit settings) (log_lines log)
@@ -139,8 +137,8 @@ one_announces limit settings log found no_bad_line =
           record {
             no_bad_line = no_bad_line;
             no_oversize = λ other other_announced over.
-                counts_not (length (ended_lines (found.front ++ found.text ∷ []))) (length (ended_lines (over.lines ++ over.text ∷ []))) settings log none
-                (same_position limit settings log found other other_announced over) over.counts;
+                counts_not (length (ended_lines (found.front ++ found.text ∷ []))) (length (ended_lines (over.found.before ++ over.found.text ∷ []))) settings log none
+                (same_position limit settings log found other other_announced over) over.found.counts;
           },
           none.long,
         ),
@@ -190,20 +188,20 @@ same_place log line column other other_column one two =
 one_is_bad : (limit : ℕ) (settings : Settings) (log : List ℕ) (line column : ℕ) (place : IsRefusedIn log line column)
     → EachWithin limit settings place.whats → (result : Result Accepted Refusal) × IsOutcome limit settings log result
 one_is_bad limit settings log line column place each = elim (counts_or_not (length (ended_lines place.lines) + column) settings log) [
-  | inl counts ↦ (Err (bad_line line column), record { place = place; counts = counts; within = each })
+  | inl counts ↦ (Err (bad_line line column), record { found = record { place = place; counts = counts }; within = each })
   | inr none ↦ (
     Err long_log,
     (
       record {
         no_bad_line = λ other other_column bad.
-            counts_not (length (ended_lines place.lines) + column) (length (ended_lines bad.place.lines) + other_column) settings log none
-            (same_place log line column other other_column place bad.place) bad.counts;
+            counts_not (length (ended_lines place.lines) + column) (length (ended_lines bad.found.place.lines) + other_column) settings log none
+            (same_place log line column other other_column place bad.found.place) bad.found.counts;
         no_oversize = λ other announced over.
-            let parts = sym (refused_lines log line column place) ∙ over.parts in
-            let begins = refused_behind place.lines place.whats place.rest column over.lines over.text over.later over.whats over.what
-            place.legal place.here parts over.legal over.means in
-            fails_within (announces_within limit settings) place.whats over.whats over.what each begins
-            (announcing_fails limit settings over.what announced over.announces);
+            let parts = sym (refused_lines log line column place) ∙ over.found.parts in
+            let begins = refused_behind place.lines place.whats place.rest column over.found.before over.found.text over.found.later over.whats over.found.what
+            place.legal place.here parts over.legal over.found.means in
+            fails_within (announces_within limit settings) place.whats over.whats over.found.what each begins
+            (announcing_fails limit settings over.found.what announced over.found.announces);
       },
       none.long,
     ),
@@ -214,10 +212,10 @@ one_is_bad limit settings log line column place each = elim (counts_or_not (leng
 bad_behind : (limit : ℕ) (settings : Settings) (log : List ℕ) (found : FailsFirst (announces_within limit settings) (log_lines log))
     → (line column : ℕ) → ¬ IsBadLine limit settings log line column
 bad_behind limit settings log found line column bad =
-    let parts = sym (refused_lines log line column bad.place) ∙ found.parts in
-    let begins = refused_behind bad.place.lines bad.place.whats bad.place.rest column found.front found.text found.later found.whats found.what
-    bad.place.legal bad.place.here parts found.legal found.means in
-    fails_within (announces_within limit settings) bad.place.whats found.whats found.what bad.within begins found.fails
+    let parts = sym (refused_lines log line column bad.found.place) ∙ found.parts in
+    let begins = refused_behind bad.found.place.lines bad.found.place.whats bad.found.place.rest column found.front found.text found.later found.whats found.what
+    bad.found.place.legal bad.found.place.here parts found.legal found.means in
+    fails_within (announces_within limit settings) bad.found.place.whats found.whats found.what bad.within begins found.fails
 
 pub outcome_is_there : OutcomeIsThere
 outcome_is_there limit settings log = elim (log_is_legal_or_refused log) [

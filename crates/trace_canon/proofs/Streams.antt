@@ -1,5 +1,6 @@
 -- A log that is read piece by piece from a stream.
-use Rattle.std.proofs.Common.{◌≡◌, ℕ, ◌+◌, ◌-◌, ◌<◌, ◌≤◌, ◌^◌, List, ◌++◌, length, take, drop, arith, ap, sym, subst, ◌∙◌, inl, inr, Option, Result, Ok, Err, append-nil, append_assoc, length-append, length-take}
+use Rattle.std.proofs.Common.{◌≡◌, ℕ, ◌+◌, ◌-◌, ◌<◌, ◌≤◌, ◌^◌, List, ◌++◌, length, take, drop, arith, ap, sym, subst, ◌∙◌}
+use Rattle.std.proofs.Common.{inl, inr, Option, Result, Ok, Err, append-nil, append_assoc, length-append, length-take}
 use Rattle.std.proofs.lemmas.List.{take-take, take_all, length-take-le, take-append-le, take-append-drop}
 use Rattle.can_log.specs.Log.{log_lines, LogMeans}
 use Rattle.can_log.specs.Scanning.{Standing}

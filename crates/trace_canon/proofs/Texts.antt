@@ -115,6 +115,9 @@ fitting_grows settings frames more =
     ∙ ap (λ x. ended_lines (lines_within settings.max_bytes x)) (canonical_lines-append settings 0 frames more) in
     (begins.0, all ∙ begins.1 ∙ ap (λ x. x ++ begins.0) (sym (fitting_frames settings frames)))
 
+pub frames_of_one : (limit : ℕ) (d : Dir) (message : List ℕ) → all_frames limit ((d, message) ∷ []) ≡ canonical_frames limit d message
+frames_of_one limit d message = append-nil (canonical_frames limit d message)
+
 pub all_frames-append : (limit : ℕ) (one two : List Message) → all_frames limit (one ++ two) ≡ all_frames limit one ++ all_frames limit two
 all_frames-append limit one two = flat_map-append (λ (message : Message). canonical_frames limit message.0 message.1) one two
 

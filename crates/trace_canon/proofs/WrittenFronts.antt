@@ -10,24 +10,10 @@ use Rattle.trace_canon.specs.Writing.{HasGathered}
 pub written_none : (old text : List ℕ) → IsWritten old text old text
 written_none old text = record { front = []; parts = refl; wrote = sym (append-nil old) }
 
--- the first bytes of the rest were written
-pub written_more : (old text mid rest new after : List ℕ) (n : ℕ) → IsWritten old text mid rest → new ≡ mid ++ take n rest → after ≡ drop n rest
-    → IsWritten old text new after
-written_more old text mid rest new after n is more left = record {
-  front = is.front ++ take n rest;
-  parts = is.parts ∙ ap (λ x. is.front ++ x) (sym (take-append-drop n rest)) ∙ sym (append_assoc is.front (take n rest) (drop n rest))
-      ∙ ap (λ x. (is.front ++ take n rest) ++ x) (sym left);
-  wrote = more ∙ ap (λ x. x ++ take n rest) is.wrote ∙ append_assoc old is.front (take n rest);
-}
-
 -- all was written
 pub written_all : (old text new rest : List ℕ) → IsWritten old text new rest → rest ≡ [] → new ≡ old ++ text
 written_all old text new rest is none =
     is.wrote ∙ ap (λ x. old ++ x) (sym (is.parts ∙ ap (λ x. is.front ++ x) none ∙ append-nil is.front))
-
--- writing failed
-pub written_front : (old text mid rest new : List ℕ) → IsWritten old text mid rest → new ≡ mid → HasFront old text new
-written_front old text mid rest new is same = record { front = is.front; rest = rest; parts = is.parts; wrote = same ∙ is.wrote }
 
 -- a front of the rest was written
 pub front_more : (old text mid block later new : List ℕ) → IsWritten old text mid (block ++ later) → HasFront mid block new → HasFront old text new

@@ -3,7 +3,7 @@ use Rattle.std.specs.Prelude.{ℕ, ◌<◌, ◌≤◌, Bool, true, List, length,
 use Rattle.can_log.specs.Log.{LogMeans}
 use Rattle.can_log.specs.declared.frame.Stamped.{Stamped}
 use Rattle.trace_canon.specs.Settings.{Settings}
-use Rattle.trace_canon.specs.Refusal.{IsBadAt}
+use Rattle.trace_canon.specs.Refusal.{CountsAsBad}
 
 -- the test that passes on every line
 abbrev pub takes_all : Option Stamped → Bool
@@ -19,5 +19,5 @@ pub data Unreadable : Type 0 where
 -- the log can't be read where its refused place counts; else where it is longer than the limit; and else its lines mean this
 abbrev pub IsReadAs : Settings → List ℕ → Result (List (Option Stamped)) Unreadable → Type 0
 IsReadAs settings log (Ok whats) = (length log ≤ settings.max_bytes) × LogMeans log whats
-IsReadAs settings log (Err (no_line line column)) = IsBadAt takes_all settings log line column
-IsReadAs settings log (Err too_long) = ((line column : ℕ) → ¬ IsBadAt takes_all settings log line column) × (settings.max_bytes < length log)
+IsReadAs settings log (Err (no_line line column)) = CountsAsBad settings log line column
+IsReadAs settings log (Err too_long) = ((line column : ℕ) → ¬ CountsAsBad settings log line column) × (settings.max_bytes < length log)

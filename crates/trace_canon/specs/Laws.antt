@@ -1,10 +1,9 @@
 -- What canonical logs promise.
-use Rattle.std.specs.Prelude.{◌≡◌, ◌↔◌, ◌≤◌, ◌<◌, ◌^◌, ◌⊎◌, ℕ, ◌+◌, ◌*◌, Bool, List, [], ◌∷◌, ◌++◌, length, Option, Some, Result, Ok, Err}
+use Rattle.std.specs.Prelude.{◌≡◌, ◌↔◌, ◌≤◌, ◌<◌, ◌^◌, ℕ, ◌+◌, ◌*◌, Bool, List, ◌++◌, length, Option, Some, Result, Ok, Err}
 use Rattle.std.specs.List.{AllByRecursion}
 use Rattle.can_log.specs.Canonical.{canonical_length}
 use Rattle.can_log.specs.Dir.{Message}
-use Rattle.can_log.specs.Line.{LineMeans}
-use Rattle.can_log.specs.Log.{log_lines, LogMeans, ended_lines, IsRefusedIn}
+use Rattle.can_log.specs.Log.{LogMeans, ended_lines}
 use Rattle.can_log.specs.Refused.{NoLineFeed}
 use Rattle.can_log.specs.declared.frame.Dir.{Dir}
 use Rattle.can_log.specs.declared.frame.Id.{Id}
@@ -20,7 +19,7 @@ use Rattle.trace_canon.specs.Settings.{Settings, AreSettings, id_of, direction_o
 use Rattle.trace_canon.specs.Trace.{trace}
 use Rattle.trace_canon.specs.Messages.{messages_of_lines, meaning_of_lines, HasMeaning}
 use Rattle.trace_canon.specs.CanonicalLog.{canonical_log, canonical_log_of_lines, fitting, early_text, lines_size}
-use Rattle.trace_canon.specs.Refusal.{Refusal, bad_line, oversize_message, oversize}
+use Rattle.trace_canon.specs.Refusal.{Refusal, bad_line, oversize_message, CountsAsBad, CountsAsOversize}
 use Rattle.trace_canon.specs.Summing.{summary_of}
 use Rattle.trace_canon.specs.LinesRead.{AreLinesRead}
 use Rattle.trace_canon.specs.Outcome.{Accepted, IsOutcome}
@@ -162,24 +161,6 @@ CanonicalLogLength = (limit : ℕ) (settings : Settings) (log : List ℕ) (whats
 abbrev pub CanonicalLogLengthBySides : Type 0
 CanonicalLogLengthBySides = (limit : ℕ) (settings : Settings) (log : List ℕ) (whats : List (Option Stamped)) → IsMessageLimit limit → LogMeans log whats
     → length (canonical_log_of_lines limit settings whats) ≡ lines_size settings (all_frames limit (flattened (meaning_of_lines limit settings whats)))
-
--- The refused place of the log counts: it is one of the first bytes, as many as the limit, or the log has no more.
-pub record CountsAsBad (settings : Settings) (log : List ℕ) (line column : ℕ) : Type 0 where
-  pub place : IsRefusedIn log line column
-  pub counts : (length (ended_lines place.lines) + column ≤ settings.max_bytes) ⊎ (length log ≤ settings.max_bytes)
-
--- The line of the log announces so much, and counts: its line feed is one of the first bytes, as many as the limit, or the
--- log has no more.
-pub record CountsAsOversize (limit : ℕ) (settings : Settings) (log : List ℕ) (line announced : ℕ) : Type 0 where
-  pub before : List (List ℕ)
-  pub text : List ℕ
-  pub what : Option Stamped
-  pub later : List (List ℕ)
-  pub parts : log_lines log ≡ before ++ text ∷ later
-  pub at : line ≡ length before + 1
-  pub means : LineMeans text what
-  pub announces : oversize limit settings what ≡ Some announced
-  pub counts : (length (ended_lines (before ++ text ∷ [])) ≤ settings.max_bytes) ⊎ (length log ≤ settings.max_bytes)
 
 -- a log is refused at its refused place where that counts, and each line that counts and announces too much is a later one
 abbrev pub BadLineIsLowest : Type 0

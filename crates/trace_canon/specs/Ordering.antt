@@ -1,10 +1,8 @@
 -- Devices of proof: the messages of a log, written in order.
-use Rattle.std.specs.Prelude.{◌≡◌, ◌≤◌, ◌^◌, ℕ, ◌+◌, List, [], ◌∷◌, ◌++◌, Option, Some, None}
+use Rattle.std.specs.Prelude.{◌≡◌, ◌≤◌, ◌^◌, ℕ, ◌+◌, List, [], ◌∷◌, ◌++◌, Some, None}
 use Rattle.std.specs.List.{AllByRecursion}
 use Rattle.isotp_pdu.specs.Reading.{layout_of}
 use Rattle.isotp_receive.specs.declared.TheConstants.{MESSAGE_LIMIT}
-use Rattle.isotp_receive.specs.declared.event.Reason.{Reason}
-use Rattle.isotp_receive.specs.declared.event.Reason.TheVariants as reason
 use Rattle.isotp_receive.specs.Trace.{Entry}
 use Rattle.isotp_receive.specs.Verdict.{messages}
 use Rattle.uds_exchange.specs.Order.{early}
@@ -15,16 +13,6 @@ use Rattle.isotp_receive.specs.Events.{oversize_in}
 use Rattle.trace_canon.specs.Putting.{Writer, HasPut, HasWrittenAll, HasWrittenSome}
 use Rattle.trace_canon.specs.Settings.{Settings}
 use Rattle.trace_canon.specs.Writing.{Place, start_of}
-
--- the length that a dropped frame announced, where that was the reason
-abbrev pub announced_by : Reason → Option ℕ
-announced_by (reason.TooLong announced) = Some announced
-announced_by (reason.Pdu fault) = None
-announced_by reason.FlowUnexpected = None
-announced_by reason.NextUnexpected = None
-announced_by reason.NextLate = None
-announced_by (reason.NextSequence expected found) = None
-announced_by reason.NextLength = None
 
 -- the frame announces no message above the limit
 abbrev pub AnnouncesWithin : Entry → Type 0

@@ -44,32 +44,38 @@ EachPasses passes whats = AllByRecursion (λ what. passes what ≡ true) whats
 abbrev pub EachWithin : ℕ → Settings → List (Option Stamped) → Type 0
 EachWithin limit settings whats = EachPasses (announces_within limit settings) whats
 
--- The log is refused at this place, which counts: it is one of the first bytes, as many as the limit, or the log has no
--- more bytes than that. The test passes on each line before it.
-pub record IsBadAt (passes : Option Stamped → Bool) (settings : Settings) (log : List ℕ) (line column : ℕ) : Type 0 where
+-- A place of the log counts: it is one of the first bytes, as many as the limit, or the log has no more bytes than that.
+abbrev pub Counts : ℕ → Settings → List ℕ → Type 0
+Counts place settings log = (place ≤ settings.max_bytes) ⊎ (length log ≤ settings.max_bytes)
+
+-- The refused place of the log counts.
+pub record CountsAsBad (settings : Settings) (log : List ℕ) (line column : ℕ) : Type 0 where
   pub place : IsRefusedIn log line column
-  pub counts : (length (ended_lines place.lines) + column ≤ settings.max_bytes) ⊎ (length log ≤ settings.max_bytes)
-  pub within : EachPasses passes place.whats
+  pub counts : Counts (length (ended_lines place.lines) + column) settings log
 
--- and no line before it announces too much
-abbrev pub IsBadLine : ℕ → Settings → List ℕ → ℕ → ℕ → Type 0
-IsBadLine limit settings log line column = IsBadAt (announces_within limit settings) settings log line column
+-- The log is refused there: no line before it announces too much.
+pub record IsBadLine (limit : ℕ) (settings : Settings) (log : List ℕ) (line column : ℕ) : Type 0 where
+  pub found : CountsAsBad settings log line column
+  pub within : EachWithin limit settings found.place.whats
 
--- The log is refused in this line, which announces so much and counts: its line feed is one of the first bytes, as many
--- as the limit, or the log has no more bytes than that. The lines before it are legal, and none of them announces too much.
-pub record IsOversizeLine (limit : ℕ) (settings : Settings) (log : List ℕ) (line announced : ℕ) : Type 0 where
-  pub lines : List (List ℕ)
-  pub whats : List (Option Stamped)
+-- The line of the log announces so much, and its line feed counts.
+pub record CountsAsOversize (limit : ℕ) (settings : Settings) (log : List ℕ) (line announced : ℕ) : Type 0 where
+  pub before : List (List ℕ)
   pub text : List ℕ
   pub what : Option Stamped
   pub later : List (List ℕ)
-  pub parts : log_lines log ≡ lines ++ text ∷ later
-  pub at : line ≡ length lines + 1
-  pub legal : LinesMean lines whats
-  pub within : EachWithin limit settings whats
+  pub parts : log_lines log ≡ before ++ text ∷ later
+  pub at : line ≡ length before + 1
   pub means : LineMeans text what
   pub announces : oversize limit settings what ≡ Some announced
-  pub counts : (length (ended_lines (lines ++ text ∷ [])) ≤ settings.max_bytes) ⊎ (length log ≤ settings.max_bytes)
+  pub counts : Counts (length (ended_lines (before ++ text ∷ []))) settings log
+
+-- The log is refused in it: the lines before it are legal, and none of them announces too much.
+pub record IsOversizeLine (limit : ℕ) (settings : Settings) (log : List ℕ) (line announced : ℕ) : Type 0 where
+  pub found : CountsAsOversize limit settings log line announced
+  pub whats : List (Option Stamped)
+  pub legal : LinesMean found.before whats
+  pub within : EachWithin limit settings whats
 
 -- nothing that counts refuses the log
 pub record IsNotRefused (limit : ℕ) (settings : Settings) (log : List ℕ) : Type 0 where

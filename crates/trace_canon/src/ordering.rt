@@ -7,7 +7,7 @@ ghost use Rattle.uds_exchange.specs.Orderer.{stands_after};
 ghost use Rattle.trace_canon.specs.declared.ordering.OrderingFault.TheVariants.{Write};
 ghost use Rattle.trace_canon.specs.Putting.{Writer, HasPut, Ordered, FailsToOrder, stopped_by, Ended, EndedWrong};
 ghost use Rattle.trace_canon.specs.TextSeen.{writer_of};
-ghost use Rattle.trace_canon.specs.Ordering.{announced_by};
+ghost use Rattle.isotp_receive.specs.Events.{announced_by};
 
 use crate::config::Config;
 use crate::receiver::EventTaker;
@@ -58,7 +58,7 @@ impl<W: Target> EventTaker for Ordering<W> {
     ghost use Rattle.std.specs.Prelude.{◌≡◌, []};
     ghost use Rattle.uds_exchange.specs.Orderer.{stands_after};
     ghost use Rattle.trace_canon.specs.TextSeen.{writer_of};
-    ghost use Rattle.trace_canon.specs.Ordering.{announced_by};
+    ghost use Rattle.isotp_receive.specs.Events.{announced_by};
     ghost use Rattle.trace_canon.specs.Ordering.{Orders, StopsAt};
 
     type Fault = OrderingFault;

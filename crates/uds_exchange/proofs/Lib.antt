@@ -20,4 +20,5 @@ pub mod Early
 pub mod MustWait
 pub mod Putting
 pub mod NextStep
+pub mod OpenRequestOfMore
 pub mod Promises

@@ -1,8 +1,8 @@
 -- The laws of meanings, over the definitions alone.
-use Rattle.std.specs.Prelude.{◌≡◌, ◌≢◌, ◌↔◌, ℕ, ◌+◌, Bool, true, List, [], ◌∷◌, ◌++◌, Some, None, length}
+use Rattle.std.specs.Prelude.{◌≡◌, ◌≢◌, ◌↔◌, ℕ, ◌+◌, Bool, true, List, [], ◌∷◌, ◌++◌, Option, Some, None, length, if◌then◌else◌}
 use Rattle.std.specs.List.{list_all}
 use Rattle.can_log.specs.Dir.{Message}
-use Rattle.uds_exchange.specs.Meaning.{meaning, flattened, removed_messages}
+use Rattle.uds_exchange.specs.Meaning.{is_tester_request, is_answer_to, is_pending_reply_to, meaning, flattened, removed_messages}
 use Rattle.uds_exchange.specs.Roles.{Role, IsOpenBehind, HasRole, AreRoles, arranged, those_removed}
 use Rattle.uds_exchange.specs.Order.{open_request, held, early, rejection_of}
 
@@ -39,6 +39,27 @@ MessagesByRoles = (M : List Message) (roles : List Role) → AreRoles [] M roles
 abbrev pub OpenRequestIsLast : Type 0
 OpenRequestIsLast = (M : List Message) (request : List ℕ)
     → (open_request M ≡ Some request) ↔ IsOpenBehind M request
+
+-- the open request with one more message: that message where it is a request, and none where it answers the open one
+abbrev pub open_with : Option (List ℕ) → Message → Option (List ℕ)
+open_with None message = if is_tester_request message then Some message.1 else None
+open_with (Some request) message =
+    if is_tester_request message then Some message.1 else if is_answer_to request message then None else Some request
+
+-- so the open request is known from that of the messages before
+abbrev pub OpenRequestGoesOn : Type 0
+OpenRequestGoesOn = (M : List Message) (message : Message) → open_request (M ++ message ∷ []) ≡ open_with (open_request M) message
+
+-- what is removed of one more message, where this request is open: a pending reply for it that is not its answer
+abbrev pub removed_with : Option (List ℕ) → Message → List Message
+removed_with None message = []
+removed_with (Some request) message =
+    if is_answer_to request message then [] else if is_pending_reply_to request message then message ∷ [] else []
+
+-- so what is removed grows by what the open request tells
+abbrev pub RemovedGoOn : Type 0
+RemovedGoOn = (M : List Message) (message : Message)
+    → removed_messages (M ++ message ∷ []) ≡ removed_messages M ++ removed_with (open_request M) message
 
 -- what is early and then what is held are the messages of the meaning
 abbrev pub EarlyThenHeld : Type 0

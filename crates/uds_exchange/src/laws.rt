@@ -8,7 +8,7 @@ ghost use Rattle.uds_exchange.specs.Sink.{Puts};
 ghost use Rattle.uds_exchange.specs.Orderer.{PutsDue};
 ghost use Rattle.uds_exchange.specs.Laws.{MeaningIsKept, NoneIsLost, NoneIsMadeUp};
 ghost use Rattle.uds_exchange.specs.Laws.{EachHasOneRole, EachListHasRoles, MessagesByRoles};
-ghost use Rattle.uds_exchange.specs.Laws.{OpenRequestIsLast, HeldByOpenRequest, HeldMustWait};
+ghost use Rattle.uds_exchange.specs.Laws.{OpenRequestIsLast, OpenRequestGoesOn, RemovedGoOn, HeldByOpenRequest, HeldMustWait};
 ghost use Rattle.uds_exchange.specs.Laws.{EarlyThenHeld, EarlyStays, EarlyGrows, NoneIsLostInOrder};
 
 use crate::sink::MessageSink;
@@ -47,6 +47,16 @@ pub fn messages_by_roles()
 /// The open request of a list is the last request in it, and no message behind that is its answer.
 pub fn open_request_is_last()
     ensures { OpenRequestIsLast }
+{}
+
+/// The open request with one more message is known from the open request before it.
+pub fn open_request_goes_on()
+    ensures { OpenRequestGoesOn }
+{}
+
+/// What is removed with one more message is known from the open request before it.
+pub fn removed_go_on()
+    ensures { RemovedGoOn }
 {}
 
 /// What is early, and then what is held, are the messages of the meaning in order.

@@ -1,4 +1,3 @@
-use Rattle.trace_canon.specs.Trace.{trace}
 use Rattle.trace_canon.proofs.Explanations.{ends_well, ends_wrong}
 use Rattle.trace_canon.proofs.Results.{handed_on}
 use Rattle.trace_canon.proofs.explanation.finish.Goals as goal

@@ -25,7 +25,8 @@ returns-then-n-eq0-clause-lines g c = λ tells log begins start taken.
     let all = taken_all (g.R.Source.front c.args.reader.now) (g.R.Source.front c.reading.reader) has.bytes log c.args.max_bytes (has.streams tells) over begins (omega (arith, has.counted)) in
     let len = ap length all in
     let stands = subst (λ b. StandsAfter b has.whats c.reading.scanner) all has.stands in
-    log_ends g.T.LineTaker.took g.T.LineTaker.stopped start c.take_last_line.result c.args.max_bytes (g.R.Source.given c.read.new.self - g.R.Source.given c.args.reader.now) log (c.take_last_line.new.taker, c.take_last_line.new.device)
+    log_ends g.T.LineTaker.took g.T.LineTaker.stopped start c.take_last_line.result c.args.max_bytes (g.R.Source.given c.read.new.self - g.R.Source.given c.args.reader.now) log
+    (c.take_last_line.new.taker, c.take_last_line.new.device)
     (omega (arith, has.counted)) (omega (arith, has.counted, c.in-Ok.ensures.given, c.reading.invariant.given))
     (c.take_last_line.ensures.lines start log has.whats (omega (arith, has.counted)) stands has.taken)
 
@@ -45,8 +46,10 @@ returns-in-Err-clause-lines g c = λ tells log begins start taken.
     let front = taken_front (g.R.Source.front c.args.reader.now) (g.R.Source.front c.read.new.self) (has.bytes ++ piece) log (c.args.max_bytes + 1) streams
     (g.met.R.Source.coherent c.args.reader.now tells) (g.met.R.Source.coherent c.read.new.self (c.in-Ok.ensures.tells (c.reading.invariant.telling tells))) begins
     (omega (arith, has.counted, few.1)) in
-    piece_faults g.T.LineTaker.took g.T.LineTaker.stopped start (Unit {0}) c.in-Err.fault c.args.max_bytes given log has.whats has.bytes piece c.reading.scanner c.take_lines.new.scanner (c.take_lines.new.taker, c.take_lines.new.device)
-    has.stands front (omega (arith, has.counted, c.in-Ok.ensures.given, c.reading.invariant.given)) (omega (arith, has.counted, few.1, c.in-Ok.ensures.given, c.reading.invariant.given)) (omega (arith, few.0, here.1))
+    piece_faults g.T.LineTaker.took g.T.LineTaker.stopped start (Unit {0}) c.in-Err.fault c.args.max_bytes given log has.whats has.bytes piece
+    c.reading.scanner c.take_lines.new.scanner (c.take_lines.new.taker, c.take_lines.new.device)
+    has.stands front (omega (arith, has.counted, c.in-Ok.ensures.given, c.reading.invariant.given))
+    (omega (arith, has.counted, few.1, c.in-Ok.ensures.given, c.reading.invariant.given)) (omega (arith, few.0, here.1))
     (c.in-Err.ensures.lines start has.bytes has.whats has.stands has.taken)
 
 pub reading-preserved : goal.reading-preserved
@@ -109,7 +112,8 @@ returns-clause-lines g c = λ tells log begins start taken.
     let all = taken_all (g.R.Source.front c.args.reader.now) (g.R.Source.front c.reading.reader) has.bytes log c.args.max_bytes (has.streams tells) over begins (omega (arith, has.counted)) in
     let len = ap length all in
     let stands = subst (λ b. StandsAfter b has.whats c.reading.scanner) all has.stands in
-    log_ends g.T.LineTaker.took g.T.LineTaker.stopped start c.take_last_line-2.result c.args.max_bytes (g.R.Source.given c.read-2.new.self - g.R.Source.given c.args.reader.now) log (c.take_last_line-2.new.taker, c.take_last_line-2.new.device)
+    log_ends g.T.LineTaker.took g.T.LineTaker.stopped start c.take_last_line-2.result c.args.max_bytes (g.R.Source.given c.read-2.new.self - g.R.Source.given c.args.reader.now) log
+    (c.take_last_line-2.new.taker, c.take_last_line-2.new.device)
     (omega (arith, has.counted)) (omega (arith, has.counted, c.in-Ok-read.ensures.given, c.reading.invariant.given))
     (c.take_last_line-2.ensures.lines start log has.whats (omega (arith, has.counted)) stands has.taken)
 

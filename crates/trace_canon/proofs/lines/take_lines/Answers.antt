@@ -22,9 +22,11 @@ lines-preserved g c =
       read = λ start bytes whats stands taken.
           let took = g.T.LineTaker.took in
           let read = c.lines.invariant.read start bytes whats stands taken in
-          let number = line_number took start whats (bytes ++ c.args.piece.now) c.lines.rest.now c.lines.scanner c.scan.new.self (c.lines.taker, c.lines.device) c.in-Line.used c.in-Line.line c.in-Line.what read answer in
+          let number = line_number took start whats (bytes ++ c.args.piece.now) c.lines.rest.now c.lines.scanner c.scan.new.self
+          (c.lines.taker, c.lines.device) c.in-Line.used c.in-Line.line c.in-Line.what read answer in
           let few : length read.whats < 2 ^ 62 = omega (arith, few_lines read.front read.whats c.lines.scanner read.stands, read.stands.taken, c.lines.invariant.room) in
-          read_line took start whats (bytes ++ c.args.piece.now) c.lines.rest.now _ c.lines.scanner c.scan.new.self (c.lines.taker, c.lines.device) (c.take.new.self, c.take.new.device) c.in-Line.used c.in-Line.line c.in-Line.what
+          read_line took start whats (bytes ++ c.args.piece.now) c.lines.rest.now _ c.lines.scanner c.scan.new.self
+          (c.lines.taker, c.lines.device) (c.take.new.self, c.take.new.device) c.in-Line.used c.in-Line.line c.in-Line.what
           read answer left (c.in_default.ensures.ok start read.whats number few read.taken);
     }
 
@@ -33,11 +35,13 @@ returns-in-Err-clause-lines g c = λ start bytes whats stands taken.
     let answer = subst (λ (scan : Scan). Scans c.lines.scanner c.lines.rest.now scan c.scan.new.self) c.in-Line.is c.scan.ensures.answer in
     let took = g.T.LineTaker.took in
     let read = c.lines.invariant.read start bytes whats stands taken in
-    let number = line_number took start whats (bytes ++ c.args.piece.now) c.lines.rest.now c.lines.scanner c.scan.new.self (c.lines.taker, c.lines.device) c.in-Line.used c.in-Line.line c.in-Line.what read answer in
+    let number = line_number took start whats (bytes ++ c.args.piece.now) c.lines.rest.now c.lines.scanner c.scan.new.self
+    (c.lines.taker, c.lines.device) c.in-Line.used c.in-Line.line c.in-Line.what read answer in
     let few : length read.whats < 2 ^ 62 = omega (arith, few_lines read.front read.whats c.lines.scanner read.stands, read.stands.taken, c.lines.invariant.room) in (
       read.whats,
       c.in-Line.what,
-      line_stops took start whats (bytes ++ c.args.piece.now) c.lines.rest.now c.lines.scanner c.scan.new.self (c.lines.taker, c.lines.device) c.in-Line.used c.in-Line.line c.in-Line.what read answer,
+      line_stops took start whats (bytes ++ c.args.piece.now) c.lines.rest.now c.lines.scanner c.scan.new.self
+          (c.lines.taker, c.lines.device) c.in-Line.used c.in-Line.line c.in-Line.what read answer,
       c.in-Err.ensures.err start read.whats number few read.taken,
     )
 
@@ -56,7 +60,8 @@ returns-in-NeedMore-clause-lines g c = λ start bytes whats stands taken.
     let took = g.T.LineTaker.took in
     let read = c.lines.invariant.read start bytes whats stands taken in (
       read.whats,
-      piece_waits took start whats (bytes ++ c.args.piece.now) c.lines.rest.now c.lines.scanner c.scan.new.self c.scan.result (c.lines.taker, c.lines.device) read c.scan.ensures.answer c.in-NeedMore.is,
+      piece_waits took start whats (bytes ++ c.args.piece.now) c.lines.rest.now c.lines.scanner c.scan.new.self c.scan.result
+          (c.lines.taker, c.lines.device) read c.scan.ensures.answer c.in-NeedMore.is,
       read.taken,
     )
 
@@ -64,7 +69,8 @@ pub returns-clause-lines : goal.returns-clause-lines
 returns-clause-lines g c = λ start bytes whats stands taken.
     let took = g.T.LineTaker.took in
     let none = nil_from_length c.lines.rest.now (eqb-true (length c.lines.rest.now) 0 (sym c.lines-test.ensures)) in
-    let read = subst (λ rest. HasRead took start whats (bytes ++ c.args.piece.now) rest c.lines.scanner (c.lines.taker, c.lines.device)) none (c.lines.invariant.read start bytes whats stands taken) in
+    let read = subst (λ rest. HasRead took start whats (bytes ++ c.args.piece.now) rest c.lines.scanner (c.lines.taker, c.lines.device)) none
+    (c.lines.invariant.read start bytes whats stands taken) in
     (read.whats, piece_read took start whats (bytes ++ c.args.piece.now) c.lines.scanner (c.lines.taker, c.lines.device) read, read.taken)
 
 pub returns-in-NeedMore-clause-taken : goal.returns-in-NeedMore-clause-taken

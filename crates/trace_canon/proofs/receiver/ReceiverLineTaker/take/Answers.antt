@@ -57,7 +57,8 @@ returns-clause-ok g c =
                 (stands T received.0.pair_is ∙ ap (λ (e : Entry). receptions_after MESSAGE_LIMIT (T ++ e ∷ [])) here)
                 (subst (λ (e : Entry). CountsEvent c.args.self.now.counts (verdict MESSAGE_LIMIT T e) c.receive.new.counts) here (counts T received.0.pair_is)) received.0,
             subst (λ U. g.E.EventTaker.took (start.0.taker, start.1) U (c.receive.new.taker, c.receive.new.device)) (sym next)
-                (subst (λ (e : Entry). g.E.EventTaker.took (start.0.taker, start.1) (T ++ e ∷ []) (c.receive.new.taker, c.receive.new.device)) here (taken (start.0.taker, start.1) T received.0.pair_is (omega arith) received.1)),
+                (subst (λ (e : Entry). g.E.EventTaker.took (start.0.taker, start.1) (T ++ e ∷ []) (c.receive.new.taker, c.receive.new.device)) here
+                (taken (start.0.taker, start.1) T received.0.pair_is (omega arith) received.1)),
           ),
     )) c.receive.ensures.pair c.receive.ensures.counts c.receive.ensures.ok
 
@@ -78,5 +79,6 @@ returns-clause-err g c =
       d,
       c.in-Some.is,
       direction,
-      subst (λ (e : Entry). g.E.EventTaker.stopped (start.0.taker, start.1) T e fault (c.receive.new.taker, c.receive.new.device)) here (stops (start.0.taker, start.1) T received.0.pair_is (omega arith) received.1),
+      subst (λ (e : Entry). g.E.EventTaker.stopped (start.0.taker, start.1) T e fault (c.receive.new.taker, c.receive.new.device)) here
+          (stops (start.0.taker, start.1) T received.0.pair_is (omega arith) received.1),
     )) c.receive.ensures.err
