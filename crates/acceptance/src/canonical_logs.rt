@@ -1,11 +1,14 @@
 //! Whole sessions: their canonical logs, what is counted in them, and what they list.
 
 use crate::rows::{frames_marked, marked, name_of};
-use crate::run::{VIN_CANONICAL, assert_listed, assert_row, log_of, told};
+use crate::run::{GIBIBYTE, VIN_CANONICAL, assert_listed, assert_row, listed, log_of, told};
 use std::test::Fail;
 
-/// Recordings of a vehicle identification number, each by its own tool over its own bus: the lines, and what is counted in
-/// them.
+/// The one item of a session in which a vehicle identification number is read.
+const VIN_LISTED: &str =
+    "1 exchange ReadDataByIdentifier 22F190 -> positive 62F1905742413341354335304546313233343536\n";
+
+/// Recordings of that session, each by its own tool over its own bus: the lines, and what is counted in them.
 const RECORDINGS: &str = "\
 five classic frames
 line (1700000000.000000) can0 7E0#0322F190
@@ -75,6 +78,8 @@ fn seven_recordings_of_a_session_have_one_canonical_log(rt: HostRuntime) -> Resu
         let (log, counts) = (marked(alloc, row, "line")?, marked(alloc, row, "told")?);
         let canonical = told(&rt, alloc, log.as_str(), counts.as_str(), name_of(row))?;
         assert_eq!(rt; canonical.as_str(), expected.as_str(), "{}", name_of(row));
+        let (_, items) = listed(alloc, GIBIBYTE, log.as_bytes())?;
+        assert_eq!(rt; items.as_slice(), VIN_LISTED.as_bytes(), "{}", name_of(row));
     }
     Ok(())
 }
@@ -147,6 +152,39 @@ canonical 7E0#021083CCCCCCCCCC
 canonical 7E8#025003CCCCCCCCCC
 told lines 3 frames 3 messages 3 dropped 0 ended 0 unfinished 0 pending 1
 item 1 exchange DiagnosticSessionControl 1083 -> positive 5003
+
+a stray and a pending reply after a request without an answer
+frame 7E0#0322F190
+frame 7E0#023E80
+frame 7E8#037F2278
+canonical 7E0#0322F190CCCCCCCC
+canonical 7E0#023E80CCCCCCCCCC
+told lines 3 frames 3 messages 3 dropped 0 ended 0 unfinished 0 pending 1
+item 1 exchange ReadDataByIdentifier 22F190 -> unanswered
+item 2 stray tester 3E80
+
+pending replies before a request, for it, for another one, and after its answer
+frame 7E8#037F2278
+frame 7E0#0322F190
+frame 7E8#037F2278
+frame 7E8#037F1978
+frame 7E8#037F2278
+frame 7E8#0462F19041
+frame 7E8#037F2278
+frame 7E0#021003
+frame 7E8#037F1078
+canonical 7E8#037F2278CCCCCCCC
+canonical 7E0#0322F190CCCCCCCC
+canonical 7E8#0462F19041CCCCCC
+canonical 7E8#037F1978CCCCCCCC
+canonical 7E8#037F2278CCCCCCCC
+canonical 7E0#021003CCCCCCCCCC
+told lines 9 frames 9 messages 9 dropped 0 ended 0 unfinished 0 pending 3
+item 1 stray unit 7F2278
+item 2 exchange ReadDataByIdentifier 22F190 -> positive 62F19041
+item 3 stray unit 7F1978
+item 4 stray unit 7F2278
+item 5 exchange DiagnosticSessionControl 1003 -> unanswered
 
 pending replies on both sides of an answer
 frame 7E0#0322F190

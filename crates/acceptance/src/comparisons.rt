@@ -1,7 +1,7 @@
 //! Whether two logs mean the same.
 
 use crate::rows::{frames_marked, marked, name_of};
-use crate::run::{GIBIBYTE, VIN_LINES, log_of, meaning};
+use crate::run::{GIBIBYTE, VIN_LINES, listed, log_of, meaning};
 use can_log::Dir::Unit;
 use can_log::Id;
 use std::alloc::Global;
@@ -37,11 +37,29 @@ right 7E8#037F2278
 right 7E8#0462F19041
 found same
 
-a pending reply after the answer
+one session in classic frames and in CAN FD
 left 7E0#0322F190
-left 7E8#0462F19041
+left 7E8#101462F190574241
+left 7E0#300000
+left 7E8#2133413543353045
+left 7E8#2246313233343536
+right 7e0#0322f190aaaaaaaa
+right 7e8##1001462f1905742413341354335304546313233343536aaaa
+found same
+
+pending replies before the answer, and one after it
+left 7E0#0322F190
+left 7E8#101462F190574241
+left 7E0#300000
+left 7E8#2133413543353045
+left 7E8#2246313233343536
 right 7E0#0322F190
-right 7E8#0462F19041
+right 7E8#037F2278
+right 7E8#037F2278
+right 7E8#101462F190574241
+right 7E0#300000
+right 7E8#2133413543353045
+right 7E8#2246313233343536
 right 7E8#037F2278
 found item 1
 
@@ -112,6 +130,19 @@ fn logs_differ_at_the_first_item_that_does(rt: HostRuntime) -> Result<(), Fail> 
     Ok(())
 }
 
+#[test]
+fn blank_and_foreign_lines_mean_nothing(rt: HostRuntime) -> Result<(), Fail> {
+    let empty = b"".as_slice();
+    let blank = b"\n\r\n(1.000000) can0 123#00\n".as_slice();
+    let found = compared(rt.alloc(), GIBIBYTE, empty, blank)?;
+    assert_eq!(rt; found, Ok(Comparison::Same));
+    for log in [empty, blank] {
+        let (answer, text) = listed(rt.alloc(), GIBIBYTE, log)?;
+        assert_eq!(rt; (answer.is_ok(), text.len()), (true, 0));
+    }
+    Ok(())
+}
+
 /// A line in which a digit is missing.
 const REFUSED: &[u8] = b"(1.000000) can0 7E0#0\n";
 
@@ -152,6 +183,7 @@ fn of_the_second_log_nothing_is_read_where_the_first_is_refused(
 #[test]
 fn the_meaning_of_a_session_has_its_messages(rt: HostRuntime) -> Result<(), Fail> {
     let mut log = log_of(rt.alloc(), &VIN_LINES)?;
+    assert_eq!(rt; meaning(rt.alloc(), GIBIBYTE, log.as_bytes())??.len(), 1);
     log.push_str("(1700000000.040000) can0 7E8#037F2278\n")?;
     let items = meaning(rt.alloc(), GIBIBYTE, log.as_bytes())??;
     assert_eq!(rt; items.len(), 2);

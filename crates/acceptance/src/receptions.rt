@@ -1,7 +1,7 @@
 //! Logs in which frames are lost: what is dropped, what ends, and what is left unfinished.
 
 use crate::rows::{frames_marked, marked};
-use crate::run::{GIBIBYTE, assert_row, explained, log_of, normalised, run_cut, told};
+use crate::run::{GIBIBYTE, assert_row, explained, front_of, log_of, normalised, run_cut, told};
 use std::alloc::Global;
 use std::process::Abort;
 use std::test::Fail;
@@ -60,6 +60,13 @@ frame 7E8##01082620102030405060708090A0B0C0D0E0F101112131415161718191A1B1C1D1E1F
 frame 7E8##0213E3F404142434445464748494A4B4C4D4E4F505152535455565758595A5B5C5D5E5F606162636465666768696A6B6C
 told line 2: unit reception from line 1 of 130 bytes ended: length
 told line 2: unit frame dropped: consecutive frame length
+told lines 2 frames 2 messages 0 dropped 1 ended 1 unfinished 0 pending 0
+
+a consecutive frame without a byte of the message
+frame 7E0#101462F190574241
+frame 7E0#21
+told line 2: tester reception from line 1 of 20 bytes ended: length
+told line 2: tester frame dropped: consecutive frame length
 told lines 2 frames 2 messages 0 dropped 1 ended 1 unfinished 0 pending 0
 
 a last frame too short for what is missing
@@ -361,21 +368,34 @@ fn too_long_an_announcement_is_told_as_dropped(rt: HostRuntime) -> Result<(), Fa
 }
 
 #[test]
-fn of_a_refused_log_some_frames_are_told(rt: HostRuntime) -> Result<(), Fail> {
+fn of_a_refused_log_the_frames_before_the_place_are_told(rt: HostRuntime) -> Result<(), Fail> {
     let alloc = rt.alloc();
     let log = log_of(
         alloc,
         &["(1.000000) can0 7E8#40", "(1.000000) can0 7E8#21", "x"],
     )?;
-    let (answer, text) = explained(alloc, GIBIBYTE, log.as_bytes())?;
-    assert_eq!(rt; answer, Err(Fault::BadLine { line: 3, column: 1 }));
-    let frames = log_of(
+    let told = log_of(
         alloc,
         &[
             "line 1: unit frame dropped: unknown kind",
             "line 2: unit frame dropped: consecutive frame unexpected",
         ],
     )?;
-    assert!(rt; frames.as_bytes().starts_with(text.as_slice()));
+    let bad_line = Fault::BadLine { line: 3, column: 1 };
+    // The line feed of the second line is byte 46.
+    for (limit, fault, written) in [
+        (GIBIBYTE, bad_line, 98),
+        (47, bad_line, 98),
+        (46, Fault::LogLimit, 98),
+        (45, Fault::LogLimit, 41),
+    ] {
+        let (answer, text) = explained(alloc, limit, log.as_bytes())?;
+        assert_eq!(rt; answer, Err(fault), "limit {limit}");
+        assert_eq!(rt;
+            text.as_slice(),
+            front_of(told.as_bytes(), written),
+            "limit {limit}"
+        );
+    }
     Ok(())
 }

@@ -172,31 +172,7 @@ fn counted(alloc: Global, len: usize) -> Result<Vec<u8>, AllocError> {
     part(alloc, &[], 0, len)
 }
 
-/// Its consecutive frame of this number, where RX_DL is 8 and the first frame holds so many bytes.
-fn consecutive(alloc: Global, in_first: usize, number: usize) -> Result<Vec<u8>, AllocError> {
-    let from = in_first.saturating_add(number.saturating_sub(1).saturating_mul(7));
-    part(alloc, &[(0x20 + number % 16) as u8], from, 8)
-}
-
 // ---- time
-
-#[test]
-fn late_by_one_microsecond(rt: HostRuntime) -> Result<(), Fail> {
-    let late = refused(Cause::Late, 20, Reason::NextLate);
-    for (case, at, event) in [
-        ("at the limit", 11_500_000, whole(VIN)),
-        ("one microsecond more", 11_500_001, late),
-        ("before the frame before it", 9_000_000, whole(VIN)),
-    ] {
-        let steps = [
-            unit(FIRST, began()).at(10_000_000),
-            unit(NUMBER_1, stored()).at(10_500_000),
-            unit(NUMBER_2, event).at(at),
-        ];
-        follow(&rt, rt.alloc(), case, &steps)?;
-    }
-    Ok(())
-}
 
 #[test]
 fn wait_frame_moves_the_deadline(rt: HostRuntime) -> Result<(), Fail> {
@@ -243,40 +219,6 @@ fn times_at_both_ends(rt: HostRuntime) -> Result<(), Fail> {
 }
 
 // ---- sequence numbers and lengths
-
-#[test]
-fn sequence_numbers_go_on_at_0_behind_15(rt: HostRuntime) -> Result<(), Fail> {
-    let alloc = rt.alloc();
-    let message = counted(alloc, 130)?;
-    let mut session = Session::new(alloc, "18 consecutive frames");
-    session.takes(&rt, unit(&part(alloc, &[0x10, 130], 0, 8)?, began()))?;
-    session.takes(&rt, tester(CONTINUE, flow()))?;
-    for number in 1..18 {
-        session.takes(&rt, unit(&consecutive(alloc, 6, number)?, stored()))?;
-    }
-    session.takes(&rt, unit(&consecutive(alloc, 6, 18)?, whole(&message)))
-}
-
-#[test]
-fn sequence_error_ends_the_reception(rt: HostRuntime) -> Result<(), Fail> {
-    let alloc = rt.alloc();
-    let repeated = Reason::NextSequence {
-        expected: 0,
-        found: 15,
-    };
-    let mut session = Session::new(alloc, "number 15 comes twice");
-    session.takes(&rt, unit(&part(alloc, &[0x10, 130], 0, 8)?, began()))?;
-    for number in 1..16 {
-        session.takes(&rt, unit(&consecutive(alloc, 6, number)?, stored()))?;
-    }
-    let again = consecutive(alloc, 6, 15)?;
-    session.takes(&rt, unit(&again, refused(Cause::Sequence, 130, repeated)))?;
-    for number in 16..19 {
-        let unexpected = dropped(Reason::NextUnexpected);
-        session.takes(&rt, unit(&consecutive(alloc, 6, number)?, unexpected))?;
-    }
-    Ok(())
-}
 
 #[test]
 fn last_frame_has_what_is_missing(rt: HostRuntime) -> Result<(), Fail> {
@@ -452,22 +394,6 @@ fn what_has_no_part_leaves_the_reception(rt: HostRuntime) -> Result<(), Fail> {
     Ok(())
 }
 
-// ---- both directions
-
-#[test]
-fn directions_are_received_apart(rt: HostRuntime) -> Result<(), Fail> {
-    let alloc = rt.alloc();
-    let ten = counted(alloc, 10)?;
-    let hundred = counted(alloc, 100)?;
-    let mut session = Session::new(alloc, "both at once");
-    session.takes(&rt, tester(&part(alloc, &[0x10, 10], 0, 8)?, began()))?;
-    session.takes(&rt, unit(&part(alloc, &[0x10, 100], 0, 64)?, began()))?;
-    session.takes(&rt, unit(CONTINUE, flow()))?;
-    session.takes(&rt, tester(CONTINUE, flow()))?;
-    session.takes(&rt, unit(&part(alloc, &[0x21], 62, 48)?, whole(&hundred)))?;
-    session.takes(&rt, tester(&part(alloc, &[0x21], 6, 5)?, whole(&ten)))
-}
-
 #[test]
 fn open_tells_the_first_frame(rt: HostRuntime) -> Result<(), Fail> {
     let pair = follow(&rt, rt.alloc(), "alone", &[unit(FIRST, began())])?;
@@ -477,25 +403,6 @@ fn open_tells_the_first_frame(rt: HostRuntime) -> Result<(), Fail> {
 }
 
 // ---- whole messages
-
-#[test]
-fn long_message_of_classic_and_fd_frames(rt: HostRuntime) -> Result<(), Fail> {
-    let alloc = rt.alloc();
-    let message = counted(alloc, 65_535)?;
-    let mut session = Session::new(alloc, "65,535 bytes");
-    let first = part(alloc, &[0x10, 0, 0, 0, 0xFF, 0xFF], 0, 8)?;
-    session.takes(&rt, unit(&first, began()))?;
-    for number in 1..9362 {
-        let kind = if number % 2 == 0 {
-            Kind::Classic
-        } else {
-            Kind::Fd
-        };
-        let data = consecutive(alloc, 2, number)?;
-        session.takes(&rt, unit(&data, stored()).as_kind(kind))?;
-    }
-    session.takes(&rt, unit(&consecutive(alloc, 2, 9362)?, whole(&message)))
-}
 
 #[test]
 fn longest_message(rt: HostRuntime) -> Result<(), Fail> {
