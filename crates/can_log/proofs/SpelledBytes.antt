@@ -1,12 +1,12 @@
 -- The bytes that pairs of digits spell.
-use Rattle.std.proofs.Common.{◌≡◌, ℕ, ◌+◌, ◌-◌, ◌*◌, ◌%◌, ◌<◌, ◌≤◌, true, false, refl, sym, subst, ap, ◌∙◌, arith}
+use Rattle.std.proofs.Common.{◌≡◌, ℕ, ◌+◌, ◌-◌, ◌*◌, ◌/◌, ◌%◌, ◌<◌, ◌≤◌, true, false, refl, sym, subst, ap, ◌∙◌, arith}
 use Rattle.std.proofs.Common.{List, [], ◌∷◌, ◌++◌, length, length-append, length-take-le, length-drop, take, drop, Some, Ok}
 use Rattle.std.specs.Prelude.{◌==◌}
 use Rattle.std.specs.List.{AllByRecursion}
 use Rattle.std.specs.Char.{is_ascii_hexdigit, digit_value}
 use Rattle.std.proofs.lemmas.Bool.Decides.{nat_tests}
 use Rattle.hex.specs.Hex.{hex_digit_value, pair_value, decode_pairs}
-use Rattle.std.proofs.lemmas.List.{take-append-drop}
+use Rattle.std.proofs.lemmas.List.{take-append-drop, take-take}
 use Rattle.std.proofs.Math.Seq.{take-add, take-length}
 use Rattle.can_log.specs.Line.{bytes_spelled, IsDataText}
 use Rattle.can_log.specs.Laws.{DataIsWhatHexDecodes}
@@ -79,6 +79,30 @@ part_of_data from n digits text le even =
       record { each = AllByRecursion-take is_hex n (drop from digits) behind; enough = omega arith; few = omega (arith, all, text.0.few) },
       omega (arith, all),
     )
+
+-- ---- by lanes
+
+-- what the digits in the first of sixteen lanes spell, of the bytes of all lanes
+abbrev pub AreSpelledInFront : List ℕ → List ℕ → Type 0
+AreSpelledInFront lanes spelled =
+    (n : ℕ) → n ≤ 8 → AllByRecursion (λ b. is_ascii_hexdigit b ≡ true) (take (2 * n) lanes) → take n spelled ≡ bytes_spelled (take (2 * n) lanes)
+
+pub front_bytes : (digits : ℕ) (bytes spelled : List ℕ) → 16 ≤ length bytes → digits ≤ 16 → IsDataText 16 (take digits bytes)
+    → AreSpelledInFront (take 16 bytes) spelled → take (digits / 2) spelled ≡ bytes_spelled (take digits bytes)
+front_bytes digits bytes spelled room few text are =
+    let n = digits / 2 in
+    let even : digits % 2 ≡ 0 = ap (λ (k : ℕ). k % 2) (sym (length-take-le digits bytes (omega arith))) ∙ text.1 in
+    let twice : 2 * n ≡ digits = omega arith in
+    let front : take (2 * n) (take 16 bytes) ≡ take digits bytes = ap (λ (k : ℕ). take k (take 16 bytes)) twice ∙ take-take digits 16 bytes few in
+    are n (omega arith) (subst (AllByRecursion (λ b. is_ascii_hexdigit b ≡ true)) (sym front) text.0.each) ∙ ap (λ (z : List ℕ). bytes_spelled z) front
+
+pub all_bytes : (digits spelled : List ℕ) → length digits ≡ 16 → length spelled ≡ 8 → AreHex digits → AreSpelledInFront (take 16 digits) spelled
+    → spelled ≡ bytes_spelled digits
+all_bytes digits spelled long eight each are =
+    let whole : take 16 digits ≡ digits = ap (λ (k : ℕ). take k digits) (sym long) ∙ take-length digits in
+    let same : take 8 spelled ≡ spelled = ap (λ (k : ℕ). take k spelled) (sym eight) ∙ take-length spelled in
+    let all : take 16 (take 16 digits) ≡ digits = take-take 16 16 digits (omega arith) ∙ whole in
+    sym same ∙ are 8 (omega arith) (subst AreHex (sym all) each) ∙ ap (λ (z : List ℕ). bytes_spelled z) all
 
 -- ---- what `hex` decodes
 

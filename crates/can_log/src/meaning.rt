@@ -1,6 +1,6 @@
 //! What the digits of a line mean: its time, and its frame.
 
-ghost use Rattle.std.specs.Prelude.{◌≡◌, ◌<◌, ◌/◌, ◌*◌, length, IsTrue};
+ghost use Rattle.std.specs.Prelude.{◌≡◌, ◌<◌, ◌≤◌, ◌/◌, ◌*◌, ℕ, length, take, IsTrue, IfSome};
 ghost use Rattle.std.specs.List.{AllByRecursion};
 ghost use Rattle.std.specs.Char.{is_ascii_hexdigit};
 ghost use Rattle.std.specs.Str.Parse.{digits_value};
@@ -103,7 +103,7 @@ fn decode(digits: &[u8], bytes: &mut [u8])
 
 /// The bytes that sixteen digits spell.
 #[inline(always)]
-pub(crate) fn eight_bytes(digits: &[u8]) -> [u8; 8]
+fn eight_bytes(digits: &[u8]) -> [u8; 8]
     requires long { length digits.now ≡ 16 }
     requires text { IsDataText 128 digits.now }
     ensures { result ≡ bytes_spelled digits.now }
@@ -111,12 +111,31 @@ pub(crate) fn eight_bytes(digits: &[u8]) -> [u8; 8]
     spelled(u8x16::from_slice(digits))
 }
 
-/// The same, all at once: each digit in a lane of a vector.
+/// The bytes that at most sixteen digits spell, whatever stands behind them.
+#[inline(always)]
+pub(crate) fn data_in_front(digits: usize, bytes: &[u8]) -> Option<ArrayVec<u8, 64>>
+    requires room { 16 ≤ length bytes.now }
+    requires few { digits ≤ 16 }
+    requires text { IsDataText 16 (take digits bytes.now) }
+    ensures { IfSome result (λ «data». «data».items ≡ bytes_spelled (take digits bytes.now)) }
+{
+    let eight = spelled(u8x16::from_slice(bytes));
+    let mut data = ArrayVec::new();
+    if digits == 16 {
+        // Of most frames: a copy of one length is a single store.
+        data.try_extend_from_slice(&eight).ok()?;
+    } else {
+        data.try_extend_from_slice(&eight[..digits / 2]).ok()?;
+    }
+    Some(data)
+}
+
+/// The bytes that the digits in the first lanes spell, all at once. What stands in the other lanes makes other bytes.
 #[inline(always)]
 fn spelled(digits: u8x16) -> [u8; 8]
-    requires long { length digits ≡ 16 }
-    requires hexadecimal { AllByRecursion (λ b. IsTrue (is_ascii_hexdigit b)) digits }
-    ensures { result ≡ bytes_spelled digits }
+    requires { length digits ≡ 16 }
+    ensures { (n : ℕ) → n ≤ 8 → AllByRecursion (λ b. IsTrue (is_ascii_hexdigit b)) (take (2 * n) digits)
+        → take n result ≡ bytes_spelled (take (2 * n) digits) }
 {
     let above = digits.simd_gt(u8x16::splat(b'9'));
     let values = (digits & u8x16::splat(15)) + above.select(u8x16::splat(9), u8x16::splat(0));
