@@ -80,6 +80,40 @@ part_of_data from n digits text le even =
       omega (arith, all),
     )
 
+-- a part of a front that is data
+pub part_of_front : (i sixteens : ℕ) (digits : List ℕ) → IsDataText 128 (take (16 * sixteens) digits) → 16 * sixteens ≤ length digits → i < sixteens
+    → IsDataText 128 (take (16 * i + 16 - 16 * i) (drop (16 * i) digits))
+part_of_front i sixteens digits text room lt =
+    let is_hex = λ (b : ℕ). is_ascii_hexdigit b ≡ true in
+    let width : 16 * i + 16 - 16 * i ≡ 16 = omega arith in
+    let so_far : take (16 * i + 16) digits ≡ take (16 * i) digits ++ take 16 (drop (16 * i) digits) = take-add (16 * i) 16 digits in
+    let front : AllByRecursion is_hex (take (16 * i + 16) digits) =
+    subst (AllByRecursion is_hex) (take-take (16 * i + 16) (16 * sixteens) digits (omega arith)) (AllByRecursion-take is_hex (16 * i + 16) (take (16 * sixteens) digits) text.0.each)
+    in
+    let long : length (take 16 (drop (16 * i) digits)) ≡ 16 = length-take-le 16 (drop (16 * i) digits) (omega (arith, length-drop (16 * i) digits)) in
+    subst (λ (n : ℕ). IsDataText 128 (take n (drop (16 * i) digits))) (sym width) (
+      record {
+        each = AllByRecursion-back is_hex (take (16 * i) digits) (take 16 (drop (16 * i) digits)) (subst (AllByRecursion is_hex) so_far front);
+        enough = omega arith;
+        few = omega (arith, long);
+      },
+      omega (arith, long),
+    )
+
+pub front_of_data : (n digits : ℕ) (bytes : List ℕ) → IsDataText 128 (take digits bytes) → digits ≤ length bytes → n ≤ digits → n % 2 ≡ 0
+    → IsDataText 128 (take n bytes)
+front_of_data n digits bytes text room le even =
+    let is_hex = λ (b : ℕ). is_ascii_hexdigit b ≡ true in
+    let long = length-take-le n bytes (omega arith) in
+    let most = length-take-le digits bytes room in (
+      record {
+        each = subst (AllByRecursion is_hex) (take-take n digits bytes le) (AllByRecursion-take is_hex n (take digits bytes) text.0.each);
+        enough = omega arith;
+        few = omega (arith, long, most, text.0.few);
+      },
+      ap (λ (k : ℕ). k % 2) long ∙ even,
+    )
+
 -- ---- by lanes
 
 -- what the digits in the first of sixteen lanes spell, of the bytes of all lanes
@@ -103,6 +137,45 @@ all_bytes digits spelled long eight each are =
     let same : take 8 spelled ≡ spelled = ap (λ (k : ℕ). take k spelled) (sym eight) ∙ take-length spelled in
     let all : take 16 (take 16 digits) ≡ digits = take-take 16 16 digits (omega arith) ∙ whole in
     sym same ∙ are 8 (omega arith) (subst AreHex (sym all) each) ∙ ap (λ (z : List ℕ). bytes_spelled z) all
+
+-- the digits behind so many times sixteen
+abbrev left : ℕ → ℕ
+left digits = 16 * (digits / 16)
+
+pub last_digits : (digits : ℕ) (bytes : List ℕ) → IsDataText 128 (take digits bytes) → digits ≤ length bytes
+    → IsDataText 16 (take (digits % 16) (drop (left digits) bytes)) × (take digits bytes ≡ take (left digits) bytes ++ take (digits % 16) (drop (left digits) bytes))
+last_digits digits bytes text room =
+    let is_hex = λ (b : ℕ). is_ascii_hexdigit b ≡ true in
+    let last = take (digits % 16) (drop (left digits) bytes) in
+    let sum : left digits + digits % 16 ≡ digits = omega arith in
+    let parts : take digits bytes ≡ take (left digits) bytes ++ last = ap (λ (n : ℕ). take n bytes) (sym sum) ∙ take-add (left digits) (digits % 16) bytes in
+    let long : length last ≡ digits % 16 = length-take-le (digits % 16) (drop (left digits) bytes) (omega (arith, length-drop (left digits) bytes)) in
+    let even : digits % 2 ≡ 0 = ap (λ (k : ℕ). k % 2) (sym (length-take-le digits bytes room)) ∙ text.1 in (
+      (
+        record {
+          each = AllByRecursion-back is_hex (take (left digits) bytes) last (subst (AllByRecursion is_hex) parts text.0.each);
+          enough = omega arith;
+          few = omega (arith, long);
+        },
+        omega (arith, long, even),
+      ),
+      parts,
+    )
+
+pub few_digits : (digits : ℕ) (bytes : List ℕ) → IsDataText 128 (take digits bytes) → digits ≤ length bytes → digits ≤ 128
+few_digits digits bytes text room = omega (arith, length-take-le digits bytes room, text.0.few)
+
+-- the bytes of the first digits, and those of the last
+pub spelled_in_parts : (digits : ℕ) (bytes spelled : List ℕ) → digits + 15 ≤ length bytes → 0 < digits % 16 → IsDataText 128 (take digits bytes)
+    → AreSpelledInFront (take 16 (drop (left digits) bytes)) spelled
+    → bytes_spelled (take (left digits) bytes) ++ take (digits % 16 / 2) spelled ≡ bytes_spelled (take digits bytes)
+spelled_in_parts digits bytes spelled room some text are =
+    let last = last_digits digits bytes text (omega arith) in
+    let second = front_bytes (digits % 16) (drop (left digits) bytes) spelled (omega (arith, length-drop (left digits) bytes)) (omega arith) last.0 are in
+    let first : length (take (left digits) bytes) ≡ left digits = length-take-le (left digits) bytes (omega arith) in
+    ap (λ (z : List ℕ). bytes_spelled (take (left digits) bytes) ++ z) second
+    ∙ sym (spelled_append (take (left digits) bytes) (take (digits % 16) (drop (left digits) bytes)) (omega (arith, first)))
+    ∙ ap (λ (z : List ℕ). bytes_spelled z) (sym last.1)
 
 -- ---- what `hex` decodes
 

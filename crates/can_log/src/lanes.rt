@@ -1,7 +1,8 @@
 //! Bytes of one class at the front of others, by lanes: sixteen bytes are tested at once, each in a lane of a vector.
 
-ghost use Rattle.std.specs.Prelude.{◌≡◌, ◌≤◌, length};
+ghost use Rattle.std.specs.Prelude.{◌≡◌, ◌≤◌, ◌%◌, length, take};
 ghost use Rattle.std.specs.Char.{is_ascii_hexdigit};
+ghost use Rattle.can_log.specs.Line.{IsRunOf};
 ghost use Rattle.can_log.specs.FieldReader.{is_in};
 ghost use Rattle.can_log.specs.Plain.{IsFrontOf, first_set};
 ghost use Rattle.can_log.specs.declared.field.Class.TheVariants.{Visible};
@@ -24,7 +25,7 @@ pub(crate) fn visible_front(bytes: &[u8]) -> usize
 
 /// So many bytes at the front are hexadecimal digits, in either case.
 #[inline(always)]
-pub(crate) fn hex_front(bytes: &[u8]) -> usize
+fn hex_front(bytes: &[u8]) -> usize
     requires { LANES ≤ length bytes.now }
     ensures { IsFrontOf is_ascii_hexdigit result bytes.now }
 {
@@ -32,6 +33,23 @@ pub(crate) fn hex_front(bytes: &[u8]) -> usize
     let is_other = (lanes - u8x16::splat(b'0')).simd_gt(u8x16::splat(9));
     let from_a = (lanes | u8x16::splat(0x20)) - u8x16::splat(b'a');
     first_set((is_other & from_a.simd_gt(u8x16::splat(5))).to_bitmask())
+}
+
+/// So many bytes at the front are hexadecimal digits, and no more than `most`, a multiple of the lanes.
+#[inline(always)]
+pub(crate) fn hex_run(most: usize, bytes: &[u8]) -> usize
+    requires room { most ≤ length bytes.now }
+    requires lanes { most % LANES ≡ 0 }
+    ensures fits { result ≤ most }
+    ensures run { IsRunOf is_ascii_hexdigit 0 most (take result bytes.now) }
+{
+    for i in 0..most / LANES {
+        let more = hex_front(&bytes[LANES * i..]);
+        if more < LANES {
+            return LANES * i + more;
+        }
+    }
+    most
 }
 
 /// The first lane that is set in a mask, or the number of lanes.

@@ -4,17 +4,21 @@
 ghost use Rattle.std.specs.Prelude.{◌≡◌, ◌≤◌, ◌+◌, ◌++◌, IfSome, IsTrue, codes, length, take};
 ghost use Rattle.can_log.specs.Line.{stamped_of, spell_line, IsLineSpelling, IsRunOf, IsIdentifierText, IsDataText};
 ghost use Rattle.can_log.specs.FieldReader.{is_in};
-ghost use Rattle.can_log.specs.Plain.{HavePlainWidths, spelling_of};
+ghost use Rattle.can_log.specs.Plain.{HavePlainWidths, IsPlainBody, AreFlags, flags_spelled, most_digits, body_text, plain_text, spelling_of};
 ghost use Rattle.can_log.specs.declared.field.Class.TheVariants.{Visible};
 
 use crate::field::{Class, all_in, number_in};
 use crate::frame::{Frame, Kind, Stamped};
-use crate::lanes::{LANES, hex_front, visible_front};
+use crate::hexadecimal::is_hex_digit;
+use crate::lanes::{LANES, hex_run, visible_front};
 use crate::meaning::{data_in_front, identifier_of};
 
-/// The longest line of plain form has 61 bytes and a line feed: a stamp of 20 bytes, 15 of the interface, a space, 8 digits of
-/// the identifier, `#`, and 16 of the data.
-const LONGEST_PLAIN: usize = 62;
+/// The longest line of a classic frame in plain form has 61 bytes and a line feed: a stamp of 20 bytes, 15 of the interface, a
+/// space, 8 digits of the identifier, `#`, and 16 of the data. Behind the data may stand what else is in the lanes.
+const ROOM_OF_CLASSIC: usize = 62 + LANES;
+
+/// The digits of the data of an FD frame, and what else is in the lanes.
+const ROOM_OF_FD_DATA: usize = 128 + LANES;
 
 /// The longest name of an interface.
 const LONGEST_INTERFACE: usize = 15;
@@ -26,6 +30,14 @@ pub(crate) struct Fields<'a> {
     micros: &'a [u8],
     interface: &'a [u8],
     identifier: &'a [u8],
+    body: PlainBody<'a>,
+}
+
+/// What stands behind the identifier and its `#`.
+#[derive(Clone, Copy)]
+struct PlainBody<'a> {
+    /// The digit of the flags of an FD frame; a classic one has none.
+    flags: Option<&'a [u8]>,
     /// How many digits of data there are.
     digits: usize,
     /// The digits, and the bytes behind them.
@@ -59,20 +71,25 @@ pub(crate) fn plain_stamped(fields: Fields<'_>) -> Option<Stamped>
     let seconds = number_in(fields.seconds).value;
     let micros = number_in(fields.micros).value;
     let id = identifier_of(fields.identifier);
-    let data = data_in_front(fields.digits, fields.behind)?;
+    let body = fields.body;
+    let kind = match body.flags {
+        None => Kind::Classic,
+        Some(_) => Kind::Fd,
+    };
+    let data = data_in_front(body.digits, body.behind)?;
     Some(Stamped {
         micros: seconds * 1_000_000 + micros,
-        frame: Frame::from_parts(id, Kind::Classic, data),
+        frame: Frame::from_parts(id, kind, data),
     })
 }
 
 /// The fields of the first line, where the bytes between them are those of the plain form, and the bytes behind the line.
 #[inline(always)]
 fn fields_of(piece: &[u8]) -> Option<(Fields<'_>, &[u8])>
-    ensures line { IfSome result (λ x. piece.now ≡ spell_line (spelling_of x.0) ++ (codes "\n" ++ x.1.now)) }
+    ensures line { IfSome result (λ x. piece.now ≡ plain_text x.0 ++ (codes "\n" ++ x.1.now)) }
     ensures widths { IfSome result (λ x. HavePlainWidths x.0) }
 {
-    if piece.len() < LONGEST_PLAIN {
+    if piece.len() < ROOM_OF_CLASSIC {
         return None;
     }
     let [b'(', rest @ ..] = piece else {
@@ -91,20 +108,16 @@ fn fields_of(piece: &[u8]) -> Option<(Fields<'_>, &[u8])>
         return None;
     };
     let (identifier, rest) = identifier_in_front(rest)?;
-    let [b'#', behind @ ..] = rest else {
+    let [b'#', rest @ ..] = rest else {
         return None;
     };
-    let digits = digits_in_front(behind)?;
-    let [b'\n', rest @ ..] = &behind[digits..] else {
-        return None;
-    };
+    let (body, rest) = body_in_front(rest)?;
     let fields = Fields {
         seconds,
         micros,
         interface,
         identifier,
-        digits,
-        behind,
+        body,
     };
     Some((fields, rest))
 }
@@ -132,21 +145,63 @@ fn identifier_in_front(bytes: &[u8]) -> Option<(&[u8], &[u8])>
     ensures identifier { IfSome result (λ x. IsIdentifierText x.0.now) }
     ensures length { IfSome result (λ x. length bytes.now ≤ 8 + length x.1.now) }
 {
-    match hex_front(bytes) {
+    match hex_run(LANES, bytes) {
         8 => Some(bytes.split_at(8)),
         3 if bytes[0] < b'8' => Some(bytes.split_at(3)),
         _ => None,
     }
 }
 
+/// The body of a line that ends behind its data, and the bytes behind its line feed.
+#[tactic(auto, unfolding(crate::specs::Plain::body_text))]
+#[inline(always)]
+fn body_in_front(bytes: &[u8]) -> Option<(PlainBody<'_>, &[u8])>
+    requires { 16 + 15 ≤ length bytes.now }
+    ensures parts { IfSome result (λ x. bytes.now ≡ body_text x.0 ++ (codes "\n" ++ x.1.now)) }
+    ensures legal { IfSome result (λ x. IsPlainBody x.0) }
+{
+    let (flags, behind) = flags_in_front(bytes)?;
+    let digits = digits_in_front(flags, behind)?;
+    let [b'\n', rest @ ..] = &behind[digits..] else {
+        return None;
+    };
+    let body = PlainBody {
+        flags,
+        digits,
+        behind,
+    };
+    Some((body, rest))
+}
+
+/// `#` and the digit of the flags, where an FD frame has them, and the bytes behind them.
+#[inline(always)]
+fn flags_in_front(bytes: &[u8]) -> Option<(Option<&[u8]>, &[u8])>
+    requires { 16 + 15 ≤ length bytes.now }
+    ensures parts { IfSome result (λ x. bytes.now ≡ flags_spelled x.0 ++ x.1.now) }
+    ensures flags { IfSome result (λ x. AreFlags x.0) }
+    ensures room { IfSome result (λ x. most_digits x.0 + 15 ≤ length x.1.now) }
+{
+    let [b'#', rest @ ..] = bytes else {
+        return Some((None, bytes));
+    };
+    if rest.len() < ROOM_OF_FD_DATA || !is_hex_digit(rest[0]) {
+        return None;
+    }
+    let (flags, rest) = rest.split_at(1);
+    Some((Some(flags), rest))
+}
+
 /// How many digits of data there are.
 #[inline(always)]
-fn digits_in_front(bytes: &[u8]) -> Option<usize>
-    requires { LANES ≤ length bytes.now }
-    ensures text { IfSome result (λ digits. IsDataText 16 (take digits bytes.now)) }
-    ensures fits { IfSome result (λ digits. digits ≤ 16) }
+fn digits_in_front(flags: Option<&[u8]>, bytes: &[u8]) -> Option<usize>
+    requires { most_digits flags + 15 ≤ length bytes.now }
+    ensures text { IfSome result (λ digits. IsDataText (most_digits flags.entry) (take digits bytes.now)) }
+    ensures fits { IfSome result (λ digits. digits ≤ most_digits flags.entry) }
 {
-    let digits = hex_front(bytes);
+    let digits = match flags {
+        None => hex_run(16, bytes),
+        Some(_) => hex_run(128, bytes),
+    };
     if digits % 2 == 0 { Some(digits) } else { None }
 }
 
