@@ -10,6 +10,7 @@ pub mod Digits
 pub mod DigitTable
 pub mod DigitValues
 pub mod LaneDigits
+pub mod LaneRuns
 pub mod SpelledBytes
 pub mod HexTable
 -- a line, field by field

@@ -28,15 +28,22 @@ none_seen see o e = ap (option_map see) e
 
 -- ---- on a piece
 
-pub scan_means : (lines taken : ℕ) (line line2 : List ℕ) (refused : Option Place) (piece : List ℕ) (at : ℕ) (what : Option Stamped)
+pub scan_means : (lines taken : ℕ) (line line2 : List ℕ) (refused : Option Place) (piece front after : List ℕ) (used : ℕ) (what : Option Stamped)
+    → refused ≡ None → line2 ≡ [] → piece ≡ front ++ (codes "\n" ++ after) → used ≡ length front + 1 → NoLineFeed front → LineMeans (line ++ front) what
+    → Scans (stand lines line taken refused) piece (scan.Line used (lines + 1) what) (stand (lines + 1) line2 (taken + used) refused)
+scan_means lines taken line line2 refused piece front after used what e none parts long clean means =
+    let stands = ap (λ (z : List ℕ). stand (lines + 1) z (taken + used) None) none in
+    subst (λ (r : Option Place). Scans (stand lines line taken r) piece (scan.Line used (lines + 1) what) (stand (lines + 1) line2 (taken + used) r)) (sym e)
+    (front, after, parts, clean, long, refl, means, stands)
+
+-- the same, of the first line feed at a place
+pub scan_means_at : (lines taken : ℕ) (line line2 : List ℕ) (refused : Option Place) (piece : List ℕ) (at : ℕ) (what : Option Stamped)
     → refused ≡ None → line2 ≡ [] → at < length piece → (get_or piece at 0 == code "\n") ≡ true
     → NoLineFeed (take at piece) → LineMeans (line ++ take at piece) what
     → Scans (stand lines line taken refused) piece (scan.Line (at + 1) (lines + 1) what) (stand (lines + 1) line2 (taken + (at + 1)) refused)
-scan_means lines taken line line2 refused piece at what e none lt feed clean means =
+scan_means_at lines taken line line2 refused piece at what e none lt feed clean means =
     let long = ap (λ (k : ℕ). k + 1) (sym (length-take-le at piece (omega arith))) in
-    let stands = ap (λ (z : List ℕ). stand (lines + 1) z (taken + (at + 1)) None) none in
-    subst (λ (r : Option Place). Scans (stand lines line taken r) piece (scan.Line (at + 1) (lines + 1) what) (stand (lines + 1) line2 (taken + (at + 1)) r)) (sym e)
-    (take at piece, drop (suc at) piece, at_feed piece at lt feed, clean, long, refl, means, stands)
+    scan_means lines taken line line2 refused piece (take at piece) (drop (suc at) piece) (at + 1) what e none (at_feed piece at lt feed) long clean means
 
 pub scan_goes_on : (lines taken : ℕ) (line line2 : List ℕ) (refused : Option Place) (piece : List ℕ) → refused ≡ None → line2 ≡ line ++ piece
     → NoLineFeed piece → HasCompletion (line ++ piece)

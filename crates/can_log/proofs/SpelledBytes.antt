@@ -1,12 +1,12 @@
 -- The bytes that pairs of digits spell.
-use Rattle.std.proofs.Common.{◌≡◌, ℕ, ◌+◌, ◌-◌, ◌*◌, ◌%◌, ◌<◌, ◌≤◌, true, false, refl, sym, subst, ap, ◌∙◌, arith}
+use Rattle.std.proofs.Common.{◌≡◌, ℕ, ◌+◌, ◌-◌, ◌*◌, ◌/◌, ◌%◌, ◌<◌, ◌≤◌, true, false, refl, sym, subst, ap, ◌∙◌, arith}
 use Rattle.std.proofs.Common.{List, [], ◌∷◌, ◌++◌, length, length-append, length-take-le, length-drop, take, drop, Some, Ok}
 use Rattle.std.specs.Prelude.{◌==◌}
 use Rattle.std.specs.List.{AllByRecursion}
 use Rattle.std.specs.Char.{is_ascii_hexdigit, digit_value}
 use Rattle.std.proofs.lemmas.Bool.Decides.{nat_tests}
 use Rattle.hex.specs.Hex.{hex_digit_value, pair_value, decode_pairs}
-use Rattle.std.proofs.lemmas.List.{take-append-drop}
+use Rattle.std.proofs.lemmas.List.{take-append-drop, take-take}
 use Rattle.std.proofs.Math.Seq.{take-add, take-length}
 use Rattle.can_log.specs.Line.{bytes_spelled, IsDataText}
 use Rattle.can_log.specs.Laws.{DataIsWhatHexDecodes}
@@ -79,6 +79,103 @@ part_of_data from n digits text le even =
       record { each = AllByRecursion-take is_hex n (drop from digits) behind; enough = omega arith; few = omega (arith, all, text.0.few) },
       omega (arith, all),
     )
+
+-- a part of a front that is data
+pub part_of_front : (i sixteens : ℕ) (digits : List ℕ) → IsDataText 128 (take (16 * sixteens) digits) → 16 * sixteens ≤ length digits → i < sixteens
+    → IsDataText 128 (take (16 * i + 16 - 16 * i) (drop (16 * i) digits))
+part_of_front i sixteens digits text room lt =
+    let is_hex = λ (b : ℕ). is_ascii_hexdigit b ≡ true in
+    let width : 16 * i + 16 - 16 * i ≡ 16 = omega arith in
+    let so_far : take (16 * i + 16) digits ≡ take (16 * i) digits ++ take 16 (drop (16 * i) digits) = take-add (16 * i) 16 digits in
+    let front : AllByRecursion is_hex (take (16 * i + 16) digits) =
+    subst (AllByRecursion is_hex) (take-take (16 * i + 16) (16 * sixteens) digits (omega arith)) (AllByRecursion-take is_hex (16 * i + 16) (take (16 * sixteens) digits) text.0.each)
+    in
+    let long : length (take 16 (drop (16 * i) digits)) ≡ 16 = length-take-le 16 (drop (16 * i) digits) (omega (arith, length-drop (16 * i) digits)) in
+    subst (λ (n : ℕ). IsDataText 128 (take n (drop (16 * i) digits))) (sym width) (
+      record {
+        each = AllByRecursion-back is_hex (take (16 * i) digits) (take 16 (drop (16 * i) digits)) (subst (AllByRecursion is_hex) so_far front);
+        enough = omega arith;
+        few = omega (arith, long);
+      },
+      omega (arith, long),
+    )
+
+pub front_of_data : (n digits : ℕ) (bytes : List ℕ) → IsDataText 128 (take digits bytes) → digits ≤ length bytes → n ≤ digits → n % 2 ≡ 0
+    → IsDataText 128 (take n bytes)
+front_of_data n digits bytes text room le even =
+    let is_hex = λ (b : ℕ). is_ascii_hexdigit b ≡ true in
+    let long = length-take-le n bytes (omega arith) in
+    let most = length-take-le digits bytes room in (
+      record {
+        each = subst (AllByRecursion is_hex) (take-take n digits bytes le) (AllByRecursion-take is_hex n (take digits bytes) text.0.each);
+        enough = omega arith;
+        few = omega (arith, long, most, text.0.few);
+      },
+      ap (λ (k : ℕ). k % 2) long ∙ even,
+    )
+
+-- ---- by lanes
+
+-- what the digits in the first of sixteen lanes spell, of the bytes of all lanes
+abbrev pub AreSpelledInFront : List ℕ → List ℕ → Type 0
+AreSpelledInFront lanes spelled =
+    (n : ℕ) → n ≤ 8 → AllByRecursion (λ b. is_ascii_hexdigit b ≡ true) (take (2 * n) lanes) → take n spelled ≡ bytes_spelled (take (2 * n) lanes)
+
+pub front_bytes : (digits : ℕ) (bytes spelled : List ℕ) → 16 ≤ length bytes → digits ≤ 16 → IsDataText 16 (take digits bytes)
+    → AreSpelledInFront (take 16 bytes) spelled → take (digits / 2) spelled ≡ bytes_spelled (take digits bytes)
+front_bytes digits bytes spelled room few text are =
+    let n = digits / 2 in
+    let even : digits % 2 ≡ 0 = ap (λ (k : ℕ). k % 2) (sym (length-take-le digits bytes (omega arith))) ∙ text.1 in
+    let twice : 2 * n ≡ digits = omega arith in
+    let front : take (2 * n) (take 16 bytes) ≡ take digits bytes = ap (λ (k : ℕ). take k (take 16 bytes)) twice ∙ take-take digits 16 bytes few in
+    are n (omega arith) (subst (AllByRecursion (λ b. is_ascii_hexdigit b ≡ true)) (sym front) text.0.each) ∙ ap (λ (z : List ℕ). bytes_spelled z) front
+
+pub all_bytes : (digits spelled : List ℕ) → length digits ≡ 16 → length spelled ≡ 8 → AreHex digits → AreSpelledInFront (take 16 digits) spelled
+    → spelled ≡ bytes_spelled digits
+all_bytes digits spelled long eight each are =
+    let whole : take 16 digits ≡ digits = ap (λ (k : ℕ). take k digits) (sym long) ∙ take-length digits in
+    let same : take 8 spelled ≡ spelled = ap (λ (k : ℕ). take k spelled) (sym eight) ∙ take-length spelled in
+    let all : take 16 (take 16 digits) ≡ digits = take-take 16 16 digits (omega arith) ∙ whole in
+    sym same ∙ are 8 (omega arith) (subst AreHex (sym all) each) ∙ ap (λ (z : List ℕ). bytes_spelled z) all
+
+-- the digits behind so many times sixteen
+abbrev left : ℕ → ℕ
+left digits = 16 * (digits / 16)
+
+pub last_digits : (digits : ℕ) (bytes : List ℕ) → IsDataText 128 (take digits bytes) → digits ≤ length bytes
+    → IsDataText 16 (take (digits % 16) (drop (left digits) bytes)) × (take digits bytes ≡ take (left digits) bytes ++ take (digits % 16) (drop (left digits) bytes))
+last_digits digits bytes text room =
+    let is_hex = λ (b : ℕ). is_ascii_hexdigit b ≡ true in
+    let last = take (digits % 16) (drop (left digits) bytes) in
+    let sum : left digits + digits % 16 ≡ digits = omega arith in
+    let parts : take digits bytes ≡ take (left digits) bytes ++ last = ap (λ (n : ℕ). take n bytes) (sym sum) ∙ take-add (left digits) (digits % 16) bytes in
+    let long : length last ≡ digits % 16 = length-take-le (digits % 16) (drop (left digits) bytes) (omega (arith, length-drop (left digits) bytes)) in
+    let even : digits % 2 ≡ 0 = ap (λ (k : ℕ). k % 2) (sym (length-take-le digits bytes room)) ∙ text.1 in (
+      (
+        record {
+          each = AllByRecursion-back is_hex (take (left digits) bytes) last (subst (AllByRecursion is_hex) parts text.0.each);
+          enough = omega arith;
+          few = omega (arith, long);
+        },
+        omega (arith, long, even),
+      ),
+      parts,
+    )
+
+pub few_digits : (digits : ℕ) (bytes : List ℕ) → IsDataText 128 (take digits bytes) → digits ≤ length bytes → digits ≤ 128
+few_digits digits bytes text room = omega (arith, length-take-le digits bytes room, text.0.few)
+
+-- the bytes of the first digits, and those of the last
+pub spelled_in_parts : (digits : ℕ) (bytes spelled : List ℕ) → digits + 15 ≤ length bytes → 0 < digits % 16 → IsDataText 128 (take digits bytes)
+    → AreSpelledInFront (take 16 (drop (left digits) bytes)) spelled
+    → bytes_spelled (take (left digits) bytes) ++ take (digits % 16 / 2) spelled ≡ bytes_spelled (take digits bytes)
+spelled_in_parts digits bytes spelled room some text are =
+    let last = last_digits digits bytes text (omega arith) in
+    let second = front_bytes (digits % 16) (drop (left digits) bytes) spelled (omega (arith, length-drop (left digits) bytes)) (omega arith) last.0 are in
+    let first : length (take (left digits) bytes) ≡ left digits = length-take-le (left digits) bytes (omega arith) in
+    ap (λ (z : List ℕ). bytes_spelled (take (left digits) bytes) ++ z) second
+    ∙ sym (spelled_append (take (left digits) bytes) (take (digits % 16) (drop (left digits) bytes)) (omega (arith, first)))
+    ∙ ap (λ (z : List ℕ). bytes_spelled z) (sym last.1)
 
 -- ---- what `hex` decodes
 

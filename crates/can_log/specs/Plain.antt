@@ -1,9 +1,49 @@
 -- A device of proof: the fields of a line of plain form, and the spelling that they make.
-use Rattle.std.specs.Prelude.{◌≡◌, ◌≤◌, length, codes, None}
+use Rattle.std.specs.Prelude.{◌≡◌, ℕ, ◌≤◌, ◌==◌, if◌then◌else◌, Bool, List, [], ◌++◌, ◌+◌, length, take, codes, Option, Some, None, ⊤}
+use Rattle.std.specs.Char.{is_ascii_hexdigit}
+use Rattle.std.specs.Int.{trailing_zeros, w64}
+use Rattle.std.specs.Borrow.{Bor}
 use Rattle.can_log.specs.declared.plain.Fields.{Fields}
-use Rattle.can_log.specs.Line.{LineSpelling, classic}
+use Rattle.can_log.specs.declared.plain.PlainBody.{PlainBody}
+use Rattle.can_log.specs.declared.field.Class.TheVariants.{Visible}
+use Rattle.can_log.specs.FieldReader.{is_in}
+use Rattle.can_log.specs.Line.{LineSpelling, IsRunOf, IsIdentifierText, IsDataText, Body, classic, fd}
 
--- gaps of one space, classic data with no raw length code, and no mark
+-- the most digits of data of a frame with flags, and of one without
+abbrev pub most_digits : Option (Bor (List ℕ)) → ℕ
+most_digits None = 16
+most_digits (Some flags) = 128
+
+-- the bytes of the flags of an FD frame, and none of a classic one
+abbrev pub flags_spelled : Option (Bor (List ℕ)) → List ℕ
+flags_spelled None = []
+flags_spelled (Some flags) = codes "#" ++ flags.now
+
+abbrev pub AreFlags : Option (Bor (List ℕ)) → Type 0
+AreFlags None = ⊤
+AreFlags (Some flags) = IsRunOf is_ascii_hexdigit 1 1 flags.now
+
+-- the digits of the data
+abbrev pub digits_of : PlainBody → List ℕ
+digits_of body = take body.digits body.behind.now
+
+-- the bytes of the body
+unfoldable pub body_text : PlainBody → List ℕ
+body_text body = flags_spelled body.flags ++ digits_of body
+
+-- it is legal, and all that is in the lanes stands behind it
+pub record IsPlainBody (body : PlainBody) : Type 0 where
+  pub flags : AreFlags body.flags
+  pub digits : IsDataText (most_digits body.flags) (digits_of body)
+  pub few : body.digits ≤ most_digits body.flags
+  pub room : most_digits body.flags + 15 ≤ length body.behind.now
+
+-- its parts, with no raw length code
+abbrev pub body_with : Option (Bor (List ℕ)) → List ℕ → Body
+body_with None digits = classic digits None
+body_with (Some flags) digits = fd flags.now digits
+
+-- gaps of one space, and no mark
 abbrev pub spelling_of : Fields → LineSpelling
 spelling_of fields = record {
   seconds = fields.seconds.now;
@@ -12,15 +52,28 @@ spelling_of fields = record {
   interface = fields.interface.now;
   second_gap = codes " ";
   identifier = fields.identifier.now;
-  body = classic fields.digits.now None;
+  body = body_with fields.body.flags (digits_of fields.body);
   mark = None;
 }
 
--- each field but the interface has one width
+-- the bytes of the line
+abbrev pub plain_text : Fields → List ℕ
+plain_text fields =
+    codes "(" ++ (fields.seconds.now ++ (codes "." ++ (fields.micros.now ++ (codes ") " ++ (fields.interface.now ++ (codes " "
+    ++ (fields.identifier.now ++ (codes "#" ++ body_text fields.body))))))))
+
+-- the fields that end where other bytes begin are legal, and the others have one width
 pub record HavePlainWidths (fields : Fields) : Type 0 where
   pub seconds : length fields.seconds.now ≡ 10
   pub micros : length fields.micros.now ≡ 6
-  pub some_interface : 1 ≤ length fields.interface.now
-  pub short_interface : length fields.interface.now ≤ 15
-  pub identifier : length fields.identifier.now ≡ 3
-  pub digits : length fields.digits.now ≡ 16
+  pub interface : IsRunOf (is_in Visible) 1 15 fields.interface.now
+  pub identifier : IsIdentifierText fields.identifier.now
+  pub body : IsPlainBody fields.body
+
+-- so many bytes at the front pass the test, and no more than sixteen
+abbrev pub IsFrontOf : (ℕ → Bool) → ℕ → List ℕ → Type 0
+IsFrontOf test n bytes = (n ≤ 16) × IsRunOf test 0 16 (take n bytes)
+
+-- the place of the lowest bit that is set in a mask of sixteen lanes, or 16
+abbrev pub first_set : ℕ → ℕ
+first_set mask = if mask == 0 then 16 else trailing_zeros w64 mask

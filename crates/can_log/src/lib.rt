@@ -19,6 +19,7 @@ mod canonical;
 mod field;
 mod frame;
 mod hexadecimal;
+mod lanes;
 pub mod laws;
 mod line;
 mod meaning;

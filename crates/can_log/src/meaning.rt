@@ -1,6 +1,6 @@
 //! What the digits of a line mean: its time, and its frame.
 
-ghost use Rattle.std.specs.Prelude.{◌≡◌, ◌<◌, ◌/◌, ◌*◌, length, IsTrue};
+ghost use Rattle.std.specs.Prelude.{◌≡◌, ◌<◌, ◌≤◌, ◌+◌, ◌/◌, ◌*◌, ℕ, length, take, IsTrue, IfSome};
 ghost use Rattle.std.specs.List.{AllByRecursion};
 ghost use Rattle.std.specs.Char.{is_ascii_hexdigit};
 ghost use Rattle.std.specs.Str.Parse.{digits_value};
@@ -67,13 +67,41 @@ fn data_of(digits: &[u8]) -> ArrayVec<u8, 64>
     ensures { result.items ≡ bytes_spelled digits.now }
 {
     let sixteens = digits.len() / 16;
+    let mut bytes = bytes_of_sixteens(sixteens, digits);
+    let last = few_bytes(&digits[16 * sixteens..]);
+    let _ = bytes.try_extend_from_slice(last.as_slice());
+    bytes
+}
+
+/// The bytes that so many times sixteen digits spell, whatever stands behind them.
+#[inline(always)]
+fn bytes_of_sixteens(sixteens: usize, digits: &[u8]) -> ArrayVec<u8, 64>
+    requires few { sixteens ≤ 8 }
+    requires room { 16 * sixteens ≤ length digits.now }
+    requires text { IsDataText 128 (take (16 * sixteens) digits.now) }
+    ensures { result.items ≡ bytes_spelled (take (16 * sixteens) digits.now) }
+{
     let mut bytes = ArrayVec::new();
     for i in 0..sixteens {
         let _ = bytes.try_extend_from_slice(&eight_bytes(&digits[16 * i..16 * i + 16]));
     }
-    let last = few_bytes(&digits[16 * sixteens..]);
-    let _ = bytes.try_extend_from_slice(last.as_slice());
     bytes
+}
+
+/// The same by lanes alone, where at least fifteen bytes stand behind the digits.
+#[inline(always)]
+pub(crate) fn data_in_front(digits: usize, bytes: &[u8]) -> Option<ArrayVec<u8, 64>>
+    requires room { digits + 15 ≤ length bytes.now }
+    requires text { IsDataText 128 (take digits bytes.now) }
+    ensures { IfSome result (λ «data». «data».items ≡ bytes_spelled (take digits bytes.now)) }
+{
+    let sixteens = digits / 16;
+    let mut data = bytes_of_sixteens(sixteens, bytes);
+    if digits % 16 != 0 {
+        let last = spelled(u8x16::from_slice(&bytes[16 * sixteens..]));
+        data.try_extend_from_slice(&last[..digits % 16 / 2]).ok()?;
+    }
+    Some(data)
 }
 
 /// The bytes that fewer than sixteen digits spell.
@@ -103,7 +131,7 @@ fn decode(digits: &[u8], bytes: &mut [u8])
 
 /// The bytes that sixteen digits spell.
 #[inline(always)]
-pub(crate) fn eight_bytes(digits: &[u8]) -> [u8; 8]
+fn eight_bytes(digits: &[u8]) -> [u8; 8]
     requires long { length digits.now ≡ 16 }
     requires text { IsDataText 128 digits.now }
     ensures { result ≡ bytes_spelled digits.now }
@@ -111,12 +139,12 @@ pub(crate) fn eight_bytes(digits: &[u8]) -> [u8; 8]
     spelled(u8x16::from_slice(digits))
 }
 
-/// The same, all at once: each digit in a lane of a vector.
+/// The bytes that the digits in the first lanes spell, all at once. What stands in the other lanes makes other bytes.
 #[inline(always)]
 fn spelled(digits: u8x16) -> [u8; 8]
-    requires long { length digits ≡ 16 }
-    requires hexadecimal { AllByRecursion (λ b. IsTrue (is_ascii_hexdigit b)) digits }
-    ensures { result ≡ bytes_spelled digits }
+    requires { length digits ≡ 16 }
+    ensures { (n : ℕ) → n ≤ 8 → AllByRecursion (λ b. IsTrue (is_ascii_hexdigit b)) (take (2 * n) digits)
+        → take n result ≡ bytes_spelled (take (2 * n) digits) }
 {
     let above = digits.simd_gt(u8x16::splat(b'9'));
     let values = (digits & u8x16::splat(15)) + above.select(u8x16::splat(9), u8x16::splat(0));

@@ -1,20 +1,24 @@
-//! Lines of plain form. Most frames of a log stand in lines in which each field but the interface has one width: such a
-//! line is judged as a whole, with no search for where its fields end.
+//! Lines of plain form. Most frames of a log stand in lines whose fields have one width, or end where a byte of another kind
+//! stands: such a line is judged as a whole, sixteen bytes at a time, and its end is found from that of its data.
 
-ghost use Rattle.std.specs.Prelude.{◌≡◌, IfSome, IsTrue, Some};
-ghost use Rattle.can_log.specs.Line.{LineMeans, stamped_of, spell_line, IsLineSpelling};
-ghost use Rattle.can_log.specs.Plain.{HavePlainWidths, spelling_of};
+ghost use Rattle.std.specs.Prelude.{◌≡◌, ◌≤◌, ◌+◌, ◌++◌, IfSome, IsTrue, codes, length, take};
+ghost use Rattle.can_log.specs.Line.{stamped_of, spell_line, IsLineSpelling, IsRunOf, IsIdentifierText, IsDataText};
+ghost use Rattle.can_log.specs.FieldReader.{is_in};
+ghost use Rattle.can_log.specs.Plain.{HavePlainWidths, IsPlainBody, AreFlags, flags_spelled, most_digits, body_text, plain_text, spelling_of};
+ghost use Rattle.can_log.specs.declared.field.Class.TheVariants.{Visible};
 
 use crate::field::{Class, all_in, number_in};
 use crate::frame::{Frame, Kind, Stamped};
-use crate::meaning::{eight_bytes, identifier_of};
-use arrayvec::ArrayVec;
+use crate::hexadecimal::is_hex_digit;
+use crate::lanes::{LANES, hex_run, visible_front};
+use crate::meaning::{data_in_front, identifier_of};
 
-/// How long the line is without its interface.
-const WITHOUT_INTERFACE: usize = 41;
+/// The longest line of a classic frame in plain form has 61 bytes and a line feed: a stamp of 20 bytes, 15 of the interface, a
+/// space, 8 digits of the identifier, `#`, and 16 of the data. Behind the data may stand what else is in the lanes.
+const ROOM_OF_CLASSIC: usize = 62 + LANES;
 
-/// What stands behind the interface: a space, three digits of the identifier, `#`, and two digits for each of 8 bytes.
-const BEHIND_INTERFACE: usize = 21;
+/// The digits of the data of an FD frame, and what else is in the lanes.
+const ROOM_OF_FD_DATA: usize = 128 + LANES;
 
 /// The longest name of an interface.
 const LONGEST_INTERFACE: usize = 15;
@@ -26,22 +30,34 @@ pub(crate) struct Fields<'a> {
     micros: &'a [u8],
     interface: &'a [u8],
     identifier: &'a [u8],
-    digits: &'a [u8],
+    body: PlainBody<'a>,
 }
 
-/// The fields of a line of plain form: `(1700000000.000241) can0 7E0#031089D2AAAAAAAA`, with ten digits of seconds, gaps of
-/// one space, a base identifier and 8 bytes of data. `None` says no more than that the line has another form.
+/// What stands behind the identifier and its `#`.
+#[derive(Clone, Copy)]
+struct PlainBody<'a> {
+    /// The digit of the flags of an FD frame; a classic one has none.
+    flags: Option<&'a [u8]>,
+    /// How many digits of data there are.
+    digits: usize,
+    /// The digits, and the bytes behind them.
+    behind: &'a [u8],
+}
+
+/// The fields of the first line, if it is of plain form, and the bytes behind its line feed. In plain form it is
+/// `(1700000000.000241) can0 7E0#031089D2AAAAAAAA`, with ten digits of seconds, gaps of one space, an identifier of either
+/// format and at most 8 bytes of data. `None` says no more than that the line has another form, or is near the end.
 #[inline(always)]
-pub(crate) fn plain_fields(bytes: &[u8]) -> Option<Fields<'_>>
-    ensures means { IfSome result (λ fields. LineMeans bytes.now (Some (stamped_of (spelling_of fields)))) }
-    ensures legal { IfSome result (λ fields. IsLineSpelling (spelling_of fields)) }
-    ensures widths { IfSome result HavePlainWidths }
+pub(crate) fn plain_line(piece: &[u8]) -> Option<(Fields<'_>, &[u8])>
+    ensures line { IfSome result (λ x. piece.now ≡ spell_line (spelling_of x.0) ++ (codes "\n" ++ x.1.now)) }
+    ensures legal { IfSome result (λ x. IsLineSpelling (spelling_of x.0)) }
+    ensures widths { IfSome result (λ x. HavePlainWidths x.0) }
 {
-    let fields = fields_of(bytes)?;
-    if !are_legal(fields) {
+    let (fields, rest) = fields_of(piece)?;
+    if !have_decimals(fields) {
         return None;
     }
-    Some(fields)
+    Some((fields, rest))
 }
 
 /// What a line with these fields records. `None` never comes, since there is room for the data; asking for it spares the
@@ -55,25 +71,28 @@ pub(crate) fn plain_stamped(fields: Fields<'_>) -> Option<Stamped>
     let seconds = number_in(fields.seconds).value;
     let micros = number_in(fields.micros).value;
     let id = identifier_of(fields.identifier);
-    let mut data = ArrayVec::new();
-    data.try_extend_from_slice(&eight_bytes(fields.digits))
-        .ok()?;
+    let body = fields.body;
+    let kind = match body.flags {
+        None => Kind::Classic,
+        Some(_) => Kind::Fd,
+    };
+    let data = data_in_front(body.digits, body.behind)?;
     Some(Stamped {
         micros: seconds * 1_000_000 + micros,
-        frame: Frame::from_parts(id, Kind::Classic, data),
+        frame: Frame::from_parts(id, kind, data),
     })
 }
 
-/// The fields of a line, where the bytes between them are those of the plain form.
+/// The fields of the first line, where the bytes between them are those of the plain form, and the bytes behind the line.
 #[inline(always)]
-fn fields_of(bytes: &[u8]) -> Option<Fields<'_>>
-    ensures spelled { IfSome result (λ fields. bytes.now ≡ spell_line (spelling_of fields)) }
-    ensures widths { IfSome result HavePlainWidths }
+fn fields_of(piece: &[u8]) -> Option<(Fields<'_>, &[u8])>
+    ensures line { IfSome result (λ x. piece.now ≡ plain_text x.0 ++ (codes "\n" ++ x.1.now)) }
+    ensures widths { IfSome result (λ x. HavePlainWidths x.0) }
 {
-    if bytes.len() <= WITHOUT_INTERFACE || bytes.len() > WITHOUT_INTERFACE + LONGEST_INTERFACE {
+    if piece.len() < ROOM_OF_CLASSIC {
         return None;
     }
-    let [b'(', rest @ ..] = bytes else {
+    let [b'(', rest @ ..] = piece else {
         return None;
     };
     let (seconds, rest) = rest.split_at(10);
@@ -84,34 +103,113 @@ fn fields_of(bytes: &[u8]) -> Option<Fields<'_>>
     let [b')', b' ', rest @ ..] = rest else {
         return None;
     };
-    let (interface, rest) = rest.split_at(rest.len() - BEHIND_INTERFACE);
+    let (interface, rest) = interface_in_front(rest)?;
     let [b' ', rest @ ..] = rest else {
         return None;
     };
-    let (identifier, rest) = rest.split_at(3);
-    let [b'#', digits @ ..] = rest else {
+    let (identifier, rest) = identifier_in_front(rest)?;
+    let [b'#', rest @ ..] = rest else {
         return None;
     };
-    Some(Fields {
+    let (body, rest) = body_in_front(rest)?;
+    let fields = Fields {
         seconds,
         micros,
         interface,
         identifier,
-        digits,
-    })
+        body,
+    };
+    Some((fields, rest))
 }
 
-/// Whether each field has bytes of its kind alone, and the identifier is at most 7FF. There is no early exit, so that the
-/// processor tests many bytes at once.
+/// The name of the interface, and the bytes behind it.
 #[inline(always)]
-fn are_legal(fields: Fields<'_>) -> bool
+fn interface_in_front(bytes: &[u8]) -> Option<(&[u8], &[u8])>
+    requires { LANES ≤ length bytes.now }
+    ensures parts { IfSome result (λ x. bytes.now ≡ x.0.now ++ x.1.now) }
+    ensures interface { IfSome result (λ x. IsRunOf (is_in Visible) 1 15 x.0.now) }
+    ensures length { IfSome result (λ x. length bytes.now ≤ 15 + length x.1.now) }
+{
+    let length = visible_front(bytes);
+    if length < 1 || length > LONGEST_INTERFACE {
+        return None;
+    }
+    Some(bytes.split_at(length))
+}
+
+/// The digits of the identifier, and the bytes behind them.
+#[inline(always)]
+fn identifier_in_front(bytes: &[u8]) -> Option<(&[u8], &[u8])>
+    requires { LANES ≤ length bytes.now }
+    ensures parts { IfSome result (λ x. bytes.now ≡ x.0.now ++ x.1.now) }
+    ensures identifier { IfSome result (λ x. IsIdentifierText x.0.now) }
+    ensures length { IfSome result (λ x. length bytes.now ≤ 8 + length x.1.now) }
+{
+    match hex_run(LANES, bytes) {
+        8 => Some(bytes.split_at(8)),
+        3 if bytes[0] < b'8' => Some(bytes.split_at(3)),
+        _ => None,
+    }
+}
+
+/// The body of a line that ends behind its data, and the bytes behind its line feed.
+#[tactic(auto, unfolding(crate::specs::Plain::body_text))]
+#[inline(always)]
+fn body_in_front(bytes: &[u8]) -> Option<(PlainBody<'_>, &[u8])>
+    requires { 16 + 15 ≤ length bytes.now }
+    ensures parts { IfSome result (λ x. bytes.now ≡ body_text x.0 ++ (codes "\n" ++ x.1.now)) }
+    ensures legal { IfSome result (λ x. IsPlainBody x.0) }
+{
+    let (flags, behind) = flags_in_front(bytes)?;
+    let digits = digits_in_front(flags, behind)?;
+    let [b'\n', rest @ ..] = &behind[digits..] else {
+        return None;
+    };
+    let body = PlainBody {
+        flags,
+        digits,
+        behind,
+    };
+    Some((body, rest))
+}
+
+/// `#` and the digit of the flags, where an FD frame has them, and the bytes behind them.
+#[inline(always)]
+fn flags_in_front(bytes: &[u8]) -> Option<(Option<&[u8]>, &[u8])>
+    requires { 16 + 15 ≤ length bytes.now }
+    ensures parts { IfSome result (λ x. bytes.now ≡ flags_spelled x.0 ++ x.1.now) }
+    ensures flags { IfSome result (λ x. AreFlags x.0) }
+    ensures room { IfSome result (λ x. most_digits x.0 + 15 ≤ length x.1.now) }
+{
+    let [b'#', rest @ ..] = bytes else {
+        return Some((None, bytes));
+    };
+    if rest.len() < ROOM_OF_FD_DATA || !is_hex_digit(rest[0]) {
+        return None;
+    }
+    let (flags, rest) = rest.split_at(1);
+    Some((Some(flags), rest))
+}
+
+/// How many digits of data there are.
+#[inline(always)]
+fn digits_in_front(flags: Option<&[u8]>, bytes: &[u8]) -> Option<usize>
+    requires { most_digits flags + 15 ≤ length bytes.now }
+    ensures text { IfSome result (λ digits. IsDataText (most_digits flags.entry) (take digits bytes.now)) }
+    ensures fits { IfSome result (λ digits. digits ≤ most_digits flags.entry) }
+{
+    let digits = match flags {
+        None => hex_run(16, bytes),
+        Some(_) => hex_run(128, bytes),
+    };
+    if digits % 2 == 0 { Some(digits) } else { None }
+}
+
+/// Whether the stamp has decimal digits alone. There is no early exit, so that the processor tests many bytes at once.
+#[inline(always)]
+fn have_decimals(fields: Fields<'_>) -> bool
     requires { HavePlainWidths fields }
     ensures { IsTrue result → IsLineSpelling (spelling_of fields.entry) }
 {
-    all_in(Class::Digit, fields.seconds)
-        & all_in(Class::Digit, fields.micros)
-        & all_in(Class::Visible, fields.interface)
-        & all_in(Class::Hex, fields.identifier)
-        & (fields.identifier[0] < b'8')
-        & all_in(Class::Hex, fields.digits)
+    all_in(Class::Digit, fields.seconds) & all_in(Class::Digit, fields.micros)
 }

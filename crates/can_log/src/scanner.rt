@@ -1,10 +1,9 @@
 //! Lines out of the pieces of a log.
 
 ghost use Rattle.std.specs.Prelude.{◌≡◌, ◌≤◌, ◌+◌, ◌^◌, ◌++◌, ◌∷◌, [], None, Some, ◌<◌, IfOk, IfErr, IfNone, IfSome, length, take};
-ghost use Rattle.can_log.specs.Line.{LineMeans, stamped_of, IsLineSpelling};
-ghost use Rattle.can_log.specs.Plain.{HavePlainWidths, spelling_of};
+ghost use Rattle.can_log.specs.Line.{LineMeans};
 ghost use Rattle.can_log.specs.Refused.{NoLineFeed, HasCompletion, IsRefusedPlace};
-ghost use Rattle.can_log.specs.Judging.{Judged, EndsAt};
+ghost use Rattle.can_log.specs.Judging.{Judged};
 ghost use Rattle.can_log.specs.Scanning.{Scans, Finishes};
 ghost use Rattle.can_log.specs.WholeLog.{at_start};
 ghost use Rattle.can_log.specs.declared.scanner.Scan.TheVariants.{Bad};
@@ -13,7 +12,7 @@ use crate::field::Stop;
 use crate::frame::Stamped;
 use crate::line::judge;
 use crate::meaning::stamped_of;
-use crate::plain::{Fields, plain_fields, plain_stamped};
+use crate::plain::{plain_line, plain_stamped};
 use arrayvec::ArrayVec;
 use memchr::memchr;
 use std::marker::Model;
@@ -51,8 +50,6 @@ pub struct Scanner {
     taken: u64,
     /// The refused place, once there is one.
     refused: Option<Place>,
-    /// How long the last line of plain form was: most often the next one is as long. No answer depends on it.
-    guess: usize,
 }
 
 /// A line and a column of a log.
@@ -84,7 +81,6 @@ impl Scanner {
             lines: 0,
             taken: 0,
             refused: None,
-            guess: 0,
         }
     }
 
@@ -106,11 +102,9 @@ impl Scanner {
         }
         if self.line.is_empty() {
             // The way of most lines: the frame is made here, where it is answered, and copied nowhere.
-            let at = likely_end(self.guess, piece);
-            if let Some(fields) = plain_line(at, piece) {
+            if let Some((fields, rest)) = plain_line(piece) {
                 if let Some(stamped) = plain_stamped(fields) {
-                    let used = at + 1;
-                    self.guess = at;
+                    let used = piece.len() - rest.len();
                     self.lines += 1;
                     self.taken += used as u64;
                     return Scan::Line {
@@ -209,31 +203,6 @@ impl Default for Scanner {
 
     fn default() -> Self {
         Scanner::new()
-    }
-}
-
-/// Where the first line of the piece may end: at the guessed place, if a line feed stands there, or at the first line feed.
-/// No line needs to end there.
-#[inline(always)]
-fn likely_end(guess: usize, piece: &[u8]) -> usize {
-    if guess < piece.len() && piece[guess] == b'\n' {
-        guess
-    } else {
-        memchr(b'\n', piece).unwrap_or(0)
-    }
-}
-
-/// The fields of the first line of the piece, if it is of plain form and ends before a line feed at this place.
-#[inline(always)]
-fn plain_line(at: usize, piece: &[u8]) -> Option<Fields<'_>>
-    ensures ends { IfSome result (λ fields. EndsAt at piece.now (stamped_of (spelling_of fields))) }
-    ensures legal { IfSome result (λ fields. IsLineSpelling (spelling_of fields)) }
-    ensures widths { IfSome result HavePlainWidths }
-{
-    if at < piece.len() && piece[at] == b'\n' {
-        plain_fields(&piece[..at])
-    } else {
-        None
     }
 }
 

@@ -1,0 +1,65 @@
+//! Bytes of one class at the front of others, by lanes: sixteen bytes are tested at once, each in a lane of a vector.
+
+ghost use Rattle.std.specs.Prelude.{◌≡◌, ◌≤◌, ◌%◌, length, take};
+ghost use Rattle.std.specs.Char.{is_ascii_hexdigit};
+ghost use Rattle.can_log.specs.Line.{IsRunOf};
+ghost use Rattle.can_log.specs.FieldReader.{is_in};
+ghost use Rattle.can_log.specs.Plain.{IsFrontOf, first_set};
+ghost use Rattle.can_log.specs.declared.field.Class.TheVariants.{Visible};
+
+use std::simd::prelude::*;
+
+/// How many bytes there are at once.
+pub(crate) const LANES: usize = 16;
+
+/// So many bytes at the front are seen: no spaces and no control characters.
+#[inline(always)]
+pub(crate) fn visible_front(bytes: &[u8]) -> usize
+    requires { LANES ≤ length bytes.now }
+    ensures { IsFrontOf (is_in Visible) result bytes.now }
+{
+    let lanes = u8x16::from_slice(bytes);
+    let stops = (lanes - u8x16::splat(b'!')).simd_gt(u8x16::splat(b'~' - b'!'));
+    first_set(stops.to_bitmask())
+}
+
+/// So many bytes at the front are hexadecimal digits, in either case.
+#[inline(always)]
+fn hex_front(bytes: &[u8]) -> usize
+    requires { LANES ≤ length bytes.now }
+    ensures { IsFrontOf is_ascii_hexdigit result bytes.now }
+{
+    let lanes = u8x16::from_slice(bytes);
+    let is_other = (lanes - u8x16::splat(b'0')).simd_gt(u8x16::splat(9));
+    let from_a = (lanes | u8x16::splat(0x20)) - u8x16::splat(b'a');
+    first_set((is_other & from_a.simd_gt(u8x16::splat(5))).to_bitmask())
+}
+
+/// So many bytes at the front are hexadecimal digits, and no more than `most`, a multiple of the lanes.
+#[inline(always)]
+pub(crate) fn hex_run(most: usize, bytes: &[u8]) -> usize
+    requires room { most ≤ length bytes.now }
+    requires lanes { most % LANES ≡ 0 }
+    ensures fits { result ≤ most }
+    ensures run { IsRunOf is_ascii_hexdigit 0 most (take result bytes.now) }
+{
+    for i in 0..most / LANES {
+        let more = hex_front(&bytes[LANES * i..]);
+        if more < LANES {
+            return LANES * i + more;
+        }
+    }
+    most
+}
+
+/// The first lane that is set in a mask, or the number of lanes.
+#[inline(always)]
+fn first_set(mask: u64) -> usize
+    ensures { result ≡ first_set mask }
+{
+    if mask == 0 {
+        LANES
+    } else {
+        mask.trailing_zeros() as usize
+    }
+}
