@@ -10,7 +10,7 @@ ghost use Rattle.can_log.specs.declared.field.Class.TheVariants.{Visible};
 use crate::field::{Class, all_in, number_in};
 use crate::frame::{Frame, Kind, Stamped};
 use crate::hexadecimal::is_hex_digit;
-use crate::lanes::{LANES, hex_run, visible_front};
+use crate::lanes::{LANES, hex_front, hex_run, visible_front};
 use crate::meaning::{identifier_of, put_data};
 use arrayvec::ArrayVec;
 
@@ -154,7 +154,7 @@ fn identifier_in_front(bytes: &[u8]) -> Option<(&[u8], &[u8])>
     ensures identifier { IfSome result (λ x. IsIdentifierText x.0.now) }
     ensures length { IfSome result (λ x. length bytes.now ≤ 8 + length x.1.now) }
 {
-    match hex_run(LANES, bytes) {
+    match hex_front(bytes) {
         8 => Some(bytes.split_at(8)),
         3 if bytes[0] < b'8' => Some(bytes.split_at(3)),
         _ => None,
