@@ -25,7 +25,7 @@ pub(crate) fn visible_front(bytes: &[u8]) -> usize
 
 /// So many bytes at the front are hexadecimal digits, in either case.
 #[inline(always)]
-fn hex_front(bytes: &[u8]) -> usize
+pub(crate) fn hex_front(bytes: &[u8]) -> usize
     requires { LANES ≤ length bytes.now }
     ensures { IsFrontOf is_ascii_hexdigit result bytes.now }
 {

@@ -1,6 +1,6 @@
 //! What the digits of a line mean: its time, and its frame.
 
-ghost use Rattle.std.specs.Prelude.{◌≡◌, ◌<◌, ◌≤◌, ◌+◌, ◌/◌, ◌*◌, ℕ, length, take, IsTrue, IfSome};
+ghost use Rattle.std.specs.Prelude.{◌≡◌, ◌<◌, ◌≤◌, ◌+◌, ◌/◌, ◌*◌, ℕ, length, take, IsTrue, []};
 ghost use Rattle.std.specs.List.{AllByRecursion};
 ghost use Rattle.std.specs.Char.{is_ascii_hexdigit};
 ghost use Rattle.std.specs.Str.Parse.{digits_value};
@@ -67,41 +67,41 @@ fn data_of(digits: &[u8]) -> ArrayVec<u8, 64>
     ensures { result.items ≡ bytes_spelled digits.now }
 {
     let sixteens = digits.len() / 16;
-    let mut bytes = bytes_of_sixteens(sixteens, digits);
+    let mut bytes = ArrayVec::new();
+    put_sixteens(sixteens, digits, &mut bytes);
     let last = few_bytes(&digits[16 * sixteens..]);
     let _ = bytes.try_extend_from_slice(last.as_slice());
     bytes
 }
 
-/// The bytes that so many times sixteen digits spell, whatever stands behind them.
+/// Puts the bytes that so many times sixteen digits spell, whatever stands behind them.
 #[inline(always)]
-fn bytes_of_sixteens(sixteens: usize, digits: &[u8]) -> ArrayVec<u8, 64>
+fn put_sixteens(sixteens: usize, digits: &[u8], bytes: &mut ArrayVec<u8, 64>)
     requires few { sixteens ≤ 8 }
     requires room { 16 * sixteens ≤ length digits.now }
     requires text { IsDataText 128 (take (16 * sixteens) digits.now) }
-    ensures { result.items ≡ bytes_spelled (take (16 * sixteens) digits.now) }
+    requires empty { bytes.old.items ≡ [] }
+    ensures { bytes.new.items ≡ bytes_spelled (take (16 * sixteens) digits.now) }
 {
-    let mut bytes = ArrayVec::new();
     for i in 0..sixteens {
         let _ = bytes.try_extend_from_slice(&eight_bytes(&digits[16 * i..16 * i + 16]));
     }
-    bytes
 }
 
-/// The same by lanes alone, where at least fifteen bytes stand behind the digits.
+/// Puts the bytes that digits spell, by lanes alone: at least fifteen bytes stand behind the digits.
 #[inline(always)]
-pub(crate) fn data_in_front(digits: usize, bytes: &[u8]) -> Option<ArrayVec<u8, 64>>
-    requires room { digits + 15 ≤ length bytes.now }
-    requires text { IsDataText 128 (take digits bytes.now) }
-    ensures { IfSome result (λ «data». «data».items ≡ bytes_spelled (take digits bytes.now)) }
+pub(crate) fn put_data(digits: usize, text: &[u8], bytes: &mut ArrayVec<u8, 64>)
+    requires room { digits + 15 ≤ length text.now }
+    requires text { IsDataText 128 (take digits text.now) }
+    requires empty { bytes.old.items ≡ [] }
+    ensures { bytes.new.items ≡ bytes_spelled (take digits text.now) }
 {
     let sixteens = digits / 16;
-    let mut data = bytes_of_sixteens(sixteens, bytes);
+    put_sixteens(sixteens, text, bytes);
     if digits % 16 != 0 {
-        let last = spelled(u8x16::from_slice(&bytes[16 * sixteens..]));
-        data.try_extend_from_slice(&last[..digits % 16 / 2]).ok()?;
+        let last = spelled(u8x16::from_slice(&text[16 * sixteens..]));
+        let _ = bytes.try_extend_from_slice(&last[..digits % 16 / 2]);
     }
-    Some(data)
 }
 
 /// The bytes that fewer than sixteen digits spell.

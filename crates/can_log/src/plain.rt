@@ -1,17 +1,18 @@
 //! Lines of plain form. Most frames of a log stand in lines whose fields have one width, or end where a byte of another kind
 //! stands: such a line is judged as a whole, sixteen bytes at a time, and its end is found from that of its data.
 
-ghost use Rattle.std.specs.Prelude.{◌≡◌, ◌≤◌, ◌+◌, ◌++◌, IfSome, IsTrue, codes, length, take};
-ghost use Rattle.can_log.specs.Line.{stamped_of, spell_line, IsLineSpelling, IsRunOf, IsIdentifierText, IsDataText};
+ghost use Rattle.std.specs.Prelude.{◌≡◌, ◌≤◌, ◌+◌, ◌++◌, [], IfSome, IsTrue, codes, length, take};
+ghost use Rattle.can_log.specs.Line.{stamped_of, bytes_spelled, spell_line, IsLineSpelling, IsRunOf, IsIdentifierText, IsDataText};
 ghost use Rattle.can_log.specs.FieldReader.{is_in};
-ghost use Rattle.can_log.specs.Plain.{HavePlainWidths, IsPlainBody, AreFlags, flags_spelled, most_digits, body_text, plain_text, spelling_of};
+ghost use Rattle.can_log.specs.Plain.{HavePlainWidths, IsPlainBody, AreFlags, digits_of, flags_spelled, most_digits, body_text, plain_text, spelling_of};
 ghost use Rattle.can_log.specs.declared.field.Class.TheVariants.{Visible};
 
 use crate::field::{Class, all_in, number_in};
 use crate::frame::{Frame, Kind, Stamped};
 use crate::hexadecimal::is_hex_digit;
-use crate::lanes::{LANES, hex_run, visible_front};
-use crate::meaning::{data_in_front, identifier_of};
+use crate::lanes::{LANES, hex_front, hex_run, visible_front};
+use crate::meaning::{identifier_of, put_data};
+use arrayvec::ArrayVec;
 
 /// The longest line of a classic frame in plain form has 61 bytes and a line feed: a stamp of 20 bytes, 15 of the interface, a
 /// space, 8 digits of the identifier, `#`, and 16 of the data. Behind the data may stand what else is in the lanes.
@@ -60,27 +61,35 @@ pub(crate) fn plain_line(piece: &[u8]) -> Option<(Fields<'_>, &[u8])>
     Some((fields, rest))
 }
 
-/// What a line with these fields records. `None` never comes, since there is room for the data; asking for it spares the
-/// scanner the code for the case that there is none.
+/// The data of a line with these fields, put where the frame takes it from: a copy more would cost as much as all the rest.
 #[inline(always)]
-pub(crate) fn plain_stamped(fields: Fields<'_>) -> Option<Stamped>
+pub(crate) fn put_plain_data(fields: Fields<'_>, data: &mut ArrayVec<u8, 64>)
+    requires widths { HavePlainWidths fields }
+    requires empty { «data».old.items ≡ [] }
+    ensures { «data».new.items ≡ bytes_spelled (digits_of fields.entry.body) }
+{
+    put_data(fields.body.digits, fields.body.behind, data);
+}
+
+/// What a line with these fields and this data records.
+#[inline(always)]
+pub(crate) fn plain_stamped(fields: Fields<'_>, data: ArrayVec<u8, 64>) -> Stamped
     requires legal { IsLineSpelling (spelling_of fields) }
     requires widths { HavePlainWidths fields }
-    ensures { IfSome result (λ stamped. stamped ≡ stamped_of (spelling_of fields.entry)) }
+    requires spelled { «data».items ≡ bytes_spelled (digits_of fields.body) }
+    ensures { result ≡ stamped_of (spelling_of fields.entry) }
 {
     let seconds = number_in(fields.seconds).value;
     let micros = number_in(fields.micros).value;
     let id = identifier_of(fields.identifier);
-    let body = fields.body;
-    let kind = match body.flags {
+    let kind = match fields.body.flags {
         None => Kind::Classic,
         Some(_) => Kind::Fd,
     };
-    let data = data_in_front(body.digits, body.behind)?;
-    Some(Stamped {
+    Stamped {
         micros: seconds * 1_000_000 + micros,
         frame: Frame::from_parts(id, kind, data),
-    })
+    }
 }
 
 /// The fields of the first line, where the bytes between them are those of the plain form, and the bytes behind the line.
@@ -145,7 +154,7 @@ fn identifier_in_front(bytes: &[u8]) -> Option<(&[u8], &[u8])>
     ensures identifier { IfSome result (λ x. IsIdentifierText x.0.now) }
     ensures length { IfSome result (λ x. length bytes.now ≤ 8 + length x.1.now) }
 {
-    match hex_run(LANES, bytes) {
+    match hex_front(bytes) {
         8 => Some(bytes.split_at(8)),
         3 if bytes[0] < b'8' => Some(bytes.split_at(3)),
         _ => None,

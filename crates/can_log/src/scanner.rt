@@ -12,7 +12,7 @@ use crate::field::Stop;
 use crate::frame::Stamped;
 use crate::line::judge;
 use crate::meaning::stamped_of;
-use crate::plain::{plain_line, plain_stamped};
+use crate::plain::{plain_line, plain_stamped, put_plain_data};
 use arrayvec::ArrayVec;
 use memchr::memchr;
 use std::marker::Model;
@@ -103,16 +103,16 @@ impl Scanner {
         if self.line.is_empty() {
             // The way of most lines: the frame is made here, where it is answered, and copied nowhere.
             if let Some((fields, rest)) = plain_line(piece) {
-                if let Some(stamped) = plain_stamped(fields) {
-                    let used = piece.len() - rest.len();
-                    self.lines += 1;
-                    self.taken += used as u64;
-                    return Scan::Line {
-                        used,
-                        line: self.lines,
-                        what: Some(stamped),
-                    };
-                }
+                let mut data = ArrayVec::new();
+                put_plain_data(fields, &mut data);
+                let used = piece.len() - rest.len();
+                self.lines += 1;
+                self.taken += used as u64;
+                return Scan::Line {
+                    used,
+                    line: self.lines,
+                    what: Some(plain_stamped(fields, data)),
+                };
             }
         }
         self.scan_any(piece)

@@ -8,6 +8,6 @@ returns c =
     let digits = c.args.digits.now in
     let i = length digits / 16 in
     let le : 16 * i ≤ length digits = omega arith in
-    let room = c.try_extend_from_slice.ensures.variant.1 (rw (c.bytes_of_sixteens-bytes.ensures, c.as_slice.ensures.value, c.few_bytes-last.ensures) (the_rest_fits i digits c.requires le)) in
+    let room = c.try_extend_from_slice.ensures.variant.1 (rw (c.put_sixteens.ensures, c.as_slice.ensures.value, c.few_bytes-last.ensures) (the_rest_fits i digits c.requires le)) in
     from_ok c.try_extend_from_slice.result c.try_extend_from_slice.ensures.ok room
-    ∙ rw (c.bytes_of_sixteens-bytes.ensures, c.as_slice.ensures.value, c.few_bytes-last.ensures) (the_rest i digits le)
+    ∙ rw (c.put_sixteens.ensures, c.as_slice.ensures.value, c.few_bytes-last.ensures) (the_rest i digits le)

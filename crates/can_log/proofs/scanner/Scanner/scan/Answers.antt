@@ -6,14 +6,14 @@ use Rattle.can_log.proofs.LineFeeds.{line_clean}
 use Rattle.can_log.proofs.ScannerSteps.{scan_means, none_seen}
 use Rattle.can_log.proofs.scanner.Scanner.scan.Goals as goal
 
-pub returns-in-Some-plain_stamped : goal.returns-in-Some-plain_stamped
-returns-in-Some-plain_stamped c =
+pub returns-in-Some-plain_line : goal.returns-in-Some-plain_line
+returns-in-Some-plain_line c =
     let found = c.in-Some-plain_line in
     let line = c.self.inside.line.items in
     let piece = c.args.piece.now in
     let front = spell_line (spelling_of found.fields) in
-    let what = Some c.in-Some-plain_stamped.stamped in
-    let told : LineMeans front what = (spelling_of found.fields, found.ensures.legal, inl refl, c.in-Some-plain_stamped.ensures) in
+    let what = Some c.plain_stamped.result in
+    let told : LineMeans front what = (spelling_of found.fields, found.ensures.legal, inl refl, c.plain_stamped.ensures) in
     let none : line ≡ [] = nil_of line c.is_empty.result c.is_empty.ensures c.if-is_empty.true in
     let means : LineMeans (line ++ front) what = subst (λ (z : List ℕ). LineMeans (z ++ front) what) (sym none) told in
     let whole = ap (λ (z : List ℕ). length z) found.ensures.line ∙ length-append front _ in

@@ -2,7 +2,7 @@ use Rattle.std.proofs.Common.{◌≡◌, ◌≤◌, ◌+◌, ◌-◌, ◌*◌, t
 use Rattle.can_log.specs.Line.{bytes_spelled}
 use Rattle.can_log.proofs.Results.{from_ok}
 use Rattle.can_log.proofs.SpelledBytes.{part_of_front, sixteen_more, spelled_so_far}
-use Rattle.can_log.proofs.meaning.bytes_of_sixteens.Goals as goal
+use Rattle.can_log.proofs.meaning.put_sixteens.Goals as goal
 
 pub eight_bytes-requires-clause-text : goal.eight_bytes-requires-clause-text
 eight_bytes-requires-clause-text c = part_of_front c.loop-i.i c.args.sixteens c.args.digits.now c.requires.text c.requires.room (omega arith)
