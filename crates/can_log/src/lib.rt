@@ -19,12 +19,13 @@ mod canonical;
 mod field;
 mod frame;
 mod hexadecimal;
+mod lanes;
 pub mod laws;
 mod line;
 mod meaning;
 mod plain;
 mod scanner;
 
-pub use canonical::{LONGEST_LINE, line_bytes, line_length};
+pub use canonical::{LONGEST_LINE, append_line, line_bytes, line_length};
 pub use frame::{Dir, Frame, Id, Kind, Stamped};
 pub use scanner::{Scan, Scanner};
