@@ -1,7 +1,7 @@
 use Rattle.std.proofs.Common.{arith, ℕ, List, [], ◌++◌, ◌≡◌, refl, ap, sym, ◌∙◌}
 use Rattle.can_log.specs.Canonical.{canonical_line}
 use Rattle.can_log.specs.declared.frame.Dir.{Dir}
-use Rattle.trace_canon.specs.Writing.{behind, line_at, text_from, place_after}
+use Rattle.trace_canon.specs.Writing.{line_at, text_from, place_after}
 use Rattle.trace_canon.proofs.Results.{handed_on, at_ok}
 use Rattle.trace_canon.proofs.CanonicalWriting.{text_none, place_none, text_step, place_step, text_stop, place_stop}
 use Rattle.trace_canon.proofs.WrittenFronts.{written_none, block_ended, rest_along, rest_gathered, rest_stops}
