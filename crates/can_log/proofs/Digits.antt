@@ -1,7 +1,7 @@
--- Digits of a number: how they are written, how many they are, which, and their value.
+-- Digits of a number: how many they are, which, and their value.
 use Prim.Native.Nat.{zero, suc}
-use Rattle.std.proofs.Common.{◌≡◌, ℕ, ◌+◌, ◌*◌, ◌/◌, ◌%◌, ◌^◌, ◌<◌, ◌≤◌, List, [], ◌∷◌, ◌++◌, length, set, length-append, arith, refl, sym, ◌∙◌}
-use Rattle.std.specs.List.{AllByRecursion, replace_range}
+use Rattle.std.proofs.Common.{◌≡◌, ℕ, ◌*◌, ◌/◌, ◌%◌, ◌^◌, ◌<◌, ◌≤◌, length, length-append, arith, refl}
+use Rattle.std.specs.List.{AllByRecursion}
 use Rattle.std.specs.Char.{digit_value}
 use Rattle.std.specs.Str.Parse.{digits_value}
 use Rattle.std.proofs.Math.Nat.{pow-suc, pow-zero, div-lt_iff_lt-mul}
@@ -10,31 +10,11 @@ use Rattle.std.proofs.lemmas.Bool.Decides.{nat_tests}
 use Rattle.std.proofs.lemmas.Int.Digits.{digits_value_push}
 use Rattle.can_log.specs.Digits.{digit, digits}
 use Rattle.can_log.proofs.EachElement.{AllByRecursion-append}
-use Rattle.can_log.proofs.Replacing.{replace_range-nothing, replace_range-set}
 
 pub length-digits : (radix width number : ℕ) → length (digits radix width number) ≡ width
 unfolding digits
 length-digits radix zero number = refl
 length-digits radix (suc width) number = rw length-append (let e = length-digits radix width (number / radix) in omega arith)
-
--- the last digit is written, and the others are still to come
-pub one_more : (line whole : List ℕ) (at i j radix rest byte : ℕ) → i ≡ suc j → at + j < length line → byte ≡ digit (rest % radix)
-    → whole ≡ replace_range line at (at + i) (digits radix i rest)
-    → whole ≡ replace_range (set line (at + j) byte) at (at + j) (digits radix j (rest / radix))
-unfolding digits
-one_more line whole at i j radix rest byte next within is so_far =
-    let last : digits radix i rest ≡ digits radix j (rest / radix) ++ byte ∷ [] = rw (next, is) refl in
-    let end : at + i ≡ at + j + 1 = omega arith in
-    so_far ∙ rw (last, end) (replace_range-set line (digits radix j (rest / radix)) at (at + j) byte (omega arith) within)
-
--- all digits are written
-pub none_left : (line whole : List ℕ) (at i radix rest : ℕ) → i ≤ 0 → whole ≡ replace_range line at (at + i) (digits radix i rest) → line ≡ whole
-unfolding digits
-none_left line whole at i radix rest done so_far =
-    let here : at + i ≡ at = omega arith in
-    let none : i ≡ 0 = omega arith in
-    let all : whole ≡ replace_range line at at (digits radix 0 rest) = rw (here, none) at so_far in
-    sym (all ∙ replace_range-nothing line at)
 
 -- what holds of each digit of the base
 pub each_digit : (P : ℕ → Type 0) (radix : ℕ) → 0 < radix → ((d : ℕ) → d < radix → P (digit d))

@@ -2,12 +2,12 @@
 pub mod EachElement
 pub mod Lists
 pub mod Cuts
-pub mod Replacing
 pub mod FirstBytes
 pub mod Results
 -- digits
 pub mod Digits
 pub mod DigitTable
+pub mod WrittenDigits
 pub mod DigitValues
 pub mod LaneDigits
 pub mod LaneRuns
@@ -38,5 +38,6 @@ pub mod LogReads
 -- canonical lines
 pub mod CanonicalData
 pub mod CanonicalLines
+pub mod StampDigits
 -- what the crates above may cite, besides EachElement
 pub mod Promises

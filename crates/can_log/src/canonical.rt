@@ -1,12 +1,12 @@
 //! The canonical line of a frame.
-ghost use Rattle.std.specs.Prelude.{◌≡◌, ◌+◌, ◌^◌, ◌<◌, ◌≤◌, [], ◌∷◌, Some};
-ghost use Rattle.std.specs.List.{flat_map, replace_range};
-ghost use Rattle.can_log.specs.Digits.{digit, digits, hexadecimal};
+ghost use Rattle.std.specs.Prelude.{◌≡◌, ◌+◌, ◌/◌, ◌%◌, ◌^◌, ◌<◌, ◌≤◌, [], ◌∷◌, ◌++◌, Some, codes, length};
+ghost use Rattle.arrayvec.specs.ArrayVec.{array_vec_len};
+ghost use Rattle.can_log.specs.Digits.{decimal};
 ghost use Rattle.can_log.specs.Canonical.{canonical_length, canonical_line, canonical_stamped};
-ghost use Rattle.can_log.specs.Filled.{filled_line};
 ghost use Rattle.can_log.specs.Frame.{IsCanIdentifier};
 ghost use Rattle.can_log.specs.Log.{LogMeans};
 
+use crate::digits::{decimal_digits, digits_of_bytes, hexadecimal_digits};
 use crate::frame::Id;
 use arrayvec::ArrayVec;
 
@@ -26,20 +26,27 @@ pub fn line_bytes(n: u64, id: Id, data: &[u8; 8]) -> ArrayVec<u8, LONGEST_LINE>
     ensures bytes { result.items ≡ canonical_line n id «data».now }
     ensures means { LogMeans result.items (Some (canonical_stamped n id «data».now) ∷ []) }
 {
+    let mut line = ArrayVec::new();
+    append_line(&mut line, n, id, data);
+    line
+}
+
+/// Appends the line that [`line_bytes`] makes, so that it is made where it is to lie.
+#[inline(always)]
+pub fn append_line<const CAP: usize>(text: &mut ArrayVec<u8, CAP>, n: u64, id: Id, data: &[u8; 8])
+    requires n { n < 10 ^ 13 }
+    requires room { array_vec_len text.old + canonical_length id ≤ CAP }
+    ensures { text.new.items ≡ text.old.items ++ canonical_line n id «data».now }
+{
+    append(text, &stamp(n));
+    append(text, b"00) can0 ");
     match id {
-        Id::Std(number) => {
-            let mut line = *b"(0000000000.000000) can0 000#0000000000000000\n     ";
-            fill(&mut line, n, 3, u64::from(number), data);
-            let mut line = ArrayVec::from(line);
-            line.truncate(BASE_LINE);
-            line
-        }
-        Id::Ext(number) => {
-            let mut line = *b"(0000000000.000000) can0 00000000#0000000000000000\n";
-            fill(&mut line, n, 8, u64::from(number), data);
-            ArrayVec::from(line)
-        }
+        Id::Std(number) => append(text, &hexadecimal_digits::<3>(u32::from(number))),
+        Id::Ext(number) => append(text, &hexadecimal_digits::<8>(number)),
     }
+    append(text, b"#");
+    append(text, &digits_of_bytes(data));
+    append(text, b"\n");
 }
 
 /// How many bytes the line of an identifier has, its line feed counted.
@@ -52,56 +59,26 @@ pub fn line_length(id: Id) -> usize
     }
 }
 
-/// Writes what changes over a line: the time, the identifier of so many digits, and the data. Inlined, so that the width
-/// is a constant.
+/// The time as far as its milliseconds, and the zero after them. With a digit in place of each of its two marks it is one
+/// number of sixteen digits.
 #[inline(always)]
-#[tactic(auto, unfolding(crate::specs::Filled::filled_line))]
-fn fill(line: &mut [u8; LONGEST_LINE], n: u64, width: usize, number: u64, data: &[u8; 8])
-    requires width { width ≤ 8 }
-    ensures { line.new ≡ filled_line line.old n width number «data».now }
+fn stamp(n: u64) -> [u8; 16]
+    requires { n < 10 ^ 13 }
+    ensures { result ≡ codes "(" ++ decimal 10 (n / 1000) ++ codes "." ++ decimal 3 (n % 1000) ++ codes "0" }
 {
-    put_digits(line, 1, 10, n / 1000, 10);
-    put_digits(line, 12, 3, n % 1000, 10);
-    put_digits(line, 25, width, number, 16);
-    put_bytes(line, 26 + width, data);
+    let mut text = decimal_digits(n / 1000 * 100_000 + n % 1000 * 10);
+    text[0] = b'(';
+    text[11] = b'.';
+    text
 }
 
-/// Writes the last digits of the number over the line, from a place on. Inlined, so that the base is a constant.
+/// Appends bytes that there is room for.
 #[inline(always)]
-fn put_digits(line: &mut [u8; LONGEST_LINE], at: usize, width: usize, number: u64, radix: u64)
-    requires place { at + width ≤ 51 }
-    requires least { 0 < radix }
-    requires most { radix ≤ 16 }
-    ensures { line.new ≡ replace_range line.old at (at + width) (digits radix width number) }
+fn append<const CAP: usize>(text: &mut ArrayVec<u8, CAP>, bytes: &[u8])
+    requires { array_vec_len text.old + length bytes.now ≤ CAP }
+    ensures { text.new.items ≡ text.old.items ++ bytes.now }
 {
-    let mut rest = number;
-    for i in (0..width).rev() {
-        line[at + i] = digit((rest % radix) as u8);
-        rest /= radix;
-    }
-}
-
-/// The digits of the numbers below 16.
-static DIGITS: [u8; 16] = *b"0123456789ABCDEF";
-
-/// The digit of a number below 16, in upper case.
-#[inline(always)]
-fn digit(number: u8) -> u8
-    requires { number < 16 }
-    ensures { result ≡ digit number }
-{
-    DIGITS[usize::from(number)]
-}
-
-/// Writes the data's digits over the line from a place on, two for each byte.
-#[inline(always)]
-fn put_bytes(line: &mut [u8; LONGEST_LINE], at: usize, bytes: &[u8; 8])
-    requires { at ≤ 35 }
-    ensures { line.new ≡ replace_range line.old at (at + 16) (flat_map (hexadecimal 2) bytes.now) }
-{
-    for (i, byte) in bytes.iter().enumerate() {
-        put_digits(line, at + 2 * i, 2, u64::from(*byte), 16);
-    }
+    let _ = text.try_extend_from_slice(bytes);
 }
 
 #[cfg(test)]

@@ -16,6 +16,7 @@
 #![tactic(auto)]
 
 mod canonical;
+mod digits;
 mod field;
 mod frame;
 mod hexadecimal;
@@ -26,6 +27,6 @@ mod meaning;
 mod plain;
 mod scanner;
 
-pub use canonical::{LONGEST_LINE, line_bytes, line_length};
+pub use canonical::{LONGEST_LINE, append_line, line_bytes, line_length};
 pub use frame::{Dir, Frame, Id, Kind, Stamped};
 pub use scanner::{Scan, Scanner};

@@ -34,10 +34,10 @@ behind place line = record { lines = place.lines + 1; room = place.room - length
 abbrev pub filled_up : Place → Place
 filled_up place = record { lines = place.lines; room = 0; is_over = true }
 
--- the line of a frame is laid there, where it fits
-abbrev pub Lays : Settings → Place → Dir × List ℕ → Option (List ℕ) → Place → Type 0
-Lays settings old frame (Some line) new =
-    (line ≡ line_at settings old.lines frame) × (length line ≤ old.room) × (new ≡ behind old line)
+-- the line of a frame is laid there, by its number, where it fits
+abbrev pub Lays : Settings → Place → Dir × List ℕ → Option ℕ → Place → Type 0
+Lays settings old frame (Some number) new =
+    (number ≡ old.lines) × (length (line_at settings old.lines frame) ≤ old.room) × (new ≡ behind old (line_at settings old.lines frame))
 Lays settings old frame None new = (old.room < length (line_at settings old.lines frame)) × (new ≡ filled_up old)
 
 -- the text of frames from there on: their lines, up to the first that does not fit

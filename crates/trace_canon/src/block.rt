@@ -1,9 +1,10 @@
 //! Text gathered in a fixed buffer, so that it is written in few pieces.
-ghost use Rattle.std.specs.Prelude.{◌≡◌, ◌+◌, ◌^◌, ◌≤◌, ◌++◌, MatchResult};
+ghost use Rattle.std.specs.Prelude.{◌≡◌, ◌+◌, ◌^◌, ◌<◌, ◌≤◌, ◌++◌, MatchResult};
+ghost use Rattle.can_log.specs.Canonical.{canonical_line};
 ghost use Rattle.trace_canon.specs.Writing.{HasGathered};
 
 use arrayvec::ArrayVec;
-use can_log::LONGEST_LINE;
+use can_log::{Id, LONGEST_LINE, append_line};
 use trace_io::{DeviceFault, Target, write_all};
 
 /// The most bytes that are gathered for one write: 64 canonical lines, the longest that there are.
@@ -36,5 +37,32 @@ pub(crate) fn gather<W: Target>(
     }
     // There is room for the text now.
     let _ = block.try_extend_from_slice(text);
+    Ok(())
+}
+
+/// Appends the canonical line of a frame to the block, where it is made: no line is made elsewhere and copied. A block that
+/// may have no room for it is written first.
+#[inline(always)]
+pub(crate) fn gather_line<W: Target>(
+    writer: &mut W,
+    block: &mut Block,
+    n: u64,
+    id: Id,
+    frame: &[u8; 8],
+) -> Result<(), DeviceFault>
+    requires failures { W.failures writer.old ≤ 2 ^ 62 }
+    requires n { n < 10 ^ 13 }
+    ensures gathered { W.tells writer.old
+        → HasGathered result (W.written writer.old) (block.old.items ++ canonical_line n id frame.now) (W.written writer.new) block.new.items }
+    ensures tells { W.tells writer.old → W.tells writer.new }
+    ensures failures { MatchResult result
+        (λ _. W.failures writer.new ≡ W.failures writer.old) (λ _. W.failures writer.new ≡ W.failures writer.old + 1) }
+    ensures no_empty_write { W.had_empty_write writer.new ≡ W.had_empty_write writer.old }
+{
+    if block.remaining_capacity() < LONGEST_LINE {
+        write_all(writer, block.as_slice())?;
+        block.clear();
+    }
+    append_line(block, n, id, frame);
     Ok(())
 }

@@ -6,7 +6,7 @@ ghost use Rattle.isotp_segment.specs.CanonicalFrames.{canonical_frames};
 ghost use Rattle.trace_io.specs.Written.{HasWritten};
 ghost use Rattle.trace_canon.specs.Writing.{text_from, place_after};
 
-use crate::block::{Block, gather};
+use crate::block::{Block, gather_line};
 use crate::config::Config;
 use crate::place::Place;
 use can_log::Dir;
@@ -141,10 +141,10 @@ fn write_frames<W: Target>(
 {
     block.clear();
     'frames: for (sender, frame) in frames {
-        let Some(line) = place.next_line(config, sender, &frame) else {
+        let Some(number) = place.next_line(config, sender) else {
             return write_all(writer, block.as_slice());
         };
-        gather(writer, block, line.as_slice())?;
+        gather_line(writer, block, number, config.id_of(sender), &frame)?;
     }
     write_all(writer, block.as_slice())
 }

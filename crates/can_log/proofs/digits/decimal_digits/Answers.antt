@@ -1,0 +1,8 @@
+use Rattle.std.proofs.Common.{◌∙◌}
+use Rattle.can_log.proofs.WrittenDigits.{sixteen}
+use Rattle.can_log.proofs.digits.decimal_digits.Goals as goal
+
+pub returns : goal.returns
+returns c =
+    let lanes = rw c.base_hundred-hundreds.ensures at c.digits_of.ensures in
+    lanes ∙ sixteen c.args.number
