@@ -1,4 +1,4 @@
-"""Runs of the built program, each compared with what is wanted of it."""
+"""Runs of the built program, each compared with what is expected of it."""
 
 import subprocess
 import sys

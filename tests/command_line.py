@@ -88,7 +88,7 @@ def jobs(cases):
 
 
 def options(cases):
-    """Options stand on either side of the file, with a space or with `=`."""
+    """Options come before or after the file, with a space or with `=`."""
     other = LOG.replace(b"7E0", b"7e2")
     for name, words in [
         ("before the file", ["list", "--tester", "7E2", "other.log"]),

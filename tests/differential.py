@@ -77,7 +77,7 @@ def message_of(rng, services):
 
 
 def noise(rng):
-    """A frame that is foreign, means nothing or stands where nobody expects it."""
+    """A frame that is foreign, means nothing or comes where nobody expects it."""
     sender = rng.choice(("7E0", "7E8", "7E8", "123", "7DF"))
     kind = rng.choice((0x00, 0x03, 0x10, 0x1F, 0x21, 0x2F, 0x30, 0x31, 0x32, 0x32, 0x33, 0x40, 0xFF))
     size = rng.choice((0, 1, 2, 3, 7, 8, 8, 9, 11, 12, 16, 24, 48, 63, 64))
@@ -201,7 +201,7 @@ def words_of(job, limit):
 
 
 def difference(program, job, log, limit=oracle.GIBIBYTE):
-    """How the program's run of a job over this log differs from what the log comes to."""
+    """How the program's run of a job over this log differs from what the oracle says of it."""
     words = words_of(job, limit)
     return unlike(words, log, run(program, words, log), ORACLES[job](log, limit))
 
@@ -217,7 +217,7 @@ def difference_of_two(program, folder, pair, limit):
 def unlike(words, log, found, came):
     """What is told where a run is not as it should be."""
     status, written, told = found
-    # Of a refused log an explanation has told of some of the frames before.
+    # The explanation of a refused log has told of some of the frames before.
     is_written = came.written.startswith(written) if came.fault and words[0] == "explain" else came.written == written
     if is_written and (status, told) == (came.status, f"{came.fault}\n".encode() if came.fault else b""):
         return None

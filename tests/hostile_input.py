@@ -18,7 +18,7 @@ from pathlib import Path
 import oracle
 from cases import DONE, REFUSAL, Cases
 
-# The shortest line with a frame of so many bytes, without its data digits and with its line feed.
+# The shortest line with a frame, without its data digits and with its line feed.
 CLASSIC_LINE = len(b"(0.000000) a 7E8#\n")
 FD_LINE = len(b"(0.000000) a 7E8##0\n")
 CANONICAL_LINE = 46
@@ -27,8 +27,8 @@ CANONICAL_LINE = 46
 FRAME_LENGTHS = (*range(9), 12, 16, 20, 24, 32, 48, 64)
 RX_DLS = (8, 12, 16, 20, 24, 32, 48, 64)
 
-# What is written of a log, at most: so many bytes for so many bytes of it. By how many digits more than three the identifiers
-# of the sender and of the receiver have.
+# The most bytes that are written for each byte of a log, by how many digits more than three the identifiers of the sender and
+# of the receiver have.
 MOST_CANONICAL = {(0, 0): Fraction(46, 13), (0, 5): Fraction(189, 52), (5, 0): Fraction(199, 57), (5, 5): Fraction(68, 19)}
 LONGEST_ITEM = "{} exchange DynamicallyDefineDataIdentifier 2C -> unanswered\n"
 LONGEST_ITEM_OF_ONE_FRAME = "{} exchange DynamicallyDefineDataIdentifier 2C000000000000 -> unanswered\n"
@@ -183,7 +183,7 @@ def memory(cases):
 
 
 def work(cases):
-    """The jobs come to an end of logs of one kind of line. The time for each byte is printed, and nothing fails by it."""
+    """The jobs reach the end of logs of one kind of line. The time for each byte is printed, and nothing fails by it."""
     size = 4_000_000
     for line in [ONE_BYTE, FOURTEEN_BYTES, REQUEST, CONSECUTIVE, FIRST, FOREIGN, BLANK, LONGEST]:
         log = REQUEST + line * (size // len(line))

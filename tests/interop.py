@@ -25,7 +25,7 @@ TOP = Path(__file__).resolve().parent.parent
 PAGE = TOP / "docs" / "interop.md"
 PACKAGES = {"log2asc": "can-utils", "python-can": "python3-can", "tshark": "tshark"}
 
-# By python-can: reads a log of candump, or writes a file anew in the format that the other name ends in.
+# By python-can: reads a log of candump, or writes a file again in the format that the other name ends in.
 READER = """
 import can, sys
 for message in can.CanutilsLogReader(sys.argv[1]):

@@ -1,5 +1,5 @@
 #!/usr/bin/env python3
-"""What a log comes to, by the definitions alone.
+"""The outcome of a log, by the definitions alone.
 
     tests/oracle.py [LIMIT [TESTER UNIT]] < LOG > CANONICAL
 
@@ -60,8 +60,8 @@ def is_legal(line):
 
 
 def refused_column(line):
-    """Of a line that is not legal, the column of the first byte after which no legal line begins so; where every byte
-    passes, the column after the last."""
+    """The column of the first byte that no legal line can have there, in a line that is not legal; where every byte passes,
+    the column after the last."""
     for column in range(1, len(line) + 1):
         if not any(is_legal(line[:column] + completion) for completion in COMPLETIONS):
             return column
@@ -310,7 +310,7 @@ def canonical_lines(listed, sides=SIDES):
 
 
 def fitting(lines, limit):
-    """The longest front of lines that has at most so many bytes."""
+    """The longest front of whole lines within the limit."""
     ends = itertools.accumulate(map(len, lines))
     return "".join(line for line, end in zip(lines, ends) if end <= limit).encode()
 
@@ -516,7 +516,7 @@ def items_of(lines, sides=SIDES):
 
 
 def outcome(log, limit=GIBIBYTE, sides=SIDES):
-    """What a log comes to: its canonical log, or why it is refused, and what is written of the canonical log before."""
+    """The outcome of a log: its canonical log, or why it is refused, and what is written of the canonical log before."""
     refused = refusal(log, limit, sides=sides)
     if refused:
         known = canonical_lines(early(messages(trace(refused.lines, sides))), sides)
@@ -528,13 +528,13 @@ def outcome(log, limit=GIBIBYTE, sides=SIDES):
 
 
 def listed(log, limit=GIBIBYTE):
-    """The list of a log, which is accepted and refused as its canonical log is. Of a refused log nothing is written."""
+    """The list of a log, which is accepted and refused as its canonical log is. Nothing is written of a refused log."""
     came = outcome(log, limit)
     return Outcome(came.status, came.fault, list_text(items_of(cut(log))).encode() if came.status == DONE else b"")
 
 
 def explained(log, limit=GIBIBYTE):
-    """The explanation of a log. Of a refused one a front of what its frames did is written."""
+    """The explanation of a log; where it is refused, that of its frames before the fault."""
     refused = refusal(log, limit, is_long_refused=False)
     if refused:
         return Outcome(REFUSED, refused.fault, frames_text(trace(refused.lines)).encode())

@@ -1,14 +1,14 @@
 #!/usr/bin/env python3
-"""Tests of docs/recipes.md: its commands, taken out of the page itself, print what stands there.
+"""Tests of docs/recipes.md: its commands, taken out of the page itself, print what the page shows.
 
     tests/recipes.py crates/udsnorm/out/udsnorm
 
 Each section is a session of bash in a folder of its own. Its blocks are:
 
 - `sh` without a name: the commands that copy sample logs to /tmp/try, done once a section, with the section's folder in its place;
-- `console TOOL...`: commands, each behind `$`, and what they print. Where a tool is missing the block is skipped. One of
+- `console TOOL...`: commands, each after `$`, and what they print. Where a tool is missing the block is skipped. One of
   `candump` needs a bus and is always skipped;
-- `sh NAME`: a script, saved as NAME for this section and those behind it.
+- `sh NAME`: a script, saved as NAME for this section and those after it.
 
 Prints a line for each case and ends with `N passed, M failed`; its status is 1 where a case failed.
 """
@@ -26,13 +26,13 @@ from cases import Cases
 TOP = Path(__file__).resolve().parent.parent
 PAGE = TOP / "docs" / "recipes.md"
 
-# Stands behind what each command prints. The next command still finds the status in $?.
+# Follows what each command prints. The next command still finds the status in $?.
 MARK = "\x01"
 BEHIND = "\n__status=$?; printf '\\001'; (exit $__status)\n"
 
 
 def sections(page):
-    """The title and the blocks of each section: what stands behind the fence, the line, and the text."""
+    """The title and the blocks of each section: what follows the fence, the line, and the text."""
     title, found, fence = "", [], None
     for number, line in enumerate(page.split("\n"), 1):
         if fence is not None and line == "```":

@@ -100,7 +100,7 @@ def case(name, holds, seen):
 
 
 def table(text):
-    """The rows of a table, each with its numbers by column. What stands before the numbers is the row's name."""
+    """The rows of a table, each with its numbers by column. What comes before the numbers is the row's name."""
     columns, *rows = (line.split() for line in text.strip().splitlines())
     names = [" ".join(row[: -len(columns)]) for row in rows]
     numbers = [zip(columns, row[-len(columns) :]) for row in rows]
@@ -147,8 +147,8 @@ def run(program, words, refuser, growth):
 
 def words_refused(program, refuser, name, words, growths, swallowed):
     """Whichever growth is refused, the program says so, and has written a front of what it writes with ample memory. Of a
-    comparison it says so without a side, then of the left log and then of the right one. So many growths are swallowed
-    inside the parser: its answer is the same."""
+    comparison it says so without a side, then of the left log and then of the right one. The parser swallows this
+    many growths: its answer is the same."""
     done = subprocess.run([program, *words], capture_output=True, timeout=60)
     ample = done.returncode, done.stdout, done.stderr
     told = TOLD_OF_TWO if "compare" in words else TOLD

@@ -60,7 +60,7 @@ def names_are_complete(program):
     case("the help names four commands", [] if len(commands) == 4 else [str(commands)])
     texts = {"the manual page": MANUAL.read_text().replace("\\-", "-")}
     for completion in COMPLETIONS:
-        # A long option of fish stands without its dashes.
+        # A long option of fish is written without its dashes.
         texts[completion.name] = re.sub(r" -l (\w)", r" --\1", completion.read_text())
     for name, text in texts.items():
         wrong = [f"no {word}" for word in missing_in(text, commands)]

@@ -13,7 +13,7 @@ use std::test::Fail;
 use trace_canon::{CompareFault, Config, Fault, Summary, explain, list, normalise};
 use trace_io::{Endless, FailsAfter, FailsAt, FullAfter, Reading, Short, Source, Target, Writing};
 
-/// A reader that gives one byte a call, until the read after so many bytes fails.
+/// A reader that gives one byte a call, until the read after `given` bytes fails.
 fn failing(log: &[u8], given: usize) -> FailsAt<Short<&[u8]>> {
     FailsAt {
         inner: byte_by_byte(log),

@@ -142,7 +142,7 @@ fn each_example_has_its_canonical_log_and_items(rt: HostRuntime) -> Result<(), F
     Ok(())
 }
 
-/// A session of the sides 18DA10F1 and 18DAF110, as the folder has it, too.
+/// A session of the sides 18DA10F1 and 18DAF110, also as the folder has it.
 const OF_EXTENDED_IDENTIFIERS: &str = "\
 extended-identifiers.log
 line (1700000700.000000) can0 18DA10F1#0322F190AAAAAAAA

@@ -1,8 +1,8 @@
 //! The layers together: a library of tests and of nothing else.
 //!
 //! Each crate below is proved by itself, and its tests show that its own definitions say what was meant. The tests here
-//! take whole logs from text to text, as a program does, so that they show that the layers mean the same by what they
-//! hand to one another: lines, directions, frames, messages, items. A session is written as its frames, beside the
+//! take whole logs from text to text, as a program does. So they show that the layers mean the same by what they hand
+//! to one another: lines, directions, frames, messages, items. A session is written as its frames, beside the
 //! canonical log that it has to become:
 //!
 //! ```text

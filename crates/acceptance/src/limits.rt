@@ -72,7 +72,7 @@ const FD_LAST: &str = "(1.000000) can0 7E8##000141101010101010101010101010101010
 /// Limit, log and what is told of it.
 type Limited = (u64, &'static str, &'static str);
 
-/// Of these nothing is written.
+/// Nothing is written of these.
 const NOTHING_WRITTEN: [Limited; 24] = [
     // The refused byte is the line feed, byte 22.
     (22, HALF_BYTE, "line 1 column 22: not a log line"),
@@ -128,7 +128,7 @@ const SEVERAL: &[&str] = &[
     "7E8#2201010101010101",
 ];
 
-/// Of these so many of the canonical frames are written.
+/// The canonical frames of these, and how many of them are written.
 const WRITTEN: [(Limited, &[&str], usize); 12] = [
     ((46, ONE, ACCEPTED), SINGLE, 1),
     // Whole lines, of a message too. A last line counts without its line feed.

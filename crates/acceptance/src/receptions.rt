@@ -268,7 +268,7 @@ fn a_consecutive_frame_is_late_after_a_second(rt: HostRuntime) -> Result<(), Fai
     Ok(())
 }
 
-/// This is told of a log of which nothing is kept.
+/// This is what explains a log whose canonical log is empty.
 fn assert_told(rt: &impl Abort, alloc: Global, log: &str, expected: &str) -> Result<(), Fail> {
     let (summary, canonical) = normalised(rt, alloc, log)?;
     assert!(rt; canonical.is_empty());

@@ -6,7 +6,7 @@ use std::process::Abort;
 use std::test::Fail;
 use trace_canon::Fault;
 
-/// A response of this length, no two neighbouring bytes of which are alike.
+/// A response of this length, in which no two neighbouring bytes are equal.
 fn message_of(alloc: Global, len: usize) -> Result<Vec<u8>, AllocError> {
     let mut message = Vec::new(alloc);
     for i in 0..len {

@@ -4,8 +4,8 @@ use crate::run::{GIBIBYTE, VIN_LINES, log_of, log_of_frames, run_cut};
 use std::test::Fail;
 use trace_canon::{Fault, Summary};
 
-/// The column of the first byte after which no line begins so, and the line. A carriage return stands at the end of a line that
-/// is complete, or empty, and only one does.
+/// The column of the first byte that no line can have there, and the line. A carriage return may end a line that is
+/// complete, or empty, and only one may.
 const REFUSED: &str = "\
 1  (1.000000) can0 7E0#
 1 DROPCOUNT: 1

@@ -1,4 +1,4 @@
-//! Tables in a text: its rows are parted by a blank line, and a row is a line with its name and lines that each begin with a
+//! Tables in a text: rows are separated by a blank line, and a row is a line with its name and lines that each begin with a
 //! mark. A text is proved far faster than an array of arrays.
 
 use std::alloc::{AllocError, Global};
@@ -8,7 +8,7 @@ pub(crate) fn name_of(row: &str) -> &str {
     row.split('\n').next().unwrap_or("")
 }
 
-/// The lines of a row that begin with this mark, without it and the space behind it.
+/// The lines of a row that begin with this mark, without it and the space after it.
 pub(crate) fn marked(alloc: Global, row: &str, mark: &str) -> Result<String, AllocError> {
     let mut text = String::new(alloc);
     for line in row.split('\n').skip(1) {
@@ -20,8 +20,8 @@ pub(crate) fn marked(alloc: Global, row: &str, mark: &str) -> Result<String, All
     Ok(text)
 }
 
-/// The log of the frames in the lines of a row that begin with this mark, a millisecond apart from 0 on, as a canonical log
-/// has them.
+/// The log of the frames in the lines of a row that begin with this mark, a millisecond apart from 0 on, as in a canonical
+/// log.
 pub(crate) fn frames_marked(alloc: Global, row: &str, mark: &str) -> Result<String, AllocError> {
     let mut log = String::new(alloc);
     let mut n = 0usize;

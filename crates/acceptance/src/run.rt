@@ -67,8 +67,8 @@ pub(crate) fn byte_by_byte(log: &[u8]) -> Short<&[u8]> {
 }
 
 /// A log normalised and explained, in one piece and byte by byte, which has to give the same. The calls that give its meaning
-/// accept it where this is accepted, and refuse it alike where not; then nothing is listed. So does its explanation, which
-/// knows no message too long and no canonical log.
+/// accept it where this is accepted, and else refuse it in the same way; then nothing is listed. So does its explanation,
+/// for which no message is too long and which has no canonical log.
 pub(crate) fn run_cut(rt: &impl Abort, alloc: Global, limit: u64, log: &[u8]) -> Result<Ran, Fail> {
     let whole = run(alloc, limit, log)?;
     let cut = run_over(alloc, limit, byte_by_byte(log))?;
@@ -112,7 +112,7 @@ pub(crate) fn normalised(
     Ok((summary, String::from_utf8(canonical)?))
 }
 
-/// This is told of a log that is accepted, the counts last. Its canonical log.
+/// The canonical log of an accepted log, of which this text is told, the counts last.
 pub(crate) fn told(
     rt: &impl Abort,
     alloc: Global,
@@ -127,7 +127,7 @@ pub(crate) fn told(
     Ok(canonical)
 }
 
-/// Of a log is told what the row has as `told`, and its canonical log has the frames that the row has as `canonical`.
+/// What is told of a log is what the row has as `told`; its canonical log has the frames of the row's `canonical`.
 pub(crate) fn assert_row(rt: &impl Abort, alloc: Global, log: &str, row: &str) -> Result<(), Fail> {
     let expected = marked(alloc, row, "told")?;
     let canonical = told(rt, alloc, log, expected.as_str(), name_of(row))?;
@@ -136,7 +136,7 @@ pub(crate) fn assert_row(rt: &impl Abort, alloc: Global, log: &str, row: &str) -
     Ok(())
 }
 
-/// Of a log is listed what the row has as `item`.
+/// The items of a log are what the row has as `item`.
 pub(crate) fn assert_listed(
     rt: &impl Abort,
     alloc: Global,
@@ -149,7 +149,7 @@ pub(crate) fn assert_listed(
     Ok(())
 }
 
-/// The first bytes of a text: so many, or all.
+/// The first `len` bytes of a text, or all where it has fewer.
 pub(crate) fn front_of(text: &[u8], len: usize) -> &[u8] {
     &text[..len.min(text.len())]
 }
@@ -182,7 +182,7 @@ pub(crate) fn log_of(alloc: Global, lines: &[&str]) -> Result<String, AllocError
     Ok(log)
 }
 
-/// A log of these frames, a millisecond apart from 0 on, as a canonical log has them.
+/// A log of these frames, a millisecond apart from 0 on, as in a canonical log.
 pub(crate) fn log_of_frames(alloc: Global, frames: &[&str]) -> Result<String, AllocError> {
     let mut log = String::new(alloc);
     for (n, frame) in frames.iter().enumerate() {

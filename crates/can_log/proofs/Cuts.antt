@@ -1,7 +1,7 @@
 -- A list that is cut at two of its elements.
 use Rattle.std.proofs.Common.{◌≡◌, List, [], ◌∷◌, ◌++◌, refl, sym, ap, inl, inr, ◌⊎◌}
 
--- a list is x between a and p, and y between b and q: the two cuts are one, or the first is before the other, or behind it
+-- a list is x between a and p, and y between b and q: the two cuts are one, or the first is before the other, or after it
 abbrev pub TwoCuts : {X : Type 0} → List X → X → List X → List X → X → List X → Type 0
 TwoCuts {X} a x p b y q = ((a ≡ b) × (x ≡ y) × (p ≡ q)) ⊎ (((z : List X) × (b ≡ a ++ x ∷ z)) ⊎ ((z : List X) × (a ≡ b ++ y ∷ z)))
 

@@ -1,4 +1,4 @@
--- The values of digits, and how large a number of so many digits is.
+-- The values of digits, and how large a number of n digits is.
 use Prim.Native.Char.{code}
 use Rattle.std.proofs.Common.{◌≡◌, ℕ, ◌+◌, ◌-◌, ◌*◌, ◌^◌, ◌<◌, ◌≤◌, Bool, true, sym, arith}
 use Rattle.std.proofs.Common.{List, [], ◌∷◌, length, get_or, take}
@@ -28,7 +28,7 @@ AreDigits = AllByRecursion (λ b. is_ascii_digit b ≡ true)
 abbrev pub AreHex : List ℕ → Type 0
 AreHex = AllByRecursion (λ b. is_ascii_hexdigit b ≡ true)
 
--- at most so many digits of a base make a number below that power of the base
+-- at most `most` digits of a base make a number below that power of the base
 module _ (base : ℕ) (is_digit : ℕ → Bool) (is_below : (b : ℕ) → is_digit b ≡ true → digit_value b < base) where
   all_digits : (digits : List ℕ) → AllByRecursion (λ b. is_digit b ≡ true) digits → AllDigits base digits
   all_digits [] each = tt

@@ -15,7 +15,7 @@ module _ {X : Type 0} (P : X → Type 0) where
   AllByRecursion-front [] ys each = tt
   AllByRecursion-front (x ∷ xs) ys each = (each.0, AllByRecursion-front xs ys each.1)
 
-  -- and of each behind one
+  -- and of each after one
   pub AllByRecursion-back : (xs ys : List X) → AllByRecursion P (xs ++ ys) → AllByRecursion P ys
   AllByRecursion-back [] ys each = each
   AllByRecursion-back (x ∷ xs) ys each = AllByRecursion-back xs ys each.1

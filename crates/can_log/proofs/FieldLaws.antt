@@ -34,7 +34,7 @@ pub record Refuses {V : Type 0} (read : Reader V) (bytes rest : List ℕ) : Type
   pub for_good : (other : List ℕ) → read (text ++ bad ∷ other) ≡ Err (refused (bad ∷ other))
   pub so_far : IsOpen (read text)
 
--- At most so many bytes more make it a form.
+-- At most `most` more bytes make it a form.
 pub record CanEnd {V : Type 0} (Form : V → List ℕ → Type 0) (most : ℕ) (bytes : List ℕ) : Type 0 where
   pub more : List ℕ
   pub value : V
@@ -52,7 +52,7 @@ pub record Law {V : Type 0} (read : Reader V) (Form : V → List ℕ → Type 0)
   -- bytes that are too short can end as a text
   pub shorts : (bytes : List ℕ) → read bytes ≡ Err short → CanEnd Form most bytes
 
--- another reader refuses the same byte, behind the same bytes
+-- another reader refuses the same byte, after the same bytes
 pub refuses_as : {V W : Type 0} {read : Reader V} (other : Reader W) {bytes rest : List ℕ} → (r : Refuses read bytes rest)
     → ((more : List ℕ) → other (r.text ++ r.bad ∷ more) ≡ Err (refused (r.bad ∷ more))) → IsOpen (other r.text) → Refuses other bytes rest
 refuses_as other r for_good so_far = record {
@@ -107,7 +107,7 @@ module _ {V : Type 0} {read : Reader V} {Form : V → List ℕ → Type 0} {may_
 
 -- ---- one field, and then another
 
--- a text of the first, and behind it one of the second
+-- a text of the first, and after it one of the second
 pub record Both {V W : Type 0} (Form : V → List ℕ → Type 0) (Next : V → W → List ℕ → Type 0) (p : V × W) (text : List ℕ) : Type 0 where
   pub front : List ℕ
   pub back : List ℕ
@@ -132,7 +132,7 @@ module _ {V W : Type 0} (read : Reader V) (next : V → Reader W) where
   unfolding both
   both_is bytes v middle e = rw e refl
 
-  -- the second is read behind a text of the first
+  -- the second is read after a text of the first
   both_behind : (front back rest : List ℕ) (v : V) → read (front ++ (back ++ rest)) ≡ Ok (v, back ++ rest)
       → both read next ((front ++ back) ++ rest) ≡ (next v (back ++ rest) >>= λ y. Ok ((v, y.0), y.1))
   both_behind front back rest v e = ap (both read next) (append_assoc front back rest) ∙ both_is (front ++ (back ++ rest)) v (back ++ rest) e
@@ -151,7 +151,7 @@ module _ {V W : Type 0} (read : Reader V) (next : V → Reader W) where
 -- the law of two readers, one after the other
 module _ {V W : Type 0} {read : Reader V} {next : V → Reader W} {Form : V → List ℕ → Type 0} {Next : V → W → List ℕ → Type 0}
     {may_follow next_may_follow : ℕ → Type 0} {k n : ℕ} (law : Law read Form may_follow k) (next_law : (v : V) → Law (next v) (Next v) next_may_follow n) where
-  -- a text of the second, behind one of the first
+  -- a text of the second, after one of the first
   second_takes : (bytes : List ℕ) (v : V) (middle : List ℕ) (w : W) (rest : List ℕ) → Takes read Form bytes v middle
       → Takes (next v) (Next v) middle w rest → Takes (both read next) (Both Form Next) bytes (v, w) rest
   second_takes bytes v middle w rest t u = record {
@@ -173,7 +173,7 @@ module _ {V W : Type 0} {read : Reader V} {next : V → Reader W} {Form : V → 
       subst (λ (q : (V × W) × List ℕ). Takes (both read next) (Both Form Next) bytes q.0 q.1) {x = made} (ok_is made (p, rest) y.2)
       (second_takes bytes x.0.0 x.0.1 y.0.0 y.0.1 (law.takes bytes x.0.0 x.0.1 x.1) ((next_law x.0.0).takes x.0.1 y.0.0 y.0.1 y.1))
 
-  -- a byte that the second refuses, behind a text of the first
+  -- a byte that the second refuses, after a text of the first
   second_refuses : (bytes : List ℕ) (v : V) (middle rest : List ℕ) → Takes read Form bytes v middle → Refuses (next v) middle rest
       → Refuses (both read next) bytes rest
   second_refuses bytes v middle rest t r =
@@ -249,7 +249,7 @@ module _ {V W : Type 0} {read : Reader V} {next : V → Reader W} {Form : V → 
     shorts = both_shorts m most fits.begins room next_room;
   }
 
--- what it begins with, and how many bytes are wanted where nothing was read
+-- what it begins with, and how many bytes are needed where nothing was read
 pub both_head : (P : ℕ → Type 0) {V W : Type 0} {Form : V → List ℕ → Type 0} {Next : V → W → List ℕ → Type 0} {p : V × W} {text : List ℕ} (rest : List ℕ)
     → (f : Both Form Next p text) → ((tail : List ℕ) → Follows P (f.front ++ tail)) → Follows P (text ++ rest)
 both_head P rest f h =

@@ -37,7 +37,7 @@ module _ (P : ℕ → Type 0) where
   follows_front [] rest h = tt
   follows_front (b ∷ text) rest h = h
 
-  -- what stands behind a byte plays no part
+  -- what follows a byte does not matter
   pub follows_head : (text : List ℕ) (b : ℕ) (after other : List ℕ) → Follows P (text ++ b ∷ after) → Follows P (text ++ b ∷ other)
   follows_head [] b after other h = h
   follows_head (c ∷ text) b after other h = h
@@ -63,7 +63,7 @@ pub starts_misses : (c d : ℕ) → (c == d) ≡ false → (text : List ℕ) →
 starts_misses c d h [] s = absurd s
 starts_misses c d h (b ∷ text) s = ap (λ (z : ℕ). z == d) (eqb-true b c s) ∙ h
 
--- texts that differ behind their first byte have one first byte
+-- texts that differ only after some byte have the same first byte
 pub first_of_both : (text : List ℕ) (b : ℕ) (after other bytes : List ℕ) → bytes ≡ text ++ b ∷ after
     → (c : ℕ) (more : List ℕ) → text ++ b ∷ other ≡ c ∷ more → (behind : List ℕ) × (bytes ≡ c ∷ behind)
 first_of_both [] b after other bytes e c more h = (after, cc)

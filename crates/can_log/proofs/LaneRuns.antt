@@ -48,7 +48,7 @@ run_in_front q bytes r z room fits found f lanes all =
 abbrev AreHex : List ℕ → Type 0
 AreHex = AllByRecursion (λ b. is_ascii_hexdigit b ≡ true)
 
--- the run of one load, behind so many digits
+-- the run of one load, after some digits
 pub hex_more : (at more : ℕ) (bytes : List ℕ) → AreHex (take at bytes) → IsFrontOf is_ascii_hexdigit more (take (length bytes - at) (drop at bytes))
     → AreHex (take (at + more) bytes)
 hex_more at more bytes front next =

@@ -44,25 +44,25 @@ line_means_or_nothing bytes = by (line_at bytes) refl
 -- ---- a log
 
 abbrev Legal : List ℕ → Type 0
-Legal log = (whats : List (Option Stamped)) × LogMeans log whats
+Legal log = (meanings : List (Option Stamped)) × LogMeans log meanings
 
 abbrev Refused : List ℕ → Type 0
 Refused log = (line : ℕ) × (column : ℕ) × IsRefusedIn log line column
 
 at_once : (log : List ℕ) (column : ℕ) → IsRefusedRest log column → Legal log ⊎ Refused log
-at_once log column ends = inr (1, column, record { lines = []; whats = []; rest = log; parts = refl; legal = tt; at = refl; here = ends })
+at_once log column ends = inr (1, column, record { lines = []; meanings = []; rest = log; parts = refl; legal = tt; at = refl; here = ends })
 
 behind_line : (log line more : List ℕ) (what : Option Stamped) → log ≡ line ++ code "\n" ∷ more → NoLineFeed line → LineMeans line what
     → Legal more ⊎ Refused more → Legal log ⊎ Refused log
-behind_line log line more what e clean means (inl (whats, rest)) =
-    inl (what ∷ whats, subst (λ (z : List (List ℕ)). LinesMean z (what ∷ whats)) (sym (ap log_lines e ∙ log_lines-ended line more clean)) (means, rest))
+behind_line log line more what e clean means (inl (meanings, rest)) =
+    inl (what ∷ meanings, subst (λ (z : List (List ℕ)). LinesMean z (what ∷ meanings)) (sym (ap log_lines e ∙ log_lines-ended line more clean)) (means, rest))
 behind_line log line more what e clean means (inr (number, column, r)) =
     inr (
       number + 1,
       column,
       record {
         lines = line ∷ r.lines;
-        whats = what ∷ r.whats;
+        meanings = what ∷ r.meanings;
         rest = r.rest;
         parts = e ∙ ap (λ (z : List ℕ). line ++ code "\n" ∷ z) r.parts ∙ sym (ended_lines-first line r.lines r.rest);
         legal = (means, r.legal);

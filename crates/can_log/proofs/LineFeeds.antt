@@ -74,7 +74,7 @@ run_clean {test} {bytes = bytes} h run =
 one_clean : (b : ℕ) (bytes : List ℕ) → (b == code "\n") ≡ false → NoLineFeed bytes → NoLineFeed (b ∷ bytes)
 one_clean b bytes h k = (eqb-false b (code "\n") h, k)
 
--- a raw length code behind its underscore
+-- a raw length code after its underscore
 raw_clean : {test : ℕ → Bool} {raw_dlc : List ℕ} → test (code "\n") ≡ false → IsRunOf test 1 1 raw_dlc → NoLineFeed (code "_" ∷ raw_dlc)
 raw_clean {raw_dlc = raw_dlc} h run = one_clean (code "_") raw_dlc refl (run_clean h run)
 
@@ -110,9 +110,9 @@ line_clean bytes None text = text_clean [] bytes tt text
 line_clean bytes (Some stamped) (line, is, text, e) = text_clean (spell_line line) bytes (spelling_clean line is) text
 
 pub lines_clean : LinesHaveNoLineFeed
-lines_clean [] whats means = tt
+lines_clean [] meanings means = tt
 lines_clean (line ∷ lines) [] means = absurd means
-lines_clean (line ∷ lines) (what ∷ whats) means = (line_clean line what means.0, lines_clean lines whats means.1)
+lines_clean (line ∷ lines) (what ∷ meanings) means = (line_clean line what means.0, lines_clean lines meanings means.1)
 
 pub completion_clean : CompletableHasNoLineFeed
 completion_clean bytes (more, what, few, means) = clean_front bytes more (line_clean (bytes ++ more) what means)

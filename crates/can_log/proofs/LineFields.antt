@@ -179,7 +179,7 @@ data_begins most =
 
 -- ---- a raw length code
 
--- what stands behind a frame
+-- what follows a frame
 abbrev AfterFrame : ℕ → Type 0
 AfterFrame b = (b ≡ code " ") ⊎ (b ≡ code "\r")
 
@@ -219,7 +219,7 @@ dlc_begins : (t : Bool) → CanEnd (Dlc t) 0 []
 dlc_begins true = record { more = []; value = None; few = omega arith; form = inr (refl, refl) }
 dlc_begins false = record { more = []; value = None; few = omega arith; form = (refl, refl) }
 
--- a class has neither the underscore nor what stands behind a frame
+-- a class has neither the underscore nor what follows a frame
 dlc_follows : (class : Class) → is_in class (code "_") ≡ false → is_in class (code " ") ≡ false → is_in class (code "\r") ≡ false
     → (t : Bool) (v : Option (List ℕ)) (text rest : List ℕ) → Dlc t v text → Follows AfterFrame rest → Follows (NotIn class) (text ++ rest)
 dlc_follows class u s r t v text rest form after = by t form
@@ -235,7 +235,7 @@ dlc_follows class u s r t v text rest form after = by t form
     ]
     by false f = nothing f.1
 
--- ---- behind the #
+-- ---- after the #
 
 abbrev ClassicForm : Body → List ℕ → Type 0
 ClassicForm = Seen (λ p. classic p.0 p.1) (Both (DataForm 16) (λ ds. Dlc (length ds == 16)))
@@ -473,7 +473,7 @@ place_on_law = both_law place_law (λ _. id_on_law) 4 9 (omega arith) (omega ari
 place_on_begins : CanEnd PlaceOn 7 []
 place_on_begins = both_begins place_begins (λ _. id_on_begins) 7 (omega arith)
 
--- all that is read of a line behind its `(`, as the readers nest it
+-- all that is read of a line after its `(`, as the readers nest it
 abbrev pub Nested : Type 0
 Nested = (List ℕ × (Unit {0} × (List ℕ × Unit {0}))) × PlaceOnParts
 

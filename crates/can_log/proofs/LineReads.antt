@@ -1,4 +1,4 @@
--- What is read of a line is what it means, and a byte is refused exactly where no line begins so.
+-- What is read of a line is what it means, and a byte is refused exactly where no line can have it.
 use Prim.Native.Char.{code}
 use Rattle.std.proofs.Common.{◌≡◌, ℕ, Bool, refl, sym, ap, subst, ◌∙◌, arith, inl, inr}
 use Rattle.std.proofs.Common.{List, [], ◌∷◌, ◌++◌, drop, append_assoc, Option, Some, None, Ok, Err}
@@ -32,7 +32,7 @@ Empty = Seen (λ _. None) IsEnd
 abbrev LineForm : Option Parts → List ℕ → Type 0
 LineForm = Either Opened Empty
 
--- what stands behind the `(`, and behind nothing
+-- a line that begins with `(`, and an empty one
 abbrev opened_at : Reader (Option Parts)
 opened_at = seen (λ p. Some p.1) (both (byte_at (code "(")) (λ _. frame_at))
 
@@ -58,7 +58,7 @@ line_law = either_law (λ b. b == code "(") opened_law empty_law 17 (omega arith
   after = λ b h. absurd h;
 })
 
--- ---- nothing stands behind a line
+-- ---- nothing follows a line
 
 abbrev Whole : {V : Type 0} → Reader V → Type 0
 Whole {V} read = (bytes : List ℕ) (v : V) (rest : List ℕ) → read bytes ≡ Ok (v, rest) → rest ≡ []

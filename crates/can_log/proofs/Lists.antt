@@ -11,11 +11,11 @@ use Rattle.std.proofs.lemmas.List.{nil_from_length}
 pub parts_are : {X : Type 0} {whole front rest a b : List X} → whole ≡ front ++ rest → front ≡ a → rest ≡ b → whole ≡ a ++ b
 parts_are parts e f = cc
 
--- more stands behind the whole
+-- more follows the whole
 pub parts_more : {X : Type 0} {whole : List X} (front rest : List X) → whole ≡ front ++ rest → (more : List X) → whole ++ more ≡ front ++ (rest ++ more)
 parts_more {X} front rest parts more = ap (λ (z : List X). z ++ more) parts ∙ append_assoc front rest more
 
--- the second part has parts of its own
+-- the second part is cut again
 pub parts_again : {X : Type 0} {whole rest : List X} (front middle back : List X) → whole ≡ front ++ rest → rest ≡ middle ++ back
     → whole ≡ (front ++ middle) ++ back
 parts_again {X} front middle back parts e = parts ∙ ap (λ (z : List X). front ++ z) e ∙ sym (append_assoc front middle back)

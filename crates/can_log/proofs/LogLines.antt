@@ -36,7 +36,7 @@ log_lines-rest [] none = refl
 log_lines-rest (b ∷ []) none = rw (ne_eqb b (code "\n") none.0) refl
 log_lines-rest (b ∷ c ∷ rest) none = rw (ne_eqb b (code "\n") none.0, log_lines-rest (c ∷ rest) none.1) refl
 
--- what stands behind lines that are ended
+-- what follows lines that are ended
 pub log_lines-behind : LogLinesGoOn
 log_lines-behind [] rest none = refl
 log_lines-behind (line ∷ lines) rest none =
@@ -49,24 +49,24 @@ log_lines_of_parts lines rest none none_behind = log_lines-behind lines rest non
 
 pub same_length : LinesMeanAsMany
 same_length [] [] mean = refl
-same_length [] (what ∷ whats) mean = absurd mean
+same_length [] (what ∷ meanings) mean = absurd mean
 same_length (line ∷ lines) [] mean = absurd mean
-same_length (line ∷ lines) (what ∷ whats) mean = ap suc (same_length lines whats mean.1)
+same_length (line ∷ lines) (what ∷ meanings) mean = ap suc (same_length lines meanings mean.1)
 
 -- lines that mean something, each with its line feed
 pub lines_are_log : LinesAreLog
-lines_are_log lines whats means =
-    let none = lines_clean lines whats means in
+lines_are_log lines meanings means =
+    let none = lines_clean lines meanings means in
     let whole : log_lines (ended_lines lines) ≡ lines =
     ap log_lines (sym (append-nil (ended_lines lines))) ∙ log_lines-behind lines [] none ∙ append-nil lines in
-    subst (λ (z : List (List ℕ)). LinesMean z whats) (sym whole) means
+    subst (λ (z : List (List ℕ)). LinesMean z meanings) (sym whole) means
 
-pub mean_apart : (lines more : List (List ℕ)) (whats : List (Option Stamped)) → LinesMean (lines ++ more) whats
-    → (front : List (Option Stamped)) × (back : List (Option Stamped)) × (whats ≡ front ++ back) × LinesMean lines front × LinesMean more back
-mean_apart [] more whats mean = ([], whats, refl, tt, mean)
+pub mean_apart : (lines more : List (List ℕ)) (meanings : List (Option Stamped)) → LinesMean (lines ++ more) meanings
+    → (front : List (Option Stamped)) × (back : List (Option Stamped)) × (meanings ≡ front ++ back) × LinesMean lines front × LinesMean more back
+mean_apart [] more meanings mean = ([], meanings, refl, tt, mean)
 mean_apart (line ∷ lines) more [] mean = absurd mean
-mean_apart (line ∷ lines) more (what ∷ whats) mean =
-    let rest = mean_apart lines more whats mean.1 in
+mean_apart (line ∷ lines) more (what ∷ meanings) mean =
+    let rest = mean_apart lines more meanings mean.1 in
     (what ∷ rest.0, rest.1, ap (λ (z : List (Option Stamped)). what ∷ z) rest.2, (mean.0, rest.3), rest.4)
 
 pub mean_together : (lines more : List (List ℕ)) (front back : List (Option Stamped)) → LinesMean lines front → LinesMean more back
@@ -77,28 +77,28 @@ mean_together (line ∷ lines) more [] back mean next = absurd mean
 mean_together (line ∷ lines) more (what ∷ front) back mean next = (mean.0, mean_together lines more front back mean.1 next)
 
 pub lines_mean_in_parts : LinesMeanInParts
-lines_mean_in_parts lines more whats =
-    (mean_apart lines more whats, λ parts. rw parts.2 (mean_together lines more parts.0 parts.1 parts.3 parts.4))
+lines_mean_in_parts lines more meanings =
+    (mean_apart lines more meanings, λ parts. rw parts.2 (mean_together lines more parts.0 parts.1 parts.3 parts.4))
 
 -- the last line apart
-last_apart : (lines : List (List ℕ)) (whats : List (Option Stamped)) (what : Option Stamped) → LinesMean lines (whats ++ what ∷ [])
-    → (front : List (List ℕ)) × (last : List ℕ) × (lines ≡ front ++ last ∷ []) × LinesMean front whats × LineMeans last what
+last_apart : (lines : List (List ℕ)) (meanings : List (Option Stamped)) (what : Option Stamped) → LinesMean lines (meanings ++ what ∷ [])
+    → (front : List (List ℕ)) × (last : List ℕ) × (lines ≡ front ++ last ∷ []) × LinesMean front meanings × LineMeans last what
 last_apart [] [] what mean = absurd mean
 last_apart (line ∷ []) [] what mean = ([], line, refl, tt, mean.0)
 last_apart (line ∷ other ∷ lines) [] what mean = absurd mean.1
-last_apart [] (one ∷ whats) what mean = absurd mean
-last_apart (line ∷ lines) (one ∷ whats) what mean =
-    let rest = last_apart lines whats what mean.1 in
+last_apart [] (one ∷ meanings) what mean = absurd mean
+last_apart (line ∷ lines) (one ∷ meanings) what mean =
+    let rest = last_apart lines meanings what mean.1 in
     (line ∷ rest.0, rest.1, ap (λ (z : List (List ℕ)). line ∷ z) rest.2, (mean.0, rest.3), rest.4)
 
 pub lines_mean_one_more : LinesMeanOneMore
-lines_mean_one_more lines whats what =
-    (last_apart lines whats what, λ parts. rw parts.2 (mean_together parts.0 (parts.1 ∷ []) whats (what ∷ []) parts.3 (parts.4, tt)))
+lines_mean_one_more lines meanings what =
+    (last_apart lines meanings what, λ parts. rw parts.2 (mean_together parts.0 (parts.1 ∷ []) meanings (what ∷ []) parts.3 (parts.4, tt)))
 
 pub line_is_log : LineIsLog
 line_is_log line what none means = rw (log_lines-ended line [] none) (means, tt)
 
--- ---- a log behind another
+-- ---- a log after another
 
 length-log_lines : (bytes : List ℕ) → 0 < length (log_lines (bytes ++ codes "\n"))
 length-log_lines [] = omega arith

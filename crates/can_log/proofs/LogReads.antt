@@ -31,13 +31,13 @@ pub start_stands : StartStands
 start_stands = record { lines = []; parts = refl; means = tt; legal = empty_legal; counted = refl; taken = refl; sound = refl }
 
 pub scan_reads_on : ScanReadsOn
-scan_reads_on bytes whats piece old new answer stands scans = by answer (scans_on old new piece answer stands.sound scans)
+scan_reads_on bytes meanings piece old new answer stands scans = by answer (scans_on old new piece answer stands.sound scans)
   where
-    number : old.lines + 1 ≡ length whats + 1
+    number : old.lines + 1 ≡ length meanings + 1
     number = ap (λ (n : ℕ). n + 1) stands.counted
 
-    by : (answer : Scan) → ScansOn old piece answer new → ReadsOn bytes whats piece answer new
-    by scan.NeedMore (clean, legal, is) = subst (StandsAfter (bytes ++ piece) whats) (sym is) (record {
+    by : (answer : Scan) → ScansOn old piece answer new → ReadsOn bytes meanings piece answer new
+    by scan.NeedMore (clean, legal, is) = subst (StandsAfter (bytes ++ piece) meanings) (sym is) (record {
       lines = stands.lines;
       parts = parts_more (ended_lines stands.lines) old.line stands.parts piece;
       means = stands.means;
@@ -58,12 +58,12 @@ scan_reads_on bytes whats piece old new answer stands scans = by answer (scans_o
         in (
           fits,
           n_is ∙ number,
-          subst (StandsAfter (bytes ++ take used piece) (whats ++ what ∷ [])) (sym is) (record {
+          subst (StandsAfter (bytes ++ take used piece) (meanings ++ what ∷ [])) (sym is) (record {
             lines = stands.lines ++ (old.line ++ front) ∷ [];
             parts = ended;
-            means = mean_together stands.lines ((old.line ++ front) ∷ []) whats (what ∷ []) stands.means (means, tt);
+            means = mean_together stands.lines ((old.line ++ front) ∷ []) meanings (what ∷ []) stands.means (means, tt);
             legal = empty_legal;
-            counted = n_is ∙ number ∙ sym (length-append whats (what ∷ []));
+            counted = n_is ∙ number ∙ sym (length-append meanings (what ∷ []));
             taken = omega (arith, stands.taken, length-append bytes (take used piece), length-take-le used piece fits);
             sound = stands.sound;
           }),
@@ -71,11 +71,11 @@ scan_reads_on bytes whats piece old new answer stands scans = by answer (scans_o
     by (scan.Bad n column) (n_is, place, is) = λ more. (
       record {
         lines = stands.lines;
-        whats = whats;
+        meanings = meanings;
         rest = (old.line ++ piece) ++ more;
         parts = parts_more (ended_lines stands.lines) old.line stands.parts (piece ++ more) ∙ ap (λ (z : List ℕ). ended_lines stands.lines ++ z) (sym (append_assoc old.line piece more));
         legal = stands.means;
-        at = n_is ∙ number ∙ ap (λ (n : ℕ). n + 1) (sym (same_length stands.lines whats stands.means));
+        at = n_is ∙ number ∙ ap (λ (n : ℕ). n + 1) (sym (same_length stands.lines meanings stands.means));
         here = inl (place_extends (old.line ++ piece) more column place);
       },
       refl,
@@ -90,105 +90,105 @@ scan_reads_on bytes whats piece old new answer stands scans = by answer (scans_o
     by scan.End s = s
 
 pub finish_reads_end : FinishReadsEnd
-finish_reads_end log whats old new answer stands finishes = by answer (finishes_on old new answer stands.sound finishes)
+finish_reads_end log meanings old new answer stands finishes = by answer (finishes_on old new answer stands.sound finishes)
   where
-    number : old.lines + 1 ≡ length whats + 1
+    number : old.lines + 1 ≡ length meanings + 1
     number = ap (λ (n : ℕ). n + 1) stands.counted
 
     lines_are : (more : List (List ℕ)) → log_lines old.line ≡ more → log_lines log ≡ stands.lines ++ more
-    lines_are more e = ap log_lines stands.parts ∙ lines_first stands.lines whats old.line stands.means ∙ ap (λ (z : List (List ℕ)). stands.lines ++ z) e
+    lines_are more e = ap log_lines stands.parts ∙ lines_first stands.lines meanings old.line stands.means ∙ ap (λ (z : List (List ℕ)). stands.lines ++ z) e
 
     alone : (bytes : List ℕ) → NoLineFeed bytes → 0 < length bytes → log_lines bytes ≡ bytes ∷ []
     alone [] clean some = absurd (omega arith)
     alone (b ∷ bytes) clean some = log_lines-rest (b ∷ bytes) clean
 
-    by : (answer : Scan) → FinishesOn old answer new → ReadsEnd log whats answer
+    by : (answer : Scan) → FinishesOn old answer new → ReadsEnd log meanings answer
     by scan.NeedMore s = s
     by (scan.Line used n what) (some, none, n_is, means, is) =
         let lines = lines_are (old.line ∷ []) (alone old.line (line_clean old.line what means) some) in
-        let all = mean_together stands.lines (old.line ∷ []) whats (what ∷ []) stands.means (means, tt) in
-        (n_is ∙ number, subst (λ (z : List (List ℕ)). LinesMean z (whats ++ what ∷ [])) (sym lines) all)
+        let all = mean_together stands.lines (old.line ∷ []) meanings (what ∷ []) stands.means (means, tt) in
+        (n_is ∙ number, subst (λ (z : List (List ℕ)). LinesMean z (meanings ++ what ∷ [])) (sym lines) all)
     by (scan.Bad n column) (some, n_is, unfinished, is) = (
       record {
         lines = stands.lines;
-        whats = whats;
+        meanings = meanings;
         rest = old.line;
         parts = stands.parts;
         legal = stands.means;
-        at = n_is ∙ number ∙ ap (λ (n : ℕ). n + 1) (sym (same_length stands.lines whats stands.means));
+        at = n_is ∙ number ∙ ap (λ (n : ℕ). n + 1) (sym (same_length stands.lines meanings stands.means));
         here = inr unfinished;
       },
       refl,
     )
     by scan.End (none, is) =
-        subst (λ (z : List (List ℕ)). LinesMean z whats) (sym (lines_are [] (ap log_lines none) ∙ append-nil stands.lines)) stands.means
+        subst (λ (z : List (List ℕ)). LinesMean z meanings) (sym (lines_are [] (ap log_lines none) ∙ append-nil stands.lines)) stands.means
 
 -- ---- all answers
 
--- what is still to be told behind lines that mean this
+-- what is still to be told after lines that mean this
 abbrev TellsRest : List (Option Stamped) → List ℕ → List Told → Type 0
-TellsRest whats log report =
-    ((more : List (Option Stamped)) × LogMeans log (whats ++ more) × (report ≡ lines_from (length whats + 1) more))
-    ⊎ ((number : ℕ) × (column : ℕ) × (more : List (Option Stamped)) × IsRefusedBehind (whats ++ more) log number column
-    × (report ≡ lines_from (length whats + 1) more ++ refused number column ∷ []))
+TellsRest meanings log report =
+    ((more : List (Option Stamped)) × LogMeans log (meanings ++ more) × (report ≡ lines_from (length meanings + 1) more))
+    ⊎ ((number : ℕ) × (column : ℕ) × (more : List (Option Stamped)) × IsRefusedBehind (meanings ++ more) log number column
+    × (report ≡ lines_from (length meanings + 1) more ++ refused number column ∷ []))
 
-tells_end : (log : List ℕ) (whats : List (Option Stamped)) (last : Scan) → ReadsEnd log whats last → TellsRest whats log (told (last ∷ []))
-tells_end log whats scan.NeedMore r = absurd r
-tells_end log whats (scan.Line used n what) (n_is, means) = inl (what ∷ [], means, ap (λ (z : ℕ). line z what ∷ []) n_is)
-tells_end log whats (scan.Bad n column) place = inr (n, column, [], subst (λ (z : List (Option Stamped)). IsRefusedBehind z log n column) (sym (append-nil whats)) place, refl)
-tells_end log whats scan.End means = inl ([], subst (λ (z : List (Option Stamped)). LogMeans log z) (sym (append-nil whats)) means, refl)
+tells_end : (log : List ℕ) (meanings : List (Option Stamped)) (last : Scan) → ReadsEnd log meanings last → TellsRest meanings log (told (last ∷ []))
+tells_end log meanings scan.NeedMore r = absurd r
+tells_end log meanings (scan.Line used n what) (n_is, means) = inl (what ∷ [], means, ap (λ (z : ℕ). line z what ∷ []) n_is)
+tells_end log meanings (scan.Bad n column) place = inr (n, column, [], subst (λ (z : List (Option Stamped)). IsRefusedBehind z log n column) (sym (append-nil meanings)) place, refl)
+tells_end log meanings scan.End means = inl ([], subst (λ (z : List (Option Stamped)). LogMeans log z) (sym (append-nil meanings)) means, refl)
 
 -- a line more in front
-tells_line : (log : List ℕ) (whats : List (Option Stamped)) (what : Option Stamped) (n : ℕ) (report : List Told) → n ≡ length whats + 1
-    → TellsRest (whats ++ what ∷ []) log report → TellsRest whats log (line n what ∷ report)
-tells_line log whats what n report n_is rest = elim rest [
+tells_line : (log : List ℕ) (meanings : List (Option Stamped)) (what : Option Stamped) (n : ℕ) (report : List Told) → n ≡ length meanings + 1
+    → TellsRest (meanings ++ what ∷ []) log report → TellsRest meanings log (line n what ∷ report)
+tells_line log meanings what n report n_is rest = elim rest [
   | inl (more, means, is) ↦
       inl (
         what ∷ more,
-        subst (λ (z : List (Option Stamped)). LogMeans log z) (append_assoc whats (what ∷ []) more) means,
-        first ∙ ap (λ (z : List Told). line (length whats + 1) what ∷ z) (is ∙ next more),
+        subst (λ (z : List (Option Stamped)). LogMeans log z) (append_assoc meanings (what ∷ []) more) means,
+        first ∙ ap (λ (z : List Told). line (length meanings + 1) what ∷ z) (is ∙ next more),
       )
   | inr (number, column, more, place, is) ↦
       inr (
         number,
         column,
         what ∷ more,
-        subst (λ (z : List (Option Stamped)). IsRefusedBehind z log number column) (append_assoc whats (what ∷ []) more) place,
-        first ∙ ap (λ (z : List Told). line (length whats + 1) what ∷ z) (is ∙ ap (λ (z : List Told). z ++ refused number column ∷ []) (next more)),
+        subst (λ (z : List (Option Stamped)). IsRefusedBehind z log number column) (append_assoc meanings (what ∷ []) more) place,
+        first ∙ ap (λ (z : List Told). line (length meanings + 1) what ∷ z) (is ∙ ap (λ (z : List Told). z ++ refused number column ∷ []) (next more)),
       )
 ]
   where
-    first : line n what ∷ report ≡ line (length whats + 1) what ∷ report
+    first : line n what ∷ report ≡ line (length meanings + 1) what ∷ report
     first = ap (λ (z : ℕ). line z what ∷ report) n_is
 
-    next : (more : List (Option Stamped)) → lines_from (length (whats ++ what ∷ []) + 1) more ≡ lines_from (length whats + 1 + 1) more
-    next more = ap (λ (z : ℕ). lines_from z more) (omega (arith, length-append whats (what ∷ [])))
+    next : (more : List (Option Stamped)) → lines_from (length (meanings ++ what ∷ []) + 1) more ≡ lines_from (length meanings + 1 + 1) more
+    next more = ap (λ (z : ℕ). lines_from z more) (omega (arith, length-append meanings (what ∷ [])))
 
-tells_all : (answers : List Scan) (pieces : List (List ℕ)) (bytes : List ℕ) (whats : List (Option Stamped)) (old between new : Standing) (last : Scan)
-    → StandsAfter bytes whats old → ScansAll old pieces answers between → Finishes between last new
-    → TellsRest whats (bytes ++ concat pieces) (told (answers ++ last ∷ []))
-tells_all [] [] bytes whats old between new last stands is finishes =
-    subst (λ (z : List ℕ). TellsRest whats z (told (last ∷ []))) (sym (append-nil bytes))
-    (tells_end bytes whats last (finish_reads_end bytes whats between new last (subst (StandsAfter bytes whats) (sym is) stands) finishes))
-tells_all [] (piece ∷ pieces) bytes whats old between new last stands s finishes = absurd s
-tells_all (answer ∷ answers) [] bytes whats old between new last stands s finishes = absurd s
-tells_all (scan.NeedMore ∷ answers) (piece ∷ pieces) bytes whats old between new last stands (next, s, more) finishes =
-    subst (λ (z : List ℕ). TellsRest whats z (told (answers ++ last ∷ []))) (append_assoc bytes piece (concat pieces))
-    (tells_all answers pieces (bytes ++ piece) whats next between new last (scan_reads_on bytes whats piece old next scan.NeedMore stands s) more finishes)
-tells_all (scan.Line used n what ∷ answers) (piece ∷ pieces) bytes whats old between new last stands (next, s, more) finishes =
-    let step = scan_reads_on bytes whats piece old next (scan.Line used n what) stands s in
+tells_all : (answers : List Scan) (pieces : List (List ℕ)) (bytes : List ℕ) (meanings : List (Option Stamped)) (old between new : Standing) (last : Scan)
+    → StandsAfter bytes meanings old → ScansAll old pieces answers between → Finishes between last new
+    → TellsRest meanings (bytes ++ concat pieces) (told (answers ++ last ∷ []))
+tells_all [] [] bytes meanings old between new last stands is finishes =
+    subst (λ (z : List ℕ). TellsRest meanings z (told (last ∷ []))) (sym (append-nil bytes))
+    (tells_end bytes meanings last (finish_reads_end bytes meanings between new last (subst (StandsAfter bytes meanings) (sym is) stands) finishes))
+tells_all [] (piece ∷ pieces) bytes meanings old between new last stands s finishes = absurd s
+tells_all (answer ∷ answers) [] bytes meanings old between new last stands s finishes = absurd s
+tells_all (scan.NeedMore ∷ answers) (piece ∷ pieces) bytes meanings old between new last stands (next, s, more) finishes =
+    subst (λ (z : List ℕ). TellsRest meanings z (told (answers ++ last ∷ []))) (append_assoc bytes piece (concat pieces))
+    (tells_all answers pieces (bytes ++ piece) meanings next between new last (scan_reads_on bytes meanings piece old next scan.NeedMore stands s) more finishes)
+tells_all (scan.Line used n what ∷ answers) (piece ∷ pieces) bytes meanings old between new last stands (next, s, more) finishes =
+    let step = scan_reads_on bytes meanings piece old next (scan.Line used n what) stands s in
     let same : (bytes ++ take used piece) ++ (drop used piece ++ concat pieces) ≡ bytes ++ (piece ++ concat pieces) =
     append_assoc bytes (take used piece) (drop used piece ++ concat pieces)
     ∙ ap (λ (z : List ℕ). bytes ++ z) (sym (parts_more (take used piece) (drop used piece) (sym (take-append-drop used piece)) (concat pieces)))
     in
-    tells_line (bytes ++ (piece ++ concat pieces)) whats what n (told (answers ++ last ∷ [])) step.1
-    (subst (λ (z : List ℕ). TellsRest (whats ++ what ∷ []) z (told (answers ++ last ∷ []))) same
-    (tells_all answers (drop used piece ∷ pieces) (bytes ++ take used piece) (whats ++ what ∷ []) next between new last step.2 more finishes))
-tells_all (scan.Bad n column ∷ answers) (piece ∷ pieces) bytes whats old between new last stands (next, s, more) finishes =
-    let place = scan_reads_on bytes whats piece old next (scan.Bad n column) stands s (concat pieces) in
-    inr (n, column, [], subst (λ (z : List (Option Stamped)). IsRefusedBehind z (bytes ++ (piece ++ concat pieces)) n column) (sym (append-nil whats)) (place.0, place.1), refl)
-tells_all (scan.End ∷ answers) (piece ∷ pieces) bytes whats old between new last stands (next, s, more) finishes =
-    absurd (scan_reads_on bytes whats piece old next scan.End stands s)
+    tells_line (bytes ++ (piece ++ concat pieces)) meanings what n (told (answers ++ last ∷ [])) step.1
+    (subst (λ (z : List ℕ). TellsRest (meanings ++ what ∷ []) z (told (answers ++ last ∷ []))) same
+    (tells_all answers (drop used piece ∷ pieces) (bytes ++ take used piece) (meanings ++ what ∷ []) next between new last step.2 more finishes))
+tells_all (scan.Bad n column ∷ answers) (piece ∷ pieces) bytes meanings old between new last stands (next, s, more) finishes =
+    let place = scan_reads_on bytes meanings piece old next (scan.Bad n column) stands s (concat pieces) in
+    inr (n, column, [], subst (λ (z : List (Option Stamped)). IsRefusedBehind z (bytes ++ (piece ++ concat pieces)) n column) (sym (append-nil meanings)) (place.0, place.1), refl)
+tells_all (scan.End ∷ answers) (piece ∷ pieces) bytes meanings old between new last stands (next, s, more) finishes =
+    absurd (scan_reads_on bytes meanings piece old next scan.End stands s)
 
 pub scanning_reads_the_log : ScanningReadsTheLog
 scanning_reads_the_log pieces answers last between new scans finishes = elim (tells_all answers pieces [] [] at_start between new last start_stands scans finishes) [
@@ -197,32 +197,32 @@ scanning_reads_the_log pieces answers last between new scans finishes = elim (te
       inr (number, column, place.0, is ∙ ap (λ (z : List (Option Stamped)). lines_from 1 z ++ refused number column ∷ []) (sym place.1))
 ]
 
--- ---- how the log is cut plays no part
+-- ---- how the log is cut does not matter
 
-lines_mean_one : (lines : List (List ℕ)) (whats others : List (Option Stamped)) → LinesMean lines whats → LinesMean lines others → whats ≡ others
+lines_mean_one : (lines : List (List ℕ)) (meanings others : List (Option Stamped)) → LinesMean lines meanings → LinesMean lines others → meanings ≡ others
 lines_mean_one [] [] [] m n = refl
 lines_mean_one [] [] (other ∷ others) m n = absurd n
-lines_mean_one [] (what ∷ whats) others m n = absurd m
+lines_mean_one [] (what ∷ meanings) others m n = absurd m
 lines_mean_one (first ∷ lines) [] others m n = absurd m
-lines_mean_one (first ∷ lines) (what ∷ whats) [] m n = absurd n
-lines_mean_one (first ∷ lines) (what ∷ whats) (other ∷ others) m n =
-    ap (λ (z : Option Stamped). z ∷ whats) (one_meaning first what other m.0 n.0)
-    ∙ ap (λ (z : List (Option Stamped)). other ∷ z) (lines_mean_one lines whats others m.1 n.1)
+lines_mean_one (first ∷ lines) (what ∷ meanings) [] m n = absurd n
+lines_mean_one (first ∷ lines) (what ∷ meanings) (other ∷ others) m n =
+    ap (λ (z : Option Stamped). z ∷ meanings) (one_meaning first what other m.0 n.0)
+    ∙ ap (λ (z : List (Option Stamped)). other ∷ z) (lines_mean_one lines meanings others m.1 n.1)
 
 pub log_means_at_most_one : LogMeansAtMostOne
 log_means_at_most_one log = lines_mean_one (log_lines log)
 
 pub log_tells_one : LogTellsOne
-log_tells_one log report other (inl (whats, means, is)) (inl (whats2, means2, is2)) =
-    is ∙ ap (lines_from 1) (lines_mean_one (log_lines log) whats whats2 means means2) ∙ sym is2
-log_tells_one log report other (inl (whats, means, is)) (inr (n, column, place, is2)) =
-    absurd (refused_log_means_nothing log n column whats place means)
-log_tells_one log report other (inr (n, column, place, is)) (inl (whats, means, is2)) =
-    absurd (refused_log_means_nothing log n column whats place means)
+log_tells_one log report other (inl (meanings, means, is)) (inl (whats2, means2, is2)) =
+    is ∙ ap (lines_from 1) (lines_mean_one (log_lines log) meanings whats2 means means2) ∙ sym is2
+log_tells_one log report other (inl (meanings, means, is)) (inr (n, column, place, is2)) =
+    absurd (refused_log_means_nothing log n column meanings place means)
+log_tells_one log report other (inr (n, column, place, is)) (inl (meanings, means, is2)) =
+    absurd (refused_log_means_nothing log n column meanings place means)
 log_tells_one log report other (inr (n, column, place, is)) (inr (n2, column2, place2, is2)) =
     let at = refused_place_is_one log n column n2 column2 place place2 in
     let lines = lines_before_are_one log n column n2 column2 place place2 in
-    let whats = lines_mean_one place2.lines place.whats place2.whats (subst (λ (z : List (List ℕ)). LinesMean z place.whats) lines place.legal) place2.legal in
-    is ∙ ap (λ (z : List (Option Stamped)). lines_from 1 z ++ refused n column ∷ []) whats
-    ∙ ap (λ (z : ℕ). lines_from 1 place2.whats ++ refused z column ∷ []) at.0
-    ∙ ap (λ (z : ℕ). lines_from 1 place2.whats ++ refused n2 z ∷ []) at.1 ∙ sym is2
+    let meanings = lines_mean_one place2.lines place.meanings place2.meanings (subst (λ (z : List (List ℕ)). LinesMean z place.meanings) lines place.legal) place2.legal in
+    is ∙ ap (λ (z : List (Option Stamped)). lines_from 1 z ++ refused n column ∷ []) meanings
+    ∙ ap (λ (z : ℕ). lines_from 1 place2.meanings ++ refused z column ∷ []) at.0
+    ∙ ap (λ (z : ℕ). lines_from 1 place2.meanings ++ refused n2 z ∷ []) at.1 ∙ sym is2

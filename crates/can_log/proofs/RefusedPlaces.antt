@@ -31,7 +31,7 @@ place_of bytes column clean r =
       other = λ _ more what few m. r.hopeless more what m;
     }
 
--- a line feed behind what is no line
+-- a line feed after what is no line
 pub place_end : (x : List ℕ) → HasCompletion x → MeansNothing x → IsRefusedPlace (x ++ codes "\n") (length x + 1)
 place_end x legal nothing = record {
   text = x;
@@ -69,7 +69,7 @@ not_refused bytes column (more, what, few, m) r =
 
 -- ---- there is one at most
 
--- a byte that is refused behind a text
+-- a byte that is refused after a text
 record Refuses (text : List ℕ) (bad : ℕ) : Type 0 where
   pub line_feed : bad ≡ code "\n" → MeansNothing text
   pub other : bad ≢ code "\n" → HasNoCompletion (text ++ bad ∷ [])
@@ -129,12 +129,12 @@ no_line_last rest column what (inr u) means = u.no_line what means
 pub place_inside : (bytes : List ℕ) (column : ℕ) → IsRefusedPlace bytes column → column ≤ length bytes
 place_inside bytes column r = omega (arith, r.at, ap (λ (z : List ℕ). length z) r.parts, length-append r.text (r.bad ∷ r.after))
 
--- among the bytes, or behind the last one
+-- among the bytes, or after the last one
 pub place_within : (rest : List ℕ) (column : ℕ) → IsRefusedRest rest column → column ≤ length rest + 1
 place_within rest column (inl r) = omega (arith, place_inside rest column r)
 place_within rest column (inr u) = omega (arith, u.at)
 
--- not behind the first line feed
+-- not after the first line feed
 pub place_in_first : (line more : List ℕ) (column : ℕ) → IsRefusedRest (line ++ code "\n" ∷ more) column → column ≤ length line + 1
 place_in_first line more column (inl r) = elim (two_cuts r.text r.bad r.after line (code "\n") more (sym r.parts)) [
   | inl (same, feed, rest) ↦ omega (arith, r.at, ap (λ (z : List ℕ). length z) same)

@@ -10,7 +10,7 @@ from_ok (Err e) h ok = absurd cc
 pub ok_is : {A E : Type 0} (x y : A) → ◌≡◌ {A = Result A E} (Ok x) (Ok y) → x ≡ y
 ok_is x y e = cc
 
--- a value that was read, and the bytes behind it
+-- a value that was read, and the bytes after it
 pub value_is : {V : Type 0} (v w : V) (a b : List ℕ) → ◌≡◌ {A = FieldRead V} (Ok (v, a)) (Ok (w, b)) → v ≡ w
 value_is {V} v w a b e = ap (λ (q : V × List ℕ). q.0) (ok_is (v, a) (w, b) e)
 

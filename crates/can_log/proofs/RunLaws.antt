@@ -268,7 +268,7 @@ exact_law class n w in_class = record {
 
 -- ---- what a byte, and a run, begin with
 
--- how many bytes are wanted where nothing was read
+-- how many bytes are needed where nothing was read
 pub byte_begins : (c : ℕ) → CanEnd (OneByte c) 1 []
 byte_begins c = record { more = c ∷ []; value = tt; few = omega arith; form = refl }
 
@@ -300,7 +300,7 @@ run_starts test class least most v text r some passes =
     let first = run_first class least most v text r some in
     starts_first test text first.0 first.1 first.2 (passes first.0 first.3)
 
--- a byte, and what stands behind it
+-- a byte, and what follows it
 pub both_starts : (test : ℕ → Bool) (c : ℕ) → test c ≡ true → {W : Type 0} {Next : Unit {0} → W → List ℕ → Type 0} {p : Unit {0} × W} (text : List ℕ)
     → Both (OneByte c) Next p text → Starts test text
 both_starts test c h text f = starts_first test text c f.back (f.is ∙ ap (λ (z : List ℕ). z ++ f.back) f.first) h

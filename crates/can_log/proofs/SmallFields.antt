@@ -11,7 +11,7 @@ use Rattle.can_log.proofs.FirstBytes.{Follows, AnyByte, follows_weaker}
 use Rattle.can_log.proofs.Results.{ok_is, value_is, rest_is, refused_is, bind_ok, bind_err}
 use Rattle.can_log.proofs.FieldLaws.{Reader, Takes, IsOpen, Refuses, CanEnd, Law, refuses_as, can_end_as, open_bind, reads_again}
 
--- fewer bytes may follow, and more may be wanted
+-- fewer bytes may follow, and more may be needed
 pub weaken : {V : Type 0} {read : Reader V} {Form : V → List ℕ → Type 0} {may_follow : ℕ → Type 0} {k : ℕ} → (fewer : ℕ → Type 0) (most : ℕ)
     → Law read Form may_follow k → ((b : ℕ) → fewer b → may_follow b) → k ≤ most → Law read Form fewer most
 weaken {may_follow = may_follow} fewer most law less room = record {
@@ -133,7 +133,7 @@ module _ {V : Type 0} (test : V → Bool) {read : Reader V} {Form : V → List �
   ]
   only_takes bytes v rest (Err t) is e = absurd (cc (only_err test read bytes t is))
 
-  -- the byte behind a value that fails the test
+  -- the byte after a value that fails the test
   failed_behind : (bytes rest : List ℕ) (v : V) (end : List ℕ) → Takes read Form bytes v end → test v ≡ false
       → ◌≡◌ {A = FieldRead V} (Err (stop_at end)) (Err (refused rest)) → Refuses (only test read) bytes rest
   failed_behind bytes rest v [] t fails is = absurd cc
@@ -210,7 +210,7 @@ unfolding end_at
 end_bad b [] other = rw (ne_eqb b (code "\r") other) refl
 end_bad b (c ∷ bytes) other = rw (ne_eqb b (code "\r") other) refl
 
--- nothing stands behind an end
+-- nothing follows an end
 pub end_done : (bytes : List ℕ) (v : Unit {0}) (rest : List ℕ) → end_at bytes ≡ Ok (v, rest) → rest ≡ []
 end_done [] v rest e = sym (rest_is tt v [] rest (sym end_nil ∙ e))
 end_done (b ∷ []) v rest e = elim (cases_eq b (code "\r")) [

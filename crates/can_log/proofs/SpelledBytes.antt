@@ -138,7 +138,7 @@ all_bytes digits spelled long eight each are =
     let all : take 16 (take 16 digits) ≡ digits = take-take 16 16 digits (omega arith) ∙ whole in
     sym same ∙ are 8 (omega arith) (subst AreHex (sym all) each) ∙ ap (λ (z : List ℕ). bytes_spelled z) all
 
--- the digits behind so many times sixteen
+-- the digits after a multiple of sixteen
 abbrev left : ℕ → ℕ
 left digits = 16 * (digits / 16)
 

@@ -170,7 +170,7 @@ tree_of p = record {
 abbrev pub nested_of : LineSpelling → Nested
 nested_of l = ((l.seconds, (tt, (l.micros, tt))), ((l.gap, (l.interface, l.second_gap)), (l.identifier, (tt, (l.body, (l.mark, tt))))))
 
--- its bytes behind the `(`, as the readers nest them, with those of its end
+-- its bytes after the `(`, as the readers nest them, with those of its end
 abbrev read_text : LineSpelling → List ℕ → List ℕ
 read_text l end =
     (l.seconds ++ code "." ∷ (l.micros ++ codes ")")) ++ ((l.gap ++ (l.interface ++ l.second_gap))

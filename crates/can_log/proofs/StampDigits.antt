@@ -28,7 +28,7 @@ last_three width thousands rest small =
     let ones : (thousands * 1000 + rest) % 10 ≡ rest % 10 = omega arith in
     rw (front, hundreds, tens, ones) (simp append_assoc)
 
--- a zero behind the digits of a number is that of ten times the number
+-- the digits of a number, and then a zero, are those of ten times the number
 zero_last : (width number : ℕ) → digits 10 (suc width) (number * 10) ≡ digits 10 width number ++ code "0" ∷ []
 unfolding digits
 zero_last width number =

@@ -33,7 +33,7 @@ all_written whole written i rest done so_far =
 abbrev pair : ℕ → List ℕ
 pair place = digit (place / 10) ∷ digit (place % 10) ∷ []
 
--- one place more, behind the digits of those before it
+-- one more place, after the digits of those before it
 one_place : (before : List ℕ) (width number high low : ℕ) → number / 100 ≡ high → number % 100 ≡ low → before ≡ digits 10 width high
     → before ++ pair low ≡ digits 10 (suc (suc width)) number
 unfolding digits

@@ -7,12 +7,12 @@ use Rattle.can_log.specs.declared.field.Stop.TheVariants as stop
 use Rattle.can_log.specs.declared.field.Class.{Class}
 use Rattle.can_log.specs.declared.field.Class.TheVariants as class
 
--- The bytes end within the field, or a byte stands there that it can't have: that byte, and those behind it.
+-- The bytes end within the field, or there is a byte that it can't have: that byte, and those after it.
 pub data Trouble : Type 0 where
   short : Trouble
   refused : List ℕ → Trouble
 
--- a field's value, and the bytes behind it
+-- a field's value, and the bytes after it
 abbrev pub FieldRead : Type 0 → Type 0
 FieldRead V = Result (V × List ℕ) Trouble
 
@@ -53,7 +53,7 @@ run_len class zero bytes = 0
 run_len class (suc most) [] = 0
 run_len class (suc most) (b ∷ bytes) = if is_in class b then suc (run_len class most bytes) else 0
 
--- the bytes of a class at the front, at least so many and at most so many
+-- the bytes of a class at the front, `least` to `most` of them
 unfoldable pub run_at : Class → ℕ → ℕ → List ℕ → FieldRead (List ℕ)
 run_at class least most bytes =
     let n = run_len class most bytes in
@@ -77,7 +77,7 @@ either test one other (b ∷ bytes) = if test b then one (b ∷ bytes) else othe
 unfoldable pub seen : {V W : Type 0} → (V → W) → (List ℕ → FieldRead V) → List ℕ → FieldRead W
 seen view read bytes = read bytes >>= λ x. Ok (view x.0, x.1)
 
--- a field whose value passes a test; where it fails, more bytes are wanted
+-- a field whose value passes a test; where it fails, more bytes are needed
 unfoldable pub only : {V : Type 0} → (V → Bool) → (List ℕ → FieldRead V) → List ℕ → FieldRead V
 only test read bytes = read bytes >>= λ x. if test x.0 then Ok x else Err (stop_at x.1)
 

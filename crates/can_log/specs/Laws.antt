@@ -54,15 +54,15 @@ RefusedPlaceIsOne = (log : List ℕ) (line column other_line other_column : ℕ)
 
 -- a log means something, or it has a refused place
 abbrev pub LogIsLegalOrRefused : Type 0
-LogIsLegalOrRefused = (log : List ℕ) → ((whats : List (Option Stamped)) × LogMeans log whats) ⊎ ((line : ℕ) × (column : ℕ) × IsRefusedIn log line column)
+LogIsLegalOrRefused = (log : List ℕ) → ((meanings : List (Option Stamped)) × LogMeans log meanings) ⊎ ((line : ℕ) × (column : ℕ) × IsRefusedIn log line column)
 
 -- a log means at most one thing
 abbrev pub LogMeansAtMostOne : Type 0
-LogMeansAtMostOne = (log : List ℕ) (whats others : List (Option Stamped)) → LogMeans log whats → LogMeans log others → whats ≡ others
+LogMeansAtMostOne = (log : List ℕ) (meanings others : List (Option Stamped)) → LogMeans log meanings → LogMeans log others → meanings ≡ others
 
 -- a log with a refused place has no meaning
 abbrev pub RefusedLogMeansNothing : Type 0
-RefusedLogMeansNothing = (log : List ℕ) (line column : ℕ) (whats : List (Option Stamped)) → IsRefusedIn log line column → ¬ LogMeans log whats
+RefusedLogMeansNothing = (log : List ℕ) (line column : ℕ) (meanings : List (Option Stamped)) → IsRefusedIn log line column → ¬ LogMeans log meanings
 
 -- at the start of a log no byte and no line was read
 abbrev pub StartStands : Type 0
@@ -70,19 +70,19 @@ StartStands = StandsAfter [] [] at_start
 
 -- an answer on a piece tells what follows these bytes of a log
 abbrev pub ScanReadsOn : Type 0
-ScanReadsOn = (bytes : List ℕ) (whats : List (Option Stamped)) (piece : List ℕ) (old new : Standing) (answer : Scan) → StandsAfter bytes whats old → Scans old piece answer new
-    → ReadsOn bytes whats piece answer new
+ScanReadsOn = (bytes : List ℕ) (meanings : List (Option Stamped)) (piece : List ℕ) (old new : Standing) (answer : Scan) → StandsAfter bytes meanings old → Scans old piece answer new
+    → ReadsOn bytes meanings piece answer new
 
 -- the answer at the end tells what the whole log means, or where it is refused
 abbrev pub FinishReadsEnd : Type 0
-FinishReadsEnd = (log : List ℕ) (whats : List (Option Stamped)) (old new : Standing) (answer : Scan) → StandsAfter log whats old → Finishes old answer new
-    → ReadsEnd log whats answer
+FinishReadsEnd = (log : List ℕ) (meanings : List (Option Stamped)) (old new : Standing) (answer : Scan) → StandsAfter log meanings old → Finishes old answer new
+    → ReadsEnd log meanings answer
 
 -- Over any pieces, with a last `finish`, a scanner tells all of the log that they make, and nothing else.
 abbrev pub ScanningReadsTheLog : Type 0
 ScanningReadsTheLog = (pieces : List (List ℕ)) (answers : List Scan) (last : Scan) (between new : Standing) → ScansAll at_start pieces answers between → Finishes between last new
     → TellsLog (concat pieces) (told (answers ++ last ∷ []))
 
--- All that is to be told of a log is one thing: two runs over one log, cut in two ways, tell the same.
+-- Two runs over one log, cut in two ways, tell the same.
 abbrev pub LogTellsOne : Type 0
 LogTellsOne = (log : List ℕ) (report other : List Told) → TellsLog log report → TellsLog log other → report ≡ other

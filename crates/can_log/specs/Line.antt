@@ -13,7 +13,7 @@ use Rattle.can_log.specs.declared.frame.Kind.{Kind}
 use Rattle.can_log.specs.declared.frame.Kind.TheVariants as kind
 use Rattle.can_log.specs.declared.frame.Stamped.{Stamped}
 
--- What stands behind the `#` of the identifier.
+-- What follows the `#` of the identifier.
 pub data Body : Type 0 where
   -- `112233`, or `1122334455667788_9`: the digits of the data, and the digit of a raw length code
   classic : List ℕ → Option (List ℕ) → Body
@@ -22,7 +22,7 @@ pub data Body : Type 0 where
   -- `#3AABB`: the digit of the flags, and the digits of the data
   fd : List ℕ → List ℕ → Body
 
--- The parts of a line: `(seconds.micros) interface identifier#body`, and a mark `R` or `T` behind a gap, or none.
+-- The parts of a line: `(seconds.micros) interface identifier#body`, and a mark `R` or `T` after a gap, or none.
 pub record LineSpelling : Type 0 where
   pub seconds : List ℕ
   pub micros : List ℕ
@@ -33,18 +33,18 @@ pub record LineSpelling : Type 0 where
   pub body : Body
   pub mark : Option (List ℕ × List ℕ)
 
--- a raw length code behind its underscore
+-- a raw length code after its underscore
 abbrev pub spell_raw_dlc : Option (List ℕ) → List ℕ
 spell_raw_dlc None = []
 spell_raw_dlc (Some digit) = codes "_" ++ digit
 
--- what stands behind the `#`
+-- what follows the `#`
 abbrev pub spell_body : Body → List ℕ
 spell_body (classic digits raw_dlc) = digits ++ spell_raw_dlc raw_dlc
 spell_body (remote digit raw_dlc) = codes "R" ++ (digit ++ spell_raw_dlc raw_dlc)
 spell_body (fd flags digits) = codes "#" ++ (flags ++ digits)
 
--- a mark behind its gap
+-- a mark after its gap
 abbrev pub spell_mark : Option (List ℕ × List ℕ) → List ℕ
 spell_mark None = []
 spell_mark (Some mark) = mark.0 ++ mark.1
@@ -69,7 +69,7 @@ IsGap = IsRunOf (λ b. b == code " ") 1 16
 abbrev pub IsIdentifierText : List ℕ → Type 0
 IsIdentifierText digits = IsRunOf is_ascii_hexdigit 3 8 digits × (((length digits ≡ 3) × (digits_value 16 digits ≤ 0x7FF)) ⊎ (length digits ≡ 8))
 
--- at most so many hexadecimal digits, and an even number of them: two for each byte
+-- at most `most` hexadecimal digits, and an even number of them: two for each byte
 abbrev pub IsDataText : ℕ → List ℕ → Type 0
 IsDataText most digits = IsRunOf is_ascii_hexdigit 0 most digits × (length digits % 2 ≡ 0)
 
@@ -77,7 +77,7 @@ IsDataText most digits = IsRunOf is_ascii_hexdigit 0 most digits × (length digi
 abbrev pub is_raw_dlc : ℕ → Bool
 is_raw_dlc b = b == code "9" || is_in_range (code "A") (code "F") b || is_in_range (code "a") (code "f") b
 
--- A raw length code stands only behind 8 bytes of data, or behind the length 8 of a remote frame.
+-- A raw length code may only follow 8 bytes of data, or the length 8 of a remote frame.
 abbrev pub IsBody : Body → Type 0
 IsBody (classic digits None) = IsDataText 16 digits
 IsBody (classic digits (Some raw_dlc)) = IsDataText 16 digits × (length digits ≡ 16) × IsRunOf is_raw_dlc 1 1 raw_dlc
@@ -130,7 +130,7 @@ stamped_of line = record {
   frame = record { id = identifier_of line.identifier; kind = kind_of line.body; bytes = data_of line.body };
 }
 
--- the text, with one carriage return behind it or none
+-- the text, with one carriage return after it or none
 abbrev pub IsLineText : List ℕ → List ℕ → Type 0
 IsLineText text bytes = (bytes ≡ text) ⊎ (bytes ≡ text ++ codes "\r")
 

@@ -36,16 +36,16 @@ abbrev pub raw_dlc_at : Bool → List ℕ → FieldRead (Option (List ℕ))
 raw_dlc_at true = either (λ b. b == 95) (seen (λ p. Some p.1) (both (byte_at 95) (λ _. run_at AboveEight 1 1))) (nothing_at None)
 raw_dlc_at false = nothing_at None
 
--- the digit 8 alone, the length behind which a raw length code may stand
+-- the digit 8 alone, the length that a raw length code may follow
 abbrev pub is_eight : List ℕ → Bool
 is_eight [] = false
 is_eight (digit ∷ digits) = digit == 56
 
--- data, and behind 8 bytes of it a raw length code
+-- data, and after 8 bytes of it a raw length code
 abbrev pub classic_at : List ℕ → FieldRead Body
 classic_at = seen (λ p. classic p.0 p.1) (both (data_at 16) (λ digits. raw_dlc_at (length digits == 16)))
 
--- `R`, a length or none, and behind the length 8 a raw length code
+-- `R`, a length or none, and after the length 8 a raw length code
 abbrev pub remote_at : List ℕ → FieldRead Body
 remote_at = seen (λ p. remote p.1.0 p.1.1) (both (byte_at 82) (λ _. both (run_at UpToEight 0 1) (λ digit. raw_dlc_at (is_eight digit))))
 
@@ -53,7 +53,7 @@ remote_at = seen (λ p. remote p.1.0 p.1.1) (both (byte_at 82) (λ _. both (run_
 abbrev pub fd_at : List ℕ → FieldRead Body
 fd_at = seen (λ p. fd p.1.0 p.1.1) (both (byte_at 35) (λ _. both (run_at Hex 1 1) (λ _. data_at 128)))
 
--- a body, told by its first byte
+-- a body, recognised by its first byte
 abbrev pub body_at : List ℕ → FieldRead Body
 body_at = either (λ b. b == 82) remote_at (either (λ b. b == 35) fd_at classic_at)
 
@@ -74,7 +74,7 @@ pub record Parts : Type 0 where
   pub identifier : List ℕ
   pub body : Body
 
--- a line behind its `(`
+-- a line after its `(`
 abbrev pub frame_at : List ℕ → FieldRead Parts
 frame_at = seen (λ p. record { seconds = p.0.0; micros = p.0.1.1.0; identifier = p.1.1.0; body = p.1.1.1.1.0 })
     (both stamp_at (λ _. both place_at (λ _. both identifier_at (λ _. both (byte_at 35) (λ _. both body_at (λ _. both mark_at (λ _. end_at)))))))

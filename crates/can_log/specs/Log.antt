@@ -14,28 +14,28 @@ log_lines (b ∷ bytes) = if b == code "\n" then [] ∷ log_lines bytes else ont
 -- what the lines mean, one after another
 abbrev pub LinesMean : List (List ℕ) → List (Option Stamped) → Type 0
 LinesMean [] [] = ⊤
-LinesMean [] (what ∷ whats) = ⊥
+LinesMean [] (what ∷ meanings) = ⊥
 LinesMean (line ∷ lines) [] = ⊥
-LinesMean (line ∷ lines) (what ∷ whats) = LineMeans line what × LinesMean lines whats
+LinesMean (line ∷ lines) (what ∷ meanings) = LineMeans line what × LinesMean lines meanings
 
 -- a legal log, and what its lines mean
 abbrev pub LogMeans : List ℕ → List (Option Stamped) → Type 0
-LogMeans log whats = LinesMean (log_lines log) whats
+LogMeans log meanings = LinesMean (log_lines log) meanings
 
 -- lines, each with its line feed
 abbrev pub ended_lines : List (List ℕ) → List ℕ
 ended_lines lines = flat_map (λ line. line ++ codes "\n") lines
 
--- the bytes behind the ended lines of a log are refused at this column
+-- the bytes after the ended lines of a log are refused at this column
 abbrev pub IsRefusedRest : List ℕ → ℕ → Type 0
 IsRefusedRest rest column = IsRefusedPlace rest column ⊎ IsUnfinishedAt rest column
 
--- The refused place of a log: legal lines stand before it, and the bytes behind them are refused at this column.
+-- The refused place of a log: legal lines come before it, and the bytes after them are refused at this column.
 pub record IsRefusedIn (log : List ℕ) (line column : ℕ) : Type 0 where
   pub lines : List (List ℕ)
-  pub whats : List (Option Stamped)
+  pub meanings : List (Option Stamped)
   pub rest : List ℕ
   pub parts : log ≡ ended_lines lines ++ rest
-  pub legal : LinesMean lines whats
+  pub legal : LinesMean lines meanings
   pub at : line ≡ length lines + 1
   pub here : IsRefusedRest rest column

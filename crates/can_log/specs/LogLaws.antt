@@ -7,12 +7,12 @@ use Rattle.can_log.specs.Line.{LineMeans, MeansNothing}
 use Rattle.can_log.specs.Refused.{NoLineFeed}
 use Rattle.can_log.specs.Log.{log_lines, LinesMean, LogMeans, ended_lines, IsRefusedRest, IsRefusedIn}
 
--- what stands behind the last line feed: a line where there are bytes, and else none
+-- what follows the last line feed: a line where there are bytes, and else none
 abbrev pub last_line : List ℕ → List (List ℕ)
 last_line [] = []
 last_line (b ∷ bytes) = (b ∷ bytes) ∷ []
 
--- The lines of a log are those that line feeds end, and what stands behind the last of these.
+-- The lines of a log are those that line feeds end, and what follows the last of these.
 abbrev pub LogLinesOfParts : Type 0
 LogLinesOfParts = (lines : List (List ℕ)) (rest : List ℕ) → AllByRecursion NoLineFeed lines → NoLineFeed rest
     → log_lines (ended_lines lines ++ rest) ≡ lines ++ last_line rest
@@ -25,44 +25,44 @@ LineFeedEndsLine = (line more : List ℕ) → NoLineFeed line → log_lines (lin
 abbrev pub LogLinesGoOn : Type 0
 LogLinesGoOn = (lines : List (List ℕ)) (rest : List ℕ) → AllByRecursion NoLineFeed lines → log_lines (ended_lines lines ++ rest) ≡ lines ++ log_lines rest
 
--- No line holds a line feed, of lines that mean something.
+-- Of lines that mean something, none holds a line feed.
 abbrev pub LinesHaveNoLineFeed : Type 0
-LinesHaveNoLineFeed = (lines : List (List ℕ)) (whats : List (Option Stamped)) → LinesMean lines whats → AllByRecursion NoLineFeed lines
+LinesHaveNoLineFeed = (lines : List (List ℕ)) (meanings : List (Option Stamped)) → LinesMean lines meanings → AllByRecursion NoLineFeed lines
 
--- Lines mean as many things as they are.
+-- Lines mean as many things as there are lines.
 abbrev pub LinesMeanAsMany : Type 0
-LinesMeanAsMany = (lines : List (List ℕ)) (whats : List (Option Stamped)) → LinesMean lines whats → length lines ≡ length whats
+LinesMeanAsMany = (lines : List (List ℕ)) (meanings : List (Option Stamped)) → LinesMean lines meanings → length lines ≡ length meanings
 
 -- Lines mean this and one thing more exactly where the last of them means that thing, and those before it mean this.
 abbrev pub LinesMeanOneMore : Type 0
-LinesMeanOneMore = (lines : List (List ℕ)) (whats : List (Option Stamped)) (what : Option Stamped)
-    → LinesMean lines (whats ++ what ∷ [])
-    ↔ ((front : List (List ℕ)) × (last : List ℕ) × (lines ≡ front ++ last ∷ []) × LinesMean front whats × LineMeans last what)
+LinesMeanOneMore = (lines : List (List ℕ)) (meanings : List (Option Stamped)) (what : Option Stamped)
+    → LinesMean lines (meanings ++ what ∷ [])
+    ↔ ((front : List (List ℕ)) × (last : List ℕ) × (lines ≡ front ++ last ∷ []) × LinesMean front meanings × LineMeans last what)
 
 -- Lines that mean something, each with its line feed, are a log that means that.
 abbrev pub LinesAreLog : Type 0
-LinesAreLog = (lines : List (List ℕ)) (whats : List (Option Stamped)) → LinesMean lines whats → LogMeans (ended_lines lines) whats
+LinesAreLog = (lines : List (List ℕ)) (meanings : List (Option Stamped)) → LinesMean lines meanings → LogMeans (ended_lines lines) meanings
 
 -- The lines of a refused log are those before its refused place, and then those of the rest.
 abbrev pub RefusedLines : Type 0
 RefusedLines = (log : List ℕ) (line column : ℕ) (place : IsRefusedIn log line column) → log_lines log ≡ place.lines ++ log_lines place.rest
 
--- The first line of that rest means nothing, and the refused byte is one of it, or the one behind it.
+-- The first line of that rest means nothing, and the refused byte is in it, or is the one after it.
 abbrev pub RefusedLineMeansNothing : Type 0
 RefusedLineMeansNothing = (rest : List ℕ) (column : ℕ) (line : List ℕ) (later : List (List ℕ)) → IsRefusedRest rest column → log_lines rest ≡ line ∷ later
     → MeansNothing line × (column ≤ length line + 1)
 
--- Lines and more lines mean what the ones mean, and then what the others mean.
+-- Lines and more lines mean what the first ones mean, and then what the others mean.
 abbrev pub LinesMeanInParts : Type 0
-LinesMeanInParts = (lines more : List (List ℕ)) (whats : List (Option Stamped))
-    → LinesMean (lines ++ more) whats
-    ↔ ((front : List (Option Stamped)) × (back : List (Option Stamped)) × (whats ≡ front ++ back) × LinesMean lines front × LinesMean more back)
+LinesMeanInParts = (lines more : List (List ℕ)) (meanings : List (Option Stamped))
+    → LinesMean (lines ++ more) meanings
+    ↔ ((front : List (Option Stamped)) × (back : List (Option Stamped)) × (meanings ≡ front ++ back) × LinesMean lines front × LinesMean more back)
 
 -- A line with its line feed is a log that means one thing.
 abbrev pub LineIsLog : Type 0
 LineIsLog = (line : List ℕ) (what : Option Stamped) → NoLineFeed line → LineMeans line what → LogMeans (line ++ codes "\n") (what ∷ [])
 
--- A log behind one whose lines are all ended is one log, that means what the one means and then what the other means.
+-- A log whose lines are all ended, and then another log, are one log: it means what the first means, then the second.
 abbrev pub LogsJoin : Type 0
 LogsJoin = (lines : List (List ℕ)) (more : List ℕ) (front back : List (Option Stamped))
     → LogMeans (ended_lines lines) front → LogMeans more back → LogMeans (ended_lines lines ++ more) (front ++ back)

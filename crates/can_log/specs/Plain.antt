@@ -31,7 +31,7 @@ digits_of body = take body.digits body.behind.now
 unfoldable pub body_text : PlainBody → List ℕ
 body_text body = flags_spelled body.flags ++ digits_of body
 
--- it is legal, and all that is in the lanes stands behind it
+-- it is legal, and what else is in the lanes follows it
 pub record IsPlainBody (body : PlainBody) : Type 0 where
   pub flags : AreFlags body.flags
   pub digits : IsDataText (most_digits body.flags) (digits_of body)
@@ -70,7 +70,7 @@ pub record HavePlainWidths (fields : Fields) : Type 0 where
   pub identifier : IsIdentifierText fields.identifier.now
   pub body : IsPlainBody fields.body
 
--- so many bytes at the front pass the test, and no more than sixteen
+-- n bytes at the front pass the test, at most sixteen
 abbrev pub IsFrontOf : (ℕ → Bool) → ℕ → List ℕ → Type 0
 IsFrontOf test n bytes = (n ≤ 16) × IsRunOf test 0 16 (take n bytes)
 

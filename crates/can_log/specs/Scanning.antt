@@ -10,7 +10,7 @@ pub record Place : Type 0 where
   pub line : ℕ
   pub column : ℕ
 
--- A scanner stands after so many whole lines and these bytes of the next one, of so many bytes in all; or at a refused place.
+-- A scanner stands after `lines` whole lines and these bytes of the next one, `taken` bytes in all; or at a refused place.
 pub record Standing : Type 0 where
   pub lines : ℕ
   pub line : List ℕ

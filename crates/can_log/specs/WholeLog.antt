@@ -11,42 +11,42 @@ use Rattle.can_log.specs.Scanning.{Standing, Scans}
 abbrev pub at_start : Standing
 at_start = record { lines = 0; line = []; taken = 0; refused = None }
 
--- A scanner stands after these bytes of a log, the lines of which mean this: what is left behind them is the unfinished line.
-pub record StandsAfter (bytes : List ℕ) (whats : List (Option Stamped)) (standing : Standing) : Type 0 where
+-- A scanner stands after these bytes of a log, the lines of which mean this: what is left after them is the unfinished line.
+pub record StandsAfter (bytes : List ℕ) (meanings : List (Option Stamped)) (standing : Standing) : Type 0 where
   pub lines : List (List ℕ)
   pub parts : bytes ≡ ended_lines lines ++ standing.line
-  pub means : LinesMean lines whats
+  pub means : LinesMean lines meanings
   pub legal : HasCompletion standing.line
-  pub counted : standing.lines ≡ length whats
+  pub counted : standing.lines ≡ length meanings
   pub taken : standing.taken ≡ length bytes
   pub sound : standing.refused ≡ None
 
--- a refused place, behind lines that mean this
+-- a refused place, after lines that mean this
 abbrev pub IsRefusedBehind : List (Option Stamped) → List ℕ → ℕ → ℕ → Type 0
-IsRefusedBehind whats log line column = (place : IsRefusedIn log line column) × (place.whats ≡ whats)
+IsRefusedBehind meanings log line column = (place : IsRefusedIn log line column) × (place.meanings ≡ meanings)
 
 -- and among the first `count` bytes of the log
 abbrev pub IsRefusedWithin : ℕ → List (Option Stamped) → List ℕ → ℕ → ℕ → Type 0
-IsRefusedWithin count whats log line column =
-    (place : IsRefusedIn log line column) × (place.whats ≡ whats) × (length (ended_lines place.lines) + column ≤ count)
+IsRefusedWithin count meanings log line column =
+    (place : IsRefusedIn log line column) × (place.meanings ≡ meanings) × (length (ended_lines place.lines) + column ≤ count)
 
--- what an answer on a piece tells, behind these bytes of a log
+-- what an answer on a piece tells, after these bytes of a log
 abbrev pub ReadsOn : List ℕ → List (Option Stamped) → List ℕ → Scan → Standing → Type 0
-ReadsOn bytes whats piece scan.NeedMore new = StandsAfter (bytes ++ piece) whats new
-ReadsOn bytes whats piece (scan.Line used line what) new =
-    (used ≤ length piece) × (line ≡ length whats + 1) × StandsAfter (bytes ++ take used piece) (whats ++ what ∷ []) new
-ReadsOn bytes whats piece (scan.Bad line column) new =
-    (more : List ℕ) → IsRefusedWithin (length bytes + length piece) whats (bytes ++ (piece ++ more)) line column
-ReadsOn bytes whats piece scan.End new = ⊥
+ReadsOn bytes meanings piece scan.NeedMore new = StandsAfter (bytes ++ piece) meanings new
+ReadsOn bytes meanings piece (scan.Line used line what) new =
+    (used ≤ length piece) × (line ≡ length meanings + 1) × StandsAfter (bytes ++ take used piece) (meanings ++ what ∷ []) new
+ReadsOn bytes meanings piece (scan.Bad line column) new =
+    (more : List ℕ) → IsRefusedWithin (length bytes + length piece) meanings (bytes ++ (piece ++ more)) line column
+ReadsOn bytes meanings piece scan.End new = ⊥
 
 -- what the answer at the end of a log tells
 abbrev pub ReadsEnd : List ℕ → List (Option Stamped) → Scan → Type 0
-ReadsEnd log whats scan.NeedMore = ⊥
-ReadsEnd log whats (scan.Line used line what) = (line ≡ length whats + 1) × LogMeans log (whats ++ what ∷ [])
-ReadsEnd log whats (scan.Bad line column) = IsRefusedBehind whats log line column
-ReadsEnd log whats scan.End = LogMeans log whats
+ReadsEnd log meanings scan.NeedMore = ⊥
+ReadsEnd log meanings (scan.Line used line what) = (line ≡ length meanings + 1) × LogMeans log (meanings ++ what ∷ [])
+ReadsEnd log meanings (scan.Bad line column) = IsRefusedBehind meanings log line column
+ReadsEnd log meanings scan.End = LogMeans log meanings
 
--- what is handed in next: behind a line the rest of the same piece, else the next one
+-- what is handed in next: after a line the rest of the same piece, else the next one
 abbrev pub pieces_left : Scan → List ℕ → List (List ℕ) → List (List ℕ)
 pieces_left scan.NeedMore piece pieces = pieces
 pieces_left (scan.Line used line what) piece pieces = drop used piece ∷ pieces
@@ -77,10 +77,10 @@ told (scan.End ∷ answers) = told answers
 -- lines that mean this, with their numbers
 abbrev pub lines_from : ℕ → List (Option Stamped) → List Told
 lines_from number [] = []
-lines_from number (what ∷ whats) = line number what ∷ lines_from (number + 1) whats
+lines_from number (what ∷ meanings) = line number what ∷ lines_from (number + 1) meanings
 
--- All that is to be told of a log: its lines, numbered from 1; or those before its refused place, and the place.
+-- What there is to tell of a log: its lines, numbered from 1; or those before its refused place, and the place.
 abbrev pub TellsLog : List ℕ → List Told → Type 0
 TellsLog log report =
-    ((whats : List (Option Stamped)) × LogMeans log whats × (report ≡ lines_from 1 whats))
-    ⊎ ((number : ℕ) × (column : ℕ) × (place : IsRefusedIn log number column) × (report ≡ lines_from 1 place.whats ++ refused number column ∷ []))
+    ((meanings : List (Option Stamped)) × LogMeans log meanings × (report ≡ lines_from 1 meanings))
+    ⊎ ((number : ℕ) × (column : ℕ) × (place : IsRefusedIn log number column) × (report ≡ lines_from 1 place.meanings ++ refused number column ∷ []))

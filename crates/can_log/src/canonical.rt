@@ -6,7 +6,7 @@ ghost use Rattle.can_log.specs.Canonical.{canonical_length, canonical_line, cano
 ghost use Rattle.can_log.specs.Frame.{IsCanIdentifier};
 ghost use Rattle.can_log.specs.Log.{LogMeans};
 
-use crate::digits::{decimal_digits, digits_of_bytes, hexadecimal_digits};
+use crate::digit_lanes::{decimal_digits, digits_of_bytes, hexadecimal_digits};
 use crate::frame::Id;
 use arrayvec::ArrayVec;
 

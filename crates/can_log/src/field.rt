@@ -25,7 +25,7 @@ pub(crate) enum Class {
     Digit,
     Hex,
     Space,
-    /// ASCII that is seen: neither a space nor a control character.
+    /// Visible ASCII: neither a space nor a control character.
     Visible,
     /// The lengths that a remote frame asks for.
     UpToEight,
@@ -54,7 +54,7 @@ impl Class {
     }
 }
 
-/// How many bytes of the class stand at the front, at most so many.
+/// How many bytes at the front are of the class, at most `most`.
 #[inline(always)]
 fn run_length(class: Class, most: usize, bytes: &[u8]) -> usize
     ensures value { result ≡ run_len class most bytes.now }
@@ -83,7 +83,7 @@ pub(crate) fn stop_of(bytes: &[u8]) -> Stop<'_>
     }
 }
 
-/// The bytes of a class at the front, `least` to `most` of them, and the bytes behind them.
+/// The bytes of a class at the front, `least` to `most` of them, and the bytes after them.
 #[tactic(auto, unfolding(crate::specs::FieldReader::run_at))]
 #[inline(always)]
 pub(crate) fn run_of(
@@ -136,7 +136,7 @@ pub(crate) fn number_in(digits: &[u8]) -> Number<'_>
     Number { digits, value }
 }
 
-/// How many digits stand at the front, at most so many, and their value.
+/// How many digits there are at the front, at most `most`, and their value.
 #[inline(always)]
 fn leading_digits(most: usize, bytes: &[u8]) -> (usize, u64)
     requires { most ≤ 10 }
@@ -154,7 +154,7 @@ fn leading_digits(most: usize, bytes: &[u8]) -> (usize, u64)
     (n, value)
 }
 
-/// The decimal digits at the front, `least` to `most` of them, and the bytes behind them.
+/// The decimal digits at the front, `least` to `most` of them, and the bytes after them.
 #[tactic(auto, unfolding(crate::specs::FieldReader::run_at))]
 #[inline(always)]
 pub(crate) fn number_of(
@@ -173,7 +173,7 @@ pub(crate) fn number_of(
     Ok((Number { digits, value }, rest))
 }
 
-/// The bytes behind the byte `c`.
+/// The bytes after the byte `c`.
 #[tactic(auto, unfolding(crate::specs::FieldReader::byte_at))]
 #[inline(always)]
 pub(crate) fn byte_of(c: u8, bytes: &[u8]) -> Result<&[u8], Stop<'_>>

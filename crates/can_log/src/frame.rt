@@ -79,7 +79,7 @@ impl Kind {
 /// A frame of a CAN log. Its data lies in the frame itself: nothing is allocated.
 #[derive(Debug, Drop, PartialEq, Eq)]
 pub struct Frame {
-    // The largest part stands first: behind smaller ones it would be copied at odd addresses.
+    // The largest part comes first: after smaller ones it would be copied at odd addresses.
     data: ArrayVec<u8, 64>,
     id: Id,
     kind: Kind,

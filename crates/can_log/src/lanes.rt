@@ -12,7 +12,7 @@ use std::simd::prelude::*;
 /// How many bytes there are at once.
 pub(crate) const LANES: usize = 16;
 
-/// So many bytes at the front are seen: no spaces and no control characters.
+/// How many bytes at the front are visible, of sixteen: neither spaces nor control characters.
 #[inline(always)]
 pub(crate) fn visible_front(bytes: &[u8]) -> usize
     requires { LANES ≤ length bytes.now }
@@ -23,7 +23,7 @@ pub(crate) fn visible_front(bytes: &[u8]) -> usize
     first_set(stops.to_bitmask())
 }
 
-/// So many bytes at the front are hexadecimal digits, in either case.
+/// How many bytes at the front are hexadecimal digits, of sixteen, in either case.
 #[inline(always)]
 pub(crate) fn hex_front(bytes: &[u8]) -> usize
     requires { LANES ≤ length bytes.now }
@@ -35,7 +35,7 @@ pub(crate) fn hex_front(bytes: &[u8]) -> usize
     first_set((is_other & from_a.simd_gt(u8x16::splat(5))).to_bitmask())
 }
 
-/// So many bytes at the front are hexadecimal digits, and no more than `most`, a multiple of the lanes.
+/// How many bytes at the front are hexadecimal digits, and no more than `most`, a multiple of the lanes.
 #[inline(always)]
 pub(crate) fn hex_run(most: usize, bytes: &[u8]) -> usize
     requires room { most ≤ length bytes.now }

@@ -92,12 +92,12 @@ pub fn finish_reads_end()
 {}
 
 /// Over any pieces, with a last `finish`, a scanner answers the lines of the log that the pieces make, numbered from 1;
-/// or those before its refused place, and the place. How the log is cut plays no part.
+/// or those before its refused place, and the place. How the log is cut does not matter.
 pub fn scanning_reads_the_log()
     ensures { ScanningReadsTheLog }
 {}
 
-/// All that is to be told of a log is one thing: two runs over one log, cut in two ways, tell the same.
+/// Two runs over one log, cut in two ways, tell the same.
 pub fn log_tells_one()
     ensures { LogTellsOne }
 {}
@@ -117,7 +117,7 @@ pub fn canonical_line_length()
     ensures { CanonicalLineLength }
 {}
 
-/// The lines of a log are those that line feeds end, and what stands behind the last of these.
+/// The lines of a log are those that line feeds end, and what follows the last of these.
 pub fn log_lines_of_parts()
     ensures { LogLinesOfParts }
 {}
@@ -132,12 +132,12 @@ pub fn log_lines_go_on()
     ensures { LogLinesGoOn }
 {}
 
-/// No line holds a line feed, of lines that mean something.
+/// Of lines that mean something, none holds a line feed.
 pub fn lines_have_no_line_feed()
     ensures { LinesHaveNoLineFeed }
 {}
 
-/// Lines mean as many things as they are.
+/// Lines mean as many things as there are lines.
 pub fn lines_mean_as_many()
     ensures { LinesMeanAsMany }
 {}
@@ -157,12 +157,12 @@ pub fn refused_lines()
     ensures { RefusedLines }
 {}
 
-/// The first line of that rest means nothing, and the refused byte is one of it, or the one behind it.
+/// The first line of that rest means nothing, and the refused byte is in it, or is the one after it.
 pub fn refused_line_means_nothing()
     ensures { RefusedLineMeansNothing }
 {}
 
-/// Lines and more lines mean what the ones mean, and then what the others mean.
+/// Lines and more lines mean what the first ones mean, and then what the others mean.
 pub fn lines_mean_in_parts()
     ensures { LinesMeanInParts }
 {}
@@ -172,7 +172,7 @@ pub fn line_is_log()
     ensures { LineIsLog }
 {}
 
-/// A log behind one whose lines are all ended is one log, that means both.
+/// A log whose lines are all ended, and then another log, are one log, which means both.
 pub fn logs_join()
     ensures { LogsJoin }
 {}

@@ -1,4 +1,4 @@
-//! Frames of a CAN log, and the lines that they stand in.
+//! Frames of a CAN log, and the lines that record them.
 //!
 //! A [`Scanner`] takes a log of can-utils (`candump -l`, `candump -L`) in pieces, however it is cut, and answers line by line
 //! what was recorded, or the place of the first byte that no line has there. It allocates nothing, and a line that lies
@@ -16,7 +16,7 @@
 #![tactic(auto)]
 
 mod canonical;
-mod digits;
+mod digit_lanes;
 mod field;
 mod frame;
 mod hexadecimal;

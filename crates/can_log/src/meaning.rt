@@ -74,7 +74,7 @@ fn data_of(digits: &[u8]) -> ArrayVec<u8, 64>
     bytes
 }
 
-/// Puts the bytes that so many times sixteen digits spell, whatever stands behind them.
+/// Puts the bytes that a multiple of sixteen digits spells, whatever follows them.
 #[inline(always)]
 fn put_sixteens(sixteens: usize, digits: &[u8], bytes: &mut ArrayVec<u8, 64>)
     requires few { sixteens ≤ 8 }
@@ -88,7 +88,7 @@ fn put_sixteens(sixteens: usize, digits: &[u8], bytes: &mut ArrayVec<u8, 64>)
     }
 }
 
-/// Puts the bytes that digits spell, by lanes alone: at least fifteen bytes stand behind the digits.
+/// Puts the bytes that digits spell, by lanes alone: at least fifteen bytes follow the digits.
 #[inline(always)]
 pub(crate) fn put_data(digits: usize, text: &[u8], bytes: &mut ArrayVec<u8, 64>)
     requires room { digits + 15 ≤ length text.now }

@@ -1,5 +1,5 @@
-//! Lines of plain form. Most frames of a log stand in lines whose fields have one width, or end where a byte of another kind
-//! stands: such a line is judged as a whole, sixteen bytes at a time, and its end is found from that of its data.
+//! Lines of plain form. In most lines of a log the fields have one width, or end where a byte of another kind follows: such a
+//! line is judged as a whole, sixteen bytes at a time, and its end is found from that of its data.
 
 ghost use Rattle.std.specs.Prelude.{◌≡◌, ◌≤◌, ◌+◌, ◌++◌, [], IfSome, IsTrue, codes, length, take};
 ghost use Rattle.can_log.specs.Line.{stamped_of, bytes_spelled, spell_line, IsLineSpelling, IsRunOf, IsIdentifierText, IsDataText};
@@ -15,7 +15,7 @@ use crate::meaning::{identifier_of, put_data};
 use arrayvec::ArrayVec;
 
 /// The longest line of a classic frame in plain form has 61 bytes and a line feed: a stamp of 20 bytes, 15 of the interface, a
-/// space, 8 digits of the identifier, `#`, and 16 of the data. Behind the data may stand what else is in the lanes.
+/// space, 8 digits of the identifier, `#`, and 16 of the data. After the data may stand what else is in the lanes.
 const ROOM_OF_CLASSIC: usize = 62 + LANES;
 
 /// The digits of the data of an FD frame, and what else is in the lanes.
@@ -34,20 +34,20 @@ pub(crate) struct Fields<'a> {
     body: PlainBody<'a>,
 }
 
-/// What stands behind the identifier and its `#`.
+/// What follows the identifier and its `#`.
 #[derive(Clone, Copy)]
 struct PlainBody<'a> {
     /// The digit of the flags of an FD frame; a classic one has none.
     flags: Option<&'a [u8]>,
     /// How many digits of data there are.
     digits: usize,
-    /// The digits, and the bytes behind them.
+    /// The digits, and the bytes after them.
     behind: &'a [u8],
 }
 
-/// The fields of the first line, if it is of plain form, and the bytes behind its line feed. In plain form it is
+/// The fields of the first line, if it is of plain form, and the bytes after its line feed. In plain form it is
 /// `(1700000000.000241) can0 7E0#031089D2AAAAAAAA`, with ten digits of seconds, gaps of one space, an identifier of either
-/// format and at most 8 bytes of data. `None` says no more than that the line has another form, or is near the end.
+/// format and at most 8 bytes of data. `None` only says that the line has another form, or is near the end.
 #[inline(always)]
 pub(crate) fn plain_line(piece: &[u8]) -> Option<(Fields<'_>, &[u8])>
     ensures line { IfSome result (λ x. piece.now ≡ spell_line (spelling_of x.0) ++ (codes "\n" ++ x.1.now)) }
@@ -92,7 +92,7 @@ pub(crate) fn plain_stamped(fields: Fields<'_>, data: ArrayVec<u8, 64>) -> Stamp
     }
 }
 
-/// The fields of the first line, where the bytes between them are those of the plain form, and the bytes behind the line.
+/// The fields of the first line, where the bytes between them are those of the plain form, and the bytes after the line.
 #[inline(always)]
 fn fields_of(piece: &[u8]) -> Option<(Fields<'_>, &[u8])>
     ensures line { IfSome result (λ x. piece.now ≡ plain_text x.0 ++ (codes "\n" ++ x.1.now)) }
@@ -131,7 +131,7 @@ fn fields_of(piece: &[u8]) -> Option<(Fields<'_>, &[u8])>
     Some((fields, rest))
 }
 
-/// The name of the interface, and the bytes behind it.
+/// The name of the interface, and the bytes after it.
 #[inline(always)]
 fn interface_in_front(bytes: &[u8]) -> Option<(&[u8], &[u8])>
     requires { LANES ≤ length bytes.now }
@@ -146,7 +146,7 @@ fn interface_in_front(bytes: &[u8]) -> Option<(&[u8], &[u8])>
     Some(bytes.split_at(length))
 }
 
-/// The digits of the identifier, and the bytes behind them.
+/// The digits of the identifier, and the bytes after them.
 #[inline(always)]
 fn identifier_in_front(bytes: &[u8]) -> Option<(&[u8], &[u8])>
     requires { LANES ≤ length bytes.now }
@@ -161,7 +161,7 @@ fn identifier_in_front(bytes: &[u8]) -> Option<(&[u8], &[u8])>
     }
 }
 
-/// The body of a line that ends behind its data, and the bytes behind its line feed.
+/// The body of a line that ends after its data, and the bytes after its line feed.
 #[tactic(auto, unfolding(crate::specs::Plain::body_text))]
 #[inline(always)]
 fn body_in_front(bytes: &[u8]) -> Option<(PlainBody<'_>, &[u8])>
@@ -182,7 +182,7 @@ fn body_in_front(bytes: &[u8]) -> Option<(PlainBody<'_>, &[u8])>
     Some((body, rest))
 }
 
-/// `#` and the digit of the flags, where an FD frame has them, and the bytes behind them.
+/// `#` and the digit of the flags, where an FD frame has them, and the bytes after them.
 #[inline(always)]
 fn flags_in_front(bytes: &[u8]) -> Option<(Option<&[u8]>, &[u8])>
     requires { 16 + 15 ≤ length bytes.now }

@@ -118,7 +118,7 @@ impl Scanner {
         self.scan_any(piece)
     }
 
-    /// The same for a line of any form, and for one that is cut. It stands apart, so that `scan` makes a frame at one place alone.
+    /// The same for a line of any form, and for one that is cut. It is separate, so that `scan` makes a frame at one place alone.
     #[inline(never)]
     fn scan_any(&mut self, piece: &[u8]) -> Scan
         requires { self.old.taken + length piece.now ≤ 2 ^ 62 }
@@ -226,7 +226,7 @@ enum Verdict {
     Refused(u32),
 }
 
-/// What a line means that ends behind `bytes`, or the column that is refused.
+/// What a line that ends after `bytes` means, or the column that is refused.
 fn ended(line: &[u8], bytes: &[u8]) -> Result<Option<Stamped>, u32>
     requires short { length line.now ≤ 223 }
     requires clean { NoLineFeed (line.now ++ bytes.now) }
@@ -254,7 +254,7 @@ fn refused(line: &[u8], bytes: &[u8]) -> Option<u32>
     }
 }
 
-/// The verdict on `line` and `bytes`, one behind the other, with no copy where nothing stands before `bytes`.
+/// The verdict on `line` and then `bytes`, with no copy where nothing comes before `bytes`.
 fn line_verdict(line: &[u8], bytes: &[u8]) -> Verdict
     requires { length line.now ≤ 223 }
     ensures { Judged (line.now ++ bytes.now) result }

@@ -1,4 +1,4 @@
--- Where the bytes that a layout carries stand in its frame.
+-- Where the bytes that a layout carries are in its frame.
 use Rattle.std.proofs.Common.{◌≡◌, ℕ, ◌%◌, ◌/◌, ◌^◌, ◌∙◌, List, [], ◌∷◌, ◌++◌, length, ap, sym, inl, inr, append-nil}
 use Rattle.isotp_pdu.specs.Layout.{Layout, single, first, consecutive, flow_control, first_byte, SpellsSingle, SpellsFirst, Spells, bytes_carried}
 use Rattle.isotp_pdu.specs.Laws.{CarriedBytesAreOfFrame}

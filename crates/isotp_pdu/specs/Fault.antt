@@ -27,7 +27,7 @@ pub record Begins (kind low : ℕ) (bytes : List ℕ) : Type 0 where
 abbrev pub Applies : PduFault → FrameValue → Type 0
 -- a remote frame has no data
 Applies fault.Remote frame = frame.kind ≡ kind.Remote
--- no CAN frame has so many bytes
+-- no CAN frame has this many bytes
 Applies fault.FrameLength frame = IsFalse (is_can_dl (length frame.bytes))
 -- a frame without bytes has no kind
 Applies fault.Empty frame = frame.bytes ≡ []

@@ -35,7 +35,7 @@ LayoutHasNoFault = (frame : FrameValue) (layout : Layout) (e : PduFault) → Has
 abbrev pub LayoutIsSound : Type 0
 LayoutIsSound = (frame : FrameValue) (layout : Layout) → HasLayout frame layout → IsSoundLayout layout
 
--- the bytes that a layout carries stand in the frame, one after another
+-- the bytes that a layout carries are in the frame, one after another
 abbrev pub CarriedBytesAreOfFrame : Type 0
 CarriedBytesAreOfFrame = (frame : FrameValue) (layout : Layout) → HasLayout frame layout
     → (front : List ℕ) × (back : List ℕ) × (frame.bytes ≡ front ++ (bytes_carried layout ++ back))

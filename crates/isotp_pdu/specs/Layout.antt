@@ -15,7 +15,7 @@ pub data Layout : Type 0 where
   single : List ℕ → Layout
   -- the announced length, RX_DL, and the first bytes of the message
   first : ℕ → ℕ → List ℕ → Layout
-  -- the sequence number, CAN_DL, and the bytes behind the first: the next of the message, and padding behind its end
+  -- the sequence number, CAN_DL, and the bytes after the first: the next of the message, and padding after its end
   consecutive : ℕ → ℕ → List ℕ → Layout
   -- the flow status
   flow_control : Status → Layout
@@ -32,7 +32,7 @@ is_can_dl n = nat_lt n 8 || is_rx_dl n
 abbrev pub first_byte : ℕ → ℕ → ℕ
 first_byte kind low = 16 * kind + low
 
--- Single frame (section 9.6.2): the length of the message in the low bits, or in a byte of its own where CAN_DL is above 8;
+-- Single frame (section 9.6.2): the length of the message in the low bits, or in a separate byte where CAN_DL is above 8;
 -- then the message, and padding of any value.
 abbrev pub SpellsSingle : List ℕ → List ℕ → Type 0
 SpellsSingle bytes message = (padding : List ℕ) × (0 < length message)
@@ -43,7 +43,7 @@ SpellsSingle bytes message = (padding : List ℕ) × (0 < length message)
 abbrev pub least_first : ℕ → ℕ
 least_first rx_dl = if rx_dl == 8 then 8 else rx_dl - 1
 
--- First frame (section 9.6.3): the announced length in 12 bits; or these are 0, and it stands in 32 bits and is above 4095.
+-- First frame (section 9.6.3): the announced length in 12 bits; or these are 0, and it is in 32 bits and above 4095.
 -- Then the first bytes of the message, to the end of the frame.
 abbrev pub SpellsFirst : List ℕ → ℕ → List ℕ → Type 0
 SpellsFirst bytes announced data_bytes =
@@ -96,7 +96,7 @@ IsSoundLayout (first announced rx_dl data_bytes) = IsSoundFirst announced rx_dl 
 IsSoundLayout (consecutive number can_dl data_bytes) = IsSoundConsecutive number can_dl data_bytes
 IsSoundLayout (flow_control status) = ⊤
 
--- the bytes of a message that it carries, in a consecutive frame with the padding behind them
+-- the bytes of a message that it carries, in a consecutive frame with the padding after them
 abbrev pub bytes_carried : Layout → List ℕ
 bytes_carried (single message) = message
 bytes_carried (first announced rx_dl data_bytes) = data_bytes

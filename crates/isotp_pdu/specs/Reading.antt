@@ -1,6 +1,6 @@
 -- The reading of a frame as a function, for contracts to cite: the layout that a frame has, or else the lowest fault that
--- applies. It makes the tests that a reader makes; what they come to, the laws `LayoutIsRead` and `FaultIsRead` say, which
--- fix it by the relations `HasLayout` and `IsFault`.
+-- applies. It makes the tests that a reader makes. The laws `LayoutIsRead` and `FaultIsRead` say what they amount to:
+-- they fix it by the relations `HasLayout` and `IsFault`.
 use Rattle.std.specs.Prelude.{ℕ, ◌+◌, ◌*◌, ◌/◌, ◌%◌, Bool, ◌&&◌, ◌==◌, nat_lt, nat_le, List, [], ◌∷◌, length, drop, slice_index, slice_range, Result, Ok, Err, true, if◌then◌else◌}
 use Rattle.can_log.specs.Frame.{FrameValue}
 use Rattle.can_log.specs.declared.frame.Kind.{Kind}
@@ -26,14 +26,14 @@ abbrev pub are_bytes : List ℕ → Bool
 are_bytes [] = true
 are_bytes (b ∷ bytes) = nat_lt b 256 && are_bytes bytes
 
--- a first frame whose length stands in 12 bits
+-- a first frame whose length is in 12 bits
 abbrev pub short_first_of : List ℕ → Result Layout PduFault
 short_first_of bytes =
     let announced = slice_index bytes 0 % 16 * 256 + slice_index bytes 1 in
     if nat_le (least_first (length bytes)) announced && are_bytes (slice_range bytes 1 2) then Ok (first announced (length bytes) (drop 2 bytes))
     else Err fault.FirstLength
 
--- a first frame whose length stands in 32 bits
+-- a first frame whose length is in 32 bits
 abbrev pub escaped_first_of : List ℕ → Result Layout PduFault
 escaped_first_of bytes =
     let announced = ((slice_index bytes 2 * 256 + slice_index bytes 3) * 256 + slice_index bytes 4) * 256 + slice_index bytes 5 in

@@ -41,7 +41,7 @@ pub fn layout_is_sound()
     ensures { LayoutIsSound }
 {}
 
-/// The bytes that a layout carries stand in its frame, one after another.
+/// The bytes that a layout carries are in its frame, one after another.
 pub fn carried_bytes_are_of_frame()
     ensures { CarriedBytesAreOfFrame }
 {}

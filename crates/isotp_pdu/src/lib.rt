@@ -1,13 +1,13 @@
 //! What a CAN frame says under ISO 15765-2: a whole message, the beginning of one, the next part of
-//! one, or a word to the sender about its pace. [`read_pdu`] reads it from one frame alone, whatever
-//! came before; receiving a message out of several frames is the layer above. Nothing is copied: the
-//! bytes of a [`Pdu`] lie in the frame.
+//! one, or flow control. [`read_pdu`] reads it from one frame alone, whatever came before; receiving
+//! a message of several frames is the layer above. Nothing is copied: the bytes of a [`Pdu`] lie in
+//! the frame.
 //!
 //! ```
 //! let data = [0x10, 0x14, 0x62, 0xF1, 0x90, 0x57, 0x42, 0x41];
 //! if let Some(frame) = Frame::new(Id::Std(0x7E8), Kind::Classic, &data) {
 //!     match read_pdu(&frame) {
-//!         // a message of 20 bytes, of which six stand here, in frames of 8 bytes
+//!         // a message of 20 bytes in frames of 8 bytes: six of its bytes are here
 //!         Ok(Pdu::First { len: 20, rx_dl: 8, bytes: [0x62, 0xF1, 0x90, 0x57, 0x42, 0x41] }) => ..
 //!     }
 //! }
@@ -66,12 +66,12 @@ pub enum Pdu<'a> {
     Flow(Status),
 }
 
-/// Why a frame says nothing. Of several the first in this order is told.
+/// Why a frame says nothing. Of several faults the first in this order is told.
 #[derive(Clone, Copy, Debug, PartialEq, Eq)]
 pub enum PduFault {
     /// It is a remote frame.
     Remote,
-    /// Its data has a length that no CAN frame has, as 9.
+    /// Its data has a length that no CAN frame has, such as 9.
     FrameLength,
     /// It has no data.
     Empty,
@@ -90,7 +90,7 @@ pub enum PduFault {
 }
 
 /// What the frame says, or else the first fault that applies. It takes neither the identifier nor
-/// the frames before into account, and treats classic and FD frames of equal length alike.
+/// the frames before into account, and treats classic and FD frames of equal length the same.
 pub fn read_pdu(frame: &Frame) -> Result<Pdu<'_>, PduFault>
     ensures value { layout_seen result ≡ layout_of frame.now }
     ensures layout { (layout : Layout) → (layout_seen result ≡ Ok layout) ↔ HasLayout frame.now layout }
@@ -135,7 +135,7 @@ fn read_bytes(bytes: &[u8]) -> Result<Pdu<'_>, PduFault>
     }
 }
 
-/// Whether a CAN frame has so many bytes (ISO 11898-1).
+/// Whether a CAN frame may have this many bytes (ISO 11898-1).
 fn has_frame_length(bytes: &[u8]) -> bool
     ensures { result ≡ is_can_dl (length bytes.now) }
 {
@@ -176,7 +176,7 @@ fn read_first(bytes: &[u8]) -> Result<Pdu<'_>, PduFault>
     }
 }
 
-/// The announced length stands in 12 bits of the first two bytes.
+/// The announced length is in 12 bits of the first two bytes.
 fn read_short_first(bytes: &[u8]) -> Result<Pdu<'_>, PduFault>
     requires long { 2 ≤ length bytes.now }
     requires few { length bytes.now ≤ 64 }
@@ -194,7 +194,7 @@ fn read_short_first(bytes: &[u8]) -> Result<Pdu<'_>, PduFault>
     })
 }
 
-/// The least length that a first frame of so many bytes announces.
+/// The least length that a first frame of this many bytes announces.
 fn least_first(rx_dl: u8) -> u32
     requires { 0 < rx_dl }
     ensures { result ≡ least_first rx_dl }
@@ -202,7 +202,7 @@ fn least_first(rx_dl: u8) -> u32
     if rx_dl == 8 { 8 } else { rx_dl as u32 - 1 }
 }
 
-/// The announced length stands in the four bytes behind the first two.
+/// The announced length is in the four bytes after the first two.
 fn read_escaped_first(bytes: &[u8]) -> Result<Pdu<'_>, PduFault>
     requires long { 6 ≤ length bytes.now }
     requires few { length bytes.now ≤ 64 }

@@ -1,4 +1,4 @@
--- The bytes that have come stand at their places, and so do those of a message that is complete.
+-- The bytes that have come are at their places, and so are those of a message that is complete.
 use Rattle.std.proofs.Common.{◌≡◌, ℕ, suc, ◌+◌, ◌-◌, ◌*◌, ◌<◌, ◌≤◌, true, List, ◌∷◌, ◌++◌, length, take, get_or, sym, ◌∙◌, ap, arith}
 use Rattle.std.proofs.Common.{inl, inr, append_assoc, length-append, get_or-take, length-take}
 use Rattle.std.proofs.lemmas.List.{get_or-drop, get_or_append_left, get_or-append-add}
@@ -7,7 +7,7 @@ use Rattle.std.proofs.lemmas.Bool.{cases_lt}
 use Rattle.can_log.specs.declared.frame.Dir.{Dir}
 use Rattle.isotp_receive.specs.Trace.{Entry, FirstFrame, first, consecutive, role}
 use Rattle.isotp_receive.specs.Places.{bytes_in_first, bytes_before, consecutive_by, consecutive_frames_in, between, IsConsecutive, AtPlaces}
-use Rattle.isotp_receive.specs.Standing.{carried, is_open}
+use Rattle.isotp_receive.specs.StandingReception.{carried, is_open}
 use Rattle.isotp_receive.proofs.Products.{product-below}
 use Rattle.isotp_receive.proofs.ListPositions.{get-behind, range-behind, regrouped}
 use Rattle.isotp_receive.proofs.Readings.{first_from, next_from}

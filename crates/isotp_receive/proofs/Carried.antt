@@ -7,7 +7,7 @@ use Rattle.std.proofs.lemmas.List.{append-nil}
 use Rattle.std.proofs.lemmas.Option.{slice_get_within}
 use Rattle.can_log.specs.declared.frame.Dir.{Dir}
 use Rattle.isotp_receive.specs.Trace.{Entry, single, first, role, At}
-use Rattle.isotp_receive.specs.Standing.{Standing, stands}
+use Rattle.isotp_receive.specs.StandingReception.{StandingReception, stands}
 use Rattle.isotp_receive.specs.Recording.{IsRisingFrom, IsSegmented, Carries, unsegmented, segmented, Transfer, IsIn, last_or}
 use Rattle.isotp_receive.proofs.Heard.{heard}
 use Rattle.isotp_receive.specs.Machine.{after}
@@ -49,7 +49,7 @@ passed T d n ps cover p e above at = elim (cover p e (omega arith) at) [
 
 module _ (limit : ℕ) (T : List Entry) (d : Dir) (n : ℕ) (e : Entry) (at : At T n e) where
   -- what the frame makes of the direction, where `out` is still to be delivered
-  record Stepped (o : Option Standing) (out : List (ℕ × List ℕ)) : Type 0 where
+  record Stepped (o : Option StandingReception) (out : List (ℕ × List ℕ)) : Type 0 where
     cs : List ℕ
     out' : List (ℕ × List ℕ)
     gs : List Transfer
@@ -60,7 +60,7 @@ module _ (limit : ℕ) (T : List Entry) (d : Dir) (n : ℕ) (e : Entry) (at : At
     tells : at_place n (completed o e.micros (role d e)) ++ (out' ++ placed_of gs) ≡ out
 
   -- a frame that is at none of the positions
-  aside : (o : Option Standing) (cs : List ℕ) (out : List (ℕ × List ℕ)) (gs : List Transfer) → State T d n o cs out → AreCarried limit T d gs
+  aside : (o : Option StandingReception) (cs : List ℕ) (out : List (ℕ × List ℕ)) (gs : List Transfer) → State T d n o cs out → AreCarried limit T d gs
       → IsRisingFrom (suc n) (cs ++ all_positions gs) → IsCovered T d n (cs ++ all_positions gs) → Stepped o (out ++ placed_of gs)
   aside o cs out gs state carried rising cover = elim (cover n e (omega arith) at) [
     | inl i ↦ absurd (let h = above-least (suc n) n (cs ++ all_positions gs) rising i in omega arith)
@@ -90,7 +90,7 @@ module _ (limit : ℕ) (T : List Entry) (d : Dir) (n : ℕ) (e : Entry) (at : At
 
   module _ (rest : List ℕ) (rising : IsRisingFrom (suc n) rest) (cover : IsCovered T d n (n ∷ rest)) where
     -- the next consecutive frame of the message under way
-    goes : (st : Standing) (m : List ℕ) (cs : List ℕ) (gs : List Transfer) → UnderWay T d n st m (n ∷ cs) → AreCarried limit T d gs → cs ++ all_positions gs ≡ rest
+    goes : (st : StandingReception) (m : List ℕ) (cs : List ℕ) (gs : List Transfer) → UnderWay T d n st m (n ∷ cs) → AreCarried limit T d gs → cs ++ all_positions gs ≡ rest
         → Stepped (Some st) ((last_or n cs, m) ∷ placed_of gs)
     goes st m [] gs s carried same = record {
       cs = [];
@@ -113,8 +113,8 @@ module _ (limit : ℕ) (T : List Entry) (d : Dir) (n : ℕ) (e : Entry) (at : At
       tells = rw (more-told limit T d n e at st m c cs s) refl;
     }
 
-    -- the first frame of the next message: a single frame, or one with consecutive frames behind it
-    starts_one : (o : Option Standing) (m : List ℕ) (p : ℕ) (gs : List Transfer) (x : Entry) → At T p x → role d x ≡ single m → p ≡ n
+    -- the first frame of the next message: a single frame, or one with consecutive frames after it
+    starts_one : (o : Option StandingReception) (m : List ℕ) (p : ℕ) (gs : List Transfer) (x : Entry) → At T p x → role d x ≡ single m → p ≡ n
         → AreCarried limit T d gs → all_positions gs ≡ rest → Stepped o ((p, m) ∷ placed_of gs)
     starts_one o m p gs x stands kind here carried same =
         let there : At T n x = subst (λ j. At T j x) here stands in
@@ -131,7 +131,7 @@ module _ (limit : ℕ) (T : List Entry) (d : Dir) (n : ℕ) (e : Entry) (at : At
           tells = rw (kind_e, here) refl;
         }
 
-    starts_long : (o : Option Standing) (m cs : List ℕ) (gs : List Transfer) → length m ≤ limit → IsSegmented T d m n cs
+    starts_long : (o : Option StandingReception) (m cs : List ℕ) (gs : List Transfer) → length m ≤ limit → IsSegmented T d m n cs
         → AreCarried limit T d gs → cs ++ all_positions gs ≡ rest → Stepped o ((last_or n cs, m) ∷ placed_of gs)
     starts_long o m [] gs fits l carried same = absurd (let from = first_from d l.begins.entry l.begins.start l.begins.kind in let enough = l.least.enough in omega arith)
     starts_long o m (c ∷ cs) gs fits l carried same =
@@ -150,7 +150,7 @@ module _ (limit : ℕ) (T : List Entry) (d : Dir) (n : ℕ) (e : Entry) (at : At
           tells = rw kind_e refl;
         }
 
-    starts : (o : Option Standing) (m ps : List ℕ) (gs : List Transfer) → length m ≤ limit → Carries T d m ps
+    starts : (o : Option StandingReception) (m ps : List ℕ) (gs : List Transfer) → length m ≤ limit → Carries T d m ps
         → AreCarried limit T d gs → ps ++ all_positions gs ≡ n ∷ rest → Stepped o ((last_or 0 ps, m) ∷ placed_of gs)
     starts o m _ gs fits (unsegmented {position = p} one) carried same = starts_one o m p gs one.entry one.stands one.kind (cc) carried (cc)
     starts o m _ gs fits (segmented {begun = i} {positions = cs} l) carried same =
@@ -158,13 +158,13 @@ module _ (limit : ℕ) (T : List Entry) (d : Dir) (n : ℕ) (e : Entry) (at : At
         let more : cs ++ all_positions gs ≡ rest = cc in
         rw here (starts_long o m cs gs fits (subst (λ j. IsSegmented T d m j cs) here l) carried more)
 
-  step : (o : Option Standing) (cs : List ℕ) (out : List (ℕ × List ℕ)) (gs : List Transfer) → State T d n o cs out → AreCarried limit T d gs
+  step : (o : Option StandingReception) (cs : List ℕ) (out : List (ℕ × List ℕ)) (gs : List Transfer) → State T d n o cs out → AreCarried limit T d gs
       → IsRisingFrom n (cs ++ all_positions gs) → IsCovered T d n (cs ++ all_positions gs) → Stepped o (out ++ placed_of gs)
   step o cs out gs state carried rising cover = elim (first-or-later n (cs ++ all_positions gs) rising) [
     | inl w ↦ here o cs out gs state carried w.0 w.1 w.2 cover
     | inr above ↦ aside o cs out gs state carried above cover
   ] where
-    here : (o : Option Standing) (cs : List ℕ) (out : List (ℕ × List ℕ)) (gs : List Transfer) → State T d n o cs out → AreCarried limit T d gs
+    here : (o : Option StandingReception) (cs : List ℕ) (out : List (ℕ × List ℕ)) (gs : List Transfer) → State T d n o cs out → AreCarried limit T d gs
         → (rest : List ℕ) → cs ++ all_positions gs ≡ n ∷ rest → IsRisingFrom (suc n) rest → IsCovered T d n (cs ++ all_positions gs)
         → Stepped o (out ++ placed_of gs)
     here o _ _ [] closed carried rest same above cover = absurd (cc)
@@ -182,7 +182,7 @@ has-first T d m _ (unsegmented {position = p} one) = (p, one.entry, [], refl, on
 has-first T d m _ (segmented {begun = i} {positions = cs} l) = (i, l.begins.entry, cs, refl, l.begins.stands)
 
 -- nothing is left at the end
-over : (limit : ℕ) (T : List Entry) (d : Dir) (o : Option Standing) (cs : List ℕ) (out : List (ℕ × List ℕ)) (gs : List Transfer) → State T d (length T) o cs out
+over : (limit : ℕ) (T : List Entry) (d : Dir) (o : Option StandingReception) (cs : List ℕ) (out : List (ℕ × List ℕ)) (gs : List Transfer) → State T d (length T) o cs out
     → AreCarried limit T d gs → IsRisingFrom (length T) (cs ++ all_positions gs) → [] ≡ out ++ placed_of gs
 over limit T d _ _ _ [] closed carried rising = refl
 over limit T d _ _ _ (g ∷ gs) closed carried rising =
@@ -194,7 +194,7 @@ over limit T d _ _ _ gs (opened {c = c} s) carried rising =
     absurd (let inside = slice_get_within T c part.next.entry part.next.stands in let a = rising.0 in omega arith)
 
 run : (limit : ℕ) (before T : List Entry) (d : Dir) (n : ℕ) (past es : List Entry) → n ≡ length past → T ≡ past ++ es
-    → (o : Option Standing) (cs : List ℕ) (out : List (ℕ × List ℕ)) (gs : List Transfer) → State T d n o cs out → stands limit d (before ++ past) ≡ o → AreCarried limit T d gs
+    → (o : Option StandingReception) (cs : List ℕ) (out : List (ℕ × List ℕ)) (gs : List Transfer) → State T d n o cs out → stands limit d (before ++ past) ≡ o → AreCarried limit T d gs
     → IsRisingFrom n (cs ++ all_positions gs) → IsCovered T d n (cs ++ all_positions gs) → heard limit d n (before ++ past) es ≡ out ++ placed_of gs
 run limit before T d n past [] at split o cs out gs state now carried rising cover =
     let ends : n ≡ length T = at ∙ ap length (sym (split ∙ append-nil past)) in
@@ -214,7 +214,7 @@ run limit before T d n past (e ∷ es) at split o cs out gs state now carried ri
     (run limit before T d (suc n) (past ++ e ∷ []) es at_next split_next (after limit o e.micros (role d e)) s.cs s.out' s.gs s.state next s.carried s.rising s.cover)
     ∙ s.tells
 
--- behind any trace a direction delivers the messages that its positions carry
+-- after any trace a direction delivers the messages that its positions carry
 pub direction-heard : (limit : ℕ) (before T : List Entry) (d : Dir) (gs : List Transfer) → AreCarried limit T d gs
     → IsRisingFrom 0 (all_positions gs) → IsCovered T d 0 (all_positions gs) → heard limit d 0 before T ≡ placed_of gs
 direction-heard limit before T d gs carried rising cover =

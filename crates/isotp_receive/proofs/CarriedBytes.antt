@@ -2,9 +2,9 @@
 use Rattle.std.proofs.Common.{◌≡◌, ℕ, zero, suc, ◌+◌, ◌-◌, ◌*◌, ◌<◌, true, List, [], ◌∷◌, ◌++◌, length, get_or, refl, ◌∙◌, ap, arith}
 use Rattle.std.proofs.lemmas.List.{get_or_append_left, get_or-append-add}
 use Rattle.can_log.specs.declared.frame.Dir.{Dir}
-use Rattle.isotp_receive.specs.Trace.{Entry, FirstFrame, Role, single, first, consecutive, continue_or_wait, overflow, no_part, role}
+use Rattle.isotp_receive.specs.Trace.{Entry, FirstFrame, FrameRole, single, first, consecutive, continue_or_wait, overflow, no_part, role}
 use Rattle.isotp_receive.specs.Places.{consecutive_by, consecutive_frames_in}
-use Rattle.isotp_receive.specs.Standing.{carried_by, carried, standing_of, carried_after, keeps_by, keep}
+use Rattle.isotp_receive.specs.StandingReception.{carried_by, carried, standing_of, carried_after, keeps_by, keep}
 use Rattle.isotp_receive.proofs.Readings.{next_from}
 use Rattle.isotp_receive.proofs.CountedFrames.{taken-append}
 use Rattle.isotp_receive.proofs.FullFrames.{fits_full, come-before}
@@ -92,7 +92,7 @@ pub carries : (d : Dir) (w : ℕ) (es : List Entry) (q b : ℕ) → AllFull d w 
 carries d w [] q b full inside below = absurd (omega arith)
 carries d w (x ∷ es) q b full inside below = by_role (role d x) q refl below (λ j. carries d w es j b (full-later d w x es full) inside) where
   -- a frame that carries nothing
-  aside : (q : ℕ) (r : Role) → role d x ≡ r → consecutive_by r ≡ 0 → length (carried_by r) ≡ 0 → q < consecutive_by (role d x) + consecutive_frames_in d es
+  aside : (q : ℕ) (r : FrameRole) → role d x ≡ r → consecutive_by r ≡ 0 → length (carried_by r) ≡ 0 → q < consecutive_by (role d x) + consecutive_frames_in d es
       → ((j : ℕ) → j < consecutive_frames_in d es → CarriesByte d es w j b) → CarriesByte d (x ∷ es) w q b
   aside q r kind counts size less rest =
       let none : consecutive_by (role d x) ≡ 0 = ap consecutive_by kind ∙ counts in
@@ -100,7 +100,7 @@ carries d w (x ∷ es) q b full inside below = by_role (role d x) q refl below (
       let empty = ap (λ r. length (carried_by r)) kind in
       carries-later d x es w q q b (omega arith) (omega arith) (rest q (omega arith))
 
-  by_role : (r : Role) (q : ℕ) → role d x ≡ r → q < consecutive_by (role d x) + consecutive_frames_in d es
+  by_role : (r : FrameRole) (q : ℕ) → role d x ≡ r → q < consecutive_by (role d x) + consecutive_frames_in d es
       → ((j : ℕ) → j < consecutive_frames_in d es → CarriesByte d es w j b) → CarriesByte d (x ∷ es) w q b
   by_role (consecutive sequence_number can_dl bytes) zero kind less rest =
       carries-here d x es w b sequence_number can_dl bytes kind (let size = full-here d w x es sequence_number can_dl bytes full kind in omega arith)

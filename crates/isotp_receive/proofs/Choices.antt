@@ -50,7 +50,7 @@ module _ {X : Type 0} where
   last-passes : (o q f b : Bool) (x y : X) → true ≡ b → x ≡ y → cond (o && (q && f)) (Some x) None ≡ cond (o && (q && (f && b))) (Some y) None
   last-passes o q f b x y hb e = rw (← hb, and-true, e)
 
-  -- One of the tests moves behind the others: where b' passes so does b, and where the first tests pass, b' is b''.
+  -- One of the tests moves to the end: where b' passes so does b, and where the first tests pass, b' is b''.
   pub moved-behind : (a b b' b'' k o q f : Bool) (x y : X) → (b' ≡ true → b ≡ true)
       → (a ≡ true → b ≡ true → k ≡ true → b' ≡ b'') → x ≡ y
       → cond (a && (b' && (k && (o && (q && f))))) (Some x) None ≡ cond (a && (b && k)) (cond (o && (q && (f && b''))) (Some y) None) None

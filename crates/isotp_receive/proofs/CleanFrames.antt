@@ -10,27 +10,27 @@ use Rattle.isotp_pdu.specs.Layout as layout
 use Rattle.isotp_pdu.specs.Reading.{layout_of}
 use Rattle.isotp_receive.specs.declared.event.Reason.TheVariants as as_reason
 use Rattle.isotp_receive.specs.declared.event.Cause.{Cause}
-use Rattle.isotp_receive.specs.Trace.{Entry, FirstFrame, Role, single, first, consecutive, continue_or_wait, no_part, role, own_role, other_role, same_direction}
+use Rattle.isotp_receive.specs.Trace.{Entry, FirstFrame, FrameRole, single, first, consecutive, continue_or_wait, no_part, role, own_role, other_role, same_direction}
 use Rattle.isotp_receive.specs.Fit.{Fit, late, wrong_number, wrong_length, one_more, last}
-use Rattle.isotp_receive.specs.Standing.{Standing, fit_of, stands}
+use Rattle.isotp_receive.specs.StandingReception.{StandingReception, fit_of, stands}
 use Rattle.isotp_receive.specs.Verdict.{began, dropped, verdict, on_fit, on_layout, on_overflow, ended_as}
 use Rattle.isotp_receive.specs.CleanTrace.{IsKept}
 use Rattle.isotp_receive.proofs.Directions.{same}
 
 -- what a frame of this role may be where o stands
-pub data Turn (limit : ℕ) (o : Option Standing) (micros : ℕ) : Role → Type 0 where
+pub data Turn (limit : ℕ) (o : Option StandingReception) (micros : ℕ) : FrameRole → Type 0 where
   t_single : (m : List ℕ) → o ≡ None → Turn limit o micros (single m)
   t_first : (s : FirstFrame) → o ≡ None → s.len ≤ limit → Turn limit o micros (first s)
-  t_more : (st : Standing) (sequence_number can_dl : ℕ) (bytes : List ℕ) → o ≡ Some st → fit_of st micros sequence_number can_dl ≡ one_more
+  t_more : (st : StandingReception) (sequence_number can_dl : ℕ) (bytes : List ℕ) → o ≡ Some st → fit_of st micros sequence_number can_dl ≡ one_more
       → Turn limit o micros (consecutive sequence_number can_dl bytes)
-  t_last : (st : Standing) (sequence_number can_dl : ℕ) (bytes : List ℕ) → o ≡ Some st → fit_of st micros sequence_number can_dl ≡ last
+  t_last : (st : StandingReception) (sequence_number can_dl : ℕ) (bytes : List ℕ) → o ≡ Some st → fit_of st micros sequence_number can_dl ≡ last
       → Turn limit o micros (consecutive sequence_number can_dl bytes)
   t_continue_or_wait : Turn limit o micros continue_or_wait
   t_no_part : Turn limit o micros no_part
 
 -- ---- to its own direction
 
-not-ended : (c : Cause) (d : Dir) (o : Option Standing) → ended_as c d o ≡ None → o ≡ None
+not-ended : (c : Cause) (d : Dir) (o : Option StandingReception) → ended_as c d o ≡ None → o ≡ None
 not-ended c d None h = refl
 not-ended c d (Some s) h = absurd (cc)
 
@@ -40,7 +40,7 @@ kept-first limit len h = elim (cases_Bool (nat_le len limit)) [
   | inr t ↦ absurd (rw t at h)
 ]
 
-turn-fit : (limit : ℕ) (d : Dir) (st : Standing) (micros sequence_number can_dl : ℕ) (bytes : List ℕ) (fit : Fit)
+turn-fit : (limit : ℕ) (d : Dir) (st : StandingReception) (micros sequence_number can_dl : ℕ) (bytes : List ℕ) (fit : Fit)
     → fit_of st micros sequence_number can_dl ≡ fit → IsKept (on_fit d st fit sequence_number bytes).told
     → Turn limit (Some st) micros (consecutive sequence_number can_dl bytes)
 turn-fit limit d st micros sequence_number can_dl bytes one_more e h = t_more st sequence_number can_dl bytes refl e
@@ -49,7 +49,7 @@ turn-fit limit d st micros sequence_number can_dl bytes late e h = absurd h
 turn-fit limit d st micros sequence_number can_dl bytes wrong_number e h = absurd h
 turn-fit limit d st micros sequence_number can_dl bytes wrong_length e h = absurd h
 
-turn-own : (limit : ℕ) (d : Dir) (own others : Option Standing) (line micros : ℕ) (r : Result Layout PduFault)
+turn-own : (limit : ℕ) (d : Dir) (own others : Option StandingReception) (line micros : ℕ) (r : Result Layout PduFault)
     → (on_layout limit d own others micros r).ended ≡ None → IsKept (on_layout limit d own others micros r).told → Turn limit own micros (own_role line micros r)
 turn-own limit d own others line micros (Err f) h k = absurd k
 turn-own limit d own others line micros (Ok (layout.single m)) h k = t_single m (not-ended _ d own h)
@@ -62,14 +62,14 @@ turn-own limit d own others line micros (Ok (layout.flow_control s)) h k = t_no_
 
 -- ---- to the other one
 
-no-overflow : (d : Dir) (o : Option Standing) → (on_overflow d o).ended ≡ None → IsKept (on_overflow d o).told → ⊥
+no-overflow : (d : Dir) (o : Option StandingReception) → (on_overflow d o).ended ≡ None → IsKept (on_overflow d o).told → ⊥
 no-overflow d None h k = k
 no-overflow d (Some s) h k = elim (cases_Bool (s.taken == 0)) [
   | inl t ↦ (let e = rw t at h in cc)
   | inr t ↦ rw t at k
 ]
 
-turn-other : (limit : ℕ) (d : Dir) (own others o : Option Standing) (micros : ℕ) (r : Result Layout PduFault)
+turn-other : (limit : ℕ) (d : Dir) (own others o : Option StandingReception) (micros : ℕ) (r : Result Layout PduFault)
     → (on_layout limit d own others micros r).ended ≡ None → IsKept (on_layout limit d own others micros r).told → Turn limit o micros (other_role r)
 turn-other limit d own others o micros (Err f) h k = t_no_part
 turn-other limit d own others o micros (Ok (layout.single m)) h k = t_no_part

@@ -5,9 +5,9 @@ use Rattle.std.specs.List.{AllByRecursion}
 use Rattle.std.proofs.lemmas.Bool.{le-leb}
 use Rattle.can_log.specs.Dir.{Message}
 use Rattle.can_log.specs.declared.frame.Dir.{Dir}
-use Rattle.isotp_receive.specs.Trace.{Entry, Role, consecutive, role, At}
+use Rattle.isotp_receive.specs.Trace.{Entry, FrameRole, consecutive, role, At}
 use Rattle.isotp_receive.specs.Fit.{one_more, last}
-use Rattle.isotp_receive.specs.Standing.{Standing, fit_of}
+use Rattle.isotp_receive.specs.StandingReception.{StandingReception, fit_of}
 use Rattle.isotp_receive.specs.Recording.{unsegmented, segmented, Transfer, IsTransfer, IsIn, last_or, IsGiven}
 use Rattle.isotp_receive.specs.Machine.{after, fresh}
 use Rattle.isotp_receive.proofs.PositionLists.{in-append, in-left, in-right, rising-append, last-snoc}
@@ -20,13 +20,13 @@ use Rattle.isotp_receive.proofs.CleanFrames.{Turn, t_single, t_first, t_more, t_
 use Rattle.isotp_receive.proofs.Gathered.{Gathered, one-later, begun, grow, complete}
 
 -- the positions whose frames are gathered where this stands
-pub data Pending (limit : ℕ) (T : List Entry) (d : Dir) (n : ℕ) : Option Standing → List ℕ → Type 0 where
+pub data Pending (limit : ℕ) (T : List Entry) (d : Dir) (n : ℕ) : Option StandingReception → List ℕ → Type 0 where
   nothing : Pending limit T d n None []
-  under : {st : Standing} {i : ℕ} {cs : List ℕ} → Gathered limit T d n st i cs → Pending limit T d n (Some st) (i ∷ cs)
+  under : {st : StandingReception} {i : ℕ} {cs : List ℕ} → Gathered limit T d n st i cs → Pending limit T d n (Some st) (i ∷ cs)
 
 -- what the frame e at n makes of the direction, where ps were pending: `next` stands, and these messages were told
-pub record Advanced (limit : ℕ) (T : List Entry) (d : Dir) (n : ℕ) (e : Entry) (next : Option Standing) (ps : List ℕ) (told : List (List ℕ)) : Type 0 where
-  -- the positions that are pending now, which were so before but for n
+pub record Advanced (limit : ℕ) (T : List Entry) (d : Dir) (n : ℕ) (e : Entry) (next : Option StandingReception) (ps : List ℕ) (told : List (List ℕ)) : Type 0 where
+  -- the positions that are pending now: all but n were pending before
   pub left : List ℕ
   pub state : Pending limit T d (suc n) next left
   pub lows : (p : ℕ) → IsIn p left → IsIn p ps ⊎ (p ≡ n)
@@ -44,7 +44,7 @@ pub record Advanced (limit : ℕ) (T : List Entry) (d : Dir) (n : ℕ) (e : Entr
 
 module _ (limit : ℕ) (T : List Entry) (d : Dir) (n : ℕ) (e : Entry) (at : At T n e) where
   -- a frame that completes no message
-  keep : (next : Option Standing) (ps left : List ℕ) → Pending limit T d (suc n) next left → ((p : ℕ) → IsIn p ps → IsIn p left)
+  keep : (next : Option StandingReception) (ps left : List ℕ) → Pending limit T d (suc n) next left → ((p : ℕ) → IsIn p ps → IsIn p left)
       → ((p : ℕ) → IsIn p left → IsIn p ps ⊎ (p ≡ n)) → (IsOwn (role d e) → IsIn n left) → Advanced limit T d n e next ps []
   keep next ps left state keeps lows here = record {
     left = left;
@@ -91,7 +91,7 @@ module _ (limit : ℕ) (T : List Entry) (d : Dir) (n : ℕ) (e : Entry) (at : At
 
   -- ---- a consecutive frame
 
-  module _ (st : Standing) (i : ℕ) (cs : List ℕ) (u : Gathered limit T d n st i cs)
+  module _ (st : StandingReception) (i : ℕ) (cs : List ℕ) (u : Gathered limit T d n st i cs)
       (sequence_number can_dl : ℕ) (bytes : List ℕ) (kind : role d e ≡ consecutive sequence_number can_dl bytes) where
     abbrev StepsOn : Type 0
     StepsOn =
@@ -128,7 +128,7 @@ module _ (limit : ℕ) (T : List Entry) (d : Dir) (n : ℕ) (e : Entry) (at : At
 
   -- ---- any frame
 
-  pub advance : (o : Option Standing) (ps : List ℕ) → Pending limit T d n o ps → (r : Role) → role d e ≡ r → Turn limit o e.micros r → 64 ≤ limit
+  pub advance : (o : Option StandingReception) (ps : List ℕ) → Pending limit T d n o ps → (r : FrameRole) → role d e ≡ r → Turn limit o e.micros r → 64 ≤ limit
       → Advanced limit T d n e (after limit o e.micros r) ps (completed o e.micros r)
   advance _ _ nothing _ kind (t_single m closed) wide =
       let whole = whole_from d e m kind in

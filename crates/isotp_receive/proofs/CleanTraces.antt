@@ -14,10 +14,10 @@ use Rattle.isotp_pdu.specs.declared.Status.TheVariants.{Continue, Wait, Overflow
 use Rattle.isotp_pdu.specs.Layout.{Layout}
 use Rattle.isotp_pdu.specs.Layout as layout
 use Rattle.isotp_pdu.specs.Reading.{layout_of}
-use Rattle.isotp_receive.specs.Trace.{Entry, Role, single, first, consecutive, continue_or_wait, overflow, no_part, role, own_role, other_role, same_direction, At}
+use Rattle.isotp_receive.specs.Trace.{Entry, FrameRole, single, first, consecutive, continue_or_wait, overflow, no_part, role, own_role, other_role, same_direction, At}
 use Rattle.isotp_receive.specs.Fit.{Fit}
 use Rattle.isotp_receive.specs.Fit as fit
-use Rattle.isotp_receive.specs.Standing.{Standing, fit_of, stands}
+use Rattle.isotp_receive.specs.StandingReception.{StandingReception, fit_of, stands}
 use Rattle.isotp_receive.specs.Verdict.{VerdictValue, message, began, stored, flowed, dropped, verdict, told_message, messages, messages_after}
 use Rattle.isotp_receive.specs.Recording.{Transfer, IsTransfer, IsIn, last_or, AreApart, EachPair, IsGiven, IsIdle, IsRecording}
 use Rattle.isotp_receive.specs.CleanTrace.{IsKept, EachClean, IsClean}
@@ -87,7 +87,7 @@ placed-told n d stored = refl
 placed-told n d flowed = refl
 placed-told n d (dropped r) = refl
 
-one-fit : (n : ℕ) (d : Dir) (f : Fit) (s : Standing) (bytes : List ℕ)
+one-fit : (n : ℕ) (d : Dir) (f : Fit) (s : StandingReception) (bytes : List ℕ)
     → map {B = Message} (λ x. (d, x.1)) (at_place n (completed_by f s bytes)) ≡ map {B = Message} (λ m. (d, m)) (completed_by f s bytes)
 one-fit n d fit.last s bytes = refl
 one-fit n d fit.one_more s bytes = refl
@@ -95,7 +95,7 @@ one-fit n d fit.late s bytes = refl
 one-fit n d fit.wrong_number s bytes = refl
 one-fit n d fit.wrong_length s bytes = refl
 
-one-completed : (n : ℕ) (d : Dir) (o : Option Standing) (micros : ℕ) (r : Role)
+one-completed : (n : ℕ) (d : Dir) (o : Option StandingReception) (micros : ℕ) (r : FrameRole)
     → map {B = Message} (λ x. (d, x.1)) (at_place n (completed o micros r)) ≡ map {B = Message} (λ m. (d, m)) (completed o micros r)
 one-completed n d o micros (single m) = refl
 one-completed n d None micros (consecutive sequence_number can_dl bytes) = refl
@@ -114,7 +114,7 @@ told-completed limit n past e =
 
 -- ---- a frame with a clean verdict carries a message, or is idle
 
-own-idle : (limit : ℕ) (o : Option Standing) (line micros : ℕ) (r : Result Layout PduFault) → Turn limit o micros (other_role r) → IsOwn (own_role line micros r) ⊎ IsIdle r
+own-idle : (limit : ℕ) (o : Option StandingReception) (line micros : ℕ) (r : Result Layout PduFault) → Turn limit o micros (other_role r) → IsOwn (own_role line micros r) ⊎ IsIdle r
 own-idle limit o line micros (Err f) t = inr tt
 own-idle limit o line micros (Ok (layout.single m)) t = inl tt
 own-idle limit o line micros (Ok (layout.first len rx_dl bytes)) t = inl tt
@@ -225,7 +225,7 @@ module _ (limit : ℕ) (T : List Entry) (n : ℕ) (past es : List Entry) (e : En
     lows = lows-join;
   }
 
-none-left : (limit : ℕ) (T : List Entry) (d : Dir) (n : ℕ) (o : Option Standing) (ps : List ℕ) → Pending limit T d n o ps → o ≡ None → ps ≡ []
+none-left : (limit : ℕ) (T : List Entry) (d : Dir) (n : ℕ) (o : Option StandingReception) (ps : List ℕ) → Pending limit T d n o ps → o ≡ None → ps ≡ []
 none-left limit T d n _ _ nothing h = refl
 none-left limit T d n _ _ (under u) h = absurd (cc)
 

@@ -4,7 +4,7 @@ use Rattle.std.proofs.lemmas.Bool.{cases_lt}
 use Rattle.isotp_receive.specs.Places.{IsConsecutiveCount}
 use Rattle.isotp_receive.proofs.Products.{product-grows}
 
--- so many as don't hold the message are fewer
+-- a number of frames that doesn't hold the message is smaller than the count
 pub below-count : (f r len n k : ℕ) → IsConsecutiveCount f r len n → f + k * (r - 1) < len → k < n
 below-count f r len n k least less = elim (cases_lt k n) [
   | inl below ↦ below

@@ -6,7 +6,7 @@ use Rattle.std.proofs.lemmas.Bool.{and_parts, and_from}
 use Rattle.can_log.specs.declared.frame.Dir.{Dir}
 use Rattle.isotp_receive.specs.Trace.{Entry, FirstFrame, role}
 use Rattle.isotp_receive.specs.Places.{consecutive_by, consecutive_frames_in}
-use Rattle.isotp_receive.specs.Standing.{carried_by, carried, referred, reference, keeps_by, keep}
+use Rattle.isotp_receive.specs.StandingReception.{carried_by, carried, referred, reference, keeps_by, keep}
 
 pub taken-append : (d : Dir) (xs ys : List Entry) → consecutive_frames_in d (xs ++ ys) ≡ consecutive_frames_in d xs + consecutive_frames_in d ys
 taken-append d [] ys = omega arith

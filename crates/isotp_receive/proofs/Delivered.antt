@@ -77,7 +77,7 @@ cover-of limit T M d r p e _ at = elim (r.others p e at) [
   | inr h ↦ inr (idle-quiet d e h)
 ]
 
--- ---- what a recording tells behind any trace: each message at the last of its positions
+-- ---- what a recording tells after any trace: each message at the last of its positions
 
 abbrev pub transfer_place : Transfer → Placed
 transfer_place g = record { place = last_or 0 g.positions; dir = g.dir; message = g.message }

@@ -91,7 +91,7 @@ from_places : (m : List ℕ) → ((place : ℕ) → place < length m → get_or 
 from_places m each = recursion_from_All (λ b. b < 256) m (All-from_get_or (λ b. b < 256) m 0 each)
 
 module _ (limit : ℕ) (T : List Entry) (position : ℕ) (d : Dir) (m : List ℕ) (hold : HoldBytes T) (c : Completes limit T position d m) where
-  -- behind the first frame a byte stands in a consecutive one
+  -- a byte after those of the first frame is in a consecutive one
   behind_first : (place before offset : ℕ) → place < length m → offset < c.fit.is_open.begins.start.rx_dl - 1
       → place ≡ bytes_in_first c.fit.is_open.begins.entry.frame.bytes + (before * (c.fit.is_open.begins.start.rx_dl - 1) + offset) → get_or m place 0 < 256
   behind_first place before offset inside less is =

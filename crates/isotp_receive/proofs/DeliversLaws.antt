@@ -4,11 +4,11 @@ use Rattle.std.proofs.Common.{◌∙◌, ap, arith, cond, inl, inr, subst, appen
 use Rattle.std.specs.Prelude.{◌↔◌}
 use Rattle.std.proofs.lemmas.Bool.{le-ltb, le-leb, eq-eqb, cases_lt}
 use Rattle.can_log.specs.declared.frame.Dir.{Dir}
-use Rattle.isotp_receive.specs.Trace.{Entry, FirstFrame, Role, single, first, consecutive, continue_or_wait, overflow, no_part, role}
+use Rattle.isotp_receive.specs.Trace.{Entry, FirstFrame, FrameRole, single, first, consecutive, continue_or_wait, overflow, no_part, role}
 use Rattle.isotp_receive.specs.Places.{bytes_in_first, bytes_before, consecutive_frames_in, FitsAs, AtPlaces}
 use Rattle.isotp_receive.specs.OnTime.{IsOnTime}
 use Rattle.isotp_receive.specs.Fit.{Fit, late, wrong_number, wrong_length, one_more, last}
-use Rattle.isotp_receive.specs.Standing.{reference, carried, fits_length, is_open, Standing, standing_of, has_length, fit_of, stands}
+use Rattle.isotp_receive.specs.StandingReception.{reference, carried, fits_length, is_open, StandingReception, standing_of, has_length, fit_of, stands}
 use Rattle.isotp_receive.specs.Delivers.{Completes, Delivers, in_one_frame, in_frames}
 use Rattle.isotp_receive.specs.Verdict.{VerdictValue, message, began, stored, flowed, dropped, verdict}
 use Rattle.isotp_receive.proofs.Heard.{placed}
@@ -40,7 +40,7 @@ place-message : (c : List (List ℕ)) (m : List ℕ) → at_place 0 c ≡ (0, m)
 place-message [] m h = absurd (cc)
 place-message (x ∷ ms) m h = (ms, ap (λ y. y ∷ ms) (ap (λ p. p.1) (cons-head h)))
 
-completed-last : (fit : Fit) (st : Standing) (bytes m : List ℕ) (ms : List (List ℕ)) → completed_by fit st bytes ≡ m ∷ ms
+completed-last : (fit : Fit) (st : StandingReception) (bytes m : List ℕ) (ms : List (List ℕ)) → completed_by fit st bytes ≡ m ∷ ms
     → (fit ≡ last) × (take st.len (st.bytes ++ bytes) ≡ m)
 completed-last last st bytes m ms h = (refl, cc)
 completed-last one_more st bytes m ms h = absurd (cc)
@@ -105,7 +105,7 @@ module _ (limit : ℕ) (d : Dir) (before : List Entry) (e0 : Entry) (s : FirstFr
         places = whole-at limit d before e0 s since begins opens rest x sequence_number can_dl bytes goes enough ends;
       }
 
-delivered : (limit : ℕ) (T : List Entry) (d : Dir) (e : Entry) (rest : List Entry) (m : List ℕ) (ms : List (List ℕ)) (r : Role) (o : Option Standing)
+delivered : (limit : ℕ) (T : List Entry) (d : Dir) (e : Entry) (rest : List Entry) (m : List ℕ) (ms : List (List ℕ)) (r : FrameRole) (o : Option StandingReception)
     → role d e ≡ r → stands limit d T ≡ o → completed o e.micros r ≡ m ∷ ms → Delivers limit (T ++ e ∷ rest) (length T) d m
 delivered limit T d e rest m ms (single x) o is now h = in_one_frame (record { entry = e; stands = get-here T rest e; kind = (let same : x ≡ m = cc in is ∙ ap single same) })
 delivered limit T d e rest m ms (consecutive sequence_number can_dl bytes) None is now h = absurd (cc)

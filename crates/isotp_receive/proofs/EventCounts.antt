@@ -21,7 +21,7 @@ use Rattle.isotp_receive.specs.declared.event.Cause.TheVariants as cause
 use Rattle.isotp_receive.specs.declared.event.Reason.TheVariants as reason
 use Rattle.isotp_receive.specs.Trace.{Entry}
 use Rattle.isotp_receive.specs.Fit.{Fit, late, wrong_number, wrong_length, one_more, last}
-use Rattle.isotp_receive.specs.Standing.{Standing, fit_of, stands}
+use Rattle.isotp_receive.specs.StandingReception.{StandingReception, fit_of, stands}
 use Rattle.isotp_receive.specs.Verdict.{VerdictValue, message, began, stored, flowed, dropped, EventValue, verdict, refused, ended_as, on_fit, on_layout, on_consecutive, on_flow_control}
 use Rattle.isotp_receive.specs.CleanTrace.{IsKept, EachClean, IsClean}
 use Rattle.isotp_receive.specs.Events.{events_after, is_dropped, dropped_in, ended_in, unfinished_in, oversize_in, too_long_in}
@@ -59,7 +59,7 @@ counts_one b is = rw is refl
 count_none : {X : Type 0} (p : X → Bool) (x : X) (xs : List X) → p x ≡ false → count_by p xs ≡ 0 → count_by p (x ∷ xs) ≡ 0
 count_none p x xs passed rest = omega (arith, counts_zero (p x) passed, count_first p x xs)
 
--- where none passes, the first does not, and none behind it
+-- where none passes, the first does not, and none after it
 record NoneCounted {X : Type 0} (p : X → Bool) (x : X) (xs : List X) : Type 0 where
   first : p x ≡ false
   later : count_by p xs ≡ 0
@@ -116,7 +116,7 @@ each_clean limit past (e ∷ rest) none_dropped no_end =
       each_clean limit (past ++ e ∷ []) rest one.later other.later,
     )
 
-empty_option : (o : Option Standing) → option_len o ≡ 0 → o ≡ None
+empty_option : (o : Option StandingReception) → option_len o ≡ 0 → o ≡ None
 empty_option None is = refl
 empty_option (Some standing) is = absurd (omega arith)
 
@@ -141,19 +141,19 @@ clean_is_counted limit T = (clean_counts_none limit T, counts_none_is_clean limi
 abbrev NoLength : EventValue → Type 0
 NoLength event = too_long_in event.told ≡ None
 
-fit_length : (d : Dir) (standing : Standing) (fit : Fit) (number : ℕ) (bytes : List ℕ) → NoLength (on_fit d standing fit number bytes)
+fit_length : (d : Dir) (standing : StandingReception) (fit : Fit) (number : ℕ) (bytes : List ℕ) → NoLength (on_fit d standing fit number bytes)
 fit_length d standing late number bytes = refl
 fit_length d standing wrong_number number bytes = refl
 fit_length d standing wrong_length number bytes = refl
 fit_length d standing one_more number bytes = refl
 fit_length d standing last number bytes = refl
 
-consecutive_length : (d : Dir) (own : Option Standing) (micros number can_dl : ℕ) (bytes : List ℕ) → NoLength (on_consecutive d own micros number can_dl bytes)
+consecutive_length : (d : Dir) (own : Option StandingReception) (micros number can_dl : ℕ) (bytes : List ℕ) → NoLength (on_consecutive d own micros number can_dl bytes)
 consecutive_length d None micros number can_dl bytes = refl
 consecutive_length d (Some standing) micros number can_dl bytes =
     fit_length d standing (fit_of standing micros number can_dl) number bytes
 
-flow_length : (d : Dir) (other : Option Standing) (status : Status) → NoLength (on_flow_control d other status)
+flow_length : (d : Dir) (other : Option StandingReception) (status : Status) → NoLength (on_flow_control d other status)
 flow_length d None Continue = refl
 flow_length d None Wait = refl
 flow_length d None Overflow = refl
@@ -163,7 +163,7 @@ flow_length d (Some standing) Overflow =
     cond_both (standing.taken == 0) (record { ended = ended_as cause.Overflow d (Some standing); told = flowed }) (refused None reason.FlowUnexpected)
     NoLength (λ _. refl) (λ _. refl)
 
-layout_length : (limit : ℕ) (d : Dir) (own others : Option Standing) (micros : ℕ) (r : Result Layout PduFault)
+layout_length : (limit : ℕ) (d : Dir) (own others : Option StandingReception) (micros : ℕ) (r : Result Layout PduFault)
     → too_long_in (on_layout limit d own others micros r).told ≡ oversize_in limit r
 layout_length limit d own others micros (Ok (layout.single whole)) = refl
 layout_length limit d own others micros (Ok (layout.first announced rx_dl bytes)) = by_test (nat_le announced limit)

@@ -6,7 +6,7 @@ use Rattle.std.proofs.lemmas.Bool.{and_parts, ltb-true, ltb-false, leb-true, eqb
 use Rattle.can_log.specs.declared.frame.Dir.{Dir}
 use Rattle.isotp_receive.specs.OnTime.{n_cr}
 use Rattle.isotp_receive.specs.Fit.{Fit, late, wrong_number, wrong_length, one_more, last}
-use Rattle.isotp_receive.specs.Standing.{Standing, is_on_time, expected, has_length, wants_more, fit_of, is_next}
+use Rattle.isotp_receive.specs.StandingReception.{StandingReception, is_on_time, expected, has_length, wants_more, fit_of, is_next}
 use Rattle.isotp_receive.specs.Verdict.{message, on_fit, on_consecutive}
 
 -- what the tests make of it: whether it is on time, of the expected number, of a length that fits, and not the last
@@ -15,7 +15,7 @@ by_tests on_time number fits more = cond (not on_time) late (cond (not number) w
 
 -- ---- how it fits where the tests say so
 
-module _ (s : Standing) (micros sequence_number can_dl : ℕ) where
+module _ (s : StandingReception) (micros sequence_number can_dl : ℕ) where
   pub is-late : is_on_time s micros ≡ false → fit_of s micros sequence_number can_dl ≡ late
   is-late on_time = rw on_time refl
 
@@ -57,13 +57,13 @@ next-by-tests true true false b = refl
 next-by-tests true false h b = refl
 next-by-tests false q h b = refl
 
-pub record WasMore (s : Standing) (micros sequence_number can_dl : ℕ) : Type 0 where
+pub record WasMore (s : StandingReception) (micros sequence_number can_dl : ℕ) : Type 0 where
   pub on_time : micros ≤ s.reference + n_cr
   pub number : sequence_number ≡ (s.taken + 1) % 16
   pub full : can_dl ≡ s.rx_dl
   pub room : length s.bytes + (s.rx_dl - 1) < s.len
 
-pub record WasLast (s : Standing) (micros sequence_number can_dl : ℕ) : Type 0 where
+pub record WasLast (s : StandingReception) (micros sequence_number can_dl : ℕ) : Type 0 where
   pub on_time : micros ≤ s.reference + n_cr
   pub number : sequence_number ≡ (s.taken + 1) % 16
   pub low : 1 + (s.len - length s.bytes) ≤ can_dl
@@ -71,12 +71,12 @@ pub record WasLast (s : Standing) (micros sequence_number can_dl : ℕ) : Type 0
   pub ends : s.len ≤ length s.bytes + (s.rx_dl - 1)
 
 -- the next one passed the first three tests
-pub record WasNext (s : Standing) (micros sequence_number can_dl : ℕ) : Type 0 where
+pub record WasNext (s : StandingReception) (micros sequence_number can_dl : ℕ) : Type 0 where
   pub on_time : is_on_time s micros ≡ true
   pub number : (sequence_number == expected s) ≡ true
   pub fits : has_length s can_dl ≡ true
 
-module _ (s : Standing) (micros sequence_number can_dl : ℕ) where
+module _ (s : StandingReception) (micros sequence_number can_dl : ℕ) where
   pub was-more : fit_of s micros sequence_number can_dl ≡ one_more → WasMore s micros sequence_number can_dl
   was-more is =
       let w = more-inv (is_on_time s micros) (sequence_number == expected s) (has_length s can_dl) (wants_more s) is in
@@ -111,7 +111,7 @@ module _ (s : Standing) (micros sequence_number can_dl : ℕ) where
 -- ---- the verdict on it
 
 -- a frame that completes a message ends nothing
-told-last : (d : Dir) (s : Standing) (fit : Fit) (sequence_number : ℕ) (bytes m : List ℕ)
+told-last : (d : Dir) (s : StandingReception) (fit : Fit) (sequence_number : ℕ) (bytes m : List ℕ)
     → (on_fit d s fit sequence_number bytes).told ≡ message m → (on_fit d s fit sequence_number bytes).ended ≡ None
 told-last d s last sequence_number bytes m h = refl
 told-last d s one_more sequence_number bytes m h = absurd (cc)
@@ -119,7 +119,7 @@ told-last d s late sequence_number bytes m h = absurd (cc)
 told-last d s wrong_number sequence_number bytes m h = absurd (cc)
 told-last d s wrong_length sequence_number bytes m h = absurd (cc)
 
-pub last-ends-nothing : (d : Dir) (o : Option Standing) (micros sequence_number can_dl : ℕ) (bytes m : List ℕ)
+pub last-ends-nothing : (d : Dir) (o : Option StandingReception) (micros sequence_number can_dl : ℕ) (bytes m : List ℕ)
     → (on_consecutive d o micros sequence_number can_dl bytes).told ≡ message m → (on_consecutive d o micros sequence_number can_dl bytes).ended ≡ None
 last-ends-nothing d None micros sequence_number can_dl bytes m h = refl
 last-ends-nothing d (Some s) micros sequence_number can_dl bytes m h = told-last d s (fit_of s micros sequence_number can_dl) sequence_number bytes m h

@@ -5,7 +5,7 @@ use Rattle.std.proofs.lemmas.Bool.{and_parts, leb-true, eqb-true, lt-ltb, le-ltb
 use Rattle.can_log.specs.declared.frame.Dir.{Dir}
 use Rattle.isotp_receive.specs.Trace.{Entry, FirstFrame, first, role}
 use Rattle.isotp_receive.specs.Places.{bytes_in_first, IsConsecutiveCount, FitsAs}
-use Rattle.isotp_receive.specs.Standing.{carried_after, fits_length}
+use Rattle.isotp_receive.specs.StandingReception.{carried_after, fits_length}
 use Rattle.isotp_receive.proofs.Readings.{first_from}
 
 pub fits-more : (len r have dl : ℕ) → have < len → have + (r - 1) < len → dl ≡ r → fits_length len r have dl ≡ true

@@ -15,7 +15,7 @@ use Rattle.isotp_receive.specs.Trace.{Entry, FirstFrame, single, consecutive, ro
 use Rattle.isotp_receive.specs.OnTime.{IsOnTime}
 use Rattle.isotp_receive.specs.Fit.{Fit, FitsSo}
 use Rattle.isotp_receive.specs.Fit as fit
-use Rattle.isotp_receive.specs.Standing.{Standing, reference, fits_length, standing_of, is_on_time, expected, has_length, wants_more, fit_of, stands}
+use Rattle.isotp_receive.specs.StandingReception.{StandingReception, reference, fits_length, standing_of, is_on_time, expected, has_length, wants_more, fit_of, stands}
 use Rattle.isotp_receive.specs.Places.{bytes_in_first, bytes_before, consecutive_frames_in, FitsAs}
 use Rattle.isotp_receive.specs.Verdict.{EventValue, message, stored, refused, ended_as, verdict, on_fit, on_consecutive}
 use Rattle.isotp_receive.specs.VerdictTable.{IsOpenBefore, ended_by, FitsNext, HasVerdict, next_late, wrong_number, wrong_length, stored_frame, last_frame}
@@ -53,7 +53,7 @@ on-own limit T e sequence_number can_dl bytes h =
     let read = read-consecutive e.line e.micros sequence_number can_dl bytes (layout_of e.frame) own in
     rw read refl
 
-pub ended-is : (d : Dir) (s : FirstFrame) (st : Standing) (c : Cause) → st.line ≡ s.line → st.len ≡ s.len → ended_as c d (Some st) ≡ Some (ended_by d s c)
+pub ended-is : (d : Dir) (s : FirstFrame) (st : StandingReception) (c : Cause) → st.line ≡ s.line → st.len ≡ s.len → ended_as c d (Some st) ≡ Some (ended_by d s c)
 ended-is d s st c line len =
     ap (λ l. Some (record { dir = d; begun_line = l; len = st.len; cause = c })) line
     ∙ ap (λ n. Some (record { dir = d; begun_line = s.line; len = n; cause = c })) len
@@ -69,7 +69,7 @@ module _ (limit : ℕ) (T : List Entry) (e : Entry) (i k sequence_number can_dl 
   -- ---- what stands, and its tests in the words of the table
 
   record Meets : Type 0 where
-    st : Standing
+    st : StandingReception
     is : verdict limit T e ≡ on_fit e.dir st (fit_of st e.micros sequence_number can_dl) sequence_number bytes
     line : st.line ≡ o.begins.start.line
     len : st.len ≡ o.begins.start.len

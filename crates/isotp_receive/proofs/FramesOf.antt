@@ -115,7 +115,7 @@ own-within limit T ts t shared others i p x e first_in last_in low high at own =
 
 -- ---- the frames of a segmented message
 
--- no other frame stands there
+-- no other frame is there
 not-consecutive : (T : List Entry) (d : Dir) (p : ℕ) (e : Entry) → At T p e → consecutive_by (role d e) ≡ 0 → ConsecutiveFrameAt T d p → ⊥
 not-consecutive T d p e at zero_by c =
     let is_e : c.entry ≡ e = get-same T p c.entry e c.stands at in

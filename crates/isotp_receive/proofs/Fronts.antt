@@ -5,7 +5,7 @@ use Rattle.std.proofs.Math.Seq.{take-append-add}
 use Rattle.std.proofs.lemmas.Bool.{cases_lt}
 use Rattle.std.proofs.lemmas.List.{get_or_append_left, get_or-append_right}
 
--- xs, and as many of ys as n wants
+-- xs, and as many of ys as make n in all
 pub take_over : (xs ys : List ℕ) (n : ℕ) → length xs ≤ n → xs ++ take (n - length xs) ys ≡ take n (xs ++ ys)
 take_over xs ys n h =
     let e : length xs + (n - length xs) ≡ n = omega arith in

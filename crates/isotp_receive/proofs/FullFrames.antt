@@ -4,9 +4,9 @@ use Rattle.std.proofs.Common.{length-append, append_assoc}
 use Rattle.std.proofs.lemmas.List.{append-nil}
 use Rattle.std.proofs.lemmas.Bool.{and_parts, ltb-true, leb-true, eqb-true, lt-ltb, false≢true}
 use Rattle.can_log.specs.declared.frame.Dir.{Dir}
-use Rattle.isotp_receive.specs.Trace.{Entry, FirstFrame, Role, single, first, consecutive, continue_or_wait, overflow, no_part, role}
+use Rattle.isotp_receive.specs.Trace.{Entry, FirstFrame, FrameRole, single, first, consecutive, continue_or_wait, overflow, no_part, role}
 use Rattle.isotp_receive.specs.Places.{consecutive_by, consecutive_frames_in}
-use Rattle.isotp_receive.specs.Standing.{carried_by, carried, standing_of, carried_after, fits_length, keeps_by, keep, is_open}
+use Rattle.isotp_receive.specs.StandingReception.{carried_by, carried, standing_of, carried_after, fits_length, keeps_by, keep, is_open}
 use Rattle.isotp_receive.proofs.Products.{sum-grows}
 use Rattle.isotp_receive.proofs.Readings.{IsRoleOf, role_from}
 use Rattle.isotp_receive.proofs.CountedFrames.{taken-append, taken-snoc, carried-snoc, keep-front}
@@ -32,7 +32,7 @@ fits_full len rx_dl have can_dl h below =
     eqb-true can_dl rx_dl (rw test at parts.1)
 
 -- what one more frame carries
-carried-one : (d : Dir) (s : FirstFrame) (past : List Entry) (micros : ℕ) (x : List ℕ) (r : Role) → IsRoleOf micros x r → keeps_by d s past micros r ≡ true
+carried-one : (d : Dir) (s : FirstFrame) (past : List Entry) (micros : ℕ) (x : List ℕ) (r : FrameRole) → IsRoleOf micros x r → keeps_by d s past micros r ≡ true
     → carried_after s (consecutive_frames_in d past + consecutive_by r) < s.len
     → length (carried d past) ≡ consecutive_frames_in d past * (s.rx_dl - 1)
     → length (carried d past ++ carried_by r) ≡ (consecutive_frames_in d past + consecutive_by r) * (s.rx_dl - 1)

@@ -8,7 +8,7 @@ use Rattle.isotp_receive.specs.Trace.{Entry, FirstFrame, first, consecutive, rol
 use Rattle.isotp_receive.specs.Places.{bytes_in_first, bytes_before, FitsAs}
 use Rattle.isotp_receive.specs.OnTime.{n_cr, IsReference}
 use Rattle.isotp_receive.specs.Fit.{one_more, last}
-use Rattle.isotp_receive.specs.Standing.{Standing, fit_of}
+use Rattle.isotp_receive.specs.StandingReception.{StandingReception, fit_of}
 use Rattle.isotp_receive.specs.Recording.{IsConsecutiveFrame, EachNumbered, IsRisingFrom, IsSegmented, IsIn}
 use Rattle.isotp_receive.specs.Machine.{fresh}
 use Rattle.isotp_receive.proofs.Products.{sum-grows}
@@ -17,8 +17,8 @@ use Rattle.isotp_receive.proofs.Readings.{first_from, next_from}
 use Rattle.isotp_receive.proofs.FitTests.{was-more, was-last}
 use Rattle.isotp_receive.proofs.References.{moved, begins-at}
 
--- before position n a first frame stands at `begun`, and its consecutive frames so far at cs
-pub record Gathered (limit : ℕ) (T : List Entry) (d : Dir) (n : ℕ) (st : Standing) (begun : ℕ) (cs : List ℕ) : Type 0 where
+-- before position n there is a first frame at `begun`, and its consecutive frames so far are at cs
+pub record Gathered (limit : ℕ) (T : List Entry) (d : Dir) (n : ℕ) (st : StandingReception) (begun : ℕ) (cs : List ℕ) : Type 0 where
   pub frame : Entry
   pub start : FirstFrame
   pub here : At T begun frame
@@ -42,7 +42,7 @@ pub record Gathered (limit : ℕ) (T : List Entry) (d : Dir) (n : ℕ) (st : Sta
   pub time : st.reference ≡ last.micros
 
 -- the same frames, one frame later
-pub one-later : (limit : ℕ) (T : List Entry) (d : Dir) (n : ℕ) (st : Standing) (i : ℕ) (cs : List ℕ) (u : Gathered limit T d n st i cs) (t q : ℕ) (x : Entry)
+pub one-later : (limit : ℕ) (T : List Entry) (d : Dir) (n : ℕ) (st : StandingReception) (i : ℕ) (cs : List ℕ) (u : Gathered limit T d n st i cs) (t q : ℕ) (x : Entry)
     → IsReference T d i (suc n) q → At T q x → t ≡ x.micros → Gathered limit T d (suc n) (record st { reference = t }) i cs
 one-later limit T d n st i cs u t q x refers there time = record {
   frame = u.frame;
@@ -93,7 +93,7 @@ module _ (limit : ℕ) (T : List Entry) (d : Dir) (n : ℕ) (e : Entry) (at : At
         time = from.time;
       }
 
-  module _ (st : Standing) (i : ℕ) (cs : List ℕ) (u : Gathered limit T d n st i cs)
+  module _ (st : StandingReception) (i : ℕ) (cs : List ℕ) (u : Gathered limit T d n st i cs)
       (sequence_number can_dl : ℕ) (bytes : List ℕ) (kind : role d e ≡ consecutive sequence_number can_dl bytes) where
     -- the frame at n carries what comes next of a message
     part-at : (m : List ℕ) (count : ℕ) → e.micros ≤ st.reference + n_cr

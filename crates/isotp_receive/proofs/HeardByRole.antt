@@ -9,22 +9,22 @@ use Rattle.isotp_pdu.specs.Layout as layout
 use Rattle.isotp_pdu.specs.declared.PduFault.{PduFault}
 use Rattle.isotp_pdu.specs.declared.Status.TheVariants.{Continue, Wait, Overflow}
 use Rattle.isotp_receive.specs.declared.event.Reason.TheVariants as as_reason
-use Rattle.isotp_receive.specs.Trace.{Entry, Role, single, first, consecutive, continue_or_wait, overflow, no_part, role, own_role, other_role, same_direction}
+use Rattle.isotp_receive.specs.Trace.{Entry, FrameRole, single, first, consecutive, continue_or_wait, overflow, no_part, role, own_role, other_role, same_direction}
 use Rattle.isotp_receive.specs.Fit.{Fit, late, wrong_number, wrong_length, one_more, last}
-use Rattle.isotp_receive.specs.Standing.{Standing, fit_of, stands}
+use Rattle.isotp_receive.specs.StandingReception.{StandingReception, fit_of, stands}
 use Rattle.isotp_receive.specs.Verdict.{began, dropped, verdict, on_fit, on_layout, on_continue_or_wait, on_overflow}
 use Rattle.isotp_receive.proofs.Heard.{placed}
 use Rattle.isotp_receive.proofs.Directions.{same}
 
 -- the message that a frame of this role completes, where this stands
-abbrev pub completed_by : Fit → Standing → List ℕ → List (List ℕ)
+abbrev pub completed_by : Fit → StandingReception → List ℕ → List (List ℕ)
 completed_by last s bytes = take s.len (s.bytes ++ bytes) ∷ []
 completed_by one_more s bytes = []
 completed_by late s bytes = []
 completed_by wrong_number s bytes = []
 completed_by wrong_length s bytes = []
 
-abbrev pub completed : Option Standing → ℕ → Role → List (List ℕ)
+abbrev pub completed : Option StandingReception → ℕ → FrameRole → List (List ℕ)
 completed o micros (single m) = m ∷ []
 completed None micros (consecutive sequence_number can_dl bytes) = []
 completed (Some s) micros (consecutive sequence_number can_dl bytes) = completed_by (fit_of s micros sequence_number can_dl) s bytes
@@ -37,7 +37,7 @@ abbrev pub at_place : ℕ → List (List ℕ) → List (ℕ × List ℕ)
 at_place n [] = []
 at_place n (m ∷ ms) = (n, m) ∷ []
 
-placed-fit : (n : ℕ) (d : Dir) (s : Standing) (fit : Fit) (sequence_number : ℕ) (bytes : List ℕ)
+placed-fit : (n : ℕ) (d : Dir) (s : StandingReception) (fit : Fit) (sequence_number : ℕ) (bytes : List ℕ)
     → placed n (on_fit d s fit sequence_number bytes).told ≡ at_place n (completed_by fit s bytes)
 placed-fit n d s last sequence_number bytes = refl
 placed-fit n d s one_more sequence_number bytes = refl
@@ -45,11 +45,11 @@ placed-fit n d s late sequence_number bytes = refl
 placed-fit n d s wrong_number sequence_number bytes = refl
 placed-fit n d s wrong_length sequence_number bytes = refl
 
-placed-pace : (n : ℕ) (o : Option Standing) → placed n (on_continue_or_wait o).told ≡ []
+placed-pace : (n : ℕ) (o : Option StandingReception) → placed n (on_continue_or_wait o).told ≡ []
 placed-pace n None = refl
 placed-pace n (Some s) = refl
 
-placed-overflow : (n : ℕ) (d : Dir) (o : Option Standing) → placed n (on_overflow d o).told ≡ []
+placed-overflow : (n : ℕ) (d : Dir) (o : Option StandingReception) → placed n (on_overflow d o).told ≡ []
 placed-overflow n d None = refl
 placed-overflow n d (Some s) = elim (cases_Bool (s.taken == 0)) [ inl e ↦ rw e refl | inr e ↦ rw e refl ]
 
@@ -57,7 +57,7 @@ placed-first : (n limit len : ℕ) → placed n (cond (nat_le len limit) began (
 placed-first n limit len = elim (cases_Bool (nat_le len limit)) [ inl e ↦ rw e refl | inr e ↦ rw e refl ]
 
 -- what a reading of the direction's own frame tells
-placed-reading : (n limit : ℕ) (d : Dir) (own others : Option Standing) (line micros : ℕ) (x : Result Layout PduFault)
+placed-reading : (n limit : ℕ) (d : Dir) (own others : Option StandingReception) (line micros : ℕ) (x : Result Layout PduFault)
     → placed n (on_layout limit d own others micros x).told ≡ at_place n (completed own micros (own_role line micros x))
 placed-reading n limit d own others line micros (Err f) = refl
 placed-reading n limit d own others line micros (Ok (layout.single m)) = refl
@@ -69,7 +69,7 @@ placed-reading n limit d own others line micros (Ok (layout.flow_control Continu
 placed-reading n limit d own others line micros (Ok (layout.flow_control Wait)) = placed-pace n others
 placed-reading n limit d own others line micros (Ok (layout.flow_control Overflow)) = placed-overflow n (other_direction d) others
 
-nothing-else : (o : Option Standing) (micros : ℕ) (x : Result Layout PduFault) → completed o micros (other_role x) ≡ []
+nothing-else : (o : Option StandingReception) (micros : ℕ) (x : Result Layout PduFault) → completed o micros (other_role x) ≡ []
 nothing-else o micros (Err f) = refl
 nothing-else o micros (Ok (layout.single m)) = refl
 nothing-else o micros (Ok (layout.first len rx_dl bytes)) = refl

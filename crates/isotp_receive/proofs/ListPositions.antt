@@ -1,4 +1,4 @@
--- Positions of a list: what stands at a position, before it, and after it.
+-- Positions of a list: what is at a position, before it, and after it.
 use Rattle.std.proofs.Common.{◌≡◌, ℕ, zero, suc, ◌+◌, ◌-◌, ◌<◌, List, [], ◌∷◌, ◌++◌, length, take, drop, Some, refl, sym, ◌∙◌, ap, arith, append_assoc}
 use Rattle.std.proofs.Common.{length-append}
 use Rattle.std.specs.Prelude.{slice_get, slice_range}
@@ -11,7 +11,7 @@ cons-head h = cc
 pub cons-tail : {X : Type 0} {x y : X} {xs ys : List X} → x ∷ xs ≡ y ∷ ys → xs ≡ ys
 cons-tail h = cc
 
--- ---- what stands at a position
+-- ---- what is at a position
 
 pub get-same : {X : Type 0} (xs : List X) (c : ℕ) (x y : X) → slice_get xs c ≡ Some x → slice_get xs c ≡ Some y → x ≡ y
 get-same xs c x y h g = cc
@@ -20,7 +20,7 @@ pub get-here : {X : Type 0} (before after : List X) (x : X) → slice_get (befor
 get-here [] after x = refl
 get-here (y ∷ before) after x = get-here before after x
 
--- the same, where the list and the position are spelled otherwise
+-- the same, where the list and the position are spelled in another way
 pub get-behind : {X : Type 0} (xs before after : List X) (c : ℕ) (x : X) → xs ≡ before ++ x ∷ after → c ≡ length before → slice_get xs c ≡ Some x
 get-behind xs before after c x split size = rw (split, size) (get-here before after x)
 
@@ -30,14 +30,14 @@ get-left [] ys c below = absurd (omega arith)
 get-left (x ∷ xs) ys zero below = refl
 get-left (x ∷ xs) ys (suc c) below = get-left xs ys c (omega arith)
 
--- behind the first n
+-- after the first n
 pub get-drop : {X : Type 0} (n : ℕ) (xs : List X) (j c : ℕ) → c ≡ n + j → slice_get xs c ≡ slice_get (drop n xs) j
 get-drop zero xs j c e = (let same : c ≡ j = omega arith in ap (slice_get xs) same)
 get-drop (suc n) [] j c e = refl
 get-drop (suc n) (x ∷ xs) j zero e = absurd (omega arith)
 get-drop (suc n) (x ∷ xs) j (suc c) e = get-drop n xs j c (omega arith)
 
--- ---- what stands before and after it
+-- ---- what is before and after it
 
 pub split-at : {X : Type 0} (xs : List X) (c : ℕ) (x : X) → slice_get xs c ≡ Some x
     → (before : List X) × (after : List X) × (xs ≡ before ++ x ∷ after) × (length before ≡ c)
@@ -47,7 +47,7 @@ split-at (y ∷ xs) (suc c) x h =
     let rest = split-at xs c x h in
     (y ∷ rest.0, rest.1, ap (λ l. y ∷ l) rest.2, ap suc rest.3)
 
--- what stands at c, behind y
+-- what is at c, after y
 pub split-behind : {X : Type 0} (before : List X) (y : X) (rest : List X) (c : ℕ) (x : X) → length before < c → slice_get (before ++ y ∷ rest) c ≡ Some x
     → (b : List X) × (after : List X) × (rest ≡ b ++ x ∷ after) × (c ≡ suc (length before) + length b)
 split-behind [] y rest zero x later h = absurd (omega arith)
@@ -59,7 +59,7 @@ split-behind (z ∷ before) y rest (suc c) x later h =
     let w = split-behind before y rest c x (omega arith) h in
     (w.0, w.1, w.2, (let e = w.3 in omega arith))
 
--- the elements strictly between y and what stands behind b
+-- the elements strictly between y and what follows b
 pub range-behind : {X : Type 0} (before : List X) (y : X) (b rest : List X)
     → slice_range (before ++ y ∷ (b ++ rest)) (length before + 1) (suc (length before) + length b) ≡ b
 range-behind before y b rest =
@@ -67,7 +67,7 @@ range-behind before y b rest =
     ap (take (suc (length before) + length b - (length before + 1))) (drop-append-add before (y ∷ (b ++ rest)) 1)
     ∙ ap (λ n. take n (b ++ rest)) size ∙ take_at b rest (length b) refl
 
--- a list that is split at x, and goes on behind that
+-- a list that is split at x, and goes on after that
 pub regrouped : {X : Type 0} (xs rest before after : List X) (x : X) → xs ≡ before ++ x ∷ after → before ++ x ∷ (after ++ rest) ≡ xs ++ rest
 regrouped xs rest before after x splits = sym (ap (λ l. l ++ rest) splits ∙ append_assoc before (x ∷ after) rest)
 

@@ -9,7 +9,7 @@ use Rattle.isotp_receive.specs.declared.messages.Recorded.{Recorded}
 use Rattle.isotp_receive.specs.declared.event.Verdict.{Verdict}
 use Rattle.isotp_receive.specs.declared.event.Verdict.TheVariants as as_told
 use Rattle.isotp_receive.specs.Trace.{Entry}
-use Rattle.isotp_receive.specs.Standing.{Receptions, receptions_after}
+use Rattle.isotp_receive.specs.StandingReception.{Receptions, receptions_after}
 use Rattle.isotp_receive.specs.Verdict.{EventValue, messages, messages_after, told_message, verdict}
 use Rattle.isotp_receive.specs.MessageLaws.{MessagesGoOn}
 use Rattle.isotp_receive.specs.EventSeen.{seen_verdict}

@@ -9,7 +9,7 @@ use Rattle.isotp_receive.specs.Trace.{Entry, consecutive, role, At}
 use Rattle.isotp_receive.specs.Places.{bytes_in_first, bytes_before, FitsAs}
 use Rattle.isotp_receive.specs.OnTime.{n_cr}
 use Rattle.isotp_receive.specs.Fit.{one_more, last}
-use Rattle.isotp_receive.specs.Standing.{Standing, is_on_time, expected, has_length, fit_of}
+use Rattle.isotp_receive.specs.StandingReception.{StandingReception, is_on_time, expected, has_length, fit_of}
 use Rattle.isotp_receive.specs.Recording.{IsSegmented}
 use Rattle.isotp_receive.specs.Machine.{after, fresh}
 use Rattle.isotp_receive.proofs.Fronts.{front-goes-on}
@@ -30,7 +30,7 @@ at_most f r len count k sequence_number can_dl h le = elim (cases_lt k count) [
 module _ (limit : ℕ) (T : List Entry) (d : Dir) (n : ℕ) (e : Entry) (at : At T n e) where
   -- ---- the frame at n is the next consecutive frame of the message
 
-  record IsNextOf (st : Standing) (m cs : List ℕ) (s : UnderWay T d n st m (n ∷ cs)) (sequence_number can_dl : ℕ) (bytes : List ℕ) : Type 0 where
+  record IsNextOf (st : StandingReception) (m cs : List ℕ) (s : UnderWay T d n st m (n ∷ cs)) (sequence_number can_dl : ℕ) (bytes : List ℕ) : Type 0 where
     kind : role d e ≡ consecutive sequence_number can_dl bytes
     have : length st.bytes ≡ bytes_before s.in_first s.start.rx_dl s.number
     below : bytes_before s.in_first s.start.rx_dl s.number < length m
@@ -40,7 +40,7 @@ module _ (limit : ℕ) (T : List Entry) (d : Dir) (n : ℕ) (e : Entry) (at : At
     fits : FitsAs s.in_first s.start.rx_dl s.start.len s.count (s.number + 1) sequence_number can_dl
     grown : take (length m) (st.bytes ++ bytes) ≡ take (bytes_before s.in_first s.start.rx_dl s.number + length bytes) m
 
-  is-next : (st : Standing) (m cs : List ℕ) (s : UnderWay T d n st m (n ∷ cs)) → IsNextOf st m cs s s.parts.0.next.sequence_number s.parts.0.next.can_dl s.parts.0.next.bytes
+  is-next : (st : StandingReception) (m cs : List ℕ) (s : UnderWay T d n st m (n ∷ cs)) → IsNextOf st m cs s s.parts.0.next.sequence_number s.parts.0.next.can_dl s.parts.0.next.bytes
   is-next st m cs s =
       let part = s.parts.0 in
       let f = s.in_first in
@@ -77,7 +77,7 @@ module _ (limit : ℕ) (T : List Entry) (d : Dir) (n : ℕ) (e : Entry) (at : At
 
   -- ---- the last one
 
-  fits-as-last : (st : Standing) (m : List ℕ) (s : UnderWay T d n st m (n ∷ [])) → fit_of st e.micros s.parts.0.next.sequence_number s.parts.0.next.can_dl ≡ last
+  fits-as-last : (st : StandingReception) (m : List ℕ) (s : UnderWay T d n st m (n ∷ [])) → fit_of st e.micros s.parts.0.next.sequence_number s.parts.0.next.can_dl ≡ last
   fits-as-last st m s =
       let next = is-next st m [] s in
       let part = s.parts.0 in
@@ -99,7 +99,7 @@ module _ (limit : ℕ) (T : List Entry) (d : Dir) (n : ℕ) (e : Entry) (at : At
       fits-last st.len st.rx_dl (length st.bytes) part.next.can_dl (omega arith) (omega arith) (omega arith) (omega arith) in
       is-last st e.micros part.next.sequence_number part.next.can_dl next.on_time next.expected_one fits (le-ltb _ _ (omega arith))
 
-  pub last-told : (st : Standing) (m : List ℕ) (s : UnderWay T d n st m (n ∷ [])) → completed (Some st) e.micros (role d e) ≡ m ∷ []
+  pub last-told : (st : StandingReception) (m : List ℕ) (s : UnderWay T d n st m (n ∷ [])) → completed (Some st) e.micros (role d e) ≡ m ∷ []
   last-told st m s =
       let next = is-next st m [] s in
       let part = s.parts.0 in
@@ -114,12 +114,12 @@ module _ (limit : ℕ) (T : List Entry) (d : Dir) (n : ℕ) (e : Entry) (at : At
       let enough : length m ≤ bytes_before s.in_first r s.number + length part.next.bytes = omega arith in
       rw (next.kind, fits-as-last st m s) (ap (λ l. l ∷ []) (ap (λ j. take j (st.bytes ++ part.next.bytes)) whole_len ∙ next.grown ∙ take_all _ m enough))
 
-  pub last-after : (st : Standing) (m : List ℕ) (s : UnderWay T d n st m (n ∷ [])) → after limit (Some st) e.micros (role d e) ≡ None
+  pub last-after : (st : StandingReception) (m : List ℕ) (s : UnderWay T d n st m (n ∷ [])) → after limit (Some st) e.micros (role d e) ≡ None
   last-after st m s = let next = is-next st m [] s in rw (next.kind, fits-as-last st m s) refl
 
   -- ---- one that is not the last
 
-  module _ (st : Standing) (m : List ℕ) (c : ℕ) (cs : List ℕ) (s : UnderWay T d n st m (n ∷ c ∷ cs)) where
+  module _ (st : StandingReception) (m : List ℕ) (c : ℕ) (cs : List ℕ) (s : UnderWay T d n st m (n ∷ c ∷ cs)) where
     fits-as-more : fit_of st e.micros s.parts.0.next.sequence_number s.parts.0.next.can_dl ≡ one_more
     fits-as-more =
         let next = is-next st m (c ∷ cs) s in
@@ -135,7 +135,7 @@ module _ (limit : ℕ) (T : List Entry) (d : Dir) (n : ℕ) (e : Entry) (at : At
         let fits : has_length st part.next.can_dl ≡ true = fits-more st.len st.rx_dl (length st.bytes) part.next.can_dl (omega arith) (omega arith) (omega arith) in
         is-more st e.micros part.next.sequence_number part.next.can_dl next.on_time next.expected_one fits (lt-ltb _ _ (omega arith))
 
-    abbrev pub grown-by : Standing
+    abbrev pub grown-by : StandingReception
     grown-by = record st { taken = st.taken + 1; bytes = st.bytes ++ s.parts.0.next.bytes; reference = e.micros }
 
     pub more-told : completed (Some st) e.micros (role d e) ≡ []

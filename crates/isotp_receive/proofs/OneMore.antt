@@ -5,9 +5,9 @@ use Rattle.std.proofs.lemmas.List.{append-nil}
 use Rattle.std.proofs.lemmas.Bool.{ltb-true, lt-ltb}
 use Rattle.std.proofs.Math.Bool.{and-true}
 use Rattle.can_log.specs.declared.frame.Dir.{Dir}
-use Rattle.isotp_receive.specs.Trace.{Entry, FirstFrame, Role, single, first, consecutive, continue_or_wait, overflow, no_part, role}
+use Rattle.isotp_receive.specs.Trace.{Entry, FirstFrame, FrameRole, single, first, consecutive, continue_or_wait, overflow, no_part, role}
 use Rattle.isotp_receive.specs.Places.{consecutive_by, consecutive_frames_in}
-use Rattle.isotp_receive.specs.Standing.{carried_by, carried, referred, reference, carried_after, is_on_time, expected, has_length, wants_more, keeps_by, keep, is_open, Standing, standing_of, since, or_else, stands}
+use Rattle.isotp_receive.specs.StandingReception.{carried_by, carried, referred, reference, carried_after, is_on_time, expected, has_length, wants_more, keeps_by, keep, is_open, StandingReception, standing_of, since, or_else, stands}
 use Rattle.isotp_receive.specs.Machine.{continued_by, continued, continue, after}
 use Rattle.isotp_receive.proofs.Choices.{stopped, unchanged, stopped-at-zero, moved-behind}
 use Rattle.isotp_receive.proofs.Readings.{IsRoleOf, role_from}
@@ -18,7 +18,7 @@ use Rattle.isotp_receive.proofs.FitTests.{by_tests, next-tests}
 
 -- ---- a reception goes on where all tests pass
 
-continued-by-tests : (o q f b : Bool) (s : Standing) (micros : ℕ) (bytes : List ℕ)
+continued-by-tests : (o q f b : Bool) (s : StandingReception) (micros : ℕ) (bytes : List ℕ)
     → continued_by (by_tests o q f b) s micros bytes
     ≡ cond (o && (q && (f && b))) (Some (record s { taken = s.taken + 1; bytes = s.bytes ++ bytes; reference = micros })) None
 continued-by-tests false q f b s micros bytes = refl
@@ -27,14 +27,14 @@ continued-by-tests true true false b s micros bytes = refl
 continued-by-tests true true true false s micros bytes = refl
 continued-by-tests true true true true s micros bytes = refl
 
-goes_if : (s : Standing) (micros sequence_number can_dl : ℕ) (bytes : List ℕ)
+goes_if : (s : StandingReception) (micros sequence_number can_dl : ℕ) (bytes : List ℕ)
     → continued s micros (consecutive sequence_number can_dl bytes)
     ≡ cond (is_on_time s micros && (sequence_number == expected s && (has_length s can_dl && wants_more s)))
     (Some (record s { taken = s.taken + 1; bytes = s.bytes ++ bytes; reference = micros })) None
 goes_if s micros sequence_number can_dl bytes =
     continued-by-tests (is_on_time s micros) (sequence_number == expected s) (has_length s can_dl) (wants_more s) s micros bytes
 
-pull : (c : Bool) (st : Standing) (micros : ℕ) (r : Role) → continue (cond c (Some st) None) micros r ≡ cond c (continued st micros r) None
+pull : (c : Bool) (st : StandingReception) (micros : ℕ) (r : FrameRole) → continue (cond c (Some st) None) micros r ≡ cond c (continued st micros r) None
 pull true st micros r = refl
 pull false st micros r = refl
 
@@ -50,15 +50,15 @@ module _ (limit : ℕ) (d : Dir) (s : FirstFrame) (es : List Entry) (micros : �
   kept : Bool
   kept = keep d s [] es
 
-  st : Standing
+  st : StandingReception
   st = standing_of d s es
 
   -- the right side, by what the reception was before
-  pulled : (r : Role) → cond (is_open limit d s es) (continued st micros r) None ≡ continue (since limit d (first s) es) micros r
+  pulled : (r : FrameRole) → cond (is_open limit d s es) (continued st micros r) None ≡ continue (since limit d (first s) es) micros r
   unfolding st
   pulled r = sym (pull (is_open limit d s es) st micros r)
 
-  one-later : (r : Role)
+  one-later : (r : FrameRole)
       → cond (nat_le s.len limit && (nat_lt (carried_after s (consecutive_frames_in d es + consecutive_by r)) s.len && (keep d s [] es && keeps_by d s es micros r)))
       (Some (record {
         line = s.line;
@@ -97,7 +97,7 @@ module _ (limit : ℕ) (d : Dir) (s : FirstFrame) (es : List Entry) (micros : �
   one-later overflow = rw (add-zero, append-nil) (stopped-at-zero within room kept (consecutive_frames_in d es) _ _ refl ∙ pulled overflow)
   one-later no_part = rw (add-zero, append-nil) (unchanged within room kept _ _ refl ∙ pulled no_part)
 
-since-snoc : (limit : ℕ) (d : Dir) (r : Role) (es : List Entry) (e : Entry) → since limit d r (es ++ e ∷ []) ≡ continue (since limit d r es) e.micros (role d e)
+since-snoc : (limit : ℕ) (d : Dir) (r : FrameRole) (es : List Entry) (e : Entry) → since limit d r (es ++ e ∷ []) ≡ continue (since limit d r es) e.micros (role d e)
 since-snoc limit d (first s) es e = rw (taken-snoc, carried-snoc, reference-snoc, keep-snoc) (one-later limit d s es e.micros (role d e))
 since-snoc limit d (single m) es e = refl
 since-snoc limit d (consecutive sequence_number can_dl bytes) es e = refl
@@ -107,11 +107,11 @@ since-snoc limit d no_part es e = refl
 
 -- ---- the first of all that stand
 
-or_none : (a : Option Standing) → or_else a None ≡ a
+or_none : (a : Option StandingReception) → or_else a None ≡ a
 or_none None = refl
 or_none (Some s) = refl
 
-join : (a b c : Option Standing) (micros : ℕ) (r : Role) → ((st : Standing) → a ≡ Some st → b ≡ None)
+join : (a b c : Option StandingReception) (micros : ℕ) (r : FrameRole) → ((st : StandingReception) → a ≡ Some st → b ≡ None)
     → or_else (continue a micros r) (or_else (continue b micros r) c) ≡ or_else (continue (or_else a b) micros r) c
 join None b c micros r h = refl
 join (Some s) b c micros r h = rw (h s refl) refl
@@ -123,17 +123,17 @@ one_step limit d (x ∷ T) e =
     rw (since-snoc limit d (role d x) T e, one_step limit d T e)
     (join (since limit d (role d x) T) (stands limit d T) (since limit d (role d e) []) e.micros (role d e) (since-alone limit d (role d x) T))
 
--- ---- a step that begins anew, or goes on
+-- ---- a step that begins a reception, or goes on with one
 
-continue_begins : (o : Option Standing) (micros : ℕ) (s : FirstFrame) → continue o micros (first s) ≡ None
+continue_begins : (o : Option StandingReception) (micros : ℕ) (s : FirstFrame) → continue o micros (first s) ≡ None
 continue_begins None micros s = refl
 continue_begins (Some t) micros s = refl
 
-continue_whole : (o : Option Standing) (micros : ℕ) (m : List ℕ) → continue o micros (single m) ≡ None
+continue_whole : (o : Option StandingReception) (micros : ℕ) (m : List ℕ) → continue o micros (single m) ≡ None
 continue_whole None micros m = refl
 continue_whole (Some t) micros m = refl
 
-by_step : (limit : ℕ) (d : Dir) (o : Option Standing) (micros : ℕ) (x : List ℕ) (r : Role) → IsRoleOf micros x r
+by_step : (limit : ℕ) (d : Dir) (o : Option StandingReception) (micros : ℕ) (x : List ℕ) (r : FrameRole) → IsRoleOf micros x r
     → or_else (continue o micros r) (since limit d r []) ≡ after limit o micros r
 by_step limit d o micros x (first s) from =
     let starts : nat_lt (length s.bytes + 0 * (s.rx_dl - 1)) s.len ≡ true = lt-ltb _ _ (omega (arith, from)) in

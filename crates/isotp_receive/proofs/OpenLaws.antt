@@ -5,8 +5,8 @@ use Rattle.std.proofs.lemmas.List.{append-nil}
 use Rattle.std.proofs.lemmas.Bool.{and_parts, and_from}
 use Rattle.std.proofs.lemmas.Option.{none-some, cond_some}
 use Rattle.can_log.specs.declared.frame.Dir.{Dir}
-use Rattle.isotp_receive.specs.Trace.{Entry, FirstFrame, Role, single, first, consecutive, continue_or_wait, overflow, no_part, role}
-use Rattle.isotp_receive.specs.Standing.{keeps_by, keep, is_open, Standing, standing_of, since, or_else, stands}
+use Rattle.isotp_receive.specs.Trace.{Entry, FirstFrame, FrameRole, single, first, consecutive, continue_or_wait, overflow, no_part, role}
+use Rattle.isotp_receive.specs.StandingReception.{keeps_by, keep, is_open, StandingReception, standing_of, since, or_else, stands}
 use Rattle.isotp_receive.proofs.ListPositions.{cons-head, cons-tail}
 use Rattle.isotp_receive.proofs.CountedFrames.{keep-snoc}
 use Rattle.isotp_receive.proofs.StandsAlone.{since-alone}
@@ -57,14 +57,14 @@ open-stands-here limit d [] es e s h open_test = rw (h, open_test) refl
 open-stands-here limit d (x ∷ before) es e s h open_test =
     let later = open-stands-here limit d before es e s h open_test in
     first-none (since limit d (role d x) (before ++ e ∷ es)) later (since-alone limit d (role d x) (before ++ e ∷ es)) where
-      first-none : (a : Option Standing) → stands limit d (before ++ e ∷ es) ≡ Some (standing_of d s es)
-          → ((st : Standing) → a ≡ Some st → stands limit d (before ++ e ∷ es) ≡ None) → or_else a (stands limit d (before ++ e ∷ es)) ≡ Some (standing_of d s es)
+      first-none : (a : Option StandingReception) → stands limit d (before ++ e ∷ es) ≡ Some (standing_of d s es)
+          → ((st : StandingReception) → a ≡ Some st → stands limit d (before ++ e ∷ es) ≡ None) → or_else a (stands limit d (before ++ e ∷ es)) ≡ Some (standing_of d s es)
       first-none None later alone = later
       first-none (Some st) later alone = absurd (none-some (standing_of d s es) (sym (alone st refl) ∙ later))
 
 -- ---- what stands began somewhere, and is open since
 
-pub record Found (limit : ℕ) (d : Dir) (T : List Entry) (st : Standing) : Type 0 where
+pub record Found (limit : ℕ) (d : Dir) (T : List Entry) (st : StandingReception) : Type 0 where
   pub before : List Entry
   pub e : Entry
   pub since : List Entry
@@ -74,7 +74,7 @@ pub record Found (limit : ℕ) (d : Dir) (T : List Entry) (st : Standing) : Type
   pub opens : is_open limit d s since ≡ true
   pub is : st ≡ standing_of d s since
 
-found-here : (limit : ℕ) (d : Dir) (e : Entry) (es : List Entry) (r : Role) (st : Standing) → role d e ≡ r → since limit d r es ≡ Some st → Found limit d (e ∷ es) st
+found-here : (limit : ℕ) (d : Dir) (e : Entry) (es : List Entry) (r : FrameRole) (st : StandingReception) → role d e ≡ r → since limit d r es ≡ Some st → Found limit d (e ∷ es) st
 found-here limit d e es (first s) st is h =
     let w = cond_some (is_open limit d s es) (standing_of d s es) st h in
     record { before = []; e = e; since = es; s = s; splits = refl; begins = is; opens = w.0; is = sym w.1 }
@@ -84,10 +84,10 @@ found-here limit d e es continue_or_wait st is h = absurd (cc)
 found-here limit d e es overflow st is h = absurd (cc)
 found-here limit d e es no_part st is h = absurd (cc)
 
-pub found : (limit : ℕ) (d : Dir) (T : List Entry) (st : Standing) → stands limit d T ≡ Some st → Found limit d T st
+pub found : (limit : ℕ) (d : Dir) (T : List Entry) (st : StandingReception) → stands limit d T ≡ Some st → Found limit d T st
 found limit d [] st h = absurd (cc)
 found limit d (e ∷ es) st h = by_head (since limit d (role d e) es) refl h (found limit d es st) where
-  by_head : (o : Option Standing) → since limit d (role d e) es ≡ o → or_else o (stands limit d es) ≡ Some st
+  by_head : (o : Option StandingReception) → since limit d (role d e) es ≡ o → or_else o (stands limit d es) ≡ Some st
       → (stands limit d es ≡ Some st → Found limit d es st) → Found limit d (e ∷ es) st
   by_head (Some x) is h further = found-here limit d e es (role d e) st refl (is ∙ h)
   by_head None is h further =

@@ -3,10 +3,10 @@ use Rattle.std.proofs.Common.{◌≡◌, ℕ, suc, ◌+◌, ◌<◌, true, List,
 use Rattle.std.proofs.Common.{append_assoc, length-append}
 use Rattle.std.proofs.lemmas.Bool.{and_parts, and_from, ltb-true, lt-ltb, le-leb, eqb-true, eq-eqb, false≢true}
 use Rattle.can_log.specs.declared.frame.Dir.{Dir}
-use Rattle.isotp_receive.specs.Trace.{Entry, At, FirstFrame, Role, single, first, consecutive, continue_or_wait, overflow, no_part, role}
+use Rattle.isotp_receive.specs.Trace.{Entry, At, FirstFrame, FrameRole, single, first, consecutive, continue_or_wait, overflow, no_part, role}
 use Rattle.isotp_receive.specs.Places.{bytes_in_first, bytes_before, IsConsecutiveCount, consecutive_frames_in, between}
 use Rattle.isotp_receive.specs.OnTime.{IsOnTime}
-use Rattle.isotp_receive.specs.Standing.{carried, reference, standing_of, carried_after, fits_length, keeps_by, keep, is_open}
+use Rattle.isotp_receive.specs.StandingReception.{carried, reference, standing_of, carried_after, fits_length, keeps_by, keep, is_open}
 use Rattle.isotp_receive.specs.OpenReception.{LeavesOpen, IsOpenAt}
 use Rattle.isotp_receive.proofs.ListPositions.{get-here, get-behind, get-left, split-at, split-behind, range-behind, regrouped, split-length}
 use Rattle.isotp_receive.proofs.Readings.{first_from}
@@ -18,12 +18,12 @@ use Rattle.isotp_receive.proofs.OpenLaws.{kept-at, keep-from-each}
 use Rattle.isotp_receive.proofs.References.{refers, on-time-from, on-time-to}
 use Rattle.isotp_receive.proofs.ConsecutiveCounts.{below-count, count-exists}
 
--- ---- a frame x behind the frames b, which stand behind the first frame e0 that began the reception s
+-- ---- a frame x after the frames b, which follow the first frame e0 that began the reception s
 
 module _ (d : Dir) (before : List Entry) (e0 : Entry) (s : FirstFrame) (begins : role d e0 ≡ first s)
     (n : ℕ) (least : IsConsecutiveCount (bytes_in_first e0.frame.bytes) s.rx_dl s.len n) (b : List Entry) (x : Entry) (after : List Entry)
     (come : length (s.bytes ++ carried d b) ≡ carried_after s (consecutive_frames_in d b)) where
-  abbrev pub LeavesItOpen : Role → Type 0
+  abbrev pub LeavesItOpen : FrameRole → Type 0
   LeavesItOpen r =
       LeavesOpen s (bytes_in_first e0.frame.bytes) n (consecutive_frames_in d b)
       (IsOnTime (before ++ e0 ∷ (b ++ x ∷ after)) d (length before) (suc (length before) + length b) x) r
@@ -31,7 +31,7 @@ module _ (d : Dir) (before : List Entry) (e0 : Entry) (s : FirstFrame) (begins :
   size : length (s.bytes ++ carried d b) ≡ bytes_before (bytes_in_first e0.frame.bytes) s.rx_dl (consecutive_frames_in d b)
   size = come ∙ room-join d e0 s (consecutive_frames_in d b) begins
 
-  pub leaves-by : (r : Role) → keeps_by d s b x.micros r ≡ true → LeavesItOpen r
+  pub leaves-by : (r : FrameRole) → keeps_by d s b x.micros r ≡ true → LeavesItOpen r
   leaves-by (consecutive sequence_number can_dl bytes) h =
       let next = was-next (standing_of d s b) x.micros sequence_number can_dl h in
       let fits : fits_length s.len s.rx_dl (bytes_before (bytes_in_first e0.frame.bytes) s.rx_dl (consecutive_frames_in d b)) can_dl ≡ true =
@@ -47,7 +47,7 @@ module _ (d : Dir) (before : List Entry) (e0 : Entry) (s : FirstFrame) (begins :
   leaves-by overflow h = ltb-true 0 (consecutive_frames_in d b) h
   leaves-by no_part h = tt
 
-  keeps-from : (r : Role) → consecutive_frames_in d b < n → LeavesItOpen r → keeps_by d s b x.micros r ≡ true
+  keeps-from : (r : FrameRole) → consecutive_frames_in d b < n → LeavesItOpen r → keeps_by d s b x.micros r ≡ true
   keeps-from (consecutive sequence_number can_dl bytes) below h =
       let fit = (fits-join (bytes_in_first e0.frame.bytes) s.rx_dl s.len n (consecutive_frames_in d b) sequence_number can_dl least below).0 h.0 in
       is-next-one (standing_of d s b) x.micros sequence_number can_dl (record {
@@ -62,13 +62,13 @@ module _ (d : Dir) (before : List Entry) (e0 : Entry) (s : FirstFrame) (begins :
   keeps-from no_part below h = refl
 
 -- the same said of the same frame in another spelling of the trace
-pub same-leaves : (d : Dir) (s : FirstFrame) (f n i i' j j' c c' : ℕ) (T T' : List Entry) (x : Entry) (r : Role) → j ≡ j' → T ≡ T' → i ≡ i' → c ≡ c'
+pub same-leaves : (d : Dir) (s : FirstFrame) (f n i i' j j' c c' : ℕ) (T T' : List Entry) (x : Entry) (r : FrameRole) → j ≡ j' → T ≡ T' → i ≡ i' → c ≡ c'
     → LeavesOpen s f n j (IsOnTime T d i c x) r → LeavesOpen s f n j' (IsOnTime T' d i' c' x) r
 same-leaves d s f n i i' j j' c c' T T' x r ej et ei ec h =
     subst (λ z. LeavesOpen s f n z (IsOnTime T' d i' c' x) r) ej (subst (λ z. LeavesOpen s f n j (IsOnTime z d i' c' x) r) et
     (subst (λ z. LeavesOpen s f n j (IsOnTime T d z c' x) r) ei (subst (λ z. LeavesOpen s f n j (IsOnTime T d i z x) r) ec h)))
 
--- ---- a frame that stands behind another one of the first of two lists
+-- ---- a frame that stands after another one of the first of two lists
 
 pub record IsBehind (before : List Entry) (e0 : Entry) (since rest : List Entry) (c : ℕ) (x : Entry) : Type 0 where
   pub b : List Entry

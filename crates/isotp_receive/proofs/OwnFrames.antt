@@ -8,14 +8,14 @@ use Rattle.isotp_pdu.specs.declared.Status.TheVariants.{Continue, Wait, Overflow
 use Rattle.isotp_pdu.specs.Layout.{Layout}
 use Rattle.isotp_pdu.specs.Layout as layout
 use Rattle.isotp_pdu.specs.Reading.{layout_of}
-use Rattle.isotp_receive.specs.Trace.{Entry, Role, single, first, consecutive, continue_or_wait, overflow, no_part, role, own_role, other_role, same_direction, At}
+use Rattle.isotp_receive.specs.Trace.{Entry, FrameRole, single, first, consecutive, continue_or_wait, overflow, no_part, role, own_role, other_role, same_direction, At}
 use Rattle.isotp_receive.specs.Recording.{IsConsecutiveFrame, Carries, unsegmented, segmented, IsIn, IsIdle}
 use Rattle.isotp_receive.proofs.ListPositions.{get-same}
 use Rattle.isotp_receive.proofs.PositionLists.{numbered-in}
 use Rattle.isotp_receive.proofs.Directions.{same}
 
 -- a frame of the direction that carries a message
-abbrev pub IsOwn : Role → Type 0
+abbrev pub IsOwn : FrameRole → Type 0
 IsOwn (single message) = ⊤
 IsOwn (first start) = ⊤
 IsOwn (consecutive sequence_number can_dl bytes) = ⊤
@@ -24,7 +24,7 @@ IsOwn overflow = ⊥
 IsOwn no_part = ⊥
 
 -- a frame that neither carries one nor ends one
-abbrev pub IsQuiet : Role → Type 0
+abbrev pub IsQuiet : FrameRole → Type 0
 IsQuiet r = (r ≡ no_part) ⊎ (r ≡ continue_or_wait)
 
 -- ---- a message's frame has no part in the other direction

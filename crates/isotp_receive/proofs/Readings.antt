@@ -11,7 +11,7 @@ use Rattle.isotp_pdu.specs.Layout.{Layout, bytes_carried, least_first, SpellsFir
 use Rattle.isotp_pdu.specs.Layout as layout
 use Rattle.isotp_pdu.specs.Reading.{layout_of}
 use Rattle.isotp_pdu.proofs.Promises.{layout_is_read, layout_is_sound, carried_bytes_are_of_frame, can_dl_is_at_most_64}
-use Rattle.isotp_receive.specs.Trace.{Entry, FirstFrame, Role, single, first, consecutive, continue_or_wait, overflow, no_part, role, own_role, other_role, same_direction}
+use Rattle.isotp_receive.specs.Trace.{Entry, FirstFrame, FrameRole, single, first, consecutive, continue_or_wait, overflow, no_part, role, own_role, other_role, same_direction}
 use Rattle.isotp_receive.specs.Places.{bytes_in_first}
 use Rattle.isotp_receive.specs.MessageLaws.{FirstFrameIsRead}
 use Rattle.isotp_receive.proofs.Directions.{same}
@@ -56,7 +56,7 @@ spelled_lies x (layout.flow_control status) spelled sound = tt
 
 -- ---- what is known of a reading
 
--- the bytes stand in the frame, one after another
+-- the bytes are in the frame, one after another
 abbrev pub StandIn : List ℕ → List ℕ → Type 0
 StandIn x bytes = (front : List ℕ) × (back : List ℕ) × (x ≡ front ++ (bytes ++ back))
 
@@ -96,7 +96,7 @@ pub record IsNext (x : List ℕ) (can_dl : ℕ) (bytes : List ℕ) : Type 0 wher
   pub lies : bytes ≡ drop 1 x
   pub size : length bytes + 1 ≡ can_dl
 
-abbrev pub IsRoleOf : ℕ → List ℕ → Role → Type 0
+abbrev pub IsRoleOf : ℕ → List ℕ → FrameRole → Type 0
 IsRoleOf micros x (first start) = IsFirst micros x start
 IsRoleOf micros x (consecutive sequence_number can_dl bytes) = IsNext x can_dl bytes
 IsRoleOf micros x (single message) = IsWhole x message

@@ -4,8 +4,8 @@ use Rattle.std.proofs.Common.{append_assoc, length-append}
 use Rattle.std.specs.Prelude.{◌⊎◌}
 use Rattle.std.proofs.lemmas.Bool.{leb-true, le-leb, cases_lt}
 use Rattle.can_log.specs.declared.frame.Dir.{Dir}
-use Rattle.isotp_receive.specs.Trace.{Entry, At, FirstFrame, Role, single, first, consecutive, continue_or_wait, overflow, no_part, role}
-use Rattle.isotp_receive.specs.Standing.{referred, reference}
+use Rattle.isotp_receive.specs.Trace.{Entry, At, FirstFrame, FrameRole, single, first, consecutive, continue_or_wait, overflow, no_part, role}
+use Rattle.isotp_receive.specs.StandingReception.{referred, reference}
 use Rattle.isotp_receive.specs.OnTime.{n_cr, RestartsTimer, IsReference, IsOnTime}
 use Rattle.isotp_receive.specs.Laws.{OneReference}
 use Rattle.isotp_receive.proofs.ListPositions.{get-same, get-here}
@@ -53,7 +53,7 @@ same-reference T d i c q r a b = elim (cases_lt q r) [
     | inr w ↦ a.greatest r w.0 lt b.below w.1 w.2
   ]
 
--- right behind its first frame, a reception refers to that
+-- right after its first frame, a reception refers to that
 pub begins-at : (T : List Entry) (d : Dir) (i : ℕ) → IsReference T d i (suc i) i
 begins-at T d i = record { from = omega arith; below = omega arith; restarts = inl refl; greatest = λ p x above less there _. absurd (omega arith) }
 
@@ -65,7 +65,7 @@ pub record RefersTo (T : List Entry) (d : Dir) (i n t : ℕ) : Type 0 where
   pub stands : At T q e
   pub time : t ≡ e.micros
 
-refers-next : (T : List Entry) (d : Dir) (i n t : ℕ) (x : Entry) (r : Role) → i ≤ n → At T n x → role d x ≡ r → RefersTo T d i n t → RefersTo T d i (suc n) (referred r x.micros t)
+refers-next : (T : List Entry) (d : Dir) (i n t : ℕ) (x : Entry) (r : FrameRole) → i ≤ n → At T n x → role d x ≡ r → RefersTo T d i n t → RefersTo T d i (suc n) (referred r x.micros t)
 refers-next T d i n t x (consecutive sequence_number can_dl bytes) from at is h = record { q = n; e = x; reference = moved T d n i x from at (rw is tt); stands = at; time = refl }
 refers-next T d i n t x continue_or_wait from at is h = record { q = n; e = x; reference = moved T d n i x from at (rw is tt); stands = at; time = refl }
 refers-next T d i n t x (single m) from at is h = record { q = h.q; e = h.e; reference = stays T d n i h.q x at (λ w. rw is at w) h.reference; stands = h.stands; time = h.time }
@@ -85,7 +85,7 @@ refers-after T d i n t before (x ∷ todo) rest split size from h =
     subst (λ j. RefersTo T d i j (reference d (referred (role d x) x.micros t) todo)) sum
     (refers-after T d i (suc n) (referred (role d x) x.micros t) (before ++ x ∷ []) todo rest split_next size_next (omega arith) next)
 
--- the reference of a reception that began with s, behind the frames b
+-- the reference of a reception that began with s, after the frames b
 pub refers : (d : Dir) (before : List Entry) (e : Entry) (s : FirstFrame) (b rest : List Entry) → role d e ≡ first s
     → RefersTo (before ++ e ∷ (b ++ rest)) d (length before) (suc (length before) + length b) (reference d s.micros b)
 refers d before e s b rest is =

@@ -30,7 +30,7 @@ abbrev pub side : Dir → List Placed → List (ℕ × List ℕ)
 side d [] = []
 side d (x ∷ xs) = cond (same_direction d x.dir) ((x.place, x.message) ∷ side d xs) (side d xs)
 
--- the messages that the frames from position n on complete, where `past` stands before them
+-- the messages that the frames from position n on complete, where `past` came before them
 abbrev pub all_told : ℕ → ℕ → List Entry → List Entry → List Placed
 all_told limit n past [] = []
 all_told limit n past (e ∷ es) = tag e.dir (placed n (verdict limit past e).told) ++ all_told limit (suc n) (past ++ e ∷ []) es

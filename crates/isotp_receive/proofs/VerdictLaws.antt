@@ -20,7 +20,7 @@ use Rattle.isotp_receive.specs.Trace.{Entry, consecutive, role}
 use Rattle.isotp_receive.specs.Places.{bytes_in_first}
 use Rattle.isotp_receive.specs.OnTime.{IsOnTime}
 use Rattle.isotp_receive.specs.Fit.{Fit, FitsSo}
-use Rattle.isotp_receive.specs.Standing.{Standing, stands}
+use Rattle.isotp_receive.specs.StandingReception.{StandingReception, stands}
 use Rattle.isotp_receive.specs.Verdict.{EventValue, VerdictValue, message, began, flowed, dropped, refused, ended_as, on_overflow, verdict, on_layout, on_consecutive}
 use Rattle.isotp_receive.specs.VerdictTable.{IsOpenBefore, FitsNext, NothingOpen, ended_by, EndsByNewStart, HasVerdict, no_layout, single_frame, first_frame, too_long, next_unexpected, next_late}
 use Rattle.isotp_receive.specs.VerdictTable.{wrong_number, wrong_length, stored_frame, last_frame, flow_unexpected, flow, overflow_in_time, overflow_too_late}
@@ -48,13 +48,13 @@ role-by e sequence_number can_dl bytes h = rw (same-self e.dir, h) refl
 both : (a : EventValue) (x : Option Ended) (t : VerdictValue) → a.ended ≡ x → a.told ≡ t → a ≡ record { ended = x; told = t }
 both a x t h g = ap (λ y. record { ended = y; told = a.told }) h ∙ ap (λ y. record { ended = x; told = y }) g
 
-no-flow : (limit : ℕ) (d : Dir) (own others : Option Standing) (micros : ℕ) (s : Status) → others ≡ None
+no-flow : (limit : ℕ) (d : Dir) (own others : Option StandingReception) (micros : ℕ) (s : Status) → others ≡ None
     → on_layout limit d own others micros (Ok (layout.flow_control s)) ≡ refused None reason.FlowUnexpected
 no-flow limit d own others micros Continue h = rw h refl
 no-flow limit d own others micros Wait h = rw h refl
 no-flow limit d own others micros Overflow h = rw h refl
 
-moves-on : (limit : ℕ) (d : Dir) (own others : Option Standing) (micros : ℕ) (s : Status) (st : Standing) → s ≢ Overflow → others ≡ Some st
+moves-on : (limit : ℕ) (d : Dir) (own others : Option StandingReception) (micros : ℕ) (s : Status) (st : StandingReception) → s ≢ Overflow → others ≡ Some st
     → on_layout limit d own others micros (Ok (layout.flow_control s)) ≡ record { ended = None; told = flowed }
 moves-on limit d own others micros Continue st apart h = rw h refl
 moves-on limit d own others micros Wait st apart h = rw h refl
@@ -65,7 +65,7 @@ moves-on limit d own others micros Overflow st apart h = absurd (apart refl)
 module _ (limit : ℕ) (T : List Entry) (e : Entry) where
   none-open : (d : Dir) → NothingOpen limit T e d → stands limit d T ≡ None
   none-open d none = by_case (stands limit d T) refl where
-    by_case : (o : Option Standing) → stands limit d T ≡ o → o ≡ None
+    by_case : (o : Option StandingReception) → stands limit d T ≡ o → o ≡ None
     by_case None is = refl
     by_case (Some st) is = absurd (let s = stands-open limit T (e ∷ []) d st is in none s.begun s.number s.is_open)
 
@@ -73,7 +73,7 @@ module _ (limit : ℕ) (T : List Entry) (e : Entry) where
   nothing-open d none i k o = (let w = open-stands limit T (e ∷ []) d i k o in absurd (none-some w.0 (sym none ∙ w.1)))
 
   some-open : (d : Dir) (i k : ℕ) (c : Cause) (o : IsOpenBefore limit T e d i k)
-      → (st : Standing) × (stands limit d T ≡ Some st) × (ended_as c d (Some st) ≡ Some (ended_by d o.begins.start c)) × (st.taken ≡ k)
+      → (st : StandingReception) × (stands limit d T ≡ Some st) × (ended_as c d (Some st) ≡ Some (ended_by d o.begins.start c)) × (st.taken ≡ k)
   some-open d i k c o =
       let w = open-stands limit T (e ∷ []) d i k o in
       (w.0, w.1, ended-is d o.begins.start w.0 c w.2 w.3, w.4)
@@ -84,7 +84,7 @@ module _ (limit : ℕ) (T : List Entry) (e : Entry) where
       let w = some-open e.dir h.0 h.1 cause.NewStart h.2 in
       ap (ended_as cause.NewStart e.dir) w.1 ∙ w.2 ∙ ap Some (sym h.3)
 
-  new-start : (o : Option Standing) → stands limit e.dir T ≡ o → (x : Option Ended) × EndsByNewStart limit T e x
+  new-start : (o : Option StandingReception) → stands limit e.dir T ≡ o → (x : Option Ended) × EndsByNewStart limit T e x
   new-start None is = (None, nothing-open e.dir is)
   new-start (Some st) is =
       let s = stands-open limit T (e ∷ []) e.dir st is in
@@ -159,7 +159,7 @@ tabled limit T e _ (overflow_too_late i k h o some) =
 
 -- ---- and each frame has a row
 
-consecutive-row : (limit : ℕ) (T : List Entry) (e : Entry) (sequence_number can_dl : ℕ) (bytes : List ℕ) (o : Option Standing)
+consecutive-row : (limit : ℕ) (T : List Entry) (e : Entry) (sequence_number can_dl : ℕ) (bytes : List ℕ) (o : Option StandingReception)
     → layout_of e.frame ≡ Ok (layout.consecutive sequence_number can_dl bytes) → stands limit e.dir T ≡ o → (a : EventValue) × HasVerdict limit T e a
 consecutive-row limit T e sequence_number can_dl bytes None h is =
     (refused None reason.NextUnexpected, next_unexpected sequence_number can_dl bytes h (nothing-open limit T e e.dir is))
@@ -172,7 +172,7 @@ overflow-row : (limit : ℕ) (T : List Entry) (e : Entry) (i k : ℕ) → layout
 overflow-row limit T e i zero h o = (_, overflow_in_time i h o)
 overflow-row limit T e i (suc k) h o = (refused None reason.FlowUnexpected, overflow_too_late i (suc k) h o (omega arith))
 
-flow-row : (limit : ℕ) (T : List Entry) (e : Entry) (s : Status) (o : Option Standing) → layout_of e.frame ≡ Ok (layout.flow_control s)
+flow-row : (limit : ℕ) (T : List Entry) (e : Entry) (s : Status) (o : Option StandingReception) → layout_of e.frame ≡ Ok (layout.flow_control s)
     → stands limit (other_direction e.dir) T ≡ o → (a : EventValue) × HasVerdict limit T e a
 flow-row limit T e s None h is = (refused None reason.FlowUnexpected, flow_unexpected s h (nothing-open limit T e (other_direction e.dir) is))
 flow-row limit T e Continue (Some st) h is =

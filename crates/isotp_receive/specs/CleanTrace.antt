@@ -2,7 +2,7 @@
 use Rattle.std.specs.Prelude.{None, ◌≡◌, ℕ, List, [], ◌∷◌, ◌++◌, ⊤}
 use Rattle.can_log.specs.declared.frame.Dir.{Dir}
 use Rattle.isotp_receive.specs.Trace.{Entry}
-use Rattle.isotp_receive.specs.Standing.{stands}
+use Rattle.isotp_receive.specs.StandingReception.{stands}
 use Rattle.isotp_receive.specs.Verdict.{VerdictValue, message, began, stored, flowed, dropped, EventValue, verdict}
 
 -- the frame was not dropped
@@ -18,7 +18,7 @@ pub record IsCleanEvent (answer : EventValue) : Type 0 where
   pub goes_on : answer.ended ≡ None
   pub kept : IsKept answer.told
 
--- each of the frames is answered so, where `past` stands before them
+-- each of the frames is answered so, where `past` came before them
 abbrev pub EachClean : ℕ → List Entry → List Entry → Type 0
 EachClean limit past [] = ⊤
 EachClean limit past (e ∷ rest) = IsCleanEvent (verdict limit past e) × EachClean limit (past ++ e ∷ []) rest

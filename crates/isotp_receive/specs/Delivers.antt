@@ -6,10 +6,10 @@ use Rattle.isotp_receive.specs.Places.{AtPlaces}
 use Rattle.isotp_receive.specs.Fit.{last}
 use Rattle.isotp_receive.specs.OpenReception.{FitsOpen}
 
--- at `position` stands the last consecutive frame of the reception that is open there, and this is its message
+-- the frame at `position` is the last consecutive frame of the reception that is open there, and this is its message
 pub record Completes (limit : ℕ) (T : List Entry) (position : ℕ) (d : Dir) (message : List ℕ) : Type 0 where
   pub fit : FitsOpen limit T d position last
-  -- the message has the announced length, and its bytes stand at their places
+  -- the message has the announced length, and its bytes are at their places
   pub size : length message ≡ fit.is_open.begins.start.len
   pub places : AtPlaces T d fit.begun fit.is_open.begins.entry fit.is_open.begins.start.rx_dl message
 

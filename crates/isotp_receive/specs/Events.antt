@@ -8,11 +8,11 @@ use Rattle.isotp_pdu.specs.Layout as layout
 use Rattle.isotp_pdu.specs.declared.PduFault.{PduFault}
 use Rattle.isotp_receive.specs.declared.event.Reason.{Reason}
 use Rattle.isotp_receive.specs.declared.event.Reason.TheVariants as reason
-use Rattle.isotp_receive.specs.Standing.{stands}
+use Rattle.isotp_receive.specs.StandingReception.{stands}
 use Rattle.isotp_receive.specs.Trace.{Entry}
 use Rattle.isotp_receive.specs.Verdict.{VerdictValue, message, began, stored, flowed, dropped, EventValue, verdict}
 
--- what each of these frames does, where `past` stands before them
+-- what each of these frames does, where `past` came before them
 abbrev pub events_after : ℕ → List Entry → List Entry → List EventValue
 events_after limit past [] = []
 events_after limit past (e ∷ rest) = verdict limit past e ∷ events_after limit (past ++ e ∷ []) rest

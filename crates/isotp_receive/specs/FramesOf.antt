@@ -10,7 +10,7 @@ use Rattle.isotp_receive.specs.Trace.{Entry, At, SingleFrameAt, ConsecutiveFrame
 use Rattle.isotp_receive.specs.Delivers.{Completes}
 use Rattle.isotp_receive.specs.Recording.{Transfer, IsIn, IsGiven, last_or}
 
--- at `place` stands a consecutive frame of d, after the position `begun` and at `position` at the latest
+-- at `place` is a consecutive frame of d, after the position `begun` and at `position` at the latest
 pub record IsConsecutiveWithin (T : List Entry) (d : Dir) (begun position place : ℕ) : Type 0 where
   pub later : begun < place
   pub within : place ≤ position

@@ -4,14 +4,14 @@ use Rattle.isotp_receive.specs.declared.reception.Head.{Head}
 use Rattle.isotp_receive.specs.declared.reception.FrameFit.{FrameFit}
 use Rattle.isotp_receive.specs.declared.reception.FrameFit.TheVariants as as_fit
 use Rattle.isotp_receive.specs.Fit.{Fit, late, wrong_number, wrong_length, one_more, last}
-use Rattle.isotp_receive.specs.Standing.{Standing}
+use Rattle.isotp_receive.specs.StandingReception.{StandingReception}
 
 -- what a caller sees of the two
-abbrev pub stands_as : Head → List ℕ → Standing
+abbrev pub stands_as : Head → List ℕ → StandingReception
 stands_as head bytes = record { line = head.line; len = head.len; rx_dl = head.rx_dl; taken = head.taken; bytes = bytes; reference = head.reference }
 
 -- and where there may be no head
-abbrev pub standing : Option Head → List ℕ → Option Standing
+abbrev pub standing : Option Head → List ℕ → Option StandingReception
 standing None bytes = None
 standing (Some head) bytes = Some (stands_as head bytes)
 

@@ -4,7 +4,7 @@ use Rattle.can_log.specs.declared.frame.Dir.{Dir}
 use Rattle.isotp_receive.specs.Trace.{Entry, FirstFrame, first, role}
 use Rattle.isotp_receive.specs.Places.{bytes_in_first, bytes_before, IsConsecutiveCount, FitsAs}
 use Rattle.isotp_receive.specs.OnTime.{IsReference}
-use Rattle.isotp_receive.specs.Standing.{Standing, carried_after, fits_length, stands}
+use Rattle.isotp_receive.specs.StandingReception.{StandingReception, carried_after, fits_length, stands}
 use Rattle.isotp_receive.specs.OpenReception.{IsOpenAt, IsStandingAt}
 use Rattle.isotp_receive.specs.Delivers.{Delivers}
 use Rattle.isotp_receive.specs.Verdict.{EventValue, message, verdict}
@@ -13,20 +13,20 @@ use Rattle.isotp_receive.specs.VerdictTable.{HasVerdict}
 -- what stands after T is what is known of the reception that is open there, whatever follows
 abbrev pub WhatStandsIsOpen : Type 0
 WhatStandsIsOpen =
-    (limit : ℕ) (T rest : List Entry) (d : Dir) (standing : Standing) → stands limit d T ≡ Some standing
+    (limit : ℕ) (T rest : List Entry) (d : Dir) (standing : StandingReception) → stands limit d T ≡ Some standing
     → IsStandingAt limit (T ++ rest) d (length T) standing
 
 -- and what is open there stands
 abbrev pub WhatIsOpenStands : Type 0
 WhatIsOpenStands =
     (limit : ℕ) (T rest : List Entry) (d : Dir) (begun number : ℕ) (reception : IsOpenAt limit (T ++ rest) d begun number (length T))
-    → (standing : Standing) × (stands limit d T ≡ Some standing)
+    → (standing : StandingReception) × (stands limit d T ≡ Some standing)
     × (standing.line ≡ reception.begins.start.line) × (standing.len ≡ reception.begins.start.len) × (standing.taken ≡ number)
 
 -- What stands is fixed by its definition: a record of all that is known of the reception that is open there is what stands.
 abbrev pub WhatStandsIsFixed : Type 0
 WhatStandsIsFixed =
-    (limit : ℕ) (T rest : List Entry) (d : Dir) (standing : Standing) → IsStandingAt limit (T ++ rest) d (length T) standing
+    (limit : ℕ) (T rest : List Entry) (d : Dir) (standing : StandingReception) → IsStandingAt limit (T ++ rest) d (length T) standing
     → stands limit d T ≡ Some standing
 
 -- at most one reception of a direction is open at a position
@@ -42,10 +42,10 @@ OneReference =
     (T : List Entry) (d : Dir) (begun position reference other : ℕ)
     → IsReference T d begun position reference → IsReference T d begun position other → reference ≡ other
 
--- of a message that is under way fewer bytes are kept than it has, and it has at most the limit
+-- fewer bytes are kept of a message under way than it has, and it has at most the limit
 abbrev pub KeepsFewerBytes : Type 0
 KeepsFewerBytes =
-    (limit : ℕ) (T : List Entry) (d : Dir) (standing : Standing) → stands limit d T ≡ Some standing
+    (limit : ℕ) (T : List Entry) (d : Dir) (standing : StandingReception) → stands limit d T ≡ Some standing
     → (standing.len ≤ limit) × (length standing.bytes < standing.len)
 
 -- the verdict on a frame is a message exactly where the trace delivers that message with the frame

@@ -2,7 +2,7 @@ pub mod Trace
 pub mod Places
 pub mod OnTime
 pub mod Fit
-pub mod Standing
+pub mod StandingReception
 pub mod OpenReception
 pub mod Delivers
 pub mod Verdict

@@ -1,16 +1,16 @@
--- A device of proof: the receptions as the code keeps them, one step per frame. No public clause cites what stands here
--- but through the laws that join it to what stands after a trace.
+-- A device of proof: the receptions as the code keeps them, one step per frame. Public clauses cite what is here
+-- only through the laws that join it to what stands after a trace.
 use Rattle.std.specs.Prelude.{ℕ, ◌+◌, List, ◌++◌, nat_le, ◌==◌, if◌then◌else◌, Option, Some, None, Result}
 use Rattle.can_log.specs.declared.frame.Dir.{Dir}
 use Rattle.can_log.specs.declared.frame.Dir.TheVariants.{Tester, Unit}
 use Rattle.isotp_pdu.specs.Layout.{Layout}
 use Rattle.isotp_pdu.specs.declared.PduFault.{PduFault}
 use Rattle.isotp_receive.specs.Fit.{Fit, late, wrong_number, wrong_length, one_more, last}
-use Rattle.isotp_receive.specs.Trace.{FirstFrame, Role, single, first, consecutive, continue_or_wait, overflow, no_part, own_role, other_role}
-use Rattle.isotp_receive.specs.Standing.{Standing, fit_of, Receptions}
+use Rattle.isotp_receive.specs.Trace.{FirstFrame, FrameRole, single, first, consecutive, continue_or_wait, overflow, no_part, own_role, other_role}
+use Rattle.isotp_receive.specs.StandingReception.{StandingReception, fit_of, Receptions}
 
 -- a reception that stands, after a consecutive frame that fits so
-abbrev pub continued_by : Fit → Standing → ℕ → List ℕ → Option Standing
+abbrev pub continued_by : Fit → StandingReception → ℕ → List ℕ → Option StandingReception
 continued_by one_more standing micros bytes =
     Some (record standing { taken = standing.taken + 1; bytes = standing.bytes ++ bytes; reference = micros })
 continued_by last standing micros bytes = None
@@ -19,7 +19,7 @@ continued_by wrong_number standing micros bytes = None
 continued_by wrong_length standing micros bytes = None
 
 -- a reception that stands, after one more frame
-abbrev pub continued : Standing → ℕ → Role → Option Standing
+abbrev pub continued : StandingReception → ℕ → FrameRole → Option StandingReception
 continued standing micros (consecutive sequence_number can_dl bytes) =
     continued_by (fit_of standing micros sequence_number can_dl) standing micros bytes
 continued standing micros continue_or_wait = Some (record standing { reference = micros })
@@ -28,13 +28,13 @@ continued standing micros no_part = Some standing
 continued standing micros (single whole) = None
 continued standing micros (first start) = None
 
--- the same where nothing may stand: then nothing stands behind it
-abbrev pub continue : Option Standing → ℕ → Role → Option Standing
+-- the same where nothing may stand: then nothing stands after it
+abbrev pub continue : Option StandingReception → ℕ → FrameRole → Option StandingReception
 continue None micros role = None
 continue (Some standing) micros role = continued standing micros role
 
 -- a reception that begins
-abbrev pub fresh : FirstFrame → Standing
+abbrev pub fresh : FirstFrame → StandingReception
 fresh start = record {
   line = start.line;
   len = start.len;
@@ -45,7 +45,7 @@ fresh start = record {
 }
 
 -- what stands after one more frame
-abbrev pub after : ℕ → Option Standing → ℕ → Role → Option Standing
+abbrev pub after : ℕ → Option StandingReception → ℕ → FrameRole → Option StandingReception
 after limit standing micros (first start) = if nat_le start.len limit then Some (fresh start) else None
 after limit standing micros (single whole) = None
 after limit standing micros (consecutive sequence_number can_dl bytes) =

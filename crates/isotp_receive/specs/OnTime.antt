@@ -1,14 +1,14 @@
 -- The time-out of a reception, N_Cr (ISO 15765-2, section 9.8).
 use Rattle.std.specs.Prelude.{◌≡◌, ◌<◌, ◌≤◌, ℕ, ◌+◌, List, ⊤, ◌⊎◌}
 use Rattle.can_log.specs.declared.frame.Dir.{Dir}
-use Rattle.isotp_receive.specs.Trace.{Entry, At, Role, single, first, consecutive, continue_or_wait, overflow, no_part, role}
+use Rattle.isotp_receive.specs.Trace.{Entry, At, FrameRole, single, first, consecutive, continue_or_wait, overflow, no_part, role}
 
 -- N_Cr in microseconds: a consecutive frame more than this after its reference is late
 abbrev pub n_cr : ℕ
 n_cr = 1000000
 
--- a frame from which N_Cr runs anew: a consecutive frame of d, or a continue or wait frame of the other direction
-abbrev pub RestartsTimer : Role → Type 0
+-- a frame that restarts N_Cr: a consecutive frame of d, or a continue or wait frame of the other direction
+abbrev pub RestartsTimer : FrameRole → Type 0
 RestartsTimer (consecutive sequence_number can_dl bytes) = ⊤
 RestartsTimer continue_or_wait = ⊤
 RestartsTimer (single message) = ⊥

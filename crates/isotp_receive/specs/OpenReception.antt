@@ -1,16 +1,16 @@
 -- Receptions that are open (ISO 15765-2, sections 9.6 and 9.8), by looking back over the whole trace.
 use Rattle.std.specs.Prelude.{◌≡◌, ◌<◌, ◌≤◌, ℕ, ◌+◌, List, length, ⊤}
 use Rattle.can_log.specs.declared.frame.Dir.{Dir}
-use Rattle.isotp_receive.specs.Trace.{Entry, At, FirstFrame, FirstFrameAt, ConsecutiveFrameAt, Role, single, first, consecutive, continue_or_wait, overflow, no_part, role}
+use Rattle.isotp_receive.specs.Trace.{Entry, At, FirstFrame, FirstFrameAt, ConsecutiveFrameAt, FrameRole, single, first, consecutive, continue_or_wait, overflow, no_part, role}
 use Rattle.isotp_receive.specs.Places.{bytes_in_first, bytes_before, IsConsecutiveCount, FitsAs, consecutive_frames_in, between, AtPlaces}
 use Rattle.isotp_receive.specs.OnTime.{IsReference, IsOnTime}
 use Rattle.isotp_receive.specs.Fit.{Fit, FitsSo}
-use Rattle.isotp_receive.specs.Standing.{Standing}
+use Rattle.isotp_receive.specs.StandingReception.{StandingReception}
 
 -- A frame of this role leaves a reception open that the first frame `start` began, `in_first` bytes in it and `count`
--- consecutive frames to come, where `before` of them stand before the frame: no new start, no overflow before the first
+-- consecutive frames to come, where `before` of them came before the frame: no new start, no overflow before the first
 -- consecutive frame, and each consecutive frame fits as its number and is on time.
-abbrev pub LeavesOpen : FirstFrame → ℕ → ℕ → ℕ → Type 0 → Role → Type 0
+abbrev pub LeavesOpen : FirstFrame → ℕ → ℕ → ℕ → Type 0 → FrameRole → Type 0
 LeavesOpen start in_first count before OnTime (consecutive sequence_number can_dl bytes) =
     FitsAs in_first start.rx_dl start.len count (before + 1) sequence_number can_dl × OnTime
 LeavesOpen start in_first count before OnTime overflow = 0 < before
@@ -19,15 +19,15 @@ LeavesOpen start in_first count before OnTime (first other) = ⊥
 LeavesOpen start in_first count before OnTime continue_or_wait = ⊤
 LeavesOpen start in_first count before OnTime no_part = ⊤
 
--- At `position` the reception of d is open that began at `begun`, after `number` consecutive frames. The position may be
+-- The reception of d that began at `begun` is open at `position`, after `number` consecutive frames. The position may be
 -- one past the end of T.
 pub record IsOpenAt (limit : ℕ) (T : List Entry) (d : Dir) (begun number position : ℕ) : Type 0 where
   pub later : begun < position
   pub inside : position ≤ length T
-  -- at `begun` stands a first frame of d that announces at most the limit
+  -- at `begun` is a first frame of d that announces at most the limit
   pub begins : FirstFrameAt T d begun
   pub fits : begins.start.len ≤ limit
-  -- so many consecutive frames hold the rest
+  -- how many consecutive frames hold the rest
   pub count : ℕ
   pub least : IsConsecutiveCount (bytes_in_first begins.entry.frame.bytes) begins.start.rx_dl begins.start.len count
   -- each frame strictly between leaves the reception open
@@ -49,7 +49,7 @@ pub record FitsOpen (limit : ℕ) (T : List Entry) (d : Dir) (position : ℕ) (f
 
 -- What stands at `position` for d: a reception is open there, and this is what is known of it. Its bytes are those that
 -- have come.
-pub record IsStandingAt (limit : ℕ) (T : List Entry) (d : Dir) (position : ℕ) (standing : Standing) : Type 0 where
+pub record IsStandingAt (limit : ℕ) (T : List Entry) (d : Dir) (position : ℕ) (standing : StandingReception) : Type 0 where
   pub begun : ℕ
   pub number : ℕ
   pub is_open : IsOpenAt limit T d begun number position
@@ -59,7 +59,7 @@ pub record IsStandingAt (limit : ℕ) (T : List Entry) (d : Dir) (position : ℕ
   pub taken : standing.taken ≡ number
   pub size : length standing.bytes ≡ bytes_before (bytes_in_first is_open.begins.entry.frame.bytes) standing.rx_dl number
   pub places : AtPlaces T d begun is_open.begins.entry standing.rx_dl standing.bytes
-  -- at `latest` stands the reference frame of what comes next
+  -- the reference frame of what comes next is at `latest`
   pub latest : ℕ
   pub last : Entry
   pub refers : IsReference T d begun position latest

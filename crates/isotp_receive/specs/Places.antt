@@ -1,14 +1,14 @@
--- Where the bytes of a message stand in its frames (ISO 15765-2, section 9.6).
+-- Where the bytes of a message are in its frames (ISO 15765-2, section 9.6).
 use Rattle.std.specs.Prelude.{◌≡◌, ◌<◌, ◌≤◌, ℕ, ◌+◌, ◌-◌, ◌*◌, ◌%◌, List, [], ◌∷◌, length, slice_index, slice_range, ◌==◌, if◌then◌else◌}
 use Rattle.can_log.specs.declared.frame.Dir.{Dir}
-use Rattle.isotp_receive.specs.Trace.{Entry, At, Role, single, first, consecutive, continue_or_wait, overflow, no_part, role}
+use Rattle.isotp_receive.specs.Trace.{Entry, At, FrameRole, single, first, consecutive, continue_or_wait, overflow, no_part, role}
 
 -- how many bytes of its message a first frame of these bytes holds, with 12 bits of length or with the escape
 -- (section 9.6.3)
 abbrev pub bytes_in_first : List ℕ → ℕ
 bytes_in_first bytes = if (slice_index bytes 0 % 16) * 256 + slice_index bytes 1 == 0 then length bytes - 6 else length bytes - 2
 
--- how many bytes of the message stand before the next consecutive frame: in the first frame, and RX_DL - 1 in each of
+-- how many bytes of the message come before the next consecutive frame: in the first frame, and RX_DL - 1 in each of
 -- this number of others (section 9.6.4)
 abbrev pub bytes_before : ℕ → ℕ → ℕ → ℕ
 bytes_before in_first rx_dl number = in_first + number * (rx_dl - 1)
@@ -30,7 +30,7 @@ pub record FitsAs (in_first rx_dl len count number sequence_number can_dl : ℕ)
   pub last_high : number ≡ count → can_dl ≤ rx_dl
 
 -- 1 for a consecutive frame of the direction, 0 for any other
-abbrev pub consecutive_by : Role → ℕ
+abbrev pub consecutive_by : FrameRole → ℕ
 consecutive_by (consecutive sequence_number can_dl bytes) = 1
 consecutive_by (single message) = 0
 consecutive_by (first start) = 0
@@ -47,16 +47,16 @@ consecutive_frames_in d (e ∷ rest) = consecutive_by (role d e) + consecutive_f
 abbrev pub between : List Entry → ℕ → ℕ → List Entry
 between T begun position = slice_range T (begun + 1) position
 
--- at `position` stands the entry, consecutive frame number `number` of d after the position `begun`
+-- the entry is at `position`, and is consecutive frame number `number` of d after the position `begun`
 pub record IsConsecutive (T : List Entry) (d : Dir) (begun number position : ℕ) (entry : Entry) : Type 0 where
   pub later : begun < position
   pub stands : At T position entry
   pub kind : consecutive_by (role d entry) ≡ 1
   pub counted : number ≡ consecutive_frames_in d (between T begun position) + 1
 
--- Each byte of the message stands at its place, where at `begun` stands its first frame, of CAN_DL `rx_dl`: the first
--- of the bytes in that frame, behind the length, the others in the consecutive frames of d after it, `rx_dl - 1` in each,
--- behind the sequence number.
+-- Each byte of the message is at its place, where its first frame, of CAN_DL `rx_dl`, is at `begun`: the first of the
+-- bytes in that frame, after the length, the others in the consecutive frames of d after it, `rx_dl - 1` in each, after
+-- the sequence number.
 pub record AtPlaces (T : List Entry) (d : Dir) (begun : ℕ) (entry : Entry) (rx_dl : ℕ) (message : List ℕ) : Type 0 where
   pub in_first : (place : ℕ) → place < length message → place < bytes_in_first entry.frame.bytes
       → slice_index message place ≡ slice_index entry.frame.bytes (rx_dl - bytes_in_first entry.frame.bytes + place)

@@ -1,4 +1,4 @@
--- A recording of a list of messages: which positions of a trace each message is given, and what stands there
+-- A recording of a list of messages: which positions of a trace each message is given, and what is there
 -- (ISO 15765-2, sections 9.6 and 9.8). Nothing is received here: there is no state, and the trace is looked at as a whole.
 use Rattle.std.specs.Prelude.{◌≡◌, ◌<◌, ◌≤◌, ℕ, suc, ◌+◌, ◌-◌, List, [], ◌∷◌, length, map, slice_index, nat_lt, Result, Ok, Err, ⊤, ◌⊎◌, if◌then◌else◌}
 use Rattle.std.specs.List.{AllByRecursion}
@@ -13,7 +13,7 @@ use Rattle.isotp_receive.specs.Trace.{Entry, At, FirstFrame, SingleFrameAt, Firs
 use Rattle.isotp_receive.specs.Places.{bytes_in_first, bytes_before, IsConsecutiveCount, FitsAs}
 use Rattle.isotp_receive.specs.OnTime.{IsOnTime}
 
--- At the position stands consecutive frame number `number` of `count` of the message, whose first frame stands at `begun`
+-- At the position is consecutive frame number `number` of `count` of the message, whose first frame is at `begun`
 -- and holds `in_first` bytes: it fits as that number, is on time, and holds the bytes of the message that come next, as far
 -- as the message goes; what follows them is padding of any value (section 9.6.4).
 pub record IsConsecutiveFrame (T : List Entry) (d : Dir) (message : List ℕ) (begun : ℕ) (start : FirstFrame)
@@ -29,8 +29,8 @@ abbrev pub EachNumbered : (ℕ → ℕ → Type 0) → ℕ → List ℕ → Type
 EachNumbered Holds number [] = ⊤
 EachNumbered Holds number (position ∷ positions) = Holds number position × EachNumbered Holds (number + 1) positions
 
--- At `begun` stands a first frame that announces the length of the message, and at the further positions stand the
--- consecutive frames, as many as are wanted, with the bytes of the message.
+-- At `begun` is a first frame that announces the length of the message, and at the further positions are the
+-- consecutive frames, as many as are needed, with the bytes of the message.
 pub record IsSegmented (T : List Entry) (d : Dir) (message : List ℕ) (begun : ℕ) (positions : List ℕ) : Type 0 where
   pub begins : FirstFrameAt T d begun
   pub announces : begins.start.len ≡ length message
@@ -74,7 +74,7 @@ abbrev pub last_or : ℕ → List ℕ → ℕ
 last_or position [] = position
 last_or position (next ∷ positions) = last_or next positions
 
--- all positions of the one come before all of the other
+-- all positions of the first come before all of the second
 abbrev pub AllBefore : List ℕ → List ℕ → Type 0
 AllBefore earlier later = (before after : ℕ) → IsIn before earlier → IsIn after later → before < after
 

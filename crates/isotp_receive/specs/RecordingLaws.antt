@@ -11,7 +11,7 @@ use Rattle.isotp_receive.specs.CleanTrace.{IsClean}
 abbrev pub RecordingDelivers : Type 0
 RecordingDelivers = (limit : ℕ) (T : List Entry) (M : List Message) → IsRecording limit T M → messages limit T ≡ M
 
--- it does so behind any trace, whatever stands there
+-- it does so after any trace, whatever stands there
 abbrev pub RecordingDeliversBehind : Type 0
 RecordingDeliversBehind =
     (limit : ℕ) (before T : List Entry) (M : List Message) → IsRecording limit T M

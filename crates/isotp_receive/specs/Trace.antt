@@ -16,7 +16,7 @@ pub record Entry : Type 0 where
   pub dir : Dir
   pub frame : FrameValue
 
--- at the position of T stands the frame e
+-- the frame at the position of T is e
 abbrev pub At : List Entry → ℕ → Entry → Type 0
 At T position e = slice_get T position ≡ Some e
 
@@ -29,19 +29,19 @@ pub record FirstFrame : Type 0 where
   pub bytes : List ℕ
 
 -- what a frame is to the reception of a direction
-pub data Role : Type 0 where
+pub data FrameRole : Type 0 where
   -- a single frame of the direction: its message
-  single : List ℕ → Role
+  single : List ℕ → FrameRole
   -- a first frame of it
-  first : FirstFrame → Role
+  first : FirstFrame → FrameRole
   -- a consecutive frame of it: its sequence number, its CAN_DL, its bytes
-  consecutive : ℕ → ℕ → List ℕ → Role
+  consecutive : ℕ → ℕ → List ℕ → FrameRole
   -- a flow control frame of the other direction that says continue or wait
-  continue_or_wait : Role
+  continue_or_wait : FrameRole
   -- a flow control frame of the other direction that says overflow
-  overflow : Role
+  overflow : FrameRole
   -- any other frame
-  no_part : Role
+  no_part : FrameRole
 
 -- the two are one direction
 abbrev pub same_direction : Dir → Dir → Bool
@@ -51,7 +51,7 @@ same_direction Tester Unit = false
 same_direction Unit Tester = false
 
 -- to the direction that sent it (ISO 15765-2, section 9.6)
-abbrev pub own_role : ℕ → ℕ → Result Layout PduFault → Role
+abbrev pub own_role : ℕ → ℕ → Result Layout PduFault → FrameRole
 own_role line micros (Ok (layout.single message)) = single message
 own_role line micros (Ok (layout.first len rx_dl bytes)) = first (record { line = line; micros = micros; len = len; rx_dl = rx_dl; bytes = bytes })
 own_role line micros (Ok (layout.consecutive sequence_number can_dl bytes)) = consecutive sequence_number can_dl bytes
@@ -59,7 +59,7 @@ own_role line micros (Ok (layout.flow_control status)) = no_part
 own_role line micros (Err fault) = no_part
 
 -- to the direction that it was sent to: flow control is all that matters
-abbrev pub other_role : Result Layout PduFault → Role
+abbrev pub other_role : Result Layout PduFault → FrameRole
 other_role (Ok (layout.flow_control Continue)) = continue_or_wait
 other_role (Ok (layout.flow_control Wait)) = continue_or_wait
 other_role (Ok (layout.flow_control Overflow)) = overflow
@@ -69,7 +69,7 @@ other_role (Ok (layout.consecutive sequence_number can_dl bytes)) = no_part
 other_role (Err fault) = no_part
 
 -- what the frame e is to the reception of d
-unfoldable pub role : Dir → Entry → Role
+unfoldable pub role : Dir → Entry → FrameRole
 role d e = if same_direction d e.dir then own_role e.line e.micros (layout_of e.frame) else other_role (layout_of e.frame)
 
 -- at the position of T stands a single frame of d that holds the message

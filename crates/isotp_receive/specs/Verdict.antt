@@ -16,7 +16,7 @@ use Rattle.isotp_receive.specs.declared.event.Reason.{Reason}
 use Rattle.isotp_receive.specs.declared.event.Reason.TheVariants as reason
 use Rattle.isotp_receive.specs.Trace.{Entry}
 use Rattle.isotp_receive.specs.Fit.{Fit, late, wrong_number, wrong_length, one_more, last}
-use Rattle.isotp_receive.specs.Standing.{Standing, expected, fit_of, stands}
+use Rattle.isotp_receive.specs.StandingReception.{StandingReception, expected, fit_of, stands}
 
 -- what becomes of a frame: it completes a message, begins a reception, is stored, is flow control, or is dropped
 pub data VerdictValue : Type 0 where
@@ -32,7 +32,7 @@ pub record EventValue : Type 0 where
   pub told : VerdictValue
 
 -- what ends for this cause, where this stands for d, if anything does
-abbrev pub ended_as : Cause → Dir → Option Standing → Option Ended
+abbrev pub ended_as : Cause → Dir → Option StandingReception → Option Ended
 ended_as cause d None = None
 ended_as cause d (Some standing) = Some (record { dir = d; begun_line = standing.line; len = standing.len; cause = cause })
 
@@ -41,7 +41,7 @@ abbrev pub refused : Option Ended → Reason → EventValue
 refused ended reason = record { ended = ended; told = dropped reason }
 
 -- a consecutive frame that fits so: it is refused and ends what stands, or is stored, or completes the message
-abbrev pub on_fit : Dir → Standing → Fit → ℕ → List ℕ → EventValue
+abbrev pub on_fit : Dir → StandingReception → Fit → ℕ → List ℕ → EventValue
 on_fit d standing late sequence_number bytes = refused (ended_as cause.Late d (Some standing)) reason.NextLate
 on_fit d standing wrong_number sequence_number bytes =
     refused (ended_as cause.Sequence d (Some standing)) (reason.NextSequence (expected standing) sequence_number)
@@ -50,31 +50,31 @@ on_fit d standing one_more sequence_number bytes = record { ended = None; told =
 on_fit d standing last sequence_number bytes = record { ended = None; told = message (take standing.len (standing.bytes ++ bytes)) }
 
 -- a consecutive frame, by how it fits what stands
-abbrev pub on_consecutive : Dir → Option Standing → ℕ → ℕ → ℕ → List ℕ → EventValue
+abbrev pub on_consecutive : Dir → Option StandingReception → ℕ → ℕ → ℕ → List ℕ → EventValue
 on_consecutive d None micros sequence_number can_dl bytes = refused None reason.NextUnexpected
 on_consecutive d (Some standing) micros sequence_number can_dl bytes =
     on_fit d standing (fit_of standing micros sequence_number can_dl) sequence_number bytes
 
 -- a continue or wait frame is expected where this stands for the other direction
-abbrev pub on_continue_or_wait : Option Standing → EventValue
+abbrev pub on_continue_or_wait : Option StandingReception → EventValue
 on_continue_or_wait None = refused None reason.FlowUnexpected
 on_continue_or_wait (Some standing) = record { ended = None; told = flowed }
 
 -- an overflow frame, where that took no consecutive frame yet, and then ends it
-abbrev pub on_overflow : Dir → Option Standing → EventValue
+abbrev pub on_overflow : Dir → Option StandingReception → EventValue
 on_overflow other None = refused None reason.FlowUnexpected
 on_overflow other (Some standing) =
     if standing.taken == 0 then record { ended = ended_as cause.Overflow other (Some standing); told = flowed }
     else refused None reason.FlowUnexpected
 
 -- a flow control frame by its status
-abbrev pub on_flow_control : Dir → Option Standing → Status → EventValue
+abbrev pub on_flow_control : Dir → Option StandingReception → Status → EventValue
 on_flow_control other standing Continue = on_continue_or_wait standing
 on_flow_control other standing Wait = on_continue_or_wait standing
 on_flow_control other standing Overflow = on_overflow other standing
 
 -- a frame of direction d with this layout or fault, at this time, where own stands for d and others for the other direction
-abbrev pub on_layout : ℕ → Dir → Option Standing → Option Standing → ℕ → Result Layout PduFault → EventValue
+abbrev pub on_layout : ℕ → Dir → Option StandingReception → Option StandingReception → ℕ → Result Layout PduFault → EventValue
 on_layout limit d own others micros (Err fault) = refused None (reason.Pdu fault)
 on_layout limit d own others micros (Ok (layout.single whole)) = record { ended = ended_as cause.NewStart d own; told = message whole }
 on_layout limit d own others micros (Ok (layout.first len rx_dl bytes)) =

@@ -18,7 +18,7 @@ use Rattle.isotp_receive.specs.OpenReception.{IsOpenAt, FitsOpen}
 use Rattle.isotp_receive.specs.Delivers.{Completes}
 use Rattle.isotp_receive.specs.Verdict.{EventValue, message, began, stored, flowed, refused}
 
--- after T the frame e comes, and the reception of d that is open then began at `begun` and took so many consecutive frames
+-- after T the frame e comes, and the reception of d open then began at `begun` and took `number` consecutive frames
 abbrev pub IsOpenBefore : ℕ → List Entry → Entry → Dir → ℕ → ℕ → Type 0
 IsOpenBefore limit T e d begun number = IsOpenAt limit (T ++ e ∷ []) d begun number (length T)
 

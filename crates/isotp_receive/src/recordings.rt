@@ -1,13 +1,13 @@
 //! Laws of recordings, for the proofs of callers: functions that do nothing.
 //!
-//! A *recording* of a list of messages is a trace in which each message stands as one single frame,
-//! or as a first frame and its consecutive frames, and whatever else stands there carries nothing. It
-//! says nothing of how the frames are paced within the time-out, how long they are, or what they are
+//! A *recording* of a list of messages is a trace in which each message is one single frame, or a
+//! first frame and its consecutive frames, and whatever else is there carries nothing. It says
+//! nothing of how the frames are paced within the time-out, how long they are, or what they are
 //! padded with: so these can't change what is read.
 
 ghost use Rattle.isotp_receive.specs.RecordingLaws.{RecordingDelivers, RecordingDeliversBehind, RecordingDeliversAtLastPosition, RecordingDeliversByFrames, CleanTraceIsARecording};
 
-/// A recording delivers exactly its messages, in order, each at the last of its frames; behind any
+/// A recording delivers exactly its messages, in order, each at the last of its frames; after any
 /// trace too, even where a reception stands there. Each message is given the positions of the frames
 /// that make it, and each single, first and consecutive frame belongs to exactly one message.
 pub fn recording_delivers()

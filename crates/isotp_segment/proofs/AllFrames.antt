@@ -1,4 +1,4 @@
--- The frames of several messages, one message after another: those of each message stand in the trace where it begins.
+-- The frames of several messages, one message after another: those of each message are in the trace where it begins.
 use Rattle.std.proofs.Common.{◌≡◌, ℕ, ◌+◌, List, [], ◌∷◌, ◌++◌, length, refl, sym, ◌∙◌, ap, arith, length-append, append_assoc}
 use Rattle.std.specs.List.{AllByRecursion}
 use Rattle.std.proofs.lemmas.List.{append-nil}

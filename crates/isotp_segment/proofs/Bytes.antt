@@ -8,7 +8,7 @@ use Rattle.std.proofs.lemmas.List.{get_or_append_left, get_or_default, get_or_pa
 use Rattle.std.proofs.lemmas.List.FromFn.{length-map-range_with_len, get_or-map-range_with_len}
 use Rattle.isotp_segment.specs.CanonicalFrames.{filled, padding}
 
--- byte i of a text, or padding behind it
+-- byte i of a text, or padding after its end
 abbrev pub byte_at : List ℕ → ℕ → ℕ
 byte_at bytes i = slice_index_or bytes i padding
 
@@ -43,7 +43,7 @@ pub filled_by_place : (control bytes : List ℕ) → filled control bytes ≡ pl
 unfolding filled
 filled_by_place control bytes = ap (take 8) (sym (append_assoc control bytes (replicate 8 padding))) ∙ take-padded 8 (control ++ bytes)
 
--- a byte of the message that has room in the frame stands behind the control information
+-- a byte of the message that has room in the frame comes after the control information
 pub filled-holds : (control bytes : List ℕ) (place i : ℕ) → place < length bytes → i ≡ length control + place → i < 8
     → slice_index bytes place ≡ slice_index (filled control bytes) i
 filled-holds control bytes place i inside is room =

@@ -24,7 +24,7 @@ use Rattle.isotp_segment.proofs.TimedFrames.{entry, StandFrom}
 use Rattle.isotp_segment.proofs.MessageFrames.{at-single, at-first, at-continue, at-consecutive, single-role, first-role, consecutive-role, continue-role}
 use Rattle.isotp_segment.proofs.OpenReceptions.{same-entry}
 
--- each byte of the message that a first frame holds stands in it behind the length
+-- each byte of the message that a first frame holds comes after the length in it
 first-holds : (message : List ℕ) (place i : ℕ) → 8 ≤ length message → place < room_in_first (length message) → i ≡ 8 - room_in_first (length message) + place
     → slice_index message place ≡ slice_index (filled (first_control (length message)) message) i
 first-holds message place i low inside is = elim (cases_Bool (nat_le (length message) 4095)) [

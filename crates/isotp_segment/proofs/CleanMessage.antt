@@ -24,7 +24,7 @@ other-of-other : (d : Dir) → other_direction (other_direction d) ≡ d
 other-of-other Tester = refl
 other-of-other Unit = refl
 
--- a frame of the message, behind `past`
+-- a frame of the message, after `past`
 module _ (identifier : Dir → Id) (line micros limit : ℕ) (bits : limit < 2 ^ 32) (past rest : List Entry) (e : Entry)
     (there : At (past ++ rest) (length past) e) (d : Dir) (message : List ℕ) (begun : ℕ)
     (sent : IsSent identifier line micros limit (past ++ rest) d message begun) where
@@ -34,7 +34,7 @@ module _ (identifier : Dir → Id) (line micros limit : ℕ) (bits : limit < 2 ^
   abbrev here : ℕ
   here = length past
 
-  -- what is expected of the canonical frame that stands here is expected of this one
+  -- what is expected of the canonical frame that is here is expected of this one
   clean-as : (frame : Dir × List ℕ) (p : ℕ) → At T p (entry identifier line micros p frame) → p ≡ here
       → IsCleanEvent (verdict limit past (entry identifier line micros here frame)) → IsCleanEvent (verdict limit past e)
   clean-as frame p at is clean =
@@ -56,7 +56,7 @@ module _ (identifier : Dir → Id) (line micros limit : ℕ) (bits : limit < 2 ^
       clean-as _ begun (at-first identifier line micros T d message begun sent.stand long (omega arith)) is
       (first-clean limit past rest _ (closed-here is) _ _ _ (layout-first (identifier d) message (omega arith) (omega (arith, sent.fits))) sent.fits)
 
-  -- behind the first one
+  -- after the first one
   module _ (long : 7 < length message) (its : IsCompleted limit T d message begun) (later : begun < here) (below : here < begun + total_count (length message)) where
     abbrev completed : Completes limit T its.last d message
     completed = its.completed

@@ -11,21 +11,21 @@ use Rattle.isotp_receive.specs.Trace.{Entry, At}
 use Rattle.isotp_receive.specs.Places.{bytes_in_first, bytes_before, FitsAs}
 use Rattle.isotp_receive.specs.OnTime.{n_cr, IsReference, IsOnTime}
 use Rattle.isotp_receive.specs.Fit.{one_more, last}
-use Rattle.isotp_receive.specs.Standing.{Standing, fits_length, wants_more, stands}
+use Rattle.isotp_receive.specs.StandingReception.{StandingReception, fits_length, wants_more, stands}
 use Rattle.isotp_receive.specs.OpenReception.{IsOpenAt}
 use Rattle.isotp_receive.specs.Verdict.{on_fit, verdict}
 use Rattle.isotp_receive.specs.CleanTrace.{IsCleanEvent}
 use Rattle.isotp_receive.proofs.Promises.{what_stands_is_open, what_is_open_stands, one_is_open, places_agree_on_fit, one_reference}
 use Rattle.isotp_segment.proofs.OpenReceptions.{IsClosedAt, same-entry}
 
--- Where a reception is open behind T, whatever follows.
+-- Where a reception is open after T, whatever follows.
 module _ (limit : ℕ) (T rest : List Entry) (d : Dir) (begun number : ℕ)
     (reception : IsOpenAt limit (T ++ rest) d begun number (length T)) where
   abbrev in_first : ℕ
   in_first = bytes_in_first reception.begins.entry.frame.bytes
 
   -- what is known of it
-  record IsKnown (standing : Standing) : Type 0 where
+  record IsKnown (standing : StandingReception) : Type 0 where
     standing_there : stands limit d T ≡ Some standing
     len : standing.len ≡ reception.begins.start.len
     rx_dl : standing.rx_dl ≡ reception.begins.start.rx_dl
@@ -33,7 +33,7 @@ module _ (limit : ℕ) (T rest : List Entry) (d : Dir) (begun number : ℕ)
     size : length standing.bytes ≡ bytes_before in_first reception.begins.start.rx_dl number
     on_time : (e : Entry) → IsOnTime (T ++ rest) d begun (length T) e → e.micros ≤ standing.reference + n_cr
 
-  known : (standing : Standing) × IsKnown standing
+  known : (standing : StandingReception) × IsKnown standing
   known =
       let found = what_is_open_stands limit T rest d begun number reception in
       let all = what_stands_is_open limit T rest d found.0 found.1 in
@@ -94,7 +94,7 @@ module _ (limit : ℕ) (T rest : List Entry) (d : Dir) (begun number : ℕ)
 -- where none of the direction is open, none stands
 pub closed-stands : (limit : ℕ) (T rest : List Entry) (d : Dir) → IsClosedAt limit (T ++ rest) d (length T) → stands limit d T ≡ None
 closed-stands limit T rest d closed = by_case (stands limit d T) refl where
-  by_case : (known : Option Standing) → stands limit d T ≡ known → stands limit d T ≡ None
+  by_case : (known : Option StandingReception) → stands limit d T ≡ known → stands limit d T ≡ None
   by_case None is = is
   by_case (Some standing) is =
       absurd (let there = what_stands_is_open limit T rest d standing is in closed there.begun there.number there.is_open)

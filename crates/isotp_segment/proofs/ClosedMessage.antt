@@ -1,4 +1,4 @@
--- Behind the canonical frames of a message no reception is open.
+-- After the canonical frames of a message no reception is open.
 use Rattle.std.proofs.Common.{◌≡◌, ℕ, ◌+◌, ◌-◌, ◌<◌, ◌≤◌, List, length, sym, ◌∙◌, ap, arith, inl, inr, subst}
 use Rattle.std.proofs.lemmas.Bool.{cases_lt}
 use Rattle.can_log.specs.Dir.{other_direction}

@@ -1,4 +1,4 @@
--- How many consecutive frames stand between two positions, and the least count of them that holds a message.
+-- How many consecutive frames there are between two positions, and the least count of them that holds a message.
 use Rattle.std.proofs.Common.{◌≡◌, ℕ, zero, suc, ◌+◌, ◌-◌, ◌<◌, ◌≤◌, List, [], ◌∷◌, take, drop, Some, sym, ◌∙◌, arith, inl, inr}
 use Rattle.std.specs.Prelude.{slice_get}
 use Rattle.std.proofs.lemmas.Bool.{cases_lt}

@@ -1,4 +1,4 @@
--- The frames of one message, behind any trace, deliver it, and before the last of them nothing.
+-- The frames of one message, after any trace, deliver it, and before the last of them nothing.
 use Rattle.std.proofs.Common.{◌≡◌, ℕ, ◌<◌, ◌≤◌, ◌^◌, List, [], ◌∷◌, ◌++◌, length, take, sym, ◌∙◌, ap, arith}
 use Rattle.std.specs.List.{AllByRecursion}
 use Rattle.std.proofs.lemmas.List.{append-nil}

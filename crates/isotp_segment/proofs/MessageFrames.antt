@@ -1,4 +1,4 @@
--- What stands at the positions of a message's canonical frames, where these begin at a position, and what each is to the
+-- What is at the positions of a message's canonical frames, where these begin at a position, and what each is to the
 -- reception of its direction.
 use Rattle.std.proofs.Common.{◌≡◌, ℕ, ◌+◌, ◌%◌, ◌*◌, ◌<◌, ◌≤◌, ◌^◌, List, [], length, take, drop, arith, subst}
 use Rattle.can_log.specs.Dir.{other_direction}
@@ -10,7 +10,7 @@ use Rattle.isotp_segment.proofs.Frames.{frame-single, frame-first, frame-continu
 use Rattle.isotp_segment.proofs.Layouts.{layout-single, layout-first, layout-consecutive, layout-continue}
 use Rattle.isotp_segment.proofs.TimedFrames.{entry, StandFrom, role-own, role-other}
 
--- where they stand
+-- where they are
 module _ (identifier : Dir → Id) (line micros : ℕ) (T : List Entry) (d : Dir) (message : List ℕ) (begun : ℕ)
     (stand : StandFrom identifier line micros T d message begun) where
   at-number : (number : ℕ) (frame : Dir × List ℕ) → number < total_count (length message) → canonical_frame d message number ≡ frame

@@ -15,7 +15,7 @@ use Rattle.isotp_receive.specs.Delivers.{Completes}
 use Rattle.isotp_receive.proofs.Promises.{first_frame_is_read}
 use Rattle.isotp_segment.proofs.ConsecutiveCounts.{counted-more, counted-between, one-count}
 
--- one entry stands at a position
+-- there is one entry at a position
 pub same-entry : (T : List Entry) (position : ℕ) (e other : Entry) → At T position e → At T position other → e ≡ other
 same-entry T position e other at there = cc
 
@@ -89,7 +89,7 @@ module _ (limit : ℕ) (T : List Entry) (d : Dir) (position : ℕ) (message : Li
         (next-at-end e sequence_number can_dl bytes (subst (λ p. At T p e) (sym last) at) is))
   ]
 
-  -- behind that frame the reception is open no more
+  -- after that frame the reception is no longer open
   pub closed-behind : (number later : ℕ) → position < later → IsOpenAt limit T d completed.fit.begun number later → ⊥
   closed-behind number later behind reception =
       let its = completed.fit.is_open in

@@ -24,7 +24,7 @@ filled-padded control bytes fits short =
     ∙ ap (λ l. control ++ l) (take_over bytes (replicate 8 padding) (8 - length control) short)
     ∙ take_over control (bytes ++ replicate 8 padding) 8 fits
 
--- bytes that are written into a frame of padding, behind its control information
+-- bytes that are written into a frame of padding, after its control information
 put_mid-behind : (control bytes : List ℕ) (size : ℕ)
     → put_mid (length control) size (control ++ drop (length control) (replicate 8 padding)) bytes
     ≡ control ++ (bytes ++ replicate (8 - length control - size) padding)

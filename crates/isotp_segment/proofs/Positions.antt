@@ -8,7 +8,7 @@ use Rattle.isotp_segment.specs.CanonicalFrames.{consecutive_count, total_count}
 use Rattle.isotp_segment.proofs.Ranges.{range-bounds, last_or-range}
 use Rattle.isotp_segment.proofs.Counts.{room_in_first-few}
 
--- one, or that of the first frame and, behind the continue frame, those of the consecutive frames
+-- one, or that of the first frame and, after the continue frame, those of the consecutive frames
 abbrev pub positions_of : List ℕ → ℕ → List ℕ
 positions_of message begun =
     cond (nat_le (length message) 7) (begun ∷ []) (begun ∷ range_with_len (begun + 2) (consecutive_count (length message)))

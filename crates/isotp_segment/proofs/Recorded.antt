@@ -20,7 +20,7 @@ use Rattle.isotp_segment.proofs.AllFrames.{AreLastFrom, all-of-them, those-behin
 abbrev pub transfer_from : ℕ → Message → Transfer
 transfer_from begun x = record { dir = x.0; message = x.1; positions = positions_of x.1 begun }
 
--- the messages, each behind the one before
+-- the messages, each after the one before
 abbrev pub transfers_from : ℕ → List Message → List Transfer
 transfers_from begun [] = []
 transfers_from begun (x ∷ M) = transfer_from begun x ∷ transfers_from (begun + total_count (length x.1)) M

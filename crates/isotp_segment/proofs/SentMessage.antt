@@ -1,4 +1,4 @@
--- A message whose canonical frames stand in a trace and are given to it, where nothing is open when they begin.
+-- A message whose canonical frames are in a trace and are given to it, where nothing is open when they begin.
 use Rattle.std.proofs.Common.{◌≡◌, ℕ, suc, ◌+◌, ◌-◌, ◌<◌, ◌≤◌, false, List, ◌∷◌, length, nat_le, sym, ◌∙◌, ap, arith, subst}
 use Rattle.std.specs.List.{range_with_len}
 use Rattle.std.proofs.lemmas.Bool.{lt-leb}
@@ -21,7 +21,7 @@ pub record IsSent (identifier : Dir → Id) (line micros limit : ℕ) (T : List 
   pub given : AreFramesOf limit T d message (positions_of message begun)
   pub closed : (heard : Dir) → IsClosedAt limit T heard begun
 
--- Of several frames the last one completes the reception that the first one began.
+-- The last of several frames completes the reception that the first one began.
 pub record IsCompleted (limit : ℕ) (T : List Entry) (d : Dir) (message : List ℕ) (begun : ℕ) : Type 0 where
   pub last : ℕ
   pub ends : last + 1 ≡ begun + total_count (length message)

@@ -1,4 +1,4 @@
--- Canonical frames as the entries of a trace: which stands at which position, and what it is to the receptions.
+-- Canonical frames as the entries of a trace: which is at which position, and what it is to the receptions.
 use Rattle.std.proofs.Common.{◌≡◌, ℕ, zero, suc, ◌+◌, ◌*◌, ◌<◌, ◌≤◌, false, List, [], ◌∷◌, ◌++◌, length, take, Some, Result, refl, ◌∙◌, ap, arith}
 use Rattle.std.specs.Prelude.{slice_get}
 use Rattle.std.proofs.lemmas.Option.{slice_get-get_or}
@@ -87,13 +87,13 @@ module _ (identifier : Dir → Id) where
       ap (λ rest. record { line = line; micros = micros; dir = frame.0; frame = classic (identifier frame.0) frame.1 } ∷ rest)
       (take-timed (line + 1) (micros + 1000) n frames)
 
-  -- the frames of the message stand in the trace from position `begun` on
+  -- the frames of the message are in the trace from position `begun` on
   abbrev pub StandFrom : ℕ → ℕ → List Entry → Dir → List ℕ → ℕ → Type 0
   StandFrom line micros T d message begun =
       (number : ℕ) → number < total_count (length message)
       → At T (begun + number) (entry identifier line micros (begun + number) (canonical_frame d message number))
 
-  -- they do where they come behind the frames `before`
+  -- they do where they come after the frames `before`
   pub frames-stand : (line micros limit : ℕ) (all before rest : List (Dir × List ℕ)) (d : Dir) (message : List ℕ) (begun : ℕ)
       → all ≡ before ++ (canonical_frames limit d message ++ rest) → begun ≡ length before
       → 1 ≤ length message → length message ≤ limit

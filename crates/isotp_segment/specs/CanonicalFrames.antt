@@ -8,7 +8,7 @@ use Rattle.isotp_pdu.specs.declared.Status.TheVariants.{Continue}
 use Rattle.isotp_pdu.specs.Layout.{first_byte, status_number}
 use Rattle.isotp_receive.specs.Places.{bytes_before}
 
--- the byte that fills a frame up
+-- the byte that pads a frame
 abbrev pub padding : ℕ
 padding = 0xCC
 
@@ -20,7 +20,7 @@ filled control bytes = take 8 (control ++ (bytes ++ replicate 8 padding))
 abbrev pub single_control : ℕ → List ℕ
 single_control len = first_byte 0 len ∷ []
 
--- a first frame tells it in 12 bits, a longer one in 32 bits behind 12 bits that are 0 (section 9.6.3)
+-- a first frame tells it in 12 bits, or a longer one in 32 bits after 12 bits that are 0 (section 9.6.3)
 abbrev pub first_control : ℕ → List ℕ
 first_control len =
     if nat_le len 4095 then first_byte 1 (len / 2 ^ 8) ∷ (len % 256) ∷ []

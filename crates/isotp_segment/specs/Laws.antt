@@ -49,7 +49,7 @@ abbrev pub CanonicalFramesAreARecording : Type 0
 CanonicalFramesAreARecording = (limit : ℕ) (identifier : Dir → Id) (line micros : ℕ) (M : List Message)
     → limit < 2 ^ 32 → AllByRecursion (HasFrames limit) M → IsRecording limit (timed identifier line micros (all_frames limit M)) M
 
--- and a clean trace: none of them is dropped or ends a reception, and nothing stands behind the last
+-- and a clean trace: none of them is dropped or ends a reception, and nothing stands after the last
 abbrev pub CanonicalFramesAreClean : Type 0
 CanonicalFramesAreClean = (limit : ℕ) (identifier : Dir → Id) (line micros : ℕ) (M : List Message)
     → limit < 2 ^ 32 → AllByRecursion (HasFrames limit) M → IsClean limit (timed identifier line micros (all_frames limit M))

@@ -2,13 +2,13 @@
 //!
 //! ```text
 //! layer_bench scan < LOG            reads the lines of a log
-//! layer_bench pdu COUNT             reads the layouts of so many frames
-//! layer_bench receive BYTES COUNT   receives so many messages of this size
-//! layer_bench segment BYTES COUNT   cuts so many messages of this size into frames
-//! layer_bench pair COUNT            pairs a request and so many messages that don't answer it
+//! layer_bench pdu COUNT             reads the layouts of COUNT frames
+//! layer_bench receive BYTES COUNT   receives COUNT messages of this size
+//! layer_bench segment BYTES COUNT   cuts COUNT messages of this size into frames
+//! layer_bench pair COUNT            pairs a request and COUNT messages that don't answer it
 //! layer_bench order COUNT           puts the same messages in order
-//! layer_bench put COUNT             puts so many requests and answers in order, each as it comes
-//! layer_bench line COUNT            writes so many lines of a canonical log
+//! layer_bench put COUNT             puts COUNT requests and answers in order, each as it comes
+//! layer_bench line COUNT            writes COUNT lines of a canonical log
 //! ```
 //!
 //! Each prints its word and a number that every result goes into, so that no result can be left out.

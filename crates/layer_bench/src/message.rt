@@ -4,7 +4,7 @@ ghost use Rattle.std.specs.Prelude.{◌≤◌, IfOk, vec_len};
 
 use std::alloc::{AllocError, Global};
 
-/// A message of so many bytes, of 1 where that is no length of a message.
+/// A message of `size` bytes, or of 1 where a message can't have that length.
 pub(crate) fn message_of(alloc: Global, size: u64) -> Result<Vec<u8>, AllocError>
     ensures some { IfOk result (λ message. 1 ≤ vec_len message) }
     ensures limit { IfOk result (λ message. vec_len message ≤ 1048575) }

@@ -1,4 +1,4 @@
-//! Messages in order: held behind a request that nothing answers, or put at once.
+//! Messages in order: held after a request that nothing answers, or put at once.
 
 use crate::message::sum_of;
 use can_log::Dir;
@@ -26,7 +26,7 @@ impl MessageSink for Sum {
     }
 }
 
-/// The lengths and the last bytes of a request that nothing answers and of so many messages behind it, all held to the
+/// The lengths and the last bytes of a request that nothing answers and of `count` messages after it, all held to the
 /// end, added up as they are put.
 pub(crate) fn sum_of_held(alloc: Global, count: u64) -> Result<u64, AllocError> {
     let mut put = Sum { sum: 0 };
@@ -48,7 +48,7 @@ pub(crate) fn sum_of_held(alloc: Global, count: u64) -> Result<u64, AllocError> 
     }
 }
 
-/// The same of so many messages that are put as they come: requests, each with its answer behind it.
+/// The same of `count` messages that are put as they come: requests, each with its answer after it.
 pub(crate) fn sum_of_put(alloc: Global, count: u64) -> Result<u64, AllocError> {
     let mut put = Sum { sum: 0 };
     let mut orderer = Orderer::new(alloc);

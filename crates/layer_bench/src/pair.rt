@@ -1,11 +1,11 @@
-//! One request that nothing answers, and messages behind it.
+//! One request that nothing answers, and messages after it.
 
 use crate::message::sum_of;
 use can_log::Dir;
 use std::alloc::{AllocError, Global};
 use uds_exchange::{Item, Pairing};
 
-/// The lengths and the last bytes of so many messages behind the request, as their meaning has them, added up.
+/// The lengths and the last bytes of `count` messages after the request, as in their meaning, added up.
 pub(crate) fn sum_of_strays(alloc: Global, count: u64) -> Result<u64, AllocError> {
     let mut pairing = Pairing::new(alloc);
     pairing.take(Dir::Tester, &[0x22, 0xF1, 0x90])?;

@@ -70,7 +70,7 @@ fn sum_of_layout(frame: &Frame) -> u64 {
     }
 }
 
-/// The same of so many frames, rounded up to whole rounds over the frames in memory.
+/// The same of `count` frames, rounded up to whole rounds over the frames in memory.
 pub(crate) fn sum_of_layouts(alloc: Global, count: u64) -> Result<u64, AllocError> {
     let frames = shuffled(alloc)?;
     let mut sum = 0u64;

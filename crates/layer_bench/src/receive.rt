@@ -6,7 +6,7 @@ use isotp_receive::{Pair, Verdict};
 use isotp_segment::Segments;
 use std::alloc::{AllocError, Global};
 
-/// The lengths and the last bytes of all messages that are received, of so many of this size, added up.
+/// The lengths and the last bytes of `count` messages of this size, as they are received, added up.
 pub(crate) fn sum_of_messages(alloc: Global, size: u64, count: u64) -> Result<u64, AllocError> {
     let frames = frames_of(alloc, size)?;
     let mut pair = Pair::new(alloc);

@@ -7,10 +7,10 @@ use std::io::{self, Read};
 /// The size of a piece.
 const PIECE: usize = 65_536;
 
-/// No log is so long; a scanner takes 2^62 bytes.
+/// No log is this long; a scanner takes 2^62 bytes.
 const MOST_TAKEN: u64 = 1 << 61;
 
-/// The time stamps and the last bytes of all frames in front of the log's end or its refused place,
+/// The time stamps and the last bytes of all frames before the log's end or its refused place,
 /// added up.
 pub(crate) fn sum_of_lines<R: Read>(alloc: Global, log: &mut R) -> io::Result<u64> {
     let mut buffer = vec![in alloc; 0u8; PIECE]?;

@@ -5,7 +5,7 @@ use can_log::Dir;
 use isotp_segment::Segments;
 use std::alloc::{AllocError, Global};
 
-/// The frames of a message of this size, cut so many times, as numbers of 8 bytes that are added up.
+/// The frames of a message of this size, cut `count` times, as numbers of 8 bytes that are added up.
 pub(crate) fn sum_of_frames(alloc: Global, size: u64, count: u64) -> Result<u64, AllocError> {
     let message = message_of(alloc, size)?;
     let mut sum = 0u64;

@@ -42,7 +42,7 @@ fn pair_accept(rt: HostRuntime) -> Result<(), Fail> {
 }
 
 /// Receives the frames of the session. Where one was refused memory, the message of its side is lost, and those of the other
-/// side are delivered all the same.
+/// side are still delivered.
 fn received(alloc: Global, session: Session) -> Result<Made, Fail> {
     let mut pair = Pair::new(alloc);
     let mut sink = InOrder::new(session.messages);

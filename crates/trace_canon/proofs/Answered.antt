@@ -23,75 +23,75 @@ use Rattle.trace_canon.proofs.ScannedLogs.{IsBadBehind, bad_line, read_before_pl
 -- ---- refused
 
 -- a place is refused
-pub answers_bad : (limit : ℕ) (settings : Settings) (log : List ℕ) (given line column : ℕ) (whats : List (Option Stamped)) (bytes : ℕ) (old new : List ℕ)
-    → IsBadBehind log line column whats bytes → bytes ≤ settings.max_bytes → bytes ≤ given → EachWithin limit settings whats
-    → new ≡ old ++ early_text limit settings whats → Answers limit settings log given (Err (BadLine line column)) old new
-answers_bad limit settings log given line column whats bytes old new bad few come each wrote = (
-  bad_line limit settings log line column whats bytes bad few each,
+pub answers_bad : (limit : ℕ) (settings : Settings) (log : List ℕ) (given line column : ℕ) (meanings : List (Option Stamped)) (bytes : ℕ) (old new : List ℕ)
+    → IsBadBehind log line column meanings bytes → bytes ≤ settings.max_bytes → bytes ≤ given → EachWithin limit settings meanings
+    → new ≡ old ++ early_text limit settings meanings → Answers limit settings log given (Err (BadLine line column)) old new
+answers_bad limit settings log given line column meanings bytes old new bad few come each wrote = (
+  bad_line limit settings log line column meanings bytes bad few each,
   record {
-    whats = whats;
-    read = read_before_place (announces_within limit settings) true (min given settings.max_bytes) log line column whats bytes bad (le-min come few) each;
+    meanings = meanings;
+    read = read_before_place (announces_within limit settings) true (min given settings.max_bytes) log line column meanings bytes bad (le-min come few) each;
     wrote = wrote;
   },
 )
 
--- a line that ended announces too much; the scanner stands behind it
-pub answers_oversize : (limit : ℕ) (settings : Settings) (log : List ℕ) (given line announced : ℕ) (front rest : List ℕ) (whats : List (Option Stamped))
-    (what : Option Stamped) (standing : Standing) (old new : List ℕ) → StandsAfter front (whats ++ what ∷ []) standing → log ≡ front ++ rest
-    → length front ≤ settings.max_bytes → length front ≤ given → line ≡ length whats + 1 → EachWithin limit settings whats
-    → oversize limit settings what ≡ Some announced → new ≡ old ++ early_text limit settings whats
+-- a line that ended announces too much; the scanner stands after it
+pub answers_oversize : (limit : ℕ) (settings : Settings) (log : List ℕ) (given line announced : ℕ) (front rest : List ℕ) (meanings : List (Option Stamped))
+    (what : Option Stamped) (standing : Standing) (old new : List ℕ) → StandsAfter front (meanings ++ what ∷ []) standing → log ≡ front ++ rest
+    → length front ≤ settings.max_bytes → length front ≤ given → line ≡ length meanings + 1 → EachWithin limit settings meanings
+    → oversize limit settings what ≡ Some announced → new ≡ old ++ early_text limit settings meanings
     → Answers limit settings log given (Err (Oversize line announced)) old new
-answers_oversize limit settings log given line announced front rest whats what standing old new stands parts few come at each announces wrote =
-    let found = oversize_taken limit settings log front rest whats what standing line announced stands parts few at each announces in (
+answers_oversize limit settings log given line announced front rest meanings what standing old new stands parts few come at each announces wrote =
+    let found = oversize_taken limit settings log front rest meanings what standing line announced stands parts few at each announces in (
       found.over,
       record {
-        whats = whats;
-        read = read_before_oversize limit settings true (min given settings.max_bytes) log line announced whats (length front) found (le-min come few);
+        meanings = meanings;
+        read = read_before_oversize limit settings true (min given settings.max_bytes) log line announced meanings (length front) found (le-min come few);
         wrote = wrote;
       },
     )
 
 -- the unfinished last line does
-pub answers_oversize_last : (limit : ℕ) (settings : Settings) (log : List ℕ) (given line announced : ℕ) (whats : List (Option Stamped)) (what : Option Stamped)
-    (old new : List ℕ) → LogMeans log (whats ++ what ∷ []) → length log ≤ settings.max_bytes → length log ≤ given → line ≡ length whats + 1
-    → EachWithin limit settings whats → oversize limit settings what ≡ Some announced → new ≡ old ++ early_text limit settings whats
+pub answers_oversize_last : (limit : ℕ) (settings : Settings) (log : List ℕ) (given line announced : ℕ) (meanings : List (Option Stamped)) (what : Option Stamped)
+    (old new : List ℕ) → LogMeans log (meanings ++ what ∷ []) → length log ≤ settings.max_bytes → length log ≤ given → line ≡ length meanings + 1
+    → EachWithin limit settings meanings → oversize limit settings what ≡ Some announced → new ≡ old ++ early_text limit settings meanings
     → Answers limit settings log given (Err (Oversize line announced)) old new
-answers_oversize_last limit settings log given line announced whats what old new means short come at each announces wrote =
-    let found = oversize_last limit settings log whats what line announced means short at each announces in (
+answers_oversize_last limit settings log given line announced meanings what old new means short come at each announces wrote =
+    let found = oversize_last limit settings log meanings what line announced means short at each announces in (
       found.over,
       record {
-        whats = whats;
-        read = read_before_oversize limit settings true (min given settings.max_bytes) log line announced whats (length log) found (le-min come short);
+        meanings = meanings;
+        read = read_before_oversize limit settings true (min given settings.max_bytes) log line announced meanings (length log) found (le-min come short);
         wrote = wrote;
       },
     )
 
 -- the log is longer than the limit, and as many bytes as that were taken
-pub answers_limit : (limit : ℕ) (settings : Settings) (log : List ℕ) (given : ℕ) (front rest : List ℕ) (whats : List (Option Stamped)) (standing : Standing)
-    (old new : List ℕ) → StandsAfter front whats standing → log ≡ front ++ rest → length front ≡ settings.max_bytes → settings.max_bytes < length log
-    → settings.max_bytes ≤ given → EachWithin limit settings whats → new ≡ old ++ early_text limit settings whats
+pub answers_limit : (limit : ℕ) (settings : Settings) (log : List ℕ) (given : ℕ) (front rest : List ℕ) (meanings : List (Option Stamped)) (standing : Standing)
+    (old new : List ℕ) → StandsAfter front meanings standing → log ≡ front ++ rest → length front ≡ settings.max_bytes → settings.max_bytes < length log
+    → settings.max_bytes ≤ given → EachWithin limit settings meanings → new ≡ old ++ early_text limit settings meanings
     → Answers limit settings log given (Err LogLimit) old new
-answers_limit limit settings log given front rest whats standing old new stands parts full long come each wrote =
+answers_limit limit settings log given front rest meanings standing old new stands parts full long come each wrote =
     let count : length front ≡ min given settings.max_bytes = omega arith in (
-      (not_refused_at_limit limit settings log front rest whats standing stands parts full long each, long),
+      (not_refused_at_limit limit settings log front rest meanings standing stands parts full long each, long),
       record {
-        whats = whats;
-        read = stands_read (announces_within limit settings) true (min given settings.max_bytes) log front rest whats standing stands parts count each
+        meanings = meanings;
+        read = stands_read (announces_within limit settings) true (min given settings.max_bytes) log front rest meanings standing stands parts count each
             (λ yes short. (let few = min-le_right given settings.max_bytes in omega arith));
         wrote = wrote;
       },
     )
 
 -- reading failed, and all bytes that were given were taken
-pub answers_read : (limit : ℕ) (settings : Settings) (log : List ℕ) (given : ℕ) (front rest : List ℕ) (whats : List (Option Stamped)) (standing : Standing)
-    (old new : List ℕ) → StandsAfter front whats standing → log ≡ front ++ rest → length front ≡ given → given ≤ settings.max_bytes
-    → EachWithin limit settings whats → new ≡ old ++ early_text limit settings whats → Answers limit settings log given (Err Read) old new
-answers_read limit settings log given front rest whats standing old new stands parts full few each wrote =
+pub answers_read : (limit : ℕ) (settings : Settings) (log : List ℕ) (given : ℕ) (front rest : List ℕ) (meanings : List (Option Stamped)) (standing : Standing)
+    (old new : List ℕ) → StandsAfter front meanings standing → log ≡ front ++ rest → length front ≡ given → given ≤ settings.max_bytes
+    → EachWithin limit settings meanings → new ≡ old ++ early_text limit settings meanings → Answers limit settings log given (Err Read) old new
+answers_read limit settings log given front rest meanings standing old new stands parts full few each wrote =
     let count : length front ≡ min given settings.max_bytes = omega arith in (
       tt,
       record {
-        whats = whats;
-        read = stands_read (announces_within limit settings) false (min given settings.max_bytes) log front rest whats standing stands parts count each
+        meanings = meanings;
+        read = stands_read (announces_within limit settings) false (min given settings.max_bytes) log front rest meanings standing stands parts count each
             (λ yes short. absurd (cc));
         wrote = wrote;
       },
@@ -100,56 +100,56 @@ answers_read limit settings log given front rest whats standing old new stands p
 -- ---- writing failed, or memory was refused
 
 -- These lines of a log mean this, pass, and were given.
-pub record HaveCome (limit : ℕ) (settings : Settings) (with_last : Bool) (count : ℕ) (log : List ℕ) (whats : List (Option Stamped)) : Type 0 where
+pub record HaveCome (limit : ℕ) (settings : Settings) (with_last : Bool) (count : ℕ) (log : List ℕ) (meanings : List (Option Stamped)) : Type 0 where
   pub lines : List (List ℕ)
   pub later : List (List ℕ)
   pub parts : log_lines log ≡ lines ++ later
-  pub means : LinesMean lines whats
-  pub each : EachWithin limit settings whats
+  pub means : LinesMean lines meanings
+  pub each : EachWithin limit settings meanings
   pub given : AreGiven with_last count log lines
 
 -- a scanner has taken them
-pub taken_have_come : (limit : ℕ) (settings : Settings) (with_last : Bool) (count : ℕ) (log front rest : List ℕ) (whats : List (Option Stamped)) (standing : Standing)
-    → StandsAfter front whats standing → log ≡ front ++ rest → length front ≤ count → EachWithin limit settings whats
-    → HaveCome limit settings with_last count log whats
-taken_have_come limit settings with_last count log front rest whats standing stands parts few each =
+pub taken_have_come : (limit : ℕ) (settings : Settings) (with_last : Bool) (count : ℕ) (log front rest : List ℕ) (meanings : List (Option Stamped)) (standing : Standing)
+    → StandsAfter front meanings standing → log ≡ front ++ rest → length front ≤ count → EachWithin limit settings meanings
+    → HaveCome limit settings with_last count log meanings
+taken_have_come limit settings with_last count log front rest meanings standing stands parts few each =
     let long = ap length stands.parts ∙ length-append (ended_lines stands.lines) standing.line in
     record {
       lines = stands.lines;
       later = log_lines (standing.line ++ rest);
-      parts = stands_lines log front rest whats standing stands parts;
+      parts = stands_lines log front rest meanings standing stands parts;
       means = stands.means;
       each = each;
       given = inl (omega arith);
     }
 
 -- the whole log has come
-pub all_have_come : (limit : ℕ) (settings : Settings) (count : ℕ) (log : List ℕ) (whats : List (Option Stamped)) → LogMeans log whats → length log ≤ count
-    → EachWithin limit settings whats → HaveCome limit settings true count log whats
-all_have_come limit settings count log whats means few each =
+pub all_have_come : (limit : ℕ) (settings : Settings) (count : ℕ) (log : List ℕ) (meanings : List (Option Stamped)) → LogMeans log meanings → length log ≤ count
+    → EachWithin limit settings meanings → HaveCome limit settings true count log meanings
+all_have_come limit settings count log meanings means few each =
     record { lines = log_lines log; later = []; parts = sym (append-nil (log_lines log)); means = means; each = each; given = inr (refl, few) }
 
 -- what was written begins what is written of lines that have come
-pub writes_front : (limit : ℕ) (settings : Settings) (log : List ℕ) (given : ℕ) (fault : Fault) (whats : List (Option Stamped)) (written old new : List ℕ)
-    → HaveCome limit settings (counts_last fault) (min given settings.max_bytes) log whats → new ≡ old ++ written
-    → Begins written (early_text limit settings whats) → WritesFront limit settings log given fault old new
-writes_front limit settings log given fault whats written old new come wrote begins =
+pub writes_front : (limit : ℕ) (settings : Settings) (log : List ℕ) (given : ℕ) (fault : Fault) (meanings : List (Option Stamped)) (written old new : List ℕ)
+    → HaveCome limit settings (counts_last fault) (min given settings.max_bytes) log meanings → new ≡ old ++ written
+    → Begins written (early_text limit settings meanings) → WritesFront limit settings log given fault old new
+writes_front limit settings log given fault meanings written old new come wrote begins =
     let read = lines_read_are_there (announces_within limit settings) (counts_last fault) (min given settings.max_bytes) log in
-    let longer = read_begins (announces_within limit settings) (counts_last fault) (min given settings.max_bytes) log read.0 whats come.lines come.later
+    let longer = read_begins (announces_within limit settings) (counts_last fault) (min given settings.max_bytes) log read.0 meanings come.lines come.later
     read.1 come.parts come.means come.each come.given in
-    let stays = early_text_stays limit settings whats longer.0 in
-    let all : Begins (early_text limit settings whats) (canonical_log_of_lines limit settings read.0) =
+    let stays = early_text_stays limit settings meanings longer.0 in
+    let all : Begins (early_text limit settings meanings) (canonical_log_of_lines limit settings read.0) =
     (stays.0, ap (canonical_log_of_lines limit settings) longer.1 ∙ stays.1) in
-    let front = begins_again written (early_text limit settings whats) (canonical_log_of_lines limit settings read.0) begins all in
-    record { whats = read.0; read = read.1; written = written; missing = front.0; wrote = wrote; front = front.1 }
+    let front = begins_again written (early_text limit settings meanings) (canonical_log_of_lines limit settings read.0) begins all in
+    record { meanings = read.0; read = read.1; written = written; missing = front.0; wrote = wrote; front = front.1 }
 
 -- what was written begins the canonical log of all lines
-pub writes_front_at_end : (limit : ℕ) (settings : Settings) (log : List ℕ) (given : ℕ) (fault : Fault) (whats : List (Option Stamped)) (written old new : List ℕ)
-    → LogMeans log whats → length log ≤ min given settings.max_bytes → counts_last fault ≡ true → EachWithin limit settings whats → new ≡ old ++ written
-    → Begins written (canonical_log_of_lines limit settings whats) → WritesFront limit settings log given fault old new
-writes_front_at_end limit settings log given fault whats written old new means few last each wrote begins = record {
-  whats = whats;
-  read = all_lines_read (announces_within limit settings) (counts_last fault) (min given settings.max_bytes) log whats means each last few;
+pub writes_front_at_end : (limit : ℕ) (settings : Settings) (log : List ℕ) (given : ℕ) (fault : Fault) (meanings : List (Option Stamped)) (written old new : List ℕ)
+    → LogMeans log meanings → length log ≤ min given settings.max_bytes → counts_last fault ≡ true → EachWithin limit settings meanings → new ≡ old ++ written
+    → Begins written (canonical_log_of_lines limit settings meanings) → WritesFront limit settings log given fault old new
+writes_front_at_end limit settings log given fault meanings written old new means few last each wrote begins = record {
+  meanings = meanings;
+  read = all_lines_read (announces_within limit settings) (counts_last fault) (min given settings.max_bytes) log meanings means each last few;
   written = written;
   missing = begins.0;
   wrote = wrote;
@@ -157,33 +157,33 @@ writes_front_at_end limit settings log given fault whats written old new means f
 }
 
 -- what was written begins with what is written of the lines that had ended before the last piece
-pub writes_eagerly : (limit : ℕ) (settings : Settings) (log : List ℕ) (given : ℕ) (front rest : List ℕ) (whats : List (Option Stamped)) (standing : Standing)
-    (written old new : List ℕ) → StandsAfter front whats standing → log ≡ front ++ rest → given ≤ length front + piece_length → EachWithin limit settings whats
-    → new ≡ old ++ written → Begins (early_text limit settings whats) written → WritesEagerly limit settings log given old new
-writes_eagerly limit settings log given front rest whats standing written old new stands parts few each wrote begins =
+pub writes_eagerly : (limit : ℕ) (settings : Settings) (log : List ℕ) (given : ℕ) (front rest : List ℕ) (meanings : List (Option Stamped)) (standing : Standing)
+    (written old new : List ℕ) → StandsAfter front meanings standing → log ≡ front ++ rest → given ≤ length front + piece_length → EachWithin limit settings meanings
+    → new ≡ old ++ written → Begins (early_text limit settings meanings) written → WritesEagerly limit settings log given old new
+writes_eagerly limit settings log given front rest meanings standing written old new stands parts few each wrote begins =
     let count = min (given - piece_length) settings.max_bytes in
     let read = lines_read_are_there (announces_within limit settings) false count log in
     let low = min-le_left (given - piece_length) settings.max_bytes in
-    let all = stands_read (announces_within limit settings) false (length front) log front rest whats standing stands parts refl each (λ yes short. absurd (cc)) in
-    let more = read_more (announces_within limit settings) false count (length front) log read.0 whats (omega arith) read.1 all in
+    let all = stands_read (announces_within limit settings) false (length front) log front rest meanings standing stands parts refl each (λ yes short. absurd (cc)) in
+    let more = read_more (announces_within limit settings) false count (length front) log read.0 meanings (omega arith) read.1 all in
     let grows = early_text_grows limit settings read.0 more.0 in
-    let there : Begins (early_text limit settings read.0) (early_text limit settings whats) = (grows.0, ap (early_text limit settings) more.1 ∙ grows.1) in
-    let both = begins_again (early_text limit settings read.0) (early_text limit settings whats) written there begins in
-    record { whats = read.0; read = read.1; more = both.0; wrote = wrote ∙ ap (λ x. old ++ x) both.1 }
+    let there : Begins (early_text limit settings read.0) (early_text limit settings meanings) = (grows.0, ap (early_text limit settings) more.1 ∙ grows.1) in
+    let both = begins_again (early_text limit settings read.0) (early_text limit settings meanings) written there begins in
+    record { meanings = read.0; read = read.1; more = both.0; wrote = wrote ∙ ap (λ x. old ++ x) both.1 }
 
 -- ---- accepted, or too long
 
-pub answers_accepted : (limit : ℕ) (settings : Settings) (log : List ℕ) (given : ℕ) (whats : List (Option Stamped)) (old new : List ℕ)
-    → IsReadWhole limit settings log whats → length (canonical_log_of_lines limit settings whats) ≤ settings.max_bytes
-    → new ≡ old ++ canonical_log_of_lines limit settings whats → Answers limit settings log given (Ok (summary_of limit settings whats)) old new
-answers_accepted limit settings log given whats old new read fits wrote = (
-  record { text = canonical_log_of_lines limit settings whats; summary = summary_of limit settings whats },
-  (whats, read, record { spelled = refl; fits = fits; counted = refl }),
+pub answers_accepted : (limit : ℕ) (settings : Settings) (log : List ℕ) (given : ℕ) (meanings : List (Option Stamped)) (old new : List ℕ)
+    → IsReadWhole limit settings log meanings → length (canonical_log_of_lines limit settings meanings) ≤ settings.max_bytes
+    → new ≡ old ++ canonical_log_of_lines limit settings meanings → Answers limit settings log given (Ok (summary_of limit settings meanings)) old new
+answers_accepted limit settings log given meanings old new read fits wrote = (
+  record { text = canonical_log_of_lines limit settings meanings; summary = summary_of limit settings meanings },
+  (meanings, read, record { spelled = refl; fits = fits; counted = refl }),
   refl,
   wrote,
 )
 
-pub answers_output_limit : (limit : ℕ) (settings : Settings) (log : List ℕ) (given : ℕ) (whats : List (Option Stamped)) (old new : List ℕ)
-    → IsReadWhole limit settings log whats → settings.max_bytes < length (canonical_log_of_lines limit settings whats)
-    → new ≡ old ++ fitting settings (canonical_log_of_lines limit settings whats) → Answers limit settings log given (Err OutputLimit) old new
-answers_output_limit limit settings log given whats old new read over wrote = ((whats, read, over), (whats, read, wrote))
+pub answers_output_limit : (limit : ℕ) (settings : Settings) (log : List ℕ) (given : ℕ) (meanings : List (Option Stamped)) (old new : List ℕ)
+    → IsReadWhole limit settings log meanings → settings.max_bytes < length (canonical_log_of_lines limit settings meanings)
+    → new ≡ old ++ fitting settings (canonical_log_of_lines limit settings meanings) → Answers limit settings log given (Err OutputLimit) old new
+answers_output_limit limit settings log given meanings old new read over wrote = ((meanings, read, over), (meanings, read, wrote))

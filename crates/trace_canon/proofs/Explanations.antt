@@ -14,7 +14,7 @@ use Rattle.can_log.specs.declared.frame.Stamped.{Stamped}
 use Rattle.trace_io.specs.declared.DeviceFault.{DeviceFault}
 use Rattle.trace_io.specs.declared.device.Target.{Ghosts}
 use Rattle.isotp_receive.specs.declared.TheConstants.{MESSAGE_LIMIT}
-use Rattle.isotp_receive.specs.Standing.{Receptions, receptions_after}
+use Rattle.isotp_receive.specs.StandingReception.{Receptions, receptions_after}
 use Rattle.trace_canon.specs.declared.explaining.Explaining.{Explaining}
 use Rattle.trace_canon.specs.declared.explaining.ExplainingFault.{ExplainingFault}
 use Rattle.trace_canon.specs.declared.explaining.ExplainingFault.TheVariants.{Memory, Write}
@@ -51,60 +51,60 @@ use Rattle.trace_canon.proofs.WrittenFronts.{front_behind}
 -- ---- refused, or reading failed
 
 -- a place is refused
-explains_bad : (limit : ℕ) (settings : Settings) (log : List ℕ) (given line column : ℕ) (whats : List (Option Stamped)) (bytes : ℕ) (old new : List ℕ)
-    → IsBadBehind log line column whats bytes → bytes ≤ settings.max_bytes → bytes ≤ given → new ≡ old ++ events_text limit (trace settings whats)
+explains_bad : (limit : ℕ) (settings : Settings) (log : List ℕ) (given line column : ℕ) (meanings : List (Option Stamped)) (bytes : ℕ) (old new : List ℕ)
+    → IsBadBehind log line column meanings bytes → bytes ≤ settings.max_bytes → bytes ≤ given → new ≡ old ++ events_text limit (trace settings meanings)
     → AnswersExplain limit settings log given (Err (fault.BadLine line column)) old new
-explains_bad limit settings log given line column whats bytes old new bad few come wrote = (
-  bad_counts settings log line column whats bytes bad few,
+explains_bad limit settings log given line column meanings bytes old new bad few come wrote = (
+  bad_counts settings log line column meanings bytes bad few,
   record {
-    whats = whats;
-    read = read_before_place takes_all true (min given settings.max_bytes) log line column whats bytes bad (le-min come few) (all_taken whats);
+    meanings = meanings;
+    read = read_before_place takes_all true (min given settings.max_bytes) log line column meanings bytes bad (le-min come few) (all_taken meanings);
     wrote = wrote;
   },
 )
 
 -- the log is longer than the limit, and as many bytes as that were taken
-explains_limit : (limit : ℕ) (settings : Settings) (log : List ℕ) (given : ℕ) (front rest : List ℕ) (whats : List (Option Stamped)) (standing : Standing)
-    (old new : List ℕ) → StandsAfter front whats standing → log ≡ front ++ rest → length front ≡ settings.max_bytes → settings.max_bytes < length log
-    → settings.max_bytes ≤ given → new ≡ old ++ events_text limit (trace settings whats) → AnswersExplain limit settings log given (Err fault.LogLimit) old new
-explains_limit limit settings log given front rest whats standing old new stands parts full long come wrote =
+explains_limit : (limit : ℕ) (settings : Settings) (log : List ℕ) (given : ℕ) (front rest : List ℕ) (meanings : List (Option Stamped)) (standing : Standing)
+    (old new : List ℕ) → StandsAfter front meanings standing → log ≡ front ++ rest → length front ≡ settings.max_bytes → settings.max_bytes < length log
+    → settings.max_bytes ≤ given → new ≡ old ++ events_text limit (trace settings meanings) → AnswersExplain limit settings log given (Err fault.LogLimit) old new
+explains_limit limit settings log given front rest meanings standing old new stands parts full long come wrote =
     let count : length front ≡ min given settings.max_bytes = omega arith in (
-      (no_place_counts settings log front rest whats standing stands parts full long, long),
+      (no_place_counts settings log front rest meanings standing stands parts full long, long),
       record {
-        whats = whats;
-        read = stands_read takes_all true (min given settings.max_bytes) log front rest whats standing stands parts count (all_taken whats)
+        meanings = meanings;
+        read = stands_read takes_all true (min given settings.max_bytes) log front rest meanings standing stands parts count (all_taken meanings)
             (λ yes short. (let few = min-le_right given settings.max_bytes in omega arith));
         wrote = wrote;
       },
     )
 
 -- reading failed, and all bytes that were given were taken
-explains_read : (limit : ℕ) (settings : Settings) (log : List ℕ) (given : ℕ) (front rest : List ℕ) (whats : List (Option Stamped)) (standing : Standing)
-    (old new : List ℕ) → StandsAfter front whats standing → log ≡ front ++ rest → length front ≡ given → given ≤ settings.max_bytes
-    → new ≡ old ++ events_text limit (trace settings whats) → AnswersExplain limit settings log given (Err fault.Read) old new
-explains_read limit settings log given front rest whats standing old new stands parts full few wrote =
+explains_read : (limit : ℕ) (settings : Settings) (log : List ℕ) (given : ℕ) (front rest : List ℕ) (meanings : List (Option Stamped)) (standing : Standing)
+    (old new : List ℕ) → StandsAfter front meanings standing → log ≡ front ++ rest → length front ≡ given → given ≤ settings.max_bytes
+    → new ≡ old ++ events_text limit (trace settings meanings) → AnswersExplain limit settings log given (Err fault.Read) old new
+explains_read limit settings log given front rest meanings standing old new stands parts full few wrote =
     let count : length front ≡ min given settings.max_bytes = omega arith in
     record {
-      whats = whats;
-      read = stands_read takes_all false (min given settings.max_bytes) log front rest whats standing stands parts count (all_taken whats) (λ yes short. absurd (cc));
+      meanings = meanings;
+      read = stands_read takes_all false (min given settings.max_bytes) log front rest meanings standing stands parts count (all_taken meanings) (λ yes short. absurd (cc));
       wrote = wrote;
     }
 
 -- ---- writing failed, or memory was refused
 
 -- These lines of a log mean this, and were given.
-record LinesCome (with_last : Bool) (count : ℕ) (log : List ℕ) (whats : List (Option Stamped)) : Type 0 where
+record LinesCome (with_last : Bool) (count : ℕ) (log : List ℕ) (meanings : List (Option Stamped)) : Type 0 where
   pub lines : List (List ℕ)
   pub later : List (List ℕ)
   pub parts : log_lines log ≡ lines ++ later
-  pub means : LinesMean lines whats
+  pub means : LinesMean lines meanings
   pub given : AreGiven with_last count log lines
 
 -- those up to the one on which the run stopped
-lines_come : (settings : Settings) (log : List ℕ) (given : ℕ) (whats : List (Option Stamped)) (what : Option Stamped)
-    → (((given ≤ settings.max_bytes) × StopsInLog log given whats what) ⊎ ((length log ≤ settings.max_bytes) × (given ≡ length log) × StopsAtEnd log whats what))
-    → LinesCome true (min given settings.max_bytes) log (whats ++ what ∷ [])
-lines_come settings log given whats what (inl (few, in_log)) =
+lines_come : (settings : Settings) (log : List ℕ) (given : ℕ) (meanings : List (Option Stamped)) (what : Option Stamped)
+    → (((given ≤ settings.max_bytes) × StopsInLog log given meanings what) ⊎ ((length log ≤ settings.max_bytes) × (given ≡ length log) × StopsAtEnd log meanings what))
+    → LinesCome true (min given settings.max_bytes) log (meanings ++ what ∷ [])
+lines_come settings log given meanings what (inl (few, in_log)) =
     let stops = in_log.stops in
     let size = length-take given log in
     let all = ap length stops.parts ∙ length-append stops.front stops.rest in
@@ -114,30 +114,30 @@ lines_come settings log given whats what (inl (few, in_log)) =
     record {
       lines = stops.stands.lines;
       later = log_lines (stops.standing.line ++ (stops.rest ++ drop given log));
-      parts = stands_lines log stops.front (stops.rest ++ drop given log) (whats ++ what ∷ []) stops.standing stops.stands cut;
+      parts = stands_lines log stops.front (stops.rest ++ drop given log) (meanings ++ what ∷ []) stops.standing stops.stands cut;
       means = stops.stands.means;
       given = inl (le-min (omega arith) (omega arith));
     }
-lines_come settings log given whats what (inr (short, all, stops)) =
+lines_come settings log given meanings what (inr (short, all, stops)) =
     record { lines = log_lines log; later = []; parts = sym (append-nil (log_lines log)); means = stops.means; given = inr (refl, le-min (omega arith) short) }
 
 -- a front of the lines of their frames was written
-writes_front_of_text : (limit : ℕ) (settings : Settings) (log : List ℕ) (given : ℕ) (fault : Fault) (whats : List (Option Stamped)) (old new : List ℕ)
-    → counts_last fault ≡ true → LinesCome true (min given settings.max_bytes) log whats → HasFront old (events_text limit (trace settings whats)) new
+writes_front_of_text : (limit : ℕ) (settings : Settings) (log : List ℕ) (given : ℕ) (fault : Fault) (meanings : List (Option Stamped)) (old new : List ℕ)
+    → counts_last fault ≡ true → LinesCome true (min given settings.max_bytes) log meanings → HasFront old (events_text limit (trace settings meanings)) new
     → WritesFrontOfText limit settings log given fault old new
 unfolding trace_from
-writes_front_of_text limit settings log given fault whats old new last come front =
+writes_front_of_text limit settings log given fault meanings old new last come front =
     let count = min given settings.max_bytes in
     let come_so = subst (λ b. AreGiven b count log come.lines) (sym last) come.given in
     let read = lines_read_are_there takes_all (counts_last fault) count log in
-    let longer = read_begins takes_all (counts_last fault) count log read.0 whats come.lines come.later read.1 come.parts come.means (all_taken whats) come_so in
-    let T = trace settings whats in
-    let rest = trace_from settings (1 + length whats) longer.0 in
-    let traces : trace settings read.0 ≡ T ++ rest = ap (trace settings) longer.1 ∙ trace_from-append settings 1 whats longer.0 in
+    let longer = read_begins takes_all (counts_last fault) count log read.0 meanings come.lines come.later read.1 come.parts come.means (all_taken meanings) come_so in
+    let T = trace settings meanings in
+    let rest = trace_from settings (1 + length meanings) longer.0 in
+    let traces : trace settings read.0 ≡ T ++ rest = ap (trace settings) longer.1 ∙ trace_from-append settings 1 meanings longer.0 in
     let events : events_text limit (trace settings read.0) ≡ events_text limit T ++ events_text_after limit T rest = ap (events_text limit) traces ∙ lines_stay limit T rest in
     let end = unfinished_text (receptions_after limit (trace settings read.0)) ++ summary_line (summary_of limit settings read.0) in
     record {
-      whats = read.0;
+      meanings = read.0;
       read = read.1;
       written = front.front;
       missing = front.rest ++ (events_text_after limit T rest ++ end);
@@ -148,12 +148,12 @@ writes_front_of_text limit settings log given fault whats old new last come fron
     }
 
 -- a front of the whole text was
-writes_front_at_end : (limit : ℕ) (settings : Settings) (log : List ℕ) (given : ℕ) (fault : Fault) (whats : List (Option Stamped)) (old new : List ℕ)
-    → LogMeans log whats → length log ≤ min given settings.max_bytes → counts_last fault ≡ true → HasFront old (explain_text_of_lines limit settings whats) new
+writes_front_at_end : (limit : ℕ) (settings : Settings) (log : List ℕ) (given : ℕ) (fault : Fault) (meanings : List (Option Stamped)) (old new : List ℕ)
+    → LogMeans log meanings → length log ≤ min given settings.max_bytes → counts_last fault ≡ true → HasFront old (explain_text_of_lines limit settings meanings) new
     → WritesFrontOfText limit settings log given fault old new
-writes_front_at_end limit settings log given fault whats old new means few last front = record {
-  whats = whats;
-  read = all_lines_read takes_all (counts_last fault) (min given settings.max_bytes) log whats means (all_taken whats) last few;
+writes_front_at_end limit settings log given fault meanings old new means few last front = record {
+  meanings = meanings;
+  read = all_lines_read takes_all (counts_last fault) (min given settings.max_bytes) log meanings means (all_taken meanings) last few;
   written = front.front;
   missing = front.rest;
   wrote = front.wrote;
@@ -164,51 +164,51 @@ writes_front_at_end limit settings log given fault whats old new means few last 
 
 -- what is known of a line on which the run stopped
 abbrev pub StopsOn : Type 0 → Type 0 → ℕ → List ℕ → Settings → List (Option Stamped) → Option Stamped → ExplainingFault → ℕ → List ℕ → Type 0
-StopsOn Told ToldNow failures old settings whats what why failures_now new =
+StopsOn Told ToldNow failures old settings meanings what why failures_now new =
     (stamped : Stamped) × (d : Dir) × (what ≡ Some stamped) × (Some d ≡ direction_of settings stamped.frame.id)
-    × FailsAt Told ToldNow failures old (trace settings whats) (entry_in whats stamped d) why failures_now new
+    × FailsAt Told ToldNow failures old (trace settings meanings) (entry_in meanings stamped d) why failures_now new
 
 -- what is known after lines that were taken
 abbrev pub ExplainsLines : Type 0 → Type 0 → ℕ → List ℕ → Settings → List (Option Stamped) → Pending → ℕ → List ℕ → Type 0
-ExplainsLines Told ToldNow failures old settings whats pending failures_now new =
-    Explains Told ToldNow failures old (trace settings whats) pending failures_now new
+ExplainsLines Told ToldNow failures old settings meanings pending failures_now new =
+    Explains Told ToldNow failures old (trace settings meanings) pending failures_now new
 
 module _ (Told ToldNow : Type 0) (failures : ℕ) (old : List ℕ) (pending : Pending) (failures_now : ℕ) (new : List ℕ) (settings : Settings)
     {S : Type 0} (took : Took S) (stopped : Stopped S ExplainingFault) (s n : S)
-    (gives : (whats : List (Option Stamped)) → took s whats n → ExplainsLines Told ToldNow failures old settings whats pending failures_now new)
-    (halts : (whats : List (Option Stamped)) (what : Option Stamped) (why : ExplainingFault) → stopped s whats what why n
-    → StopsOn Told ToldNow failures old settings whats what why failures_now new) where
+    (gives : (meanings : List (Option Stamped)) → took s meanings n → ExplainsLines Told ToldNow failures old settings meanings pending failures_now new)
+    (halts : (meanings : List (Option Stamped)) (what : Option Stamped) (why : ExplainingFault) → stopped s meanings what why n
+    → StopsOn Told ToldNow failures old settings meanings what why failures_now new) where
   -- a front of the lines of the frames up to the one on which it stopped
-  explains_front : (log : List ℕ) (given : ℕ) (fault : Fault) (whats : List (Option Stamped)) (what : Option Stamped) (why : ExplainingFault) → Told
-      → counts_last fault ≡ true → stopped s whats what why n
-      → (((given ≤ settings.max_bytes) × StopsInLog log given whats what) ⊎ ((length log ≤ settings.max_bytes) × (given ≡ length log) × StopsAtEnd log whats what))
+  explains_front : (log : List ℕ) (given : ℕ) (fault : Fault) (meanings : List (Option Stamped)) (what : Option Stamped) (why : ExplainingFault) → Told
+      → counts_last fault ≡ true → stopped s meanings what why n
+      → (((given ≤ settings.max_bytes) × StopsInLog log given meanings what) ⊎ ((length log ≤ settings.max_bytes) × (given ≡ length log) × StopsAtEnd log meanings what))
       → WritesFrontOfText MESSAGE_LIMIT settings log given fault old new
-  explains_front log given fault whats what why told last stops place =
-      let halted = halts whats what why stops in
-      let next = trace_next settings whats what halted.0 halted.1 halted.2 halted.3 in
-      writes_front_of_text MESSAGE_LIMIT settings log given fault (whats ++ what ∷ []) old new last (lines_come settings log given whats what place)
+  explains_front log given fault meanings what why told last stops place =
+      let halted = halts meanings what why stops in
+      let next = trace_next settings meanings what halted.0 halted.1 halted.2 halted.3 in
+      writes_front_of_text MESSAGE_LIMIT settings log given fault (meanings ++ what ∷ []) old new last (lines_come settings log given meanings what place)
       (subst (λ T. HasFront old (events_text MESSAGE_LIMIT T) new) (sym next) (halted.4.written told))
 
   -- with a fault of the lines
   explains_lines : (A : Type 0) (log : List ℕ) (given : ℕ) → Told → (why : LineFault ExplainingFault)
       → ReadsLog took stopped s {A = A} settings.max_bytes log given (Err why) n
       → AnswersExplain MESSAGE_LIMIT settings log given (Err (explaining_fault why)) old new
-  explains_lines A log given told (line_fault.BadLine line column) (whats, taken, inl (few, refuses)) =
-      explains_bad MESSAGE_LIMIT settings log given line column whats given old new (bad_in_front log given line column whats refuses) few (omega arith)
-      ((gives whats taken).written told)
-  explains_lines A log given told (line_fault.BadLine line column) (whats, taken, inr (short, all, place)) =
-      explains_bad MESSAGE_LIMIT settings log given line column whats (length log) old new (bad_at_end log line column whats place) short (omega arith)
-      ((gives whats taken).written told)
-  explains_lines A log given told line_fault.LogLimit (whats, taken, long, come, (standing, stands)) =
-      explains_limit MESSAGE_LIMIT settings log given (take settings.max_bytes log) (drop settings.max_bytes log) whats standing old new stands
-      (sym (take-append-drop settings.max_bytes log)) (length-take-le settings.max_bytes log (omega arith)) long come ((gives whats taken).written told)
-  explains_lines A log given told line_fault.Read (whats, taken, few, inside, (standing, stands)) =
-      explains_read MESSAGE_LIMIT settings log given (take given log) (drop given log) whats standing old new stands (sym (take-append-drop given log))
-      (length-take-le given log inside) few ((gives whats taken).written told)
-  explains_lines A log given told (line_fault.Taker Memory) (whats, what, stops, place) =
-      explains_front log given fault.Memory whats what Memory told refl stops place
-  explains_lines A log given told (line_fault.Taker Write) (whats, what, stops, place) =
-      explains_front log given fault.Write whats what Write told refl stops place
+  explains_lines A log given told (line_fault.BadLine line column) (meanings, taken, inl (few, refuses)) =
+      explains_bad MESSAGE_LIMIT settings log given line column meanings given old new (bad_in_front log given line column meanings refuses) few (omega arith)
+      ((gives meanings taken).written told)
+  explains_lines A log given told (line_fault.BadLine line column) (meanings, taken, inr (short, all, place)) =
+      explains_bad MESSAGE_LIMIT settings log given line column meanings (length log) old new (bad_at_end log line column meanings place) short (omega arith)
+      ((gives meanings taken).written told)
+  explains_lines A log given told line_fault.LogLimit (meanings, taken, long, come, (standing, stands)) =
+      explains_limit MESSAGE_LIMIT settings log given (take settings.max_bytes log) (drop settings.max_bytes log) meanings standing old new stands
+      (sym (take-append-drop settings.max_bytes log)) (length-take-le settings.max_bytes log (omega arith)) long come ((gives meanings taken).written told)
+  explains_lines A log given told line_fault.Read (meanings, taken, few, inside, (standing, stands)) =
+      explains_read MESSAGE_LIMIT settings log given (take given log) (drop given log) meanings standing old new stands (sym (take-append-drop given log))
+      (length-take-le given log inside) few ((gives meanings taken).written told)
+  explains_lines A log given told (line_fault.Taker Memory) (meanings, what, stops, place) =
+      explains_front log given fault.Memory meanings what Memory told refl stops place
+  explains_lines A log given told (line_fault.Taker Write) (meanings, what, stops, place) =
+      explains_front log given fault.Write meanings what Write told refl stops place
 
   -- the same, where the limit is known in other words
   pub explains_of_lines : (A : Type 0) (log : List ℕ) (given : ℕ) → Told → (why : LineFault ExplainingFault) (m : ℕ) → m ≡ settings.max_bytes
@@ -220,31 +220,31 @@ module _ (Told ToldNow : Type 0) (failures : ℕ) (old : List ℕ) (pending : Pe
   -- what the target counts then
   pub explains_failures : {A : Type 0} (B : Type 0) → failures ≤ 2 ^ 62 → (why : LineFault ExplainingFault) → TakesSome took stopped s {A = B} (Err why) n
       → FailedIf {A = A} fault.Write (Err (explaining_fault why)) failures failures_now
-  explains_failures B few (line_fault.BadLine line column) (whats, taken) =
-      record { risen = λ is. absurd (cc is); same = λ _. (gives whats taken).failures_are }
-  explains_failures B few line_fault.LogLimit (whats, taken) = record { risen = λ is. absurd (cc is); same = λ _. (gives whats taken).failures_are }
-  explains_failures B few line_fault.Read (whats, taken) = record { risen = λ is. absurd (cc is); same = λ _. (gives whats taken).failures_are }
-  explains_failures B few (line_fault.Taker Memory) (whats, what, stops) =
-      let halted = halts whats what Memory stops in
+  explains_failures B few (line_fault.BadLine line column) (meanings, taken) =
+      record { risen = λ is. absurd (cc is); same = λ _. (gives meanings taken).failures_are }
+  explains_failures B few line_fault.LogLimit (meanings, taken) = record { risen = λ is. absurd (cc is); same = λ _. (gives meanings taken).failures_are }
+  explains_failures B few line_fault.Read (meanings, taken) = record { risen = λ is. absurd (cc is); same = λ _. (gives meanings taken).failures_are }
+  explains_failures B few (line_fault.Taker Memory) (meanings, what, stops) =
+      let halted = halts meanings what Memory stops in
       record { risen = λ is. absurd (cc is); same = λ _. halted.4.failures_are few }
-  explains_failures B few (line_fault.Taker Write) (whats, what, stops) =
-      let halted = halts whats what Write stops in
+  explains_failures B few (line_fault.Taker Write) (meanings, what, stops) =
+      let halted = halts meanings what Write stops in
       record { risen = λ _. halted.4.failures_are few; same = λ not. absurd (not refl) }
 
 -- at the end of the log
-pub explains_end : (Told : Type 0) (failures : ℕ) (old : List ℕ) (settings : Settings) (log : List ℕ) (given : ℕ) (whats : List (Option Stamped))
-    (result : Result Summary DeviceFault) (failures_now : ℕ) (new : List ℕ) → Told → length log ≤ settings.max_bytes → given ≡ length log → LogMeans log whats
-    → Ends Told failures old settings whats result failures_now new → AnswersExplain MESSAGE_LIMIT settings log given (explaining_answer result) old new
-explains_end Told failures old settings log given whats (Ok summary) failures_now new told short all means ends =
-    (whats, (short, means), ends.counted, ends.written told)
-explains_end Told failures old settings log given whats (Err why) failures_now new told short all means ends =
-    writes_front_at_end MESSAGE_LIMIT settings log given fault.Write whats old new means (le-min (omega arith) short) refl (ends.written told)
+pub explains_end : (Told : Type 0) (failures : ℕ) (old : List ℕ) (settings : Settings) (log : List ℕ) (given : ℕ) (meanings : List (Option Stamped))
+    (result : Result Summary DeviceFault) (failures_now : ℕ) (new : List ℕ) → Told → length log ≤ settings.max_bytes → given ≡ length log → LogMeans log meanings
+    → Ends Told failures old settings meanings result failures_now new → AnswersExplain MESSAGE_LIMIT settings log given (explaining_answer result) old new
+explains_end Told failures old settings log given meanings (Ok summary) failures_now new told short all means ends =
+    (meanings, (short, means), ends.counted, ends.written told)
+explains_end Told failures old settings log given meanings (Err why) failures_now new told short all means ends =
+    writes_front_at_end MESSAGE_LIMIT settings log given fault.Write meanings old new means (le-min (omega arith) short) refl (ends.written told)
 
-pub end_failures : (Told : Type 0) (failures : ℕ) (old : List ℕ) (settings : Settings) (whats : List (Option Stamped)) (result : Result Summary DeviceFault)
-    (failures_now : ℕ) (new : List ℕ) → Ends Told failures old settings whats result failures_now new
+pub end_failures : (Told : Type 0) (failures : ℕ) (old : List ℕ) (settings : Settings) (meanings : List (Option Stamped)) (result : Result Summary DeviceFault)
+    (failures_now : ℕ) (new : List ℕ) → Ends Told failures old settings meanings result failures_now new
     → FailedIf fault.Write (explaining_answer result) failures failures_now
-end_failures Told failures old settings whats (Ok summary) failures_now new ends = record { risen = λ is. absurd (cc is); same = λ _. ends.failures_are }
-end_failures Told failures old settings whats (Err why) failures_now new ends = record { risen = λ _. ends.failures_are; same = λ not. absurd (not refl) }
+end_failures Told failures old settings meanings (Ok summary) failures_now new ends = record { risen = λ is. absurd (cc is); same = λ _. ends.failures_are }
+end_failures Told failures old settings meanings (Err why) failures_now new ends = record { risen = λ _. ends.failures_are; same = λ not. absurd (not refl) }
 
 -- a target that tells its bytes tells them after a run that went well
 pub told_at_the_end : (Tells : Type 0) (result : Result Summary DeviceFault) → OnOk result Tells → OnOk (explaining_answer result) Tells
@@ -260,11 +260,11 @@ end_reads (Err why) old new same = record { risen = λ is. absurd (cc is); same 
 pub certifies : (settings : Settings) (log : List ℕ) (given : ℕ) (result : Result Summary Fault) (old new : List ℕ)
     → AnswersExplain MESSAGE_LIMIT settings log given result old new → IfOk result (Certifies MESSAGE_LIMIT settings log)
 certifies settings log given (Ok summary) old new answers = λ dropped ended unfinished.
-    let whats = answers.0 in
+    let meanings = answers.0 in
     let same = answers.2 in
-    let clean = clean_summary_is_certificate MESSAGE_LIMIT settings whats (omega arith) (ap (λ (x : Summary). x.dropped) (sym same) ∙ dropped)
+    let clean = clean_summary_is_certificate MESSAGE_LIMIT settings meanings (omega arith) (ap (λ (x : Summary). x.dropped) (sym same) ∙ dropped)
     (ap (λ (x : Summary). x.ended) (sym same) ∙ ended) (ap (λ (x : Summary). x.unfinished) (sym same) ∙ unfinished) in
-    record { whats = whats; means = answers.1.1; recording = clean.0; own_frames = clean.1; once = clean.2 }
+    record { meanings = meanings; means = answers.1.1; recording = clean.0; own_frames = clean.1; once = clean.2 }
 certifies settings log given (Err why) old new answers = tt
 
 -- ---- the end of a run
@@ -273,31 +273,31 @@ certifies settings log given (Err why) old new answers = tt
 abbrev last_text : Receptions → Summary → List ℕ
 last_text pair summary = unfinished_text pair ++ summary_line summary
 
-module _ (Told ToldThen : Type 0) (failures : ℕ) (old : List ℕ) (settings : Settings) (whats : List (Option Stamped)) (pair : Receptions) (pending : Pending)
-    (summary : Summary) (failures_then : ℕ) (before : List ℕ) (pair_is : pair ≡ receptions_after MESSAGE_LIMIT (trace settings whats))
-    (explains : Explains Told ToldThen failures old (trace settings whats) pending failures_then before)
-    (counted : summary ≡ summary_of MESSAGE_LIMIT settings whats) where
-  same_text : last_text pair summary ≡ last_text (receptions_after MESSAGE_LIMIT (trace settings whats)) (summary_of MESSAGE_LIMIT settings whats)
+module _ (Told ToldThen : Type 0) (failures : ℕ) (old : List ℕ) (settings : Settings) (meanings : List (Option Stamped)) (pair : Receptions) (pending : Pending)
+    (summary : Summary) (failures_then : ℕ) (before : List ℕ) (pair_is : pair ≡ receptions_after MESSAGE_LIMIT (trace settings meanings))
+    (explains : Explains Told ToldThen failures old (trace settings meanings) pending failures_then before)
+    (counted : summary ≡ summary_of MESSAGE_LIMIT settings meanings) where
+  same_text : last_text pair summary ≡ last_text (receptions_after MESSAGE_LIMIT (trace settings meanings)) (summary_of MESSAGE_LIMIT settings meanings)
   same_text = ap₂ last_text pair_is counted
 
   pub ends_well : (failures_now : ℕ) (new : List ℕ) → failures_now ≡ failures_then → (ToldThen → new ≡ before ++ last_text pair summary)
-      → EndsWell Told failures old settings whats summary failures_now new
+      → EndsWell Told failures old settings meanings summary failures_now new
   ends_well failures_now new same wrote = record {
     counted = counted;
     failures_are = same ∙ explains.failures_are;
     written = λ told.
         wrote (explains.telling told) ∙ ap₂ (λ x y. x ++ y) (explains.written told) same_text
-        ∙ append_assoc old (events_text MESSAGE_LIMIT (trace settings whats)) (last_text (receptions_after MESSAGE_LIMIT (trace settings whats)) (summary_of MESSAGE_LIMIT settings whats));
+        ∙ append_assoc old (events_text MESSAGE_LIMIT (trace settings meanings)) (last_text (receptions_after MESSAGE_LIMIT (trace settings meanings)) (summary_of MESSAGE_LIMIT settings meanings));
   }
 
   pub ends_wrong : (failures_now : ℕ) (new : List ℕ) → failures_now ≡ failures_then + 1 → (ToldThen → HasFront before (last_text pair summary) new)
-      → EndsWrong Told failures old settings whats failures_now new
+      → EndsWrong Told failures old settings meanings failures_now new
   ends_wrong failures_now new risen wrote = record {
     failures_are = risen ∙ ap (λ n. n + 1) explains.failures_are;
     written = λ told.
-        front_behind old (events_text MESSAGE_LIMIT (trace settings whats))
-        (last_text (receptions_after MESSAGE_LIMIT (trace settings whats)) (summary_of MESSAGE_LIMIT settings whats)) before [] new
-        (all_written old (events_text MESSAGE_LIMIT (trace settings whats)) before (explains.written told))
+        front_behind old (events_text MESSAGE_LIMIT (trace settings meanings))
+        (last_text (receptions_after MESSAGE_LIMIT (trace settings meanings)) (summary_of MESSAGE_LIMIT settings meanings)) before [] new
+        (all_written old (events_text MESSAGE_LIMIT (trace settings meanings)) before (explains.written told))
         (subst (λ text. HasFront before text new) same_text (wrote (explains.telling told)));
   }
 

@@ -71,14 +71,14 @@ fitting_is_longest settings lines clean =
 early_is_front : (limit : ℕ) (settings : Settings) (log : List ℕ) (given : ℕ) (fault : Fault) (old new : List ℕ) → WritesEarly limit settings log given fault old new
     → WritesFront limit settings log given fault old new
 early_is_front limit settings log given fault old new early =
-    let stays = early_text_stays limit settings early.whats [] in
+    let stays = early_text_stays limit settings early.meanings [] in
     record {
-      whats = early.whats;
+      meanings = early.meanings;
       read = early.read;
-      written = early_text limit settings early.whats;
+      written = early_text limit settings early.meanings;
       missing = stays.0;
       wrote = early.wrote;
-      front = ap (canonical_log_of_lines limit settings) (sym (append-nil early.whats)) ∙ stays.1;
+      front = ap (canonical_log_of_lines limit settings) (sym (append-nil early.meanings)) ∙ stays.1;
     }
 
 pub fault_leaves_front : FaultLeavesFront
@@ -86,11 +86,11 @@ fault_leaves_front limit settings log given (BadLine line column) old new all an
 fault_leaves_front limit settings log given (Oversize line announced) old new all answers = early_is_front limit settings log given (Oversize line announced) old new answers.1
 fault_leaves_front limit settings log given LogLimit old new all answers = early_is_front limit settings log given LogLimit old new answers.1
 fault_leaves_front limit settings log given OutputLimit old new all answers =
-    let whats = answers.1.0 in
+    let meanings = answers.1.0 in
     let read = answers.1.1 in
-    let begins : Begins (fitting settings (canonical_log_of_lines limit settings whats)) (canonical_log_of_lines limit settings whats) =
-    fitting_log_begins limit settings (flattened (meaning_of_lines limit settings whats)) in
-    writes_front_at_end limit settings log given OutputLimit whats (fitting settings (canonical_log_of_lines limit settings whats)) old new read.means
+    let begins : Begins (fitting settings (canonical_log_of_lines limit settings meanings)) (canonical_log_of_lines limit settings meanings) =
+    fitting_log_begins limit settings (flattened (meaning_of_lines limit settings meanings)) in
+    writes_front_at_end limit settings log given OutputLimit meanings (fitting settings (canonical_log_of_lines limit settings meanings)) old new read.means
     (le-min (all refl) read.short) refl read.within answers.1.2 begins
 fault_leaves_front limit settings log given Read old new all answers = early_is_front limit settings log given Read old new answers.1
 fault_leaves_front limit settings log given Write old new all answers = answers.1.0

@@ -35,70 +35,70 @@ use Rattle.trace_canon.proofs.ScannedLogs.{bad_line, oversize_taken, oversize_la
 
 -- what is known of a line on which the run stopped
 abbrev pub HaltsHolding : Settings → List (Option Stamped) → Option Stamped → HoldingFault → Type 0
-HaltsHolding settings whats what why =
+HaltsHolding settings meanings what why =
     (stamped : Stamped) × (d : Dir) × (what ≡ Some stamped) × (Some d ≡ direction_of settings stamped.frame.id)
-    × StopsHolding (trace settings whats) (entry_in whats stamped d) why
+    × StopsHolding (trace settings meanings) (entry_in meanings stamped d) why
 
 -- ---- a fault of the lines
 
 module _ (settings : Settings) (log : List ℕ) (given : ℕ) where
   -- a line announces too much
-  tells_oversize : (line announced : ℕ) (whats : List (Option Stamped)) (what : Option Stamped) → HaltsHolding settings whats what (holding_fault.Oversize line announced)
-      → (((given ≤ settings.max_bytes) × StopsInLog log given whats what) ⊎ ((length log ≤ settings.max_bytes) × (given ≡ length log) × StopsAtEnd log whats what))
+  tells_oversize : (line announced : ℕ) (meanings : List (Option Stamped)) (what : Option Stamped) → HaltsHolding settings meanings what (holding_fault.Oversize line announced)
+      → (((given ≤ settings.max_bytes) × StopsInLog log given meanings what) ⊎ ((length log ≤ settings.max_bytes) × (given ≡ length log) × StopsAtEnd log meanings what))
       → TellsOutcome MESSAGE_LIMIT settings log (fault.Oversize line announced)
-  tells_oversize line announced whats what (stamped, d, is, direction, (within, at, announces)) (inl (few, stops)) =
+  tells_oversize line announced meanings what (stamped, d, is, direction, (within, at, announces)) (inl (few, stops)) =
       let size = length-take given log in
       let all = ap length stops.stops.parts ∙ length-append stops.stops.front stops.stops.rest in
       let parts : log ≡ stops.stops.front ++ (stops.stops.rest ++ drop given log) =
       sym (take-append-drop given log) ∙ ap (λ x. x ++ drop given log) stops.stops.parts ∙ append_assoc stops.stops.front stops.stops.rest (drop given log) in
-      (oversize_taken MESSAGE_LIMIT settings log stops.stops.front (stops.stops.rest ++ drop given log) whats what stops.stops.standing line announced
+      (oversize_taken MESSAGE_LIMIT settings log stops.stops.front (stops.stops.rest ++ drop given log) meanings what stops.stops.standing line announced
       stops.stops.stands parts (omega arith) (omega arith)
-      (each_within settings whats within) (line_announces settings what stamped d (Some announced) is direction announces)).over
-  tells_oversize line announced whats what (stamped, d, is, direction, (within, at, announces)) (inr (short, all, stops)) =
-      (oversize_last MESSAGE_LIMIT settings log whats what line announced stops.means short (omega arith)
-      (each_within settings whats within) (line_announces settings what stamped d (Some announced) is direction announces)).over
+      (each_within settings meanings within) (line_announces settings what stamped d (Some announced) is direction announces)).over
+  tells_oversize line announced meanings what (stamped, d, is, direction, (within, at, announces)) (inr (short, all, stops)) =
+      (oversize_last MESSAGE_LIMIT settings log meanings what line announced stops.means short (omega arith)
+      (each_within settings meanings within) (line_announces settings what stamped d (Some announced) is direction announces)).over
 
   module _ {S : Type 0} (A : Type 0) (took : Took S) (stopped : Stopped S HoldingFault) (s n : S)
-      (gives : (whats : List (Option Stamped)) → took s whats n → AllByRecursion AnnouncesWithin (trace settings whats))
-      (halts : (whats : List (Option Stamped)) (what : Option Stamped) (why : HoldingFault) → stopped s whats what why n → HaltsHolding settings whats what why) where
+      (gives : (meanings : List (Option Stamped)) → took s meanings n → AllByRecursion AnnouncesWithin (trace settings meanings))
+      (halts : (meanings : List (Option Stamped)) (what : Option Stamped) (why : HoldingFault) → stopped s meanings what why n → HaltsHolding settings meanings what why) where
     tells_lines : (why : LineFault HoldingFault) → ReadsLog took stopped s {A = A} settings.max_bytes log given (Err why) n
         → TellsOutcome MESSAGE_LIMIT settings log (fault_of why)
-    tells_lines (line_fault.BadLine line column) (whats, taken, inl (few, refuses)) =
-        bad_line MESSAGE_LIMIT settings log line column whats given (bad_in_front log given line column whats refuses) few (each_within settings whats (gives whats taken))
-    tells_lines (line_fault.BadLine line column) (whats, taken, inr (short, all, refused)) =
-        bad_line MESSAGE_LIMIT settings log line column whats (length log) (bad_at_end log line column whats refused) short (each_within settings whats (gives whats taken))
-    tells_lines line_fault.LogLimit (whats, taken, long, come, (standing, stands)) =
+    tells_lines (line_fault.BadLine line column) (meanings, taken, inl (few, refuses)) =
+        bad_line MESSAGE_LIMIT settings log line column meanings given (bad_in_front log given line column meanings refuses) few (each_within settings meanings (gives meanings taken))
+    tells_lines (line_fault.BadLine line column) (meanings, taken, inr (short, all, refused)) =
+        bad_line MESSAGE_LIMIT settings log line column meanings (length log) (bad_at_end log line column meanings refused) short (each_within settings meanings (gives meanings taken))
+    tells_lines line_fault.LogLimit (meanings, taken, long, come, (standing, stands)) =
         let size = length-take settings.max_bytes log in (
-          not_refused_at_limit MESSAGE_LIMIT settings log (take settings.max_bytes log) (drop settings.max_bytes log) whats standing stands
-              (sym (take-append-drop settings.max_bytes log)) (omega arith) long (each_within settings whats (gives whats taken)),
+          not_refused_at_limit MESSAGE_LIMIT settings log (take settings.max_bytes log) (drop settings.max_bytes log) meanings standing stands
+              (sym (take-append-drop settings.max_bytes log)) (omega arith) long (each_within settings meanings (gives meanings taken)),
           long,
         )
     tells_lines line_fault.Read read = tt
-    tells_lines (line_fault.Taker (holding_fault.Oversize line announced)) (whats, what, stops, place) =
-        tells_oversize line announced whats what (halts whats what (holding_fault.Oversize line announced) stops) place
+    tells_lines (line_fault.Taker (holding_fault.Oversize line announced)) (meanings, what, stops, place) =
+        tells_oversize line announced meanings what (halts meanings what (holding_fault.Oversize line announced) stops) place
     tells_lines (line_fault.Taker holding_fault.Memory) read = tt
 
 -- the same, from what a caller has at hand
 pub tells_of_lines : (settings : Settings) (log : List ℕ) (given : ℕ) {S : Type 0} (A : Type 0) (took : Took S) (stopped : Stopped S HoldingFault) (s n : S)
     (why : LineFault HoldingFault) (m : ℕ) → m ≡ settings.max_bytes → ReadsLog took stopped s {A = A} m log given (Err why) n
-    → ((whats : List (Option Stamped)) → took s whats n → AllByRecursion AnnouncesWithin (trace settings whats))
-    → ((whats : List (Option Stamped)) (what : Option Stamped) (why : HoldingFault) → stopped s whats what why n → HaltsHolding settings whats what why)
+    → ((meanings : List (Option Stamped)) → took s meanings n → AllByRecursion AnnouncesWithin (trace settings meanings))
+    → ((meanings : List (Option Stamped)) (what : Option Stamped) (why : HoldingFault) → stopped s meanings what why n → HaltsHolding settings meanings what why)
     → TellsOutcome MESSAGE_LIMIT settings log (fault_of why)
 tells_of_lines settings log given A took stopped s n why m is read gives halts =
     tells_lines settings log given A took stopped s n gives halts why (subst (λ k. ReadsLog took stopped s {A = A} k log given (Err why) n) is read)
 
 -- ---- the end of the run
 
-pub finds_end : (settings : Settings) (log : List ℕ) (whats : List (Option Stamped)) (end : Option Held) → length log ≤ settings.max_bytes → LogMeans log whats
-    → AllByRecursion AnnouncesWithin (trace settings whats) → EndsHeld settings whats end → FindsMeaning MESSAGE_LIMIT settings log (ok_or end fault.OutputLimit)
-finds_end settings log whats (Some held) short means within ends = record {
-  accepted = record { text = canonical_log_of_lines MESSAGE_LIMIT settings whats; summary = summary_of MESSAGE_LIMIT settings whats };
-  outcome = (whats, record { short = short; means = means; within = each_within settings whats within }, record { spelled = refl; fits = ends.fits; counted = refl });
-  means = record { whats = whats; means = means; found = ends.items };
+pub finds_end : (settings : Settings) (log : List ℕ) (meanings : List (Option Stamped)) (end : Option Held) → length log ≤ settings.max_bytes → LogMeans log meanings
+    → AllByRecursion AnnouncesWithin (trace settings meanings) → EndsHeld settings meanings end → FindsMeaning MESSAGE_LIMIT settings log (ok_or end fault.OutputLimit)
+finds_end settings log meanings (Some held) short means within ends = record {
+  accepted = record { text = canonical_log_of_lines MESSAGE_LIMIT settings meanings; summary = summary_of MESSAGE_LIMIT settings meanings };
+  outcome = (meanings, record { short = short; means = means; within = each_within settings meanings within }, record { spelled = refl; fits = ends.fits; counted = refl });
+  means = record { meanings = meanings; means = means; found = ends.items };
   counted = sym ends.counted;
 }
-finds_end settings log whats None short means within ends =
-    (whats, record { short = short; means = means; within = each_within settings whats within }, ends)
+finds_end settings log meanings None short means within ends =
+    (meanings, record { short = short; means = means; within = each_within settings meanings within }, ends)
 
 -- ---- what a run has held
 
@@ -115,20 +115,20 @@ held_nothing start stands = record { stands = stands; within = tt }
 
 -- ---- the test of the whole meaning
 
-fits_as : (settings config : Settings) (whats : List (Option Stamped)) (items : List ItemValue) (fits : Bool) → config ≡ settings
-    → items ≡ meaning_of_lines MESSAGE_LIMIT settings whats → fits ≡ nat_le (length (canonical_log MESSAGE_LIMIT config (flattened items))) config.max_bytes
-    → nat_le (length (canonical_log_of_lines MESSAGE_LIMIT settings whats)) settings.max_bytes ≡ fits
-fits_as settings config whats items fits same is test =
+fits_as : (settings config : Settings) (meanings : List (Option Stamped)) (items : List ItemValue) (fits : Bool) → config ≡ settings
+    → items ≡ meaning_of_lines MESSAGE_LIMIT settings meanings → fits ≡ nat_le (length (canonical_log MESSAGE_LIMIT config (flattened items))) config.max_bytes
+    → nat_le (length (canonical_log_of_lines MESSAGE_LIMIT settings meanings)) settings.max_bytes ≡ fits
+fits_as settings config meanings items fits same is test =
     sym (test ∙ ap (λ (s : Settings). nat_le (length (canonical_log MESSAGE_LIMIT s (flattened items))) s.max_bytes) same
     ∙ ap (λ m. nat_le (length (canonical_log MESSAGE_LIMIT settings (flattened m))) settings.max_bytes) is)
 
-pub ends_well : (settings config : Settings) (whats : List (Option Stamped)) (held : Held) (fits : Bool) → config ≡ settings
-    → held.meaning ≡ meaning_of_lines MESSAGE_LIMIT settings whats → fits ≡ nat_le (length (canonical_log MESSAGE_LIMIT config (flattened held.meaning))) config.max_bytes
-    → fits ≡ true → held.summary ≡ summary_of MESSAGE_LIMIT settings whats → EndsHeld settings whats (Some held)
-ends_well settings config whats held fits same is test within counted =
-    record { items = is; counted = counted; fits = leb-true _ _ (fits_as settings config whats held.meaning fits same is test ∙ within) }
+pub ends_well : (settings config : Settings) (meanings : List (Option Stamped)) (held : Held) (fits : Bool) → config ≡ settings
+    → held.meaning ≡ meaning_of_lines MESSAGE_LIMIT settings meanings → fits ≡ nat_le (length (canonical_log MESSAGE_LIMIT config (flattened held.meaning))) config.max_bytes
+    → fits ≡ true → held.summary ≡ summary_of MESSAGE_LIMIT settings meanings → EndsHeld settings meanings (Some held)
+ends_well settings config meanings held fits same is test within counted =
+    record { items = is; counted = counted; fits = leb-true _ _ (fits_as settings config meanings held.meaning fits same is test ∙ within) }
 
-pub ends_over : (settings config : Settings) (whats : List (Option Stamped)) (items : List ItemValue) (fits : Bool) → config ≡ settings
-    → items ≡ meaning_of_lines MESSAGE_LIMIT settings whats → fits ≡ nat_le (length (canonical_log MESSAGE_LIMIT config (flattened items))) config.max_bytes
-    → fits ≡ false → EndsHeld settings whats None
-ends_over settings config whats items fits same is test over = leb-false _ _ (fits_as settings config whats items fits same is test ∙ over)
+pub ends_over : (settings config : Settings) (meanings : List (Option Stamped)) (items : List ItemValue) (fits : Bool) → config ≡ settings
+    → items ≡ meaning_of_lines MESSAGE_LIMIT settings meanings → fits ≡ nat_le (length (canonical_log MESSAGE_LIMIT config (flattened items))) config.max_bytes
+    → fits ≡ false → EndsHeld settings meanings None
+ends_over settings config meanings items fits same is test over = leb-false _ _ (fits_as settings config meanings items fits same is test ∙ over)

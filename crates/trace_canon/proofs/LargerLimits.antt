@@ -1,4 +1,4 @@
--- A log in which no length is announced above a limit comes to the same under a larger one.
+-- A log in which no length above a limit is announced has the same outcome under a larger one.
 use Rattle.std.proofs.Common.{◌≡◌, ℕ, ◌+◌, ◌≤◌, Bool, true, false, List, [], ◌∷◌, ◌++◌, length, nat_le, arith, refl, ap, sym, ◌∙◌, Option, Some, None, Result, Ok, Err}
 use Rattle.std.specs.Prelude.{cond, is_none, option_to_list}
 use Rattle.std.specs.List.{AllByRecursion}
@@ -13,8 +13,8 @@ use Rattle.isotp_pdu.specs.Layout.{Layout}
 use Rattle.isotp_pdu.specs.Layout as layout
 use Rattle.isotp_pdu.specs.Reading.{layout_of}
 use Rattle.isotp_pdu.specs.declared.PduFault.{PduFault}
-use Rattle.isotp_receive.specs.Standing.{Standing, stands, since, or_else}
-use Rattle.isotp_receive.specs.Trace.{Entry, Role, single, first, consecutive, continue_or_wait, overflow, no_part, role}
+use Rattle.isotp_receive.specs.StandingReception.{StandingReception, stands, since, or_else}
+use Rattle.isotp_receive.specs.Trace.{Entry, FrameRole, single, first, consecutive, continue_or_wait, overflow, no_part, role}
 use Rattle.isotp_receive.specs.Verdict.{EventValue, verdict, on_layout, told_message, messages_after}
 use Rattle.isotp_receive.specs.Events.{events_after, oversize_in}
 use Rattle.isotp_receive.proofs.Promises.{first_frame_is_read}
@@ -50,7 +50,7 @@ same_test limit larger len more few = let short = leb-true len limit few in le-l
 
 -- ---- receptions
 
-same_since : (limit larger : ℕ) (d : Dir) (e : Entry) (rest : List Entry) (r : Role) → limit ≤ larger → oversize_in limit (layout_of e.frame) ≡ None → role d e ≡ r
+same_since : (limit larger : ℕ) (d : Dir) (e : Entry) (rest : List Entry) (r : FrameRole) → limit ≤ larger → oversize_in limit (layout_of e.frame) ≡ None → role d e ≡ r
     → since larger d r rest ≡ since limit d r rest
 same_since limit larger d e rest (first start) more none is =
     let layout_is = (first_frame_is_read d e start is).1 in
@@ -69,7 +69,7 @@ same_stands limit larger d (e ∷ rest) more none =
     ap (λ x. or_else x (stands larger d rest)) (same_since limit larger d e rest (role d e) more none.0 refl)
     ∙ ap (λ x. or_else (since limit d (role d e) rest) x) (same_stands limit larger d rest more none.1)
 
-same_layout : (limit larger : ℕ) (d : Dir) (own others : Option Standing) (micros : ℕ) (r : Result Layout PduFault) → limit ≤ larger → oversize_in limit r ≡ None
+same_layout : (limit larger : ℕ) (d : Dir) (own others : Option StandingReception) (micros : ℕ) (r : Result Layout PduFault) → limit ≤ larger → oversize_in limit r ≡ None
     → on_layout larger d own others micros r ≡ on_layout limit d own others micros r
 same_layout limit larger d own others micros (Ok (layout.single m)) more none = refl
 same_layout limit larger d own others micros (Ok (layout.first announced rx_dl bytes)) more none =
@@ -127,11 +127,11 @@ larger_one limit larger settings (Some stamped) more none = go (direction_of set
     go None is = refl
     go (Some d) is = larger_in limit larger (layout_of stamped.frame) more is
 
-larger_within : (limit larger : ℕ) (settings : Settings) (whats : List (Option Stamped)) → limit ≤ larger → EachWithin limit settings whats → EachWithin larger settings whats
+larger_within : (limit larger : ℕ) (settings : Settings) (meanings : List (Option Stamped)) → limit ≤ larger → EachWithin limit settings meanings → EachWithin larger settings meanings
 larger_within limit larger settings [] more each = tt
-larger_within limit larger settings (what ∷ whats) more each = (
+larger_within limit larger settings (what ∷ meanings) more each = (
   ap is_none (larger_one limit larger settings what more (none_is (oversize limit settings what) each.0)),
-  larger_within limit larger settings whats more each.1,
+  larger_within limit larger settings meanings more each.1,
 )
 
 entry_announces : (limit line : ℕ) (stamped : Stamped) (rest : List Entry) (d : Option Dir) → oversize_by limit d stamped.frame ≡ None
@@ -145,14 +145,14 @@ one_announces_none : (limit : ℕ) (settings : Settings) (stamped : Stamped) →
 unfolding oversize
 one_announces_none limit settings stamped none = none
 
-trace_announces : (limit line : ℕ) (settings : Settings) (whats : List (Option Stamped)) → EachWithin limit settings whats → EachAnnounces limit (trace_from settings line whats)
+trace_announces : (limit line : ℕ) (settings : Settings) (meanings : List (Option Stamped)) → EachWithin limit settings meanings → EachAnnounces limit (trace_from settings line meanings)
 unfolding trace_from
 trace_announces limit line settings [] each = tt
-trace_announces limit line settings (None ∷ whats) each = trace_announces limit (line + 1) settings whats each.1
-trace_announces limit line settings (Some stamped ∷ whats) each =
-    entry_announces limit line stamped (trace_from settings (line + 1) whats) (direction_of settings stamped.frame.id)
+trace_announces limit line settings (None ∷ meanings) each = trace_announces limit (line + 1) settings meanings each.1
+trace_announces limit line settings (Some stamped ∷ meanings) each =
+    entry_announces limit line stamped (trace_from settings (line + 1) meanings) (direction_of settings stamped.frame.id)
     (one_announces_none limit settings stamped (none_is (oversize limit settings (Some stamped)) each.0))
-    (trace_announces limit (line + 1) settings whats each.1)
+    (trace_announces limit (line + 1) settings meanings each.1)
 
 -- ---- canonical logs
 
@@ -164,38 +164,38 @@ same_frames limit larger (one ∷ later) more each =
     let same = same_test limit larger (length one.1) more (le-leb (length one.1) limit fits) in
     rw (same, same_frames limit larger later more each.1) refl
 
-same_summary : (limit larger : ℕ) (settings : Settings) (whats : List (Option Stamped)) → limit ≤ larger → EachWithin limit settings whats
-    → summary_of limit settings whats ≡ summary_of larger settings whats
+same_summary : (limit larger : ℕ) (settings : Settings) (meanings : List (Option Stamped)) → limit ≤ larger → EachWithin limit settings meanings
+    → summary_of limit settings meanings ≡ summary_of larger settings meanings
 unfolding summary_of
-same_summary limit larger settings whats more each =
-    let T = trace settings whats in
-    let none = trace_announces limit 1 settings whats each in
+same_summary limit larger settings meanings more each =
+    let T = trace settings meanings in
+    let none = trace_announces limit 1 settings meanings each in
     let M = same_messages limit larger [] T more tt none in
     let E = same_events limit larger [] T more tt none in
     let tester = same_stands limit larger dir.Tester T more none in
     let unit = same_stands limit larger dir.Unit T more none in
     rw (M, E, tester, unit) refl
 
-same_log : (limit larger : ℕ) (settings : Settings) (log : List ℕ) (whats : List (Option Stamped)) → 64 ≤ limit → limit ≤ larger → IsReadWhole limit settings log whats
-    → canonical_log_of_lines larger settings whats ≡ canonical_log_of_lines limit settings whats
+same_log : (limit larger : ℕ) (settings : Settings) (log : List ℕ) (meanings : List (Option Stamped)) → 64 ≤ limit → limit ≤ larger → IsReadWhole limit settings log meanings
+    → canonical_log_of_lines larger settings meanings ≡ canonical_log_of_lines limit settings meanings
 unfolding canonical_log
-same_log limit larger settings log whats least more read =
-    let M = messages_of_lines limit settings whats in
-    let same : messages_of_lines larger settings whats ≡ M =
-    same_messages limit larger [] (trace settings whats) more tt (trace_announces limit 1 settings whats read.within) in
-    let sent = meaning_sendable limit M (log_sendable limit settings log whats least read.means) in
+same_log limit larger settings log meanings least more read =
+    let M = messages_of_lines limit settings meanings in
+    let same : messages_of_lines larger settings meanings ≡ M =
+    same_messages limit larger [] (trace settings meanings) more tt (trace_announces limit 1 settings meanings read.within) in
+    let sent = meaning_sendable limit M (log_sendable limit settings log meanings least read.means) in
     ap (λ x. log_of_frames settings (all_frames larger (flattened (meaning x)))) same
     ∙ ap (log_of_frames settings) (same_frames limit larger (flattened (meaning M)) more sent)
 
 pub larger_limit_keeps : LargerLimitKeeps
 larger_limit_keeps limit larger settings log accepted least more is =
-    let whats = is.0 in
+    let meanings = is.0 in
     let read = is.1 in (
-      whats,
-      record { short = read.short; means = read.means; within = larger_within limit larger settings whats more read.within },
+      meanings,
+      record { short = read.short; means = read.means; within = larger_within limit larger settings meanings more read.within },
       record {
-        spelled = is.2.spelled ∙ sym (same_log limit larger settings log whats least more read);
+        spelled = is.2.spelled ∙ sym (same_log limit larger settings log meanings least more read);
         fits = is.2.fits;
-        counted = is.2.counted ∙ same_summary limit larger settings whats more read.within;
+        counted = is.2.counted ∙ same_summary limit larger settings meanings more read.within;
       },
     )

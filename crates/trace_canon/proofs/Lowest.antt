@@ -53,10 +53,10 @@ behind_bad limit settings log line column other announced bad over = elim (cases
     inside [] lines_are rest_is = (refused_line_means_nothing bad.found.place.rest column over.text over.later bad.found.place.here (sym rest_is)).0 over.what over.means
     inside (first ∷ mid) lines_are rest_is =
         let same : first ≡ over.text = cc in
-        none_over limit settings bad.found.place.lines bad.found.place.whats over.before over.text mid over.what announced bad.found.place.legal bad.within
+        none_over limit settings bad.found.place.lines bad.found.place.meanings over.before over.text mid over.what announced bad.found.place.legal bad.within
         (lines_are ∙ ap (λ x. over.before ++ x ∷ mid) same) over.means over.announces
 
--- the first line that announces too much counts, where a later one or the refused place behind it does
+-- the first line that announces too much counts, where a later one or the refused place after it does
 first_counts : (limit : ℕ) (settings : Settings) (log : List ℕ) (lines more : List (List ℕ)) (bytes : ℕ) (found : FailsFirst (announces_within limit settings) lines)
     (announced : ℕ) → oversize limit settings found.what ≡ Some announced → log_lines log ≡ lines ++ more → length (ended_lines lines) ≤ bytes
     → Counts bytes settings log → CountsAsOversize limit settings log (length found.front + 1) announced
@@ -90,8 +90,8 @@ bad_is_first : (limit : ℕ) (settings : Settings) (log : List ℕ) (line column
     → ((other announced : ℕ) → CountsAsOversize limit settings log other announced → line < other) → IsBadLine limit settings log line column
 bad_is_first limit settings log line column bad lowest = record { found = bad; within = within }
   where
-    within : EachWithin limit settings bad.place.whats
-    within = elim (all_or_first (announces_within limit settings) bad.place.lines bad.place.whats bad.place.legal) [
+    within : EachWithin limit settings bad.place.meanings
+    within = elim (all_or_first (announces_within limit settings) bad.place.lines bad.place.meanings bad.place.legal) [
       | inl all ↦ all
       | inr found ↦
           let announced = failing_announces limit settings found.what found.fails in
@@ -115,11 +115,11 @@ bad_behind_over : (limit : ℕ) (settings : Settings) (log : List ℕ) (line ann
     → CountsAsBad settings log other column → line < other
 bad_behind_over limit settings log line announced other column over bad =
     let parts = sym (refused_lines log other column bad.place) ∙ over.found.parts in
-    let begins = refused_behind bad.place.lines bad.place.whats bad.place.rest column over.found.before over.found.text over.found.later over.whats over.found.what
+    let begins = refused_behind bad.place.lines bad.place.meanings bad.place.rest column over.found.before over.found.text over.found.later over.meanings over.found.what
     bad.place.legal bad.place.here parts over.legal over.found.means in
-    let long = ap length begins.1 ∙ length-append over.whats (over.found.what ∷ begins.0) in
-    let as_many = lines_mean_as_many bad.place.lines bad.place.whats bad.place.legal in
-    let too = lines_mean_as_many over.found.before over.whats over.legal in
+    let long = ap length begins.1 ∙ length-append over.meanings (over.found.what ∷ begins.0) in
+    let as_many = lines_mean_as_many bad.place.lines bad.place.meanings bad.place.legal in
+    let too = lines_mean_as_many over.found.before over.meanings over.legal in
     let one = over.found.at in
     let two = bad.place.at in
     omega arith
@@ -137,7 +137,7 @@ over_behind_over limit settings log line announced other more over too = elim (c
     inside fewer [] lines_are rest_is = let all = ap length lines_are ∙ length-append too.before [] in absurd (omega arith)
     inside fewer (first ∷ mid) lines_are rest_is =
         let same : first ≡ too.text = cc in
-        none_over limit settings over.found.before over.whats too.before too.text mid too.what more over.legal over.within
+        none_over limit settings over.found.before over.meanings too.before too.text mid too.what more over.legal over.within
         (lines_are ∙ ap (λ x. too.before ++ x ∷ mid) same) too.means too.announces
 
 module _ (limit : ℕ) (settings : Settings) (log : List ℕ) (line announced : ℕ) (over : CountsAsOversize limit settings log line announced)
@@ -146,11 +146,11 @@ module _ (limit : ℕ) (settings : Settings) (log : List ℕ) (line announced : 
   lines_long : length (ended_lines (over.before ++ over.text ∷ [])) ≡ length (ended_lines over.before) + length (ended_lines (over.text ∷ []))
   lines_long = length-ended_lines over.before (over.text ∷ [])
 
-  over_is_first : (whats : List (Option Stamped)) → LinesMean over.before whats → IsOversizeLine limit settings log line announced
-  over_is_first whats legal = record { found = over; whats = whats; legal = legal; within = within }
+  over_is_first : (meanings : List (Option Stamped)) → LinesMean over.before meanings → IsOversizeLine limit settings log line announced
+  over_is_first meanings legal = record { found = over; meanings = meanings; legal = legal; within = within }
     where
-      within : EachWithin limit settings whats
-      within = elim (all_or_first (announces_within limit settings) over.before whats legal) [
+      within : EachWithin limit settings meanings
+      within = elim (all_or_first (announces_within limit settings) over.before meanings legal) [
         | inl all ↦ all
         | inr found ↦
             let more = failing_announces limit settings found.what found.fails in
@@ -178,7 +178,7 @@ module _ (limit : ℕ) (settings : Settings) (log : List ℕ) (line announced : 
   where_refused other column place = elim (cases_lt (length over.before) (length place.lines)) [
     | inl fewer ↦
         let split = splits place.lines (log_lines place.rest) over.before (over.text ∷ over.later) both (omega arith) in
-        let parts = (lines_mean_in_parts over.before split.0 place.whats).0 (subst (λ x. LinesMean x place.whats) split.1 place.legal) in
+        let parts = (lines_mean_in_parts over.before split.0 place.meanings).0 (subst (λ x. LinesMean x place.meanings) split.1 place.legal) in
         over_is_first parts.0 parts.3
     | inr more ↦
         let split = splits over.before (over.text ∷ over.later) place.lines (log_lines place.rest) (sym both) more in

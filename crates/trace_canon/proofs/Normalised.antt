@@ -55,16 +55,16 @@ use Rattle.trace_canon.proofs.Texts.{Begins, begins_again, early_text_grows, fit
 
 -- ---- a refused place
 
-pub bad_in_front : (log : List ℕ) (given line column : ℕ) (whats : List (Option Stamped)) → RefusesIn (take given log) whats line column
-    → IsBadBehind log line column whats given
-bad_in_front log given line column whats refuses =
+pub bad_in_front : (log : List ℕ) (given line column : ℕ) (meanings : List (Option Stamped)) → RefusesIn (take given log) meanings line column
+    → IsBadBehind log line column meanings given
+bad_in_front log given line column meanings refuses =
     let size = length-take given log in
-    let refused = subst (λ x. IsRefusedWithin (length (take given log)) whats x line column) (take-append-drop given log) (refuses (drop given log)) in
+    let refused = subst (λ x. IsRefusedWithin (length (take given log)) meanings x line column) (take-append-drop given log) (refuses (drop given log)) in
     let inside = refused.2 in
     record { place = refused.0; behind = refused.1; before = omega arith; within = inl (omega arith) }
 
-pub bad_at_end : (log : List ℕ) (line column : ℕ) (whats : List (Option Stamped)) → IsRefusedBehind whats log line column → IsBadBehind log line column whats (length log)
-bad_at_end log line column whats (place, behind) =
+pub bad_at_end : (log : List ℕ) (line column : ℕ) (meanings : List (Option Stamped)) → IsRefusedBehind meanings log line column → IsBadBehind log line column meanings (length log)
+bad_at_end log line column meanings (place, behind) =
     let all = ap length place.parts ∙ length-append (ended_lines place.lines) place.rest in
     record { place = place; behind = behind; before = omega arith; within = inr (omega arith) }
 
@@ -74,16 +74,16 @@ each_front : (limit : ℕ) (settings : Settings) (front more : List (Option Stam
 each_front limit settings [] more all = tt
 each_front limit settings (what ∷ front) more all = (all.0, each_front limit settings front more all.1)
 
-each_more : (limit : ℕ) (settings : Settings) (whats : List (Option Stamped)) (what : Option Stamped) → EachWithin limit settings whats
-    → announces_within limit settings what ≡ true → EachWithin limit settings (whats ++ what ∷ [])
+each_more : (limit : ℕ) (settings : Settings) (meanings : List (Option Stamped)) (what : Option Stamped) → EachWithin limit settings meanings
+    → announces_within limit settings what ≡ true → EachWithin limit settings (meanings ++ what ∷ [])
 each_more limit settings [] what all one = (one, tt)
-each_more limit settings (x ∷ whats) what all one = (all.0, each_more limit settings whats what all.1 one)
+each_more limit settings (x ∷ meanings) what all one = (all.0, each_more limit settings meanings what all.1 one)
 
 -- what is known of a line on which the run stopped
 abbrev pub Halts : Type 0 → Type 0 → Settings → Writer → Writer → List (Option Stamped) → Option Stamped → OrderingFault → Type 0
-Halts Told ToldNow settings first now whats what why =
+Halts Told ToldNow settings first now meanings what why =
     (stamped : Stamped) × (d : Dir) × (what ≡ Some stamped) × (Some d ≡ direction_of settings stamped.frame.id)
-    × StopsAt Told ToldNow first (trace settings whats) (entry_in whats stamped d) why now
+    × StopsAt Told ToldNow first (trace settings meanings) (entry_in meanings stamped d) why now
 
 -- the line announces what its frame does
 pub line_announces : (settings : Settings) (what : Option Stamped) (stamped : Stamped) (d : Dir) (o : Option ℕ) → what ≡ Some stamped
@@ -93,126 +93,126 @@ line_announces settings what stamped d o is direction announces =
 
 module _ (Told ToldNow : Type 0) (settings : Settings) (first now : Writer) (log : List ℕ) (given : ℕ) (start : IsFirst settings first) (told : Told) where
   -- what is early was written
-  early_written : (whats : List (Option Stamped)) → Stood Told ToldNow first (trace settings whats) now
-      → now.written ≡ first.written ++ early_text MESSAGE_LIMIT settings whats
-  early_written whats stood = stood.written told ∙ ap (λ x. first.written ++ x) (text_is_fitting settings first (early (messages_of_lines MESSAGE_LIMIT settings whats)) start)
+  early_written : (meanings : List (Option Stamped)) → Stood Told ToldNow first (trace settings meanings) now
+      → now.written ≡ first.written ++ early_text MESSAGE_LIMIT settings meanings
+  early_written meanings stood = stood.written told ∙ ap (λ x. first.written ++ x) (text_is_fitting settings first (early (messages_of_lines MESSAGE_LIMIT settings meanings)) start)
 
   -- the lines that had come with the one on which the run stopped
-  come_in : (with_last : Bool) (firsts whats : List (Option Stamped)) (what : Option Stamped) → StopsIn firsts (take given log) whats what → given ≤ settings.max_bytes
-      → EachWithin MESSAGE_LIMIT settings (whats ++ what ∷ []) → HaveCome MESSAGE_LIMIT settings with_last (min given settings.max_bytes) log (whats ++ what ∷ [])
-  come_in with_last firsts whats what stops few each =
+  come_in : (with_last : Bool) (firsts meanings : List (Option Stamped)) (what : Option Stamped) → StopsIn firsts (take given log) meanings what → given ≤ settings.max_bytes
+      → EachWithin MESSAGE_LIMIT settings (meanings ++ what ∷ []) → HaveCome MESSAGE_LIMIT settings with_last (min given settings.max_bytes) log (meanings ++ what ∷ [])
+  come_in with_last firsts meanings what stops few each =
       let size = length-take given log in
       let all = ap length stops.parts ∙ length-append stops.front stops.rest in
       let parts : log ≡ stops.front ++ (stops.rest ++ drop given log) =
       sym (take-append-drop given log) ∙ ap (λ x. x ++ drop given log) stops.parts ∙ append_assoc stops.front stops.rest (drop given log) in
-      taken_have_come MESSAGE_LIMIT settings with_last (min given settings.max_bytes) log stops.front (stops.rest ++ drop given log) (whats ++ what ∷ []) stops.standing stops.stands
+      taken_have_come MESSAGE_LIMIT settings with_last (min given settings.max_bytes) log stops.front (stops.rest ++ drop given log) (meanings ++ what ∷ []) stops.standing stops.stands
       parts (le-min (omega arith) (omega arith)) each
 
-  -- where the log goes on behind the lines on which the run stopped
-  cut_in : (firsts whats : List (Option Stamped)) (what : Option Stamped) → (stops : StopsIn firsts (take given log) whats what)
+  -- where the log goes on after the lines on which the run stopped
+  cut_in : (firsts meanings : List (Option Stamped)) (what : Option Stamped) → (stops : StopsIn firsts (take given log) meanings what)
       → log ≡ stops.front ++ (stops.rest ++ drop given log)
-  cut_in firsts whats what stops =
+  cut_in firsts meanings what stops =
       sym (take-append-drop given log) ∙ ap (λ x. x ++ drop given log) stops.parts ∙ append_assoc stops.front stops.rest (drop given log)
 
   -- a line announces too much
-  oversize_ends : (line announced : ℕ) (whats : List (Option Stamped)) (what : Option Stamped) → Halts Told ToldNow settings first now whats what (ordering_fault.Oversize line announced)
-      → (((given ≤ settings.max_bytes) × StopsInLog log given whats what) ⊎ ((length log ≤ settings.max_bytes) × (given ≡ length log) × StopsAtEnd log whats what))
+  oversize_ends : (line announced : ℕ) (meanings : List (Option Stamped)) (what : Option Stamped) → Halts Told ToldNow settings first now meanings what (ordering_fault.Oversize line announced)
+      → (((given ≤ settings.max_bytes) × StopsInLog log given meanings what) ⊎ ((length log ≤ settings.max_bytes) × (given ≡ length log) × StopsAtEnd log meanings what))
       → Answers MESSAGE_LIMIT settings log given (Err (fault.Oversize line announced)) first.written now.written
-  oversize_ends line announced whats what (stamped, d, is, direction, (stood, at, announces)) (inl (few, stops)) =
+  oversize_ends line announced meanings what (stamped, d, is, direction, (stood, at, announces)) (inl (few, stops)) =
       let size = length-take given log in
       let all = ap length stops.stops.parts ∙ length-append stops.stops.front stops.stops.rest in
-      answers_oversize MESSAGE_LIMIT settings log given line announced stops.stops.front (stops.stops.rest ++ drop given log) whats what stops.stops.standing first.written now.written
-      stops.stops.stands (cut_in stops.first whats what stops.stops) (omega arith) (omega arith) (omega arith) (each_within settings whats stood.within)
-      (line_announces settings what stamped d (Some announced) is direction announces) (early_written whats stood)
-  oversize_ends line announced whats what (stamped, d, is, direction, (stood, at, announces)) (inr (short, all, stops)) =
-      answers_oversize_last MESSAGE_LIMIT settings log given line announced whats what first.written now.written stops.means short (omega arith) (omega arith)
-      (each_within settings whats stood.within) (line_announces settings what stamped d (Some announced) is direction announces) (early_written whats stood)
+      answers_oversize MESSAGE_LIMIT settings log given line announced stops.stops.front (stops.stops.rest ++ drop given log) meanings what stops.stops.standing first.written now.written
+      stops.stops.stands (cut_in stops.first meanings what stops.stops) (omega arith) (omega arith) (omega arith) (each_within settings meanings stood.within)
+      (line_announces settings what stamped d (Some announced) is direction announces) (early_written meanings stood)
+  oversize_ends line announced meanings what (stamped, d, is, direction, (stood, at, announces)) (inr (short, all, stops)) =
+      answers_oversize_last MESSAGE_LIMIT settings log given line announced meanings what first.written now.written stops.means short (omega arith) (omega arith)
+      (each_within settings meanings stood.within) (line_announces settings what stamped d (Some announced) is direction announces) (early_written meanings stood)
 
   -- memory was refused at a line
-  memory_ends : (whats : List (Option Stamped)) (what : Option Stamped) → Halts Told ToldNow settings first now whats what ordering_fault.Memory
-      → (((given ≤ settings.max_bytes) × StopsInLog log given whats what) ⊎ ((length log ≤ settings.max_bytes) × (given ≡ length log) × StopsAtEnd log whats what))
+  memory_ends : (meanings : List (Option Stamped)) (what : Option Stamped) → Halts Told ToldNow settings first now meanings what ordering_fault.Memory
+      → (((given ≤ settings.max_bytes) × StopsInLog log given meanings what) ⊎ ((length log ≤ settings.max_bytes) × (given ≡ length log) × StopsAtEnd log meanings what))
       → Answers MESSAGE_LIMIT settings log given (Err fault.Memory) first.written now.written
-  memory_ends whats what (stamped, d, is, direction, (stood, within)) place =
+  memory_ends meanings what (stamped, d, is, direction, (stood, within)) place =
       let one = ap is_none (line_announces settings what stamped d None is direction within) in
-      let each = each_more MESSAGE_LIMIT settings whats what (each_within settings whats stood.within) one in
-      let come : HaveCome MESSAGE_LIMIT settings true (min given settings.max_bytes) log (whats ++ what ∷ []) = elim place [
-        | inl (few, stops) ↦ come_in true stops.first whats what stops.stops few each
-        | inr (short, all, stops) ↦ all_have_come MESSAGE_LIMIT settings (min given settings.max_bytes) log (whats ++ what ∷ []) stops.means (le-min (omega arith) short) each
+      let each = each_more MESSAGE_LIMIT settings meanings what (each_within settings meanings stood.within) one in
+      let come : HaveCome MESSAGE_LIMIT settings true (min given settings.max_bytes) log (meanings ++ what ∷ []) = elim place [
+        | inl (few, stops) ↦ come_in true stops.first meanings what stops.stops few each
+        | inr (short, all, stops) ↦ all_have_come MESSAGE_LIMIT settings (min given settings.max_bytes) log (meanings ++ what ∷ []) stops.means (le-min (omega arith) short) each
       ] in (
         tt,
-        writes_front MESSAGE_LIMIT settings log given fault.Memory (whats ++ what ∷ []) (early_text MESSAGE_LIMIT settings whats) first.written now.written come
-            (early_written whats stood) (early_text_grows MESSAGE_LIMIT settings whats (what ∷ [])),
+        writes_front MESSAGE_LIMIT settings log given fault.Memory (meanings ++ what ∷ []) (early_text MESSAGE_LIMIT settings meanings) first.written now.written come
+            (early_written meanings stood) (early_text_grows MESSAGE_LIMIT settings meanings (what ∷ [])),
       )
 
   -- the target failed at a line
-  write_ends : (whats : List (Option Stamped)) (what : Option Stamped) → Halts Told ToldNow settings first now whats what ordering_fault.Write
-      → (((given ≤ settings.max_bytes) × StopsInLog log given whats what) ⊎ ((length log ≤ settings.max_bytes) × (given ≡ length log) × StopsAtEnd log whats what))
+  write_ends : (meanings : List (Option Stamped)) (what : Option Stamped) → Halts Told ToldNow settings first now meanings what ordering_fault.Write
+      → (((given ≤ settings.max_bytes) × StopsInLog log given meanings what) ⊎ ((length log ≤ settings.max_bytes) × (given ≡ length log) × StopsAtEnd log meanings what))
       → Answers MESSAGE_LIMIT settings log given (Err fault.Write) first.written now.written
-  write_ends whats what (stamped, d, is, direction, failed) place =
-      let next = trace_next settings whats what stamped d is direction in
-      let all_whats = whats ++ what ∷ [] in
+  write_ends meanings what (stamped, d, is, direction, failed) place =
+      let next = trace_next settings meanings what stamped d is direction in
+      let all_whats = meanings ++ what ∷ [] in
       let each = each_within settings all_whats (subst (AllByRecursion AnnouncesWithin) (sym next) failed.within) in
       let some = failed.written told in
       let text : early_text MESSAGE_LIMIT settings all_whats ≡ some.front ++ some.rest =
       sym (text_is_fitting settings first (early (messages_of_lines MESSAGE_LIMIT settings all_whats)) start)
       ∙ ap (λ T. text_of_put first (early (messages MESSAGE_LIMIT T))) next ∙ some.parts in
-      let since : some.front ≡ early_text MESSAGE_LIMIT settings whats ++ some.more =
-      some.since ∙ ap (λ x. x ++ some.more) (text_is_fitting settings first (early (messages_of_lines MESSAGE_LIMIT settings whats)) start) in
+      let since : some.front ≡ early_text MESSAGE_LIMIT settings meanings ++ some.more =
+      some.since ∙ ap (λ x. x ++ some.more) (text_is_fitting settings first (early (messages_of_lines MESSAGE_LIMIT settings meanings)) start) in
       let come : HaveCome MESSAGE_LIMIT settings true (min given settings.max_bytes) log all_whats = elim place [
-        | inl (few, stops) ↦ come_in true stops.first whats what stops.stops few each
+        | inl (few, stops) ↦ come_in true stops.first meanings what stops.stops few each
         | inr (short, all, stops) ↦ all_have_come MESSAGE_LIMIT settings (min given settings.max_bytes) log all_whats stops.means (le-min (omega arith) short) each
       ] in
       let front = writes_front MESSAGE_LIMIT settings log given fault.Write all_whats some.front first.written now.written come some.wrote (some.rest, text) in
-      let each_before = each_front MESSAGE_LIMIT settings whats (what ∷ []) each in
+      let each_before = each_front MESSAGE_LIMIT settings meanings (what ∷ []) each in
       let eagerly : WritesEagerly MESSAGE_LIMIT settings log given first.written now.written = elim place [
         | inl (few, stops) ↦
             let grows = early_text_grows MESSAGE_LIMIT settings stops.first stops.stops.more in
-            let begins : Begins (early_text MESSAGE_LIMIT settings stops.first) (early_text MESSAGE_LIMIT settings whats) =
+            let begins : Begins (early_text MESSAGE_LIMIT settings stops.first) (early_text MESSAGE_LIMIT settings meanings) =
             (grows.0, ap (early_text MESSAGE_LIMIT settings) stops.stops.since ∙ grows.1) in
             writes_eagerly MESSAGE_LIMIT settings log given stops.before stops.behind stops.first stops.stood some.front first.written now.written stops.stands_before stops.starts stops.near
             (each_front MESSAGE_LIMIT settings stops.first stops.stops.more (subst (EachWithin MESSAGE_LIMIT settings) stops.stops.since each_before)) some.wrote
-            (begins_again (early_text MESSAGE_LIMIT settings stops.first) (early_text MESSAGE_LIMIT settings whats) some.front begins (some.more, since))
+            (begins_again (early_text MESSAGE_LIMIT settings stops.first) (early_text MESSAGE_LIMIT settings meanings) some.front begins (some.more, since))
         | inr (short, all, stops) ↦
-            writes_eagerly MESSAGE_LIMIT settings log given log [] whats stops.standing some.front first.written now.written stops.stands (sym (append-nil log)) (omega arith)
+            writes_eagerly MESSAGE_LIMIT settings log given log [] meanings stops.standing some.front first.written now.written stops.stands (sym (append-nil log)) (omega arith)
             each_before some.wrote (some.more, since)
       ] in
       (tt, (front, eagerly))
 
   -- each way in which the lines end with a fault
   pub answers_lines : {S : Type 0} (A : Type 0) (took : Took S) (stopped : Stopped S OrderingFault) (s n : S)
-      → ((whats : List (Option Stamped)) → took s whats n → Stood Told ToldNow first (trace settings whats) now)
-      → ((whats : List (Option Stamped)) (what : Option Stamped) (why : OrderingFault) → stopped s whats what why n → Halts Told ToldNow settings first now whats what why)
+      → ((meanings : List (Option Stamped)) → took s meanings n → Stood Told ToldNow first (trace settings meanings) now)
+      → ((meanings : List (Option Stamped)) (what : Option Stamped) (why : OrderingFault) → stopped s meanings what why n → Halts Told ToldNow settings first now meanings what why)
       → (why : LineFault OrderingFault) → ReadsLog took stopped s {A = A} settings.max_bytes log given (Err why) n
       → Answers MESSAGE_LIMIT settings log given (Err (fault_of why)) first.written now.written
-  answers_lines A took stopped s n gives halts (line_fault.BadLine line column) (whats, taken, inl (few, refuses)) =
-      let stood = gives whats taken in
-      answers_bad MESSAGE_LIMIT settings log given line column whats given first.written now.written (bad_in_front log given line column whats refuses) few (omega arith)
-      (each_within settings whats stood.within) (early_written whats stood)
-  answers_lines A took stopped s n gives halts (line_fault.BadLine line column) (whats, taken, inr (short, all, place)) =
-      let stood = gives whats taken in
-      answers_bad MESSAGE_LIMIT settings log given line column whats (length log) first.written now.written (bad_at_end log line column whats place) short (omega arith)
-      (each_within settings whats stood.within) (early_written whats stood)
-  answers_lines A took stopped s n gives halts line_fault.LogLimit (whats, taken, long, come, (standing, stands)) =
-      let stood = gives whats taken in
-      answers_limit MESSAGE_LIMIT settings log given (take settings.max_bytes log) (drop settings.max_bytes log) whats standing first.written now.written stands
-      (sym (take-append-drop settings.max_bytes log)) (length-take-le settings.max_bytes log (omega arith)) long come (each_within settings whats stood.within) (early_written whats stood)
-  answers_lines A took stopped s n gives halts line_fault.Read (whats, taken, few, inside, (standing, stands)) =
-      let stood = gives whats taken in
-      answers_read MESSAGE_LIMIT settings log given (take given log) (drop given log) whats standing first.written now.written stands (sym (take-append-drop given log))
-      (length-take-le given log inside) few (each_within settings whats stood.within) (early_written whats stood)
-  answers_lines A took stopped s n gives halts (line_fault.Taker (ordering_fault.Oversize line announced)) (whats, what, stops, place) =
-      oversize_ends line announced whats what (halts whats what (ordering_fault.Oversize line announced) stops) place
-  answers_lines A took stopped s n gives halts (line_fault.Taker ordering_fault.Memory) (whats, what, stops, place) =
-      memory_ends whats what (halts whats what ordering_fault.Memory stops) place
-  answers_lines A took stopped s n gives halts (line_fault.Taker ordering_fault.Write) (whats, what, stops, place) =
-      write_ends whats what (halts whats what ordering_fault.Write stops) place
+  answers_lines A took stopped s n gives halts (line_fault.BadLine line column) (meanings, taken, inl (few, refuses)) =
+      let stood = gives meanings taken in
+      answers_bad MESSAGE_LIMIT settings log given line column meanings given first.written now.written (bad_in_front log given line column meanings refuses) few (omega arith)
+      (each_within settings meanings stood.within) (early_written meanings stood)
+  answers_lines A took stopped s n gives halts (line_fault.BadLine line column) (meanings, taken, inr (short, all, place)) =
+      let stood = gives meanings taken in
+      answers_bad MESSAGE_LIMIT settings log given line column meanings (length log) first.written now.written (bad_at_end log line column meanings place) short (omega arith)
+      (each_within settings meanings stood.within) (early_written meanings stood)
+  answers_lines A took stopped s n gives halts line_fault.LogLimit (meanings, taken, long, come, (standing, stands)) =
+      let stood = gives meanings taken in
+      answers_limit MESSAGE_LIMIT settings log given (take settings.max_bytes log) (drop settings.max_bytes log) meanings standing first.written now.written stands
+      (sym (take-append-drop settings.max_bytes log)) (length-take-le settings.max_bytes log (omega arith)) long come (each_within settings meanings stood.within) (early_written meanings stood)
+  answers_lines A took stopped s n gives halts line_fault.Read (meanings, taken, few, inside, (standing, stands)) =
+      let stood = gives meanings taken in
+      answers_read MESSAGE_LIMIT settings log given (take given log) (drop given log) meanings standing first.written now.written stands (sym (take-append-drop given log))
+      (length-take-le given log inside) few (each_within settings meanings stood.within) (early_written meanings stood)
+  answers_lines A took stopped s n gives halts (line_fault.Taker (ordering_fault.Oversize line announced)) (meanings, what, stops, place) =
+      oversize_ends line announced meanings what (halts meanings what (ordering_fault.Oversize line announced) stops) place
+  answers_lines A took stopped s n gives halts (line_fault.Taker ordering_fault.Memory) (meanings, what, stops, place) =
+      memory_ends meanings what (halts meanings what ordering_fault.Memory stops) place
+  answers_lines A took stopped s n gives halts (line_fault.Taker ordering_fault.Write) (meanings, what, stops, place) =
+      write_ends meanings what (halts meanings what ordering_fault.Write stops) place
 
 -- the same, from what a caller has at hand
 pub answers_of_lines : (Told ToldNow : Type 0) (settings : Settings) (first now : Writer) (log : List ℕ) (given : ℕ) → IsFirst settings first → Told
     → {S : Type 0} (A : Type 0) (took : Took S) (stopped : Stopped S OrderingFault) (s n : S) (why : LineFault OrderingFault) (m : ℕ) → m ≡ settings.max_bytes
     → ReadsLog took stopped s {A = A} m log given (Err why) n
-    → ((whats : List (Option Stamped)) → took s whats n → Stood Told ToldNow first (trace settings whats) now)
-    → ((whats : List (Option Stamped)) (what : Option Stamped) (why : OrderingFault) → stopped s whats what why n → Halts Told ToldNow settings first now whats what why)
+    → ((meanings : List (Option Stamped)) → took s meanings n → Stood Told ToldNow first (trace settings meanings) now)
+    → ((meanings : List (Option Stamped)) (what : Option Stamped) (why : OrderingFault) → stopped s meanings what why n → Halts Told ToldNow settings first now meanings what why)
     → Answers MESSAGE_LIMIT settings log given (Err (fault_of why)) first.written now.written
 answers_of_lines Told ToldNow settings first now log given start told A took stopped s n why m is read gives halts =
     answers_lines Told ToldNow settings first now log given start told A took stopped s n gives halts why
@@ -220,49 +220,49 @@ answers_of_lines Told ToldNow settings first now log given start told A took sto
 
 -- ---- the counts of failures
 
--- these lines were taken, or the run stopped behind them
+-- these lines were taken, or the run stopped after them
 pub fails_as : {A : Type 0} (Told ToldNow : Type 0) (settings : Settings) (first now : Writer) {S : Type 0} (B : Type 0) (took : Took S) (stopped : Stopped S OrderingFault) (s n : S)
     → first.failures ≤ 2 ^ 62
-    → ((whats : List (Option Stamped)) → took s whats n → Stood Told ToldNow first (trace settings whats) now)
-    → ((whats : List (Option Stamped)) (what : Option Stamped) (why : OrderingFault) → stopped s whats what why n → Halts Told ToldNow settings first now whats what why)
+    → ((meanings : List (Option Stamped)) → took s meanings n → Stood Told ToldNow first (trace settings meanings) now)
+    → ((meanings : List (Option Stamped)) (what : Option Stamped) (why : OrderingFault) → stopped s meanings what why n → Halts Told ToldNow settings first now meanings what why)
     → (why : LineFault OrderingFault) → TakesSome took stopped s {A = B} (Err why) n → FailedIf {A = A} fault.Write (Err (fault_of why)) first.failures now.failures
-fails_as Told ToldNow settings first now B took stopped s n few gives halts (line_fault.BadLine line column) (whats, taken) =
-    record { risen = λ is. absurd (cc is); same = λ _. (gives whats taken).has_put.failures }
-fails_as Told ToldNow settings first now B took stopped s n few gives halts line_fault.LogLimit (whats, taken) =
-    record { risen = λ is. absurd (cc is); same = λ _. (gives whats taken).has_put.failures }
-fails_as Told ToldNow settings first now B took stopped s n few gives halts line_fault.Read (whats, taken) =
-    record { risen = λ is. absurd (cc is); same = λ _. (gives whats taken).has_put.failures }
-fails_as Told ToldNow settings first now B took stopped s n few gives halts (line_fault.Taker (ordering_fault.Oversize line announced)) (whats, what, stops) =
-    let halted = halts whats what (ordering_fault.Oversize line announced) stops in
+fails_as Told ToldNow settings first now B took stopped s n few gives halts (line_fault.BadLine line column) (meanings, taken) =
+    record { risen = λ is. absurd (cc is); same = λ _. (gives meanings taken).has_put.failures }
+fails_as Told ToldNow settings first now B took stopped s n few gives halts line_fault.LogLimit (meanings, taken) =
+    record { risen = λ is. absurd (cc is); same = λ _. (gives meanings taken).has_put.failures }
+fails_as Told ToldNow settings first now B took stopped s n few gives halts line_fault.Read (meanings, taken) =
+    record { risen = λ is. absurd (cc is); same = λ _. (gives meanings taken).has_put.failures }
+fails_as Told ToldNow settings first now B took stopped s n few gives halts (line_fault.Taker (ordering_fault.Oversize line announced)) (meanings, what, stops) =
+    let halted = halts meanings what (ordering_fault.Oversize line announced) stops in
     record { risen = λ is. absurd (cc is); same = λ _. halted.4.0.has_put.failures }
-fails_as Told ToldNow settings first now B took stopped s n few gives halts (line_fault.Taker ordering_fault.Memory) (whats, what, stops) =
-    let halted = halts whats what ordering_fault.Memory stops in
+fails_as Told ToldNow settings first now B took stopped s n few gives halts (line_fault.Taker ordering_fault.Memory) (meanings, what, stops) =
+    let halted = halts meanings what ordering_fault.Memory stops in
     record { risen = λ is. absurd (cc is); same = λ _. halted.4.0.has_put.failures }
-fails_as Told ToldNow settings first now B took stopped s n few gives halts (line_fault.Taker ordering_fault.Write) (whats, what, stops) =
-    let halted = halts whats what ordering_fault.Write stops in
+fails_as Told ToldNow settings first now B took stopped s n few gives halts (line_fault.Taker ordering_fault.Write) (meanings, what, stops) =
+    let halted = halts meanings what ordering_fault.Write stops in
     record { risen = λ _. halted.4.failures few; same = λ not. absurd (not refl) }
 
 pub fails_of_lines : {A : Type 0} (Told ToldNow : Type 0) (settings : Settings) (first now : Writer) {S : Type 0} (B : Type 0) (took : Took S) (stopped : Stopped S OrderingFault) (s n : S)
     → first.failures ≤ 2 ^ 62 → (why : LineFault OrderingFault) → TakesSome took stopped s {A = B} (Err why) n
-    → ((whats : List (Option Stamped)) → took s whats n → Stood Told ToldNow first (trace settings whats) now)
-    → ((whats : List (Option Stamped)) (what : Option Stamped) (why : OrderingFault) → stopped s whats what why n → Halts Told ToldNow settings first now whats what why)
+    → ((meanings : List (Option Stamped)) → took s meanings n → Stood Told ToldNow first (trace settings meanings) now)
+    → ((meanings : List (Option Stamped)) (what : Option Stamped) (why : OrderingFault) → stopped s meanings what why n → Halts Told ToldNow settings first now meanings what why)
     → FailedIf {A = A} fault.Write (Err (fault_of why)) first.failures now.failures
 fails_of_lines {A = A} Told ToldNow settings first now B took stopped s n few why takes gives halts =
     fails_as {A = A} Told ToldNow settings first now B took stopped s n few gives halts why takes
 
 -- the end of the run
-pub fails_at_the_end : (Told ToldNow : Type 0) (settings : Settings) (first : Writer) (whats : List (Option Stamped)) (result : Result Summary EndFault) (failures : ℕ) (written : List ℕ)
-    → first.failures ≤ 2 ^ 62 → Finishes Told ToldNow settings first whats result failures written → FailedIf fault.Write (answer_of result) first.failures failures
-fails_at_the_end Told ToldNow settings first whats (Ok summary) failures written few ends = record { risen = λ is. absurd (cc is); same = λ _. ends.failures_are }
-fails_at_the_end Told ToldNow settings first whats (Err end_fault.OutputLimit) failures written few ends = record { risen = λ is. absurd (cc is); same = λ _. ends.failures_are }
-fails_at_the_end Told ToldNow settings first whats (Err end_fault.Write) failures written few ends = record { risen = λ _. ends.failures_are few; same = λ not. absurd (not refl) }
+pub fails_at_the_end : (Told ToldNow : Type 0) (settings : Settings) (first : Writer) (meanings : List (Option Stamped)) (result : Result Summary EndFault) (failures : ℕ) (written : List ℕ)
+    → first.failures ≤ 2 ^ 62 → Finishes Told ToldNow settings first meanings result failures written → FailedIf fault.Write (answer_of result) first.failures failures
+fails_at_the_end Told ToldNow settings first meanings (Ok summary) failures written few ends = record { risen = λ is. absurd (cc is); same = λ _. ends.failures_are }
+fails_at_the_end Told ToldNow settings first meanings (Err end_fault.OutputLimit) failures written few ends = record { risen = λ is. absurd (cc is); same = λ _. ends.failures_are }
+fails_at_the_end Told ToldNow settings first meanings (Err end_fault.Write) failures written few ends = record { risen = λ _. ends.failures_are few; same = λ not. absurd (not refl) }
 
 -- a target that tells its bytes tells them after a run that went well
-pub tells_at_the_end : (Told ToldNow : Type 0) (settings : Settings) (first : Writer) (whats : List (Option Stamped)) (result : Result Summary EndFault) (failures : ℕ)
-    (written : List ℕ) → Told → Finishes Told ToldNow settings first whats result failures written → OnOk (answer_of result) ToldNow
-tells_at_the_end Told ToldNow settings first whats (Ok summary) failures written told ends = ends.telling told
-tells_at_the_end Told ToldNow settings first whats (Err end_fault.OutputLimit) failures written told ends = tt
-tells_at_the_end Told ToldNow settings first whats (Err end_fault.Write) failures written told ends = tt
+pub tells_at_the_end : (Told ToldNow : Type 0) (settings : Settings) (first : Writer) (meanings : List (Option Stamped)) (result : Result Summary EndFault) (failures : ℕ)
+    (written : List ℕ) → Told → Finishes Told ToldNow settings first meanings result failures written → OnOk (answer_of result) ToldNow
+tells_at_the_end Told ToldNow settings first meanings (Ok summary) failures written told ends = ends.telling told
+tells_at_the_end Told ToldNow settings first meanings (Err end_fault.OutputLimit) failures written told ends = tt
+tells_at_the_end Told ToldNow settings first meanings (Err end_fault.Write) failures written told ends = tt
 
 -- it is no fault of the source
 pub reads_at_the_end : (result : Result Summary EndFault) (old new : ℕ) → new ≡ old → FailedIf fault.Read (answer_of result) old new
@@ -272,33 +272,33 @@ reads_at_the_end (Err end_fault.Write) old new same = record { risen = λ is. ab
 
 -- ---- the end of the run
 
-pub answers_end : (Told ToldNow : Type 0) (settings : Settings) (first : Writer) (log : List ℕ) (given : ℕ) (whats : List (Option Stamped)) (result : Result Summary EndFault)
-    (failures : ℕ) (written : List ℕ) → Told → IsFirst settings first → length log ≤ settings.max_bytes → given ≡ length log → LogMeans log whats → HasEnded log whats
-    → AllByRecursion AnnouncesWithin (trace settings whats) → Finishes Told ToldNow settings first whats result failures written
+pub answers_end : (Told ToldNow : Type 0) (settings : Settings) (first : Writer) (log : List ℕ) (given : ℕ) (meanings : List (Option Stamped)) (result : Result Summary EndFault)
+    (failures : ℕ) (written : List ℕ) → Told → IsFirst settings first → length log ≤ settings.max_bytes → given ≡ length log → LogMeans log meanings → HasEnded log meanings
+    → AllByRecursion AnnouncesWithin (trace settings meanings) → Finishes Told ToldNow settings first meanings result failures written
     → Answers MESSAGE_LIMIT settings log given (answer_of result) first.written written
-answers_end Told ToldNow settings first log given whats (Ok summary) failures written told start short all means ended within ends =
+answers_end Told ToldNow settings first log given meanings (Ok summary) failures written told start short all means ended within ends =
     subst (λ r. Answers MESSAGE_LIMIT settings log given (Ok r) first.written written) (sym ends.counted)
-    (answers_accepted MESSAGE_LIMIT settings log given whats first.written written (record { short = short; means = means; within = each_within settings whats within }) ends.fits (ends.wrote told))
-answers_end Told ToldNow settings first log given whats (Err end_fault.OutputLimit) failures written told start short all means ended within ends =
-    answers_output_limit MESSAGE_LIMIT settings log given whats first.written written (record { short = short; means = means; within = each_within settings whats within }) ends.over (ends.wrote told)
-answers_end Told ToldNow settings first log given whats (Err end_fault.Write) failures written told start short all means ended within ends =
-    let each = each_within settings whats within in
+    (answers_accepted MESSAGE_LIMIT settings log given meanings first.written written (record { short = short; means = means; within = each_within settings meanings within }) ends.fits (ends.wrote told))
+answers_end Told ToldNow settings first log given meanings (Err end_fault.OutputLimit) failures written told start short all means ended within ends =
+    answers_output_limit MESSAGE_LIMIT settings log given meanings first.written written (record { short = short; means = means; within = each_within settings meanings within }) ends.over (ends.wrote told)
+answers_end Told ToldNow settings first log given meanings (Err end_fault.Write) failures written told start short all means ended within ends =
+    let each = each_within settings meanings within in
     let some = ends.wrote told in
     let wrote = ends.holds ∙ some.wrote in
-    let whole = flattened (meaning_of_lines MESSAGE_LIMIT settings whats) in
-    let text : fitting settings (canonical_log_of_lines MESSAGE_LIMIT settings whats) ≡ some.front ++ some.rest =
+    let whole = flattened (meaning_of_lines MESSAGE_LIMIT settings meanings) in
+    let text : fitting settings (canonical_log_of_lines MESSAGE_LIMIT settings meanings) ≡ some.front ++ some.rest =
     sym (text_is_fitting settings first whole start) ∙ some.parts in
-    let since : some.front ≡ early_text MESSAGE_LIMIT settings whats ++ some.more =
-    some.since ∙ ap (λ x. x ++ some.more) (text_is_fitting settings first (early (messages_of_lines MESSAGE_LIMIT settings whats)) start) in
+    let since : some.front ≡ early_text MESSAGE_LIMIT settings meanings ++ some.more =
+    some.since ∙ ap (λ x. x ++ some.more) (text_is_fitting settings first (early (messages_of_lines MESSAGE_LIMIT settings meanings)) start) in
     let fits = fitting_log_begins MESSAGE_LIMIT settings whole in
     let grows = early_text_grows MESSAGE_LIMIT settings ended.earlier ended.more in
-    let begins : Begins (early_text MESSAGE_LIMIT settings ended.earlier) (early_text MESSAGE_LIMIT settings whats) =
+    let begins : Begins (early_text MESSAGE_LIMIT settings ended.earlier) (early_text MESSAGE_LIMIT settings meanings) =
     (grows.0, ap (early_text MESSAGE_LIMIT settings) ended.since ∙ grows.1) in
-    let front = writes_front_at_end MESSAGE_LIMIT settings log given fault.Write whats some.front first.written written means (le-min (omega arith) short) refl each wrote
-    (begins_again some.front (fitting settings (canonical_log_of_lines MESSAGE_LIMIT settings whats)) (canonical_log_of_lines MESSAGE_LIMIT settings whats) (some.rest, text) fits) in
+    let front = writes_front_at_end MESSAGE_LIMIT settings log given fault.Write meanings some.front first.written written means (le-min (omega arith) short) refl each wrote
+    (begins_again some.front (fitting settings (canonical_log_of_lines MESSAGE_LIMIT settings meanings)) (canonical_log_of_lines MESSAGE_LIMIT settings meanings) (some.rest, text) fits) in
     let eagerly = writes_eagerly MESSAGE_LIMIT settings log given log [] ended.earlier ended.standing some.front first.written written ended.stands (sym (append-nil log)) (omega arith)
     (each_front MESSAGE_LIMIT settings ended.earlier ended.more (subst (EachWithin MESSAGE_LIMIT settings) ended.since each)) wrote
-    (begins_again (early_text MESSAGE_LIMIT settings ended.earlier) (early_text MESSAGE_LIMIT settings whats) some.front begins (some.more, since)) in
+    (begins_again (early_text MESSAGE_LIMIT settings ended.earlier) (early_text MESSAGE_LIMIT settings meanings) some.front begins (some.more, since)) in
     (tt, (front, eagerly))
 
 -- ---- what a run has put in order
@@ -356,7 +356,7 @@ canonical_again settings log given (Ok summary) old new are answers = λ text wr
     written_is_canonical MESSAGE_LIMIT settings log given old new text summary (record { least = omega arith; most = omega arith }) are answers wrote
 canonical_again settings log given (Err why) old new are answers = tt
 
--- of a recording of messages the canonical log of their meaning was written
+-- for a recording of messages the canonical log of their meaning was written
 pub recording_again : (settings : Settings) (log : List ℕ) (given : ℕ) (result : Result Summary Fault) (old new : List ℕ)
     → Answers MESSAGE_LIMIT settings log given result old new
     → OnOk result ((M : List Message) → Records MESSAGE_LIMIT settings log M → new ≡ old ++ canonical_log MESSAGE_LIMIT settings (flattened (meaning M)))

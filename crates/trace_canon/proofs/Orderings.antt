@@ -16,7 +16,7 @@ use Rattle.isotp_receive.specs.Verdict.{VerdictValue, message, began, stored, fl
 use Rattle.isotp_receive.specs.Events.{oversize_in, announced_by, too_long_in}
 use Rattle.isotp_receive.proofs.Promises.{too_long_is_announced, kept_is_within}
 use Rattle.uds_exchange.specs.Order.{early}
-use Rattle.uds_exchange.specs.Orderer.{Standing, stands_after}
+use Rattle.uds_exchange.specs.Orderer.{OrdererValue, stands_after}
 use Rattle.trace_canon.specs.declared.ordering.OrderingFault.{OrderingFault}
 use Rattle.trace_canon.specs.declared.ordering.OrderingFault.TheVariants as fault
 use Rattle.trace_canon.specs.Ordering.{AnnouncesWithin, Orders, StopsAt}
@@ -53,7 +53,7 @@ message_next T e d bytes same is =
 
 module _ (Told ToldNow : Type 0) (first : Writer) (now : Writer) where
   -- a frame that completes no message and announces none above the limit
-  pub orders_quiet : (orderer : Standing) (T : List Entry) (e : Entry) (told : VerdictValue) → (verdict MESSAGE_LIMIT T e).told ≡ told
+  pub orders_quiet : (orderer : OrdererValue) (T : List Entry) (e : Entry) (told : VerdictValue) → (verdict MESSAGE_LIMIT T e).told ≡ told
       → told_message e.dir told ≡ [] → AnnouncesWithin e → Orders Told ToldNow first T orderer now → Orders Told ToldNow first (T ++ e ∷ []) orderer now
   orders_quiet orderer T e told is none within orders =
       let same : messages MESSAGE_LIMIT (T ++ e ∷ []) ≡ messages MESSAGE_LIMIT T =
@@ -69,7 +69,7 @@ module _ (Told ToldNow : Type 0) (first : Writer) (now : Writer) where
       }
 
   -- a frame that began a reception, was stored, or was flow control
-  pub orders_idle : (event : Event) (orderer : Standing) (T : List Entry) (e : Entry)
+  pub orders_idle : (event : Event) (orderer : OrdererValue) (T : List Entry) (e : Entry)
       → (event.verdict ≡ as_verdict.Began) ⊎ ((event.verdict ≡ as_verdict.Stored) ⊎ (event.verdict ≡ as_verdict.Flow))
       → seen_event event ≡ verdict MESSAGE_LIMIT T e → Orders Told ToldNow first T orderer now → Orders Told ToldNow first (T ++ e ∷ []) orderer now
   orders_idle event orderer T e (inl is) seen orders =
@@ -85,7 +85,7 @@ module _ (Told ToldNow : Type 0) (first : Writer) (now : Writer) where
 module _ (Told ToldBefore ToldNow : Type 0) (first before now : Writer) (T : List Entry) (e : Entry) (d : Dir) (bytes : List ℕ) (same : e.dir ≡ d)
     (is : (verdict MESSAGE_LIMIT T e).told ≡ message bytes) where
   -- a frame that completes a message
-  pub orders_message : (old new : Standing) → ((M : List Message) → old ≡ stands_after M → new ≡ stands_after (M ++ (d, bytes) ∷ []))
+  pub orders_message : (old new : OrdererValue) → ((M : List Message) → old ≡ stands_after M → new ≡ stands_after (M ++ (d, bytes) ∷ []))
       → ((f : Writer) (M : List Message) → old ≡ stands_after M → HasPut f (early M) before → Ordered ToldBefore ToldNow f M (d, bytes) before now)
       → Orders Told ToldBefore first T old before → Orders Told ToldNow first (T ++ e ∷ []) new now
   orders_message old new stands puts orders =
@@ -103,7 +103,7 @@ module _ (Told ToldBefore ToldNow : Type 0) (first before now : Writer) (T : Lis
       }
 
   -- it could not be put
-  pub stops_message : (why : OrderingFault) (old : Standing)
+  pub stops_message : (why : OrderingFault) (old : OrdererValue)
       → ((f : Writer) (M : List Message) → old ≡ stands_after M → HasPut f (early M) before → FailsToOrder ToldBefore ToldNow f M (d, bytes) before why now)
       → Orders Told ToldBefore first T old before → StopsAt Told ToldNow first T e why now
   stops_message fault.Memory old stops orders =

@@ -24,7 +24,7 @@ frames_more : (put : List Message) (d : Dir) (message : List ℕ)
     → all_frames MESSAGE_LIMIT (put ++ (d, message) ∷ []) ≡ all_frames MESSAGE_LIMIT put ++ canonical_frames MESSAGE_LIMIT d message
 frames_more put d message = all_frames-append MESSAGE_LIMIT put ((d, message) ∷ []) ∙ ap (λ x. all_frames MESSAGE_LIMIT put ++ x) (frames_of_one MESSAGE_LIMIT d message)
 
--- where the text stands behind messages and one more
+-- where the text stands after messages and one more
 place_more : (first : Writer) (put : List Message) (frames : List (Dir × List ℕ)) (old : Writer) → HasPut first put old
     → place_after old.config old.place frames ≡ place_after first.config first.place (all_frames MESSAGE_LIMIT put ++ frames)
 place_more first put frames old has =
@@ -60,7 +60,7 @@ written_more first put d message old new has writes all =
     ∙ ap (λ x. first.written ++ x) (text_more first put (canonical_frames MESSAGE_LIMIT d message) old has
     ∙ ap (text_from first.config first.place) (sym (frames_more put d message)))
 
--- the text of messages, and of more of them behind
+-- the text of messages, and of more of them after these
 pub text_of_more : (first : Writer) (put more : List Message) → (rest : List ℕ) × (text_of_put first (put ++ more) ≡ text_of_put first put ++ rest)
 text_of_more first put more = (
   text_from first.config (place_after first.config first.place (all_frames MESSAGE_LIMIT put)) (all_frames MESSAGE_LIMIT more),
@@ -201,7 +201,7 @@ module _ {S A E : Type 0} (after_ok : AfterOk S) (after_err : AfterErr S E) (see
   end_keeps more order_fault.Memory stops = absurd stops
   end_keeps more order_fault.Failed stops = absurd stops
 
--- ---- one more message behind these
+-- ---- one more message after these
 
 module _ {S : Type 0} (writer_name text_name : S → ℕ) (state : S → Writer) (Tells : S → Type 0) (first : Writer) (M : List Message) (message : Message) (s t : S) where
   pub ordered : (due : List Message) → early (M ++ message ∷ []) ≡ early M ++ due → (now : Writer) → now ≡ state t → (ToldNow : Type 0) → (Tells t → ToldNow)

@@ -61,40 +61,40 @@ not_ended passes with_last count log lines line later what (inr (inr fails)) giv
 
 -- lines that mean something, pass the test and were given are among those that were read
 among_read : (passes : Option Stamped → Bool) (with_last : Bool) (count : ℕ) (log : List ℕ) (front all later lines more : List (List ℕ))
-    (meant whats : List (Option Stamped)) → all ++ later ≡ lines ++ more → LinesMean all meant → EndsBefore passes with_last count log (front ++ all) later
-    → LinesMean lines whats → EachPasses passes whats → AreGiven with_last count log (front ++ lines) → Begins whats meant
+    (meant meanings : List (Option Stamped)) → all ++ later ≡ lines ++ more → LinesMean all meant → EndsBefore passes with_last count log (front ++ all) later
+    → LinesMean lines meanings → EachPasses passes meanings → AreGiven with_last count log (front ++ lines) → Begins meanings meant
 among_read passes with_last count log front all later [] more meant [] parts means ends legal each given = (meant, refl)
-among_read passes with_last count log front all later [] more meant (what ∷ whats) parts means ends legal each given = absurd legal
+among_read passes with_last count log front all later [] more meant (what ∷ meanings) parts means ends legal each given = absurd legal
 among_read passes with_last count log front all later (line ∷ lines) more meant [] parts means ends legal each given = absurd legal
-among_read passes with_last count log front [] later (line ∷ lines) more [] (what ∷ whats) parts means ends legal each given =
+among_read passes with_last count log front [] later (line ∷ lines) more [] (what ∷ meanings) parts means ends legal each given =
     let here = subst (λ x. EndsBefore passes with_last count log x later) (append-nil front) ends in
     let ends_here = subst (EndsBefore passes with_last count log front) parts here in
     let one_more = subst (AreGiven with_last count log) (sym (append_assoc front (line ∷ []) lines)) given in
     absurd (not_ended passes with_last count log front line (lines ++ more) what ends_here
     (given_front with_last count log (front ++ line ∷ []) lines one_more) legal.0 each.0)
-among_read passes with_last count log front [] later (line ∷ lines) more (one ∷ meant) (what ∷ whats) parts means ends legal each given = absurd means
-among_read passes with_last count log front (first ∷ all) later (line ∷ lines) more [] (what ∷ whats) parts means ends legal each given = absurd means
-among_read passes with_last count log front (first ∷ all) later (line ∷ lines) more (one ∷ meant) (what ∷ whats) parts means ends legal each given =
+among_read passes with_last count log front [] later (line ∷ lines) more (one ∷ meant) (what ∷ meanings) parts means ends legal each given = absurd means
+among_read passes with_last count log front (first ∷ all) later (line ∷ lines) more [] (what ∷ meanings) parts means ends legal each given = absurd means
+among_read passes with_last count log front (first ∷ all) later (line ∷ lines) more (one ∷ meant) (what ∷ meanings) parts means ends legal each given =
     let same : first ≡ line = cc in
     let rest : all ++ later ≡ lines ++ more = cc in
     let one_is = line_means_at_most_one line one what (subst (λ x. LineMeans x one) same means.0) legal.0 in
     let ends_there = subst (λ x. EndsBefore passes with_last count log x later) (sym (append_assoc front (first ∷ []) all)) ends in
     let given_there = subst (λ x. AreGiven with_last count log (front ++ x ∷ lines)) (sym same) given in
     let given_here = subst (AreGiven with_last count log) (sym (append_assoc front (first ∷ []) lines)) given_there in
-    let again = among_read passes with_last count log (front ++ first ∷ []) all later lines more meant whats rest means.1 ends_there legal.1 each.1 given_here in
+    let again = among_read passes with_last count log (front ++ first ∷ []) all later lines more meant meanings rest means.1 ends_there legal.1 each.1 given_here in
     (again.0, ap (λ x. x ∷ meant) one_is ∙ ap (λ x. what ∷ x) again.1)
 
-pub read_begins : (passes : Option Stamped → Bool) (with_last : Bool) (count : ℕ) (log : List ℕ) (meant whats : List (Option Stamped)) (lines more : List (List ℕ))
-    → AreLinesRead passes with_last count log meant → log_lines log ≡ lines ++ more → LinesMean lines whats → EachPasses passes whats
-    → AreGiven with_last count log lines → Begins whats meant
-read_begins passes with_last count log meant whats lines more read parts legal each given =
-    among_read passes with_last count log [] read.lines read.later lines more meant whats (sym read.parts ∙ parts) read.means read.ends legal each given
+pub read_begins : (passes : Option Stamped → Bool) (with_last : Bool) (count : ℕ) (log : List ℕ) (meant meanings : List (Option Stamped)) (lines more : List (List ℕ))
+    → AreLinesRead passes with_last count log meant → log_lines log ≡ lines ++ more → LinesMean lines meanings → EachPasses passes meanings
+    → AreGiven with_last count log lines → Begins meanings meant
+read_begins passes with_last count log meant meanings lines more read parts legal each given =
+    among_read passes with_last count log [] read.lines read.later lines more meant meanings (sym read.parts ∙ parts) read.means read.ends legal each given
 
 -- with more bytes the same lines are read, and more
-pub read_more : (passes : Option Stamped → Bool) (with_last : Bool) (count longer : ℕ) (log : List ℕ) (whats meant : List (Option Stamped)) → count ≤ longer
-    → AreLinesRead passes with_last count log whats → AreLinesRead passes with_last longer log meant → Begins whats meant
-read_more passes with_last count longer log whats meant few one two =
-    read_begins passes with_last longer log meant whats one.lines one.later two one.parts one.means one.each
+pub read_more : (passes : Option Stamped → Bool) (with_last : Bool) (count longer : ℕ) (log : List ℕ) (meanings meant : List (Option Stamped)) → count ≤ longer
+    → AreLinesRead passes with_last count log meanings → AreLinesRead passes with_last longer log meant → Begins meanings meant
+read_more passes with_last count longer log meanings meant few one two =
+    read_begins passes with_last longer log meant meanings one.lines one.later two one.parts one.means one.each
     (given_longer with_last count longer log one.lines few one.given)
 
 both_begin : {A : Type 0} (one two : List A) → Begins one two → Begins two one → one ≡ two
@@ -116,14 +116,14 @@ lines_read_are_one passes with_last count log one other is too =
 
 -- ---- there are such lines
 
-read_from : (passes : Option Stamped → Bool) (with_last : Bool) (count : ℕ) (log : List ℕ) (lines later : List (List ℕ)) (whats : List (Option Stamped))
-    → log_lines log ≡ lines ++ later → LinesMean lines whats → EachPasses passes whats → AreGiven with_last count log lines
+read_from : (passes : Option Stamped → Bool) (with_last : Bool) (count : ℕ) (log : List ℕ) (lines later : List (List ℕ)) (meanings : List (Option Stamped))
+    → log_lines log ≡ lines ++ later → LinesMean lines meanings → EachPasses passes meanings → AreGiven with_last count log lines
     → (meant : List (Option Stamped)) × AreLinesRead passes with_last count log meant
-read_from passes with_last count log lines [] whats parts means each given =
-    (whats, record { lines = lines; later = []; parts = parts; means = means; each = each; given = given; ends = tt })
-read_from passes with_last count log lines (line ∷ later) whats parts means each given =
+read_from passes with_last count log lines [] meanings parts means each given =
+    (meanings, record { lines = lines; later = []; parts = parts; means = means; each = each; given = given; ends = tt })
+read_from passes with_last count log lines (line ∷ later) meanings parts means each given =
     let stop : EndsBefore passes with_last count log lines (line ∷ later) → (meant : List (Option Stamped)) × AreLinesRead passes with_last count log meant =
-    λ ends. (whats, record { lines = lines; later = line ∷ later; parts = parts; means = means; each = each; given = given; ends = ends }) in
+    λ ends. (meanings, record { lines = lines; later = line ∷ later; parts = parts; means = means; each = each; given = given; ends = ends }) in
     elim (given_or_not with_last count log (lines ++ line ∷ [])) [
       | inr not_given ↦ stop (inl not_given)
       | inl one_given ↦ elim (line_means_or_nothing line) [
@@ -131,10 +131,10 @@ read_from passes with_last count log lines (line ∷ later) whats parts means ea
         | inl found ↦ elim (cases_Bool (passes found.0)) [
           | inr failed ↦ stop (inr (inr (found.0, found.1, failed)))
           | inl passed ↦
-              read_from passes with_last count log (lines ++ line ∷ []) later (whats ++ found.0 ∷ [])
+              read_from passes with_last count log (lines ++ line ∷ []) later (meanings ++ found.0 ∷ [])
               (parts ∙ sym (append_assoc lines (line ∷ []) later))
-              ((lines_mean_one_more (lines ++ line ∷ []) whats found.0).1 (lines, line, refl, means, found.1))
-              (AllByRecursion-append (λ what. passes what ≡ true) whats (found.0 ∷ []) each (passed, tt)) one_given
+              ((lines_mean_one_more (lines ++ line ∷ []) meanings found.0).1 (lines, line, refl, means, found.1))
+              (AllByRecursion-append (λ what. passes what ≡ true) meanings (found.0 ∷ []) each (passed, tt)) one_given
         ]
       ]
     ]
@@ -146,17 +146,17 @@ lines_read_are_there passes with_last count log =
 -- ---- what a scanner has taken
 
 -- the lines of a log of which a scanner has taken a front
-pub stands_lines : (log front rest : List ℕ) (whats : List (Option Stamped)) (standing : Standing) (stands : StandsAfter front whats standing) → log ≡ front ++ rest
+pub stands_lines : (log front rest : List ℕ) (meanings : List (Option Stamped)) (standing : Standing) (stands : StandsAfter front meanings standing) → log ≡ front ++ rest
     → log_lines log ≡ stands.lines ++ log_lines (standing.line ++ rest)
-stands_lines log front rest whats standing stands parts =
+stands_lines log front rest meanings standing stands parts =
     let cut : log ≡ ended_lines stands.lines ++ (standing.line ++ rest) =
     parts ∙ ap (λ x. x ++ rest) stands.parts ∙ append_assoc (ended_lines stands.lines) standing.line rest in
-    ap log_lines cut ∙ log_lines_go_on stands.lines (standing.line ++ rest) (lines_have_no_line_feed stands.lines whats stands.means)
+    ap log_lines cut ∙ log_lines_go_on stands.lines (standing.line ++ rest) (lines_have_no_line_feed stands.lines meanings stands.means)
 
--- the line that it is in ends behind what it has taken
-pub next_ends_behind : (front rest line : List ℕ) (later : List (List ℕ)) (whats : List (Option Stamped)) (standing : Standing)
-    (stands : StandsAfter front whats standing) → log_lines (standing.line ++ rest) ≡ line ∷ later → length front < length (ended_lines (stands.lines ++ line ∷ []))
-next_ends_behind front rest line later whats standing stands is =
+-- the line that it is in ends after what it has taken
+pub next_ends_behind : (front rest line : List ℕ) (later : List (List ℕ)) (meanings : List (Option Stamped)) (standing : Standing)
+    (stands : StandsAfter front meanings standing) → log_lines (standing.line ++ rest) ≡ line ∷ later → length front < length (ended_lines (stands.lines ++ line ∷ []))
+next_ends_behind front rest line later meanings standing stands is =
     let begins = front_of_first standing.line rest line later (completable_has_no_line_feed standing.line stands.legal) is in
     let line_long = ap length begins.1 ∙ length-append standing.line begins.0 in
     let front_long = ap length stands.parts ∙ length-append (ended_lines stands.lines) standing.line in
@@ -166,9 +166,9 @@ next_ends_behind front rest line later whats standing stands is =
     omega arith
 
 -- all lines of a log that was given whole
-pub all_lines_read : (passes : Option Stamped → Bool) (with_last : Bool) (count : ℕ) (log : List ℕ) (whats : List (Option Stamped)) → LogMeans log whats
-    → EachPasses passes whats → with_last ≡ true → length log ≤ count → AreLinesRead passes with_last count log whats
-all_lines_read passes with_last count log whats means each last few = record {
+pub all_lines_read : (passes : Option Stamped → Bool) (with_last : Bool) (count : ℕ) (log : List ℕ) (meanings : List (Option Stamped)) → LogMeans log meanings
+    → EachPasses passes meanings → with_last ≡ true → length log ≤ count → AreLinesRead passes with_last count log meanings
+all_lines_read passes with_last count log meanings means each last few = record {
   lines = log_lines log;
   later = [];
   parts = sym (append-nil (log_lines log));
@@ -179,13 +179,13 @@ all_lines_read passes with_last count log whats means each last few = record {
 }
 
 -- so the lines that it has taken are those that were given with these bytes
-pub stands_read : (passes : Option Stamped → Bool) (with_last : Bool) (count : ℕ) (log front rest : List ℕ) (whats : List (Option Stamped)) (standing : Standing)
-    → StandsAfter front whats standing → log ≡ front ++ rest → length front ≡ count → EachPasses passes whats
-    → (with_last ≡ true → ¬ (length log ≤ count)) → AreLinesRead passes with_last count log whats
-stands_read passes with_last count log front rest whats standing stands parts full each more = record {
+pub stands_read : (passes : Option Stamped → Bool) (with_last : Bool) (count : ℕ) (log front rest : List ℕ) (meanings : List (Option Stamped)) (standing : Standing)
+    → StandsAfter front meanings standing → log ≡ front ++ rest → length front ≡ count → EachPasses passes meanings
+    → (with_last ≡ true → ¬ (length log ≤ count)) → AreLinesRead passes with_last count log meanings
+stands_read passes with_last count log front rest meanings standing stands parts full each more = record {
   lines = stands.lines;
   later = log_lines (standing.line ++ rest);
-  parts = stands_lines log front rest whats standing stands parts;
+  parts = stands_lines log front rest meanings standing stands parts;
   means = stands.means;
   each = each;
   given =
@@ -200,11 +200,11 @@ stands_read passes with_last count log front rest whats standing stands parts fu
 
     ends : (later : List (List ℕ)) → log_lines (standing.line ++ rest) ≡ later → EndsBefore passes with_last count log stands.lines later
     ends [] is = tt
-    ends (line ∷ later) is = inl (not_given line (next_ends_behind front rest line later whats standing stands is))
+    ends (line ∷ later) is = inl (not_given line (next_ends_behind front rest line later meanings standing stands is))
 
 -- the lines before a refused place were read
 pub read_before_bad : (passes : Option Stamped → Bool) (with_last : Bool) (count : ℕ) (log : List ℕ) (line column : ℕ) (place : IsRefusedIn log line column)
-    → EachPasses passes place.whats → length (ended_lines place.lines) ≤ count → AreLinesRead passes with_last count log place.whats
+    → EachPasses passes place.meanings → length (ended_lines place.lines) ≤ count → AreLinesRead passes with_last count log place.meanings
 read_before_bad passes with_last count log line column place each few = record {
   lines = place.lines;
   later = log_lines place.rest;
@@ -220,10 +220,10 @@ read_before_bad passes with_last count log line column place each few = record {
     ends (text ∷ later) is = inr (inl (refused_line_means_nothing place.rest column text later place.here is).0)
 
 -- the lines before one on which the test fails were read
-pub read_before_failing : (passes : Option Stamped → Bool) (with_last : Bool) (count : ℕ) (log : List ℕ) (lines : List (List ℕ)) (whats : List (Option Stamped))
-    (text : List ℕ) (what : Option Stamped) (later : List (List ℕ)) → log_lines log ≡ lines ++ text ∷ later → LinesMean lines whats → EachPasses passes whats
-    → LineMeans text what → passes what ≡ false → length (ended_lines lines) ≤ count → AreLinesRead passes with_last count log whats
-read_before_failing passes with_last count log lines whats text what later parts legal each means failed few = record {
+pub read_before_failing : (passes : Option Stamped → Bool) (with_last : Bool) (count : ℕ) (log : List ℕ) (lines : List (List ℕ)) (meanings : List (Option Stamped))
+    (text : List ℕ) (what : Option Stamped) (later : List (List ℕ)) → log_lines log ≡ lines ++ text ∷ later → LinesMean lines meanings → EachPasses passes meanings
+    → LineMeans text what → passes what ≡ false → length (ended_lines lines) ≤ count → AreLinesRead passes with_last count log meanings
+read_before_failing passes with_last count log lines meanings text what later parts legal each means failed few = record {
   lines = lines;
   later = text ∷ later;
   parts = parts;

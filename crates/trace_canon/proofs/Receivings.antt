@@ -6,7 +6,7 @@ use Rattle.std.proofs.lemmas.List.Sums.{count_by-le-length, sum_by-append}
 use Rattle.can_log.specs.declared.frame.Dir.{Dir}
 use Rattle.can_log.specs.declared.frame.Stamped.{Stamped}
 use Rattle.isotp_receive.specs.declared.TheConstants.{MESSAGE_LIMIT}
-use Rattle.isotp_receive.specs.Standing.{Receptions, receptions_after}
+use Rattle.isotp_receive.specs.StandingReception.{Receptions, receptions_after}
 use Rattle.isotp_receive.specs.Trace.{Entry}
 use Rattle.isotp_receive.specs.Verdict.{VerdictValue, message, began, stored, flowed, dropped, EventValue, messages, told_message, verdict}
 use Rattle.isotp_receive.specs.Events.{events, is_dropped}
@@ -75,51 +75,51 @@ option_few : {A : Type 0} (o : Option A) → length (option_to_list o) ≤ 1
 option_few None = omega arith
 option_few (Some x) = omega arith
 
-trace_few : (settings : Settings) (n : ℕ) (whats : List (Option Stamped)) → length (trace_from settings n whats) ≤ length whats
+trace_few : (settings : Settings) (n : ℕ) (meanings : List (Option Stamped)) → length (trace_from settings n meanings) ≤ length meanings
 unfolding trace_from
 trace_few settings n [] = omega arith
-trace_few settings n (None ∷ whats) = let rest = trace_few settings (n + 1) whats in omega arith
-trace_few settings n (Some stamped ∷ whats) =
-    let rest = trace_few settings (n + 1) whats in
+trace_few settings n (None ∷ meanings) = let rest = trace_few settings (n + 1) meanings in omega arith
+trace_few settings n (Some stamped ∷ meanings) =
+    let rest = trace_few settings (n + 1) meanings in
     let none = option_few (entry_of settings n stamped) in
-    let sum = length-append (option_to_list (entry_of settings n stamped)) (trace_from settings (n + 1) whats) in
+    let sum = length-append (option_to_list (entry_of settings n stamped)) (trace_from settings (n + 1) meanings) in
     omega arith
 
-pub few_frames : (settings : Settings) (whats : List (Option Stamped)) → length (trace settings whats) ≤ length whats
-few_frames settings whats = trace_few settings 1 whats
+pub few_frames : (settings : Settings) (meanings : List (Option Stamped)) → length (trace settings meanings) ≤ length meanings
+few_frames settings meanings = trace_few settings 1 meanings
 
 -- the trace of one more line: a blank one, one with a foreign frame, and one with a frame of a direction
-pub trace_same_blank : (settings : Settings) (whats : List (Option Stamped)) (what : Option Stamped) → what ≡ None
-    → trace settings (whats ++ what ∷ []) ≡ trace settings whats
-trace_same_blank settings whats what is = ap (λ w. trace settings (whats ++ w ∷ [])) is ∙ trace_blank settings whats
+pub trace_same_blank : (settings : Settings) (meanings : List (Option Stamped)) (what : Option Stamped) → what ≡ None
+    → trace settings (meanings ++ what ∷ []) ≡ trace settings meanings
+trace_same_blank settings meanings what is = ap (λ w. trace settings (meanings ++ w ∷ [])) is ∙ trace_blank settings meanings
 
-pub trace_same_foreign : (settings : Settings) (whats : List (Option Stamped)) (what : Option Stamped) (stamped : Stamped) → what ≡ Some stamped
-    → None ≡ direction_of settings stamped.frame.id → trace settings (whats ++ what ∷ []) ≡ trace settings whats
-trace_same_foreign settings whats what stamped is none = ap (λ w. trace settings (whats ++ w ∷ [])) is ∙ trace_foreign settings whats stamped none
+pub trace_same_foreign : (settings : Settings) (meanings : List (Option Stamped)) (what : Option Stamped) (stamped : Stamped) → what ≡ Some stamped
+    → None ≡ direction_of settings stamped.frame.id → trace settings (meanings ++ what ∷ []) ≡ trace settings meanings
+trace_same_foreign settings meanings what stamped is none = ap (λ w. trace settings (meanings ++ w ∷ [])) is ∙ trace_foreign settings meanings stamped none
 
-pub trace_next : (settings : Settings) (whats : List (Option Stamped)) (what : Option Stamped) (stamped : Stamped) (d : Dir) → what ≡ Some stamped
-    → Some d ≡ direction_of settings stamped.frame.id → trace settings (whats ++ what ∷ []) ≡ trace settings whats ++ entry_in whats stamped d ∷ []
-trace_next settings whats what stamped d is direction = ap (λ w. trace settings (whats ++ w ∷ [])) is ∙ trace_directed settings whats stamped d direction
+pub trace_next : (settings : Settings) (meanings : List (Option Stamped)) (what : Option Stamped) (stamped : Stamped) (d : Dir) → what ≡ Some stamped
+    → Some d ≡ direction_of settings stamped.frame.id → trace settings (meanings ++ what ∷ []) ≡ trace settings meanings ++ entry_in meanings stamped d ∷ []
+trace_next settings meanings what stamped d is direction = ap (λ w. trace settings (meanings ++ w ∷ [])) is ∙ trace_directed settings meanings stamped d direction
 
 -- what is received with it
-pub receives_same : (settings : Settings) (whats : List (Option Stamped)) (what : Option Stamped) (pair : Receptions) (lines line : ℕ) (counts : Counts)
-    → trace settings (whats ++ what ∷ []) ≡ trace settings whats → line ≡ length whats + 1 → Receives settings whats pair lines counts
-    → Receives settings (whats ++ what ∷ []) pair line counts
-receives_same settings whats what pair lines line counts same number received = record {
+pub receives_same : (settings : Settings) (meanings : List (Option Stamped)) (what : Option Stamped) (pair : Receptions) (lines line : ℕ) (counts : Counts)
+    → trace settings (meanings ++ what ∷ []) ≡ trace settings meanings → line ≡ length meanings + 1 → Receives settings meanings pair lines counts
+    → Receives settings (meanings ++ what ∷ []) pair line counts
+receives_same settings meanings what pair lines line counts same number received = record {
   pair_is = received.pair_is ∙ ap (receptions_after MESSAGE_LIMIT) (sym same);
-  lines_are = number ∙ sym (length-append whats (what ∷ []));
+  lines_are = number ∙ sym (length-append meanings (what ∷ []));
   counted = subst (λ T. AreCounted MESSAGE_LIMIT T counts) (sym same) received.counted;
 }
 
-pub receives_next : (settings : Settings) (whats : List (Option Stamped)) (what : Option Stamped) (e : Entry) (old new : Receptions) (lines line : ℕ) (before after : Counts)
-    → trace settings (whats ++ what ∷ []) ≡ trace settings whats ++ e ∷ [] → line ≡ length whats + 1 → length whats < 2 ^ 62
-    → new ≡ receptions_after MESSAGE_LIMIT (trace settings whats ++ e ∷ []) → CountsEvent before (verdict MESSAGE_LIMIT (trace settings whats) e) after
-    → Receives settings whats old lines before → Receives settings (whats ++ what ∷ []) new line after
-receives_next settings whats what e old new lines line before after next number few pair counts received =
-    let frames = few_frames settings whats in
+pub receives_next : (settings : Settings) (meanings : List (Option Stamped)) (what : Option Stamped) (e : Entry) (old new : Receptions) (lines line : ℕ) (before after : Counts)
+    → trace settings (meanings ++ what ∷ []) ≡ trace settings meanings ++ e ∷ [] → line ≡ length meanings + 1 → length meanings < 2 ^ 62
+    → new ≡ receptions_after MESSAGE_LIMIT (trace settings meanings ++ e ∷ []) → CountsEvent before (verdict MESSAGE_LIMIT (trace settings meanings) e) after
+    → Receives settings meanings old lines before → Receives settings (meanings ++ what ∷ []) new line after
+receives_next settings meanings what e old new lines line before after next number few pair counts received =
+    let frames = few_frames settings meanings in
     record {
       pair_is = pair ∙ ap (receptions_after MESSAGE_LIMIT) (sym next);
-      lines_are = number ∙ sym (length-append whats (what ∷ []));
+      lines_are = number ∙ sym (length-append meanings (what ∷ []));
       counted = subst (λ T. AreCounted MESSAGE_LIMIT T after) (sym next)
-          (counted_more MESSAGE_LIMIT (trace settings whats) e before after (omega arith) received.counted counts);
+          (counted_more MESSAGE_LIMIT (trace settings meanings) e before after (omega arith) received.counted counts);
     }

@@ -2,7 +2,7 @@
 use Rattle.std.proofs.Common.{◌≡◌, ℕ, List, [], refl, sym, subst, Option, Some, Result, Ok, Err}
 use Rattle.can_log.specs.declared.frame.Dir.{Dir}
 use Rattle.can_log.specs.declared.frame.Stamped.{Stamped}
-use Rattle.isotp_receive.specs.Standing.{Receptions}
+use Rattle.isotp_receive.specs.StandingReception.{Receptions}
 use Rattle.isotp_receive.specs.Trace.{Entry}
 use Rattle.trace_canon.specs.declared.lines.LineFault.{LineFault}
 use Rattle.trace_canon.specs.declared.lines.LineFault.TheVariants as fault
@@ -41,10 +41,10 @@ StoppedOnEvent E W F = E × W → List Entry → Entry → F → E × W → Type
 module _ {E W : Type 0} (took : TookEvents E W) where
   -- lines were taken
   abbrev pub TookLines : Took (Receiver E × W)
-  TookLines s whats t =
+  TookLines s meanings t =
       (t.0.config ≡ s.0.config)
       × (IsStart s.0.pair s.0.lines s.0.counts
-      → Receives s.0.config whats t.0.pair t.0.lines t.0.counts × took (s.0.taker, s.1) (trace s.0.config whats) (t.0.taker, t.1))
+      → Receives s.0.config meanings t.0.pair t.0.lines t.0.counts × took (s.0.taker, s.1) (trace s.0.config meanings) (t.0.taker, t.1))
 
   -- none was, where the taker has taken no event
   pub took_nothing : (run : Receiver E × W) → took (run.0.taker, run.1) [] (run.0.taker, run.1) → TookLines run [] run
@@ -57,46 +57,46 @@ module _ {E W : Type 0} (took : TookEvents E W) where
   )
 
   -- what the receiver has received
-  pub has_received : (settings : Settings) (start now : Receiver E × W) → IsRunStart settings start → (whats : List (Option Stamped))
-      → TookLines start whats now → Receives settings whats now.0.pair now.0.lines now.0.counts
-  has_received settings start now begun whats lines =
-      subst (λ s. Receives s whats now.0.pair now.0.lines now.0.counts) begun.config (lines.1 begun.nothing).0
+  pub has_received : (settings : Settings) (start now : Receiver E × W) → IsRunStart settings start → (meanings : List (Option Stamped))
+      → TookLines start meanings now → Receives settings meanings now.0.pair now.0.lines now.0.counts
+  has_received settings start now begun meanings lines =
+      subst (λ s. Receives s meanings now.0.pair now.0.lines now.0.counts) begun.config (lines.1 begun.nothing).0
 
   -- and what its taker has taken
-  pub has_taken : (settings : Settings) (start now : Receiver E × W) → IsRunStart settings start → (whats : List (Option Stamped))
-      → TookLines start whats now → took (start.0.taker, start.1) (trace settings whats) (now.0.taker, now.1)
-  has_taken settings start now begun whats lines =
-      subst (λ s. took (start.0.taker, start.1) (trace s whats) (now.0.taker, now.1)) begun.config (lines.1 begun.nothing).1
+  pub has_taken : (settings : Settings) (start now : Receiver E × W) → IsRunStart settings start → (meanings : List (Option Stamped))
+      → TookLines start meanings now → took (start.0.taker, start.1) (trace settings meanings) (now.0.taker, now.1)
+  has_taken settings start now begun meanings lines =
+      subst (λ s. took (start.0.taker, start.1) (trace s meanings) (now.0.taker, now.1)) begun.config (lines.1 begun.nothing).1
 
 module _ {E W F : Type 0} (stopped : StoppedOnEvent E W F) where
   -- what is known of a line on which the taker stopped
   abbrev pub StopsOn : Settings → E × W → List (Option Stamped) → Option Stamped → F → E × W → Type 0
-  StopsOn settings start whats what why now =
+  StopsOn settings start meanings what why now =
       (stamped : Stamped) × (d : Dir) × (what ≡ Some stamped) × (Some d ≡ direction_of settings stamped.frame.id)
-      × stopped start (trace settings whats) (entry_in whats stamped d) why now
+      × stopped start (trace settings meanings) (entry_in meanings stamped d) why now
 
   -- the run stopped on a line
   abbrev pub StoppedOnLine : Stopped (Receiver E × W) F
-  StoppedOnLine s whats what why t = IsStart s.0.pair s.0.lines s.0.counts → StopsOn s.0.config (s.0.taker, s.1) whats what why (t.0.taker, t.1)
+  StoppedOnLine s meanings what why t = IsStart s.0.pair s.0.lines s.0.counts → StopsOn s.0.config (s.0.taker, s.1) meanings what why (t.0.taker, t.1)
 
-  pub has_stopped : (settings : Settings) (start now : Receiver E × W) → IsRunStart settings start → (whats : List (Option Stamped)) (what : Option Stamped) (why : F)
-      → StoppedOnLine start whats what why now → StopsOn settings (start.0.taker, start.1) whats what why (now.0.taker, now.1)
-  has_stopped settings start now begun whats what why line =
-      subst (λ s. StopsOn s (start.0.taker, start.1) whats what why (now.0.taker, now.1)) begun.config (line begun.nothing)
+  pub has_stopped : (settings : Settings) (start now : Receiver E × W) → IsRunStart settings start → (meanings : List (Option Stamped)) (what : Option Stamped) (why : F)
+      → StoppedOnLine start meanings what why now → StopsOn settings (start.0.taker, start.1) meanings what why (now.0.taker, now.1)
+  has_stopped settings start now begun meanings what why line =
+      subst (λ s. StopsOn s (start.0.taker, start.1) meanings what why (now.0.taker, now.1)) begun.config (line begun.nothing)
 
 -- what is known of a device after any events that were taken, and after any on which the run stopped, is known at the end of the lines
 module _ {E W F : Type 0} (took : TookEvents E W) (stopped : StoppedOnEvent E W F) (settings : Settings) (start now : Receiver E × W)
     (begun : IsRunStart settings start) (Known : Type 0)
     (by_taken : (T : List Entry) → took (start.0.taker, start.1) T (now.0.taker, now.1) → Known)
     (by_stopped : (T : List Entry) (e : Entry) (why : F) → stopped (start.0.taker, start.1) T e why (now.0.taker, now.1) → Known) where
-  by_lines : (whats : List (Option Stamped)) → TookLines took start whats now → Known
-  by_lines whats lines = by_taken (trace settings whats) (has_taken took settings start now begun whats lines)
+  by_lines : (meanings : List (Option Stamped)) → TookLines took start meanings now → Known
+  by_lines meanings lines = by_taken (trace settings meanings) (has_taken took settings start now begun meanings lines)
 
   pub known_at_end : {A : Type 0} (result : Result A (LineFault F)) → TakesSome (TookLines took) (StoppedOnLine stopped) start result now → Known
-  known_at_end (Ok value) (whats, few, lines) = by_lines whats lines
-  known_at_end (Err (fault.BadLine line column)) (whats, lines) = by_lines whats lines
-  known_at_end (Err fault.LogLimit) (whats, lines) = by_lines whats lines
-  known_at_end (Err fault.Read) (whats, lines) = by_lines whats lines
-  known_at_end (Err (fault.Taker why)) (whats, what, line) =
-      let stops = has_stopped stopped settings start now begun whats what why line in
-      by_stopped (trace settings whats) (entry_in whats stops.0 stops.1) why stops.4
+  known_at_end (Ok value) (meanings, few, lines) = by_lines meanings lines
+  known_at_end (Err (fault.BadLine line column)) (meanings, lines) = by_lines meanings lines
+  known_at_end (Err fault.LogLimit) (meanings, lines) = by_lines meanings lines
+  known_at_end (Err fault.Read) (meanings, lines) = by_lines meanings lines
+  known_at_end (Err (fault.Taker why)) (meanings, what, line) =
+      let stops = has_stopped stopped settings start now begun meanings what why line in
+      by_stopped (trace settings meanings) (entry_in meanings stops.0 stops.1) why stops.4

@@ -19,52 +19,52 @@ use Rattle.trace_canon.proofs.ReadLines.{stands_lines, next_ends_behind, read_be
 
 -- ---- a refused place
 
--- The log is refused at this place, behind lines that mean this, and the place is one of so many bytes.
-pub record IsBadBehind (log : List ℕ) (line column : ℕ) (whats : List (Option Stamped)) (bytes : ℕ) : Type 0 where
+-- The log is refused at this place, after lines that mean this, and the place is within `bytes` bytes, or the log is.
+pub record IsBadBehind (log : List ℕ) (line column : ℕ) (meanings : List (Option Stamped)) (bytes : ℕ) : Type 0 where
   pub place : IsRefusedIn log line column
-  pub behind : place.whats ≡ whats
+  pub behind : place.meanings ≡ meanings
   pub before : length (ended_lines place.lines) ≤ bytes
   pub within : (length (ended_lines place.lines) + column ≤ bytes) ⊎ (length log ≤ bytes)
 
 -- so it counts where these are no more than the limit, and refuses the log where no line before it announces too much
-pub bad_counts : (settings : Settings) (log : List ℕ) (line column : ℕ) (whats : List (Option Stamped)) (bytes : ℕ) → IsBadBehind log line column whats bytes
+pub bad_counts : (settings : Settings) (log : List ℕ) (line column : ℕ) (meanings : List (Option Stamped)) (bytes : ℕ) → IsBadBehind log line column meanings bytes
     → bytes ≤ settings.max_bytes → CountsAsBad settings log line column
-bad_counts settings log line column whats bytes bad few = record { place = bad.place; counts = counts bad.within }
+bad_counts settings log line column meanings bytes bad few = record { place = bad.place; counts = counts bad.within }
   where
     counts : (length (ended_lines bad.place.lines) + column ≤ bytes) ⊎ (length log ≤ bytes) → Counts (length (ended_lines bad.place.lines) + column) settings log
     counts (inl place) = inl (omega arith)
     counts (inr short) = inr (omega arith)
 
-pub bad_line : (limit : ℕ) (settings : Settings) (log : List ℕ) (line column : ℕ) (whats : List (Option Stamped)) (bytes : ℕ) → IsBadBehind log line column whats bytes
-    → bytes ≤ settings.max_bytes → EachWithin limit settings whats → IsBadLine limit settings log line column
+pub bad_line : (limit : ℕ) (settings : Settings) (log : List ℕ) (line column : ℕ) (meanings : List (Option Stamped)) (bytes : ℕ) → IsBadBehind log line column meanings bytes
+    → bytes ≤ settings.max_bytes → EachWithin limit settings meanings → IsBadLine limit settings log line column
 unfolding bad_counts
-bad_line limit settings log line column whats bytes bad few each =
-    record { found = bad_counts settings log line column whats bytes bad few; within = subst (EachWithin limit settings) (sym bad.behind) each }
+bad_line limit settings log line column meanings bytes bad few each =
+    record { found = bad_counts settings log line column meanings bytes bad few; within = subst (EachWithin limit settings) (sym bad.behind) each }
 
 -- the lines before it were read
-pub read_before_place : (passes : Option Stamped → Bool) (with_last : Bool) (count : ℕ) (log : List ℕ) (line column : ℕ) (whats : List (Option Stamped)) (bytes : ℕ)
-    → IsBadBehind log line column whats bytes → bytes ≤ count → EachPasses passes whats → AreLinesRead passes with_last count log whats
-read_before_place passes with_last count log line column whats bytes bad few each =
+pub read_before_place : (passes : Option Stamped → Bool) (with_last : Bool) (count : ℕ) (log : List ℕ) (line column : ℕ) (meanings : List (Option Stamped)) (bytes : ℕ)
+    → IsBadBehind log line column meanings bytes → bytes ≤ count → EachPasses passes meanings → AreLinesRead passes with_last count log meanings
+read_before_place passes with_last count log line column meanings bytes bad few each =
     let before = bad.before in
     subst (AreLinesRead passes with_last count log) bad.behind
     (read_before_bad passes with_last count log line column bad.place (subst (EachPasses passes) (sym bad.behind) each) (omega arith))
 
 -- ---- a line that announces too much
 
--- The log is refused in this line, behind lines that mean this and take no more than so many bytes.
-pub record IsOversizeBehind (limit : ℕ) (settings : Settings) (log : List ℕ) (line announced : ℕ) (whats : List (Option Stamped)) (bytes : ℕ) : Type 0 where
+-- The log is refused in this line, after lines that mean this and take no more than `bytes` bytes.
+pub record IsOversizeBehind (limit : ℕ) (settings : Settings) (log : List ℕ) (line announced : ℕ) (meanings : List (Option Stamped)) (bytes : ℕ) : Type 0 where
   pub over : IsOversizeLine limit settings log line announced
-  pub behind : over.whats ≡ whats
+  pub behind : over.meanings ≡ meanings
   pub before : length (ended_lines over.found.before) ≤ bytes
 
--- a line that ended announces too much: the scanner has taken it, and stands behind these bytes
-pub oversize_taken : (limit : ℕ) (settings : Settings) (log front rest : List ℕ) (whats : List (Option Stamped)) (what : Option Stamped) (standing : Standing)
-    (line announced : ℕ) → StandsAfter front (whats ++ what ∷ []) standing → log ≡ front ++ rest → length front ≤ settings.max_bytes
-    → line ≡ length whats + 1 → EachWithin limit settings whats → oversize limit settings what ≡ Some announced
-    → IsOversizeBehind limit settings log line announced whats (length front)
-oversize_taken limit settings log front rest whats what standing line announced stands parts few at each announces =
-    let ends = (lines_mean_one_more stands.lines whats what).0 stands.means in
-    let as_many = lines_mean_as_many ends.0 whats ends.3 in
+-- a line that ended announces too much: the scanner has taken it, and stands after these bytes
+pub oversize_taken : (limit : ℕ) (settings : Settings) (log front rest : List ℕ) (meanings : List (Option Stamped)) (what : Option Stamped) (standing : Standing)
+    (line announced : ℕ) → StandsAfter front (meanings ++ what ∷ []) standing → log ≡ front ++ rest → length front ≤ settings.max_bytes
+    → line ≡ length meanings + 1 → EachWithin limit settings meanings → oversize limit settings what ≡ Some announced
+    → IsOversizeBehind limit settings log line announced meanings (length front)
+oversize_taken limit settings log front rest meanings what standing line announced stands parts few at each announces =
+    let ends = (lines_mean_one_more stands.lines meanings what).0 stands.means in
+    let as_many = lines_mean_as_many ends.0 meanings ends.3 in
     let long = ap length stands.parts ∙ length-append (ended_lines stands.lines) standing.line in
     let lines_long = ap (λ x. length (ended_lines x)) ends.2 in
     let all_long = length-ended_lines ends.0 (ends.1 ∷ []) in
@@ -75,14 +75,14 @@ oversize_taken limit settings log front rest whats what standing line announced 
           text = ends.1;
           what = what;
           later = log_lines (standing.line ++ rest);
-          parts = stands_lines log front rest (whats ++ what ∷ []) standing stands parts ∙ ap (λ x. x ++ log_lines (standing.line ++ rest)) ends.2
+          parts = stands_lines log front rest (meanings ++ what ∷ []) standing stands parts ∙ ap (λ x. x ++ log_lines (standing.line ++ rest)) ends.2
               ∙ append_assoc ends.0 (ends.1 ∷ []) (log_lines (standing.line ++ rest));
           at = omega arith;
           means = ends.4;
           announces = announces;
           counts = inl (omega arith);
         };
-        whats = whats;
+        meanings = meanings;
         legal = ends.3;
         within = each;
       };
@@ -101,12 +101,12 @@ lines_before_last log lines text parts =
     omega arith
 
 -- the unfinished last line does
-pub oversize_last : (limit : ℕ) (settings : Settings) (log : List ℕ) (whats : List (Option Stamped)) (what : Option Stamped) (line announced : ℕ)
-    → LogMeans log (whats ++ what ∷ []) → length log ≤ settings.max_bytes → line ≡ length whats + 1 → EachWithin limit settings whats
-    → oversize limit settings what ≡ Some announced → IsOversizeBehind limit settings log line announced whats (length log)
-oversize_last limit settings log whats what line announced means short at each announces =
-    let ends = (lines_mean_one_more (log_lines log) whats what).0 means in
-    let as_many = lines_mean_as_many ends.0 whats ends.3 in
+pub oversize_last : (limit : ℕ) (settings : Settings) (log : List ℕ) (meanings : List (Option Stamped)) (what : Option Stamped) (line announced : ℕ)
+    → LogMeans log (meanings ++ what ∷ []) → length log ≤ settings.max_bytes → line ≡ length meanings + 1 → EachWithin limit settings meanings
+    → oversize limit settings what ≡ Some announced → IsOversizeBehind limit settings log line announced meanings (length log)
+oversize_last limit settings log meanings what line announced means short at each announces =
+    let ends = (lines_mean_one_more (log_lines log) meanings what).0 means in
+    let as_many = lines_mean_as_many ends.0 meanings ends.3 in
     record {
       over = record {
         found = record {
@@ -120,7 +120,7 @@ oversize_last limit settings log whats what line announced means short at each a
           announces = announces;
           counts = inr short;
         };
-        whats = whats;
+        meanings = meanings;
         legal = ends.3;
         within = each;
       };
@@ -129,14 +129,14 @@ oversize_last limit settings log whats what line announced means short at each a
     }
 
 -- the lines before it were read
-pub read_before_oversize : (limit : ℕ) (settings : Settings) (with_last : Bool) (count : ℕ) (log : List ℕ) (line announced : ℕ) (whats : List (Option Stamped))
-    (bytes : ℕ) → IsOversizeBehind limit settings log line announced whats bytes → bytes ≤ count
-    → AreLinesRead (announces_within limit settings) with_last count log whats
-read_before_oversize limit settings with_last count log line announced whats bytes found few =
+pub read_before_oversize : (limit : ℕ) (settings : Settings) (with_last : Bool) (count : ℕ) (log : List ℕ) (line announced : ℕ) (meanings : List (Option Stamped))
+    (bytes : ℕ) → IsOversizeBehind limit settings log line announced meanings bytes → bytes ≤ count
+    → AreLinesRead (announces_within limit settings) with_last count log meanings
+read_before_oversize limit settings with_last count log line announced meanings bytes found few =
     let over = found.over.found in
     let before = found.before in
     subst (AreLinesRead (announces_within limit settings) with_last count log) found.behind
-    (read_before_failing (announces_within limit settings) with_last count log over.before found.over.whats over.text over.what over.later over.parts found.over.legal
+    (read_before_failing (announces_within limit settings) with_last count log over.before found.over.meanings over.text over.what over.later over.parts found.over.legal
     found.over.within over.means (announcing_fails limit settings over.what announced over.announces) (omega arith))
 
 -- ---- a log that is longer than the limit
@@ -153,11 +153,11 @@ splits (x ∷ xs) ys (u ∷ us) vs same few =
 -- what a scanner has taken, with the line that it is in completed and ended
 record IsCompleted (front : List ℕ) : Type 0 where
   more : List ℕ
-  whats : List (Option Stamped)
-  means : LogMeans (front ++ more) whats
+  meanings : List (Option Stamped)
+  means : LogMeans (front ++ more) meanings
 
-completed : (front : List ℕ) (whats : List (Option Stamped)) (standing : Standing) → StandsAfter front whats standing → IsCompleted front
-completed front whats standing stands =
+completed : (front : List ℕ) (meanings : List (Option Stamped)) (standing : Standing) → StandsAfter front meanings standing → IsCompleted front
+completed front meanings standing stands =
     let line = standing.line ++ stands.legal.0 in
     let lines = stands.lines ++ line ∷ [] in
     let last : ended_lines lines ≡ ended_lines stands.lines ++ (line ++ 10 ∷ []) =
@@ -169,10 +169,10 @@ completed front whats standing stands =
     ∙ ap (λ x. x ++ (stands.legal.0 ++ 10 ∷ [])) (sym stands.parts) in
     record {
       more = stands.legal.0 ++ 10 ∷ [];
-      whats = whats ++ stands.legal.1 ∷ [];
-      means = subst (λ x. LogMeans x (whats ++ stands.legal.1 ∷ [])) here
-          (lines_are_log lines (whats ++ stands.legal.1 ∷ [])
-          ((lines_mean_one_more lines whats stands.legal.1).1 (stands.lines, line, refl, stands.means, stands.legal.3)));
+      meanings = meanings ++ stands.legal.1 ∷ [];
+      means = subst (λ x. LogMeans x (meanings ++ stands.legal.1 ∷ [])) here
+          (lines_are_log lines (meanings ++ stands.legal.1 ∷ [])
+          ((lines_mean_one_more lines meanings stands.legal.1).1 (stands.lines, line, refl, stands.means, stands.legal.3)));
     }
 
 -- a place that is refused within the first bytes of a log is refused in each log that begins with them
@@ -194,7 +194,7 @@ refused_in_front log front rest more line column parts place here within =
     ∙ ap (λ x. lines ++ x) (append_assoc here.text (here.bad ∷ []) tail) in
     record {
       lines = place.lines;
-      whats = place.whats;
+      meanings = place.meanings;
       rest = here.text ++ here.bad ∷ tail;
       parts = whole;
       legal = place.legal;
@@ -220,28 +220,28 @@ unfinished_is_behind log front rest line column parts place here =
     omega arith
 
 -- no place is refused among the bytes that a scanner has taken
-pub none_taken : (log front rest : List ℕ) (whats : List (Option Stamped)) (standing : Standing) (line column : ℕ) → StandsAfter front whats standing
+pub none_taken : (log front rest : List ℕ) (meanings : List (Option Stamped)) (standing : Standing) (line column : ℕ) → StandsAfter front meanings standing
     → log ≡ front ++ rest → (place : IsRefusedIn log line column) → length (ended_lines place.lines) + column ≤ length front → ⊥
-none_taken log front rest whats standing line column stands parts place within = go place.here
+none_taken log front rest meanings standing line column stands parts place within = go place.here
   where
     go : IsRefusedRest place.rest column → ⊥
     go (inl here) =
-        let whole = completed front whats standing stands in
-        refused_log_means_nothing (front ++ whole.more) line column whole.whats
+        let whole = completed front meanings standing stands in
+        refused_log_means_nothing (front ++ whole.more) line column whole.meanings
         (refused_in_front log front rest whole.more line column parts place here within) whole.means
     go (inr here) = let behind = unfinished_is_behind log front rest line column parts place here in absurd (omega arith)
 
 -- a line that announces too much is none of those that it has taken
-none_announces : (limit : ℕ) (settings : Settings) (log front rest : List ℕ) (whats : List (Option Stamped)) (standing : Standing) (line announced : ℕ)
-    → StandsAfter front whats standing → log ≡ front ++ rest → EachWithin limit settings whats → (over : IsOversizeLine limit settings log line announced)
+none_announces : (limit : ℕ) (settings : Settings) (log front rest : List ℕ) (meanings : List (Option Stamped)) (standing : Standing) (line announced : ℕ)
+    → StandsAfter front meanings standing → log ≡ front ++ rest → EachWithin limit settings meanings → (over : IsOversizeLine limit settings log line announced)
     → length front < length (ended_lines (over.found.before ++ over.found.text ∷ []))
-none_announces limit settings log front rest whats standing line announced stands parts each over = elim (cases_lt (length over.found.before) (length stands.lines)) [
+none_announces limit settings log front rest meanings standing line announced stands parts each over = elim (cases_lt (length over.found.before) (length stands.lines)) [
   | inl fewer ↦ absurd (taken fewer)
   | inr more ↦ behind more
 ]
   where
     both : stands.lines ++ log_lines (standing.line ++ rest) ≡ over.found.before ++ over.found.text ∷ over.found.later
-    both = sym (stands_lines log front rest whats standing stands parts) ∙ over.found.parts
+    both = sym (stands_lines log front rest meanings standing stands parts) ∙ over.found.parts
 
     taken : length over.found.before < length stands.lines → ⊥
     taken fewer =
@@ -250,8 +250,8 @@ none_announces limit settings log front rest whats standing line announced stand
         let long = length-append over.found.before (over.found.text ∷ []) in
         let split = splits stands.lines (log_lines (standing.line ++ rest)) (over.found.before ++ over.found.text ∷ []) over.found.later one_more (omega arith) in
         let here : stands.lines ≡ over.found.before ++ over.found.text ∷ split.0 = split.1 ∙ append_assoc over.found.before (over.found.text ∷ []) split.0 in
-        fails_within (announces_within limit settings) whats over.whats over.found.what each
-        (means_before stands.lines over.found.before over.found.text split.0 whats over.whats over.found.what stands.means here over.legal over.found.means)
+        fails_within (announces_within limit settings) meanings over.meanings over.found.what each
+        (means_before stands.lines over.found.before over.found.text split.0 meanings over.meanings over.found.what stands.means here over.legal over.found.means)
         (announcing_fails limit settings over.found.what announced over.found.announces)
 
     behind : length stands.lines ≤ length over.found.before → length front < length (ended_lines (over.found.before ++ over.found.text ∷ []))
@@ -269,32 +269,32 @@ none_announces limit settings log front rest whats standing line announced stand
             let long = length-append over.found.before (over.found.text ∷ []) in
             absurd (omega arith)
         first_is (first ∷ mid) is lines_are =
-            let past = next_ends_behind front rest first (mid ++ over.found.later) whats standing stands lines_are in
+            let past = next_ends_behind front rest first (mid ++ over.found.later) meanings standing stands lines_are in
             let same = ap (λ x. length (ended_lines x)) (is ∙ sym (append_assoc stands.lines (first ∷ []) mid)) in
             let long = length-ended_lines (stands.lines ++ first ∷ []) mid in
             omega arith
 
 -- no refused place counts, where a scanner has taken as many bytes as the limit
-pub no_place_counts : (settings : Settings) (log front rest : List ℕ) (whats : List (Option Stamped)) (standing : Standing) → StandsAfter front whats standing
+pub no_place_counts : (settings : Settings) (log front rest : List ℕ) (meanings : List (Option Stamped)) (standing : Standing) → StandsAfter front meanings standing
     → log ≡ front ++ rest → length front ≡ settings.max_bytes → settings.max_bytes < length log → (line column : ℕ) → ¬ CountsAsBad settings log line column
-no_place_counts settings log front rest whats standing stands parts full long line column bad = no_bad bad.counts
+no_place_counts settings log front rest meanings standing stands parts full long line column bad = no_bad bad.counts
   where
     no_bad : Counts (length (ended_lines bad.place.lines) + column) settings log → ⊥
-    no_bad (inl within) = none_taken log front rest whats standing line column stands parts bad.place (omega arith)
+    no_bad (inl within) = none_taken log front rest meanings standing line column stands parts bad.place (omega arith)
     no_bad (inr short) = absurd (omega arith)
 
 -- nothing that a scanner has taken refuses the log, where it has taken as many bytes as the limit
-pub not_refused_at_limit : (limit : ℕ) (settings : Settings) (log front rest : List ℕ) (whats : List (Option Stamped)) (standing : Standing)
-    → StandsAfter front whats standing → log ≡ front ++ rest → length front ≡ settings.max_bytes → settings.max_bytes < length log
-    → EachWithin limit settings whats → IsNotRefused limit settings log
-not_refused_at_limit limit settings log front rest whats standing stands parts full long each = record {
-  no_bad_line = λ line column bad. no_place_counts settings log front rest whats standing stands parts full long line column bad.found;
+pub not_refused_at_limit : (limit : ℕ) (settings : Settings) (log front rest : List ℕ) (meanings : List (Option Stamped)) (standing : Standing)
+    → StandsAfter front meanings standing → log ≡ front ++ rest → length front ≡ settings.max_bytes → settings.max_bytes < length log
+    → EachWithin limit settings meanings → IsNotRefused limit settings log
+not_refused_at_limit limit settings log front rest meanings standing stands parts full long each = record {
+  no_bad_line = λ line column bad. no_place_counts settings log front rest meanings standing stands parts full long line column bad.found;
   no_oversize = λ line announced over. no_over line announced over over.found.counts;
 }
   where
     no_over : (line announced : ℕ) (over : IsOversizeLine limit settings log line announced)
         → Counts (length (ended_lines (over.found.before ++ over.found.text ∷ []))) settings log → ⊥
     no_over line announced over (inl within) =
-        let behind = none_announces limit settings log front rest whats standing line announced stands parts each over in
+        let behind = none_announces limit settings log front rest meanings standing line announced stands parts each over in
         absurd (omega arith)
     no_over line announced over (inr short) = absurd (omega arith)

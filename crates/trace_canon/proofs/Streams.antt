@@ -14,12 +14,12 @@ use Rattle.trace_canon.specs.declared.lines.LineFault.TheVariants as fault
 use Rattle.trace_canon.specs.Answers.{piece_length}
 use Rattle.trace_canon.specs.Reading.{Took, Stopped, RefusesIn, StopsIn, ReadsPiece, ReadsEnd, ReadsLog, TakesSome}
 
--- So many bytes of the log are left of its limit; those before were scanned, and their lines taken.
+-- `left` bytes are left of the limit of the log; those before were scanned, and their lines taken.
 pub record HasTaken {T : Type 0} (took : Took T) (start : T) (Streams : List ℕ → Type 0) (limit left : ℕ) (standing : Standing) (now : T) : Type 0 where
   pub bytes : List ℕ
-  pub whats : List (Option Stamped)
-  pub stands : StandsAfter bytes whats standing
-  pub taken : took start whats now
+  pub meanings : List (Option Stamped)
+  pub stands : StandsAfter bytes meanings standing
+  pub taken : took start meanings now
   pub counted : length bytes + left ≡ limit
   pub streams : Streams bytes
 
@@ -29,7 +29,7 @@ continues_more old mid new bytes piece first then k =
     let at : length bytes + (length piece + k) ≡ length (bytes ++ piece) + k = (let len = length-append bytes piece in omega arith) in
     rw at at (first (length piece + k)) ∙ ap (λ x. bytes ++ x) (then k) ∙ sym (append_assoc bytes piece (new k))
 
--- what was taken of the stream is the front of a log that begins so
+-- what was taken of the stream is the front of a log that begins as the stream does
 pub taken_front : (old now : ℕ → List ℕ) (bytes log : List ℕ) (m : ℕ) → Continues old bytes now → IsCoherent old → IsCoherent now
     → old m ≡ take m log → length bytes ≤ m → bytes ≡ take (length bytes) log
 taken_front old now bytes log m continues coherent coherent_now begins within =
@@ -61,9 +61,9 @@ more_comes old now bytes log m continues begins full some =
     omega arith
 
 -- a log has few lines
-pub few_in_log : (log : List ℕ) (whats : List (Option Stamped)) → LogMeans log whats → length whats ≤ length log + 1
-few_in_log log whats means =
-    let same = lines_mean_as_many (log_lines log) whats means in
+pub few_in_log : (log : List ℕ) (meanings : List (Option Stamped)) → LogMeans log meanings → length meanings ≤ length log + 1
+few_in_log log meanings means =
+    let same = lines_mean_as_many (log_lines log) meanings means in
     let few = lines_are_few (log_lines log) in
     let ended = ended_log_lines log in
     omega arith
@@ -72,7 +72,7 @@ few_in_log log whats means =
 pub piece_of : (n : ℕ) (front rest : List ℕ) → n ≤ length front → (take n (front ++ rest) ≡ take n front) × (length (take n (front ++ rest)) ≡ n)
 piece_of n front rest within = (take-append-le n front rest within, ap length (take-append-le n front rest within) ∙ length-take-le n front within)
 
--- so many bytes of a log are these
+-- the first `given` bytes of a log are these
 at_count : (P : List ℕ → Type 0) (bytes log : List ℕ) (given : ℕ) → bytes ≡ take (length bytes) log → given ≡ length bytes → P bytes → P (take given log)
 at_count P bytes log given front count p = subst P (front ∙ ap (λ k. take k log) (sym count)) p
 
@@ -80,9 +80,9 @@ module _ {T E : Type 0} (took : Took T) (stopped : Stopped T E) (start : T) wher
   -- the log was read to its end
   pub log_ends : {A : Type 0} (result : Result A (LineFault E)) (m given : ℕ) (log : List ℕ) (now : T) → length log ≤ m → given ≡ length log
       → ReadsEnd took stopped start log result now → ReadsLog took stopped start m log given result now
-  log_ends (Ok value) m given log now short all (whats, means, ended, taken) = (whats, short, all, means, ended, taken)
-  log_ends (Err (fault.BadLine line column)) m given log now short all (whats, place, taken) = (whats, taken, inr (short, all, place))
-  log_ends (Err (fault.Taker why)) m given log now short all (whats, what, stops, halted) = (whats, what, halted, inr (short, all, stops))
+  log_ends (Ok value) m given log now short all (meanings, means, ended, taken) = (meanings, short, all, means, ended, taken)
+  log_ends (Err (fault.BadLine line column)) m given log now short all (meanings, place, taken) = (meanings, taken, inr (short, all, place))
+  log_ends (Err (fault.Taker why)) m given log now short all (meanings, what, stops, halted) = (meanings, what, halted, inr (short, all, stops))
   log_ends (Err fault.LogLimit) m given log now short all ends = absurd ends
   log_ends (Err fault.Read) m given log now short all ends = absurd ends
 
@@ -90,12 +90,12 @@ module _ {T E : Type 0} (took : Took T) (stopped : Stopped T E) (start : T) wher
   pub piece_faults : (A : Type 0) (why : LineFault E) (m given : ℕ) (log : List ℕ) (first : List (Option Stamped)) (bytes piece : List ℕ) (stood standing : Standing) (now : T)
       → StandsAfter bytes first stood → bytes ++ piece ≡ take (length (bytes ++ piece)) log → given ≡ length (bytes ++ piece) → given ≤ m → length piece ≤ piece_length
       → ReadsPiece took stopped start {A = A} first bytes piece (Err why) standing now → ReadsLog took stopped start {A = A} m log given (Err why) now
-  piece_faults A (fault.BadLine line column) m given log first bytes piece stood standing now stands front count within small (whats, place, taken) =
-      (whats, taken, inl (within, at_count (λ b. RefusesIn b whats line column) (bytes ++ piece) log given front count place))
-  piece_faults A (fault.Taker why) m given log first bytes piece stood standing now stands front count within small (whats, what, stops, halted) =
+  piece_faults A (fault.BadLine line column) m given log first bytes piece stood standing now stands front count within small (meanings, place, taken) =
+      (meanings, taken, inl (within, at_count (λ b. RefusesIn b meanings line column) (bytes ++ piece) log given front count place))
+  piece_faults A (fault.Taker why) m given log first bytes piece stood standing now stands front count within small (meanings, what, stops, halted) =
       let sum = length-append bytes piece in
       let k = length (bytes ++ piece) in (
-        whats,
+        meanings,
         what,
         halted,
         inl (
@@ -108,7 +108,7 @@ module _ {T E : Type 0} (took : Took T) (stopped : Stopped T E) (start : T) wher
             starts = sym (take-append-drop k log) ∙ ap (λ x. x ++ drop k log) (sym front) ∙ append_assoc bytes piece (drop k log);
             stands_before = stands;
             near = omega arith;
-            stops = at_count (λ b. StopsIn first b whats what) (bytes ++ piece) log given front count stops;
+            stops = at_count (λ b. StopsIn first b meanings what) (bytes ++ piece) log given front count stops;
           },
         ),
       )
@@ -118,15 +118,15 @@ module _ {T E : Type 0} (took : Took T) (stopped : Stopped T E) (start : T) wher
   -- some lines were taken
   pub takes_at_end : {A : Type 0} (result : Result A (LineFault E)) (log : List ℕ) (now : T) → length log ≤ 2 ^ 61 → ReadsEnd took stopped start log result now
       → TakesSome took stopped start result now
-  takes_at_end (Ok value) log now short (whats, means, ended, taken) = (let few = few_in_log log whats means in (whats, omega arith, taken))
-  takes_at_end (Err (fault.BadLine line column)) log now short (whats, place, taken) = (whats, taken)
-  takes_at_end (Err (fault.Taker why)) log now short (whats, what, stops, halted) = (whats, what, halted)
+  takes_at_end (Ok value) log now short (meanings, means, ended, taken) = (let few = few_in_log log meanings means in (meanings, omega arith, taken))
+  takes_at_end (Err (fault.BadLine line column)) log now short (meanings, place, taken) = (meanings, taken)
+  takes_at_end (Err (fault.Taker why)) log now short (meanings, what, stops, halted) = (meanings, what, halted)
   takes_at_end (Err fault.LogLimit) log now short ends = absurd ends
   takes_at_end (Err fault.Read) log now short ends = absurd ends
 
   pub takes_in_piece : (A : Type 0) (why : LineFault E) (first : List (Option Stamped)) (bytes piece : List ℕ) (standing : Standing) (now : T)
       → ReadsPiece took stopped start {A = A} first bytes piece (Err why) standing now → TakesSome took stopped start {A = A} (Err why) now
-  takes_in_piece A (fault.BadLine line column) first bytes piece standing now (whats, place, taken) = (whats, taken)
-  takes_in_piece A (fault.Taker why) first bytes piece standing now (whats, what, stops, halted) = (whats, what, halted)
+  takes_in_piece A (fault.BadLine line column) first bytes piece standing now (meanings, place, taken) = (meanings, taken)
+  takes_in_piece A (fault.Taker why) first bytes piece standing now (meanings, what, stops, halted) = (meanings, what, halted)
   takes_in_piece A fault.LogLimit first bytes piece standing now reads = absurd reads
   takes_in_piece A fault.Read first bytes piece standing now reads = absurd reads

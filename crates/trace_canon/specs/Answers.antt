@@ -18,26 +18,26 @@ piece_length = 4096
 
 -- What was written is exactly the text of the messages whose place is known from the lines read before the fault.
 pub record WritesEarly (limit : ℕ) (settings : Settings) (log : List ℕ) (given : ℕ) (fault : Fault) (old new : List ℕ) : Type 0 where
-  pub whats : List (Option Stamped)
-  pub read : AreReadBefore (announces_within limit settings) settings log given fault whats
-  pub wrote : new ≡ old ++ early_text limit settings whats
+  pub meanings : List (Option Stamped)
+  pub read : AreReadBefore (announces_within limit settings) settings log given fault meanings
+  pub wrote : new ≡ old ++ early_text limit settings meanings
 
 -- What was written is a front of the canonical log of the lines read before the fault.
 pub record WritesFront (limit : ℕ) (settings : Settings) (log : List ℕ) (given : ℕ) (fault : Fault) (old new : List ℕ) : Type 0 where
-  pub whats : List (Option Stamped)
-  pub read : AreReadBefore (announces_within limit settings) settings log given fault whats
+  pub meanings : List (Option Stamped)
+  pub read : AreReadBefore (announces_within limit settings) settings log given fault meanings
   pub written : List ℕ
   pub missing : List ℕ
   pub wrote : new ≡ old ++ written
-  pub front : canonical_log_of_lines limit settings whats ≡ written ++ missing
+  pub front : canonical_log_of_lines limit settings meanings ≡ written ++ missing
 
 -- What was written begins with the text of the messages whose place is known from the lines that had ended when the last
 -- piece was asked for.
 pub record WritesEagerly (limit : ℕ) (settings : Settings) (log : List ℕ) (given : ℕ) (old new : List ℕ) : Type 0 where
-  pub whats : List (Option Stamped)
-  pub read : AreReadBefore (announces_within limit settings) settings log (given - piece_length) Read whats
+  pub meanings : List (Option Stamped)
+  pub read : AreReadBefore (announces_within limit settings) settings log (given - piece_length) Read meanings
   pub more : List ℕ
-  pub wrote : new ≡ old ++ (early_text limit settings whats ++ more)
+  pub wrote : new ≡ old ++ (early_text limit settings meanings ++ more)
 
 -- the refusal that a fault tells; none where a device failed or memory was refused
 abbrev pub refusal_in : Fault → Option Refusal
@@ -62,7 +62,7 @@ Leaves limit settings log given (Oversize line announced) old new = WritesEarly 
 Leaves limit settings log given LogLimit old new = WritesEarly limit settings log given LogLimit old new
 Leaves limit settings log given Read old new = WritesEarly limit settings log given Read old new
 Leaves limit settings log given OutputLimit old new =
-    (whats : List (Option Stamped)) × IsReadWhole limit settings log whats × (new ≡ old ++ fitting settings (canonical_log_of_lines limit settings whats))
+    (meanings : List (Option Stamped)) × IsReadWhole limit settings log meanings × (new ≡ old ++ fitting settings (canonical_log_of_lines limit settings meanings))
 Leaves limit settings log given Write old new = WritesFront limit settings log given Write old new × WritesEagerly limit settings log given old new
 Leaves limit settings log given Memory old new = WritesFront limit settings log given Memory old new
 

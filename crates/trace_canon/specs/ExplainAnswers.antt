@@ -14,18 +14,18 @@ use Rattle.trace_canon.specs.ExplainText.{events_text, explain_text_of_lines}
 
 -- What was written is exactly the lines of the frames of the lines read before the fault.
 pub record WritesEvents (limit : ℕ) (settings : Settings) (log : List ℕ) (given : ℕ) (fault : Fault) (old new : List ℕ) : Type 0 where
-  pub whats : List (Option Stamped)
-  pub read : AreReadBefore takes_all settings log given fault whats
-  pub wrote : new ≡ old ++ events_text limit (trace settings whats)
+  pub meanings : List (Option Stamped)
+  pub read : AreReadBefore takes_all settings log given fault meanings
+  pub wrote : new ≡ old ++ events_text limit (trace settings meanings)
 
 -- What was written is a front of the text of the lines read before the fault.
 pub record WritesFrontOfText (limit : ℕ) (settings : Settings) (log : List ℕ) (given : ℕ) (fault : Fault) (old new : List ℕ) : Type 0 where
-  pub whats : List (Option Stamped)
-  pub read : AreReadBefore takes_all settings log given fault whats
+  pub meanings : List (Option Stamped)
+  pub read : AreReadBefore takes_all settings log given fault meanings
   pub written : List ℕ
   pub missing : List ℕ
   pub wrote : new ≡ old ++ written
-  pub front : explain_text_of_lines limit settings whats ≡ written ++ missing
+  pub front : explain_text_of_lines limit settings meanings ≡ written ++ missing
 
 -- What is answered on a log, of which `given` bytes were given, and what is then written where `old` was before: the text of
 -- one that can be read, and its summary; the lines of the frames of the lines read before, where it can't be, or reading
@@ -33,8 +33,8 @@ pub record WritesFrontOfText (limit : ℕ) (settings : Settings) (log : List ℕ
 -- announced and no canonical log refuses it.
 abbrev pub AnswersExplain : ℕ → Settings → List ℕ → ℕ → Result Summary Fault → List ℕ → List ℕ → Type 0
 AnswersExplain limit settings log given (Ok summary) old new =
-    (whats : List (Option Stamped)) × IsReadAs settings log (Ok whats) × (summary ≡ summary_of limit settings whats)
-    × (new ≡ old ++ explain_text_of_lines limit settings whats)
+    (meanings : List (Option Stamped)) × IsReadAs settings log (Ok meanings) × (summary ≡ summary_of limit settings meanings)
+    × (new ≡ old ++ explain_text_of_lines limit settings meanings)
 AnswersExplain limit settings log given (Err (BadLine line column)) old new =
     IsReadAs settings log (Err (no_line line column)) × WritesEvents limit settings log given (BadLine line column) old new
 AnswersExplain limit settings log given (Err LogLimit) old new =

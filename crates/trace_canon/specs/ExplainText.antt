@@ -14,7 +14,7 @@ use Rattle.isotp_receive.specs.declared.event.Ended.{Ended}
 use Rattle.isotp_receive.specs.declared.event.Reason.{Reason}
 use Rattle.isotp_receive.specs.declared.event.Reason.TheVariants as reason
 use Rattle.isotp_receive.specs.Trace.{Entry}
-use Rattle.isotp_receive.specs.Standing.{Standing, Receptions, receptions_after}
+use Rattle.isotp_receive.specs.StandingReception.{StandingReception, Receptions, receptions_after}
 use Rattle.isotp_receive.specs.Verdict.{VerdictValue, EventValue, message, began, stored, flowed, dropped, verdict}
 use Rattle.trace_canon.specs.declared.summary.Summary.{Summary}
 use Rattle.trace_canon.specs.Settings.{Settings}
@@ -52,7 +52,7 @@ reason_text (reason.NextSequence expected found) =
 reason_text reason.NextLength = codes "consecutive frame length"
 reason_text (reason.TooLong announced) = decimal announced ++ codes " bytes announced"
 
--- a reception, by its direction, the line of its first frame and the length that this announced
+-- a reception, by its direction, the line of its first frame and the length that this frame announced
 abbrev pub reception_text : Dir → ℕ → ℕ → List ℕ
 reception_text d line len = direction_text d ++ codes " reception from line " ++ decimal line ++ codes " of " ++ decimal len ++ codes " bytes "
 
@@ -80,7 +80,7 @@ dropped_line line d flowed = []
 abbrev pub event_text : ℕ → Dir → EventValue → List ℕ
 event_text line d event = ended_line line event.ended ++ dropped_line line d event.told
 
--- the lines of these frames, where the frames `past` stand before them
+-- the lines of these frames, where the frames `past` came before them
 abbrev pub events_text_after : ℕ → List Entry → List Entry → List ℕ
 events_text_after limit past [] = []
 events_text_after limit past (e ∷ rest) = event_text e.line e.dir (verdict limit past e) ++ events_text_after limit (past ++ e ∷ []) rest
@@ -90,7 +90,7 @@ abbrev pub events_text : ℕ → List Entry → List ℕ
 events_text limit T = events_text_after limit [] T
 
 -- the line and the announced length of the first frame of a reception
-abbrev pub beginning : Standing → ℕ × ℕ
+abbrev pub beginning : StandingReception → ℕ × ℕ
 beginning standing = (standing.line, standing.len)
 
 -- the line of a reception that stands at the end, by its beginning, if one does
@@ -116,4 +116,4 @@ explain_text limit T summary = events_text limit T ++ (unfinished_text (receptio
 
 -- the text of a log whose lines mean this
 abbrev pub explain_text_of_lines : ℕ → Settings → List (Option Stamped) → List ℕ
-explain_text_of_lines limit settings whats = explain_text limit (trace settings whats) (summary_of limit settings whats)
+explain_text_of_lines limit settings meanings = explain_text limit (trace settings meanings) (summary_of limit settings meanings)

@@ -42,28 +42,28 @@ pub record IsFirst (settings : Settings) (first : Writer) : Type 0 where
   pub messages : first.messages ≡ 0
 
 -- All was written, within the limit.
-pub record FinishesWell (Told ToldNow : Type 0) (settings : Settings) (first : Writer) (whats : List (Option Stamped)) (summary : Summary) (failures : ℕ) (written : List ℕ) : Type 0 where
-  pub counted : summary ≡ summary_of MESSAGE_LIMIT settings whats
+pub record FinishesWell (Told ToldNow : Type 0) (settings : Settings) (first : Writer) (meanings : List (Option Stamped)) (summary : Summary) (failures : ℕ) (written : List ℕ) : Type 0 where
+  pub counted : summary ≡ summary_of MESSAGE_LIMIT settings meanings
   pub failures_are : failures ≡ first.failures
-  pub fits : length (canonical_log_of_lines MESSAGE_LIMIT settings whats) ≤ settings.max_bytes
+  pub fits : length (canonical_log_of_lines MESSAGE_LIMIT settings meanings) ≤ settings.max_bytes
   pub telling : Told → ToldNow
-  pub wrote : Told → written ≡ first.written ++ canonical_log_of_lines MESSAGE_LIMIT settings whats
+  pub wrote : Told → written ≡ first.written ++ canonical_log_of_lines MESSAGE_LIMIT settings meanings
 
 -- As much was written as is within the limit.
-pub record FinishesOver (Told : Type 0) (settings : Settings) (first : Writer) (whats : List (Option Stamped)) (failures : ℕ) (written : List ℕ) : Type 0 where
+pub record FinishesOver (Told : Type 0) (settings : Settings) (first : Writer) (meanings : List (Option Stamped)) (failures : ℕ) (written : List ℕ) : Type 0 where
   pub failures_are : failures ≡ first.failures
-  pub over : settings.max_bytes < length (canonical_log_of_lines MESSAGE_LIMIT settings whats)
-  pub wrote : Told → written ≡ first.written ++ fitting settings (canonical_log_of_lines MESSAGE_LIMIT settings whats)
+  pub over : settings.max_bytes < length (canonical_log_of_lines MESSAGE_LIMIT settings meanings)
+  pub wrote : Told → written ≡ first.written ++ fitting settings (canonical_log_of_lines MESSAGE_LIMIT settings meanings)
 
 -- The target failed: a part was written.
-pub record FinishesWrong (Told : Type 0) (settings : Settings) (first : Writer) (whats : List (Option Stamped)) (failures : ℕ) (written : List ℕ) : Type 0 where
+pub record FinishesWrong (Told : Type 0) (settings : Settings) (first : Writer) (meanings : List (Option Stamped)) (failures : ℕ) (written : List ℕ) : Type 0 where
   pub failures_are : first.failures ≤ 2 ^ 62 → failures ≡ first.failures + 1
   pub now : Writer
   pub holds : written ≡ now.written
-  pub wrote : Told → HasWrittenSome first (early (messages_of_lines MESSAGE_LIMIT settings whats)) (flattened (meaning_of_lines MESSAGE_LIMIT settings whats)) now
+  pub wrote : Told → HasWrittenSome first (early (messages_of_lines MESSAGE_LIMIT settings meanings)) (flattened (meaning_of_lines MESSAGE_LIMIT settings meanings)) now
 
 -- how a run ends that has read lines which mean this
 abbrev pub Finishes : Type 0 → Type 0 → Settings → Writer → List (Option Stamped) → Result Summary EndFault → ℕ → List ℕ → Type 0
-Finishes Told ToldNow settings first whats (Ok summary) failures written = FinishesWell Told ToldNow settings first whats summary failures written
-Finishes Told ToldNow settings first whats (Err end_fault.OutputLimit) failures written = FinishesOver Told settings first whats failures written
-Finishes Told ToldNow settings first whats (Err end_fault.Write) failures written = FinishesWrong Told settings first whats failures written
+Finishes Told ToldNow settings first meanings (Ok summary) failures written = FinishesWell Told ToldNow settings first meanings summary failures written
+Finishes Told ToldNow settings first meanings (Err end_fault.OutputLimit) failures written = FinishesOver Told settings first meanings failures written
+Finishes Told ToldNow settings first meanings (Err end_fault.Write) failures written = FinishesWrong Told settings first meanings failures written

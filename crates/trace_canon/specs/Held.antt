@@ -24,15 +24,15 @@ fault_of (line_fault.Taker (holding_fault.Oversize line announced)) = fault.Over
 fault_of (line_fault.Taker holding_fault.Memory) = fault.Memory
 
 -- What is held of lines that mean this, and their canonical log is within the limit.
-pub record IsHeldOf (settings : Settings) (whats : List (Option Stamped)) (held : Held) : Type 0 where
-  pub items : held.meaning ≡ meaning_of_lines MESSAGE_LIMIT settings whats
-  pub counted : held.summary ≡ summary_of MESSAGE_LIMIT settings whats
-  pub fits : length (canonical_log_of_lines MESSAGE_LIMIT settings whats) ≤ settings.max_bytes
+pub record IsHeldOf (settings : Settings) (meanings : List (Option Stamped)) (held : Held) : Type 0 where
+  pub items : held.meaning ≡ meaning_of_lines MESSAGE_LIMIT settings meanings
+  pub counted : held.summary ≡ summary_of MESSAGE_LIMIT settings meanings
+  pub fits : length (canonical_log_of_lines MESSAGE_LIMIT settings meanings) ≤ settings.max_bytes
 
 -- what is held in the end, or nothing where that is longer
 abbrev pub EndsHeld : Settings → List (Option Stamped) → Option Held → Type 0
-EndsHeld settings whats (Some held) = IsHeldOf settings whats held
-EndsHeld settings whats None = settings.max_bytes < length (canonical_log_of_lines MESSAGE_LIMIT settings whats)
+EndsHeld settings meanings (Some held) = IsHeldOf settings meanings held
+EndsHeld settings meanings None = settings.max_bytes < length (canonical_log_of_lines MESSAGE_LIMIT settings meanings)
 
 -- what is found in a log: the meaning and the summary of an accepted one, or why it is refused
 abbrev pub FindsMeaning : ℕ → Settings → List ℕ → Result Held Fault → Type 0

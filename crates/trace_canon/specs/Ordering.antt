@@ -6,7 +6,7 @@ use Rattle.isotp_receive.specs.declared.TheConstants.{MESSAGE_LIMIT}
 use Rattle.isotp_receive.specs.Trace.{Entry}
 use Rattle.isotp_receive.specs.Verdict.{messages}
 use Rattle.uds_exchange.specs.Order.{early}
-use Rattle.uds_exchange.specs.Orderer.{Standing, stands_after}
+use Rattle.uds_exchange.specs.Orderer.{OrdererValue, stands_after}
 use Rattle.trace_canon.specs.declared.ordering.OrderingFault.{OrderingFault}
 use Rattle.trace_canon.specs.declared.ordering.OrderingFault.TheVariants as fault
 use Rattle.isotp_receive.specs.Events.{oversize_in}
@@ -26,25 +26,25 @@ pub record Stood (Told ToldNow : Type 0) (first : Writer) (T : List Entry) (now 
   pub written : Told → HasWrittenAll first (early (messages MESSAGE_LIMIT T)) now
 
 -- Nothing was put: the orderer stands after no message, and the text before its first line.
-pub record IsOrderingStart (settings : Settings) (orderer : Standing) (config : Settings) (place : Place) (messages : ℕ) : Type 0 where
+pub record IsOrderingStart (settings : Settings) (orderer : OrdererValue) (config : Settings) (place : Place) (messages : ℕ) : Type 0 where
   pub stands : orderer ≡ stands_after []
   pub config_is : config ≡ settings
   pub place_is : place ≡ start_of settings.max_bytes
   pub none : messages ≡ 0
 
 -- And the orderer stands after these messages.
-pub record Orders (Told ToldNow : Type 0) (first : Writer) (T : List Entry) (orderer : Standing) (now : Writer) : Type 0 where
+pub record Orders (Told ToldNow : Type 0) (first : Writer) (T : List Entry) (orderer : OrdererValue) (now : Writer) : Type 0 where
   pub stands : orderer ≡ stands_after (messages MESSAGE_LIMIT T)
   pub stood : Stood Told ToldNow first T now
 
--- The target failed at the frame e: of what is early with it a part was written.
+-- The target failed at the frame e: a part of what is early with it was written.
 pub record FailedAt (Told ToldNow : Type 0) (first : Writer) (T : List Entry) (e : Entry) (now : Writer) : Type 0 where
   pub failures : first.failures ≤ 2 ^ 62 → now.failures ≡ first.failures + 1
   pub within : AllByRecursion AnnouncesWithin (T ++ e ∷ [])
   pub telling : Told → ToldNow
   pub written : Told → HasWrittenSome first (early (messages MESSAGE_LIMIT T)) (early (messages MESSAGE_LIMIT (T ++ e ∷ []))) now
 
--- what a fault at the frame e leaves, behind this trace
+-- what a fault at the frame e leaves, after this trace
 abbrev pub StopsAt : Type 0 → Type 0 → Writer → List Entry → Entry → OrderingFault → Writer → Type 0
 StopsAt Told ToldNow first T e (fault.Oversize line announced) now =
     Stood Told ToldNow first T now × (line ≡ e.line) × (oversize_in MESSAGE_LIMIT (layout_of e.frame) ≡ Some announced)

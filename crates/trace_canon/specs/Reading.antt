@@ -16,22 +16,22 @@ Took T = T → List (Option Stamped) → T → Type 0
 abbrev pub Stopped : Type 0 → Type 0 → Type 1
 Stopped T E = T → List (Option Stamped) → Option Stamped → E → T → Type 0
 
--- a log that begins with these bytes is refused at this place of them, behind lines that mean this
+-- a log that begins with these bytes is refused at this place in them, after lines that mean this
 abbrev pub RefusesIn : List ℕ → List (Option Stamped) → ℕ → ℕ → Type 0
-RefusesIn bytes whats line column = (more : List ℕ) → IsRefusedWithin (length bytes) whats (bytes ++ more) line column
+RefusesIn bytes meanings line column = (more : List ℕ) → IsRefusedWithin (length bytes) meanings (bytes ++ more) line column
 
--- A line that ended among these bytes means this, behind lines that mean that, which go on from those first ones.
-pub record StopsIn (first : List (Option Stamped)) (bytes : List ℕ) (whats : List (Option Stamped)) (what : Option Stamped) : Type 0 where
+-- A line that ended among these bytes means this, after lines that mean that, which go on from those first ones.
+pub record StopsIn (first : List (Option Stamped)) (bytes : List ℕ) (meanings : List (Option Stamped)) (what : Option Stamped) : Type 0 where
   pub front : List ℕ
   pub rest : List ℕ
   pub standing : Standing
   pub more : List (Option Stamped)
   pub parts : bytes ≡ front ++ rest
-  pub stands : StandsAfter front (whats ++ what ∷ []) standing
-  pub since : whats ≡ first ++ more
+  pub stands : StandsAfter front (meanings ++ what ∷ []) standing
+  pub since : meanings ≡ first ++ more
 
 -- The same of a log, of which this many bytes were given; the first lines are those that had ended before the last piece.
-pub record StopsInLog (log : List ℕ) (given : ℕ) (whats : List (Option Stamped)) (what : Option Stamped) : Type 0 where
+pub record StopsInLog (log : List ℕ) (given : ℕ) (meanings : List (Option Stamped)) (what : Option Stamped) : Type 0 where
   pub first : List (Option Stamped)
   pub before : List ℕ
   pub behind : List ℕ
@@ -39,21 +39,21 @@ pub record StopsInLog (log : List ℕ) (given : ℕ) (whats : List (Option Stamp
   pub starts : log ≡ before ++ behind
   pub stands_before : StandsAfter before first stood
   pub near : given ≤ length before + piece_length
-  pub stops : StopsIn first (take given log) whats what
+  pub stops : StopsIn first (take given log) meanings what
 
 -- A scanner has taken all of the log; the lines that have ended then are the first of these, or all.
-pub record HasEnded (log : List ℕ) (whats : List (Option Stamped)) : Type 0 where
+pub record HasEnded (log : List ℕ) (meanings : List (Option Stamped)) : Type 0 where
   pub earlier : List (Option Stamped)
   pub more : List (Option Stamped)
   pub standing : Standing
   pub stands : StandsAfter log earlier standing
-  pub since : whats ≡ earlier ++ more
+  pub since : meanings ≡ earlier ++ more
 
--- The last line of a log has no line feed and means this, behind lines that mean that.
-pub record StopsAtEnd (log : List ℕ) (whats : List (Option Stamped)) (what : Option Stamped) : Type 0 where
+-- The last line of a log has no line feed and means this, after lines that mean that.
+pub record StopsAtEnd (log : List ℕ) (meanings : List (Option Stamped)) (what : Option Stamped) : Type 0 where
   pub standing : Standing
-  pub stands : StandsAfter log whats standing
-  pub means : LogMeans log (whats ++ what ∷ [])
+  pub stands : StandsAfter log meanings standing
+  pub means : LogMeans log (meanings ++ what ∷ [])
 
 -- a fault that the lines themselves give: not that of the limit or of the source
 abbrev pub IsOfLines : {E : Type 0} → LineFault E → Type 0
@@ -70,47 +70,47 @@ CountsRead (fault.Taker why) old new = new ≡ old
 CountsRead fault.LogLimit old new = new ≡ old
 
 module _ {T E : Type 0} (took : Took T) (stopped : Stopped T E) (start : T) where
-  -- behind these bytes of a log a piece was read: all of it, or up to a refused place, or up to the line on which the taker stopped
+  -- after these bytes of a log a piece was read: all of it, or up to a refused place, or up to the line on which the taker stopped
   abbrev pub ReadsPiece : {A : Type 0} → List (Option Stamped) → List ℕ → List ℕ → Result A (LineFault E) → Standing → T → Type 0
-  ReadsPiece first bytes piece (Ok value) standing now = (whats : List (Option Stamped)) × StandsAfter (bytes ++ piece) whats standing × took start whats now
+  ReadsPiece first bytes piece (Ok value) standing now = (meanings : List (Option Stamped)) × StandsAfter (bytes ++ piece) meanings standing × took start meanings now
   ReadsPiece first bytes piece (Err (fault.BadLine line column)) standing now =
-      (whats : List (Option Stamped)) × RefusesIn (bytes ++ piece) whats line column × took start whats now
+      (meanings : List (Option Stamped)) × RefusesIn (bytes ++ piece) meanings line column × took start meanings now
   ReadsPiece first bytes piece (Err (fault.Taker why)) standing now =
-      (whats : List (Option Stamped)) × (what : Option Stamped) × StopsIn first (bytes ++ piece) whats what × stopped start whats what why now
+      (meanings : List (Option Stamped)) × (what : Option Stamped) × StopsIn first (bytes ++ piece) meanings what × stopped start meanings what why now
   ReadsPiece first bytes piece (Err fault.LogLimit) standing now = ⊥
   ReadsPiece first bytes piece (Err fault.Read) standing now = ⊥
 
   -- the end of the log was read
   abbrev pub ReadsEnd : {A : Type 0} → List ℕ → Result A (LineFault E) → T → Type 0
-  ReadsEnd log (Ok value) now = (whats : List (Option Stamped)) × LogMeans log whats × HasEnded log whats × took start whats now
-  ReadsEnd log (Err (fault.BadLine line column)) now = (whats : List (Option Stamped)) × IsRefusedBehind whats log line column × took start whats now
+  ReadsEnd log (Ok value) now = (meanings : List (Option Stamped)) × LogMeans log meanings × HasEnded log meanings × took start meanings now
+  ReadsEnd log (Err (fault.BadLine line column)) now = (meanings : List (Option Stamped)) × IsRefusedBehind meanings log line column × took start meanings now
   ReadsEnd log (Err (fault.Taker why)) now =
-      (whats : List (Option Stamped)) × (what : Option Stamped) × StopsAtEnd log whats what × stopped start whats what why now
+      (meanings : List (Option Stamped)) × (what : Option Stamped) × StopsAtEnd log meanings what × stopped start meanings what why now
   ReadsEnd log (Err fault.LogLimit) now = ⊥
   ReadsEnd log (Err fault.Read) now = ⊥
 
   -- the log was read within its limit m, of which this many bytes were given
   abbrev pub ReadsLog : {A : Type 0} → ℕ → List ℕ → ℕ → Result A (LineFault E) → T → Type 0
   ReadsLog m log given (Ok value) now =
-      (whats : List (Option Stamped)) × (length log ≤ m) × (given ≡ length log) × LogMeans log whats × HasEnded log whats × took start whats now
+      (meanings : List (Option Stamped)) × (length log ≤ m) × (given ≡ length log) × LogMeans log meanings × HasEnded log meanings × took start meanings now
   ReadsLog m log given (Err (fault.BadLine line column)) now =
-      (whats : List (Option Stamped)) × took start whats now
-      × (((given ≤ m) × RefusesIn (take given log) whats line column) ⊎ ((length log ≤ m) × (given ≡ length log) × IsRefusedBehind whats log line column))
+      (meanings : List (Option Stamped)) × took start meanings now
+      × (((given ≤ m) × RefusesIn (take given log) meanings line column) ⊎ ((length log ≤ m) × (given ≡ length log) × IsRefusedBehind meanings log line column))
   ReadsLog m log given (Err fault.LogLimit) now =
-      (whats : List (Option Stamped)) × took start whats now × (m < length log) × (m ≤ given)
-      × ((standing : Standing) × StandsAfter (take m log) whats standing)
+      (meanings : List (Option Stamped)) × took start meanings now × (m < length log) × (m ≤ given)
+      × ((standing : Standing) × StandsAfter (take m log) meanings standing)
   ReadsLog m log given (Err fault.Read) now =
-      (whats : List (Option Stamped)) × took start whats now × (given ≤ m) × (given ≤ length log)
-      × ((standing : Standing) × StandsAfter (take given log) whats standing)
+      (meanings : List (Option Stamped)) × took start meanings now × (given ≤ m) × (given ≤ length log)
+      × ((standing : Standing) × StandsAfter (take given log) meanings standing)
   ReadsLog m log given (Err (fault.Taker why)) now =
-      (whats : List (Option Stamped)) × (what : Option Stamped) × stopped start whats what why now
-      × (((given ≤ m) × StopsInLog log given whats what)
-      ⊎ ((length log ≤ m) × (given ≡ length log) × StopsAtEnd log whats what))
+      (meanings : List (Option Stamped)) × (what : Option Stamped) × stopped start meanings what why now
+      × (((given ≤ m) × StopsInLog log given meanings what)
+      ⊎ ((length log ≤ m) × (given ≡ length log) × StopsAtEnd log meanings what))
 
   -- whatever the bytes were, some lines were taken
   abbrev pub TakesSome : {A : Type 0} → Result A (LineFault E) → T → Type 0
-  TakesSome (Ok value) now = (whats : List (Option Stamped)) × (length whats < 2 ^ 62) × took start whats now
-  TakesSome (Err (fault.BadLine line column)) now = (whats : List (Option Stamped)) × took start whats now
-  TakesSome (Err fault.LogLimit) now = (whats : List (Option Stamped)) × took start whats now
-  TakesSome (Err fault.Read) now = (whats : List (Option Stamped)) × took start whats now
-  TakesSome (Err (fault.Taker why)) now = (whats : List (Option Stamped)) × (what : Option Stamped) × stopped start whats what why now
+  TakesSome (Ok value) now = (meanings : List (Option Stamped)) × (length meanings < 2 ^ 62) × took start meanings now
+  TakesSome (Err (fault.BadLine line column)) now = (meanings : List (Option Stamped)) × took start meanings now
+  TakesSome (Err fault.LogLimit) now = (meanings : List (Option Stamped)) × took start meanings now
+  TakesSome (Err fault.Read) now = (meanings : List (Option Stamped)) × took start meanings now
+  TakesSome (Err (fault.Taker why)) now = (meanings : List (Option Stamped)) × (what : Option Stamped) × stopped start meanings what why now

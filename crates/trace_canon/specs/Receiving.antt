@@ -3,7 +3,7 @@ use Rattle.std.specs.Prelude.{◌≡◌, ℕ, ◌+◌, min, Bool, true, false, L
 use Rattle.can_log.specs.declared.frame.Dir.{Dir}
 use Rattle.can_log.specs.declared.frame.Stamped.{Stamped}
 use Rattle.isotp_receive.specs.declared.TheConstants.{MESSAGE_LIMIT}
-use Rattle.isotp_receive.specs.Standing.{Receptions, receptions_after}
+use Rattle.isotp_receive.specs.StandingReception.{Receptions, receptions_after}
 use Rattle.isotp_receive.specs.Trace.{Entry}
 use Rattle.isotp_receive.specs.Verdict.{VerdictValue, message, began, stored, flowed, dropped, EventValue, messages}
 use Rattle.isotp_receive.specs.Events.{is_dropped, dropped_in, ended_in}
@@ -54,11 +54,11 @@ pub record IsReceiverStart {E : Type 0} (settings : Settings) (first : E) (confi
   pub taker_is : taker ≡ first
 
 -- those after lines that mean this
-pub record Receives (settings : Settings) (whats : List (Option Stamped)) (pair : Receptions) (lines : ℕ) (counts : Counts) : Type 0 where
-  pub pair_is : pair ≡ receptions_after MESSAGE_LIMIT (trace settings whats)
-  pub lines_are : lines ≡ length whats
-  pub counted : AreCounted MESSAGE_LIMIT (trace settings whats) counts
+pub record Receives (settings : Settings) (meanings : List (Option Stamped)) (pair : Receptions) (lines : ℕ) (counts : Counts) : Type 0 where
+  pub pair_is : pair ≡ receptions_after MESSAGE_LIMIT (trace settings meanings)
+  pub lines_are : lines ≡ length meanings
+  pub counted : AreCounted MESSAGE_LIMIT (trace settings meanings) counts
 
--- the entry of a frame of a direction, behind lines that mean this
+-- the entry of a frame of a direction, after lines that mean this
 abbrev pub entry_in : List (Option Stamped) → Stamped → Dir → Entry
-entry_in whats stamped d = record { line = 1 + length whats; micros = stamped.micros; dir = d; frame = stamped.frame }
+entry_in meanings stamped d = record { line = 1 + length meanings; micros = stamped.micros; dir = d; frame = stamped.frame }

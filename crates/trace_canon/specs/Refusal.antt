@@ -27,7 +27,7 @@ abbrev pub oversize_by : ℕ → Option Dir → FrameValue → Option ℕ
 oversize_by limit None frame = None
 oversize_by limit (Some dir) frame = oversize_in limit (layout_of frame)
 
--- the length above the limit that a line announces which means this
+-- the length above the limit that a line with this meaning announces
 unfoldable pub oversize : ℕ → Settings → Option Stamped → Option ℕ
 oversize limit settings None = None
 oversize limit settings (Some stamped) = oversize_by limit (direction_of settings stamped.frame.id) stamped.frame
@@ -38,11 +38,11 @@ announces_within limit settings what = is_none (oversize limit settings what)
 
 -- a test passes on what each of the lines means
 abbrev pub EachPasses : (Option Stamped → Bool) → List (Option Stamped) → Type 0
-EachPasses passes whats = AllByRecursion (λ what. passes what ≡ true) whats
+EachPasses passes meanings = AllByRecursion (λ what. passes what ≡ true) meanings
 
 -- none of the lines that mean this announces a length above the limit
 abbrev pub EachWithin : ℕ → Settings → List (Option Stamped) → Type 0
-EachWithin limit settings whats = EachPasses (announces_within limit settings) whats
+EachWithin limit settings meanings = EachPasses (announces_within limit settings) meanings
 
 -- A place of the log counts: it is one of the first bytes, as many as the limit, or the log has no more bytes than that.
 abbrev pub Counts : ℕ → Settings → List ℕ → Type 0
@@ -56,7 +56,7 @@ pub record CountsAsBad (settings : Settings) (log : List ℕ) (line column : ℕ
 -- The log is refused there: no line before it announces too much.
 pub record IsBadLine (limit : ℕ) (settings : Settings) (log : List ℕ) (line column : ℕ) : Type 0 where
   pub found : CountsAsBad settings log line column
-  pub within : EachWithin limit settings found.place.whats
+  pub within : EachWithin limit settings found.place.meanings
 
 -- The line of the log announces so much, and its line feed counts.
 pub record CountsAsOversize (limit : ℕ) (settings : Settings) (log : List ℕ) (line announced : ℕ) : Type 0 where
@@ -73,9 +73,9 @@ pub record CountsAsOversize (limit : ℕ) (settings : Settings) (log : List ℕ)
 -- The log is refused in it: the lines before it are legal, and none of them announces too much.
 pub record IsOversizeLine (limit : ℕ) (settings : Settings) (log : List ℕ) (line announced : ℕ) : Type 0 where
   pub found : CountsAsOversize limit settings log line announced
-  pub whats : List (Option Stamped)
-  pub legal : LinesMean found.before whats
-  pub within : EachWithin limit settings whats
+  pub meanings : List (Option Stamped)
+  pub legal : LinesMean found.before meanings
+  pub within : EachWithin limit settings meanings
 
 -- nothing that counts refuses the log
 pub record IsNotRefused (limit : ℕ) (settings : Settings) (log : List ℕ) : Type 0 where

@@ -7,7 +7,7 @@ use Rattle.trace_io.specs.Written.{HasFront, IsWritten}
 use Rattle.trace_canon.specs.Settings.{Settings, id_of}
 use Rattle.trace_canon.specs.CanonicalLog.{canonical_lines, lines_within}
 
--- what was gathered of a text: all of it was written but for what the block holds; or a front of it, where writing failed
+-- what was gathered of a text: all of it was written except what the block holds; or a front of it, where writing failed
 abbrev pub HasGathered : {A E : Type 0} → Result A E → List ℕ → List ℕ → List ℕ → List ℕ → Type 0
 HasGathered (Ok value) old text new held = IsWritten old text new held
 HasGathered (Err fault) old text new held = HasFront old text new
@@ -26,11 +26,11 @@ pub record Place : Type 0 where
 abbrev pub start_of : ℕ → Place
 start_of room = record { lines = 0; room = room; is_over = false }
 
--- behind one line more
+-- after one more line
 abbrev pub behind : Place → List ℕ → Place
 behind place line = record { lines = place.lines + 1; room = place.room - length line; is_over = place.is_over }
 
--- behind a line that does not fit: no more can follow
+-- after a line that does not fit: no more can follow
 abbrev pub filled_up : Place → Place
 filled_up place = record { lines = place.lines; room = 0; is_over = true }
 
@@ -44,7 +44,7 @@ Lays settings old frame None new = (old.room < length (line_at settings old.line
 unfoldable pub text_from : Settings → Place → List (Dir × List ℕ) → List ℕ
 text_from settings place frames = ended_lines (lines_within place.room (canonical_lines settings place.lines frames))
 
--- where it stands behind them
+-- where it stands after them
 unfoldable pub place_after : Settings → Place → List (Dir × List ℕ) → Place
 place_after settings place [] = place
 place_after settings place (frame ∷ later) =

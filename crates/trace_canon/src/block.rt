@@ -7,7 +7,7 @@ use arrayvec::ArrayVec;
 use can_log::{Id, LONGEST_LINE, append_line};
 use trace_io::{DeviceFault, Target, write_all};
 
-/// The most bytes that are gathered for one write: 64 canonical lines, the longest that there are.
+/// The most bytes that are gathered for one write: 64 canonical lines of the longest kind.
 const BLOCK: usize = 64 * LONGEST_LINE;
 
 pub(crate) type Block = ArrayVec<u8, BLOCK>;

@@ -52,7 +52,7 @@ pub fn normalise<R: Source, W: Target>(
         → BeginsAs (R.front reader.old) (config.now.max_bytes + 1) log
         → OnOk result ((text : List ℕ) → W.written writer.new ≡ W.written writer.old ++ text → IsCanonicalFor MESSAGE_LIMIT config.now log text) }
 
-    // Of a recording of messages the canonical log of their meaning is written; and a summary that counts nothing dropped,
+    // For a recording of messages their meaning's canonical log is written; and a summary that counts nothing dropped,
     // ended or unfinished certifies that the log is one.
     ensures recording { R.tells reader.old → W.tells writer.old → (log : List ℕ)
         → BeginsAs (R.front reader.old) (config.now.max_bytes + 1) log → OnOk result ((M : List Message) → Records MESSAGE_LIMIT config.now log M
@@ -120,11 +120,11 @@ fn answer_of(end: Result<Summary, EndFault>) -> Result<Summary, Fault>
 
 /// Writes what is held, and sums up.
 fn finish<W: Target>(receiver: Receiver<Ordering<W>>, device: &mut W) -> Result<Summary, EndFault>
-    ensures ends { (start : W) (settings : Settings) (first : Writer) (whats : List (Option StampedValue)) → length whats < 2 ^ 62 → IsFirst settings first
-        → Receives settings whats receiver.pair receiver.lines receiver.counts
-        → Orders (W.tells start) (W.tells device.old) first (trace settings whats) receiver.taker.orderer
+    ensures ends { (start : W) (settings : Settings) (first : Writer) (meanings : List (Option StampedValue)) → length meanings < 2 ^ 62 → IsFirst settings first
+        → Receives settings meanings receiver.pair receiver.lines receiver.counts
+        → Orders (W.tells start) (W.tells device.old) first (trace settings meanings) receiver.taker.orderer
         (writer_of receiver.taker.text (W.failures device.old) (W.written device.old))
-        → Finishes (W.tells start) (W.tells device.new) settings first whats result (W.failures device.new) (W.written device.new) }
+        → Finishes (W.tells start) (W.tells device.new) settings first meanings result (W.failures device.new) (W.written device.new) }
     ensures no_empty_write { (M : List Message) → receiver.taker.orderer ≡ stands_after M → W.had_empty_write device.new ≡ W.had_empty_write device.old }
 {
     let Receiver {

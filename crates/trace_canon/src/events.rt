@@ -15,7 +15,7 @@ use isotp_pdu::PduFault;
 use isotp_receive::{Cause, Ended, Event, Pair, Reason, Verdict};
 use trace_io::{DeviceFault, Target, write_all};
 
-/// Writes the lines of a frame, which stands in this line and was sent by this side.
+/// Writes the lines of a frame, which is in this line and was sent by this side.
 pub(crate) fn write_event<W: Target>(
     writer: &mut W,
     block: &mut Block,

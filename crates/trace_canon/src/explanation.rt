@@ -99,11 +99,11 @@ fn finish<W: Target>(
     device: &mut W,
 ) -> Result<Summary, DeviceFault>
     requires { W.failures device.old ≤ 2 ^ 62 }
-    ensures ends { (start : W) (settings : Settings) (failures : ℕ) (written : List ℕ) (whats : List (Option StampedValue))
-        → Receives settings whats receiver.pair receiver.lines receiver.counts
-        → Explains (W.tells start) (W.tells device.old) failures written (trace settings whats) receiver.taker.pending
+    ensures ends { (start : W) (settings : Settings) (failures : ℕ) (written : List ℕ) (meanings : List (Option StampedValue))
+        → Receives settings meanings receiver.pair receiver.lines receiver.counts
+        → Explains (W.tells start) (W.tells device.old) failures written (trace settings meanings) receiver.taker.pending
         (W.failures device.old) (W.written device.old)
-        → Ends (W.tells start) failures written settings whats result (W.failures device.new) (W.written device.new) }
+        → Ends (W.tells start) failures written settings meanings result (W.failures device.new) (W.written device.new) }
     ensures tells { W.tells device.old → OnOk result (W.tells device.new) }
     ensures no_empty_write { W.had_empty_write device.new ≡ W.had_empty_write device.old }
 {

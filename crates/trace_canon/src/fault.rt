@@ -9,7 +9,7 @@ use thiserror::Error;
 /// Why a run ended without a canonical log.
 #[derive(Clone, Copy, Debug, PartialEq, Eq, Error)]
 pub enum Fault {
-    /// The log is refused at this place: the first byte after which no legal log begins so. Both numbers count from 1,
+    /// The log is refused at this place: the first byte that no legal log can have there. Both numbers count from 1,
     /// the column in bytes.
     #[error("line {line} column {column}: not a log line")]
     BadLine { line: u64, column: u32 },

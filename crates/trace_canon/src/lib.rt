@@ -1,9 +1,9 @@
 //! The canonical log of a recorded session.
 //!
 //! Two recordings of one diagnostic session differ in time stamps, interface names, padding, frame sizes and foreign
-//! traffic. [`normalise`] reads a log and writes the one spelling that all logs with the same meaning share; so two logs
-//! mean the same session exactly if their canonical logs are equal byte for byte. A log that is not accepted is refused
-//! with its place and reason.
+//! traffic. [`normalise`] reads a log and writes the one spelling that all logs with the same meaning share. So two logs
+//! mean the same session exactly where their canonical logs are equal byte for byte. A log that is not accepted is
+//! refused with its place and reason.
 //!
 //! The log
 //!
@@ -22,7 +22,7 @@
 //! (0000000000.004000) can0 7E8#2246313233343536
 //! ```
 //!
-//! One way leads through the crate. [`lines`] reads pieces and hands on what each line means; [`receiver`] knows the two
+//! One way runs through the crate. [`lines`] reads pieces and hands on what each line means; [`receiver`] knows the two
 //! directions, receives their frames, counts, and hands on what each frame did; [`ordering`] puts the messages in order,
 //! and [`writer`] writes their canonical lines.
 #![tactic(auto)]

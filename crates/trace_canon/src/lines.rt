@@ -32,10 +32,10 @@ pub(crate) trait LineTaker {
         line: u64,
         what: &Option<Stamped>,
     ) -> Result<(), Self::Fault>
-        ensures ok { OnOk result ((start : Self × Self.Device) (whats : List (Option StampedValue)) → line ≡ length whats + 1 → length whats < 2 ^ 62
-            → took start whats (self.old, device.old) → took start (whats ++ what.now ∷ []) (self.new, device.new)) }
-        ensures err { IfErr result (λ fault. (start : Self × Self.Device) (whats : List (Option StampedValue)) → line ≡ length whats + 1 → length whats < 2 ^ 62
-            → took start whats (self.old, device.old) → stopped start whats what.now fault (self.new, device.new)) };
+        ensures ok { OnOk result ((start : Self × Self.Device) (meanings : List (Option StampedValue)) → line ≡ length meanings + 1 → length meanings < 2 ^ 62
+            → took start meanings (self.old, device.old) → took start (meanings ++ what.now ∷ []) (self.new, device.new)) }
+        ensures err { IfErr result (λ fault. (start : Self × Self.Device) (meanings : List (Option StampedValue)) → line ≡ length meanings + 1 → length meanings < 2 ^ 62
+            → took start meanings (self.old, device.old) → stopped start meanings what.now fault (self.new, device.new)) };
 }
 
 /// Why the lines of a log were not all taken.
@@ -108,8 +108,8 @@ fn take_lines<T: LineTaker>(
     requires { scanner.old.taken + length piece.now ≤ 2 ^ 61 }
     ensures taken { OnOk result (scanner.new.taken ≤ scanner.old.taken + length piece.now) }
     ensures fault { IfErr result IsOfLines }
-    ensures lines { (start : T × T.Device) (bytes : List ℕ) (whats : List (Option StampedValue)) → StandsAfter bytes whats scanner.old
-        → T.took start whats (taker.old, device.old) → ReadsPiece T.took T.stopped start whats bytes piece.now result scanner.new (taker.new, device.new) }
+    ensures lines { (start : T × T.Device) (bytes : List ℕ) (meanings : List (Option StampedValue)) → StandsAfter bytes meanings scanner.old
+        → T.took start meanings (taker.old, device.old) → ReadsPiece T.took T.stopped start meanings bytes piece.now result scanner.new (taker.new, device.new) }
 {
     let mut rest = piece;
     'lines: while !rest.is_empty() {
@@ -140,8 +140,8 @@ fn take_last_line<T: LineTaker>(
     device: &mut T::Device,
 ) -> Result<(), LineFault<T::Fault>>
     ensures fault { IfErr result IsOfLines }
-    ensures lines { (start : T × T.Device) (log : List ℕ) (whats : List (Option StampedValue)) → length log ≤ 2 ^ 61 → StandsAfter log whats scanner.old
-        → T.took start whats (taker.old, device.old) → ReadsEnd T.took T.stopped start log result (taker.new, device.new) }
+    ensures lines { (start : T × T.Device) (log : List ℕ) (meanings : List (Option StampedValue)) → length log ≤ 2 ^ 61 → StandsAfter log meanings scanner.old
+        → T.took start meanings (taker.old, device.old) → ReadsEnd T.took T.stopped start log result (taker.new, device.new) }
 {
     match &scanner.finish() {
         Scan::Line { line, what, .. } => match taker.take(device, *line, what) {

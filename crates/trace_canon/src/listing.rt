@@ -15,7 +15,7 @@ use std::alloc::Global;
 use trace_io::{Source, Target};
 
 /// Reads a log, and then writes a line for each item of its meaning. It accepts the logs that
-/// [`normalise`](crate::normalise) accepts, and refuses each other one alike.
+/// [`normalise`](crate::normalise) accepts, and refuses every other one in the same way.
 ///
 /// The target is not flushed.
 pub fn list<R: Source, W: Target>(

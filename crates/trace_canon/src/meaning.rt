@@ -27,7 +27,7 @@ use trace_io::Source;
 use uds_exchange::{Meaning, Pairing};
 
 /// Reads a log, and gives what its messages mean. It accepts the logs that [`normalise`](crate::normalise) accepts, and
-/// refuses each other one alike.
+/// refuses every other one in the same way.
 pub fn meaning_of<R: Source>(
     alloc: Global,
     config: &Config,
@@ -101,9 +101,9 @@ fn fault_of(fault: LineFault<HoldingFault>) -> Fault
 
 /// What was held and counted, or `None` where the canonical log is longer than the limit.
 fn finish(receiver: Receiver<Holding>) -> Option<Held>
-    ensures { (settings : Settings) (whats : List (Option Stamped)) → length whats < 2 ^ 62 → receiver.config ≡ settings
-        → Receives settings whats receiver.pair receiver.lines receiver.counts → Holds (trace settings whats) receiver.taker.pairing
-        → EndsHeld settings whats result }
+    ensures { (settings : Settings) (meanings : List (Option Stamped)) → length meanings < 2 ^ 62 → receiver.config ≡ settings
+        → Receives settings meanings receiver.pair receiver.lines receiver.counts → Holds (trace settings meanings) receiver.taker.pairing
+        → EndsHeld settings meanings result }
 {
     let Receiver {
         config,

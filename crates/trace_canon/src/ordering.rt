@@ -101,7 +101,7 @@ impl<W: Target> EventTaker for Ordering<W> {
     }
 }
 
-/// The length that a dropped frame announced, where that was the reason.
+/// The length that a dropped frame announced, where it was dropped for that.
 pub(crate) fn announced(reason: Reason) -> Option<u32>
     ensures { result ≡ announced_by reason }
 {

@@ -124,7 +124,7 @@ fn gather_bytes<W: Target>(
     Ok(())
 }
 
-/// What stands for the name of a service that has none.
+/// What is written for a service that has no name.
 #[tactic(auto, unfolding(can_log::specs::Digits::digits))]
 fn numbered_service(sid: u8) -> [u8; 10]
     ensures { result ≡ codes "service_" ++ hexadecimal 2 sid }
@@ -133,7 +133,7 @@ fn numbered_service(sid: u8) -> [u8; 10]
     [b's', b'e', b'r', b'v', b'i', b'c', b'e', b'_', high, low]
 }
 
-/// What stands for the name of a response code that has none.
+/// What is written for a response code that has no name.
 #[tactic(auto, unfolding(can_log::specs::Digits::digits))]
 fn numbered_code(code: u8) -> [u8; 7]
     ensures { result ≡ codes "code_" ++ hexadecimal 2 code }

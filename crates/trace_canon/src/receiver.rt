@@ -4,7 +4,7 @@ ghost use Rattle.can_log.specs.declared.frame.Stamped.{Stamped as StampedValue};
 ghost use Rattle.isotp_receive.specs.declared.TheConstants.{MESSAGE_LIMIT};
 ghost use Rattle.isotp_receive.specs.CleanTrace.{IsKept};
 ghost use Rattle.isotp_receive.specs.EventSeen.{seen_event};
-ghost use Rattle.isotp_receive.specs.Standing.{receptions_after};
+ghost use Rattle.isotp_receive.specs.StandingReception.{receptions_after};
 ghost use Rattle.isotp_receive.specs.Trace.{Entry};
 ghost use Rattle.isotp_receive.specs.Verdict.{verdict};
 ghost use Rattle.trace_canon.specs.Receiving.{CountsEvent};
@@ -114,7 +114,7 @@ pub(crate) struct Receiver<E> {
 
 impl<E> Receiver<E> {
     ghost use Rattle.std.specs.Prelude.{◌≡◌, []};
-    ghost use Rattle.isotp_receive.specs.Standing.{receptions_after};
+    ghost use Rattle.isotp_receive.specs.StandingReception.{receptions_after};
     ghost use Rattle.isotp_receive.specs.declared.TheConstants.{MESSAGE_LIMIT};
     ghost use Rattle.trace_canon.specs.Receiving.{IsReceiverStart};
 
@@ -150,13 +150,13 @@ impl<E: EventTaker> LineTaker for Receiver<E> {
 
     type Device = E::Device;
 
-    ghost took = { λ s whats t. (t.0.config ≡ s.0.config)
+    ghost took = { λ s meanings t. (t.0.config ≡ s.0.config)
         × (IsStart s.0.pair s.0.lines s.0.counts
-        → Receives s.0.config whats t.0.pair t.0.lines t.0.counts × E.took (s.0.taker, s.1) (trace s.0.config whats) (t.0.taker, t.1)) };
+        → Receives s.0.config meanings t.0.pair t.0.lines t.0.counts × E.took (s.0.taker, s.1) (trace s.0.config meanings) (t.0.taker, t.1)) };
 
-    ghost stopped = { λ s whats what fault t. IsStart s.0.pair s.0.lines s.0.counts
+    ghost stopped = { λ s meanings what fault t. IsStart s.0.pair s.0.lines s.0.counts
         → (stamped : StampedValue) × (d : DirValue) × (what ≡ Some stamped) × (Some d ≡ direction_of s.0.config stamped.frame.id)
-        × E.stopped (s.0.taker, s.1) (trace s.0.config whats) (entry_in whats stamped d) fault (t.0.taker, t.1) };
+        × E.stopped (s.0.taker, s.1) (trace s.0.config meanings) (entry_in meanings stamped d) fault (t.0.taker, t.1) };
 
     fn take(
         &mut self,

@@ -19,7 +19,7 @@ use uds_exchange::MessageSink;
 #[derive(Drop)]
 pub(crate) struct Text {
     pub config: Config,
-    /// Where the canonical log stands.
+    /// How far the canonical log has come.
     pub place: Place,
     /// How many messages were put.
     pub messages: u64,
@@ -31,7 +31,7 @@ impl Text {
     ghost use Rattle.std.specs.Prelude.{◌≡◌};
     ghost use Rattle.trace_canon.specs.Writing.{start_of};
 
-    /// Of no messages.
+    /// Before the first message.
     pub(crate) fn start(config: &Config) -> Text
         ensures config { result.config ≡ config.now }
         ensures place { result.place ≡ start_of config.now.max_bytes }

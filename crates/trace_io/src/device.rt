@@ -8,14 +8,14 @@ pub struct DeviceFault;
 
 /// Gives bytes, and counts the calls, the bytes and the failures.
 ///
-/// A contract over any source names what the impl says of it: whether it `tells` its bytes; its `front`, the first so many of
-/// the bytes still to come, by which a source without end is told too; and its counts. They are `u64`s, and whoever reads
-/// keeps each of them below 2^63.
+/// A contract over any source names what the impl says of it: whether it `tells` its bytes; its `front`, the first k of the
+/// bytes still to come for any k, so that a source without end can tell its bytes too; and its counts. They are `u64`s, and
+/// whoever reads keeps each of them below 2^63.
 pub trait Source {
-    /// The source says which bytes come. It may not, as a socket does not.
+    /// The source says which bytes come. It need not: a socket does not.
     ghost tells: { Self → Type 0 };
 
-    /// The first so many of the bytes still to come, fewer where they end before.
+    /// The first bytes still to come, as many as the number says, fewer where they end before.
     ghost front: { Self → ℕ → List ℕ };
 
     /// How often it was read.
@@ -70,10 +70,10 @@ pub trait Source {
 /// A contract over any target names what the impl says of it: whether it `tells` its bytes; what it has `written`, all bytes
 /// that it holds; its `failures`, a `u64` that whoever writes keeps below 2^63; and whether it `had_empty_write`.
 pub trait Target {
-    /// The target says which bytes it took. It may not, as a socket does not.
+    /// The target says which bytes it took. It need not: a socket does not.
     ghost tells: { Self → Type 0 };
 
-    /// The bytes that it holds: those that it took, behind any that it held before.
+    /// The bytes that it holds: those that it took, after any that it held before.
     ghost written: { Self → List ℕ };
 
     /// How many calls failed.

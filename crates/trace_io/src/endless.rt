@@ -1,4 +1,4 @@
-//! A source that never ends, for tests of what stands on it.
+//! A source that never ends, for tests of what reads from it.
 ghost use Rattle.std.specs.Prelude.{◌≡◌, ◌+◌, ⊤, replicate};
 ghost use Rattle.std.proofs.Common.{sym};
 ghost use Rattle.std.proofs.lemmas.List.{take-replicate};
@@ -9,8 +9,8 @@ use std::marker::Model;
 
 /// Gives one byte at each read, the same again and again, and never ends.
 ///
-/// It is a source by itself, since std's readers can't tell bytes without end. Where a reader of std is wanted,
-/// a [`Short`](crate::Short) round [`repeat`](std::io::repeat) gives the same bytes and tells none.
+/// It is a source by itself, since std's readers can't tell bytes without end. Where a reader of std is needed,
+/// a [`Short`](crate::Short) around [`repeat`](std::io::repeat) gives the same bytes and tells none.
 #[derive(Drop)]
 pub struct Endless {
     byte: u8,

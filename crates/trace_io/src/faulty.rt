@@ -1,6 +1,6 @@
-//! Readers and writers of std that are short, fail or fill up, for tests of what stands on them.
+//! Readers and writers of std that are short, fail or fill up, for tests of what uses them.
 //!
-//! Each goes round another one, so that they can be joined: [`FailsAt`] round a [`Short`] of one byte fails behind so many bytes.
+//! Each wraps another one, so that they can be joined: [`FailsAt`] around a [`Short`] of one byte fails after some bytes.
 ghost use Rattle.std.specs.Prelude.{◌≡◌, ◌+◌, ◌<◌, ◌≤◌, Some, Ok, IfOk, OnErr, IsErrAnd, IsTrue, ◌↔◌};
 ghost use Rattle.std.specs.Io.{ReadsAtMost, WritesAtMost};
 ghost use Rattle.std.specs.Io.KnownBytes.{Keeps, ReadConsumes, WriteAppends};
@@ -56,7 +56,7 @@ impl<W: Write> Write for Short<W> {
 pub struct FailsAt<D> {
     /// The device inside.
     pub inner: D,
-    /// How many calls, of reads, writes and flushes alike, come before the one that fails. `None` once it has failed.
+    /// How many calls (reads, writes and flushes) come before the one that fails. `None` once it has failed.
     pub after: Option<u64>,
     /// The kind of its error.
     pub kind: ErrorKind,

@@ -9,13 +9,13 @@ use crate::reader::Reading;
 use crate::writer::Writing;
 use std::io::{Read, Write};
 
-/// Where a reader of std tells its bytes, the source round it tells them too: they are those still to come.
+/// Where a reader of std tells its bytes, the source around it tells them too: those still to come.
 pub fn reading_tells<R: Read>(reader: &Reading<R>)
     ensures tells { IsSome (R.remaining reader.now.inner) → ⟦<Reading<R> as Source>⟧.tells reader.now }
     ensures front { ⟦<Reading<R> as Source>⟧.front reader.now ≡ front_of (told (R.remaining reader.now.inner)) }
 {}
 
-/// Where a writer of std tells its bytes, the target round it tells them too: they are those that it holds.
+/// Where a writer of std tells its bytes, the target around it tells them too: those that it holds.
 pub fn writing_tells<W: Write>(writer: &Writing<W>)
     ensures tells { IsSome (W.contents writer.now.inner) → ⟦<Writing<W> as Target>⟧.tells writer.now }
     ensures written { ⟦<Writing<W> as Target>⟧.written writer.now ≡ told (W.contents writer.now.inner) }

@@ -1,4 +1,4 @@
-//! What std's errors come to, and what the devices for tests give and take.
+//! What std's errors become, and what the devices for tests give and take.
 use crate::{
     DeviceFault, Endless, FailsAfter, FailsAt, FullAfter, Reading, Short, Source, Target, Writing,
     write_all,

@@ -3,13 +3,13 @@ use Rattle.std.proofs.Common.{◌≡◌, List, [], ◌∷◌, ◌++◌, refl, sy
 use Rattle.std.proofs.lemmas.List.{append-nil}
 use Rattle.can_log.specs.Dir.{Message}
 use Rattle.uds_exchange.specs.Meaning.{meaning, flattened, removed_messages}
-use Rattle.uds_exchange.specs.Roles.{Role, as_request, as_answer, as_removed, as_stray, AreRoles, placed, arranged, those_removed}
+use Rattle.uds_exchange.specs.Roles.{MessageRole, as_request, as_answer, as_removed, as_stray, AreRoles, placed, arranged, those_removed}
 use Rattle.uds_exchange.proofs.RolesFound.{role_behind, has-role, only-role}
 use Rattle.uds_exchange.proofs.Placed.{flattened-meaning-append}
 use Rattle.uds_exchange.proofs.RemovedOnes.{removed_messages-append}
 
--- the roles of the messages behind `past`
-roles_of : List Message → List Message → List Role
+-- the roles of the messages after `past`
+roles_of : List Message → List Message → List MessageRole
 roles_of past [] = []
 roles_of past (x ∷ xs) = role_behind past x ∷ roles_of (past ++ x ∷ []) xs
 
@@ -18,7 +18,7 @@ unfolding roles_of
 are-roles past [] = tt
 are-roles past (x ∷ xs) = (has-role past x, are-roles (past ++ x ∷ []) xs)
 
-only-roles : (past xs : List Message) (roles : List Role) → AreRoles past xs roles → roles ≡ roles_of past xs
+only-roles : (past xs : List Message) (roles : List MessageRole) → AreRoles past xs roles → roles ≡ roles_of past xs
 unfolding roles_of
 only-roles past [] [] h = refl
 only-roles past [] (role ∷ roles) h = absurd h
@@ -26,17 +26,17 @@ only-roles past (x ∷ xs) [] h = absurd h
 only-roles past (x ∷ xs) (role ∷ roles) h =
     ap (λ r. r ∷ roles) (only-role past x role h.0) ∙ ap (λ l. role_behind past x ∷ l) (only-roles (past ++ x ∷ []) xs roles h.1)
 
-pub each-has-roles : (M : List Message) → (roles : List Role) × AreRoles [] M roles × ((others : List Role) → AreRoles [] M others → others ≡ roles)
+pub each-has-roles : (M : List Message) → (roles : List MessageRole) × AreRoles [] M roles × ((others : List MessageRole) → AreRoles [] M others → others ≡ roles)
 each-has-roles M = (roles_of [] M, are-roles [] M, only-roles [] M)
 
-those-cons : (x : Message) (xs : List Message) (role : Role) (roles : List Role)
+those-cons : (x : Message) (xs : List Message) (role : MessageRole) (roles : List MessageRole)
     → those_removed (x ∷ []) (role ∷ []) ++ those_removed xs roles ≡ those_removed (x ∷ xs) (role ∷ roles)
 those-cons x xs as_request roles = refl
 those-cons x xs as_answer roles = refl
 those-cons x xs as_removed roles = refl
 those-cons x xs as_stray roles = refl
 
-pub by-roles : (past xs : List Message) (roles : List Role) → AreRoles past xs roles
+pub by-roles : (past xs : List Message) (roles : List MessageRole) → AreRoles past xs roles
     → (flattened (meaning (past ++ xs)) ≡ arranged (flattened (meaning past)) xs roles)
     × (removed_messages (past ++ xs) ≡ removed_messages past ++ those_removed xs roles)
 by-roles past [] [] h = (ap (λ l. flattened (meaning l)) (append-nil past), ap removed_messages (append-nil past) ∙ sym (append-nil (removed_messages past)))

@@ -13,7 +13,7 @@ unfolding kept
 kept-length None x o = omega arith
 kept-length (Some a) x o = omega arith
 
--- of the messages behind a request each stays or is removed
+-- of the messages after a request each stays or is removed
 whole : (r : List ℕ) (xs : List Message) → length (kept (answer r xs) (strays_in r xs)) + length (removed r xs) ≡ length xs
 unfolding kept
 whole r [] = omega arith

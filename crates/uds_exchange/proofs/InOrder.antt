@@ -21,7 +21,7 @@ unfoldable pub kept : Option (List ℕ) → List Message → List Message
 kept None o = o
 kept (Some a) o = (Unit, a) ∷ o
 
--- what stays behind the request of a part
+-- what stays after the request of a part
 abbrev pub stays : Part → List Message
 stays p = kept (answer p.request p.behind) (strays_in p.request p.behind)
 
@@ -30,7 +30,7 @@ unfolding kept
 flattened-exchange r None o = ap (λ l. (Tester, r) ∷ l) (flattened-strays o)
 flattened-exchange r (Some a) o = ap (λ l. (Tester, r) ∷ (Unit, a) ∷ l) (flattened-strays o)
 
--- the messages of a part are its request and what stays behind it
+-- the messages of a part are its request and what stays after it
 pub flattened-part : (p : Part) (ps : List Part)
     → flattened (flat_map items_of (p ∷ ps)) ≡ (Tester, p.request) ∷ (stays p ++ flattened (flat_map items_of ps))
 flattened-part p ps =

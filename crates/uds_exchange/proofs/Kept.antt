@@ -11,7 +11,7 @@ use Rattle.uds_exchange.specs.declared.step.Step.{Step}
 use Rattle.uds_exchange.specs.declared.step.Step.TheVariants as step
 use Rattle.uds_exchange.specs.Meaning.{ItemValue, exchange, stray_of, is_from_tester, is_tester_request, is_answer_to, is_pending_reply_to}
 use Rattle.uds_exchange.specs.ItemSeen.{item_value, item_values}
-use Rattle.uds_exchange.specs.Pairing.{waiting, waiting_sid, IsOpenAt, joined_by, joined}
+use Rattle.uds_exchange.specs.Pairing.{waiting, waiting_sid, IsWaitingAt, joined_by, joined}
 use Rattle.uds_exchange.specs.Steps.{step_if_open, step_at}
 use Rattle.uds_exchange.proofs.Waiting.{sid_of, waiting-stray, waiting-request, waiting-at, waiting-answered}
 
@@ -79,7 +79,7 @@ answer-waits None x h =
       | inr e ↦ absurd (let no : step.Answer ≡ step.Pass = rw e at h in cc)
     ]
 
-module _ (its now : List ItemValue) (is : its ≡ now) (open_sid : Option ℕ) (last : ℕ) (kept : IsOpenAt its open_sid last) (x : Message) where
+module _ (its now : List ItemValue) (is : its ≡ now) (open_sid : Option ℕ) (last : ℕ) (kept : IsWaitingAt its open_sid last) (x : Message) where
   joins : (r : Step) → r ≡ step_at open_sid x → joined now x ≡ after r its (waiting its) x
   joins r h =
       ap (λ l. joined l x) (sym is)
@@ -140,21 +140,21 @@ module _ (its now : List ItemValue) (is : its ≡ now) (open_sid : Option ℕ) (
 
 -- what is kept of the longer list
 pub kept-request : (its : List ItemValue) (request : List ℕ) (last : ℕ) → last ≡ length its
-    → IsOpenAt (its ++ exchange request None ∷ []) (Some (sid request)) last
+    → IsWaitingAt (its ++ exchange request None ∷ []) (Some (sid request)) last
 kept-request its request last h = record {
   first_byte = ap sid_of (waiting-request its request);
   place = λ w e. ap (λ v. v.0) (same_Some _ _ (sym e ∙ waiting-request its request)) ∙ sym h;
 }
 
-pub kept-stray : (its : List ItemValue) (open_sid : Option ℕ) (last : ℕ) (x : Message) → IsOpenAt its open_sid last
-    → IsOpenAt (its ++ stray_of x ∷ []) open_sid last
+pub kept-stray : (its : List ItemValue) (open_sid : Option ℕ) (last : ℕ) (x : Message) → IsWaitingAt its open_sid last
+    → IsWaitingAt (its ++ stray_of x ∷ []) open_sid last
 kept-stray its open_sid last x k = record {
   first_byte = ap sid_of (waiting-stray its x.0 x.1) ∙ k.first_byte;
   place = λ w e. k.place w (sym (waiting-stray its x.0 x.1) ∙ e);
 }
 
 pub kept-answer : (its : List ItemValue) (w : ℕ × List ℕ) (last : ℕ) (reply : List ℕ) → waiting its ≡ Some w
-    → IsOpenAt (slice_set its w.0 (exchange w.1 (Some reply))) None last
+    → IsWaitingAt (slice_set its w.0 (exchange w.1 (Some reply))) None last
 kept-answer its w last reply h = record {
   first_byte = ap sid_of (waiting-answered its w reply h);
   place = λ v e. absurd (none-some _ (sym (waiting-answered its w reply h) ∙ e));

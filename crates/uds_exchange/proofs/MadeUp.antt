@@ -5,7 +5,7 @@ use Rattle.std.proofs.lemmas.List.{append-nil}
 use Rattle.std.proofs.lemmas.Bool.{cases_Bool, and_parts}
 use Rattle.can_log.specs.Dir.{Message}
 use Rattle.uds_exchange.specs.Meaning.{is_tester_request, meaning, flattened}
-use Rattle.uds_exchange.specs.Roles.{Role, as_request, as_answer, as_removed, as_stray, behind_last_request, placed}
+use Rattle.uds_exchange.specs.Roles.{MessageRole, as_request, as_answer, as_removed, as_stray, behind_last_request, placed}
 use Rattle.uds_exchange.proofs.Bools.{all-append}
 use Rattle.uds_exchange.proofs.RolesFound.{role_behind}
 use Rattle.uds_exchange.proofs.Placed.{flattened-meaning-append}
@@ -24,7 +24,7 @@ module _ (passes : Message → Bool) where
         ]
       ]
 
-  all-placed : (role : Role) (out : List Message) (x : Message) → list_all passes out ≡ true → passes x ≡ true
+  all-placed : (role : MessageRole) (out : List Message) (x : Message) → list_all passes out ≡ true → passes x ≡ true
       → list_all passes (placed role out x) ≡ true
   all-placed as_request out x h e = all-append passes out x h e
   all-placed as_stray out x h e = all-append passes out x h e

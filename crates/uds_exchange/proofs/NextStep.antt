@@ -5,7 +5,7 @@ use Rattle.can_log.specs.Dir.{Message}
 use Rattle.uds_message.specs.Message.{sid}
 use Rattle.uds_exchange.specs.Meaning.{ItemValue, is_tester_request, is_answer_to, is_pending_reply_to, meaning, flattened}
 use Rattle.uds_exchange.specs.Order.{held_in, held, early}
-use Rattle.uds_exchange.specs.Orderer.{Standing, stands_after, IsDue, PutsDue, IsHeld, StopsDue}
+use Rattle.uds_exchange.specs.Orderer.{OrdererValue, stands_after, IsDue, PutsDue, IsHeld, StopsDue}
 use Rattle.uds_exchange.specs.Pairing.{waiting, waiting_sid, joined_by, joined}
 use Rattle.uds_exchange.specs.Steps.{step_at, due_for, due, next_for, next, Stops}
 use Rattle.uds_exchange.specs.Sink.{AfterOk, AfterErr, Puts}
@@ -17,7 +17,7 @@ use Rattle.uds_exchange.proofs.Early.{early-then-held, due_by, due_in, early-app
 use Rattle.uds_exchange.proofs.Putting.{puts-append}
 use Rattle.uds_exchange.proofs.MustWait.{open-request-waits}
 
-abbrev standing : List ItemValue → Standing
+abbrev standing : List ItemValue → OrdererValue
 standing its = record { failed = false; open_sid = waiting_sid its; holds = held_in its }
 
 sid-of-request : (w : Option (ℕ × List ℕ)) → option_map sid (option_map (λ w. w.1) w) ≡ sid_of w
@@ -26,7 +26,7 @@ sid-of-request (Some w) = refl
 
 stands-is : (M : List Message) → stands_after M ≡ standing (meaning M)
 stands-is M =
-    ap (λ (o : Option ℕ). let s : Standing = record { failed = false; open_sid = o; holds = held M } in s)
+    ap (λ (o : Option ℕ). let s : OrdererValue = record { failed = false; open_sid = o; holds = held M } in s)
     (ap (option_map sid) (open-request-waits (meaning M)) ∙ sid-of-request (waiting (meaning M)))
 
 due-by-same : (w : Option (ℕ × List ℕ)) (xs : List Message) (x : Message) → is_tester_request x ≡ false
@@ -70,19 +70,19 @@ stands-next M x =
     ∙ sym (stands-is (M ++ x ∷ []))
 
 -- so what it holds with one more message is what is held after the longer list
-pub held-with : (M : List Message) (x : Message) (o : Standing) → o ≡ stands_after M → (next o x).holds ≡ o.holds ++ x ∷ [] → IsHeld M x
+pub held-with : (M : List Message) (x : Message) (o : OrdererValue) → o ≡ stands_after M → (next o x).holds ≡ o.holds ++ x ∷ [] → IsHeld M x
 held-with M x o is holds =
-    ap (λ (q : Standing). q.holds) (sym (stands-next M x) ∙ ap (λ (q : Standing). next q x) (sym is))
-    ∙ holds ∙ ap (λ (q : Standing). q.holds ++ x ∷ []) is
+    ap (λ (q : OrdererValue). q.holds) (sym (stands-next M x) ∙ ap (λ (q : OrdererValue). next q x) (sym is))
+    ∙ holds ∙ ap (λ (q : OrdererValue). q.holds ++ x ∷ []) is
 
 pub early-due : (M : List Message) (x : Message) → early (M ++ x ∷ []) ≡ early M ++ due (stands_after M) x
 early-due M x = early-append M x ∙ ap (λ l. early M ++ l) (sym (due-same (meaning M) x) ∙ ap (λ o. due o x) (sym (stands-is M)))
 
-due-from : (M : List Message) (x : Message) (o : Standing) → o ≡ stands_after M → IsDue M x (due o x)
+due-from : (M : List Message) (x : Message) (o : OrdererValue) → o ≡ stands_after M → IsDue M x (due o x)
 due-from M x o is = early-due M x ∙ ap (λ p. early M ++ due p x) (sym is)
 
 module _ {S E : Type 0} (after_ok : AfterOk S) (after_err : AfterErr S E) where
-  pub puts-due : (M : List Message) (x : Message) (o : Standing) (s t : S) → o ≡ stands_after M → Puts after_ok s (due o x) t → PutsDue after_ok M x s t
+  pub puts-due : (M : List Message) (x : Message) (o : OrdererValue) (s t : S) → o ≡ stands_after M → Puts after_ok s (due o x) t → PutsDue after_ok M x s t
   puts-due M x o s t is h = (due o x, due-from M x o is, h)
 
   pub puts-go-on : (s t u : S) (M : List Message) (x : Message) → Puts after_ok s (early M) t → PutsDue after_ok M x t u
@@ -95,7 +95,7 @@ module _ {S E : Type 0} (after_ok : AfterOk S) (after_err : AfterErr S E) where
   puts-end s t u M h d =
       subst (λ (l : List Message). Puts after_ok s l u) (early-then-held M) (puts-append after_ok after_err s t u (early M) (held M) h d)
 
-  pub stops-due : (M : List Message) (x : Message) (o p : Standing) (s t : S) (f : OrderFault E) → o ≡ stands_after M
+  pub stops-due : (M : List Message) (x : Message) (o p : OrdererValue) (s t : S) (f : OrderFault E) → o ≡ stands_after M
       → Stops after_ok after_err x o s p t f → StopsDue after_ok after_err M x s t f
   stops-due M x o p s t fault.Memory is h = h.2
   stops-due M x o p s t (fault.Sink e) is h = (due o x, due-from M x o is, h.2)

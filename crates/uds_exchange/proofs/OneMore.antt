@@ -9,7 +9,7 @@ use Rattle.uds_exchange.specs.Meaning.{ItemValue, exchange, stray, stray_of, ite
 use Rattle.uds_exchange.specs.Order.{has_exchange}
 use Rattle.uds_exchange.specs.Pairing.{one_later, waiting, joined_by, joined}
 
--- the parts, and what stands before them, with one more message
+-- the parts, and what comes before them, with one more message
 abbrev pub grown : List Part → Message → List Part
 grown [] x = cond (is_tester_request x) (part x.1 [] ∷ []) []
 grown (p ∷ []) x = cond (is_tester_request x) (p ∷ part x.1 [] ∷ []) (part p.request (p.behind ++ x ∷ []) ∷ [])
@@ -58,7 +58,7 @@ joined_by-cons a (Some w) its x =
       | inr e ↦ elim (cases_Bool (is_pending_reply_to w.1 x)) [ inl q ↦ rw (e, q) refl | inr q ↦ rw (e, q) refl ]
     ]
 
--- a message is joined to the last exchange, whatever stands before it
+-- a message is joined to the last exchange, whatever comes before it
 joined-cons : (a : ItemValue) (its : List ItemValue) (x : Message) → has_exchange its ≡ true → joined (a ∷ its) x ≡ a ∷ joined its x
 joined-cons a its x h =
     elim (cases_Bool (is_tester_request x)) [

@@ -1,4 +1,4 @@
--- The request that is open behind a list of messages is that of the exchange which waits in its meaning.
+-- The request that is open after a list of messages is that of the exchange which waits in its meaning.
 use Rattle.std.proofs.Common.{◌≡◌, ℕ, true, false, List, [], ◌∷◌, ◌++◌, length, Option, Some, None, refl, sym, ◌∙◌, ap, subst, inl, inr, append_assoc}
 use Rattle.std.specs.List.{list_any}
 use Rattle.std.proofs.lemmas.List.{append-nil}
@@ -14,7 +14,7 @@ use Rattle.uds_exchange.proofs.Waiting.{waiting-stray, waiting-request, waiting-
 use Rattle.uds_exchange.proofs.OneMore.{meaning-append}
 use Rattle.uds_exchange.proofs.Replies.{from-tester, request-bytes}
 
--- the exchange that waits still does behind a message that is neither request nor answer
+-- the exchange that waits still does after a message that is neither request nor answer
 still-waits : (its : List ItemValue) (w : ℕ × List ℕ) (x : Message)
     → waiting its ≡ Some w → is_tester_request x ≡ false → is_answer_to w.1 x ≡ false → waiting (joined its x) ≡ Some w
 still-waits its w x h r a =
@@ -45,7 +45,7 @@ waits-open past r o =
 pub same-open : (past : List Message) (r : List ℕ) (w : ℕ × List ℕ) → IsOpenBehind past r → waiting (meaning past) ≡ Some w → r ≡ w.1
 same-open past r w o h = let found = waits-open past r o in ap (λ v. v.1) (same_Some _ _ (sym found.1 ∙ h))
 
--- the open request is still open behind such a message
+-- the open request is still open after such a message
 open-more : (past : List Message) (r : List ℕ) (x : Message)
     → IsOpenBehind past r → is_tester_request x ≡ false → is_answer_to r x ≡ false → IsOpenBehind (past ++ x ∷ []) r
 open-more past r x o h a = record {

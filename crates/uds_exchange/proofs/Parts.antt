@@ -1,4 +1,4 @@
--- The parts of a list of messages: neither what stands before its first request nor what stands behind a request of it is
+-- The parts of a list of messages: neither what comes before its first request nor what follows a request of it is
 -- a request.
 use Rattle.std.specs.Prelude.{⊤}
 use Rattle.std.proofs.Common.{◌≡◌, ℕ, true, false, List, [], ◌∷◌, ◌++◌, refl, ap}

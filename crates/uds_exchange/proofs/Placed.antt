@@ -62,7 +62,7 @@ waiting-has [] w h = cc
 waiting-has (exchange r a ∷ its) w h = refl
 waiting-has (stray d m ∷ its) w h = let v = one_later-some (waiting its) w h in waiting-has its v.0 v.1
 
--- the answer of the exchange that waits stands behind the last request
+-- the answer of the exchange that waits stands after the last request
 placed-answer : (its : List ItemValue) (w : ℕ × List ℕ) (a : List ℕ) → Sound its → waiting its ≡ Some w
     → flattened (slice_set its w.0 (exchange w.1 (Some a))) ≡ behind_last_request (flattened its) (Unit, a)
 placed-answer [] w a s h = cc

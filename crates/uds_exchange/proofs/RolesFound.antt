@@ -4,17 +4,17 @@ use Rattle.std.proofs.lemmas.Bool.{cases_Bool, false≢true}
 use Rattle.std.proofs.lemmas.Option.{none-some}
 use Rattle.can_log.specs.Dir.{Message}
 use Rattle.uds_exchange.specs.Meaning.{is_tester_request, is_answer_to, is_pending_reply_to, meaning}
-use Rattle.uds_exchange.specs.Roles.{Role, IsOpenBehind, as_request, as_answer, as_removed, as_stray, AnswersOpen, IsPendingForOpen, HasRole}
+use Rattle.uds_exchange.specs.Roles.{MessageRole, IsOpenBehind, as_request, as_answer, as_removed, as_stray, AnswersOpen, IsPendingForOpen, HasRole}
 use Rattle.uds_exchange.specs.Pairing.{waiting}
 use Rattle.uds_exchange.proofs.OpenRequests.{opens, waits-open, same-open}
 use Rattle.uds_exchange.proofs.Replies.{pending-not-answer, answer-not-request, pending-not-request}
 
 -- the role of a message, by the exchange that waits before it
-abbrev pub role_by : Option (ℕ × List ℕ) → Message → Role
+abbrev pub role_by : Option (ℕ × List ℕ) → Message → MessageRole
 role_by None x = as_stray
 role_by (Some w) x = cond (is_answer_to w.1 x) as_answer (cond (is_pending_reply_to w.1 x) as_removed as_stray)
 
-abbrev pub role_behind : List Message → Message → Role
+abbrev pub role_behind : List Message → Message → MessageRole
 role_behind past x = cond (is_tester_request x) as_request (role_by (waiting (meaning past)) x)
 
 module _ (past : List Message) (x : Message) where
@@ -56,7 +56,7 @@ module _ (past : List Message) (x : Message) where
         ]
       ]
 
-  pub only-role : (role : Role) → HasRole past x role → role ≡ role_behind past x
+  pub only-role : (role : MessageRole) → HasRole past x role → role ≡ role_behind past x
   only-role as_request h = rw h refl
   only-role as_answer h = let w = waits-open past h.0 h.1 in rw (answer-not-request h.0 x h.2, w.1, h.2) refl
   only-role as_removed h =

@@ -1,4 +1,4 @@
--- The exchange of a list of items that waits for its answer, and lists that grow behind it.
+-- The exchange of a list of items that waits for its answer, and lists that go on after it.
 use Rattle.std.proofs.Common.{◌≡◌, ℕ, zero, suc, true, false, List, [], ◌∷◌, ◌++◌, length, Option, Some, None, refl, sym, ◌∙◌, ap, inl, inr, option_map}
 use Rattle.std.specs.Prelude.{slice_get, slice_set}
 use Rattle.std.proofs.lemmas.Bool.{cases_Bool}
@@ -19,7 +19,7 @@ has-last [] r a = refl
 has-last (exchange q b ∷ its) r a = refl
 has-last (stray d m ∷ its) r a = has-last its r a
 
--- the exchange that waits is the same behind one more stray, and a new request waits
+-- the exchange that waits is the same after one more stray, and a new request waits
 pub waiting-stray : (its : List ItemValue) (d : Dir) (m : List ℕ) → waiting (its ++ stray d m ∷ []) ≡ waiting its
 waiting-stray [] d m = refl
 waiting-stray (stray e n ∷ its) d m = ap one_later (waiting-stray its d m)
@@ -37,7 +37,7 @@ pub one_later-some : (o : Option (ℕ × List ℕ)) (w : ℕ × List ℕ) → on
 one_later-some None w h = cc
 one_later-some (Some v) w h = (v, refl, same_Some _ _ (sym h))
 
--- at its place stands an exchange without answer
+-- at its place is an exchange without answer
 pub waiting-at : (its : List ItemValue) (w : ℕ × List ℕ) → waiting its ≡ Some w → slice_get its w.0 ≡ Some (exchange w.1 None)
 waiting-at [] w h = cc
 waiting-at (stray e n ∷ its) w h = let v = one_later-some (waiting its) w h in rw v.2 (waiting-at its v.0 v.1)

@@ -3,7 +3,7 @@ use Rattle.std.specs.Prelude.{◌≡◌, ◌≢◌, ◌↔◌, ℕ, ◌+◌, Boo
 use Rattle.std.specs.List.{list_all}
 use Rattle.can_log.specs.Dir.{Message}
 use Rattle.uds_exchange.specs.Meaning.{is_tester_request, is_answer_to, is_pending_reply_to, meaning, flattened, removed_messages}
-use Rattle.uds_exchange.specs.Roles.{Role, IsOpenBehind, HasRole, AreRoles, arranged, those_removed}
+use Rattle.uds_exchange.specs.Roles.{MessageRole, IsOpenBehind, HasRole, AreRoles, arranged, those_removed}
 use Rattle.uds_exchange.specs.Order.{open_request, held, early, rejection_of}
 
 -- the messages of a meaning have that meaning
@@ -22,20 +22,20 @@ NoneIsMadeUp = (passes : Message → Bool) (M : List Message)
 -- a message is exactly one of request, answer, removed and stray
 abbrev pub EachHasOneRole : Type 0
 EachHasOneRole = (past : List Message) (message : Message)
-    → (role : Role) × HasRole past message role × ((other : Role) → HasRole past message other → other ≡ role)
+    → (role : MessageRole) × HasRole past message role × ((other : MessageRole) → HasRole past message other → other ≡ role)
 
 -- so the messages of a list have roles in one way
 abbrev pub EachListHasRoles : Type 0
 EachListHasRoles = (M : List Message)
-    → (roles : List Role) × AreRoles [] M roles × ((others : List Role) → AreRoles [] M others → others ≡ roles)
+    → (roles : List MessageRole) × AreRoles [] M roles × ((others : List MessageRole) → AreRoles [] M others → others ≡ roles)
 
--- the messages of a meaning are the list's in order, but that the removed ones are left out and an answer moves up
+-- the messages of a meaning are the list's in order, except that the removed ones are left out and an answer moves up
 -- to its request
 abbrev pub MessagesByRoles : Type 0
-MessagesByRoles = (M : List Message) (roles : List Role) → AreRoles [] M roles
+MessagesByRoles = (M : List Message) (roles : List MessageRole) → AreRoles [] M roles
     → (flattened (meaning M) ≡ arranged [] M roles) × (removed_messages M ≡ those_removed M roles)
 
--- the open request is the last one, and none behind it is its answer
+-- the open request is the last one, and none after it is its answer
 abbrev pub OpenRequestIsLast : Type 0
 OpenRequestIsLast = (M : List Message) (request : List ℕ)
     → (open_request M ≡ Some request) ↔ IsOpenBehind M request

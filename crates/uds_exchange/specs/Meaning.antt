@@ -29,12 +29,12 @@ abbrev pub before_requests : List Message → List Message
 before_requests [] = []
 before_requests (message ∷ later) = if is_tester_request message then [] else message ∷ before_requests later
 
--- the part of a request: the request, and the messages behind it up to the next request or the end
+-- the part of a request: the request, and the messages after it up to the next request or the end
 pub record Part : Type 0 where
   pub request : List ℕ
   pub behind : List Message
 
--- the part of this request with these messages behind it
+-- the part of this request with these messages after it
 abbrev pub part : List ℕ → List Message → Part
 part request behind = record { request = request; behind = behind }
 
@@ -43,7 +43,7 @@ abbrev pub parts : List Message → List Part
 parts [] = []
 parts (message ∷ later) = if is_tester_request message then part message.1 (before_requests later) ∷ parts later else parts later
 
--- the answer to a request among the messages behind it: the first that is final for it
+-- the answer to a request among the messages after it: the first that is final for it
 abbrev pub answer : List ℕ → List Message → Option (List ℕ)
 answer request [] = None
 answer request (message ∷ later) = if is_answer_to request message then Some message.1 else answer request later
@@ -77,7 +77,7 @@ stray_of message = stray message.0 message.1
 abbrev pub items_of : Part → List ItemValue
 items_of this = exchange this.request (answer this.request this.behind) ∷ map stray_of (strays_in this.request this.behind)
 
--- the meaning of a list: what stands before the first request as strays, and then part by part
+-- the meaning of a list: what comes before the first request as strays, and then part by part
 abbrev pub meaning : List Message → List ItemValue
 meaning M = map stray_of (before_requests M) ++ flat_map items_of (parts M)
 

@@ -18,14 +18,14 @@ open_request_in (stray d bytes ∷ later) = open_request_in later
 open_request_in (exchange request (Some reply) ∷ later) = open_request_in later
 open_request_in (exchange request None ∷ later) = if has_exchange later then open_request_in later else Some request
 
--- the strays behind the last exchange, if that has no answer
+-- the strays after the last exchange, if that has no answer
 abbrev pub held_in : List ItemValue → List Message
 held_in [] = []
 held_in (stray d bytes ∷ later) = held_in later
 held_in (exchange request (Some reply) ∷ later) = held_in later
 held_in (exchange request None ∷ later) = if has_exchange later then held_in later else flattened later
 
--- the request that waits for its answer behind a list of messages
+-- the request that waits for its answer after a list of messages
 abbrev pub open_request : List Message → Option (List ℕ)
 open_request M = open_request_in (meaning M)
 

@@ -8,13 +8,13 @@ use Rattle.uds_exchange.specs.Order.{open_request, held, early}
 use Rattle.uds_exchange.specs.Sink.{AfterOk, AfterErr, Puts, Fails}
 
 -- whether the sink has failed, the first byte of the open request, and the messages that are held
-pub record Standing : Type 0 where
+pub record OrdererValue : Type 0 where
   pub failed : Bool
   pub open_sid : Option ℕ
   pub holds : List Message
 
 -- an orderer that stands after the messages M
-abbrev pub stands_after : List Message → Standing
+abbrev pub stands_after : List Message → OrdererValue
 stands_after M = record { failed = false; open_sid = option_map sid (open_request M); holds = held M }
 
 -- these are the messages that one more message brings to their place
@@ -25,21 +25,21 @@ IsDue M message due = early (M ++ message ∷ []) ≡ early M ++ due
 abbrev pub PutsDue : {Sink : Type 0} → AfterOk Sink → List Message → Message → Sink → Sink → Type 0
 PutsDue after_ok M message before after = (due : List Message) × IsDue M message due × Puts after_ok before due after
 
--- one more message is held, behind those that are
+-- one more message is held, after those that are
 abbrev pub IsHeld : List Message → Message → Type 0
 IsHeld M message = held (M ++ message ∷ []) ≡ held M ++ message ∷ []
 
--- what a fault leaves of the sink: of what is due nothing was put for want of memory, and a proper prefix where the
--- sink failed
+-- what a fault leaves of the sink: of what is due nothing was put where memory was refused, and a proper prefix where
+-- the sink failed
 abbrev pub StopsDue : {Sink Fault : Type 0} → AfterOk Sink → AfterErr Sink Fault → List Message → Message → Sink → Sink → OrderFault Fault → Type 0
 StopsDue after_ok after_err M message before after fault.Memory = after ≡ before
 StopsDue after_ok after_err M message before after (fault.Sink why) =
     (due : List Message) × IsDue M message due × Fails after_ok after_err before due why after
 StopsDue after_ok after_err M message before after fault.Failed = ⊥
 
--- what a fault leaves of the orderer: it is unchanged for want of memory; after a fault of the sink it has failed, and
--- is as before otherwise
-abbrev pub Leaves : {Fault : Type 0} → Standing → Standing → OrderFault Fault → Type 0
+-- what a fault leaves of the orderer: where memory was refused it is unchanged; after a fault of the sink it has
+-- failed, and is otherwise as before
+abbrev pub Leaves : {Fault : Type 0} → OrdererValue → OrdererValue → OrderFault Fault → Type 0
 Leaves old new fault.Memory = (old.failed ≡ false) × (new ≡ old)
 Leaves old new (fault.Sink why) = (old.failed ≡ false) × (new ≡ record old { failed = true })
 Leaves old new fault.Failed = (old.failed ≡ true) × (new ≡ old)

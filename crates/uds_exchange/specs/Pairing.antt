@@ -22,7 +22,7 @@ abbrev pub waiting_sid : List ItemValue → Option ℕ
 waiting_sid items = option_map (λ place. sid place.1) (waiting items)
 
 -- what the code keeps beside the items: the first byte of the open request, and the place of its exchange
-pub record IsOpenAt (items : List ItemValue) (open_sid : Option ℕ) (last : ℕ) : Type 0 where
+pub record IsWaitingAt (items : List ItemValue) (open_sid : Option ℕ) (last : ℕ) : Type 0 where
   pub first_byte : waiting_sid items ≡ open_sid
   pub place : (found : ℕ × List ℕ) → waiting items ≡ Some found → found.0 ≡ last
 

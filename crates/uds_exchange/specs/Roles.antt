@@ -6,7 +6,7 @@ use Rattle.can_log.specs.declared.frame.Dir.TheVariants as dir
 use Rattle.uds_message.specs.Message.{is_request}
 use Rattle.uds_exchange.specs.Meaning.{is_tester_request, is_answer_to, is_pending_reply_to}
 
--- the request is open behind these messages: it is the last request among them, and none behind it is its answer
+-- the request is open after these messages: it is the last request among them, and none after it is its answer
 pub record IsOpenBehind (past : List Message) (request : List ℕ) : Type 0 where
   pub earlier : List Message
   pub since : List Message
@@ -16,11 +16,11 @@ pub record IsOpenBehind (past : List Message) (request : List ℕ) : Type 0 wher
   pub is_unanswered : list_any (is_answer_to request) since ≡ false
 
 -- what a message is to its list: a request, the answer to one, a pending reply that is left out, or none of these
-pub data Role : Type 0 where
-  as_request : Role
-  as_answer : Role
-  as_removed : Role
-  as_stray : Role
+pub data MessageRole : Type 0 where
+  as_request : MessageRole
+  as_answer : MessageRole
+  as_removed : MessageRole
+  as_stray : MessageRole
 
 -- the message is the answer to the open request
 abbrev pub AnswersOpen : List Message → Message → Type 0
@@ -31,23 +31,23 @@ abbrev pub IsPendingForOpen : List Message → Message → Type 0
 IsPendingForOpen past message =
     (request : List ℕ) × IsOpenBehind past request × (is_pending_reply_to request message ≡ true)
 
--- what a message is behind the messages `past`: a request by itself, an answer or removed by the open request, else
+-- what a message is after the messages `past`: a request by itself, an answer or removed by the open request, else
 -- a stray
-abbrev pub HasRole : List Message → Message → Role → Type 0
+abbrev pub HasRole : List Message → Message → MessageRole → Type 0
 HasRole past message as_request = is_tester_request message ≡ true
 HasRole past message as_answer = AnswersOpen past message
 HasRole past message as_removed = IsPendingForOpen past message
 HasRole past message as_stray =
     (is_tester_request message ≡ false) × (¬ AnswersOpen past message) × (¬ IsPendingForOpen past message)
 
--- these are the roles of the messages, before which stand the messages `past`
-abbrev pub AreRoles : List Message → List Message → List Role → Type 0
+-- these are the roles of the messages, where the messages `past` came before them
+abbrev pub AreRoles : List Message → List Message → List MessageRole → Type 0
 AreRoles past [] [] = ⊤
 AreRoles past (message ∷ later) (role ∷ roles) = HasRole past message role × AreRoles (past ++ message ∷ []) later roles
 AreRoles past [] (role ∷ roles) = ⊥
 AreRoles past (message ∷ later) [] = ⊥
 
--- the messages with one more, directly behind the last request among them
+-- the messages with one more, directly after the last request among them
 abbrev pub behind_last_request : List Message → Message → List Message
 behind_last_request [] more = more ∷ []
 behind_last_request (message ∷ later) more =
@@ -56,24 +56,24 @@ behind_last_request (message ∷ later) more =
     else message ∷ behind_last_request later more
 
 -- what a message adds to the messages in order: an answer moves up to its request, a removed message is left out
-abbrev pub placed : Role → List Message → Message → List Message
+abbrev pub placed : MessageRole → List Message → Message → List Message
 placed as_request out message = out ++ message ∷ []
 placed as_stray out message = out ++ message ∷ []
 placed as_answer out message = behind_last_request out message
 placed as_removed out message = out
 
--- the messages with these roles, each placed behind those of `out`
-abbrev pub arranged : List Message → List Message → List Role → List Message
+-- the messages with these roles, each placed after those of `out`
+abbrev pub arranged : List Message → List Message → List MessageRole → List Message
 arranged out (message ∷ later) (role ∷ roles) = arranged (placed role out message) later roles
 arranged out messages roles = out
 
 -- whether it is that of a pending reply that is left out
-abbrev pub is_removed : Role → Bool
+abbrev pub is_removed : MessageRole → Bool
 is_removed as_removed = true
 is_removed role = false
 
 -- those of the messages that are removed
-abbrev pub those_removed : List Message → List Role → List Message
+abbrev pub those_removed : List Message → List MessageRole → List Message
 those_removed (message ∷ later) (role ∷ roles) =
     if is_removed role then message ∷ those_removed later roles else those_removed later roles
 those_removed messages roles = []

@@ -9,7 +9,7 @@ use Rattle.uds_exchange.specs.declared.orderer.OrderFault.{OrderFault}
 use Rattle.uds_exchange.specs.declared.orderer.OrderFault.TheVariants as fault
 use Rattle.uds_exchange.specs.Meaning.{is_from_tester, is_tester_request}
 use Rattle.uds_exchange.specs.Sink.{AfterOk, AfterErr, Fails}
-use Rattle.uds_exchange.specs.Orderer.{Standing}
+use Rattle.uds_exchange.specs.Orderer.{OrdererValue}
 
 -- what becomes of a message that is no request, where this is the first byte of the open request
 abbrev pub step_if_open : Option ℕ → Message → Step
@@ -32,11 +32,11 @@ due_for step.Hold holds message = []
 due_for step.Pass holds message = message ∷ []
 
 -- what is due with one more message
-abbrev pub due : Standing → Message → List Message
+abbrev pub due : OrdererValue → Message → List Message
 due standing message = due_for (step_at standing.open_sid message) standing.holds message
 
 -- what the orderer is after this step
-abbrev pub next_for : Step → Standing → Message → Standing
+abbrev pub next_for : Step → OrdererValue → Message → OrdererValue
 next_for (step.Request service) standing message = record standing { open_sid = Some service; holds = [] }
 next_for step.Answer standing message = record standing { open_sid = None; holds = [] }
 next_for step.Removed standing message = standing
@@ -44,11 +44,11 @@ next_for step.Hold standing message = record standing { holds = standing.holds +
 next_for step.Pass standing message = standing
 
 -- what the orderer is after one more message
-abbrev pub next : Standing → Message → Standing
+abbrev pub next : OrdererValue → Message → OrdererValue
 next standing message = next_for (step_at standing.open_sid message) standing message
 
 -- what a fault leaves, at this message; memory is refused only where the message would be held
-abbrev pub Stops : {Sink Fault : Type 0} → AfterOk Sink → AfterErr Sink Fault → Message → Standing → Sink → Standing → Sink → OrderFault Fault → Type 0
+abbrev pub Stops : {Sink Fault : Type 0} → AfterOk Sink → AfterErr Sink Fault → Message → OrdererValue → Sink → OrdererValue → Sink → OrderFault Fault → Type 0
 Stops after_ok after_err message old before new after fault.Memory =
     (old.failed ≡ false) × (new ≡ old) × (after ≡ before) × ((next old message).holds ≡ old.holds ++ message ∷ [])
 Stops after_ok after_err message old before new after (fault.Sink why) =

@@ -61,7 +61,7 @@ impl Held {
         append(&mut self.extents, &mut self.bytes, dir, message)
     }
 
-    /// Lets go of all messages, and keeps the memory.
+    /// Drops all messages, and keeps the memory.
     pub(crate) fn clear(&mut self)
         ensures { self.new ≡ [] }
     {

@@ -18,7 +18,7 @@ pub fn meaning_is_kept()
     ensures { MeaningIsKept }
 {}
 
-/// Each message of a list stands in its meaning or is removed.
+/// Each message of a list is in its meaning or is removed.
 pub fn none_is_lost()
     ensures { NoneIsLost }
 {}
@@ -38,13 +38,13 @@ pub fn each_list_has_roles()
     ensures { EachListHasRoles }
 {}
 
-/// The messages of a meaning are those of the list, in order, but that the removed ones are left out and an answer
-/// stands directly behind its request.
+/// The messages of a meaning are those of the list, in order, except that the removed ones are left out and an
+/// answer comes directly after its request.
 pub fn messages_by_roles()
     ensures { MessagesByRoles }
 {}
 
-/// The open request of a list is the last request in it, and no message behind that is its answer.
+/// The open request of a list is the last request in it, and no message after that is its answer.
 pub fn open_request_is_last()
     ensures { OpenRequestIsLast }
 {}

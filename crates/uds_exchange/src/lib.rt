@@ -1,9 +1,9 @@
 //! What a diagnostic session means: each request with its answer, and the messages that belong to no exchange.
 //!
 //! Requests, answers and pending replies are those of ISO 14229-1 (`uds_message`). A request's part of the messages
-//! runs to the next request; its answer is the first message of the unit in it that is final for it, and replies that
-//! are pending for it before the answer are left out. All else is a stray, and stays in its order. [`Pairing`] takes
-//! the messages one by one and gives the list of items.
+//! runs to the next request. Its answer is the first message of the unit in that part that is final for it; the
+//! replies before the answer that are pending for it are left out. All else is a stray, and stays in order.
+//! [`Pairing`] takes the messages one by one and gives the list of items.
 //!
 //! ```text
 //! tester 22 F1 90                exchange 22 F1 90 -> 62 F1 90 41

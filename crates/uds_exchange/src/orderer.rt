@@ -26,21 +26,21 @@ pub enum OrderFault<E> {
     Failed,
 }
 
-/// Puts the messages of a meaning in order into a sink, each as soon as its place is known. Behind a request without
+/// Puts the messages of a meaning in order into a sink, each as soon as its place is known. After a request without
 /// answer that is when the answer comes, the next request, or the end: until then other messages are held.
 #[derive(Debug, Drop)]
 pub struct Orderer {
     failed: bool,
     /// The first byte of the last request, where that waits for its answer.
     open_sid: Option<u8>,
-    /// What stands behind that request.
+    /// What follows that request.
     held: Held,
 }
 
 impl Model for Orderer {
-    ghost use Rattle.uds_exchange.specs.Orderer.{Standing};
+    ghost use Rattle.uds_exchange.specs.Orderer.{OrdererValue};
 
-    ghost Value = { Standing };
+    ghost Value = { OrdererValue };
 
     ghost view = { λ o. record { failed = o.failed; open_sid = o.open_sid; holds = o.held } };
 }

@@ -28,13 +28,13 @@ impl Model for Pairing {
     ghost use Rattle.std.specs.Prelude.{List};
     ghost use Rattle.uds_exchange.specs.Meaning.{ItemValue};
     ghost use Rattle.uds_exchange.specs.ItemSeen.{item_values};
-    ghost use Rattle.uds_exchange.specs.Pairing.{IsOpenAt};
+    ghost use Rattle.uds_exchange.specs.Pairing.{IsWaitingAt};
 
     ghost Value = { List ItemValue };
 
     ghost view = { λ p. item_values p.items.items };
 
-    ghost invariant = { λ p. IsOpenAt (item_values p.items.items) p.open_sid p.last };
+    ghost invariant = { λ p. IsWaitingAt (item_values p.items.items) p.open_sid p.last };
 }
 
 impl Pairing {
@@ -102,7 +102,7 @@ impl Pairing {
     }
 }
 
-/// The bytes in memory of their own.
+/// The bytes, copied into new memory.
 fn copy(alloc: Global, bytes: &[u8]) -> Result<Vec<u8>, AllocError>
     ensures { IfOk result (λ v. v.items ≡ bytes.now) }
 {

@@ -1,4 +1,4 @@
--- The message formats of ISO 14229-1, told by the bytes of a message alone. The empty message is none of them.
+-- The message formats of ISO 14229-1, told apart by the bytes of a message alone. The empty message is none of them.
 use Rattle.std.specs.Prelude.{ℕ, ◌+◌, Bool, false, not, ◌&&◌, ◌||◌, List, [], ◌∷◌, ◌==◌, if◌then◌else◌}
 use Rattle.std.specs.Int.{bit_at}
 use Rattle.uds_message.specs.declared.message.TesterKind.{TesterKind}
@@ -58,7 +58,7 @@ kind_of message = if is_request message then Request else if is_keep_alive messa
 abbrev pub answer_to : ℕ → List ℕ → Answer
 answer_to service message = if is_final_for service message then Final else if is_pending_for service message then Pending else No
 
--- the suppressPosRspMsgIndicationBit: bit 7 of the byte behind the identifier, where the service has a sub-function
+-- the suppressPosRspMsgIndicationBit: bit 7 of the byte after the identifier, where the service has a sub-function
 abbrev pub is_suppressing : List ℕ → Bool
 is_suppressing (service ∷ sub_function ∷ parameters) = has_sub_function service && bit_at sub_function 7 == 1
 is_suppressing message = false

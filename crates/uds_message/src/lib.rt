@@ -1,9 +1,9 @@
 //! The messages of a diagnostic session (ISO 14229-1), told apart by their bytes.
 //!
-//! A tester sends requests, and a keep-alive that wants no answer; the control unit answers a request once for
-//! good, and before that it may say any number of times that the answer is pending. This crate says which message
-//! is which, and has the names of services and of response codes; which answer belongs to which request is the
-//! matter of `uds_exchange`.
+//! A tester sends requests, and a keep-alive that asks for no answer. The control unit gives a request one final
+//! answer, and before that it may say any number of times that the answer is pending. This crate says which
+//! message is which, and has the names of services and of response codes; `uds_exchange` says which answer
+//! belongs to which request.
 //!
 //! ```text
 //! tester_kind(&[0x22, 0xF1, 0x90])           Request: ReadDataByIdentifier

@@ -3,7 +3,7 @@ use Rattle.std.proofs.Common.{◌≡◌, ℕ, ◌+◌, ◌/◌, ◌%◌, ◌^◌
 use Rattle.std.specs.Fmt.{decimal}
 use Rattle.std.proofs.lemmas.Fmt.{decimal_step_wide}
 
--- the last digit behind those of the tenth
+-- the last digit, after those of a tenth of the number
 pub one_more_digit : (n : ℕ) (line : List ℕ) → 10 ≤ n → n < 10 ^ 64
     → (line ++ decimal (n / 10)) ++ ((48 + n % 10) ∷ []) ≡ line ++ decimal n
 one_more_digit n line large fits =

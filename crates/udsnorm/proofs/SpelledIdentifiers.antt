@@ -23,7 +23,7 @@ no_plus : (text : List ℕ) → list_all is_ascii_hexdigit text ≡ true → get
 no_plus [] each = λ is. absurd (omega arith)
 no_plus (b ∷ text) each = (hex_value b (and_parts (is_ascii_hexdigit b) (list_all is_ascii_hexdigit text) each).0).1
 
--- so many digits are the number of a type with room for them
+-- a text of digits is read as their number, where the type has room for it
 pub digits_are_read : {E : Type 0} (bits : ℕ) (text : List ℕ) (read : Result ℕ E) → ParsesUnsigned bits 16 text read → list_all is_ascii_hexdigit text ≡ true
     → 0 < length text → 16 ^ length text ≤ 2 ^ bits → read ≡ Ok (digits_value 16 text)
 digits_are_read bits text read parses each some room =

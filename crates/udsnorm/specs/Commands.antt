@@ -29,7 +29,7 @@ log = new_rule (codes "LOG") ∷ []
 abbrev pub required : Text → Rule
 required name = record (new_rule name) { required = true }
 
--- the program: no option of its own, and one command has to be named
+-- the program: it has no options itself, and one command has to be named
 abbrev pub commands : App
 commands = record {
   top = record (new_shape (codes "udsnorm")) {

@@ -30,7 +30,7 @@ pub(crate) fn write_line<W: Target, D: Display + Drop>(
     write_all(target, line.as_str().as_bytes())
 }
 
-/// Puts a text behind the line.
+/// Puts a text at the end of the line.
 pub(crate) fn push_text(line: &mut Line, text: &str)
     requires { array_vec_len line.old + length text.now ≤ 64 }
     ensures { line.new.items ≡ line.old.items ++ text.now }
@@ -38,7 +38,7 @@ pub(crate) fn push_text(line: &mut Line, text: &str)
     line.try_extend_from_slice(text.as_bytes()).unwrap()
 }
 
-/// Puts the digits of a number behind the line.
+/// Puts the digits of a number at the end of the line.
 pub(crate) fn push_decimal(line: &mut Line, number: u128)
     requires { array_vec_len line.old + length (decimal number) ≤ 64 }
     ensures { line.new.items ≡ line.old.items ++ decimal number }

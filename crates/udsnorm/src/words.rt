@@ -14,7 +14,7 @@ use clap::{ArgMatches, Error};
 use std::alloc::{AllocError, Global};
 use trace_canon::Config;
 
-/// What no words at all stand for.
+/// What is meant where there are no words.
 static NO_WORDS: [&str; 1] = ["normalise"];
 
 /// What the words ask for, those after the program's name.

@@ -46,7 +46,7 @@ impl HandIn {
         }
     }
 
-    /// Hands a piece in, and what is left of it again behind each line.
+    /// Hands a piece in, and after each line what is left of it.
     fn piece(&mut self, rt: &impl Abort, row: &Row, piece: &[u8]) {
         let mut rest = piece;
         for _ in 0..=piece.len() {
@@ -82,7 +82,7 @@ impl HandIn {
     }
 }
 
-/// Compares a line with the row, behind so many lines, and counts it.
+/// Compares a line with the row, after `lines` lines, and counts it.
 fn next_line(rt: &impl Abort, row: &Row, lines: usize, line: u64, what: &Option<Stamped>) -> usize {
     assert!(rt; lines < row.lines.len(), "{}", row.log);
     assert!(rt;

@@ -12,7 +12,7 @@ enum Refused {
     Full,
 }
 
-/// A sink that keeps up to so many messages.
+/// A sink that keeps up to a number of messages.
 #[derive(Drop)]
 struct Recorder {
     alloc: Global,
@@ -80,7 +80,7 @@ fn take(
     answer
 }
 
-/// The messages of a request that has a pending reply before its answer and one behind it, and after each of them
+/// The messages of a request that has a pending reply before its answer and one after it, and after each of them
 /// the bytes held and the number of messages put.
 const STEPS: [(Dir, &[u8], u64, usize); 5] = [
     (Tester, &[0x22, 0xF1, 0x90], 0, 1),

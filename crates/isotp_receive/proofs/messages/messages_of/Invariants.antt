@@ -1,5 +1,5 @@
 use Rattle.std.proofs.Common.{◌≡◌, take}
-use Rattle.isotp_receive.specs.Standing.{receptions_after}
+use Rattle.isotp_receive.specs.StandingReception.{receptions_after}
 use Rattle.isotp_receive.specs.Verdict.{messages}
 use Rattle.isotp_receive.specs.Recorded.{entries, sent}
 use Rattle.isotp_receive.specs.declared.TheConstants.{MESSAGE_LIMIT}

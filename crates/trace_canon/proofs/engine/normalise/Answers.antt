@@ -27,8 +27,8 @@ returns-in-Err-clause-answer g c = λ reads told log begins.
     rw c.fault_of.ensures
     (answers_of_lines (W.tells begun.1) (W.tells now.1) settings old (writing W (now.0.taker, now.1)) log given fresh.first told
     (Unit {0}) (TookLines took) (StoppedOnLine stopped) begun now c.in-Err.fault c.max_bytes.result c.max_bytes.ensures.value read
-    (λ whats lines. (has_taken took settings begun now starts whats lines fresh.stands).0.stood)
-    (λ whats what why line. (let stops = has_stopped stopped settings begun now starts whats what why line in (stops.0, stops.1, stops.2, stops.3, (stops.4 fresh.stands).0))))
+    (λ meanings lines. (has_taken took settings begun now starts meanings lines fresh.stands).0.stood)
+    (λ meanings what why line. (let stops = has_stopped stopped settings begun now starts meanings what why line in (stops.0, stops.1, stops.2, stops.3, (stops.4 fresh.stands).0))))
 
 pub returns-in-Err-clause-write_fault : goal.returns-in-Err-clause-write_fault
 returns-in-Err-clause-write_fault g c =
@@ -46,8 +46,8 @@ returns-in-Err-clause-write_fault g c =
     rw c.fault_of.ensures
     (fails_of_lines {A = Summary} (W.tells begun.1) (W.tells now.1) settings old (writing W (now.0.taker, now.1))
     (Unit {0}) (TookLines took) (StoppedOnLine stopped) begun now c.requires.writer c.in-Err.fault takes
-    (λ whats lines. (has_taken took settings begun now starts whats lines fresh.stands).0.stood)
-    (λ whats what why line. (let stops = has_stopped stopped settings begun now starts whats what why line in (stops.0, stops.1, stops.2, stops.3, (stops.4 fresh.stands).0))))
+    (λ meanings lines. (has_taken took settings begun now starts meanings lines fresh.stands).0.stood)
+    (λ meanings what why line. (let stops = has_stopped stopped settings begun now starts meanings what why line in (stops.0, stops.1, stops.2, stops.3, (stops.4 fresh.stands).0))))
 
 pub returns-in-Ok-clause-answer : goal.returns-in-Ok-clause-answer
 returns-in-Ok-clause-answer g c = λ reads told log begins.
@@ -61,13 +61,13 @@ returns-in-Ok-clause-answer g c = λ reads told log begins.
     let nothing = took_nothing took begun (ordered_nothing W (begun.0.taker, begun.1)) in
     let old = writing W (begun.0.taker, begun.1) in
     let read = c.in-Ok.ensures.lines reads log (rw c.max_bytes.ensures.value begins) begun nothing in
-    let whats = read.0 in
-    let orders = (has_taken took settings begun now starts whats read.5 fresh.stands).0 in
-    let received = has_received took settings begun now starts whats read.5 in
-    let few : length whats < 2 ^ 62 = omega (arith, few_in_log log whats read.3, c.max_bytes.ensures.settings.most) in
-    let ends = c.finish.ensures.ends begun.1 settings old whats few fresh.first received orders in
+    let meanings = read.0 in
+    let orders = (has_taken took settings begun now starts meanings read.5 fresh.stands).0 in
+    let received = has_received took settings begun now starts meanings read.5 in
+    let few : length meanings < 2 ^ 62 = omega (arith, few_in_log log meanings read.3, c.max_bytes.ensures.settings.most) in
+    let ends = c.finish.ensures.ends begun.1 settings old meanings few fresh.first received orders in
     rw c.answer_of.ensures
-    (answers_end (W.tells begun.1) (W.tells c.finish.new.device) settings old log (g.R.Source.given c.read_lines.new.reader - g.R.Source.given c.args.reader.now) whats
+    (answers_end (W.tells begun.1) (W.tells c.finish.new.device) settings old log (g.R.Source.given c.read_lines.new.reader - g.R.Source.given c.args.reader.now) meanings
     c.finish.result (W.failures c.finish.new.device) (W.written c.finish.new.device) told fresh.first (omega (arith, read.1, c.max_bytes.ensures.value)) read.2 read.3 read.4
     orders.stood.within ends)
 

@@ -23,8 +23,8 @@ returns-in-Err-clause-answer g c = λ reads told log begins.
     rw c.explaining_fault.ensures
     (explains_of_lines (W.tells begun.1) (W.tells now.1) (W.failures begun.1) (W.written begun.1) now.0.taker.pending (W.failures now.1) (W.written now.1) settings
     (TookLines took) (StoppedOnLine stopped) begun now
-    (λ whats lines. (has_taken took settings begun now starts whats lines counts).0)
-    (λ whats what why line. (let stops = has_stopped stopped settings begun now starts whats what why line in (stops.0, stops.1, stops.2, stops.3, (stops.4 counts).0)))
+    (λ meanings lines. (has_taken took settings begun now starts meanings lines counts).0)
+    (λ meanings what why line. (let stops = has_stopped stopped settings begun now starts meanings what why line in (stops.0, stops.1, stops.2, stops.3, (stops.4 counts).0)))
     (Unit {0}) log given told c.in-Err.fault c.max_bytes.result c.max_bytes.ensures.value read)
 
 pub returns-in-Err-clause-write_fault : goal.returns-in-Err-clause-write_fault
@@ -42,8 +42,8 @@ returns-in-Err-clause-write_fault g c =
     rw c.explaining_fault.ensures
     (explains_failures (W.tells begun.1) (W.tells now.1) (W.failures begun.1) (W.written begun.1) now.0.taker.pending (W.failures now.1) (W.written now.1) settings
     (TookLines took) (StoppedOnLine stopped) begun now
-    (λ whats lines. (has_taken took settings begun now starts whats lines counts).0)
-    (λ whats what why line. (let stops = has_stopped stopped settings begun now starts whats what why line in (stops.0, stops.1, stops.2, stops.3, (stops.4 counts).0)))
+    (λ meanings lines. (has_taken took settings begun now starts meanings lines counts).0)
+    (λ meanings what why line. (let stops = has_stopped stopped settings begun now starts meanings what why line in (stops.0, stops.1, stops.2, stops.3, (stops.4 counts).0)))
     (Unit {0}) c.requires.writer c.in-Err.fault takes)
 
 pub finish-requires : goal.finish-requires
@@ -72,12 +72,12 @@ returns-in-Ok-clause-answer g c = λ reads told log begins.
     let nothing = took_nothing took begun (explained_nothing W (begun.0.taker, begun.1)) in
     let given = g.R.Source.given c.read_lines.new.reader - g.R.Source.given c.args.reader.now in
     let read = c.in-Ok.ensures.lines reads log (rw c.max_bytes.ensures.value begins) begun nothing in
-    let whats = read.0 in
-    let received = has_received took settings begun now starts whats read.5 in
-    let explains = (has_taken took settings begun now starts whats read.5 counts).0 in
-    let ends = c.finish.ensures.ends begun.1 settings (W.failures begun.1) (W.written begun.1) whats received explains in
+    let meanings = read.0 in
+    let received = has_received took settings begun now starts meanings read.5 in
+    let explains = (has_taken took settings begun now starts meanings read.5 counts).0 in
+    let ends = c.finish.ensures.ends begun.1 settings (W.failures begun.1) (W.written begun.1) meanings received explains in
     rw c.explaining_answer.ensures
-    (explains_end (W.tells begun.1) (W.failures begun.1) (W.written begun.1) settings log given whats c.finish.result
+    (explains_end (W.tells begun.1) (W.failures begun.1) (W.written begun.1) settings log given meanings c.finish.result
     (W.failures c.finish.new.device) (W.written c.finish.new.device) told (omega (arith, read.1, c.max_bytes.ensures.value)) read.2 read.3 ends)
 
 pub returns-in-Ok-clause-write_fault : goal.returns-in-Ok-clause-write_fault

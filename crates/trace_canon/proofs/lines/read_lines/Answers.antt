@@ -11,11 +11,11 @@ returns-in_default-clause-lines g c = λ tells log begins start taken.
     (g.met.R.Source.coherent c.args.reader.now tells) (g.met.R.Source.coherent c.reading.reader (c.reading.invariant.telling tells)) begins (omega (arith, has.counted)) in
     let count : g.R.Source.given c.read.new.self - g.R.Source.given c.args.reader.now ≡ length has.bytes =
     omega (arith, c.in_default.ensures.given, c.reading.invariant.given, has.counted) in (
-      has.whats,
+      has.meanings,
       has.taken,
       omega (arith, has.counted),
       (let size = ap length front in omega (arith, length-take (length has.bytes) log)),
-      (c.reading.scanner, subst (λ b. StandsAfter b has.whats c.reading.scanner) (front ∙ ap (λ k. take k log) (sym count)) has.stands),
+      (c.reading.scanner, subst (λ b. StandsAfter b has.meanings c.reading.scanner) (front ∙ ap (λ k. take k log) (sym count)) has.stands),
     )
 
 pub returns-then-n-eq0-clause-lines : goal.returns-then-n-eq0-clause-lines
@@ -24,11 +24,11 @@ returns-then-n-eq0-clause-lines g c = λ tells log begins start taken.
     let over = c.in-Ok.ensures.end (c.reading.invariant.telling tells) c.if-n-eq0.true (omega (arith, length-take {A = ℕ})) in
     let all = taken_all (g.R.Source.front c.args.reader.now) (g.R.Source.front c.reading.reader) has.bytes log c.args.max_bytes (has.streams tells) over begins (omega (arith, has.counted)) in
     let len = ap length all in
-    let stands = subst (λ b. StandsAfter b has.whats c.reading.scanner) all has.stands in
+    let stands = subst (λ b. StandsAfter b has.meanings c.reading.scanner) all has.stands in
     log_ends g.T.LineTaker.took g.T.LineTaker.stopped start c.take_last_line.result c.args.max_bytes (g.R.Source.given c.read.new.self - g.R.Source.given c.args.reader.now) log
     (c.take_last_line.new.taker, c.take_last_line.new.device)
     (omega (arith, has.counted)) (omega (arith, has.counted, c.in-Ok.ensures.given, c.reading.invariant.given))
-    (c.take_last_line.ensures.lines start log has.whats (omega (arith, has.counted)) stands has.taken)
+    (c.take_last_line.ensures.lines start log has.meanings (omega (arith, has.counted)) stands has.taken)
 
 pub returns-in-Err-clause-lines : goal.returns-in-Err-clause-lines
 returns-in-Err-clause-lines g c = λ tells log begins start taken.
@@ -46,11 +46,11 @@ returns-in-Err-clause-lines g c = λ tells log begins start taken.
     let front = taken_front (g.R.Source.front c.args.reader.now) (g.R.Source.front c.read.new.self) (has.bytes ++ piece) log (c.args.max_bytes + 1) streams
     (g.met.R.Source.coherent c.args.reader.now tells) (g.met.R.Source.coherent c.read.new.self (c.in-Ok.ensures.tells (c.reading.invariant.telling tells))) begins
     (omega (arith, has.counted, few.1)) in
-    piece_faults g.T.LineTaker.took g.T.LineTaker.stopped start (Unit {0}) c.in-Err.fault c.args.max_bytes given log has.whats has.bytes piece
+    piece_faults g.T.LineTaker.took g.T.LineTaker.stopped start (Unit {0}) c.in-Err.fault c.args.max_bytes given log has.meanings has.bytes piece
     c.reading.scanner c.take_lines.new.scanner (c.take_lines.new.taker, c.take_lines.new.device)
     has.stands front (omega (arith, has.counted, c.in-Ok.ensures.given, c.reading.invariant.given))
     (omega (arith, has.counted, few.1, c.in-Ok.ensures.given, c.reading.invariant.given)) (omega (arith, few.0, here.1))
-    (c.in-Err.ensures.lines start has.bytes has.whats has.stands has.taken)
+    (c.in-Err.ensures.lines start has.bytes has.meanings has.stands has.taken)
 
 pub reading-preserved : goal.reading-preserved
 reading-preserved g c =
@@ -69,11 +69,11 @@ reading-preserved g c =
       taken = omega (arith, c.in_default-take_lines.ensures.taken, here.1, c.reading.invariant.taken);
       lines = λ start taken.
           let has = c.reading.invariant.lines start taken in
-          let read = c.in_default-take_lines.ensures.lines start has.bytes has.whats has.stands has.taken in
+          let read = c.in_default-take_lines.ensures.lines start has.bytes has.meanings has.stands has.taken in
           let len : length (has.bytes ++ piece) ≡ length has.bytes + n = length-append has.bytes piece ∙ ap (λ k. length has.bytes + k) here.1 in
           record {
             bytes = has.bytes ++ piece;
-            whats = read.0;
+            meanings = read.0;
             stands = read.1;
             taken = read.2;
             counted = omega (arith, has.counted);
@@ -98,11 +98,11 @@ returns-then-n-gt0-clause-lines g c = λ tells log begins start taken.
     let first : now 1 ≡ piece ++ g.R.Source.front c.read-2.new.self (1 - length piece) = sym (ap now at) ∙ c.in-Ok-read.ensures.bytes (c.reading.invariant.telling tells) (1 - length piece) in
     let some = ap length first ∙ length-append piece (g.R.Source.front c.read-2.new.self (1 - length piece)) in
     let long = more_comes old now has.bytes log c.args.max_bytes (has.streams tells) begins full (omega (arith, c.in-Ok-read.ensures.bound, c.if-n-gt0.true)) in (
-      has.whats,
+      has.meanings,
       has.taken,
       long,
       omega (arith, c.in-Ok-read.ensures.given, c.reading.invariant.given),
-      (c.reading.scanner, subst (λ b. StandsAfter b has.whats c.reading.scanner) (front ∙ ap (λ k. take k log) full) has.stands),
+      (c.reading.scanner, subst (λ b. StandsAfter b has.meanings c.reading.scanner) (front ∙ ap (λ k. take k log) full) has.stands),
     )
 
 pub returns-clause-lines : goal.returns-clause-lines
@@ -111,34 +111,34 @@ returns-clause-lines g c = λ tells log begins start taken.
     let over = c.in-Ok-read.ensures.end (c.reading.invariant.telling tells) (omega (arith, c.if-n-gt0.false)) (omega (arith, length-take {A = ℕ}, c.reading.invariant.piece_len)) in
     let all = taken_all (g.R.Source.front c.args.reader.now) (g.R.Source.front c.reading.reader) has.bytes log c.args.max_bytes (has.streams tells) over begins (omega (arith, has.counted)) in
     let len = ap length all in
-    let stands = subst (λ b. StandsAfter b has.whats c.reading.scanner) all has.stands in
+    let stands = subst (λ b. StandsAfter b has.meanings c.reading.scanner) all has.stands in
     log_ends g.T.LineTaker.took g.T.LineTaker.stopped start c.take_last_line-2.result c.args.max_bytes (g.R.Source.given c.read-2.new.self - g.R.Source.given c.args.reader.now) log
     (c.take_last_line-2.new.taker, c.take_last_line-2.new.device)
     (omega (arith, has.counted)) (omega (arith, has.counted, c.in-Ok-read.ensures.given, c.reading.invariant.given))
-    (c.take_last_line-2.ensures.lines start log has.whats (omega (arith, has.counted)) stands has.taken)
+    (c.take_last_line-2.ensures.lines start log has.meanings (omega (arith, has.counted)) stands has.taken)
 
 pub returns-in_default-clause-takes : goal.returns-in_default-clause-takes
-returns-in_default-clause-takes g c = λ start taken. (let has = c.reading.invariant.lines start taken in (has.whats, has.taken))
+returns-in_default-clause-takes g c = λ start taken. (let has = c.reading.invariant.lines start taken in (has.meanings, has.taken))
 
 pub returns-then-n-eq0-clause-takes : goal.returns-then-n-eq0-clause-takes
 returns-then-n-eq0-clause-takes g c = λ start taken.
     let has = c.reading.invariant.lines start taken in
     let short : length has.bytes ≤ 2 ^ 61 = omega (arith, has.counted) in
     takes_at_end g.T.LineTaker.took g.T.LineTaker.stopped start c.take_last_line.result has.bytes (c.take_last_line.new.taker, c.take_last_line.new.device) short
-    (c.take_last_line.ensures.lines start has.bytes has.whats short has.stands has.taken)
+    (c.take_last_line.ensures.lines start has.bytes has.meanings short has.stands has.taken)
 
 pub returns-in-Err-clause-takes : goal.returns-in-Err-clause-takes
 returns-in-Err-clause-takes g c = λ start taken.
     let has = c.reading.invariant.lines start taken in
-    takes_in_piece g.T.LineTaker.took g.T.LineTaker.stopped start (Unit {0}) c.in-Err.fault has.whats has.bytes _ c.take_lines.new.scanner (c.take_lines.new.taker, c.take_lines.new.device)
-    (c.in-Err.ensures.lines start has.bytes has.whats has.stands has.taken)
+    takes_in_piece g.T.LineTaker.took g.T.LineTaker.stopped start (Unit {0}) c.in-Err.fault has.meanings has.bytes _ c.take_lines.new.scanner (c.take_lines.new.taker, c.take_lines.new.device)
+    (c.in-Err.ensures.lines start has.bytes has.meanings has.stands has.taken)
 
 pub returns-then-n-gt0-clause-takes : goal.returns-then-n-gt0-clause-takes
-returns-then-n-gt0-clause-takes g c = λ start taken. (let has = c.reading.invariant.lines start taken in (has.whats, has.taken))
+returns-then-n-gt0-clause-takes g c = λ start taken. (let has = c.reading.invariant.lines start taken in (has.meanings, has.taken))
 
 pub returns-clause-takes : goal.returns-clause-takes
 returns-clause-takes g c = λ start taken.
     let has = c.reading.invariant.lines start taken in
     let short : length has.bytes ≤ 2 ^ 61 = omega (arith, has.counted) in
     takes_at_end g.T.LineTaker.took g.T.LineTaker.stopped start c.take_last_line-2.result has.bytes (c.take_last_line-2.new.taker, c.take_last_line-2.new.device) short
-    (c.take_last_line-2.ensures.lines start has.bytes has.whats short has.stands has.taken)
+    (c.take_last_line-2.ensures.lines start has.bytes has.meanings short has.stands has.taken)

@@ -9,7 +9,7 @@ use Rattle.trace_canon.proofs.lines.take_lines.Goals as goal
 pub lines-init : goal.lines-init
 lines-init g c = record {
   room = omega arith;
-  read = λ start bytes whats stands taken. read_none g.T.LineTaker.took start bytes c.args.piece.now whats c.args.scanner.now (c.args.taker.now, c.args.device.now) stands taken;
+  read = λ start bytes meanings stands taken. read_none g.T.LineTaker.took start bytes c.args.piece.now meanings c.args.scanner.now (c.args.taker.now, c.args.device.now) stands taken;
 }
 
 pub lines-preserved : goal.lines-preserved
@@ -19,59 +19,59 @@ lines-preserved g c =
     let left = take_rest c.lines.rest.now c.in-Line.used in
     record {
       room = omega (arith, ap length left, length-drop c.in-Line.used c.lines.rest.now, c.lines.invariant.room);
-      read = λ start bytes whats stands taken.
+      read = λ start bytes meanings stands taken.
           let took = g.T.LineTaker.took in
-          let read = c.lines.invariant.read start bytes whats stands taken in
-          let number = line_number took start whats (bytes ++ c.args.piece.now) c.lines.rest.now c.lines.scanner c.scan.new.self
+          let read = c.lines.invariant.read start bytes meanings stands taken in
+          let number = line_number took start meanings (bytes ++ c.args.piece.now) c.lines.rest.now c.lines.scanner c.scan.new.self
           (c.lines.taker, c.lines.device) c.in-Line.used c.in-Line.line c.in-Line.what read answer in
-          let few : length read.whats < 2 ^ 62 = omega (arith, few_lines read.front read.whats c.lines.scanner read.stands, read.stands.taken, c.lines.invariant.room) in
-          read_line took start whats (bytes ++ c.args.piece.now) c.lines.rest.now _ c.lines.scanner c.scan.new.self
+          let few : length read.meanings < 2 ^ 62 = omega (arith, few_lines read.front read.meanings c.lines.scanner read.stands, read.stands.taken, c.lines.invariant.room) in
+          read_line took start meanings (bytes ++ c.args.piece.now) c.lines.rest.now _ c.lines.scanner c.scan.new.self
           (c.lines.taker, c.lines.device) (c.take.new.self, c.take.new.device) c.in-Line.used c.in-Line.line c.in-Line.what
-          read answer left (c.in_default.ensures.ok start read.whats number few read.taken);
+          read answer left (c.in_default.ensures.ok start read.meanings number few read.taken);
     }
 
 pub returns-in-Err-clause-lines : goal.returns-in-Err-clause-lines
-returns-in-Err-clause-lines g c = λ start bytes whats stands taken.
+returns-in-Err-clause-lines g c = λ start bytes meanings stands taken.
     let answer = subst (λ (scan : Scan). Scans c.lines.scanner c.lines.rest.now scan c.scan.new.self) c.in-Line.is c.scan.ensures.answer in
     let took = g.T.LineTaker.took in
-    let read = c.lines.invariant.read start bytes whats stands taken in
-    let number = line_number took start whats (bytes ++ c.args.piece.now) c.lines.rest.now c.lines.scanner c.scan.new.self
+    let read = c.lines.invariant.read start bytes meanings stands taken in
+    let number = line_number took start meanings (bytes ++ c.args.piece.now) c.lines.rest.now c.lines.scanner c.scan.new.self
     (c.lines.taker, c.lines.device) c.in-Line.used c.in-Line.line c.in-Line.what read answer in
-    let few : length read.whats < 2 ^ 62 = omega (arith, few_lines read.front read.whats c.lines.scanner read.stands, read.stands.taken, c.lines.invariant.room) in (
-      read.whats,
+    let few : length read.meanings < 2 ^ 62 = omega (arith, few_lines read.front read.meanings c.lines.scanner read.stands, read.stands.taken, c.lines.invariant.room) in (
+      read.meanings,
       c.in-Line.what,
-      line_stops took start whats (bytes ++ c.args.piece.now) c.lines.rest.now c.lines.scanner c.scan.new.self
+      line_stops took start meanings (bytes ++ c.args.piece.now) c.lines.rest.now c.lines.scanner c.scan.new.self
           (c.lines.taker, c.lines.device) c.in-Line.used c.in-Line.line c.in-Line.what read answer,
-      c.in-Err.ensures.err start read.whats number few read.taken,
+      c.in-Err.ensures.err start read.meanings number few read.taken,
     )
 
 pub returns-in-Bad-clause-lines : goal.returns-in-Bad-clause-lines
-returns-in-Bad-clause-lines g c = λ start bytes whats stands taken.
+returns-in-Bad-clause-lines g c = λ start bytes meanings stands taken.
     let answer = subst (λ (scan : Scan). Scans c.lines.scanner c.lines.rest.now scan c.scan.new.self) c.in-Bad.is c.scan.ensures.answer in
     let took = g.T.LineTaker.took in
-    let read = c.lines.invariant.read start bytes whats stands taken in (
-      read.whats,
-      piece_refused took start whats (bytes ++ c.args.piece.now) c.lines.rest.now c.lines.scanner c.scan.new.self (c.lines.taker, c.lines.device) c.in-Bad.line c.in-Bad.column read answer,
+    let read = c.lines.invariant.read start bytes meanings stands taken in (
+      read.meanings,
+      piece_refused took start meanings (bytes ++ c.args.piece.now) c.lines.rest.now c.lines.scanner c.scan.new.self (c.lines.taker, c.lines.device) c.in-Bad.line c.in-Bad.column read answer,
       read.taken,
     )
 
 pub returns-in-NeedMore-clause-lines : goal.returns-in-NeedMore-clause-lines
-returns-in-NeedMore-clause-lines g c = λ start bytes whats stands taken.
+returns-in-NeedMore-clause-lines g c = λ start bytes meanings stands taken.
     let took = g.T.LineTaker.took in
-    let read = c.lines.invariant.read start bytes whats stands taken in (
-      read.whats,
-      piece_waits took start whats (bytes ++ c.args.piece.now) c.lines.rest.now c.lines.scanner c.scan.new.self c.scan.result
+    let read = c.lines.invariant.read start bytes meanings stands taken in (
+      read.meanings,
+      piece_waits took start meanings (bytes ++ c.args.piece.now) c.lines.rest.now c.lines.scanner c.scan.new.self c.scan.result
           (c.lines.taker, c.lines.device) read c.scan.ensures.answer c.in-NeedMore.is,
       read.taken,
     )
 
 pub returns-clause-lines : goal.returns-clause-lines
-returns-clause-lines g c = λ start bytes whats stands taken.
+returns-clause-lines g c = λ start bytes meanings stands taken.
     let took = g.T.LineTaker.took in
     let none = nil_from_length c.lines.rest.now (eqb-true (length c.lines.rest.now) 0 (sym c.lines-test.ensures)) in
-    let read = subst (λ rest. HasRead took start whats (bytes ++ c.args.piece.now) rest c.lines.scanner (c.lines.taker, c.lines.device)) none
-    (c.lines.invariant.read start bytes whats stands taken) in
-    (read.whats, piece_read took start whats (bytes ++ c.args.piece.now) c.lines.scanner (c.lines.taker, c.lines.device) read, read.taken)
+    let read = subst (λ rest. HasRead took start meanings (bytes ++ c.args.piece.now) rest c.lines.scanner (c.lines.taker, c.lines.device)) none
+    (c.lines.invariant.read start bytes meanings stands taken) in
+    (read.meanings, piece_read took start meanings (bytes ++ c.args.piece.now) c.lines.scanner (c.lines.taker, c.lines.device) read, read.taken)
 
 pub returns-in-NeedMore-clause-taken : goal.returns-in-NeedMore-clause-taken
 returns-in-NeedMore-clause-taken g c =

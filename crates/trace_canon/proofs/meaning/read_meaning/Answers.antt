@@ -19,8 +19,8 @@ returns-in-Err-clause-answer g c = λ reads log begins.
     rw c.fault_of.ensures
     (tells_of_lines settings log (g.R.Source.given c.read_lines.new.reader - g.R.Source.given c.args.reader.now) (Unit {0}) (TookLines HeldEvents) (StoppedOnLine StoppedHolding)
     begun now c.in-Err.fault c.max_bytes.result c.max_bytes.ensures.value read
-    (λ whats lines. (has_taken HeldEvents settings begun now starts whats lines stands).within)
-    (λ whats what why line. (let stops = has_stopped StoppedHolding settings begun now starts whats what why line in (stops.0, stops.1, stops.2, stops.3, stops.4 stands))))
+    (λ meanings lines. (has_taken HeldEvents settings begun now starts meanings lines stands).within)
+    (λ meanings what why line. (let stops = has_stopped StoppedHolding settings begun now starts meanings what why line in (stops.0, stops.1, stops.2, stops.3, stops.4 stands))))
 
 pub returns-in-Ok-clause-answer : goal.returns-in-Ok-clause-answer
 returns-in-Ok-clause-answer g c = λ reads log begins.
@@ -31,8 +31,8 @@ returns-in-Ok-clause-answer g c = λ reads log begins.
     let stands : begun.0.taker.pairing ≡ meaning [] = ap (λ (h : Holding). h.pairing) c.start-receiver.ensures.taker_is ∙ c.new.ensures in
     let nothing = took_nothing HeldEvents begun (held_nothing (begun.0.taker, begun.1)) in
     let read = c.in-Ok.ensures.lines reads log (rw c.max_bytes.ensures.value begins) begun nothing in
-    let whats = read.0 in
-    let held = has_taken HeldEvents settings begun now starts whats read.5 stands in
-    let few : length whats < 2 ^ 62 = omega (arith, few_in_log log whats read.3, c.max_bytes.ensures.settings.most) in
-    let ends = c.finish.ensures settings whats few (read.5.0 ∙ starts.config) (has_received HeldEvents settings begun now starts whats read.5) held in
-    rw c.ok_or.ensures.value (finds_end settings log whats c.finish.result (omega (arith, read.1, c.max_bytes.ensures.value)) read.3 held.within ends)
+    let meanings = read.0 in
+    let held = has_taken HeldEvents settings begun now starts meanings read.5 stands in
+    let few : length meanings < 2 ^ 62 = omega (arith, few_in_log log meanings read.3, c.max_bytes.ensures.settings.most) in
+    let ends = c.finish.ensures settings meanings few (read.5.0 ∙ starts.config) (has_received HeldEvents settings begun now starts meanings read.5) held in
+    rw c.ok_or.ensures.value (finds_end settings log meanings c.finish.result (omega (arith, read.1, c.max_bytes.ensures.value)) read.3 held.within ends)

@@ -42,7 +42,7 @@ frames-preserved g c =
       place = c.frames.invariant.place ∙ ap (place_after settings c.frames.place) c.in-Some.ensures.steps
           ∙ place_step settings c.frames.place frame later fits ∙ ap (λ p. place_after settings p later) (sym next);
       failures = c.in_ok-gather_line.ensures.failures ∙ c.frames.invariant.failures;
-       no_empty_write = c.gather_line.ensures.no_empty_write ∙ c.frames.invariant.no_empty_write;
+      no_empty_write = c.gather_line.ensures.no_empty_write ∙ c.frames.invariant.no_empty_write;
     }
 
 pub returns-in_err-gather_line-clause-written : goal.returns-in_err-gather_line-clause-written

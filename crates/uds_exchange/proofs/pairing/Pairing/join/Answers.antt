@@ -5,7 +5,7 @@ use Rattle.uds_message.specs.Message.{sid}
 use Rattle.uds_exchange.specs.declared.item.Item.TheVariants as item
 use Rattle.uds_exchange.specs.Meaning.{ItemValue, exchange, stray}
 use Rattle.uds_exchange.specs.ItemSeen.{item_values}
-use Rattle.uds_exchange.specs.Pairing.{IsOpenAt}
+use Rattle.uds_exchange.specs.Pairing.{IsWaitingAt}
 use Rattle.uds_exchange.proofs.Kept.{item_values-push, length-item_values, kept-request, kept-stray, kept-answer}
 use Rattle.uds_exchange.proofs.Kept.{joins-request, request-sid, joins-stray, joins-answer, changes-stray, changes-answer, answered-at, answered-below, answered-exchange}
 use Rattle.uds_exchange.proofs.Variants.{on_err}
@@ -27,8 +27,8 @@ invariant_of-self-in-Request c =
     let kept = request-sid its c.args.self.now c.self.view_is c.self.inside.open_sid c.self.inside.last c.self.invariant x
     c.in-Request.sid c.in-Request.ensures in
     let first : sid request.items ≡ c.in-Request.sid = ap sid c.in_ok-request-in-Request.ensures ∙ sym kept in
-    subst (λ (l : List ItemValue). IsOpenAt l (Some c.in-Request.sid) c.len-last.result) (sym pushed)
-    (subst (λ (s : ℕ). IsOpenAt (its ++ exchange request.items None ∷ []) (Some s) c.len-last.result) first
+    subst (λ (l : List ItemValue). IsWaitingAt l (Some c.in-Request.sid) c.len-last.result) (sym pushed)
+    (subst (λ (s : ℕ). IsWaitingAt (its ++ exchange request.items None ∷ []) (Some s) c.len-last.result) first
     (kept-request its request.items c.len-last.result (omega (arith, length-item_values c.self.inside.items.items))))
 
 pub returns-in_ok-push-in-Request-clause-ok : goal.returns-in_ok-push-in-Request-clause-ok
@@ -50,7 +50,7 @@ invariant_of-self-in-Answer c =
     let there = answered-exchange its c.args.self.now c.self.view_is c.self.inside.open_sid last c.self.invariant x c.in-Answer.ensures in
     let place = c.self.invariant.place w.0 w.1 in
     let set = c.set_answer.ensures w.0.1 there ∙ ap (λ i. slice_set its i (exchange w.0.1 (Some reply))) (sym place) in
-    subst (λ (l : List ItemValue). IsOpenAt l None last) (sym set) (kept-answer its w.0 last reply w.1)
+    subst (λ (l : List ItemValue). IsWaitingAt l None last) (sym set) (kept-answer its w.0 last reply w.1)
 
 pub returns-in_ok-answer-in-Answer-clause-ok : goal.returns-in_ok-answer-in-Answer-clause-ok
 returns-in_ok-answer-in-Answer-clause-ok c =
@@ -68,7 +68,7 @@ invariant_of-self-in-Hold c =
     let its = item_values c.self.inside.items.items in
     let bytes = c.in_ok-bytes-in-Hold.bytes in
     let pushed = item_values-push c.self.inside.items.items c.push-in-Hold.new.self.items (item.Stray c.args.dir bytes) c.in_ok-push-in-Hold.ensures.items in
-    subst (λ (l : List ItemValue). IsOpenAt l c.self.inside.open_sid c.self.inside.last) (sym pushed)
+    subst (λ (l : List ItemValue). IsWaitingAt l c.self.inside.open_sid c.self.inside.last) (sym pushed)
     (kept-stray its c.self.inside.open_sid c.self.inside.last (c.args.dir, bytes.items) c.self.invariant)
 
 pub returns-in_ok-push-in-Hold-clause-ok : goal.returns-in_ok-push-in-Hold-clause-ok

@@ -3,13 +3,13 @@
 use Rattle.std.specs.Prelude.{ℕ, ◌+◌, ◌-◌, ◌%◌, Bool, true, false, ◌&&◌, List, [], ◌∷◌, ◌++◌, length, not, nat_lt, nat_le, ◌==◌, if◌then◌else◌, Option, Some, None}
 use Rattle.can_log.specs.declared.frame.Dir.{Dir}
 use Rattle.can_log.specs.declared.frame.Dir.TheVariants.{Tester, Unit}
-use Rattle.isotp_receive.specs.Trace.{Entry, FirstFrame, Role, single, first, consecutive, continue_or_wait, overflow, no_part, role}
+use Rattle.isotp_receive.specs.Trace.{Entry, FirstFrame, FrameRole, single, first, consecutive, continue_or_wait, overflow, no_part, role}
 use Rattle.isotp_receive.specs.Places.{bytes_before, consecutive_frames_in}
 use Rattle.isotp_receive.specs.OnTime.{n_cr}
 use Rattle.isotp_receive.specs.Fit.{Fit, late, wrong_number, wrong_length, one_more, last}
 
 -- the bytes that the consecutive frames of the direction carry
-abbrev pub carried_by : Role → List ℕ
+abbrev pub carried_by : FrameRole → List ℕ
 carried_by (consecutive sequence_number can_dl bytes) = bytes
 carried_by (single message) = []
 carried_by (first start) = []
@@ -23,7 +23,7 @@ carried d [] = []
 carried d (e ∷ rest) = carried_by (role d e) ++ carried d rest
 
 -- the time that N_Cr runs from after a frame of this role and time, where it ran from `earlier` before
-abbrev pub referred : Role → ℕ → ℕ → ℕ
+abbrev pub referred : FrameRole → ℕ → ℕ → ℕ
 referred (consecutive sequence_number can_dl bytes) micros earlier = micros
 referred continue_or_wait micros earlier = micros
 referred (single message) micros earlier = earlier
@@ -38,7 +38,7 @@ reference d earlier (e ∷ rest) = reference d (referred (role d e) e.micros ear
 
 -- what is known of a reception: line, length and CAN_DL of its first frame, how many consecutive frames it took, the
 -- bytes that have come, and the time that N_Cr runs from
-pub record Standing : Type 0 where
+pub record StandingReception : Type 0 where
   pub line : ℕ
   pub len : ℕ
   pub rx_dl : ℕ
@@ -47,7 +47,7 @@ pub record Standing : Type 0 where
   pub reference : ℕ
 
 -- of the one that began with `start`, after these frames
-abbrev pub standing_of : Dir → FirstFrame → List Entry → Standing
+abbrev pub standing_of : Dir → FirstFrame → List Entry → StandingReception
 standing_of d start frames = record {
   line = start.line;
   len = start.len;
@@ -69,23 +69,23 @@ fits_length len rx_dl have can_dl =
     && (if nat_lt (have + (rx_dl - 1)) len then can_dl == rx_dl else nat_le (1 + (len - have)) can_dl && nat_le can_dl rx_dl)
 
 -- a consecutive frame of this time is on time
-abbrev pub is_on_time : Standing → ℕ → Bool
+abbrev pub is_on_time : StandingReception → ℕ → Bool
 is_on_time standing micros = nat_le micros (standing.reference + n_cr)
 
 -- the sequence number of the next consecutive frame
-abbrev pub expected : Standing → ℕ
+abbrev pub expected : StandingReception → ℕ
 expected standing = (standing.taken + 1) % 16
 
 -- a consecutive frame of this CAN_DL is as long as the next one has to be
-abbrev pub has_length : Standing → ℕ → Bool
+abbrev pub has_length : StandingReception → ℕ → Bool
 has_length standing can_dl = fits_length standing.len standing.rx_dl (length standing.bytes) can_dl
 
 -- the next consecutive frame isn't the last
-abbrev pub wants_more : Standing → Bool
+abbrev pub wants_more : StandingReception → Bool
 wants_more standing = nat_lt (length standing.bytes + (standing.rx_dl - 1)) standing.len
 
 -- how a consecutive frame of this time, sequence number and CAN_DL fits
-abbrev pub fit_of : Standing → ℕ → ℕ → ℕ → Fit
+abbrev pub fit_of : StandingReception → ℕ → ℕ → ℕ → Fit
 fit_of standing micros sequence_number can_dl =
     if not (is_on_time standing micros) then late
     else if not (sequence_number == expected standing) then wrong_number
@@ -102,7 +102,7 @@ is_next one_more = true
 is_next last = true
 
 -- The frame leaves a reception open that began with `start`, where `past` stands between the two.
-abbrev pub keeps_by : Dir → FirstFrame → List Entry → ℕ → Role → Bool
+abbrev pub keeps_by : Dir → FirstFrame → List Entry → ℕ → FrameRole → Bool
 keeps_by d start past micros (consecutive sequence_number can_dl bytes) =
     is_next (fit_of (standing_of d start past) micros sequence_number can_dl)
 keeps_by d start past micros overflow = nat_lt 0 (consecutive_frames_in d past)
@@ -122,7 +122,7 @@ is_open limit d start frames =
     nat_le start.len limit && (nat_lt (carried_after start (consecutive_frames_in d frames)) start.len && keep d start [] frames)
 
 -- the one that began with a frame of this role, and is open after these frames
-abbrev pub since : ℕ → Dir → Role → List Entry → Option Standing
+abbrev pub since : ℕ → Dir → FrameRole → List Entry → Option StandingReception
 since limit d (first start) frames = if is_open limit d start frames then Some (standing_of d start frames) else None
 since limit d (single message) frames = None
 since limit d (consecutive sequence_number can_dl bytes) frames = None
@@ -131,25 +131,25 @@ since limit d overflow frames = None
 since limit d no_part frames = None
 
 -- the first of two that is there
-abbrev pub or_else : Option Standing → Option Standing → Option Standing
+abbrev pub or_else : Option StandingReception → Option StandingReception → Option StandingReception
 or_else (Some standing) other = Some standing
 or_else None other = other
 
 -- the reception of the direction that stands after the frames
-abbrev pub stands : ℕ → Dir → List Entry → Option Standing
+abbrev pub stands : ℕ → Dir → List Entry → Option StandingReception
 stands limit d [] = None
 stands limit d (e ∷ rest) = or_else (since limit d (role d e) rest) (stands limit d rest)
 
 -- the receptions of the two directions
 pub record Receptions : Type 0 where
-  pub tester : Option Standing
-  pub unit : Option Standing
+  pub tester : Option StandingReception
+  pub unit : Option StandingReception
 
 -- what stands after a trace
 abbrev pub receptions_after : ℕ → List Entry → Receptions
 receptions_after limit T = record { tester = stands limit Tester T; unit = stands limit Unit T }
 
 -- the one of the direction
-abbrev pub of_direction : Receptions → Dir → Option Standing
+abbrev pub of_direction : Receptions → Dir → Option StandingReception
 of_direction receptions Tester = receptions.tester
 of_direction receptions Unit = receptions.unit

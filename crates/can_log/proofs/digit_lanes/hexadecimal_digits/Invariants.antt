@@ -1,6 +1,6 @@
 use Rattle.std.proofs.Common.{◌≡◌, ◌++◌, drop, length}
 use Rattle.can_log.specs.Digits.{hexadecimal}
-use Rattle.can_log.proofs.digits.hexadecimal_digits.Given as goal
+use Rattle.can_log.proofs.digit_lanes.hexadecimal_digits.Given as goal
 
 -- the digits that are missing stand before those that are there
 abbrev pub invariant-loop-i : goal.invariant-loop-i

@@ -4,7 +4,7 @@ use Rattle.std.proofs.lemmas.List.Elements.{All-from_get_or, recursion_from_All}
 use Rattle.std.proofs.lemmas.Simd.{pick_l_whole}
 use Rattle.can_log.specs.Digits.{digit}
 use Rattle.can_log.proofs.WrittenDigits.{halves, halves_below, digits_of_halves}
-use Rattle.can_log.proofs.digits.digits_of_bytes.Goals as goal
+use Rattle.can_log.proofs.digit_lanes.digits_of_bytes.Goals as goal
 
 pub digits_of-requires-clause-each : goal.digits_of-requires-clause-each
 digits_of-requires-clause-each c =

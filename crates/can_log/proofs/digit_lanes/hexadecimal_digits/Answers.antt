@@ -2,7 +2,7 @@ use Rattle.std.proofs.Common.{arith, ◌-◌, ◌%◌, ◌∙◌, length-set}
 use Rattle.std.proofs.lemmas.Simd.{length-replicate}
 use Rattle.can_log.proofs.DigitTable.{digit_at}
 use Rattle.can_log.proofs.WrittenDigits.{none_written, one_digit, all_written}
-use Rattle.can_log.proofs.digits.hexadecimal_digits.Goals as goal
+use Rattle.can_log.proofs.digit_lanes.hexadecimal_digits.Goals as goal
 
 pub loop-i-init : goal.loop-i-init
 loop-i-init g c =

@@ -1,6 +1,6 @@
 use Rattle.std.proofs.Common.{◌∙◌}
 use Rattle.can_log.proofs.WrittenDigits.{sixteen}
-use Rattle.can_log.proofs.digits.decimal_digits.Goals as goal
+use Rattle.can_log.proofs.digit_lanes.decimal_digits.Goals as goal
 
 pub returns : goal.returns
 returns c =
