@@ -1,5 +1,5 @@
 -- From the mask of one load to the bytes at the front that pass a test.
-use Rattle.std.proofs.Common.{drop, length-drop, subst, ◌-◌, ◌≡◌, ℕ, ◌+◌, ◌%◌, ◌^◌, ◌<◌, ◌≤◌, Bool, true, false, not, ◌||◌, List, map, length, get_or, take, Fits, w8, sym, ap, ◌∙◌, arith}
+use Rattle.std.proofs.Common.{drop, length-drop, subst, ◌-◌, ◌≡◌, ℕ, ◌+◌, ◌%◌, ◌^◌, ◌<◌, ◌≤◌, Bool, true, not, ◌||◌, List, map, length, get_or, take, Fits, w8, sym, ap, ◌∙◌, arith}
 use Rattle.std.proofs.lemmas.Bool.{agree_below, agree_below_at}
 use Rattle.std.proofs.lemmas.Simd.{map-map, mask_l-mod, length-chunk, zip2_of_maps, first_set_mask_l, run_in_chunk_le, run_in_chunk_fails}
 use Rattle.std.proofs.lemmas.List.{length-map, length-take, get_or-take}
@@ -7,6 +7,7 @@ use Rattle.std.proofs.lemmas.List.Elements.{All-from_get_or, recursion_from_All}
 use Rattle.std.specs.Char.{is_ascii_hexdigit}
 use Rattle.std.specs.List.{AllByRecursion, prefix_len}
 use Rattle.std.proofs.Math.Seq.{take-add, take-length}
+use Rattle.can_log.proofs.DigitValues.{AreHex}
 use Rattle.can_log.proofs.EachElement.{AllByRecursion-append}
 use lib.Lanes.{chunk, zip2, mask_l, top}
 use Rattle.can_log.specs.Plain.{IsFrontOf, first_set}
@@ -45,10 +46,7 @@ run_in_front q bytes r z room fits found f lanes all =
 
 -- ---- more loads
 
-abbrev AreHex : List ℕ → Type 0
-AreHex = AllByRecursion (λ b. is_ascii_hexdigit b ≡ true)
-
--- the run of one load, after some digits
+-- the run of one load, behind so many digits
 pub hex_more : (at more : ℕ) (bytes : List ℕ) → AreHex (take at bytes) → IsFrontOf is_ascii_hexdigit more (take (length bytes - at) (drop at bytes))
     → AreHex (take (at + more) bytes)
 hex_more at more bytes front next =

@@ -1,6 +1,6 @@
 -- The fields of a line of plain form are those of a line, where each has bytes of its kind alone.
 use Prim.Native.Char.{code}
-use Rattle.std.proofs.Common.{◌≡◌, ℕ, ◌≤◌, ◌++◌, true, List, [], length, take, Option, Some, None, refl, sym, ap, ◌∙◌, arith, inr}
+use Rattle.std.proofs.Common.{◌≡◌, ℕ, ◌≤◌, ◌++◌, true, List, [], length, Option, Some, None, refl, sym, ap, ◌∙◌, arith, inr}
 use Rattle.std.specs.Prelude.{codes, nat_lt, slice_index}
 use Rattle.std.specs.Borrow.{Bor}
 use Rattle.std.specs.List.{list_all}

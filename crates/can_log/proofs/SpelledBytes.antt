@@ -70,16 +70,6 @@ the_rest_fits i digits text le =
     let both = length-append (bytes_spelled (take (16 * i) digits)) (bytes_spelled (take (length digits - 16 * i) (drop (16 * i) digits))) in
     omega (arith, both, ap (λ (bytes : List ℕ). length bytes) (the_rest i digits le), bytes_len digits text.1, text.0.few)
 
--- a part of data is data
-pub part_of_data : (from n : ℕ) (digits : List ℕ) → IsDataText 128 digits → from + n ≤ length digits → n % 2 ≡ 0 → IsDataText 128 (take n (drop from digits))
-part_of_data from n digits text le even =
-    let is_hex = λ (b : ℕ). is_ascii_hexdigit b ≡ true in
-    let all : length (take n (drop from digits)) ≡ n = length-take-le n (drop from digits) (omega (arith, length-drop from digits)) in
-    let behind = AllByRecursion-back is_hex (take from digits) (drop from digits) (subst (AllByRecursion is_hex) (sym (take-append-drop from digits)) text.0.each) in (
-      record { each = AllByRecursion-take is_hex n (drop from digits) behind; enough = omega arith; few = omega (arith, all, text.0.few) },
-      omega (arith, all),
-    )
-
 -- a part of a front that is data
 pub part_of_front : (i sixteens : ℕ) (digits : List ℕ) → IsDataText 128 (take (16 * sixteens) digits) → 16 * sixteens ≤ length digits → i < sixteens
     → IsDataText 128 (take (16 * i + 16 - 16 * i) (drop (16 * i) digits))
@@ -100,6 +90,7 @@ part_of_front i sixteens digits text room lt =
       omega (arith, long),
     )
 
+-- a front of data is data
 pub front_of_data : (n digits : ℕ) (bytes : List ℕ) → IsDataText 128 (take digits bytes) → digits ≤ length bytes → n ≤ digits → n % 2 ≡ 0
     → IsDataText 128 (take n bytes)
 front_of_data n digits bytes text room le even =
@@ -130,6 +121,7 @@ front_bytes digits bytes spelled room few text are =
     let front : take (2 * n) (take 16 bytes) ≡ take digits bytes = ap (λ (k : ℕ). take k (take 16 bytes)) twice ∙ take-take digits 16 bytes few in
     are n (omega arith) (subst (AllByRecursion (λ b. is_ascii_hexdigit b ≡ true)) (sym front) text.0.each) ∙ ap (λ (z : List ℕ). bytes_spelled z) front
 
+-- all lanes hold digits
 pub all_bytes : (digits spelled : List ℕ) → length digits ≡ 16 → length spelled ≡ 8 → AreHex digits → AreSpelledInFront (take 16 digits) spelled
     → spelled ≡ bytes_spelled digits
 all_bytes digits spelled long eight each are =
@@ -138,22 +130,23 @@ all_bytes digits spelled long eight each are =
     let all : take 16 (take 16 digits) ≡ digits = take-take 16 16 digits (omega arith) ∙ whole in
     sym same ∙ are 8 (omega arith) (subst AreHex (sym all) each) ∙ ap (λ (z : List ℕ). bytes_spelled z) all
 
--- the digits after a multiple of sixteen
-abbrev left : ℕ → ℕ
-left digits = 16 * (digits / 16)
+-- how many of the digits stand in whole sixteens
+abbrev in_sixteens : ℕ → ℕ
+in_sixteens digits = 16 * (digits / 16)
 
+-- the digits behind these
 pub last_digits : (digits : ℕ) (bytes : List ℕ) → IsDataText 128 (take digits bytes) → digits ≤ length bytes
-    → IsDataText 16 (take (digits % 16) (drop (left digits) bytes)) × (take digits bytes ≡ take (left digits) bytes ++ take (digits % 16) (drop (left digits) bytes))
+    → IsDataText 16 (take (digits % 16) (drop (in_sixteens digits) bytes)) × (take digits bytes ≡ take (in_sixteens digits) bytes ++ take (digits % 16) (drop (in_sixteens digits) bytes))
 last_digits digits bytes text room =
     let is_hex = λ (b : ℕ). is_ascii_hexdigit b ≡ true in
-    let last = take (digits % 16) (drop (left digits) bytes) in
-    let sum : left digits + digits % 16 ≡ digits = omega arith in
-    let parts : take digits bytes ≡ take (left digits) bytes ++ last = ap (λ (n : ℕ). take n bytes) (sym sum) ∙ take-add (left digits) (digits % 16) bytes in
-    let long : length last ≡ digits % 16 = length-take-le (digits % 16) (drop (left digits) bytes) (omega (arith, length-drop (left digits) bytes)) in
+    let last = take (digits % 16) (drop (in_sixteens digits) bytes) in
+    let sum : in_sixteens digits + digits % 16 ≡ digits = omega arith in
+    let parts : take digits bytes ≡ take (in_sixteens digits) bytes ++ last = ap (λ (n : ℕ). take n bytes) (sym sum) ∙ take-add (in_sixteens digits) (digits % 16) bytes in
+    let long : length last ≡ digits % 16 = length-take-le (digits % 16) (drop (in_sixteens digits) bytes) (omega (arith, length-drop (in_sixteens digits) bytes)) in
     let even : digits % 2 ≡ 0 = ap (λ (k : ℕ). k % 2) (sym (length-take-le digits bytes room)) ∙ text.1 in (
       (
         record {
-          each = AllByRecursion-back is_hex (take (left digits) bytes) last (subst (AllByRecursion is_hex) parts text.0.each);
+          each = AllByRecursion-back is_hex (take (in_sixteens digits) bytes) last (subst (AllByRecursion is_hex) parts text.0.each);
           enough = omega arith;
           few = omega (arith, long);
         },
@@ -167,14 +160,14 @@ few_digits digits bytes text room = omega (arith, length-take-le digits bytes ro
 
 -- the bytes of the first digits, and those of the last
 pub spelled_in_parts : (digits : ℕ) (bytes spelled : List ℕ) → digits + 15 ≤ length bytes → 0 < digits % 16 → IsDataText 128 (take digits bytes)
-    → AreSpelledInFront (take 16 (drop (left digits) bytes)) spelled
-    → bytes_spelled (take (left digits) bytes) ++ take (digits % 16 / 2) spelled ≡ bytes_spelled (take digits bytes)
+    → AreSpelledInFront (take 16 (drop (in_sixteens digits) bytes)) spelled
+    → bytes_spelled (take (in_sixteens digits) bytes) ++ take (digits % 16 / 2) spelled ≡ bytes_spelled (take digits bytes)
 spelled_in_parts digits bytes spelled room some text are =
     let last = last_digits digits bytes text (omega arith) in
-    let second = front_bytes (digits % 16) (drop (left digits) bytes) spelled (omega (arith, length-drop (left digits) bytes)) (omega arith) last.0 are in
-    let first : length (take (left digits) bytes) ≡ left digits = length-take-le (left digits) bytes (omega arith) in
-    ap (λ (z : List ℕ). bytes_spelled (take (left digits) bytes) ++ z) second
-    ∙ sym (spelled_append (take (left digits) bytes) (take (digits % 16) (drop (left digits) bytes)) (omega (arith, first)))
+    let second = front_bytes (digits % 16) (drop (in_sixteens digits) bytes) spelled (omega (arith, length-drop (in_sixteens digits) bytes)) (omega arith) last.0 are in
+    let first : length (take (in_sixteens digits) bytes) ≡ in_sixteens digits = length-take-le (in_sixteens digits) bytes (omega arith) in
+    ap (λ (z : List ℕ). bytes_spelled (take (in_sixteens digits) bytes) ++ z) second
+    ∙ sym (spelled_append (take (in_sixteens digits) bytes) (take (digits % 16) (drop (in_sixteens digits) bytes)) (omega (arith, first)))
     ∙ ap (λ (z : List ℕ). bytes_spelled z) (sym last.1)
 
 -- ---- what `hex` decodes

@@ -19,6 +19,7 @@ abbrev pub flags_spelled : Option (Bor (List ℕ)) → List ℕ
 flags_spelled None = []
 flags_spelled (Some flags) = codes "#" ++ flags.now
 
+-- they are one digit
 abbrev pub AreFlags : Option (Bor (List ℕ)) → Type 0
 AreFlags None = ⊤
 AreFlags (Some flags) = IsRunOf is_ascii_hexdigit 1 1 flags.now
@@ -31,7 +32,7 @@ digits_of body = take body.digits body.behind.now
 unfoldable pub body_text : PlainBody → List ℕ
 body_text body = flags_spelled body.flags ++ digits_of body
 
--- it is legal, and what else is in the lanes follows it
+-- it is legal, and as many bytes stand behind its digits as the lanes reach
 pub record IsPlainBody (body : PlainBody) : Type 0 where
   pub flags : AreFlags body.flags
   pub digits : IsDataText (most_digits body.flags) (digits_of body)

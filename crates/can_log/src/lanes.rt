@@ -9,7 +9,7 @@ ghost use Rattle.can_log.specs.declared.field.Class.TheVariants.{Visible};
 
 use std::simd::prelude::*;
 
-/// How many bytes there are at once.
+/// How many bytes are tested at once.
 pub(crate) const LANES: usize = 16;
 
 /// How many bytes at the front are visible, of sixteen: neither spaces nor control characters.

@@ -1,7 +1,7 @@
 //! Lines of plain form. In most lines of a log the fields have one width, or end where a byte of another kind follows: such a
 //! line is judged as a whole, sixteen bytes at a time, and its end is found from that of its data.
 
-ghost use Rattle.std.specs.Prelude.{◌≡◌, ◌≤◌, ◌+◌, ◌++◌, [], IfSome, IsTrue, codes, length, take};
+ghost use Rattle.std.specs.Prelude.{◌≡◌, ◌≤◌, ◌+◌, ◌++◌, [], IfSome, IsTrue, None, codes, length, take};
 ghost use Rattle.can_log.specs.Line.{stamped_of, bytes_spelled, spell_line, IsLineSpelling, IsRunOf, IsIdentifierText, IsDataText};
 ghost use Rattle.can_log.specs.FieldReader.{is_in};
 ghost use Rattle.can_log.specs.Plain.{HavePlainWidths, IsPlainBody, AreFlags, digits_of, flags_spelled, most_digits, body_text, plain_text, spelling_of};
@@ -14,11 +14,11 @@ use crate::lanes::{LANES, hex_front, hex_run, visible_front};
 use crate::meaning::{identifier_of, put_data};
 use arrayvec::ArrayVec;
 
-/// The longest line of a classic frame in plain form has 61 bytes and a line feed: a stamp of 20 bytes, 15 of the interface, a
-/// space, 8 digits of the identifier, `#`, and 16 of the data. After the data may stand what else is in the lanes.
+/// The longest line of a classic frame in plain form, and what else the lanes reach: a stamp of 20 bytes, 15 of the interface,
+/// a space, 8 digits of the identifier, `#`, 16 of the data, and a line feed.
 const ROOM_OF_CLASSIC: usize = 62 + LANES;
 
-/// The digits of the data of an FD frame, and what else is in the lanes.
+/// The most digits of data of an FD frame, and what else the lanes reach.
 const ROOM_OF_FD_DATA: usize = 128 + LANES;
 
 /// The longest name of an interface.
@@ -45,9 +45,10 @@ struct PlainBody<'a> {
     behind: &'a [u8],
 }
 
-/// The fields of the first line, if it is of plain form, and the bytes after its line feed. In plain form it is
-/// `(1700000000.000241) can0 7E0#031089D2AAAAAAAA`, with ten digits of seconds, gaps of one space, an identifier of either
-/// format and at most 8 bytes of data. `None` only says that the line has another form, or is near the end.
+/// The fields of the first line, if it is of plain form, and the bytes behind its line feed. In plain form it is
+/// `(1700000000.000241) can0 7E0#031089D2AAAAAAAA` or `(1700000000.000241) can0 7E0##1031089D2`, with ten digits of seconds,
+/// gaps of one space, and an identifier of either format. `None` says no more than that the line has another form, or that
+/// the piece ends too near for the lanes.
 #[inline(always)]
 pub(crate) fn plain_line(piece: &[u8]) -> Option<(Fields<'_>, &[u8])>
     ensures line { IfSome result (λ x. piece.now ≡ spell_line (spelling_of x.0) ++ (codes "\n" ++ x.1.now)) }
@@ -165,7 +166,7 @@ fn identifier_in_front(bytes: &[u8]) -> Option<(&[u8], &[u8])>
 #[tactic(auto, unfolding(crate::specs::Plain::body_text))]
 #[inline(always)]
 fn body_in_front(bytes: &[u8]) -> Option<(PlainBody<'_>, &[u8])>
-    requires { 16 + 15 ≤ length bytes.now }
+    requires { most_digits None + 15 ≤ length bytes.now }
     ensures parts { IfSome result (λ x. bytes.now ≡ body_text x.0 ++ (codes "\n" ++ x.1.now)) }
     ensures legal { IfSome result (λ x. IsPlainBody x.0) }
 {
@@ -185,7 +186,7 @@ fn body_in_front(bytes: &[u8]) -> Option<(PlainBody<'_>, &[u8])>
 /// `#` and the digit of the flags, where an FD frame has them, and the bytes after them.
 #[inline(always)]
 fn flags_in_front(bytes: &[u8]) -> Option<(Option<&[u8]>, &[u8])>
-    requires { 16 + 15 ≤ length bytes.now }
+    requires { most_digits None + 15 ≤ length bytes.now }
     ensures parts { IfSome result (λ x. bytes.now ≡ flags_spelled x.0 ++ x.1.now) }
     ensures flags { IfSome result (λ x. AreFlags x.0) }
     ensures room { IfSome result (λ x. most_digits x.0 + 15 ≤ length x.1.now) }
@@ -200,7 +201,7 @@ fn flags_in_front(bytes: &[u8]) -> Option<(Option<&[u8]>, &[u8])>
     Some((Some(flags), rest))
 }
 
-/// How many digits of data there are.
+/// How many digits of data there are, where two make each byte.
 #[inline(always)]
 fn digits_in_front(flags: Option<&[u8]>, bytes: &[u8]) -> Option<usize>
     requires { most_digits flags + 15 ≤ length bytes.now }

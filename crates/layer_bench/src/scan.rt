@@ -34,13 +34,15 @@ fn sum_of_piece(scanner: &mut Scanner, piece: &[u8]) -> u64 {
         if scanner.taken() > MOST_TAKEN || rest.len() as u64 > MOST_TAKEN {
             break;
         }
-        let Scan::Line { used, what, .. } = scanner.scan(rest) else {
+        // As in the program, the answer stays where the scanner made it.
+        let answer = scanner.scan(rest);
+        let Scan::Line { used, what, .. } = &answer else {
             break;
         };
         if let Some(stamped) = what {
-            sum = sum.wrapping_add(sum_of_line(&stamped));
+            sum = sum.wrapping_add(sum_of_line(stamped));
         }
-        let Some(after) = rest.get(used..) else {
+        let Some(after) = rest.get(*used..) else {
             break;
         };
         rest = after;

@@ -346,6 +346,80 @@ const REFUSED_LATER: Row = Row {
     refused: Some((3, 22)),
 };
 
+/// Lines of plain form, of each kind of frame and each length that the lanes divide in another way. The last ones stand
+/// there for those before them.
+const PLAIN: Row = Row {
+    log: "(1700000000.000241) can0 7E0#031089D2AAAAAAAA\n\
+          (0000000001.999999) vcan12345678901 18DA00F1#0a1B\n\
+          (1700000000.000723) ~ 000#\n\
+          (9999999999.000000) can0 FfFfFfFf#0123456789aBcD\n\
+          (1700000000.000964) can0 7E8##10c62F19041\n\
+          (1700000000.001205) can0 7ff##F0104070A0D101316191C1F2225282B2E3134373A3D404346494C4F5255585B5E6164676A6D707376797C7F8285888B8E9194979A9DA0A3A6A9ACAFB2B5B8BBBE\n\
+          (1700000000.001446) can0 00000000##002070c11161b20252a2f34393e43484d52575c61666b70757a7f84898e93989da2a7acb1b6bbc0c5cacfd4d9dee3e8ed\n\
+          (1700000000.001687) can0 7E8##3\n\
+          (1700000000.001928) can0 7E0#30\n\
+          (1700000000.002169) can0 7E8##200000000000000000000000000000000000000000000000000000000000000000000000000000000000000000000000000000000000000000000000000000000\n",
+    lines: &[
+        Some((
+            1_700_000_000_000_241,
+            Id::Std(0x7E0),
+            Kind::Classic,
+            &[0x03, 0x10, 0x89, 0xD2, 0xAA, 0xAA, 0xAA, 0xAA],
+        )),
+        Some((
+            1_999_999,
+            Id::Ext(0x18DA_00F1),
+            Kind::Classic,
+            &[0x0A, 0x1B],
+        )),
+        Some((1_700_000_000_000_723, Id::Std(0), Kind::Classic, &[])),
+        Some((
+            9_999_999_999_000_000,
+            Id::Ext(0xFFFF_FFFF),
+            Kind::Classic,
+            &[0x01, 0x23, 0x45, 0x67, 0x89, 0xAB, 0xCD],
+        )),
+        Some((
+            1_700_000_000_000_964,
+            Id::Std(0x7E8),
+            Kind::Fd,
+            &[0x0C, 0x62, 0xF1, 0x90, 0x41],
+        )),
+        Some((
+            1_700_000_000_001_205,
+            Id::Std(0x7FF),
+            Kind::Fd,
+            &[
+                0x01, 0x04, 0x07, 0x0A, 0x0D, 0x10, 0x13, 0x16, 0x19, 0x1C, 0x1F, 0x22, 0x25, 0x28,
+                0x2B, 0x2E, 0x31, 0x34, 0x37, 0x3A, 0x3D, 0x40, 0x43, 0x46, 0x49, 0x4C, 0x4F, 0x52,
+                0x55, 0x58, 0x5B, 0x5E, 0x61, 0x64, 0x67, 0x6A, 0x6D, 0x70, 0x73, 0x76, 0x79, 0x7C,
+                0x7F, 0x82, 0x85, 0x88, 0x8B, 0x8E, 0x91, 0x94, 0x97, 0x9A, 0x9D, 0xA0, 0xA3, 0xA6,
+                0xA9, 0xAC, 0xAF, 0xB2, 0xB5, 0xB8, 0xBB, 0xBE,
+            ],
+        )),
+        Some((
+            1_700_000_000_001_446,
+            Id::Ext(0),
+            Kind::Fd,
+            &[
+                0x02, 0x07, 0x0C, 0x11, 0x16, 0x1B, 0x20, 0x25, 0x2A, 0x2F, 0x34, 0x39, 0x3E, 0x43,
+                0x48, 0x4D, 0x52, 0x57, 0x5C, 0x61, 0x66, 0x6B, 0x70, 0x75, 0x7A, 0x7F, 0x84, 0x89,
+                0x8E, 0x93, 0x98, 0x9D, 0xA2, 0xA7, 0xAC, 0xB1, 0xB6, 0xBB, 0xC0, 0xC5, 0xCA, 0xCF,
+                0xD4, 0xD9, 0xDE, 0xE3, 0xE8, 0xED,
+            ],
+        )),
+        Some((1_700_000_000_001_687, Id::Std(0x7E8), Kind::Fd, &[])),
+        Some((
+            1_700_000_000_001_928,
+            Id::Std(0x7E0),
+            Kind::Classic,
+            &[0x30],
+        )),
+        Some((1_700_000_000_002_169, Id::Std(0x7E8), Kind::Fd, &[0; 64])),
+    ],
+    refused: None,
+};
+
 #[test]
 fn legal_lines_are_read_however_they_are_cut(rt: HostRuntime) {
     for row in LEGAL {
@@ -372,19 +446,43 @@ fn a_session_is_read_however_it_is_cut(rt: HostRuntime) {
 }
 
 #[test]
+fn lines_of_plain_form_mean_what_they_spell(rt: HostRuntime) {
+    read_each_way(&rt, &PLAIN);
+}
+
+// Behind each line stands another, since a line near the end of a piece is not read as one of plain form.
+#[test]
 fn each_byte_of_a_plain_line_is_looked_at(rt: HostRuntime) {
-    let mut line = *b"(1700000000.000241) can0 7E0#031089D2AAAAAAAA\n";
+    let mut log =
+        *b"(1700000000.000241) can0 7E0#031089D2AAAAAAAA\n(1700000000.000482) can0 7E8#0310A1\n";
     for at in 0..45 {
-        let byte = line[at];
-        line[at] = 1;
+        let byte = log[at];
+        log[at] = 1;
         let place = Scan::Bad {
             line: 1,
             column: at as u32 + 1,
         };
-        assert_eq!(rt; Scanner::new().scan(&line), place);
-        line[at] = byte;
+        assert_eq!(rt; Scanner::new().scan(&log), place);
+        log[at] = byte;
     }
-    assert!(rt; matches!(Scanner::new().scan(&line), Scan::Line { used: 46, .. }));
+    assert!(rt; matches!(Scanner::new().scan(&log), Scan::Line { used: 46, .. }));
+}
+
+#[test]
+fn each_byte_of_a_plain_fd_line_is_looked_at(rt: HostRuntime) {
+    let mut log =
+        *b"(1700000000.000241) can0 18DA00F1##1101489D2AAAAAAAA\n(1700000000.000482) can0 7E8##1                                                                                                                                        ";
+    for at in 0..52 {
+        let byte = log[at];
+        log[at] = 1;
+        let place = Scan::Bad {
+            line: 1,
+            column: at as u32 + 1,
+        };
+        assert_eq!(rt; Scanner::new().scan(&log), place);
+        log[at] = byte;
+    }
+    assert!(rt; matches!(Scanner::new().scan(&log), Scan::Line { used: 53, .. }));
 }
 
 #[test]

@@ -1,4 +1,4 @@
-use Rattle.std.proofs.Common.{◌≡◌, ◌≤◌, ◌*◌, ◌/◌, length, ◌∙◌, arith}
+use Rattle.std.proofs.Common.{◌≤◌, ◌*◌, ◌/◌, length, ◌∙◌, arith}
 use Rattle.can_log.proofs.Results.{from_ok}
 use Rattle.can_log.proofs.SpelledBytes.{the_rest, the_rest_fits}
 use Rattle.can_log.proofs.meaning.data_of.Goals as goal

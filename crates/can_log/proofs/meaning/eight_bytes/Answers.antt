@@ -1,5 +1,4 @@
-use Rattle.std.proofs.Common.{◌≡◌, length, take, sym, ap, List, ℕ, ◌∙◌, arith}
-use Rattle.std.proofs.Math.Seq.{take-length}
+use Rattle.std.proofs.Common.{arith}
 use Rattle.can_log.proofs.SpelledBytes.{all_bytes}
 use Rattle.can_log.proofs.meaning.eight_bytes.Goals as goal
 
