@@ -1,18 +1,18 @@
 -- The messages of a log held as what they mean, one more frame at a time.
-use Rattle.std.proofs.Common.{◌≡◌, ℕ, List, [], ◌∷◌, ◌++◌, refl, ap, sym, ◌∙◌, None, append-nil, ◌⊎◌, inl, inr}
+use Rattle.std.proofs.Common.{◌≡◌, ℕ, List, [], ◌∷◌, ◌++◌, refl, ap, sym, ◌∙◌, None, append-nil, ◌⊎◌}
 use Rattle.can_log.specs.Dir.{Message}
 use Rattle.can_log.specs.declared.frame.Dir.{Dir}
 use Rattle.isotp_receive.specs.declared.TheConstants.{MESSAGE_LIMIT}
 use Rattle.isotp_receive.specs.declared.event.Event.{Event}
 use Rattle.isotp_receive.specs.declared.event.Verdict.TheVariants as as_verdict
-use Rattle.isotp_receive.specs.EventSeen.{seen_event, seen_verdict}
+use Rattle.isotp_receive.specs.EventSeen.{seen_event}
 use Rattle.isotp_receive.specs.Trace.{Entry}
-use Rattle.isotp_receive.specs.Verdict.{VerdictValue, message, began, stored, flowed, messages, told_message, verdict}
+use Rattle.isotp_receive.specs.Verdict.{VerdictValue, message, messages, told_message, verdict}
 use Rattle.uds_exchange.specs.Meaning.{ItemValue, meaning}
 use Rattle.trace_canon.specs.Ordering.{AnnouncesWithin}
 use Rattle.trace_canon.specs.Holding.{Holds}
 use Rattle.trace_canon.proofs.OneMoreFrame.{messages_more}
-use Rattle.trace_canon.proofs.Orderings.{told_by, announces, each_more, message_next}
+use Rattle.trace_canon.proofs.Orderings.{announces, each_more, message_next, idle_is_quiet}
 
 -- a frame that completes no message and announces none above the limit
 pub holds_quiet : (items : List ItemValue) (T : List Entry) (e : Entry) (told : VerdictValue) → (verdict MESSAGE_LIMIT T e).told ≡ told
@@ -27,15 +27,9 @@ holds_quiet items T e told is none within holds = record {
 pub holds_idle : (event : Event) (items : List ItemValue) (T : List Entry) (e : Entry)
     → (event.verdict ≡ as_verdict.Began) ⊎ ((event.verdict ≡ as_verdict.Stored) ⊎ (event.verdict ≡ as_verdict.Flow))
     → seen_event event ≡ verdict MESSAGE_LIMIT T e → Holds T items → Holds (T ++ e ∷ []) items
-holds_idle event items T e (inl is) seen holds =
-    let told = told_by event T e began (ap seen_verdict is) seen in
-    holds_quiet items T e began told refl (announces T e began None told refl) holds
-holds_idle event items T e (inr (inl is)) seen holds =
-    let told = told_by event T e stored (ap seen_verdict is) seen in
-    holds_quiet items T e stored told refl (announces T e stored None told refl) holds
-holds_idle event items T e (inr (inr is)) seen holds =
-    let told = told_by event T e flowed (ap seen_verdict is) seen in
-    holds_quiet items T e flowed told refl (announces T e flowed None told refl) holds
+holds_idle event items T e idle seen holds =
+    let quiet = idle_is_quiet event T e idle seen in
+    holds_quiet items T e quiet.told quiet.is quiet.none quiet.within holds
 
 -- a frame that completes a message
 pub holds_message : (old new : List ItemValue) (T : List Entry) (e : Entry) (d : Dir) (bytes : List ℕ) → e.dir ≡ d

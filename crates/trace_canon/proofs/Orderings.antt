@@ -41,6 +41,26 @@ announces_dropped T e r o is by = announces T e (dropped r) o is by
 pub announces_kept : (T : List Entry) (e : Entry) → IsKept (verdict MESSAGE_LIMIT T e).told → AnnouncesWithin e
 announces_kept T e kept = kept_is_within MESSAGE_LIMIT T e kept
 
+-- the frame completes no message, and announces none above the limit
+pub record IsQuiet (T : List Entry) (e : Entry) : Type 0 where
+  pub told : VerdictValue
+  pub is : (verdict MESSAGE_LIMIT T e).told ≡ told
+  pub none : told_message e.dir told ≡ []
+  pub within : AnnouncesWithin e
+
+-- so does one that began a reception, was stored, or was flow control
+pub idle_is_quiet : (event : Event) (T : List Entry) (e : Entry)
+    → (event.verdict ≡ as_verdict.Began) ⊎ ((event.verdict ≡ as_verdict.Stored) ⊎ (event.verdict ≡ as_verdict.Flow))
+    → seen_event event ≡ verdict MESSAGE_LIMIT T e → IsQuiet T e
+idle_is_quiet event T e idle seen = elim idle [
+  | inl is ↦ quiet_as began refl refl (told_by event T e began (ap seen_verdict is) seen)
+  | inr (inl is) ↦ quiet_as stored refl refl (told_by event T e stored (ap seen_verdict is) seen)
+  | inr (inr is) ↦ quiet_as flowed refl refl (told_by event T e flowed (ap seen_verdict is) seen)
+]
+  where
+    quiet_as : (told : VerdictValue) → told_message e.dir told ≡ [] → too_long_in told ≡ None → (verdict MESSAGE_LIMIT T e).told ≡ told → IsQuiet T e
+    quiet_as told none short is = record { told = told; is = is; none = none; within = announces T e told None is short }
+
 pub each_more : (T : List Entry) (e : Entry) → AllByRecursion AnnouncesWithin T → AnnouncesWithin e → AllByRecursion AnnouncesWithin (T ++ e ∷ [])
 each_more T e each one = AllByRecursion-append AnnouncesWithin T (e ∷ []) each (one, tt)
 
@@ -72,15 +92,9 @@ module _ (Told ToldNow : Type 0) (first : Writer) (now : Writer) where
   pub orders_idle : (event : Event) (orderer : OrdererValue) (T : List Entry) (e : Entry)
       → (event.verdict ≡ as_verdict.Began) ⊎ ((event.verdict ≡ as_verdict.Stored) ⊎ (event.verdict ≡ as_verdict.Flow))
       → seen_event event ≡ verdict MESSAGE_LIMIT T e → Orders Told ToldNow first T orderer now → Orders Told ToldNow first (T ++ e ∷ []) orderer now
-  orders_idle event orderer T e (inl is) seen orders =
-      let told = told_by event T e began (ap seen_verdict is) seen in
-      orders_quiet orderer T e began told refl (announces T e began None told refl) orders
-  orders_idle event orderer T e (inr (inl is)) seen orders =
-      let told = told_by event T e stored (ap seen_verdict is) seen in
-      orders_quiet orderer T e stored told refl (announces T e stored None told refl) orders
-  orders_idle event orderer T e (inr (inr is)) seen orders =
-      let told = told_by event T e flowed (ap seen_verdict is) seen in
-      orders_quiet orderer T e flowed told refl (announces T e flowed None told refl) orders
+  orders_idle event orderer T e idle seen orders =
+      let quiet = idle_is_quiet event T e idle seen in
+      orders_quiet orderer T e quiet.told quiet.is quiet.none quiet.within orders
 
 module _ (Told ToldBefore ToldNow : Type 0) (first before now : Writer) (T : List Entry) (e : Entry) (d : Dir) (bytes : List ℕ) (same : e.dir ≡ d)
     (is : (verdict MESSAGE_LIMIT T e).told ≡ message bytes) where
