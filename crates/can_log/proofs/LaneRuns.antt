@@ -46,7 +46,7 @@ run_in_front q bytes r z room fits found f lanes all =
 
 -- ---- more loads
 
--- the run of one load, behind so many digits
+-- the run of one load, after some digits
 pub hex_more : (at more : ℕ) (bytes : List ℕ) → AreHex (take at bytes) → IsFrontOf is_ascii_hexdigit more (take (length bytes - at) (drop at bytes))
     → AreHex (take (at + more) bytes)
 hex_more at more bytes front next =

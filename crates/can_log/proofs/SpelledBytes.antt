@@ -134,7 +134,7 @@ all_bytes digits spelled long eight each are =
 abbrev in_sixteens : ℕ → ℕ
 in_sixteens digits = 16 * (digits / 16)
 
--- the digits behind these
+-- the digits after these
 pub last_digits : (digits : ℕ) (bytes : List ℕ) → IsDataText 128 (take digits bytes) → digits ≤ length bytes
     → IsDataText 16 (take (digits % 16) (drop (in_sixteens digits) bytes)) × (take digits bytes ≡ take (in_sixteens digits) bytes ++ take (digits % 16) (drop (in_sixteens digits) bytes))
 last_digits digits bytes text room =

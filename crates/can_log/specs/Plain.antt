@@ -32,7 +32,7 @@ digits_of body = take body.digits body.behind.now
 unfoldable pub body_text : PlainBody → List ℕ
 body_text body = flags_spelled body.flags ++ digits_of body
 
--- it is legal, and as many bytes stand behind its digits as the lanes reach
+-- it is legal, and as many bytes stand after its digits as the lanes reach
 pub record IsPlainBody (body : PlainBody) : Type 0 where
   pub flags : AreFlags body.flags
   pub digits : IsDataText (most_digits body.flags) (digits_of body)

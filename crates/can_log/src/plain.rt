@@ -45,7 +45,7 @@ struct PlainBody<'a> {
     behind: &'a [u8],
 }
 
-/// The fields of the first line, if it is of plain form, and the bytes behind its line feed. In plain form it is
+/// The fields of the first line, if it is of plain form, and the bytes after its line feed. In plain form it is
 /// `(1700000000.000241) can0 7E0#031089D2AAAAAAAA` or `(1700000000.000241) can0 7E0##1031089D2`, with ten digits of seconds,
 /// gaps of one space, and an identifier of either format. `None` says no more than that the line has another form, or that
 /// the piece ends too near for the lanes.

@@ -450,7 +450,7 @@ fn lines_of_plain_form_mean_what_they_spell(rt: HostRuntime) {
     read_each_way(&rt, &PLAIN);
 }
 
-// Behind each line stands another, since a line near the end of a piece is not read as one of plain form.
+// After each line stands another, since a line near the end of a piece is not read as one of plain form.
 #[test]
 fn each_byte_of_a_plain_line_is_looked_at(rt: HostRuntime) {
     let mut log =
