@@ -10,13 +10,13 @@ use Rattle.clap.specs.declared.builder.value_parser.ValueParser.TheVariants.{Uns
 abbrev pub option : Text → Text → Rule
 option name default = record (new_rule name) { long = Some name; value_names = 1; defaults = default ∷ [] }
 
--- the options that every command takes; that of the limit is a number of 64 bits
+-- the option of the limit, a number of 64 bits
+abbrev pub limit : Rule
+limit = record (option (codes "limit") (codes "1073741824")) { parser = Some (Unsigned 0 18446744073709551615) }
+
+-- the options that every command takes
 abbrev pub options : List Rule
-options =
-    option (codes "tester") (codes "7E0")
-    ∷ option (codes "unit") (codes "7E8")
-    ∷ record (option (codes "limit") (codes "1073741824")) { parser = Some (Unsigned 0 18446744073709551615) }
-    ∷ []
+options = option (codes "tester") (codes "7E0") ∷ option (codes "unit") (codes "7E8") ∷ limit ∷ []
 
 -- a command with these files
 abbrev pub with_files : Text → List Rule → Shape

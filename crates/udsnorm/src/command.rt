@@ -2,7 +2,7 @@
 
 ghost use Rattle.std.specs.Prelude.{◌≡◌, [], codes, false, IfOk};
 ghost use Rattle.clap.specs.Words.{app_of, new_rule, rule_of};
-ghost use Rattle.udsnorm.specs.Commands.{commands, required, with_files};
+ghost use Rattle.udsnorm.specs.Commands.{commands, limit, option, required, with_files};
 
 use clap::{Arg, Command, value_parser};
 use std::alloc::{AllocError, Global};
@@ -133,28 +133,44 @@ fn with_options<'a>(
     Command::new(alloc, name)
         .about(about)
         .after_help(after_help)
-        .arg(
-            Arg::new(alloc, TESTER)
-                .long(TESTER)
-                .value_name("ID")
-                .help("Identifier of the tester, 3 or 8 hexadecimal digits")
-                .default_value("7E0"),
-        )?
-        .arg(
-            Arg::new(alloc, UNIT)
-                .long(UNIT)
-                .value_name("ID")
-                .help("Identifier of the control unit, 3 or 8 hexadecimal digits")
-                .default_value("7E8"),
-        )?
-        .arg(
-            Arg::new(alloc, LIMIT)
-                .long(LIMIT)
-                .value_name("BYTES")
-                .help("Most bytes of a log and its canonical log, up to 2^40")
-                .value_parser(value_parser!(u64))
-                .default_value("1073741824"),
-        )
+        .arg(identifier(
+            alloc,
+            TESTER,
+            "7E0",
+            "Identifier of the tester, 3 or 8 hexadecimal digits",
+        ))?
+        .arg(identifier(
+            alloc,
+            UNIT,
+            "7E8",
+            "Identifier of the control unit, 3 or 8 hexadecimal digits",
+        ))?
+        .arg(limit(alloc))
+}
+
+/// The option of an identifier.
+fn identifier<'a>(alloc: Global, name: &'a str, default: &'a str, help: &'a str) -> Arg<'a>
+    ensures rule { rule_of result ≡ option name.entry.now default.entry.now }
+    ensures local { result.global ≡ false }
+{
+    Arg::new(alloc, name)
+        .long(name)
+        .value_name("ID")
+        .help(help)
+        .default_value(default)
+}
+
+/// The option of the limit.
+fn limit<'a>(alloc: Global) -> Arg<'a>
+    ensures rule { rule_of result ≡ limit }
+    ensures local { result.global ≡ false }
+{
+    Arg::new(alloc, LIMIT)
+        .long(LIMIT)
+        .value_name("BYTES")
+        .help("Most bytes of a log and its canonical log, up to 2^40")
+        .value_parser(value_parser!(u64))
+        .default_value("1073741824")
 }
 
 /// The log to read.
