@@ -208,6 +208,41 @@ fn a_writer_that_is_full_after_so_many_bytes(rt: HostRuntime) -> Result<(), Fail
 }
 
 #[test]
+fn a_list_that_does_not_fit_its_target(rt: HostRuntime) -> Result<(), Fail> {
+    let config = Config::new(Id::Std(0x7E0), Id::Std(0x7E8), GIBIBYTE)?;
+    let mut reader = Reading::new(b"(1.000000) can0 7E0#023E80\n".as_slice());
+    let mut writer = Writing::new(FullAfter {
+        inner: Vec::new(rt.alloc()),
+        room: 7,
+    });
+    let answer = list(rt.alloc(), &config, &mut reader, &mut writer);
+    assert_eq!(rt; answer, Err(Fault::Write));
+    assert_eq!(rt; writer.failures(), 1);
+    let FullAfter { inner, .. } = writer.into_inner();
+    assert_eq!(rt; inner.as_slice(), b"1 stray".as_slice());
+    Ok(())
+}
+
+#[test]
+fn an_explanation_that_does_not_fit_its_target(rt: HostRuntime) -> Result<(), Fail> {
+    let log = b"(1.000000) can0 7E8#40\n(1.000000) can0 7E8#40\n".as_slice();
+    let config = Config::new(Id::Std(0x7E0), Id::Std(0x7E8), GIBIBYTE)?;
+    let mut reader = Reading::new(log);
+    let mut writer = Writing::new(FullAfter {
+        inner: Vec::new(rt.alloc()),
+        room: 50,
+    });
+    let answer = explain(rt.alloc(), &config, &mut reader, &mut writer);
+    assert_eq!(rt; answer, Err(Fault::Write));
+    assert_eq!(rt; writer.failures(), 1);
+    assert_eq!(rt;
+        writer.into_inner().inner.as_slice(),
+        b"line 1: unit frame dropped: unknown kind\nline 2: u".as_slice()
+    );
+    Ok(())
+}
+
+#[test]
 fn a_log_in_the_middle_of_which_writing_fails(rt: HostRuntime) -> Result<(), Fail> {
     let alloc = rt.alloc();
     let session = log_of(alloc, &VIN_LINES)?;

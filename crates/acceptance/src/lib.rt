@@ -23,6 +23,8 @@ mod devices;
 #[cfg(test)]
 mod examples;
 #[cfg(test)]
+mod identifiers;
+#[cfg(test)]
 mod limits;
 #[cfg(test)]
 mod receptions;

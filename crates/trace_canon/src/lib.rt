@@ -49,8 +49,6 @@ mod place;
 mod receiver;
 mod summary;
 mod summing;
-#[cfg(test)]
-mod tests;
 mod writer;
 
 pub use comparing::{Comparison, compare};

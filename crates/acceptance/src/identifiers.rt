@@ -1,11 +1,10 @@
 //! Extended identifiers, and identifiers of both formats in one log.
 
-use crate::{Config, ConfigFault, Fault, Summary, list, normalise};
+use crate::run::GIBIBYTE;
 use can_log::Id;
 use std::test::Fail;
+use trace_canon::{Config, ConfigFault, Fault, Summary, list, normalise};
 use trace_io::{Reading, Writing};
-
-const GIBIBYTE: u64 = 1 << 30;
 
 const BASE_TESTER: Id = Id::Std(0x7E0);
 
