@@ -8,7 +8,7 @@ use Rattle.std.proofs.lemmas.List.{append-nil}
 use Rattle.can_log.specs.Line.{Body, classic, remote, fd, IsBody, LineSpelling, Parts, parts_in, stamped_of, spell_line, IsLineText, LineMeans}
 use Rattle.can_log.specs.declared.frame.Stamped.{Stamped}
 use Rattle.can_log.specs.Refused.{HasCompletion, HasNoCompletion}
-use Rattle.can_log.specs.Judging.{IsFirstRefused}
+use Rattle.can_log.specs.Judging.{IsRefusedFrom}
 use Rattle.can_log.specs.FieldReader.{short, refused, FieldRead, Reader, byte_at, and_then, done, either}
 use Rattle.can_log.specs.LineReader.{stamp_at, place_at, identifier_at, body_at, mark_at, end_at, frame_at, opened_at, blank_at, line_at}
 use Rattle.can_log.specs.LineReader.{meaning_by, AreParts, AreLineParts, FitsBody}
@@ -195,7 +195,7 @@ open_becomes bytes (Err (refused rest)) e h = absurd h
 -- ---- what is refused
 
 -- A byte that is refused is the first that no line has there.
-pub refused_first : (bytes rest : List ℕ) → line_at bytes ≡ Err (refused rest) → IsFirstRefused bytes rest
+pub refused_first : (bytes rest : List ℕ) → line_at bytes ≡ Err (refused rest) → IsRefusedFrom bytes rest
 refused_first bytes rest e =
     let r = line_law.refuses bytes rest e in
     record {

@@ -1,6 +1,6 @@
 //! Lines out of the pieces of a log.
 
-ghost use Rattle.std.specs.Prelude.{◌≡◌, ◌≤◌, ◌+◌, ◌^◌, ◌++◌, None, Some, ◌<◌, IfOk, IfErr, IfNone, IfSome, codes, length, take};
+ghost use Rattle.std.specs.Prelude.{◌≡◌, ◌≤◌, ◌+◌, ◌^◌, ◌++◌, Some, ◌<◌, IfOk, IfErr, IfNone, IfSome, codes, length, take};
 ghost use Rattle.can_log.specs.Line.{LineMeans};
 ghost use Rattle.can_log.specs.Refused.{NoLineFeed, HasCompletion, IsRefusedPlace};
 ghost use Rattle.can_log.specs.Judging.{Judged};
