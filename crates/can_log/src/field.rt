@@ -44,7 +44,7 @@ impl Class {
             Class::Digit => b.is_ascii_digit(),
             Class::Hex => is_hex_digit(b),
             Class::Space => b == b' ',
-            Class::Visible => b >= 33 && b <= 126,
+            Class::Visible => b >= b'!' && b <= b'~',
             Class::UpToEight => b >= b'0' && b <= b'8',
             Class::AboveEight => {
                 b == b'9' || (b >= b'A' && b <= b'F') || (b >= b'a' && b <= b'f')
