@@ -14,7 +14,7 @@ use Rattle.can_log.specs.LineReader.{classic_at, remote_at, fd_at, body_at, gap_
 use Rattle.can_log.proofs.EachElement.{AllByRecursion-front}
 use Rattle.can_log.proofs.FirstBytes.{Follows, Misses, Starts, AnyByte, any_follows, follows_weaker, follows_first, starts_append, starts_misses}
 use Rattle.can_log.proofs.FieldLaws.{CanEnd, Law, Then, then_of, then_head, then_begins, then_law, Either, either_law}
-use Rattle.can_log.proofs.RunLaws.{OneByte, byte_law, IsRun, AllIn, NotIn, all_more, run_law, exact_law, run_shorts, run_takes}
+use Rattle.can_log.proofs.RunLaws.{OneByte, byte_law, behind_byte, IsRun, AllIn, NotIn, all_more, run_law, exact_law, run_shorts, run_takes}
 use Rattle.can_log.proofs.RunLaws.{byte_begins, then_starts, run_begins, run_head, run_starts, apart_from, is_not}
 use Rattle.can_log.proofs.SmallFields.{weaken, Giving, giving_law, giving_begins, Only, only_law, only_short, Done, done_law, Never, IsEnd, end_law}
 
@@ -60,10 +60,7 @@ micros_law seconds =
     })
 
 point_law : (seconds : List ℕ) → Law (point_at seconds) (PointForm seconds) AnyByte 8
-point_law seconds = then_law (byte_law (code ".")) (λ _. micros_law seconds) 7 8 (omega arith) (omega arith) (record {
-  follows = λ v w text rest form after. any_follows (text ++ rest);
-  begins = λ _. micros_begins seconds;
-})
+point_law seconds = behind_byte (code ".") (micros_law seconds) (micros_begins seconds) 8 (omega arith) (omega arith)
 
 stamp_law : Law stamp_at StampForm AnyByte 9
 stamp_law = then_law (run_law Digit 1 10 (code "0") refl (omega arith)) point_law 8 9 (omega arith) (omega arith) (record {
@@ -222,10 +219,9 @@ Dlc true = Either RawDigit (Done None)
 Dlc false = Done None
 
 raw_digit_law : Law raw_digit_at RawDigit AnyByte 2
-raw_digit_law = then_law (byte_law (code "_")) (λ _. giving_law Some (exact_law AboveEight 1 (code "9") refl)) 1 2 (omega arith) (omega arith) (record {
-  follows = λ v w text rest form after. any_follows (text ++ rest);
-  begins = λ _. giving_begins Some (run_begins AboveEight 1 1 (code "9") refl (omega arith));
-})
+raw_digit_law =
+    let begins = giving_begins Some (run_begins AboveEight 1 1 (code "9") refl (omega arith)) in
+    behind_byte (code "_") (giving_law Some (exact_law AboveEight 1 (code "9") refl)) begins 2 (omega arith) (omega arith)
 
 no_dlc_law : (most : ℕ) → Law (raw_dlc_at false) (Dlc false) AfterFrame most
 no_dlc_law most = weaken AfterFrame most (done_law None) (λ b h. tt) (omega arith)
@@ -295,10 +291,7 @@ length_law =
     })
 
 remote_law : Law remote_at RemoteForm AfterFrame 2
-remote_law = then_law (byte_law (code "R")) (λ _. length_law) 0 2 (omega arith) (omega arith) (record {
-  follows = λ v w text rest form after. any_follows (text ++ rest);
-  begins = λ _. length_begins;
-})
+remote_law = behind_byte (code "R") length_law length_begins 2 (omega arith) (omega arith)
 
 abbrev flags_at : Reader Body
 flags_at = do
@@ -324,10 +317,7 @@ flags_law =
     })
 
 fd_law : Law fd_at FdForm AfterFrame 2
-fd_law = then_law (byte_law (code "#")) (λ _. flags_law) 1 2 (omega arith) (omega arith) (record {
-  follows = λ v w text rest form after. any_follows (text ++ rest);
-  begins = λ _. flags_begins;
-})
+fd_law = behind_byte (code "#") flags_law flags_begins 2 (omega arith) (omega arith)
 
 abbrev pub BodyForm : Body → List ℕ → Type 0
 BodyForm = Either RemoteForm (Either FdForm ClassicForm)
@@ -474,10 +464,7 @@ abbrev pub HashOn : Stamp → List ℕ → Parts → List ℕ → Type 0
 HashOn time identifier = Then (OneByte (code "#")) (λ _. BodyOn time identifier)
 
 hash_on_law : (time : Stamp) (identifier : List ℕ) → Law (hash_on_at time identifier) (HashOn time identifier) Never 2
-hash_on_law time identifier = then_law (byte_law (code "#")) (λ _. body_on_law time identifier) 0 2 (omega arith) (omega arith) (record {
-  follows = λ v w text rest form after. any_follows (text ++ rest);
-  begins = λ _. body_on_begins time identifier;
-})
+hash_on_law time identifier = behind_byte (code "#") (body_on_law time identifier) (body_on_begins time identifier) 2 (omega arith) (omega arith)
 
 hash_on_begins : (time : Stamp) (identifier : List ℕ) → CanEnd (HashOn time identifier) 1 []
 hash_on_begins time identifier = then_begins (byte_begins (code "#")) (λ _. body_on_begins time identifier) 1 (omega arith)

@@ -13,10 +13,10 @@ use Rattle.can_log.specs.FieldReader.{short, refused, FieldRead, Reader, byte_at
 use Rattle.can_log.specs.LineReader.{stamp_at, place_at, identifier_at, body_at, mark_at, end_at, frame_at, opened_at, blank_at, line_at}
 use Rattle.can_log.specs.LineReader.{meaning_by, AreParts, AreLineParts, FitsBody}
 use Rattle.can_log.proofs.Lists.{parts_more}
-use Rattle.can_log.proofs.FirstBytes.{Starts, Misses, any_follows}
+use Rattle.can_log.proofs.FirstBytes.{Starts, Misses}
 use Rattle.can_log.proofs.Results.{read_on-ok, value_is, rest_is}
-use Rattle.can_log.proofs.FieldLaws.{IsOpen, CanEnd, can_end_as, Law, Then, then_of, then_is, then_law, Either, which, either_law}
-use Rattle.can_log.proofs.RunLaws.{OneByte, byte_law, byte_is, then_starts}
+use Rattle.can_log.proofs.FieldLaws.{IsOpen, CanEnd, can_end_as, Law, Then, then_of, then_is, Either, which, either_law}
+use Rattle.can_log.proofs.RunLaws.{OneByte, behind_byte, byte_is, then_starts}
 use Rattle.can_log.proofs.SmallFields.{Never, IsEnd, end_law, giving, Giving, giving_law, giving_begins, giving_failed, end_done}
 use Rattle.can_log.proofs.LineFields.{FrameForm, frame_law, frame_begins}
 use Rattle.can_log.proofs.Spelling.{line_to, line_from}
@@ -33,10 +33,7 @@ abbrev LineForm : Option Parts → List ℕ → Type 0
 LineForm = Either Opened Blank
 
 opened_law : Law opened_at Opened Never 17
-opened_law = then_law (byte_law (code "(")) (λ _. giving_law Some frame_law) 16 17 (omega arith) (omega arith) (record {
-  follows = λ v w text rest form after. any_follows (text ++ rest);
-  begins = λ _. giving_begins Some frame_begins;
-})
+opened_law = behind_byte (code "(") (giving_law Some frame_law) (giving_begins Some frame_begins) 17 (omega arith) (omega arith)
 
 blank_law : Law blank_at Blank Never 0
 blank_law = giving_law (λ _. None) end_law

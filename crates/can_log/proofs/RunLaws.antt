@@ -1,16 +1,16 @@
 -- The law of one byte, and of a run of bytes.
-use Rattle.std.proofs.Common.{◌≡◌, ℕ, zero, suc, ◌-◌, ◌<◌, ◌≤◌, Bool, true, false, cond, ltb, refl, sym, ap, subst, ◌∙◌, arith, inl, inr}
+use Rattle.std.proofs.Common.{◌≡◌, ℕ, zero, suc, ◌+◌, ◌-◌, ◌<◌, ◌≤◌, Bool, true, false, cond, ltb, refl, sym, ap, subst, ◌∙◌, arith, inl, inr}
 use Rattle.std.proofs.Common.{List, [], ◌∷◌, ◌++◌, length, length-append, Ok, Err}
 use Rattle.std.specs.Prelude.{◌≢◌, ◌==◌, replicate}
 use Rattle.std.specs.List.{AllByRecursion}
 use Rattle.std.proofs.lemmas.Bool.{cases_Bool, cases_eq, cases_lt, eqb-true, eq-eqb, ne_eqb, le-ltb, lt-ltb}
 use Rattle.std.proofs.lemmas.List.{append-nil, take_at, drop_at, length-replicate}
 use Rattle.can_log.specs.declared.field.Class.{Class}
-use Rattle.can_log.specs.FieldReader.{short, refused, FieldRead, is_in, stop_at, run_length, run_at, byte_at}
+use Rattle.can_log.specs.FieldReader.{short, refused, FieldRead, Reader, ◌>>◌, is_in, stop_at, run_length, run_at, byte_at}
 use Rattle.can_log.proofs.EachElement.{AllByRecursion-append, AllByRecursion-replicate}
-use Rattle.can_log.proofs.FirstBytes.{Follows, Starts, AnyByte, follows_first, starts_first}
+use Rattle.can_log.proofs.FirstBytes.{Follows, Starts, AnyByte, any_follows, follows_first, starts_first}
 use Rattle.can_log.proofs.Results.{ok_is, rest_is, refused_is}
-use Rattle.can_log.proofs.FieldLaws.{Takes, Refuses, CanEnd, Law, Then}
+use Rattle.can_log.proofs.FieldLaws.{Takes, Refuses, CanEnd, Law, Then, then_law}
 use Rattle.can_log.proofs.Runs.{run_length-done, run_length-nil, run_length-in, run_length-out}
 
 -- ---- one byte
@@ -68,6 +68,19 @@ byte_law c = record {
   refuses = byte_refuses c;
   shorts = byte_shorts c;
 }
+
+-- how many bytes are needed where nothing was read
+pub byte_begins : (c : ℕ) → CanEnd (OneByte c) 1 []
+byte_begins c = record { more = c ∷ []; value = tt; few = omega arith; form = refl }
+
+-- the law of a byte and what is read behind it
+pub behind_byte : (c : ℕ) {W : Type 0} {next : Reader W} {Next : W → List ℕ → Type 0} {may_follow : ℕ → Type 0} {n m : ℕ}
+    → Law next Next may_follow n → CanEnd Next m [] → (most : ℕ) → 1 + m ≤ most → n ≤ most
+    → Law (byte_at c >> next) (Then (OneByte c) (λ _. Next)) may_follow most
+behind_byte c {m = m} law begins most room next_room = then_law (byte_law c) (λ _. law) m most room next_room (record {
+  follows = λ v w text rest form after. any_follows (text ++ rest);
+  begins = λ _. begins;
+})
 
 -- ---- a run
 
@@ -269,9 +282,6 @@ exact_law class n w in_class = record {
 -- ---- what a byte, and a run, begin with
 
 -- how many bytes are needed where nothing was read
-pub byte_begins : (c : ℕ) → CanEnd (OneByte c) 1 []
-byte_begins c = record { more = c ∷ []; value = tt; few = omega arith; form = refl }
-
 pub run_begins : (class : Class) (least most w : ℕ) → is_in class w ≡ true → least ≤ most → CanEnd (IsRun class least most) least []
 run_begins class least most w h room =
     let long = length-replicate {A = ℕ} least w in
