@@ -7,7 +7,7 @@ use Rattle.can_log.specs.declared.line.Parts.{Parts}
 use Rattle.can_log.specs.declared.frame.Stamped.{Stamped}
 use Rattle.can_log.specs.Line.{LineMeans}
 use Rattle.can_log.specs.Refused.{HasCompletion}
-use Rattle.can_log.specs.Judging.{IsFirstRefused}
+use Rattle.can_log.specs.Judging.{IsRefusedFrom}
 use Rattle.can_log.specs.FieldReader.{Gives}
 use Rattle.can_log.specs.LineReader.{line_at, meaning_by, AreLineParts}
 use Rattle.can_log.specs.Views.{line_parts_of, OnShort, OnRefused}
@@ -32,7 +32,7 @@ judged_short (Ok x) bytes h = tt
 judged_short (Err stops.Short) bytes h = short_becomes bytes h
 judged_short (Err (stops.Refused rest)) bytes h = tt
 
-pub judged_refused : (r : Result (Option Parts) Stop) (bytes : List ℕ) → Judges r bytes → IfErr r (λ e. OnRefused e (λ rest. IsFirstRefused bytes rest))
+pub judged_refused : (r : Result (Option Parts) Stop) (bytes : List ℕ) → Judges r bytes → IfErr r (λ e. OnRefused e (λ rest. IsRefusedFrom bytes rest))
 judged_refused (Ok x) bytes h = tt
 judged_refused (Err stops.Short) bytes h = tt
 judged_refused (Err (stops.Refused rest)) bytes h = refused_first bytes rest.now h

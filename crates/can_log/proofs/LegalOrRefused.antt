@@ -5,8 +5,8 @@ use Rattle.std.proofs.Common.{List, [], ◌∷◌, ◌++◌, length, append_asso
 use Rattle.std.specs.Prelude.{codes}
 use Rattle.can_log.specs.declared.frame.Stamped.{Stamped}
 use Rattle.can_log.specs.FieldReader.{FieldRead, short, refused}
-use Rattle.can_log.specs.LineReader.{Parts, line_at, meaning_by}
-use Rattle.can_log.specs.Line.{LineMeans, MeansNothing}
+use Rattle.can_log.specs.LineReader.{line_at, meaning_by}
+use Rattle.can_log.specs.Line.{Parts, LineMeans, MeansNothing}
 use Rattle.can_log.specs.Refused.{NoLineFeed, HasCompletion, IsRefusedPlace}
 use Rattle.can_log.specs.Log.{log_lines, LinesMean, LogMeans, IsRefusedRest, IsRefusedIn}
 use Rattle.can_log.specs.Laws.{LineMeansOrNothing, LogIsLegalOrRefused}

@@ -7,53 +7,65 @@ use Rattle.std.proofs.lemmas.Bool.{cases_Bool, eqb-true}
 use Rattle.std.proofs.lemmas.List.{append-nil, length-replicate}
 use Rattle.can_log.specs.declared.field.Class.{Class}
 use Rattle.can_log.specs.declared.field.Class.TheVariants.{Digit, Hex, Space, Visible, UpToEight, AboveEight, Mark}
-use Rattle.can_log.specs.FieldReader.{short, is_in, run_at, byte_at, both, either, only}
-use Rattle.can_log.specs.Line.{Body, classic, remote, fd}
-use Rattle.can_log.specs.LineReader.{stamp_at, place_at, is_identifier, identifier_at, is_even, data_at, raw_dlc_at, is_eight}
-use Rattle.can_log.specs.LineReader.{classic_at, remote_at, fd_at, body_at, mark_at, end_at, Parts, frame_at}
+use Rattle.can_log.specs.FieldReader.{Reader, short, ◌>>=◌, ◌>>◌, is_in, run_at, byte_at, done, either, only}
+use Rattle.can_log.specs.Line.{Body, classic, remote, fd, Parts}
+use Rattle.can_log.specs.LineReader.{Stamp, stamp_at, place_at, is_identifier, identifier_at, is_even, data_at, raw_digit_at, raw_dlc_at, is_eight}
+use Rattle.can_log.specs.LineReader.{classic_at, remote_at, fd_at, body_at, gap_mark_at, mark_at, end_at, frame_at}
 use Rattle.can_log.proofs.EachElement.{AllByRecursion-front}
 use Rattle.can_log.proofs.FirstBytes.{Follows, Misses, Starts, AnyByte, any_follows, follows_weaker, follows_first, starts_append, starts_misses}
-use Rattle.can_log.proofs.FieldLaws.{Reader, CanEnd, Law, can_end_as, Both, both_of, both_head, both_begins, both_law, Either, either_law}
-use Rattle.can_log.proofs.RunLaws.{OneByte, byte_law, IsRun, AllIn, NotIn, all_more, run_law, exact_law, run_shorts, run_takes}
-use Rattle.can_log.proofs.RunLaws.{byte_begins, both_starts, run_begins, run_head, run_starts, apart_from, is_not}
-use Rattle.can_log.proofs.SmallFields.{weaken, Seen, seen_law, Only, only_law, only_short, Nothing, nothing_law, Never, IsEnd, end_law}
+use Rattle.can_log.proofs.FieldLaws.{CanEnd, Law, Then, then_of, then_head, then_begins, then_law, Either, either_law}
+use Rattle.can_log.proofs.RunLaws.{OneByte, byte_law, behind_byte, IsRun, AllIn, NotIn, all_more, run_law, exact_law, run_shorts, run_takes}
+use Rattle.can_log.proofs.RunLaws.{byte_begins, then_starts, run_begins, run_head, run_starts, apart_from, is_not}
+use Rattle.can_log.proofs.SmallFields.{weaken, Giving, giving_law, giving_begins, Only, only_law, only_short, Done, done_law, Never, IsEnd, end_law}
 
 -- ---- ( seconds . micros )
 
-abbrev MicrosEnd : List ℕ × Unit {0} → List ℕ → Type 0
-MicrosEnd = Both (IsRun Digit 6 6) (λ _. OneByte (code ")"))
+abbrev stamp : List ℕ → List ℕ → Stamp
+stamp seconds micros = record { seconds = seconds; micros = micros }
 
-abbrev StampRest : Unit {0} × (List ℕ × Unit {0}) → List ℕ → Type 0
-StampRest = Both (OneByte (code ".")) (λ _. MicrosEnd)
+-- what is read behind the seconds, and behind the point
+abbrev micros_at : List ℕ → Reader Stamp
+micros_at seconds = do
+  micros ← run_at Digit 6 6
+  byte_at (code ")")
+  done (stamp seconds micros)
 
-abbrev pub Stamp : List ℕ × (Unit {0} × (List ℕ × Unit {0})) → List ℕ → Type 0
-Stamp = Both (IsRun Digit 1 10) (λ _. StampRest)
+abbrev point_at : List ℕ → Reader Stamp
+point_at seconds = byte_at (code ".") >> micros_at seconds
 
-micros_begins : CanEnd MicrosEnd 7 []
-micros_begins = both_begins (run_begins Digit 6 6 (code "0") refl (omega arith)) (λ _. byte_begins (code ")")) 7 (omega arith)
+abbrev MicrosForm : List ℕ → Stamp → List ℕ → Type 0
+MicrosForm seconds = Then (IsRun Digit 6 6) (λ micros. Giving (λ _. stamp seconds micros) (OneByte (code ")")))
 
-stamp_rest_begins : CanEnd StampRest 8 []
-stamp_rest_begins = both_begins (byte_begins (code ".")) (λ _. micros_begins) 8 (omega arith)
+abbrev PointForm : List ℕ → Stamp → List ℕ → Type 0
+PointForm seconds = Then (OneByte (code ".")) (λ _. MicrosForm seconds)
 
-stamp_begins : CanEnd Stamp 9 []
-stamp_begins = both_begins (run_begins Digit 1 10 (code "0") refl (omega arith)) (λ _. stamp_rest_begins) 9 (omega arith)
+abbrev pub StampForm : Stamp → List ℕ → Type 0
+StampForm = Then (IsRun Digit 1 10) PointForm
 
-micros_law : Law (both (run_at Digit 6 6) (λ _. byte_at (code ")"))) MicrosEnd AnyByte 7
-micros_law = both_law (exact_law Digit 6 (code "0") refl) (λ _. byte_law (code ")")) 1 7 (omega arith) (omega arith) (record {
-  follows = λ v w text rest form after. any_follows (text ++ rest);
-  begins = λ _. byte_begins (code ")");
-})
+micros_begins : (seconds : List ℕ) → CanEnd (MicrosForm seconds) 7 []
+micros_begins seconds =
+    then_begins (run_begins Digit 6 6 (code "0") refl (omega arith)) (λ micros. giving_begins (λ _. stamp seconds micros) (byte_begins (code ")"))) 7 (omega arith)
 
-stamp_rest_law : Law (both (byte_at (code ".")) (λ _. both (run_at Digit 6 6) (λ _. byte_at (code ")")))) StampRest AnyByte 8
-stamp_rest_law = both_law (byte_law (code ".")) (λ _. micros_law) 7 8 (omega arith) (omega arith) (record {
-  follows = λ v w text rest form after. any_follows (text ++ rest);
-  begins = λ _. micros_begins;
-})
+point_begins : (seconds : List ℕ) → CanEnd (PointForm seconds) 8 []
+point_begins seconds = then_begins (byte_begins (code ".")) (λ _. micros_begins seconds) 8 (omega arith)
 
-stamp_law : Law stamp_at Stamp AnyByte 9
-stamp_law = both_law (run_law Digit 1 10 (code "0") refl (omega arith)) (λ _. stamp_rest_law) 8 9 (omega arith) (omega arith) (record {
-  follows = λ v w text rest form after. both_head (NotIn Digit) rest form (λ tail. follows_first (NotIn Digit) form.front tail (code ".") [] form.first refl);
-  begins = λ _. stamp_rest_begins;
+stamp_begins : CanEnd StampForm 9 []
+stamp_begins = then_begins (run_begins Digit 1 10 (code "0") refl (omega arith)) point_begins 9 (omega arith)
+
+micros_law : (seconds : List ℕ) → Law (micros_at seconds) (MicrosForm seconds) AnyByte 7
+micros_law seconds =
+    then_law (exact_law Digit 6 (code "0") refl) (λ micros. giving_law (λ _. stamp seconds micros) (byte_law (code ")"))) 1 7 (omega arith) (omega arith) (record {
+      follows = λ v w text rest form after. any_follows (text ++ rest);
+      begins = λ micros. giving_begins (λ _. stamp seconds micros) (byte_begins (code ")"));
+    })
+
+point_law : (seconds : List ℕ) → Law (point_at seconds) (PointForm seconds) AnyByte 8
+point_law seconds = behind_byte (code ".") (micros_law seconds) (micros_begins seconds) 8 (omega arith) (omega arith)
+
+stamp_law : Law stamp_at StampForm AnyByte 9
+stamp_law = then_law (run_law Digit 1 10 (code "0") refl (omega arith)) point_law 8 9 (omega arith) (omega arith) (record {
+  follows = λ v w text rest form after. then_head (NotIn Digit) rest form (λ tail. follows_first (NotIn Digit) form.front tail (code ".") [] form.first refl);
+  begins = point_begins;
 })
 
 -- ---- gap interface gap
@@ -70,28 +82,38 @@ mark_no_space b h = apart_from Mark b (code " ") refl h
 space_no_visible : (b : ℕ) → is_in Space b ≡ true → is_in Visible b ≡ false
 space_no_visible b h = is_not Visible b (code " ") refl (eqb-true b (code " ") h)
 
-abbrev InterfaceGap : List ℕ × List ℕ → List ℕ → Type 0
-InterfaceGap = Both (IsRun Visible 1 15) (λ _. IsRun Space 1 16)
+abbrev interface_at : Reader (List ℕ)
+interface_at = do
+  interface ← run_at Visible 1 15
+  run_at Space 1 16
+  done interface
 
-abbrev pub Place : List ℕ × (List ℕ × List ℕ) → List ℕ → Type 0
-Place = Both (IsRun Space 1 16) (λ _. InterfaceGap)
+abbrev InterfaceForm : List ℕ → List ℕ → Type 0
+InterfaceForm = Then (IsRun Visible 1 15) (λ interface. Giving (λ _. interface) (IsRun Space 1 16))
 
-interface_begins : CanEnd InterfaceGap 2 []
-interface_begins = both_begins (run_begins Visible 1 15 (code "a") refl (omega arith)) (λ _. run_begins Space 1 16 (code " ") refl (omega arith)) 2 (omega arith)
+abbrev pub PlaceForm : List ℕ → List ℕ → Type 0
+PlaceForm = Then (IsRun Space 1 16) (λ _. InterfaceForm)
 
-place_begins : CanEnd Place 3 []
-place_begins = both_begins (run_begins Space 1 16 (code " ") refl (omega arith)) (λ _. interface_begins) 3 (omega arith)
+interface_begins : CanEnd InterfaceForm 2 []
+interface_begins =
+    then_begins (run_begins Visible 1 15 (code "a") refl (omega arith))
+    (λ interface. giving_begins (λ _. interface) (run_begins Space 1 16 (code " ") refl (omega arith))) 2 (omega arith)
 
-interface_law : Law (both (run_at Visible 1 15) (λ _. run_at Space 1 16)) InterfaceGap (NotIn Space) 2
-interface_law = both_law (run_law Visible 1 15 (code "a") refl (omega arith)) (λ _. run_law Space 1 16 (code " ") refl (omega arith)) 1 2 (omega arith) (omega arith) (record {
-  follows = λ v w text rest form after. run_head (NotIn Visible) Space 1 16 w text rest form (omega arith) space_no_visible;
-  begins = λ _. run_begins Space 1 16 (code " ") refl (omega arith);
-})
+place_begins : CanEnd PlaceForm 3 []
+place_begins = then_begins (run_begins Space 1 16 (code " ") refl (omega arith)) (λ _. interface_begins) 3 (omega arith)
 
-place_law : Law place_at Place (NotIn Space) 3
-place_law = both_law (run_law Space 1 16 (code " ") refl (omega arith)) (λ _. interface_law) 2 3 (omega arith) (omega arith) (record {
+interface_law : Law interface_at InterfaceForm (NotIn Space) 2
+interface_law =
+    let gap_law = run_law Space 1 16 (code " ") refl (omega arith) in
+    then_law (run_law Visible 1 15 (code "a") refl (omega arith)) (λ interface. giving_law (λ _. interface) gap_law) 1 2 (omega arith) (omega arith) (record {
+      follows = λ v w text rest (gap, form, is) after. run_head (NotIn Visible) Space 1 16 gap text rest form (omega arith) space_no_visible;
+      begins = λ interface. giving_begins (λ _. interface) (run_begins Space 1 16 (code " ") refl (omega arith));
+    })
+
+place_law : Law place_at PlaceForm (NotIn Space) 3
+place_law = then_law (run_law Space 1 16 (code " ") refl (omega arith)) (λ _. interface_law) 2 3 (omega arith) (omega arith) (record {
   follows = λ v w text rest form after.
-      both_head (NotIn Space) rest form (λ tail. run_head (NotIn Space) Visible 1 15 w.0 form.front tail form.first (omega arith) visible_no_space);
+      then_head (NotIn Space) rest form (λ tail. run_head (NotIn Space) Visible 1 15 form.value form.front tail form.first (omega arith) visible_no_space);
   begins = λ _. interface_begins;
 })
 
@@ -189,27 +211,26 @@ after_not_in class h k b after = elim after [ inl e ↦ is_not class b (code " "
 after_is_not : (c : ℕ) → (code " " == c) ≡ false → (code "\r" == c) ≡ false → (b : ℕ) → AfterFrame b → (b == c) ≡ false
 after_is_not c h k b after = elim after [ inl e ↦ ap (λ (z : ℕ). z == c) e ∙ h | inr e ↦ ap (λ (z : ℕ). z == c) e ∙ k ]
 
-abbrev RawDigit : Unit {0} × List ℕ → List ℕ → Type 0
-RawDigit = Both (OneByte (code "_")) (λ _. IsRun AboveEight 1 1)
+abbrev RawDigit : Option (List ℕ) → List ℕ → Type 0
+RawDigit = Then (OneByte (code "_")) (λ _. Giving Some (IsRun AboveEight 1 1))
 
 abbrev pub Dlc : Bool → Option (List ℕ) → List ℕ → Type 0
-Dlc true = Either (Seen (λ p. Some p.1) RawDigit) (Nothing None)
-Dlc false = Nothing None
+Dlc true = Either RawDigit (Done None)
+Dlc false = Done None
 
-raw_dlc_law : Law (both (byte_at (code "_")) (λ _. run_at AboveEight 1 1)) RawDigit AnyByte 2
-raw_dlc_law = both_law (byte_law (code "_")) (λ _. exact_law AboveEight 1 (code "9") refl) 1 2 (omega arith) (omega arith) (record {
-  follows = λ v w text rest form after. any_follows (text ++ rest);
-  begins = λ _. run_begins AboveEight 1 1 (code "9") refl (omega arith);
-})
+raw_digit_law : Law raw_digit_at RawDigit AnyByte 2
+raw_digit_law =
+    let begins = giving_begins Some (run_begins AboveEight 1 1 (code "9") refl (omega arith)) in
+    behind_byte (code "_") (giving_law Some (exact_law AboveEight 1 (code "9") refl)) begins 2 (omega arith) (omega arith)
 
 no_dlc_law : (most : ℕ) → Law (raw_dlc_at false) (Dlc false) AfterFrame most
-no_dlc_law most = weaken AfterFrame most (nothing_law None) (λ b h. tt) (omega arith)
+no_dlc_law most = weaken AfterFrame most (done_law None) (λ b h. tt) (omega arith)
 
 dlc_law : (t : Bool) → Law (raw_dlc_at t) (Dlc t) AfterFrame 2
 dlc_law true =
-    let some = weaken AfterFrame 2 (seen_law (λ p. Some p.1) raw_dlc_law) (λ b h. tt) (omega arith) in
-    either_law (λ b. b == code "_") some (no_dlc_law 0) 2 (omega arith) (omega arith) (record {
-      starts = λ v text (p, form, is). both_starts (λ b. b == code "_") (code "_") refl text form;
+    let some = weaken AfterFrame 2 raw_digit_law (λ b h. tt) (omega arith) in
+    either_law (code "_") some (no_dlc_law 0) 2 (omega arith) (omega arith) (record {
+      starts = λ v text form. then_starts (code "_") text form;
       misses = λ v text (is, none). subst (Misses (λ b. b == code "_")) (sym none) tt;
       after = after_is_not (code "_") refl refl;
     })
@@ -230,7 +251,7 @@ dlc_follows class u s r t v text rest form after = by t form
 
     by : (t : Bool) → Dlc t v text → Follows (NotIn class) (text ++ rest)
     by true f = elim f [
-      | inl raw ↦ both_head (NotIn class) rest raw.1 (λ tail. follows_first (NotIn class) raw.1.front tail (code "_") [] raw.1.first u)
+      | inl raw ↦ then_head (NotIn class) rest raw (λ tail. follows_first (NotIn class) raw.front tail (code "_") [] raw.first u)
       | inr none ↦ nothing none.1
     ]
     by false f = nothing f.1
@@ -238,57 +259,65 @@ dlc_follows class u s r t v text rest form after = by t form
 -- ---- after the #
 
 abbrev ClassicForm : Body → List ℕ → Type 0
-ClassicForm = Seen (λ p. classic p.0 p.1) (Both (DataForm 16) (λ ds. Dlc (length ds == 16)))
+ClassicForm = Then (DataForm 16) (λ ds. Giving (classic ds) (Dlc (length ds == 16)))
 
 classic_law : Law classic_at ClassicForm AfterFrame 2
-classic_law = seen_law (λ p. classic p.0 p.1) (both_law (data_law 16 refl) (λ ds. dlc_law (length ds == 16)) 0 2 (omega arith) (omega arith) (record {
-  follows = λ v w text rest form after. dlc_follows Hex refl refl refl (length v == 16) w text rest form after;
-  begins = λ v. dlc_begins (length v == 16);
-}))
-
-abbrev RemoteRest : List ℕ × Option (List ℕ) → List ℕ → Type 0
-RemoteRest = Both (IsRun UpToEight 0 1) (λ ds. Dlc (is_eight ds))
-
-abbrev RemoteForm : Body → List ℕ → Type 0
-RemoteForm = Seen (λ p. remote p.1.0 p.1.1) (Both (OneByte (code "R")) (λ _. RemoteRest))
-
-remote_begins : CanEnd RemoteRest 0 []
-remote_begins = both_begins (run_begins UpToEight 0 1 (code "0") refl (omega arith)) (λ ds. dlc_begins (is_eight ds)) 0 (omega arith)
-
-remote_rest_law : Law (both (run_at UpToEight 0 1) (λ ds. raw_dlc_at (is_eight ds))) RemoteRest AfterFrame 2
-remote_rest_law = both_law (run_law UpToEight 0 1 (code "0") refl (omega arith)) (λ ds. dlc_law (is_eight ds)) 0 2 (omega arith) (omega arith) (record {
-  follows = λ v w text rest form after. dlc_follows UpToEight refl refl refl (is_eight v) w text rest form after;
-  begins = λ v. dlc_begins (is_eight v);
+classic_law = then_law (data_law 16 refl) (λ ds. giving_law (classic ds) (dlc_law (length ds == 16))) 0 2 (omega arith) (omega arith) (record {
+  follows = λ v w text rest (dlc, form, is) after. dlc_follows Hex refl refl refl (length v == 16) dlc text rest form after;
+  begins = λ v. giving_begins (classic v) (dlc_begins (length v == 16));
 })
 
-remote_law : Law remote_at RemoteForm AfterFrame 2
-remote_law = seen_law (λ p. remote p.1.0 p.1.1) (both_law (byte_law (code "R")) (λ _. remote_rest_law) 0 2 (omega arith) (omega arith) (record {
-  follows = λ v w text rest form after. any_follows (text ++ rest);
-  begins = λ _. remote_begins;
-}))
+abbrev length_at : Reader Body
+length_at = do
+  digit ← run_at UpToEight 0 1
+  raw_dlc ← raw_dlc_at (is_eight digit)
+  done (remote digit raw_dlc)
 
-abbrev FdRest : List ℕ × List ℕ → List ℕ → Type 0
-FdRest = Both (IsRun Hex 1 1) (λ _. DataForm 128)
+abbrev LengthForm : Body → List ℕ → Type 0
+LengthForm = Then (IsRun UpToEight 0 1) (λ ds. Giving (remote ds) (Dlc (is_eight ds)))
+
+abbrev RemoteForm : Body → List ℕ → Type 0
+RemoteForm = Then (OneByte (code "R")) (λ _. LengthForm)
+
+length_begins : CanEnd LengthForm 0 []
+length_begins =
+    then_begins (run_begins UpToEight 0 1 (code "0") refl (omega arith)) (λ ds. giving_begins (remote ds) (dlc_begins (is_eight ds))) 0 (omega arith)
+
+length_law : Law length_at LengthForm AfterFrame 2
+length_law =
+    then_law (run_law UpToEight 0 1 (code "0") refl (omega arith)) (λ ds. giving_law (remote ds) (dlc_law (is_eight ds))) 0 2 (omega arith) (omega arith) (record {
+      follows = λ v w text rest (dlc, form, is) after. dlc_follows UpToEight refl refl refl (is_eight v) dlc text rest form after;
+      begins = λ v. giving_begins (remote v) (dlc_begins (is_eight v));
+    })
+
+remote_law : Law remote_at RemoteForm AfterFrame 2
+remote_law = behind_byte (code "R") length_law length_begins 2 (omega arith) (omega arith)
+
+abbrev flags_at : Reader Body
+flags_at = do
+  flags ← run_at Hex 1 1
+  digits ← data_at 128
+  done (fd flags digits)
+
+abbrev FlagsForm : Body → List ℕ → Type 0
+FlagsForm = Then (IsRun Hex 1 1) (λ flags. Giving (fd flags) (DataForm 128))
 
 abbrev FdForm : Body → List ℕ → Type 0
-FdForm = Seen (λ p. fd p.1.0 p.1.1) (Both (OneByte (code "#")) (λ _. FdRest))
+FdForm = Then (OneByte (code "#")) (λ _. FlagsForm)
 
-fd_begins : CanEnd FdRest 1 []
-fd_begins = both_begins (run_begins Hex 1 1 (code "0") refl (omega arith)) (λ _. data_begins 128) 1 (omega arith)
+flags_begins : CanEnd FlagsForm 1 []
+flags_begins = then_begins (run_begins Hex 1 1 (code "0") refl (omega arith)) (λ flags. giving_begins (fd flags) (data_begins 128)) 1 (omega arith)
 
-fd_rest_law : Law (both (run_at Hex 1 1) (λ _. data_at 128)) FdRest AfterFrame 1
-fd_rest_law =
-    let digits = weaken AfterFrame 1 (data_law 128 refl) (after_not_in Hex refl refl) (omega arith) in
-    both_law (exact_law Hex 1 (code "0") refl) (λ _. digits) 0 1 (omega arith) (omega arith) (record {
+flags_law : Law flags_at FlagsForm AfterFrame 1
+flags_law =
+    let digits_law = weaken AfterFrame 1 (data_law 128 refl) (after_not_in Hex refl refl) (omega arith) in
+    then_law (exact_law Hex 1 (code "0") refl) (λ flags. giving_law (fd flags) digits_law) 0 1 (omega arith) (omega arith) (record {
       follows = λ v w text rest form after. any_follows (text ++ rest);
-      begins = λ _. data_begins 128;
+      begins = λ flags. giving_begins (fd flags) (data_begins 128);
     })
 
 fd_law : Law fd_at FdForm AfterFrame 2
-fd_law = seen_law (λ p. fd p.1.0 p.1.1) (both_law (byte_law (code "#")) (λ _. fd_rest_law) 1 2 (omega arith) (omega arith) (record {
-  follows = λ v w text rest form after. any_follows (text ++ rest);
-  begins = λ _. fd_begins;
-}))
+fd_law = behind_byte (code "#") flags_law flags_begins 2 (omega arith) (omega arith)
 
 abbrev pub BodyForm : Body → List ℕ → Type 0
 BodyForm = Either RemoteForm (Either FdForm ClassicForm)
@@ -300,24 +329,24 @@ digits_miss c out [] back text dlc each second e = subst (Misses (λ b. b == c))
 digits_miss c out (d ∷ ds) back text dlc each second e = subst (Misses (λ b. b == c)) (sym e) (apart_from Hex d c out each.0)
 
 classic_misses : (c : ℕ) → is_in Hex c ≡ false → (v : Body) (text : List ℕ) → ClassicForm v text → Misses (λ b. b == c) text
-classic_misses c out v text (p, f, is) =
-    digits_miss c out p.0 f.back text p.1 f.first.0.each f.second (f.is ∙ ap (λ (z : List ℕ). z ++ f.back) f.first.0.is)
+classic_misses c out v text f =
+    digits_miss c out f.value f.back text f.second.0 f.first.0.each f.second.1 (f.is ∙ ap (λ (z : List ℕ). z ++ f.back) f.first.0.is)
 
 fd_starts : (v : Body) (text : List ℕ) → FdForm v text → Starts (λ b. b == code "#") text
-fd_starts v text (p, f, is) = both_starts (λ b. b == code "#") (code "#") refl text f
+fd_starts v text f = then_starts (code "#") text f
 
 remote_starts : (v : Body) (text : List ℕ) → RemoteForm v text → Starts (λ b. b == code "R") text
-remote_starts v text (p, f, is) = both_starts (λ b. b == code "R") (code "R") refl text f
+remote_starts v text f = then_starts (code "R") text f
 
-fd_or_classic_law : Law (either (λ b. b == code "#") fd_at classic_at) (Either FdForm ClassicForm) AfterFrame 2
-fd_or_classic_law = either_law (λ b. b == code "#") fd_law classic_law 2 (omega arith) (omega arith) (record {
+fd_or_classic_law : Law (either (code "#") fd_at classic_at) (Either FdForm ClassicForm) AfterFrame 2
+fd_or_classic_law = either_law (code "#") fd_law classic_law 2 (omega arith) (omega arith) (record {
   starts = fd_starts;
   misses = classic_misses (code "#") refl;
   after = after_is_not (code "#") refl refl;
 })
 
 body_law : Law body_at BodyForm AfterFrame 2
-body_law = either_law (λ b. b == code "R") remote_law fd_or_classic_law 2 (omega arith) (omega arith) (record {
+body_law = either_law (code "R") remote_law fd_or_classic_law 2 (omega arith) (omega arith) (record {
   starts = remote_starts;
   misses = λ v text form. elim form [ inl f ↦ starts_misses (code "#") (code "R") refl text (fd_starts v text f) | inr f ↦ classic_misses (code "R") refl v text f ];
   after = after_is_not (code "R") refl refl;
@@ -326,40 +355,42 @@ body_law = either_law (λ b. b == code "R") remote_law fd_or_classic_law 2 (omeg
 body_begins : CanEnd BodyForm 0 []
 body_begins =
     let none : IsRun Hex 0 16 [] [] = record { is = refl; each = tt; enough = omega arith; few = omega arith } in
-    let parts : Both (DataForm 16) (λ ds. Dlc (length ds == 16)) ([], None) [] = both_of [] [] (none, refl) (refl, refl) in
-    record { more = []; value = classic [] None; few = omega arith; form = inr (inr (([], None), parts, refl)) }
+    let classic_form : ClassicForm (classic [] None) [] = then_of [] [] [] (none, refl) (None, (refl, refl), refl) in
+    record { more = []; value = classic [] None; few = omega arith; form = inr (inr classic_form) }
 
 -- ---- the mark and the end
 
 abbrev AtEnd : ℕ → Type 0
 AtEnd b = b ≡ code "\r"
 
-abbrev GapMark : List ℕ × List ℕ → List ℕ → Type 0
-GapMark = Both (IsRun Space 1 16) (λ _. IsRun Mark 1 1)
+abbrev GapMark : Option (List ℕ × List ℕ) → List ℕ → Type 0
+GapMark = Then (IsRun Space 1 16) (λ gap. Giving (λ mark. Some (gap, mark)) (IsRun Mark 1 1))
 
-abbrev pub TailForm : Option (List ℕ × List ℕ) → List ℕ → Type 0
-TailForm = Either (Seen Some GapMark) (Nothing None)
+abbrev pub MarkForm : Option (List ℕ × List ℕ) → List ℕ → Type 0
+MarkForm = Either GapMark (Done None)
 
-marked_law : Law (both (run_at Space 1 16) (λ _. run_at Mark 1 1)) GapMark AnyByte 2
-marked_law = both_law (run_law Space 1 16 (code " ") refl (omega arith)) (λ _. exact_law Mark 1 (code "R") refl) 1 2 (omega arith) (omega arith) (record {
-  follows = λ v w text rest form after. run_head (NotIn Space) Mark 1 1 w text rest form (omega arith) mark_no_space;
-  begins = λ _. run_begins Mark 1 1 (code "R") refl (omega arith);
-})
+gap_mark_law : Law gap_mark_at GapMark AnyByte 2
+gap_mark_law =
+    let letter_law = exact_law Mark 1 (code "R") refl in
+    then_law (run_law Space 1 16 (code " ") refl (omega arith)) (λ gap. giving_law (λ mark. Some (gap, mark)) letter_law) 1 2 (omega arith) (omega arith) (record {
+      follows = λ v w text rest (mark, form, is) after. run_head (NotIn Space) Mark 1 1 mark text rest form (omega arith) mark_no_space;
+      begins = λ gap. giving_begins (λ mark. Some (gap, mark)) (run_begins Mark 1 1 (code "R") refl (omega arith));
+    })
 
-tail_law : Law mark_at TailForm AtEnd 2
-tail_law =
-    let some = weaken AtEnd 2 (seen_law Some marked_law) (λ b h. tt) (omega arith) in
-    let none = weaken AtEnd 0 (nothing_law None) (λ b h. tt) (omega arith) in
-    either_law (λ b. b == code " ") some none 2 (omega arith) (omega arith) (record {
-      starts = λ v text (p, f, is).
-          let gap = run_starts (λ b. b == code " ") Space 1 16 p.0 f.front f.first (omega arith) (λ b h. h) in
+mark_law : Law mark_at MarkForm AtEnd 2
+mark_law =
+    let some = weaken AtEnd 2 gap_mark_law (λ b h. tt) (omega arith) in
+    let none = weaken AtEnd 0 (done_law None) (λ b h. tt) (omega arith) in
+    either_law (code " ") some none 2 (omega arith) (omega arith) (record {
+      starts = λ v text f.
+          let gap = run_starts (λ b. b == code " ") Space 1 16 f.value f.front f.first (omega arith) (λ b h. h) in
           subst (Starts (λ b. b == code " ")) (sym f.is) (starts_append (λ b. b == code " ") f.front f.back gap);
       misses = λ v text (is, none). subst (Misses (λ b. b == code " ")) (sym none) tt;
       after = λ b e. ap (λ (z : ℕ). z == code " ") e;
     })
 
-tail_begins : CanEnd TailForm 0 []
-tail_begins = record { more = []; value = None; few = omega arith; form = inr (refl, refl) }
+mark_begins : CanEnd MarkForm 0 []
+mark_begins = record { more = []; value = None; few = omega arith; form = inr (refl, refl) }
 
 end_begins : CanEnd IsEnd 0 []
 end_begins = record { more = []; value = tt; few = omega arith; form = inl refl }
@@ -374,126 +405,110 @@ end_alone P h v text (b ∷ rest) form after = absurd after
 
 -- ---- a line, from its end to its front
 
-abbrev pub EndingParts : Type 0
-EndingParts = Option (List ℕ × List ℕ) × Unit {0}
+abbrev parts : Stamp → List ℕ → Body → Parts
+parts time identifier body = record { seconds = time.seconds; micros = time.micros; identifier = identifier; body = body }
 
-abbrev ending_at : Reader EndingParts
-ending_at = both mark_at (λ _. end_at)
+-- what is read behind the body, of a line with these parts
+abbrev ending_at : Parts → Reader Parts
+ending_at p = do
+  mark_at
+  end_at
+  done p
 
-abbrev pub Ending : EndingParts → List ℕ → Type 0
-Ending = Both TailForm (λ _. IsEnd)
+abbrev EndForm : Parts → Parts → List ℕ → Type 0
+EndForm p = Giving (λ _. p) IsEnd
 
-ending_law : Law ending_at Ending Never 2
-ending_law = both_law tail_law (λ _. end_law) 0 2 (omega arith) (omega arith) (record {
-  follows = λ v w text rest form after. end_alone AtEnd refl w text rest form after;
-  begins = λ _. end_begins;
+abbrev pub EndingForm : Parts → Parts → List ℕ → Type 0
+EndingForm p = Then MarkForm (λ _. EndForm p)
+
+ending_law : (p : Parts) → Law (ending_at p) (EndingForm p) Never 2
+ending_law p = then_law mark_law (λ _. giving_law (λ _. p) end_law) 0 2 (omega arith) (omega arith) (record {
+  follows = λ v w text rest (u, form, is) after. end_alone AtEnd refl u text rest form after;
+  begins = λ _. giving_begins (λ _. p) end_begins;
 })
 
-ending_begins : CanEnd Ending 0 []
-ending_begins = both_begins tail_begins (λ _. end_begins) 0 (omega arith)
+ending_begins : (p : Parts) → CanEnd (EndingForm p) 0 []
+ending_begins p = then_begins mark_begins (λ _. giving_begins (λ _. p) end_begins) 0 (omega arith)
 
--- a tail begins with a space, and an end with a carriage return
-ending_follows : (p : EndingParts) (text rest : List ℕ) → Ending p text → Follows Never rest → Follows AfterFrame (text ++ rest)
-ending_follows p text rest f after =
+-- a mark begins with a space, and an end with a carriage return
+ending_follows : (p q : Parts) (text rest : List ℕ) → EndingForm p q text → Follows Never rest → Follows AfterFrame (text ++ rest)
+ending_follows p q text rest f after =
     let whole : f.front ++ (f.back ++ rest) ≡ text ++ rest = sym (append_assoc f.front f.back rest) ∙ ap (λ (z : List ℕ). z ++ rest) (sym f.is) in
     subst (Follows AfterFrame) whole (elim f.first [
-      | inl (q, g, is) ↦
-          both_head AfterFrame (f.back ++ rest) g (λ tail. run_head AfterFrame Space 1 16 q.0 g.front tail g.first (omega arith) (λ b h. inl (eqb-true b (code " ") h)))
+      | inl g ↦
+          then_head AfterFrame (f.back ++ rest) g (λ tail. run_head AfterFrame Space 1 16 g.value g.front tail g.first (omega arith) (λ b h. inl (eqb-true b (code " ") h)))
       | inr (is, none) ↦
-          subst (λ (z : List ℕ). Follows AfterFrame (z ++ (f.back ++ rest))) (sym none) (end_alone AfterFrame (inr refl) p.1 f.back rest f.second after)
+          subst (λ (z : List ℕ). Follows AfterFrame (z ++ (f.back ++ rest))) (sym none) (end_alone AfterFrame (inr refl) f.second.0 f.back rest f.second.1 after)
     ])
 
-abbrev pub BodyOnParts : Type 0
-BodyOnParts = Body × EndingParts
+-- what is read behind the `#` of an identifier, before it, and behind the time
+abbrev body_on_at : Stamp → List ℕ → Reader Parts
+body_on_at time identifier = body_at >>= λ body. ending_at (parts time identifier body)
 
-abbrev body_on_at : Reader BodyOnParts
-body_on_at = both body_at (λ _. ending_at)
+abbrev pub BodyOn : Stamp → List ℕ → Parts → List ℕ → Type 0
+BodyOn time identifier = Then BodyForm (λ body. EndingForm (parts time identifier body))
 
-abbrev pub BodyOn : BodyOnParts → List ℕ → Type 0
-BodyOn = Both BodyForm (λ _. Ending)
-
-body_on_law : Law body_on_at BodyOn Never 2
-body_on_law = both_law body_law (λ _. ending_law) 0 2 (omega arith) (omega arith) (record { follows = λ v. ending_follows; begins = λ _. ending_begins })
-
-body_on_begins : CanEnd BodyOn 0 []
-body_on_begins = both_begins body_begins (λ _. ending_begins) 0 (omega arith)
-
-abbrev pub HashOnParts : Type 0
-HashOnParts = Unit {0} × BodyOnParts
-
-abbrev hash_on_at : Reader HashOnParts
-hash_on_at = both (byte_at (code "#")) (λ _. body_on_at)
-
-abbrev pub HashOn : HashOnParts → List ℕ → Type 0
-HashOn = Both (OneByte (code "#")) (λ _. BodyOn)
-
-hash_on_law : Law hash_on_at HashOn Never 2
-hash_on_law = both_law (byte_law (code "#")) (λ _. body_on_law) 0 2 (omega arith) (omega arith) (record {
-  follows = λ v w text rest form after. any_follows (text ++ rest);
-  begins = λ _. body_on_begins;
+body_on_law : (time : Stamp) (identifier : List ℕ) → Law (body_on_at time identifier) (BodyOn time identifier) Never 2
+body_on_law time identifier = then_law body_law (λ body. ending_law (parts time identifier body)) 0 2 (omega arith) (omega arith) (record {
+  follows = λ body. ending_follows (parts time identifier body);
+  begins = λ body. ending_begins (parts time identifier body);
 })
 
-hash_on_begins : CanEnd HashOn 1 []
-hash_on_begins = both_begins (byte_begins (code "#")) (λ _. body_on_begins) 1 (omega arith)
+body_on_begins : (time : Stamp) (identifier : List ℕ) → CanEnd (BodyOn time identifier) 0 []
+body_on_begins time identifier = then_begins body_begins (λ body. ending_begins (parts time identifier body)) 0 (omega arith)
 
-abbrev pub IdOnParts : Type 0
-IdOnParts = List ℕ × HashOnParts
+abbrev hash_on_at : Stamp → List ℕ → Reader Parts
+hash_on_at time identifier = byte_at (code "#") >> body_on_at time identifier
 
-abbrev id_on_at : Reader IdOnParts
-id_on_at = both identifier_at (λ _. hash_on_at)
+abbrev pub HashOn : Stamp → List ℕ → Parts → List ℕ → Type 0
+HashOn time identifier = Then (OneByte (code "#")) (λ _. BodyOn time identifier)
 
-abbrev pub IdOn : IdOnParts → List ℕ → Type 0
-IdOn = Both IdForm (λ _. HashOn)
+hash_on_law : (time : Stamp) (identifier : List ℕ) → Law (hash_on_at time identifier) (HashOn time identifier) Never 2
+hash_on_law time identifier = behind_byte (code "#") (body_on_law time identifier) (body_on_begins time identifier) 2 (omega arith) (omega arith)
 
-id_on_law : Law id_on_at IdOn Never 9
-id_on_law = both_law id_law (λ _. hash_on_law) 1 9 (omega arith) (omega arith) (record {
-  follows = λ v w text rest form after. both_head (NotIn Hex) rest form (λ tail. follows_first (NotIn Hex) form.front tail (code "#") [] form.first refl);
-  begins = λ _. hash_on_begins;
+hash_on_begins : (time : Stamp) (identifier : List ℕ) → CanEnd (HashOn time identifier) 1 []
+hash_on_begins time identifier = then_begins (byte_begins (code "#")) (λ _. body_on_begins time identifier) 1 (omega arith)
+
+abbrev id_on_at : Stamp → Reader Parts
+id_on_at time = identifier_at >>= hash_on_at time
+
+abbrev pub IdOn : Stamp → Parts → List ℕ → Type 0
+IdOn time = Then IdForm (HashOn time)
+
+id_on_law : (time : Stamp) → Law (id_on_at time) (IdOn time) Never 9
+id_on_law time = then_law id_law (hash_on_law time) 1 9 (omega arith) (omega arith) (record {
+  follows = λ v w text rest form after. then_head (NotIn Hex) rest form (λ tail. follows_first (NotIn Hex) form.front tail (code "#") [] form.first refl);
+  begins = hash_on_begins time;
 })
 
-id_on_begins : CanEnd IdOn 4 []
-id_on_begins = both_begins id_begins (λ _. hash_on_begins) 4 (omega arith)
+id_on_begins : (time : Stamp) → CanEnd (IdOn time) 4 []
+id_on_begins time = then_begins id_begins (hash_on_begins time) 4 (omega arith)
 
-abbrev pub PlaceOnParts : Type 0
-PlaceOnParts = (List ℕ × (List ℕ × List ℕ)) × IdOnParts
+abbrev place_on_at : Stamp → Reader Parts
+place_on_at time = place_at >> id_on_at time
 
-abbrev place_on_at : Reader PlaceOnParts
-place_on_at = both place_at (λ _. id_on_at)
+abbrev pub PlaceOn : Stamp → Parts → List ℕ → Type 0
+PlaceOn time = Then PlaceForm (λ _. IdOn time)
 
-abbrev pub PlaceOn : PlaceOnParts → List ℕ → Type 0
-PlaceOn = Both Place (λ _. IdOn)
-
-place_on_law : Law place_on_at PlaceOn Never 9
-place_on_law = both_law place_law (λ _. id_on_law) 4 9 (omega arith) (omega arith) (record {
+place_on_law : (time : Stamp) → Law (place_on_at time) (PlaceOn time) Never 9
+place_on_law time = then_law place_law (λ _. id_on_law time) 4 9 (omega arith) (omega arith) (record {
   follows = λ v w text rest form after.
-      both_head (NotIn Space) rest form (λ tail. run_head (NotIn Space) Hex 3 8 w.0 form.front tail form.first.0 (omega arith) hex_no_space);
-  begins = λ _. id_on_begins;
+      then_head (NotIn Space) rest form (λ tail. run_head (NotIn Space) Hex 3 8 form.value form.front tail form.first.0 (omega arith) hex_no_space);
+  begins = λ _. id_on_begins time;
 })
 
-place_on_begins : CanEnd PlaceOn 7 []
-place_on_begins = both_begins place_begins (λ _. id_on_begins) 7 (omega arith)
+place_on_begins : (time : Stamp) → CanEnd (PlaceOn time) 7 []
+place_on_begins time = then_begins place_begins (λ _. id_on_begins time) 7 (omega arith)
 
--- all that is read of a line after its `(`, as the readers nest it
-abbrev pub Nested : Type 0
-Nested = (List ℕ × (Unit {0} × (List ℕ × Unit {0}))) × PlaceOnParts
+-- a line after its `(`
+abbrev pub FrameForm : Parts → List ℕ → Type 0
+FrameForm = Then StampForm PlaceOn
 
-abbrev pub FrameOn : Nested → List ℕ → Type 0
-FrameOn = Both Stamp (λ _. PlaceOn)
-
-frame_on_law : Law (both stamp_at (λ _. place_on_at)) FrameOn Never 16
-frame_on_law = both_law stamp_law (λ _. place_on_law) 7 16 (omega arith) (omega arith) (record {
+pub frame_law : Law frame_at FrameForm Never 16
+frame_law = then_law stamp_law place_on_law 7 16 (omega arith) (omega arith) (record {
   follows = λ v w text rest form after. any_follows (text ++ rest);
-  begins = λ _. place_on_begins;
+  begins = place_on_begins;
 })
 
-frame_on_begins : CanEnd FrameOn 16 []
-frame_on_begins = both_begins stamp_begins (λ _. place_on_begins) 16 (omega arith)
-
-abbrev pub parts_of : Nested → Parts
-parts_of p = record { seconds = p.0.0; micros = p.0.1.1.0; identifier = p.1.1.0; body = p.1.1.1.1.0 }
-
-pub frame_law : Law frame_at (Seen parts_of FrameOn) Never 16
-frame_law = seen_law parts_of frame_on_law
-
-pub frame_begins : CanEnd (Seen parts_of FrameOn) 16 []
-frame_begins = can_end_as parts_of (λ p text form. (p, form, refl)) 16 (omega arith) frame_on_begins
+pub frame_begins : CanEnd FrameForm 16 []
+frame_begins = then_begins stamp_begins place_on_begins 16 (omega arith)

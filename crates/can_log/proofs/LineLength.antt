@@ -9,7 +9,7 @@ use Rattle.can_log.specs.declared.scanner.Verdict.TheVariants as verdict
 use Rattle.can_log.specs.Line.{Body, classic, remote, fd, LineSpelling, spell_body, spell_mark, spell_line, IsBody, IsMark, IsLineSpelling, LineMeans}
 use Rattle.can_log.specs.declared.frame.Stamped.{Stamped}
 use Rattle.can_log.specs.Refused.{HasCompletion}
-use Rattle.can_log.specs.Judging.{Judged, IsRefusedAt, IsFirstRefused}
+use Rattle.can_log.specs.Judging.{Judged, IsRefusedAt, IsRefusedFrom}
 use Rattle.can_log.proofs.Lists.{parts_more}
 
 body_length : (b : Body) → IsBody b → length (spell_body b) ≤ 130
@@ -40,7 +40,7 @@ pub becomes_length : (bytes : List ℕ) → HasCompletion bytes → length bytes
 becomes_length bytes (more, s, few, m) = omega (arith, means_length (bytes ++ more) s m, length-append bytes more)
 
 -- the column of a refused byte, by how many bytes are left
-pub refused_column : (bytes rest : List ℕ) → IsFirstRefused bytes rest
+pub refused_column : (bytes rest : List ℕ) → IsRefusedFrom bytes rest
     → (length bytes - length rest + 1 ≤ 224) × IsRefusedAt bytes (length bytes - length rest + 1)
 refused_column bytes rest r =
     let whole : length bytes ≡ length r.text + (length r.after + 1) = omega (arith, ap (λ (z : List ℕ). length z) r.parts, length-append r.text (r.bad ∷ r.after)) in

@@ -1,56 +1,46 @@
 -- What is read of a line is what it means, and a byte is refused exactly where no line can have it.
 use Prim.Native.Char.{code}
-use Rattle.std.proofs.Common.{◌≡◌, ℕ, Bool, refl, sym, ap, subst, ◌∙◌, arith, inl, inr}
+use Rattle.std.proofs.Common.{◌≡◌, ℕ, refl, sym, ap, subst, ◌∙◌, arith, inl, inr}
 use Rattle.std.proofs.Common.{List, [], ◌∷◌, ◌++◌, drop, append_assoc, Option, Some, None, Ok, Err}
 use Rattle.std.specs.Prelude.{◌==◌, codes}
 use Rattle.std.proofs.lemmas.Bool.{eqb-true}
 use Rattle.std.proofs.lemmas.List.{append-nil}
-use Rattle.can_log.specs.Line.{Body, classic, remote, fd, IsBody, LineSpelling, spell_line, IsLineText, LineMeans}
+use Rattle.can_log.specs.Line.{Body, classic, remote, fd, IsBody, LineSpelling, Parts, parts_in, stamped_of, spell_line, IsLineText, LineMeans}
 use Rattle.can_log.specs.declared.frame.Stamped.{Stamped}
 use Rattle.can_log.specs.Refused.{HasCompletion, HasNoCompletion}
-use Rattle.can_log.specs.Judging.{IsFirstRefused}
-use Rattle.can_log.specs.FieldReader.{short, refused, FieldRead, ◌>>=◌, byte_at, both, either, seen}
-use Rattle.can_log.specs.LineReader.{Parts, stamp_at, place_at, identifier_at, body_at, mark_at, end_at, frame_at, line_at}
-use Rattle.can_log.specs.LineReader.{stamped_by, meaning_by, AreParts, AreLineParts, FitsBody}
+use Rattle.can_log.specs.Judging.{IsRefusedFrom}
+use Rattle.can_log.specs.FieldReader.{short, refused, FieldRead, Reader, byte_at, and_then, done, either}
+use Rattle.can_log.specs.LineReader.{stamp_at, place_at, identifier_at, body_at, mark_at, end_at, frame_at, opened_at, blank_at, line_at}
+use Rattle.can_log.specs.LineReader.{meaning_by, AreParts, AreLineParts, FitsBody}
 use Rattle.can_log.proofs.Lists.{parts_more}
-use Rattle.can_log.proofs.FirstBytes.{Starts, Misses, any_follows}
-use Rattle.can_log.proofs.Results.{bind_ok, bind_err, value_is, rest_is}
-use Rattle.can_log.proofs.FieldLaws.{Reader, IsOpen, CanEnd, can_end_as, Law, Both, both_of, both_is, both_law, Either, which, either_law}
-use Rattle.can_log.proofs.RunLaws.{OneByte, byte_law, byte_is, both_starts}
-use Rattle.can_log.proofs.SmallFields.{Never, IsEnd, end_law, Seen, seen_law, seen_failed, end_done}
-use Rattle.can_log.proofs.LineFields.{FrameOn, parts_of, frame_law, frame_begins}
-use Rattle.can_log.proofs.Spelling.{parts_in, tree_of, nested_of, to_tree, from_tree}
+use Rattle.can_log.proofs.FirstBytes.{Starts, Misses}
+use Rattle.can_log.proofs.Results.{read_on-ok, value_is, rest_is}
+use Rattle.can_log.proofs.FieldLaws.{IsOpen, CanEnd, can_end_as, Law, Then, then_of, then_is, Either, which, either_law}
+use Rattle.can_log.proofs.RunLaws.{OneByte, behind_byte, byte_is, then_starts}
+use Rattle.can_log.proofs.SmallFields.{Never, IsEnd, end_law, giving, Giving, giving_law, giving_begins, giving_failed, end_done}
+use Rattle.can_log.proofs.LineFields.{FrameForm, frame_law, frame_begins}
+use Rattle.can_log.proofs.Spelling.{line_to, line_from}
 
 -- ---- the law of a line
 
 abbrev Opened : Option Parts → List ℕ → Type 0
-Opened = Seen (λ p. Some p.1) (Both (OneByte (code "(")) (λ _. Seen parts_of FrameOn))
+Opened = Then (OneByte (code "(")) (λ _. Giving Some FrameForm)
 
-abbrev Empty : Option Parts → List ℕ → Type 0
-Empty = Seen (λ _. None) IsEnd
+abbrev Blank : Option Parts → List ℕ → Type 0
+Blank = Giving (λ _. None) IsEnd
 
 abbrev LineForm : Option Parts → List ℕ → Type 0
-LineForm = Either Opened Empty
-
--- a line that begins with `(`, and an empty one
-abbrev opened_at : Reader (Option Parts)
-opened_at = seen (λ p. Some p.1) (both (byte_at (code "(")) (λ _. frame_at))
-
-abbrev empty_at : Reader (Option Parts)
-empty_at = seen (λ _. None) end_at
+LineForm = Either Opened Blank
 
 opened_law : Law opened_at Opened Never 17
-opened_law = seen_law (λ p. Some p.1) (both_law (byte_law (code "(")) (λ _. frame_law) 16 17 (omega arith) (omega arith) (record {
-  follows = λ v w text rest form after. any_follows (text ++ rest);
-  begins = λ _. frame_begins;
-}))
+opened_law = behind_byte (code "(") (giving_law Some frame_law) (giving_begins Some frame_begins) 17 (omega arith) (omega arith)
 
-empty_law : Law empty_at Empty Never 0
-empty_law = seen_law (λ _. None) end_law
+blank_law : Law blank_at Blank Never 0
+blank_law = giving_law (λ _. None) end_law
 
 line_law : Law line_at LineForm Never 17
-line_law = either_law (λ b. b == code "(") opened_law empty_law 17 (omega arith) (omega arith) (record {
-  starts = λ v text (p, f, is). both_starts (λ b. b == code "(") (code "(") refl text f;
+line_law = either_law (code "(") opened_law blank_law 17 (omega arith) (omega arith) (record {
+  starts = λ v text f. then_starts (code "(") text f;
   misses = λ v text (p, f, is). elim f [
     | inl none ↦ subst (Misses (λ b. b == code "(")) (sym none) tt
     | inr cr ↦ subst (Misses (λ b. b == code "(")) (sym cr) refl
@@ -63,43 +53,40 @@ line_law = either_law (λ b. b == code "(") opened_law empty_law 17 (omega arith
 abbrev Whole : {V : Type 0} → Reader V → Type 0
 Whole {V} read = (bytes : List ℕ) (v : V) (rest : List ℕ) → read bytes ≡ Ok (v, rest) → rest ≡ []
 
-both_whole : {V W : Type 0} (read : Reader V) (next : V → Reader W) → ((v : V) → Whole (next v)) → Whole (both read next)
-unfolding both
-both_whole read next whole bytes p rest e =
-    let x = bind_ok (read bytes) (λ x. next x.0 x.1 >>= λ y. Ok ((x.0, y.0), y.1)) (p, rest) e in
-    let y = bind_ok (next x.0.0 x.0.1) (λ y. Ok ((x.0.0, y.0), y.1)) (p, rest) x.2 in
-    sym (rest_is (x.0.0, y.0.0) p y.0.1 rest y.2) ∙ whole x.0.0 x.0.1 y.0.0 y.0.1 y.1
+then_whole : {V W : Type 0} (read : Reader V) (next : V → Reader W) → ((v : V) → Whole (next v)) → Whole (and_then read next)
+unfolding and_then
+then_whole read next whole bytes w rest e = let x = read_on-ok (read bytes) next (w, rest) e in whole x.0.0 x.0.1 w rest x.2
 
-seen_whole : {V W : Type 0} (view : V → W) (read : Reader V) → Whole read → Whole (seen view read)
-unfolding seen
-seen_whole view read whole bytes w rest e =
-    let x = bind_ok (read bytes) (λ x. Ok (view x.0, x.1)) (w, rest) e in
+giving_whole : {V W : Type 0} (view : V → W) (read : Reader V) → Whole read → Whole (giving view read)
+unfolding and_then done
+giving_whole view read whole bytes w rest e =
+    let x = read_on-ok (read bytes) (λ v. done (view v)) (w, rest) e in
     sym (rest_is (view x.0.0) w x.0.1 rest x.2) ∙ whole bytes x.0.0 x.0.1 x.1
 
-either_whole : {V : Type 0} (test : ℕ → Bool) (one other : Reader V) → Whole one → Whole other → Whole (either test one other)
-either_whole test one other one_whole other_whole bytes v rest e = elim (which test one other bytes) [
+either_whole : {V : Type 0} (c : ℕ) (one other : Reader V) → Whole one → Whole other → Whole (either c one other)
+either_whole c one other one_whole other_whole bytes v rest e = elim (which c one other bytes) [
   | inl (h, is) ↦ one_whole bytes v rest (sym is ∙ e)
   | inr (h, is) ↦ other_whole bytes v rest (sym is ∙ e)
 ]
 
 frame_whole : Whole frame_at
 frame_whole =
-    seen_whole parts_of _ (both_whole stamp_at _ (λ _. both_whole place_at _ (λ _. both_whole identifier_at _ (λ _. both_whole (byte_at (code "#")) _
-    (λ _. both_whole body_at _ (λ _. both_whole mark_at (λ _. end_at) (λ _. end_done)))))))
+    then_whole stamp_at _ (λ _. then_whole place_at _ (λ _. then_whole identifier_at _ (λ _. then_whole (byte_at (code "#")) _
+    (λ _. then_whole body_at _ (λ _. then_whole mark_at _ (λ _. giving_whole _ end_at end_done))))))
 
 line_whole : Whole line_at
-line_whole = either_whole (λ b. b == code "(") opened_at empty_at (seen_whole (λ p. Some p.1) _ (both_whole (byte_at (code "(")) (λ _. frame_at) (λ _. frame_whole)))
-    (seen_whole (λ _. None) end_at end_done)
+line_whole = either_whole (code "(") opened_at blank_at (then_whole (byte_at (code "(")) _ (λ _. giving_whole Some frame_at frame_whole))
+    (giving_whole (λ _. None) end_at end_done)
 
 -- ---- forms and meanings
 
 form_means : (o : Option Parts) (bytes : List ℕ) → LineForm o bytes → LineMeans bytes (meaning_by o)
-form_means o bytes (inl (p, f, is)) =
-    let n = f.second.0 in
-    let t = to_tree n f.back f.second.1 in
+form_means o bytes (inl f) =
+    let (p, form, is) = f.second in
+    let l = line_to p f.back form in
     let whole : bytes ≡ code "(" ∷ f.back = f.is ∙ ap (λ (z : List ℕ). z ++ f.back) f.first in
-    let text = subst (IsLineText (spell_line (tree_of n))) (sym whole) t.1 in
-    subst (λ (o : Option Parts). LineMeans bytes (meaning_by o)) is (tree_of n, t.0, text, ap stamped_by (sym f.second.2))
+    let text = subst (IsLineText (spell_line l.line)) (sym whole) l.spelled in
+    subst (λ (o : Option Parts). LineMeans bytes (meaning_by o)) is (l.line, l.legal, text, ap stamped_of (sym l.parts))
 form_means o bytes (inr (p, e, is)) = subst (λ (o : Option Parts). LineMeans bytes (meaning_by o)) is e
 
 open_paren : (l : LineSpelling) (bytes : List ℕ) → IsLineText (spell_line l) bytes → bytes ≡ code "(" ∷ drop 1 bytes
@@ -110,10 +97,8 @@ means_form : (bytes : List ℕ) (s : Option Stamped) → LineMeans bytes s → (
 means_form bytes None e = (None, inr (tt, e, refl), refl)
 means_form bytes (Some s) (l, is, ends, eq) =
     let whole = open_paren l bytes ends in
-    let f = from_tree l (drop 1 bytes) is (subst (IsLineText (spell_line l)) whole ends) in
-    let opened : Opened (Some (parts_in l)) (code "(" ∷ drop 1 bytes) =
-    ((tt, parts_in l), both_of (codes "(") (drop 1 bytes) refl (nested_of l, f, refl), refl)
-    in
+    let f = line_from l (drop 1 bytes) is (subst (IsLineText (spell_line l)) whole ends) in
+    let opened : Opened (Some (parts_in l)) (code "(" ∷ drop 1 bytes) = then_of tt (codes "(") (drop 1 bytes) refl (parts_in l, f, refl) in
     (Some (parts_in l), inl (subst (Opened (Some (parts_in l))) (sym whole) opened), ap (λ (z : Stamped). Some z) (sym eq))
 
 -- ---- what was read
@@ -146,13 +131,10 @@ fits_body (remote ds d) h = tt
 fits_body (fd flag ds) h = h.1
 
 form_parts : (o : Option Parts) (bytes : List ℕ) → LineForm o bytes → AreLineParts o
-form_parts o bytes (inl (p, f, is)) =
-    let n = f.second.0 in
-    let t = to_tree n f.back f.second.1 in
-    subst AreLineParts is (subst AreParts f.second.2 (record {
-      identifier = t.0.identifier;
-      body = fits_body n.1.1.1.1.0 t.0.body;
-    }))
+form_parts o bytes (inl f) =
+    let (p, form, is) = f.second in
+    let l = line_to p f.back form in
+    subst AreLineParts is (subst AreParts l.parts (record { identifier = l.legal.identifier; body = fits_body l.line.body l.legal.body }))
 form_parts o bytes (inr (p, e, is)) = subst AreLineParts is tt
 
 -- The parts of a line are of their lengths.
@@ -173,26 +155,33 @@ form_becomes bytes c = (c.more, meaning_by c.value, c.few, form_means c.value (b
 
 -- A line that falls short can be completed.
 pub short_becomes : (bytes : List ℕ) → line_at bytes ≡ Err short → HasCompletion bytes
-short_becomes bytes e = elim (which (λ b. b == code "(") opened_at empty_at bytes) [
-  | inl (h, is) ↦ opened bytes h (seen_failed (λ p. Some p.1) (both (byte_at (code "(")) (λ _. frame_at)) bytes short (sym is ∙ e))
-  | inr (h, is) ↦ form_becomes bytes (can_end_as (λ o. o) (λ o text form. inr form) 16 (omega arith) (empty_law.shorts bytes (sym is ∙ e)))
+short_becomes bytes e = elim (which (code "(") opened_at blank_at bytes) [
+  | inl (h, is) ↦ opened bytes h (sym is ∙ e)
+  | inr (h, is) ↦ form_becomes bytes (can_end_as (λ o. o) (λ o text form. inr form) 16 (omega arith) (blank_law.shorts bytes (sym is ∙ e)))
 ]
   where
-    behind_paren : (rest : List ℕ) → both (byte_at (code "(")) (λ _. frame_at) (code "(" ∷ rest) ≡ Err short → frame_at rest ≡ Err short
+    behind_paren : (rest : List ℕ) → opened_at (code "(" ∷ rest) ≡ Err short → frame_at rest ≡ Err short
     behind_paren rest k =
-        let reads = both_is (byte_at (code "(")) (λ _. frame_at) (code "(" ∷ rest) tt rest (byte_is (code "(") rest) in
-        elim (bind_err (frame_at rest) (λ y. Ok ((tt {0}, y.0), y.1)) short (sym reads ∙ k)) [ inl failed ↦ failed | inr worked ↦ absurd cc ]
+        let reads = then_is (byte_at (code "(")) (λ _. giving Some frame_at) (code "(" ∷ rest) tt rest (byte_is (code "(") rest) in
+        giving_failed Some frame_at rest short (sym reads ∙ k)
 
-    opened : (bytes : List ℕ) → Starts (λ b. b == code "(") bytes → both (byte_at (code "(")) (λ _. frame_at) bytes ≡ Err short → HasCompletion bytes
+    opened : (bytes : List ℕ) → Starts (λ b. b == code "(") bytes → opened_at bytes ≡ Err short → HasCompletion bytes
     opened [] h k = absurd h
     opened (b ∷ rest) h k =
         let is : b ≡ code "(" = eqb-true b (code "(") h in
-        let c = frame_law.shorts rest (behind_paren rest (ap (λ (z : ℕ). both (byte_at (code "(")) (λ _. frame_at) (z ∷ rest)) (sym is) ∙ k)) in
+        let c = frame_law.shorts rest (behind_paren rest (ap (λ (z : ℕ). opened_at (z ∷ rest)) (sym is) ∙ k)) in
         form_becomes (b ∷ rest) (record {
           more = c.more;
           value = Some c.value;
           few = c.few;
-          form = inl ((tt, c.value), record { front = codes "("; back = rest ++ c.more; first = refl; second = c.form; is = ap (λ (z : ℕ). z ∷ (rest ++ c.more)) is }, refl);
+          form = inl (record {
+            value = tt;
+            front = codes "(";
+            back = rest ++ c.more;
+            first = refl;
+            second = (c.value, c.form, refl);
+            is = ap (λ (z : ℕ). z ∷ (rest ++ c.more)) is;
+          });
         })
 
 open_becomes : (bytes : List ℕ) (r : FieldRead (Option Parts)) → line_at bytes ≡ r → IsOpen r → HasCompletion bytes
@@ -203,7 +192,7 @@ open_becomes bytes (Err (refused rest)) e h = absurd h
 -- ---- what is refused
 
 -- A byte that is refused is the first that no line has there.
-pub refused_first : (bytes rest : List ℕ) → line_at bytes ≡ Err (refused rest) → IsFirstRefused bytes rest
+pub refused_first : (bytes rest : List ℕ) → line_at bytes ≡ Err (refused rest) → IsRefusedFrom bytes rest
 refused_first bytes rest e =
     let r = line_law.refuses bytes rest e in
     record {

@@ -1,7 +1,7 @@
--- Results: what they hold, and what is known of two steps of which the second takes what the first gives.
+-- Results: what they hold, and what is known of two fields that are read one after the other.
 use Rattle.std.proofs.Common.{◌≡◌, List, ℕ, Result, Ok, Err, refl, ap, inl, inr, ◌⊎◌}
 use Rattle.std.specs.Prelude.{OnOk, IsOk}
-use Rattle.can_log.specs.FieldReader.{Trouble, refused, FieldRead, ◌>>=◌}
+use Rattle.can_log.specs.FieldReader.{Stop, refused, FieldRead, Reader, read_on}
 
 pub from_ok : {A E P : Type 0} (r : Result A E) → OnOk r P → IsOk r → P
 from_ok (Ok x) h ok = h
@@ -20,13 +20,13 @@ rest_is {V} v w a b e = ap (λ (q : V × List ℕ). q.1) (ok_is (v, a) (w, b) e)
 pub refused_is : {V : Type 0} (a b : List ℕ) → ◌≡◌ {A = FieldRead V} (Err (refused a)) (Err (refused b)) → a ≡ b
 refused_is a b e = cc
 
--- what a first step gave, where the second gave a value
-pub bind_ok : {A B : Type 0} (r : Result A Trouble) (f : A → Result B Trouble) (y : B) → (r >>= f) ≡ Ok y → (x : A) × (r ≡ Ok x) × (f x ≡ Ok y)
-bind_ok (Ok x) f y e = (x, refl, e)
-bind_ok (Err d) f y e = absurd cc
+-- what a first field gave, where the second gave a value
+pub read_on-ok : {V W : Type 0} (r : FieldRead V) (next : V → Reader W) (y : W × List ℕ) → read_on r next ≡ Ok y → (x : V × List ℕ) × (r ≡ Ok x) × (next x.0 x.1 ≡ Ok y)
+read_on-ok (Ok x) next y e = (x, refl, e)
+read_on-ok (Err t) next y e = absurd cc
 
--- which step failed
-pub bind_err : {A B : Type 0} (r : Result A Trouble) (f : A → Result B Trouble) (t : Trouble) → (r >>= f) ≡ Err t
-    → (r ≡ Err t) ⊎ ((x : A) × (r ≡ Ok x) × (f x ≡ Err t))
-bind_err (Ok x) f t e = inr (x, refl, e)
-bind_err (Err d) f t e = inl cc
+-- which of the two failed
+pub read_on-err : {V W : Type 0} (r : FieldRead V) (next : V → Reader W) (t : Stop) → read_on r next ≡ Err t
+    → (r ≡ Err t) ⊎ ((x : V × List ℕ) × (r ≡ Ok x) × (next x.0 x.1 ≡ Err t))
+read_on-err (Ok x) next t e = inr (x, refl, e)
+read_on-err (Err d) next t e = inl cc

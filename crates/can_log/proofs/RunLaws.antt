@@ -1,17 +1,17 @@
 -- The law of one byte, and of a run of bytes.
-use Rattle.std.proofs.Common.{◌≡◌, ℕ, zero, suc, ◌-◌, ◌<◌, ◌≤◌, Bool, true, false, cond, ltb, refl, sym, ap, subst, ◌∙◌, arith, inl, inr}
+use Rattle.std.proofs.Common.{◌≡◌, ℕ, zero, suc, ◌+◌, ◌-◌, ◌<◌, ◌≤◌, Bool, true, false, cond, ltb, refl, sym, ap, subst, ◌∙◌, arith, inl, inr}
 use Rattle.std.proofs.Common.{List, [], ◌∷◌, ◌++◌, length, length-append, Ok, Err}
 use Rattle.std.specs.Prelude.{◌≢◌, ◌==◌, replicate}
 use Rattle.std.specs.List.{AllByRecursion}
 use Rattle.std.proofs.lemmas.Bool.{cases_Bool, cases_eq, cases_lt, eqb-true, eq-eqb, ne_eqb, le-ltb, lt-ltb}
 use Rattle.std.proofs.lemmas.List.{append-nil, take_at, drop_at, length-replicate}
 use Rattle.can_log.specs.declared.field.Class.{Class}
-use Rattle.can_log.specs.FieldReader.{short, refused, FieldRead, is_in, stop_at, run_len, run_at, byte_at}
+use Rattle.can_log.specs.FieldReader.{short, refused, FieldRead, Reader, ◌>>◌, is_in, stop_at, run_length, run_at, byte_at}
 use Rattle.can_log.proofs.EachElement.{AllByRecursion-append, AllByRecursion-replicate}
-use Rattle.can_log.proofs.FirstBytes.{Follows, Starts, AnyByte, follows_first, starts_first}
+use Rattle.can_log.proofs.FirstBytes.{Follows, Starts, AnyByte, any_follows, follows_first, starts_first}
 use Rattle.can_log.proofs.Results.{ok_is, rest_is, refused_is}
-use Rattle.can_log.proofs.FieldLaws.{Takes, Refuses, CanEnd, Law, Both}
-use Rattle.can_log.proofs.Runs.{run_len-done, run_len-nil, run_len-in, run_len-out}
+use Rattle.can_log.proofs.FieldLaws.{Takes, Refuses, CanEnd, Law, Then, then_law}
+use Rattle.can_log.proofs.Runs.{run_length-done, run_length-nil, run_length-in, run_length-out}
 
 -- ---- one byte
 
@@ -69,6 +69,19 @@ byte_law c = record {
   shorts = byte_shorts c;
 }
 
+-- how many bytes are needed where nothing was read
+pub byte_begins : (c : ℕ) → CanEnd (OneByte c) 1 []
+byte_begins c = record { more = c ∷ []; value = tt; few = omega arith; form = refl }
+
+-- the law of a byte and what is read behind it
+pub behind_byte : (c : ℕ) {W : Type 0} {next : Reader W} {Next : W → List ℕ → Type 0} {may_follow : ℕ → Type 0} {n m : ℕ}
+    → Law next Next may_follow n → CanEnd Next m [] → (most : ℕ) → 1 + m ≤ most → n ≤ most
+    → Law (byte_at c >> next) (Then (OneByte c) (λ _. Next)) may_follow most
+behind_byte c {m = m} law begins most room next_room = then_law (byte_law c) (λ _. law) m most room next_room (record {
+  follows = λ v w text rest form after. any_follows (text ++ rest);
+  begins = λ _. begins;
+})
+
 -- ---- a run
 
 abbrev pub AllIn : Class → List ℕ → Type 0
@@ -95,13 +108,13 @@ record FrontRun (class : Class) (most : ℕ) (bytes : List ℕ) : Type 0 where
   pub text : List ℕ
   pub rest : List ℕ
   pub parts : bytes ≡ text ++ rest
-  pub len : run_len class most (text ++ rest) ≡ length text
+  pub len : run_length class most (text ++ rest) ≡ length text
   pub each : AllIn class text
   pub few : length text ≤ most
 
 front_run : (class : Class) (most : ℕ) (bytes : List ℕ) → FrontRun class most bytes
-front_run class zero bytes = record { text = []; rest = bytes; parts = refl; len = run_len-done class bytes; each = tt; few = omega arith }
-front_run class (suc most) [] = record { text = []; rest = []; parts = refl; len = run_len-nil class (suc most); each = tt; few = omega arith }
+front_run class zero bytes = record { text = []; rest = bytes; parts = refl; len = run_length-done class bytes; each = tt; few = omega arith }
+front_run class (suc most) [] = record { text = []; rest = []; parts = refl; len = run_length-nil class (suc most); each = tt; few = omega arith }
 front_run class (suc most) (b ∷ bytes) = elim (cases_Bool (is_in class b)) [
   | inl into ↦
       let p = front_run class most bytes in
@@ -109,58 +122,58 @@ front_run class (suc most) (b ∷ bytes) = elim (cases_Bool (is_in class b)) [
         text = b ∷ p.text;
         rest = p.rest;
         parts = ap (λ (z : List ℕ). b ∷ z) p.parts;
-        len = run_len-in class most b (p.text ++ p.rest) into ∙ ap suc p.len;
+        len = run_length-in class most b (p.text ++ p.rest) into ∙ ap suc p.len;
         each = (into, p.each);
         few = omega (arith, p.few);
       }
-  | inr out ↦ record { text = []; rest = b ∷ bytes; parts = refl; len = run_len-out class (suc most) b bytes out; each = tt; few = omega arith }
+  | inr out ↦ record { text = []; rest = b ∷ bytes; parts = refl; len = run_length-out class (suc most) b bytes out; each = tt; few = omega arith }
 ]
 
 -- a run that stops before one byte stops there whatever follows it
-len_peeks : (class : Class) (most : ℕ) (text : List ℕ) (b : ℕ) (after other : List ℕ) → run_len class most (text ++ b ∷ after) ≡ length text
-    → run_len class most (text ++ b ∷ other) ≡ length text
-len_peeks class zero text b after other e = run_len-done class (text ++ b ∷ other) ∙ sym (run_len-done class (text ++ b ∷ after)) ∙ e
+len_peeks : (class : Class) (most : ℕ) (text : List ℕ) (b : ℕ) (after other : List ℕ) → run_length class most (text ++ b ∷ after) ≡ length text
+    → run_length class most (text ++ b ∷ other) ≡ length text
+len_peeks class zero text b after other e = run_length-done class (text ++ b ∷ other) ∙ sym (run_length-done class (text ++ b ∷ after)) ∙ e
 len_peeks class (suc most) [] b after other e = elim (cases_Bool (is_in class b)) [
-  | inl into ↦ absurd (omega (arith, run_len-in class most b after into, e))
-  | inr out ↦ run_len-out class (suc most) b other out
+  | inl into ↦ absurd (omega (arith, run_length-in class most b after into, e))
+  | inr out ↦ run_length-out class (suc most) b other out
 ]
 len_peeks class (suc most) (c ∷ text) b after other e = elim (cases_Bool (is_in class c)) [
   | inl into ↦
-      let tail : run_len class most (text ++ b ∷ after) ≡ length text = omega (arith, run_len-in class most c (text ++ b ∷ after) into, e) in
-      run_len-in class most c (text ++ b ∷ other) into ∙ ap suc (len_peeks class most text b after other tail)
-  | inr out ↦ absurd (omega (arith, run_len-out class (suc most) c (text ++ b ∷ after) out, e))
+      let tail : run_length class most (text ++ b ∷ after) ≡ length text = omega (arith, run_length-in class most c (text ++ b ∷ after) into, e) in
+      run_length-in class most c (text ++ b ∷ other) into ∙ ap suc (len_peeks class most text b after other tail)
+  | inr out ↦ absurd (omega (arith, run_length-out class (suc most) c (text ++ b ∷ after) out, e))
 ]
 
 len_of : (class : Class) (most : ℕ) (text rest : List ℕ) → AllIn class text → length text ≤ most → Follows (NotIn class) rest
-    → run_len class most (text ++ rest) ≡ length text
-len_of class zero [] rest all few after = run_len-done class rest
+    → run_length class most (text ++ rest) ≡ length text
+len_of class zero [] rest all few after = run_length-done class rest
 len_of class zero (b ∷ text) rest all few after = absurd (omega arith)
-len_of class (suc most) [] [] all few after = run_len-nil class (suc most)
-len_of class (suc most) [] (b ∷ rest) all few after = run_len-out class (suc most) b rest after
+len_of class (suc most) [] [] all few after = run_length-nil class (suc most)
+len_of class (suc most) [] (b ∷ rest) all few after = run_length-out class (suc most) b rest after
 len_of class (suc most) (b ∷ text) rest all few after =
-    run_len-in class most b (text ++ rest) all.0 ∙ ap suc (len_of class most text rest all.1 (omega arith) after)
+    run_length-in class most b (text ++ rest) all.0 ∙ ap suc (len_of class most text rest all.1 (omega arith) after)
 
 -- a run of the most bytes, which any byte may follow
-len_full : (class : Class) (most : ℕ) (text rest : List ℕ) → AllIn class text → length text ≡ most → run_len class most (text ++ rest) ≡ length text
-len_full class zero [] rest all full = run_len-done class rest
+len_full : (class : Class) (most : ℕ) (text rest : List ℕ) → AllIn class text → length text ≡ most → run_length class most (text ++ rest) ≡ length text
+len_full class zero [] rest all full = run_length-done class rest
 len_full class zero (b ∷ text) rest all full = absurd (omega arith)
 len_full class (suc most) [] rest all full = absurd (omega arith)
 len_full class (suc most) (b ∷ text) rest all full =
-    run_len-in class most b (text ++ rest) all.0 ∙ ap suc (len_full class most text rest all.1 (omega arith))
+    run_length-in class most b (text ++ rest) all.0 ∙ ap suc (len_full class most text rest all.1 (omega arith))
 
 -- ---- how it is read
 
 module _ (class : Class) (least most : ℕ) where
-  run_is : (text rest : List ℕ) → run_len class most (text ++ rest) ≡ length text
+  run_is : (text rest : List ℕ) → run_length class most (text ++ rest) ≡ length text
       → run_at class least most (text ++ rest) ≡ cond (ltb (length text) least) (Err (stop_at rest)) (Ok (text, rest))
   unfolding run_at
   run_is text rest e = rw (e, take_at text rest (length text) refl, drop_at text rest (length text) refl) refl
 
-  run_ok : (text rest : List ℕ) → run_len class most (text ++ rest) ≡ length text → least ≤ length text
+  run_ok : (text rest : List ℕ) → run_length class most (text ++ rest) ≡ length text → least ≤ length text
       → run_at class least most (text ++ rest) ≡ Ok (text, rest)
   run_ok text rest e enough = run_is text rest e ∙ rw (le-ltb (length text) least enough) refl
 
-  run_few : (text rest : List ℕ) → run_len class most (text ++ rest) ≡ length text → length text < least
+  run_few : (text rest : List ℕ) → run_length class most (text ++ rest) ≡ length text → length text < least
       → run_at class least most (text ++ rest) ≡ Err (stop_at rest)
   run_few text rest e few = run_is text rest e ∙ rw (lt-ltb (length text) least few) refl
 
@@ -186,14 +199,14 @@ module _ (class : Class) (least most : ℕ) where
           parts = p.parts;
           form = record { is = refl; each = p.each; enough = enough; few = p.few };
           peeks = λ b after other eq.
-              let len = ap (λ (z : List ℕ). run_len class most (p.text ++ z)) (sym eq) ∙ p.len in
+              let len = ap (λ (z : List ℕ). run_length class most (p.text ++ z)) (sym eq) ∙ p.len in
               run_ok p.text (b ∷ other) (len_peeks class most p.text b after other len) enough;
         })
     | too_short p few is ↦ absurd (cc (is, e))
   ]
 
   refused_behind : (bytes rest text end : List ℕ) → bytes ≡ text ++ end → AllIn class text → length text ≤ most
-      → run_len class most (text ++ end) ≡ length text → length text < least
+      → run_length class most (text ++ end) ≡ length text → length text < least
       → ◌≡◌ {A = FieldRead (List ℕ)} (Err (stop_at end)) (Err (refused rest)) → Refuses (run_at class least most) bytes rest
   refused_behind bytes rest text [] parts each within len few is = absurd cc
   refused_behind bytes rest text (b ∷ after) parts each within len few is = record {
@@ -269,9 +282,6 @@ exact_law class n w in_class = record {
 -- ---- what a byte, and a run, begin with
 
 -- how many bytes are needed where nothing was read
-pub byte_begins : (c : ℕ) → CanEnd (OneByte c) 1 []
-byte_begins c = record { more = c ∷ []; value = tt; few = omega arith; form = refl }
-
 pub run_begins : (class : Class) (least most w : ℕ) → is_in class w ≡ true → least ≤ most → CanEnd (IsRun class least most) least []
 run_begins class least most w h room =
     let long = length-replicate {A = ℕ} least w in
@@ -301,9 +311,8 @@ run_starts test class least most v text r some passes =
     starts_first test text first.0 first.1 first.2 (passes first.0 first.3)
 
 -- a byte, and what follows it
-pub both_starts : (test : ℕ → Bool) (c : ℕ) → test c ≡ true → {W : Type 0} {Next : Unit {0} → W → List ℕ → Type 0} {p : Unit {0} × W} (text : List ℕ)
-    → Both (OneByte c) Next p text → Starts test text
-both_starts test c h text f = starts_first test text c f.back (f.is ∙ ap (λ (z : List ℕ). z ++ f.back) f.first) h
+pub then_starts : (c : ℕ) {W : Type 0} {Next : Unit {0} → W → List ℕ → Type 0} {w : W} (text : List ℕ) → Then (OneByte c) Next w text → Starts (λ b. b == c) text
+then_starts c text f = starts_first (λ b. b == c) text c f.back (f.is ∙ ap (λ (z : List ℕ). z ++ f.back) f.first) (eq-eqb c c refl)
 
 -- ---- bytes that are not of a class
 

@@ -1,15 +1,15 @@
--- The laws of readers whose value is seen by a function or has to pass a test, of the reader of nothing, and of the end.
+-- The laws of readers whose value is made of the one that was read or has to pass a test, of the reader of nothing, and of the end.
 use Prim.Native.Char.{code}
 use Rattle.std.proofs.Common.{◌≡◌, ℕ, ◌≤◌, Bool, true, false, cond, refl, sym, ap, subst, ◌∙◌, arith, inl, inr, ◌⊎◌}
 use Rattle.std.proofs.Common.{List, [], ◌∷◌, ◌++◌, Ok, Err}
 use Rattle.std.specs.Prelude.{◌≢◌, codes}
 use Rattle.std.proofs.lemmas.Bool.{cases_Bool, cases_eq, cond_both, ne_eqb}
 use Rattle.std.proofs.lemmas.List.{append-nil}
-use Rattle.can_log.specs.FieldReader.{Trouble, short, refused, FieldRead, stop_at, seen, only, nothing_at}
+use Rattle.can_log.specs.FieldReader.{Stop, short, refused, FieldRead, Reader, and_then, done, stop_at, only}
 use Rattle.can_log.specs.LineReader.{end_at}
 use Rattle.can_log.proofs.FirstBytes.{Follows, AnyByte, follows_weaker}
-use Rattle.can_log.proofs.Results.{ok_is, value_is, rest_is, refused_is, bind_ok, bind_err}
-use Rattle.can_log.proofs.FieldLaws.{Reader, Takes, IsOpen, Refuses, CanEnd, Law, refuses_as, can_end_as, open_bind, reads_again}
+use Rattle.can_log.proofs.Results.{ok_is, value_is, rest_is, refused_is, read_on-ok, read_on-err}
+use Rattle.can_log.proofs.FieldLaws.{Takes, IsOpen, Refuses, CanEnd, Law, refuses_as, can_end_as, open_on, reads_again}
 
 -- fewer bytes may follow, and more may be needed
 pub weaken : {V : Type 0} {read : Reader V} {Form : V → List ℕ → Type 0} {may_follow : ℕ → Type 0} {k : ℕ} → (fewer : ℕ → Type 0) (most : ℕ)
@@ -21,56 +21,63 @@ weaken {may_follow = may_follow} fewer most law less room = record {
   shorts = λ bytes e. can_end_as (λ v. v) (λ v text form. form) most room (law.shorts bytes e);
 }
 
--- ---- a value that is seen
+-- ---- a value made of the one that was read
 
-abbrev pub Seen : {V W : Type 0} → (V → W) → (V → List ℕ → Type 0) → W → List ℕ → Type 0
-Seen {V} view Form w text = (v : V) × Form v text × (view v ≡ w)
+abbrev pub giving : {V W : Type 0} → (V → W) → Reader V → Reader W
+giving view read = and_then read (λ v. done (view v))
+
+abbrev pub Giving : {V W : Type 0} → (V → W) → (V → List ℕ → Type 0) → W → List ℕ → Type 0
+Giving {V} view Form w text = (v : V) × Form v text × (view v ≡ w)
 
 module _ {V W : Type 0} (view : V → W) (read : Reader V) where
-  seen_ok : (bytes : List ℕ) (v : V) (rest : List ℕ) → read bytes ≡ Ok (v, rest) → seen view read bytes ≡ Ok (view v, rest)
-  unfolding seen
-  seen_ok bytes v rest e = rw e refl
+  giving_ok : (bytes : List ℕ) (v : V) (rest : List ℕ) → read bytes ≡ Ok (v, rest) → giving view read bytes ≡ Ok (view v, rest)
+  unfolding and_then done
+  giving_ok bytes v rest e = rw e refl
 
-  seen_err : (bytes : List ℕ) (t : Trouble) → read bytes ≡ Err t → seen view read bytes ≡ Err t
-  unfolding seen
-  seen_err bytes t e = rw e refl
+  giving_err : (bytes : List ℕ) (t : Stop) → read bytes ≡ Err t → giving view read bytes ≡ Err t
+  unfolding and_then
+  giving_err bytes t e = rw e refl
 
-  pub seen_failed : (bytes : List ℕ) (t : Trouble) → seen view read bytes ≡ Err t → read bytes ≡ Err t
-  unfolding seen
-  seen_failed bytes t e = elim (bind_err (read bytes) (λ x. Ok (view x.0, x.1)) t e) [ inl failed ↦ failed | inr worked ↦ absurd cc ]
+  pub giving_failed : (bytes : List ℕ) (t : Stop) → giving view read bytes ≡ Err t → read bytes ≡ Err t
+  unfolding and_then done
+  giving_failed bytes t e = elim (read_on-err (read bytes) (λ v. done (view v)) t e) [ inl failed ↦ failed | inr worked ↦ absurd cc ]
 
-  open_seen : (text : List ℕ) → IsOpen (read text) → IsOpen (seen view read text)
-  unfolding seen
-  open_seen text h = open_bind (read text) (λ x. Ok (view x.0, x.1)) h (λ v. refl)
+  open_giving : (text : List ℕ) → IsOpen (read text) → IsOpen (giving view read text)
+  unfolding and_then done
+  open_giving text h = open_on (read text) (λ v. done (view v)) h (λ v. refl)
 
 module _ {V W : Type 0} (view : V → W) {read : Reader V} {Form : V → List ℕ → Type 0} {may_follow : ℕ → Type 0} {k : ℕ}
     (law : Law read Form may_follow k) where
-  seen_takes : (bytes : List ℕ) (w : W) (rest : List ℕ) → seen view read bytes ≡ Ok (w, rest) → Takes (seen view read) (Seen view Form) bytes w rest
-  unfolding seen
-  seen_takes bytes w rest e =
-      let x = bind_ok (read bytes) (λ x. Ok (view x.0, x.1)) (w, rest) e in
+  giving_takes : (bytes : List ℕ) (w : W) (rest : List ℕ) → giving view read bytes ≡ Ok (w, rest) → Takes (giving view read) (Giving view Form) bytes w rest
+  unfolding and_then done
+  giving_takes bytes w rest e =
+      let x = read_on-ok (read bytes) (λ v. done (view v)) (w, rest) e in
       let t = law.takes bytes x.0.0 x.0.1 x.1 in
-      subst (λ (q : W × List ℕ). Takes (seen view read) (Seen view Form) bytes q.0 q.1) (ok_is (view x.0.0, x.0.1) (w, rest) x.2) (record {
+      subst (λ (q : W × List ℕ). Takes (giving view read) (Giving view Form) bytes q.0 q.1) (ok_is (view x.0.0, x.0.1) (w, rest) x.2) (record {
         text = t.text;
         parts = t.parts;
         form = (x.0.0, t.form, refl);
-        peeks = λ b after other h. seen_ok view read (t.text ++ b ∷ other) x.0.0 (b ∷ other) (t.peeks b after other h);
+        peeks = λ b after other h. giving_ok view read (t.text ++ b ∷ other) x.0.0 (b ∷ other) (t.peeks b after other h);
       })
 
-  seen_refuses : (bytes rest : List ℕ) → seen view read bytes ≡ Err (refused rest) → Refuses (seen view read) bytes rest
-  seen_refuses bytes rest e =
-      let r = law.refuses bytes rest (seen_failed view read bytes (refused rest) e) in
-      refuses_as (seen view read) r (λ other. seen_err view read (r.text ++ r.bad ∷ other) (refused (r.bad ∷ other)) (r.for_good other))
-      (open_seen view read r.text r.so_far)
+  giving_refuses : (bytes rest : List ℕ) → giving view read bytes ≡ Err (refused rest) → Refuses (giving view read) bytes rest
+  giving_refuses bytes rest e =
+      let r = law.refuses bytes rest (giving_failed view read bytes (refused rest) e) in
+      refuses_as (giving view read) r (λ other. giving_err view read (r.text ++ r.bad ∷ other) (refused (r.bad ∷ other)) (r.for_good other))
+      (open_giving view read r.text r.so_far)
 
-  pub seen_law : Law (seen view read) (Seen view Form) may_follow k
-  seen_law = record {
-    takes = seen_takes;
+  pub giving_law : Law (giving view read) (Giving view Form) may_follow k
+  giving_law = record {
+    takes = giving_takes;
     again = λ w text rest (v, form, is) after.
-        seen_ok view read (text ++ rest) v rest (law.again v text rest form after) ∙ ap (λ (z : W). Ok (z, rest)) is;
-    refuses = seen_refuses;
-    shorts = λ bytes e. can_end_as view (λ v text form. (v, form, refl)) k (omega arith) (law.shorts bytes (seen_failed view read bytes short e));
+        giving_ok view read (text ++ rest) v rest (law.again v text rest form after) ∙ ap (λ (z : W). Ok (z, rest)) is;
+    refuses = giving_refuses;
+    shorts = λ bytes e. can_end_as view (λ v text form. (v, form, refl)) k (omega arith) (law.shorts bytes (giving_failed view read bytes short e));
   }
+
+-- how many bytes are needed where nothing was read
+pub giving_begins : {V W : Type 0} {Form : V → List ℕ → Type 0} {k : ℕ} (view : V → W) → CanEnd Form k [] → CanEnd (Giving view Form) k []
+giving_begins {k = k} view c = can_end_as view (λ v text form. (v, form, refl)) k (omega arith) c
 
 -- ---- a value that passes a test
 
@@ -88,13 +95,13 @@ module _ {V : Type 0} (test : V → Bool) (read : Reader V) where
   only_stops : (bytes : List ℕ) (v : V) (rest : List ℕ) → read bytes ≡ Ok (v, rest) → test v ≡ false → only test read bytes ≡ Err (stop_at rest)
   only_stops bytes v rest e fails = only_is bytes v rest e ∙ rw fails refl
 
-  only_err : (bytes : List ℕ) (t : Trouble) → read bytes ≡ Err t → only test read bytes ≡ Err t
+  only_err : (bytes : List ℕ) (t : Stop) → read bytes ≡ Err t → only test read bytes ≡ Err t
   unfolding only
   only_err bytes t e = rw e refl
 
   open_only : (text : List ℕ) → IsOpen (read text) → IsOpen (only test read text)
   unfolding only
-  open_only text h = open_bind (read text) (λ x. cond (test x.0) (Ok x) (Err (stop_at x.1))) h
+  open_only text h = open_on (read text) (λ v rest. cond (test v) (Ok (v, rest)) (Err (stop_at rest))) h
       (λ v. cond_both (test v) (Ok (v, [])) (Err short) IsOpen (λ passes. refl) (λ fails. tt))
 
   -- how a tested field falls short
@@ -171,12 +178,12 @@ module _ {V : Type 0} (test : V → Bool) {read : Reader V} {Form : V → List �
 
 -- ---- nothing
 
-abbrev pub Nothing : {V : Type 0} → V → V → List ℕ → Type 0
-Nothing v w text = (w ≡ v) × (text ≡ [])
+abbrev pub Done : {V : Type 0} → V → V → List ℕ → Type 0
+Done v w text = (w ≡ v) × (text ≡ [])
 
-pub nothing_law : {V : Type 0} (v : V) → Law (nothing_at v) (Nothing v) AnyByte 0
-unfolding nothing_at
-nothing_law {V} v = record {
+pub done_law : {V : Type 0} (v : V) → Law (done v) (Done v) AnyByte 0
+unfolding done
+done_law {V} v = record {
   takes = λ bytes w rest e.
       let same = value_is v w bytes rest e in
       record { text = []; parts = rest_is v w bytes rest e; form = (sym same, refl); peeks = λ b after other h. ap (λ (z : V). Ok (z, b ∷ other)) same };

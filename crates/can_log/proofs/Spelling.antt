@@ -3,21 +3,22 @@ use Prim.Native.Char.{code}
 use Rattle.std.proofs.Common.{◌≡◌, ℕ, ◌%◌, ◌≤◌, Bool, true, false, refl, sym, ap, subst, ◌∙◌, arith, inl, inr, ◌⊎◌}
 use Rattle.std.proofs.Common.{List, [], ◌∷◌, ◌++◌, length, drop, append_assoc, Option, Some, None}
 use Rattle.std.specs.Prelude.{◌==◌, ◌&&◌, nat_lt, codes}
+use Rattle.std.specs.Char.{is_ascii_digit}
 use Rattle.std.specs.Str.Parse.{digits_value}
 use Rattle.std.proofs.lemmas.Bool.{cases_Bool, and_parts, or_cases, eqb-true, eq-eqb, ltb-true, ltb-false}
 use Rattle.std.proofs.lemmas.List.{append-nil}
 use Rattle.can_log.specs.declared.field.Class.{Class}
 use Rattle.can_log.specs.declared.field.Class.TheVariants.{UpToEight}
-use Rattle.can_log.specs.Line.{Body, classic, remote, fd, LineSpelling, spell_raw_dlc, spell_body, spell_mark, spell_line}
+use Rattle.can_log.specs.Line.{Body, classic, remote, fd, LineSpelling, Parts, parts_in, spell_raw_dlc, spell_body, spell_mark, spell_line}
 use Rattle.can_log.specs.Line.{IsRunOf, is_raw_dlc, IsDataText, IsBody, IsIdentifierText, IsMark, IsLineSpelling, IsLineText}
 use Rattle.can_log.specs.FieldReader.{is_in}
-use Rattle.can_log.specs.LineReader.{is_identifier, is_eight, Parts}
+use Rattle.can_log.specs.LineReader.{Stamp, is_identifier, is_eight}
 use Rattle.can_log.proofs.Lists.{parts_are}
 use Rattle.can_log.proofs.DigitValues.{AreHex, three_low, three_high}
-use Rattle.can_log.proofs.FieldLaws.{both_of}
+use Rattle.can_log.proofs.FieldLaws.{then_of}
 use Rattle.can_log.proofs.RunLaws.{IsRun}
 use Rattle.can_log.proofs.SmallFields.{IsEnd}
-use Rattle.can_log.proofs.LineFields.{Stamp, Place, IdForm, DataForm, Dlc, BodyForm, TailForm, Ending, BodyOn, HashOn, IdOn, PlaceOn, Nested, FrameOn, eight_is_id}
+use Rattle.can_log.proofs.LineFields.{StampForm, PlaceForm, IdForm, DataForm, Dlc, BodyForm, MarkForm, EndingForm, BodyOn, HashOn, IdOn, PlaceOn, FrameForm, eight_is_id}
 
 run_of : {class : Class} {least most : ℕ} {v text : List ℕ} → IsRun class least most v text → IsRunOf (is_in class) least most v
 run_of r = record { each = r.each; enough = r.enough; few = r.few }
@@ -36,14 +37,16 @@ abbrev RawOf : Bool → List ℕ → Option (List ℕ) → Type 0
 RawOf t text o = (text ≡ spell_raw_dlc o) × RawFits t o
 
 raw_to : (t : Bool) (o : Option (List ℕ)) (text : List ℕ) → Dlc t o text → RawOf t text o
-raw_to true o text (inl (p, f, is)) = subst (RawOf true text) is (parts_are f.is f.first f.second.is, (refl, run_of f.second))
+raw_to true o text (inl f) =
+    let (digit, run, is) = f.second in
+    subst (RawOf true text) is (parts_are f.is f.first run.is, (refl, run_of run))
 raw_to true o text (inr (is, none)) = subst (RawOf true text) (sym is) (none, tt)
 raw_to false o text (is, none) = subst (RawOf false text) (sym is) (none, tt)
 
 raw_from : (t : Bool) (o : Option (List ℕ)) → RawFits t o → Dlc t o (spell_raw_dlc o)
 raw_from true None h = inr (refl, refl)
 raw_from false None h = (refl, refl)
-raw_from true (Some d) h = inl ((tt, d), both_of (codes "_") d refl (of_run h.1), refl)
+raw_from true (Some d) h = inl (then_of tt (codes "_") d refl (d, of_run h.1, refl))
 raw_from false (Some d) h = absurd (cc h.0)
 
 -- ---- a body
@@ -74,29 +77,32 @@ abbrev BodyOf : List ℕ → Body → Type 0
 BodyOf text b = (text ≡ spell_body b) × IsBody b
 
 body_to : (b : Body) (text : List ℕ) → BodyForm b text → BodyOf text b
-body_to b text (inl (p, f, is)) =
+body_to b text (inl f) =
     let g = f.second in
-    let raw = raw_to (is_eight p.1.0) p.1.1 g.back g.second in
-    subst (BodyOf text) is (parts_are f.is f.first (parts_are g.is g.first.is raw.0), remote_is p.1.0 p.1.1 g.first raw.1)
-body_to b text (inr (inl (p, f, is))) =
+    let (dlc, form, is) = g.second in
+    let raw = raw_to (is_eight g.value) dlc g.back form in
+    subst (BodyOf text) is (parts_are f.is f.first (parts_are g.is g.first.is raw.0), remote_is g.value dlc g.first raw.1)
+body_to b text (inr (inl f)) =
     let g = f.second in
-    subst (BodyOf text) is (parts_are f.is f.first (parts_are g.is g.first.is g.second.0.is), (run_of g.first, data_to g.second))
-body_to b text (inr (inr (p, f, is))) =
-    let raw = raw_to (length p.0 == 16) p.1 f.back f.second in
-    subst (BodyOf text) is (parts_are f.is f.first.0.is raw.0, classic_is p.0 p.1 (data_to f.first) raw.1)
+    let (digits, form, is) = g.second in
+    subst (BodyOf text) is (parts_are f.is f.first (parts_are g.is g.first.is form.0.is), (run_of g.first, data_to form))
+body_to b text (inr (inr f)) =
+    let (dlc, form, is) = f.second in
+    let raw = raw_to (length f.value == 16) dlc f.back form in
+    subst (BodyOf text) is (parts_are f.is f.first.0.is raw.0, classic_is f.value dlc (data_to f.first) raw.1)
 
 body_from : (b : Body) → IsBody b → BodyForm b (spell_body b)
-body_from (classic ds None) h = inr (inr ((ds, None), both_of ds [] (data_from h) (raw_from (length ds == 16) None tt), refl))
+body_from (classic ds None) h = inr (inr (then_of ds ds [] (data_from h) (None, raw_from (length ds == 16) None tt, refl)))
 body_from (classic ds (Some d)) h =
     let raw = raw_from (length ds == 16) (Some d) (eq-eqb (length ds) 16 h.1, h.2) in
-    inr (inr ((ds, Some d), both_of ds (code "_" ∷ d) (data_from h.0) raw, refl))
+    inr (inr (then_of ds ds (code "_" ∷ d) (data_from h.0) (Some d, raw, refl)))
 body_from (remote ds None) h =
     let raw = raw_from (is_eight ds) None tt in
-    inl ((tt, (ds, None)), both_of (codes "R") (ds ++ []) refl (both_of ds [] (of_run h) raw), refl)
+    inl (then_of tt (codes "R") (ds ++ []) refl (then_of ds ds [] (of_run h) (None, raw, refl)))
 body_from (remote ds (Some d)) h =
     let raw = raw_from (is_eight ds) (Some d) (ap is_eight h.0, h.1) in
-    inl ((tt, (ds, Some d)), both_of (codes "R") (ds ++ code "_" ∷ d) refl (both_of ds (code "_" ∷ d) (eight_run ds h.0) raw), refl)
-body_from (fd flag ds) h = inr (inl ((tt, (flag, ds)), both_of (codes "#") (flag ++ ds) refl (both_of flag ds (of_run h.0) (data_from h.1)), refl))
+    inl (then_of tt (codes "R") (ds ++ code "_" ∷ d) refl (then_of ds ds (code "_" ∷ d) (eight_run ds h.0) (Some d, raw, refl)))
+body_from (fd flag ds) h = inr (inl (then_of tt (codes "#") (flag ++ ds) refl (then_of flag flag ds (of_run h.0) (ds, data_from h.1, refl))))
 
 -- ---- the identifier
 
@@ -140,35 +146,38 @@ id_from {ds} h = (of_run h.0, is_id_of ds h.0.each h.1)
 abbrev MarkOf : List ℕ → Option (List ℕ × List ℕ) → Type 0
 MarkOf text m = (text ≡ spell_mark m) × IsMark m
 
-mark_to : (m : Option (List ℕ × List ℕ)) (text : List ℕ) → TailForm m text → MarkOf text m
-mark_to m text (inl (p, f, is)) = subst (MarkOf text) is (parts_are f.is f.first.is f.second.is, (run_of f.first, run_of f.second))
+mark_to : (m : Option (List ℕ × List ℕ)) (text : List ℕ) → MarkForm m text → MarkOf text m
+mark_to m text (inl f) =
+    let (letter, run, is) = f.second in
+    subst (MarkOf text) is (parts_are f.is f.first.is run.is, (run_of f.first, run_of run))
 mark_to m text (inr (is, none)) = subst (MarkOf text) (sym is) (none, tt)
 
-mark_from : (m : Option (List ℕ × List ℕ)) → IsMark m → TailForm m (spell_mark m)
+mark_from : (m : Option (List ℕ × List ℕ)) → IsMark m → MarkForm m (spell_mark m)
 mark_from None h = inr (refl, refl)
-mark_from (Some m) h = inl (m, both_of m.0 m.1 (of_run h.0) (of_run h.1), refl)
+mark_from (Some m) h = inl (then_of m.0 m.0 m.1 (of_run h.0) (m.1, of_run h.1, refl))
+
+-- ---- the time
+
+abbrev StampOf : List ℕ → Stamp → Type 0
+StampOf text s =
+    (text ≡ s.seconds ++ code "." ∷ (s.micros ++ codes ")")) × IsRunOf is_ascii_digit 1 10 s.seconds × IsRunOf is_ascii_digit 6 6 s.micros
+
+stamp_to : (s : Stamp) (text : List ℕ) → StampForm s text → StampOf text s
+stamp_to s text f =
+    let g = f.second in
+    let h = g.second in
+    let (end, close, is) = h.second in
+    subst (StampOf text) is (parts_are f.is f.first.is (parts_are g.is g.first (parts_are h.is h.first.is close)), run_of f.first, run_of h.first)
+
+stamp_from : (s : Stamp) → IsRunOf is_ascii_digit 1 10 s.seconds → IsRunOf is_ascii_digit 6 6 s.micros
+    → StampForm s (s.seconds ++ code "." ∷ (s.micros ++ codes ")"))
+stamp_from s seconds micros =
+    let behind_seconds = code "." ∷ (s.micros ++ codes ")") in
+    let behind_point = s.micros ++ codes ")" in
+    then_of s.seconds s.seconds behind_seconds (of_run seconds)
+    (then_of tt (codes ".") behind_point refl (then_of s.micros s.micros (codes ")") (of_run micros) (tt, refl, refl)))
 
 -- ---- a line
-
--- the parts that its meaning rests on
-abbrev pub parts_in : LineSpelling → Parts
-parts_in l = record { seconds = l.seconds; micros = l.micros; identifier = l.identifier; body = l.body }
-
--- the parts of a line, from what was read of it, and what is read of a line with these parts
-abbrev pub tree_of : Nested → LineSpelling
-tree_of p = record {
-  seconds = p.0.0;
-  micros = p.0.1.1.0;
-  gap = p.1.0.0;
-  interface = p.1.0.1.0;
-  second_gap = p.1.0.1.1;
-  identifier = p.1.1.0;
-  body = p.1.1.1.1.0;
-  mark = p.1.1.1.1.1.0;
-}
-
-abbrev pub nested_of : LineSpelling → Nested
-nested_of l = ((l.seconds, (tt, (l.micros, tt))), ((l.gap, (l.interface, l.second_gap)), (l.identifier, (tt, (l.body, (l.mark, tt))))))
 
 -- its bytes after the `(`, as the readers nest them, with those of its end
 abbrev read_text : LineSpelling → List ℕ → List ℕ
@@ -179,17 +188,6 @@ read_text l end =
 read_text-spelled : (l : LineSpelling) (end : List ℕ) → read_text l end ≡ drop 1 (spell_line l) ++ end
 read_text-spelled l end = simp append_assoc
 
-stamp_text : (p : List ℕ × (Unit {0} × (List ℕ × Unit {0}))) (text : List ℕ) → Stamp p text → text ≡ p.0 ++ code "." ∷ (p.1.1.0 ++ codes ")")
-stamp_text p text f =
-    let g = f.second in
-    let h = g.second in
-    parts_are f.is f.first.is (parts_are g.is g.first (parts_are h.is h.first.is h.second))
-
-place_text : (p : List ℕ × (List ℕ × List ℕ)) (text : List ℕ) → Place p text → text ≡ p.0 ++ (p.1.0 ++ p.1.1)
-place_text p text f =
-    let g = f.second in
-    parts_are f.is f.first.is (parts_are g.is g.first.is g.second.is)
-
 -- a text with its end
 ends_of : (l : LineSpelling) (text end : List ℕ) → text ≡ read_text l end → IsEnd tt end → IsLineText (spell_line l) (code "(" ∷ text)
 ends_of l text end e (inl none) =
@@ -198,58 +196,86 @@ ends_of l text end e (inl none) =
 ends_of l text end e (inr cr) =
     inr (ap (λ (z : List ℕ). code "(" ∷ z) (e ∙ read_text-spelled l end ∙ ap (λ (z : List ℕ). drop 1 (spell_line l) ++ z) cr))
 
-pub to_tree : (p : Nested) (text : List ℕ) → FrameOn p text → IsLineSpelling (tree_of p) × IsLineText (spell_line (tree_of p)) (code "(" ∷ text)
-to_tree p text f =
+-- a line with these parts has this text after its `(`
+pub record LineOf (p : Parts) (text : List ℕ) : Type 0 where
+  pub line : LineSpelling
+  pub legal : IsLineSpelling line
+  pub spelled : IsLineText (spell_line line) (code "(" ∷ text)
+  pub parts : parts_in line ≡ p
+
+pub line_to : (p : Parts) (text : List ℕ) → FrameForm p text → LineOf p text
+line_to p text f =
     let place = f.second in
+    let (gap_end, second_gap, gap_is) = place.first.second.second in
     let id = place.second in
     let hash = id.second in
     let body = hash.second in
     let mark = body.second in
-    let b = body_to p.1.1.1.1.0 body.front body.first in
-    let m = mark_to p.1.1.1.1.1.0 mark.front mark.first in
+    let (end, at, is) = mark.second in
+    let s = stamp_to f.value f.front f.first in
+    let b = body_to body.value body.front body.first in
+    let m = mark_to mark.value mark.front mark.first in
     let behind_id = parts_are hash.is hash.first (parts_are body.is b.0 (parts_are mark.is m.0 refl)) in
-    let behind_stamp = parts_are place.is (place_text p.1.0 place.front place.first) (parts_are id.is id.first.0.is behind_id) in
-    let whole : text ≡ read_text (tree_of p) mark.back = parts_are f.is (stamp_text p.0 f.front f.first) behind_stamp in (
-      record {
-        seconds = run_of f.first.first;
-        micros = run_of f.first.second.second.first;
+    let place_text = parts_are place.first.is place.first.first.is (parts_are place.first.second.is place.first.second.first.is second_gap.is) in
+    let behind_stamp = parts_are place.is place_text (parts_are id.is id.first.0.is behind_id) in
+    let line : LineSpelling =
+    record {
+      seconds = f.value.seconds;
+      micros = f.value.micros;
+      gap = place.first.value;
+      interface = place.first.second.value;
+      second_gap = gap_end;
+      identifier = id.value;
+      body = body.value;
+      mark = mark.value;
+    }
+    in
+    let whole : text ≡ read_text line mark.back = parts_are f.is s.0 behind_stamp in
+    record {
+      line = line;
+      legal = record {
+        seconds = s.1;
+        micros = s.2;
         gap = run_of place.first.first;
         interface = run_of place.first.second.first;
-        second_gap = run_of place.first.second.second;
+        second_gap = run_of second_gap;
         identifier = id_to id.first;
         body = b.1;
         mark = m.1;
-      },
-      ends_of (tree_of p) text mark.back whole mark.second,
-    )
+      };
+      spelled = ends_of line text mark.back whole at;
+      parts = is;
+    }
 
-frame_from : (l : LineSpelling) (end : List ℕ) → IsLineSpelling l → IsEnd tt end → FrameOn (nested_of l) (read_text l end)
+abbrev stamp_in : LineSpelling → Stamp
+stamp_in l = record { seconds = l.seconds; micros = l.micros }
+
+frame_from : (l : LineSpelling) (end : List ℕ) → IsLineSpelling l → IsEnd tt end → FrameForm (parts_in l) (read_text l end)
 frame_from l end is at =
-    let seconds_end = code "." ∷ (l.micros ++ codes ")") in
-    let stamp : Stamp (nested_of l).0 (l.seconds ++ seconds_end) =
-    both_of l.seconds seconds_end (of_run is.seconds) (both_of (codes ".") (l.micros ++ codes ")") refl (both_of l.micros (codes ")") (of_run is.micros) refl))
-    in
+    let time = stamp_in l in
+    let time_text = l.seconds ++ code "." ∷ (l.micros ++ codes ")") in
     let interface_gap = l.interface ++ l.second_gap in
-    let place : Place (nested_of l).1.0 (l.gap ++ interface_gap) =
-    both_of l.gap interface_gap (of_run is.gap) (both_of l.interface l.second_gap (of_run is.interface) (of_run is.second_gap))
+    let place : PlaceForm l.interface (l.gap ++ interface_gap) =
+    then_of l.gap l.gap interface_gap (of_run is.gap)
+    (then_of l.interface l.interface l.second_gap (of_run is.interface) (l.second_gap, of_run is.second_gap, refl))
     in
-    let ending : Ending (nested_of l).1.1.1.1.1 (spell_mark l.mark ++ end) = both_of (spell_mark l.mark) end (mark_from l.mark is.mark) at in
-    let body_text = spell_body l.body ++ (spell_mark l.mark ++ end) in
-    let body : BodyOn (nested_of l).1.1.1.1 body_text = both_of (spell_body l.body) (spell_mark l.mark ++ end) (body_from l.body is.body) ending in
-    let hash : HashOn (nested_of l).1.1.1 (code "#" ∷ body_text) = both_of (codes "#") body_text refl body in
-    let id : IdOn (nested_of l).1.1 (l.identifier ++ code "#" ∷ body_text) = both_of l.identifier (code "#" ∷ body_text) (id_from is.identifier) hash in
-    let behind : PlaceOn (nested_of l).1 ((l.gap ++ interface_gap) ++ (l.identifier ++ code "#" ∷ body_text)) =
-    both_of (l.gap ++ interface_gap) (l.identifier ++ code "#" ∷ body_text) place id
-    in
-    both_of (l.seconds ++ seconds_end) ((l.gap ++ interface_gap) ++ (l.identifier ++ code "#" ∷ body_text)) stamp behind
+    let ending_text = spell_mark l.mark ++ end in
+    let ending : EndingForm (parts_in l) (parts_in l) ending_text = then_of l.mark (spell_mark l.mark) end (mark_from l.mark is.mark) (tt, at, refl) in
+    let body_text = spell_body l.body ++ ending_text in
+    let body : BodyOn time l.identifier (parts_in l) body_text = then_of l.body (spell_body l.body) ending_text (body_from l.body is.body) ending in
+    let hash : HashOn time l.identifier (parts_in l) (code "#" ∷ body_text) = then_of tt (codes "#") body_text refl body in
+    let id_text = l.identifier ++ code "#" ∷ body_text in
+    let id : IdOn time (parts_in l) id_text = then_of l.identifier l.identifier (code "#" ∷ body_text) (id_from is.identifier) hash in
+    let behind : PlaceOn time (parts_in l) ((l.gap ++ interface_gap) ++ id_text) = then_of l.interface (l.gap ++ interface_gap) id_text place id in
+    then_of time time_text ((l.gap ++ interface_gap) ++ id_text) (stamp_from time is.seconds is.micros) behind
 
-pub from_tree : (l : LineSpelling) (text : List ℕ) → IsLineSpelling l → IsLineText (spell_line l) (code "(" ∷ text) → FrameOn (nested_of l) text
-from_tree l text is ends = elim ends [
+pub line_from : (l : LineSpelling) (text : List ℕ) → IsLineSpelling l → IsLineText (spell_line l) (code "(" ∷ text) → FrameForm (parts_in l) text
+line_from l text is ends = elim ends [
   | inl e ↦ with_end [] (inl refl) (e ∙ sym (append-nil (spell_line l)))
   | inr e ↦ with_end (codes "\r") (inr refl) e
 ]
   where
-    with_end : (end : List ℕ) → IsEnd tt end → code "(" ∷ text ≡ spell_line l ++ end → FrameOn (nested_of l) text
+    with_end : (end : List ℕ) → IsEnd tt end → code "(" ∷ text ≡ spell_line l ++ end → FrameForm (parts_in l) text
     with_end end at e =
         let same : text ≡ drop 1 (spell_line l) ++ end = cc in
-        subst (FrameOn (nested_of l)) (read_text-spelled l end ∙ sym same) (frame_from l end is at)
+        subst (FrameForm (parts_in l)) (read_text-spelled l end ∙ sym same) (frame_from l end is at)

@@ -123,11 +123,22 @@ data_of (classic digits raw_dlc) = bytes_spelled digits
 data_of (remote digit raw_dlc) = []
 data_of (fd flags digits) = bytes_spelled digits
 
+-- The parts that say what is recorded. The gaps, the interface and the mark say nothing of it.
+pub record Parts : Type 0 where
+  pub seconds : List ℕ
+  pub micros : List ℕ
+  pub identifier : List ℕ
+  pub body : Body
+
+-- those of a line
+abbrev pub parts_in : LineSpelling → Parts
+parts_in line = record { seconds = line.seconds; micros = line.micros; identifier = line.identifier; body = line.body }
+
 -- the frame that a line with these parts records, and its time in microseconds
-abbrev pub stamped_of : LineSpelling → Stamped
-stamped_of line = record {
-  micros = digits_value 10 line.seconds * 1000000 + digits_value 10 line.micros;
-  frame = record { id = identifier_of line.identifier; kind = kind_of line.body; bytes = data_of line.body };
+abbrev pub stamped_of : Parts → Stamped
+stamped_of parts = record {
+  micros = digits_value 10 parts.seconds * 1000000 + digits_value 10 parts.micros;
+  frame = record { id = identifier_of parts.identifier; kind = kind_of parts.body; bytes = data_of parts.body };
 }
 
 -- the text, with one carriage return after it or none
@@ -137,7 +148,7 @@ IsLineText text bytes = (bytes ≡ text) ⊎ (bytes ≡ text ++ codes "\r")
 -- What the bytes of a line mean: nothing where there are none, else the frame that their parts record.
 abbrev pub LineMeans : List ℕ → Option Stamped → Type 0
 LineMeans bytes None = IsLineText [] bytes
-LineMeans bytes (Some stamped) = (line : LineSpelling) × IsLineSpelling line × IsLineText (spell_line line) bytes × (stamped ≡ stamped_of line)
+LineMeans bytes (Some stamped) = (line : LineSpelling) × IsLineSpelling line × IsLineText (spell_line line) bytes × (stamped ≡ stamped_of (parts_in line))
 
 -- it is no line
 abbrev pub MeansNothing : List ℕ → Type 0

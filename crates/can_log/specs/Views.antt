@@ -4,10 +4,23 @@ use Rattle.std.specs.Borrow.{Bor}
 use Rattle.can_log.specs.declared.line.Body.{Body}
 use Rattle.can_log.specs.declared.line.Body.TheVariants as code
 use Rattle.can_log.specs.declared.line.Parts.{Parts}
+use Rattle.can_log.specs.declared.field.Number.{Number}
 use Rattle.can_log.specs.declared.field.Stop.{Stop}
 use Rattle.can_log.specs.declared.field.Stop.TheVariants as stop
-use Rattle.can_log.specs.LineReader as reader
 use Rattle.can_log.specs.Line as line
+use Rattle.can_log.specs.LineReader.{Stamp}
+
+-- the digits of a number
+abbrev pub digits_in : Number → List ℕ
+digits_in number = number.digits.now
+
+-- those of a time
+abbrev pub stamp_of : Number × Number → Stamp
+stamp_of p = record { seconds = digits_in p.0; micros = digits_in p.1 }
+
+-- the interface alone, of what stands between the time and the identifier
+abbrev pub interface_of : Bor (List ℕ) × Bor (List ℕ) × Bor (List ℕ) → List ℕ
+interface_of place = place.1.now
 
 -- the digit of a raw length code
 abbrev pub raw_dlc_of : Option (Bor (List ℕ)) → Option (List ℕ)
@@ -26,11 +39,11 @@ mark_of None = None
 mark_of (Some p) = Some (p.0.now, p.1.now)
 
 -- the parts that the meaning of a line rests on
-abbrev pub parts_of : Parts → reader.Parts
-parts_of p = record { seconds = p.seconds.digits.now; micros = p.micros.digits.now; identifier = p.identifier.now; body = body_of p.body }
+abbrev pub parts_of : Parts → line.Parts
+parts_of p = record { seconds = digits_in p.seconds; micros = digits_in p.micros; identifier = p.identifier.now; body = body_of p.body }
 
 -- those of a line that may be blank
-abbrev pub line_parts_of : Option Parts → Option reader.Parts
+abbrev pub line_parts_of : Option Parts → Option line.Parts
 line_parts_of None = None
 line_parts_of (Some p) = Some (parts_of p)
 

@@ -6,7 +6,7 @@ ghost use Rattle.std.specs.Char.{is_ascii_digit};
 ghost use Rattle.std.specs.Str.Parse.{digits_value};
 ghost use Rattle.can_log.specs.Line.{IsRunOf};
 ghost use Rattle.can_log.specs.declared.field.Class.TheVariants.{Digit};
-ghost use Rattle.can_log.specs.FieldReader.{Gives, trouble_of, stop_at, is_in, run_len, run_at, byte_at};
+ghost use Rattle.can_log.specs.FieldReader.{Gives, GivesField, stop_of, stop_at, is_in, run_length, run_at, byte_at};
 
 use crate::hexadecimal::{are_hex_digits, is_hex_digit};
 
@@ -44,7 +44,7 @@ impl Class {
             Class::Digit => b.is_ascii_digit(),
             Class::Hex => is_hex_digit(b),
             Class::Space => b == b' ',
-            Class::Visible => b >= 33 && b <= 126,
+            Class::Visible => b >= b'!' && b <= b'~',
             Class::UpToEight => b >= b'0' && b <= b'8',
             Class::AboveEight => {
                 b == b'9' || (b >= b'A' && b <= b'F') || (b >= b'a' && b <= b'f')
@@ -57,7 +57,7 @@ impl Class {
 /// How many bytes at the front are of the class, at most `most`.
 #[inline(always)]
 fn run_length(class: Class, most: usize, bytes: &[u8]) -> usize
-    ensures value { result ≡ run_len class most bytes.now }
+    ensures value { result ≡ run_length class most bytes.now }
     ensures fits { result ≤ length bytes.now }
 {
     // The data of a frame mostly ends its line.
@@ -73,8 +73,8 @@ fn run_length(class: Class, most: usize, bytes: &[u8]) -> usize
 
 /// Where a field needs a byte that `bytes` don't begin with.
 #[inline(always)]
-pub(crate) fn stop_of(bytes: &[u8]) -> Stop<'_>
-    ensures { trouble_of result ≡ stop_at bytes.now }
+pub(crate) fn stop_at(bytes: &[u8]) -> Stop<'_>
+    ensures { stop_of result ≡ stop_at bytes.now }
 {
     if bytes.is_empty() {
         Stop::Short
@@ -92,12 +92,12 @@ pub(crate) fn run_of(
     most: usize,
     bytes: &[u8],
 ) -> Result<(&[u8], &[u8]), Stop<'_>>
-    ensures { Gives (λ x. (x.0.now, x.1.now)) result (run_at class least most bytes.now) }
+    ensures { GivesField (λ x. x.now) result (run_at class least most bytes.now) }
 {
     let n = run_length(class, most, bytes);
     let (front, rest) = bytes.split_at(n);
     if n < least {
-        return Err(stop_of(rest));
+        return Err(stop_at(rest));
     }
     Ok((front, rest))
 }
@@ -140,7 +140,7 @@ pub(crate) fn number_in(digits: &[u8]) -> Number<'_>
 #[inline(always)]
 fn leading_digits(most: usize, bytes: &[u8]) -> (usize, u64)
     requires { most ≤ 10 }
-    ensures length { result.0 ≡ run_len Digit most bytes.now }
+    ensures length { result.0 ≡ run_length Digit most bytes.now }
     ensures fits { result.0 ≤ length bytes.now }
     ensures value { result.1 ≡ digits_value 10 (take result.0 bytes.now) }
     ensures bound { result.1 < 10 ^ 10 }
@@ -163,12 +163,12 @@ pub(crate) fn number_of(
     bytes: &[u8],
 ) -> Result<(Number<'_>, &[u8]), Stop<'_>>
     requires { most ≤ 10 }
-    ensures { Gives (λ x. (x.0.digits.now, x.1.now)) result (run_at Digit least most bytes.now) }
+    ensures { GivesField (λ x. x.digits.now) result (run_at Digit least most bytes.now) }
 {
     let (n, value) = leading_digits(most, bytes);
     let (digits, rest) = bytes.split_at(n);
     if n < least {
-        return Err(stop_of(rest));
+        return Err(stop_at(rest));
     }
     Ok((Number { digits, value }, rest))
 }

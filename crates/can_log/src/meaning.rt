@@ -1,11 +1,11 @@
 //! What the digits of a line mean: its time, and its frame.
 
-ghost use Rattle.std.specs.Prelude.{◌≡◌, ◌<◌, ◌≤◌, ◌+◌, ◌/◌, ◌*◌, ℕ, length, take, IsTrue, []};
+ghost use Rattle.std.specs.Prelude.{◌≡◌, ◌<◌, ◌≤◌, ◌+◌, ◌*◌, ℕ, length, take, IsTrue, []};
 ghost use Rattle.std.specs.List.{AllByRecursion};
 ghost use Rattle.std.specs.Char.{is_ascii_hexdigit};
 ghost use Rattle.std.specs.Str.Parse.{digits_value};
-ghost use Rattle.can_log.specs.Line.{IsRunOf, IsDataText, IsIdentifierText, identifier_of, bytes_spelled};
-ghost use Rattle.can_log.specs.LineReader.{stamped_by, AreParts};
+ghost use Rattle.can_log.specs.Line.{IsRunOf, IsDataText, IsIdentifierText, identifier_of, bytes_spelled, stamped_of};
+ghost use Rattle.can_log.specs.LineReader.{AreParts};
 ghost use Rattle.can_log.specs.Views.{parts_of};
 
 use crate::frame::{Frame, Id, Kind, Stamped};
@@ -18,7 +18,7 @@ use std::simd::prelude::*;
 #[inline(always)]
 pub(crate) fn stamped_of(parts: Parts<'_>) -> Stamped
     requires { AreParts (parts_of parts) }
-    ensures { result ≡ stamped_by (parts_of parts.entry) }
+    ensures { result ≡ stamped_of (parts_of parts.entry) }
 {
     let id = identifier_of(parts.identifier);
     let (kind, data) = match parts.body {

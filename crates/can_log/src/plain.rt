@@ -2,7 +2,7 @@
 //! line is judged as a whole, sixteen bytes at a time, and its end is found from that of its data.
 
 ghost use Rattle.std.specs.Prelude.{◌≡◌, ◌≤◌, ◌+◌, ◌++◌, [], IfSome, IsTrue, None, codes, length, take};
-ghost use Rattle.can_log.specs.Line.{stamped_of, bytes_spelled, spell_line, IsLineSpelling, IsRunOf, IsIdentifierText, IsDataText};
+ghost use Rattle.can_log.specs.Line.{parts_in, stamped_of, bytes_spelled, spell_line, IsLineSpelling, IsRunOf, IsIdentifierText, IsDataText};
 ghost use Rattle.can_log.specs.FieldReader.{is_in};
 ghost use Rattle.can_log.specs.Plain.{HavePlainWidths, IsPlainBody, AreFlags, digits_of, flags_spelled, most_digits, body_text, plain_text, spelling_of};
 ghost use Rattle.can_log.specs.declared.field.Class.TheVariants.{Visible};
@@ -78,7 +78,7 @@ pub(crate) fn plain_stamped(fields: Fields<'_>, data: ArrayVec<u8, 64>) -> Stamp
     requires legal { IsLineSpelling (spelling_of fields) }
     requires widths { HavePlainWidths fields }
     requires spelled { «data».items ≡ bytes_spelled (digits_of fields.body) }
-    ensures { result ≡ stamped_of (spelling_of fields.entry) }
+    ensures { result ≡ stamped_of (parts_in (spelling_of fields.entry)) }
 {
     let seconds = number_in(fields.seconds).value;
     let micros = number_in(fields.micros).value;

@@ -1,6 +1,6 @@
 //! Lines out of the pieces of a log.
 
-ghost use Rattle.std.specs.Prelude.{◌≡◌, ◌≤◌, ◌+◌, ◌^◌, ◌++◌, ◌∷◌, [], None, Some, ◌<◌, IfOk, IfErr, IfNone, IfSome, length, take};
+ghost use Rattle.std.specs.Prelude.{◌≡◌, ◌≤◌, ◌+◌, ◌^◌, ◌++◌, Some, ◌<◌, IfOk, IfErr, IfNone, IfSome, codes, length, take};
 ghost use Rattle.can_log.specs.Line.{LineMeans};
 ghost use Rattle.can_log.specs.Refused.{NoLineFeed, HasCompletion, IsRefusedPlace};
 ghost use Rattle.can_log.specs.Judging.{Judged};
@@ -231,7 +231,7 @@ fn ended(line: &[u8], bytes: &[u8]) -> Result<Option<Stamped>, u32>
     requires short { length line.now ≤ 223 }
     requires clean { NoLineFeed (line.now ++ bytes.now) }
     ensures ok { IfOk result (λ what. LineMeans (line.now ++ bytes.now) what) }
-    ensures err { IfErr result (λ column. IsRefusedPlace ((line.now ++ bytes.now) ++ 10 ∷ []) column) }
+    ensures err { IfErr result (λ column. IsRefusedPlace ((line.now ++ bytes.now) ++ codes "\n") column) }
 {
     match line_verdict(line, bytes) {
         Verdict::Means(what) => Ok(what),

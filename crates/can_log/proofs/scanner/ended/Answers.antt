@@ -1,4 +1,5 @@
-use Rattle.std.proofs.Common.{◌++◌, ◌∷◌, [], ℕ, arith, subst, length-append}
+use Rattle.std.proofs.Common.{◌++◌, ℕ, arith, subst, length-append}
+use Rattle.std.specs.Prelude.{codes}
 use Rattle.can_log.specs.Refused.{IsRefusedPlace}
 use Rattle.can_log.proofs.LineLength.{becomes_length}
 use Rattle.can_log.proofs.RefusedPlaces.{place_of, place_extends, place_end}
@@ -10,9 +11,9 @@ overflow_cast-result c = let n = becomes_length (c.args.line.now ++ c.args.bytes
 pub returns-in-Short-clause-err : goal.returns-in-Short-clause-err
 returns-in-Short-clause-err c =
     let x = c.args.line.now ++ c.args.bytes.now in
-    subst (λ (k : ℕ). IsRefusedPlace (x ++ 10 ∷ []) k) (omega (arith, length-append c.args.line.now c.args.bytes.now)) (place_end x c.in-Short.ensures.0 c.in-Short.ensures.1)
+    subst (λ (k : ℕ). IsRefusedPlace (x ++ codes "\n") k) (omega (arith, length-append c.args.line.now c.args.bytes.now)) (place_end x c.in-Short.ensures.0 c.in-Short.ensures.1)
 
 pub returns-in-Refused-clause-err : goal.returns-in-Refused-clause-err
 returns-in-Refused-clause-err c =
     let x = c.args.line.now ++ c.args.bytes.now in
-    place_extends x (10 ∷ []) c.in-Refused.column (place_of x c.in-Refused.column c.requires.clean c.in-Refused.ensures)
+    place_extends x (codes "\n") c.in-Refused.column (place_of x c.in-Refused.column c.requires.clean c.in-Refused.ensures)
