@@ -31,7 +31,7 @@ use Rattle.trace_canon.specs.Explaining.{CountsRemoved, Explains, FailsAt, EndsW
 use Rattle.trace_canon.specs.Failing.{FailedIf}
 use Rattle.trace_canon.specs.Laws.{Certifies}
 use Rattle.trace_canon.specs.LinesRead.{counts_last, AreGiven}
-use Rattle.trace_canon.specs.Reading.{Took, Stopped, StopsInLog, StopsAtEnd, ReadsLog, TakesSome}
+use Rattle.trace_canon.specs.Reading.{Took, Stopped, StopsWithin, ReadsLog, TakesSome}
 use Rattle.trace_canon.specs.Settings.{Settings}
 use Rattle.trace_canon.specs.Summing.{summary_of}
 use Rattle.trace_canon.specs.Trace.{trace, trace_from}
@@ -39,7 +39,7 @@ use Rattle.trace_io.specs.Written.{HasFront}
 use Rattle.trace_canon.proofs.EventTexts.{lines_stay, all_written}
 use Rattle.trace_canon.proofs.Explained.{all_taken}
 use Rattle.trace_canon.proofs.Runs.{TookEvents, StoppedOnEvent, StopsOn, IsRunStart, TookLines, StoppedOnLine, took_nothing, has_taken, has_stopped, known_at_end}
-use Rattle.trace_canon.proofs.Normalised.{bad_in_front, bad_at_end}
+use Rattle.trace_canon.proofs.StoppedRuns.{bad_in_front, bad_at_end, HaveCome, have_come, read_with_those}
 use Rattle.trace_canon.proofs.ReadAgain.{clean_summary_is_certificate}
 use Rattle.trace_canon.proofs.ReadLines.{stands_lines, stands_read, read_begins, lines_read_are_there, all_lines_read}
 use Rattle.trace_canon.proofs.Receivings.{trace_next}
@@ -91,45 +91,14 @@ explains_read limit settings log given front rest meanings standing old new stan
 
 -- ---- writing failed, or memory was refused
 
--- These lines of a log mean this, and were given.
-record LinesCome (with_last : Bool) (count : ℕ) (log : List ℕ) (meanings : List (Option Stamped)) : Type 0 where
-  pub lines : List (List ℕ)
-  pub later : List (List ℕ)
-  pub parts : log_lines log ≡ lines ++ later
-  pub means : LinesMean lines meanings
-  pub given : AreGiven with_last count log lines
-
--- those up to the one on which the run stopped
-lines_come : (settings : Settings) (log : List ℕ) (given : ℕ) (meanings : List (Option Stamped)) (what : Option Stamped)
-    → (((given ≤ settings.max_bytes) × StopsInLog log given meanings what) ⊎ ((length log ≤ settings.max_bytes) × (given ≡ length log) × StopsAtEnd log meanings what))
-    → LinesCome true (min given settings.max_bytes) log (meanings ++ what ∷ [])
-lines_come settings log given meanings what (inl (few, in_log)) =
-    let stops = in_log.stops in
-    let size = length-take given log in
-    let all = ap length stops.parts ∙ length-append stops.front stops.rest in
-    let cut : log ≡ stops.front ++ (stops.rest ++ drop given log) =
-    sym (take-append-drop given log) ∙ ap (λ x. x ++ drop given log) stops.parts ∙ append_assoc stops.front stops.rest (drop given log) in
-    let long = ap length stops.stands.parts ∙ length-append (ended_lines stops.stands.lines) stops.standing.line in
-    record {
-      lines = stops.stands.lines;
-      later = log_lines (stops.standing.line ++ (stops.rest ++ drop given log));
-      parts = stands_lines log stops.front (stops.rest ++ drop given log) (meanings ++ what ∷ []) stops.standing stops.stands cut;
-      means = stops.stands.means;
-      given = inl (le-min (omega arith) (omega arith));
-    }
-lines_come settings log given meanings what (inr (short, all, stops)) =
-    record { lines = log_lines log; later = []; parts = sym (append-nil (log_lines log)); means = stops.means; given = inr (refl, le-min (omega arith) short) }
-
 -- a front of the lines of their frames was written
 writes_front_of_text : (limit : ℕ) (settings : Settings) (log : List ℕ) (given : ℕ) (fault : Fault) (meanings : List (Option Stamped)) (old new : List ℕ)
-    → counts_last fault ≡ true → LinesCome true (min given settings.max_bytes) log meanings → HasFront old (events_text limit (trace settings meanings)) new
+    → counts_last fault ≡ true → HaveCome takes_all true (min given settings.max_bytes) log meanings → HasFront old (events_text limit (trace settings meanings)) new
     → WritesFrontOfText limit settings log given fault old new
 unfolding trace_from
 writes_front_of_text limit settings log given fault meanings old new last come front =
-    let count = min given settings.max_bytes in
-    let come_so = subst (λ b. AreGiven b count log come.lines) (sym last) come.given in
-    let read = lines_read_are_there takes_all (counts_last fault) count log in
-    let longer = read_begins takes_all (counts_last fault) count log read.0 meanings come.lines come.later read.1 come.parts come.means (all_taken meanings) come_so in
+    let read = read_with_those takes_all settings log given fault meanings (subst (λ b. HaveCome takes_all b (min given settings.max_bytes) log meanings) (sym last) come) in
+    let longer = read.2 in
     let T = trace settings meanings in
     let rest = trace_from settings (1 + length meanings) longer.0 in
     let traces : trace settings read.0 ≡ T ++ rest = ap (trace settings) longer.1 ∙ trace_from-append settings 1 meanings longer.0 in
@@ -173,12 +142,13 @@ module _ (Told ToldNow : Type 0) (failures : ℕ) (old : List ℕ) (pending : Pe
   -- a front of the lines of the frames up to the one on which it stopped
   explains_front : (log : List ℕ) (given : ℕ) (fault : Fault) (meanings : List (Option Stamped)) (what : Option Stamped) (why : ExplainingFault) → Told
       → counts_last fault ≡ true → stopped s meanings what why n
-      → (((given ≤ settings.max_bytes) × StopsInLog log given meanings what) ⊎ ((length log ≤ settings.max_bytes) × (given ≡ length log) × StopsAtEnd log meanings what))
+      → StopsWithin settings.max_bytes log given meanings what
       → WritesFrontOfText MESSAGE_LIMIT settings log given fault old new
   explains_front log given fault meanings what why told last stops place =
       let halted = halts meanings what why stops in
       let next = trace_next settings meanings what halted.0 halted.1 halted.2 halted.3 in
-      writes_front_of_text MESSAGE_LIMIT settings log given fault (meanings ++ what ∷ []) old new last (lines_come settings log given meanings what place)
+      writes_front_of_text MESSAGE_LIMIT settings log given fault (meanings ++ what ∷ []) old new last
+      (have_come takes_all settings log given meanings what place (all_taken (meanings ++ what ∷ [])))
       (subst (λ T. HasFront old (events_text MESSAGE_LIMIT T) new) (sym next) (halted.4.written told))
 
   -- with a fault of the lines

@@ -23,14 +23,15 @@ use Rattle.trace_canon.specs.CanonicalLog.{canonical_log, canonical_log_of_lines
 use Rattle.trace_canon.specs.Messages.{meaning_of_lines}
 use Rattle.trace_canon.specs.Summing.{summary_of}
 use Rattle.trace_canon.specs.Answers.{TellsOutcome}
-use Rattle.trace_canon.specs.Reading.{Took, Stopped, StopsInLog, StopsAtEnd, ReadsLog}
+use Rattle.trace_canon.specs.Reading.{Took, Stopped, StopsWithin, ReadsLog}
 use Rattle.trace_canon.specs.Ordering.{AnnouncesWithin}
 use Rattle.trace_canon.specs.Holding.{Holds, StopsHolding}
 use Rattle.trace_canon.specs.Held.{fault_of, EndsHeld, FindsMeaning}
 use Rattle.trace_canon.proofs.Finished.{each_within}
-use Rattle.trace_canon.proofs.Normalised.{bad_in_front, bad_at_end, line_announces}
+use Rattle.trace_canon.proofs.Normalised.{line_announces}
 use Rattle.trace_canon.proofs.Runs.{TookEvents, StoppedOnEvent, StopsOn, IsRunStart, TookLines, StoppedOnLine, took_nothing, has_taken, has_stopped}
-use Rattle.trace_canon.proofs.ScannedLogs.{bad_line, oversize_taken, oversize_last, not_refused_at_limit}
+use Rattle.trace_canon.proofs.ScannedLogs.{bad_line, not_refused_at_limit}
+use Rattle.trace_canon.proofs.StoppedRuns.{bad_in_front, bad_at_end, oversize_stops}
 
 -- what is known of a line on which the run stopped
 abbrev pub HaltsHolding : Settings → List (Option Stamped) → Option Stamped → HoldingFault → Type 0
@@ -41,19 +42,11 @@ HaltsHolding settings = StopsOn settings StopsHolding
 module _ (settings : Settings) (log : List ℕ) (given : ℕ) where
   -- a line announces too much
   tells_oversize : (line announced : ℕ) (meanings : List (Option Stamped)) (what : Option Stamped) → HaltsHolding settings meanings what (holding_fault.Oversize line announced)
-      → (((given ≤ settings.max_bytes) × StopsInLog log given meanings what) ⊎ ((length log ≤ settings.max_bytes) × (given ≡ length log) × StopsAtEnd log meanings what))
+      → StopsWithin settings.max_bytes log given meanings what
       → TellsOutcome MESSAGE_LIMIT settings log (fault.Oversize line announced)
-  tells_oversize line announced meanings what (stamped, d, is, direction, (within, at, announces)) (inl (few, stops)) =
-      let size = length-take given log in
-      let all = ap length stops.stops.parts ∙ length-append stops.stops.front stops.stops.rest in
-      let parts : log ≡ stops.stops.front ++ (stops.stops.rest ++ drop given log) =
-      sym (take-append-drop given log) ∙ ap (λ x. x ++ drop given log) stops.stops.parts ∙ append_assoc stops.stops.front stops.stops.rest (drop given log) in
-      (oversize_taken MESSAGE_LIMIT settings log stops.stops.front (stops.stops.rest ++ drop given log) meanings what stops.stops.standing line announced
-      stops.stops.stands parts (omega arith) (omega arith)
-      (each_within settings meanings within) (line_announces settings what stamped d (Some announced) is direction announces)).over
-  tells_oversize line announced meanings what (stamped, d, is, direction, (within, at, announces)) (inr (short, all, stops)) =
-      (oversize_last MESSAGE_LIMIT settings log meanings what line announced stops.means short (omega arith)
-      (each_within settings meanings within) (line_announces settings what stamped d (Some announced) is direction announces)).over
+  tells_oversize line announced meanings what (stamped, d, is, direction, (within, at, announces)) place =
+      (oversize_stops MESSAGE_LIMIT settings log given line announced meanings what place (omega arith) (each_within settings meanings within)
+      (line_announces settings what stamped d (Some announced) is direction announces)).2.over
 
   module _ {S : Type 0} (A : Type 0) (took : Took S) (stopped : Stopped S HoldingFault) (s n : S)
       (gives : (meanings : List (Option Stamped)) → took s meanings n → AllByRecursion AnnouncesWithin (trace settings meanings))

@@ -18,6 +18,7 @@ pub mod SomeOutcome
 pub mod Texts
 pub mod ReadLines
 pub mod ScannedLogs
+pub mod StoppedRuns
 pub mod Answered
 pub mod Sendable
 pub mod Receivings

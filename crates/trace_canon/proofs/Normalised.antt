@@ -34,7 +34,7 @@ use Rattle.trace_canon.specs.CanonicalLog.{early_text, canonical_log, canonical_
 use Rattle.isotp_receive.specs.Events.{oversize_in}
 use Rattle.trace_canon.specs.Refusal.{oversize, announces_within, EachWithin}
 use Rattle.trace_canon.specs.Answers.{WritesEagerly, Answers}
-use Rattle.trace_canon.specs.Reading.{Took, Stopped, RefusesIn, StopsIn, StopsInLog, StopsAtEnd, HasEnded, ReadsLog, TakesSome}
+use Rattle.trace_canon.specs.Reading.{Took, Stopped, RefusesIn, StopsWithin, HasEnded, ReadsLog, TakesSome}
 use Rattle.uds_exchange.specs.Orderer.{stands_after}
 use Rattle.trace_canon.proofs.CanonicalWriting.{text_none, place_none}
 use Rattle.trace_canon.specs.Putting.{Writer, text_of_put}
@@ -45,28 +45,13 @@ use Rattle.trace_canon.specs.TextSeen.{writer_of}
 use Rattle.trace_canon.specs.declared.ordering.Ordering.{Ordering}
 use Rattle.trace_canon.specs.declared.receiver.Receiver.{Receiver}
 use Rattle.uds_exchange.specs.Meaning.{meaning, flattened}
-use Rattle.trace_canon.proofs.Answered.{answers_bad, answers_oversize, answers_oversize_last, answers_limit, answers_read, HaveCome, taken_have_come}
-use Rattle.trace_canon.proofs.Answered.{all_have_come, writes_front, writes_front_at_end, writes_eagerly, answers_accepted, answers_output_limit}
+use Rattle.trace_canon.proofs.Answered.{answers_bad, answers_oversize, answers_limit, answers_read}
+use Rattle.trace_canon.proofs.Answered.{writes_front, writes_front_at_end, writes_eagerly, answers_accepted, answers_output_limit}
 use Rattle.trace_canon.proofs.Finished.{text_is_fitting, each_within, oversize_of_one}
 use Rattle.trace_canon.proofs.Receivings.{trace_next}
 use Rattle.trace_canon.proofs.Runs.{TookEvents, StoppedOnEvent, StopsOn, IsRunStart, TookLines, StoppedOnLine, took_nothing, has_taken, has_stopped, known_at_end}
-use Rattle.trace_canon.proofs.ScannedLogs.{IsBadBehind}
+use Rattle.trace_canon.proofs.StoppedRuns.{bad_in_front, bad_at_end, oversize_stops, have_come}
 use Rattle.trace_canon.proofs.Texts.{Begins, begins_again, early_text_grows, fitting_log_begins}
-
--- ---- a refused place
-
-pub bad_in_front : (log : List ℕ) (given line column : ℕ) (meanings : List (Option Stamped)) → RefusesIn (take given log) meanings line column
-    → IsBadBehind log line column meanings given
-bad_in_front log given line column meanings refuses =
-    let size = length-take given log in
-    let refused = subst (λ x. IsRefusedWithin (length (take given log)) meanings x line column) (take-append-drop given log) (refuses (drop given log)) in
-    let inside = refused.2 in
-    record { place = refused.0; behind = refused.1; before = omega arith; within = inl (omega arith) }
-
-pub bad_at_end : (log : List ℕ) (line column : ℕ) (meanings : List (Option Stamped)) → IsRefusedBehind meanings log line column → IsBadBehind log line column meanings (length log)
-bad_at_end log line column meanings (place, behind) =
-    let all = ap length place.parts ∙ length-append (ended_lines place.lines) place.rest in
-    record { place = place; behind = behind; before = omega arith; within = inr (omega arith) }
 
 -- ---- lines
 
@@ -95,48 +80,23 @@ module _ (Told ToldNow : Type 0) (settings : Settings) (first now : Writer) (log
       → now.written ≡ first.written ++ early_text MESSAGE_LIMIT settings meanings
   early_written meanings stood = stood.written told ∙ ap (λ x. first.written ++ x) (text_is_fitting settings first (early (messages_of_lines MESSAGE_LIMIT settings meanings)) start)
 
-  -- the lines that had come with the one on which the run stopped
-  come_in : (with_last : Bool) (firsts meanings : List (Option Stamped)) (what : Option Stamped) → StopsIn firsts (take given log) meanings what → given ≤ settings.max_bytes
-      → EachWithin MESSAGE_LIMIT settings (meanings ++ what ∷ []) → HaveCome MESSAGE_LIMIT settings with_last (min given settings.max_bytes) log (meanings ++ what ∷ [])
-  come_in with_last firsts meanings what stops few each =
-      let size = length-take given log in
-      let all = ap length stops.parts ∙ length-append stops.front stops.rest in
-      let parts : log ≡ stops.front ++ (stops.rest ++ drop given log) =
-      sym (take-append-drop given log) ∙ ap (λ x. x ++ drop given log) stops.parts ∙ append_assoc stops.front stops.rest (drop given log) in
-      taken_have_come MESSAGE_LIMIT settings with_last (min given settings.max_bytes) log stops.front (stops.rest ++ drop given log) (meanings ++ what ∷ []) stops.standing stops.stands
-      parts (le-min (omega arith) (omega arith)) each
-
-  -- where the log goes on after the lines on which the run stopped
-  cut_in : (firsts meanings : List (Option Stamped)) (what : Option Stamped) → (stops : StopsIn firsts (take given log) meanings what)
-      → log ≡ stops.front ++ (stops.rest ++ drop given log)
-  cut_in firsts meanings what stops =
-      sym (take-append-drop given log) ∙ ap (λ x. x ++ drop given log) stops.parts ∙ append_assoc stops.front stops.rest (drop given log)
-
   -- a line announces too much
   oversize_ends : (line announced : ℕ) (meanings : List (Option Stamped)) (what : Option Stamped) → Halts Told ToldNow settings first now meanings what (ordering_fault.Oversize line announced)
-      → (((given ≤ settings.max_bytes) × StopsInLog log given meanings what) ⊎ ((length log ≤ settings.max_bytes) × (given ≡ length log) × StopsAtEnd log meanings what))
+      → StopsWithin settings.max_bytes log given meanings what
       → Answers MESSAGE_LIMIT settings log given (Err (fault.Oversize line announced)) first.written now.written
-  oversize_ends line announced meanings what (stamped, d, is, direction, (stood, at, announces)) (inl (few, stops)) =
-      let size = length-take given log in
-      let all = ap length stops.stops.parts ∙ length-append stops.stops.front stops.stops.rest in
-      answers_oversize MESSAGE_LIMIT settings log given line announced stops.stops.front (stops.stops.rest ++ drop given log) meanings what stops.stops.standing first.written now.written
-      stops.stops.stands (cut_in stops.first meanings what stops.stops) (omega arith) (omega arith) (omega arith) (each_within settings meanings stood.within)
-      (line_announces settings what stamped d (Some announced) is direction announces) (early_written meanings stood)
-  oversize_ends line announced meanings what (stamped, d, is, direction, (stood, at, announces)) (inr (short, all, stops)) =
-      answers_oversize_last MESSAGE_LIMIT settings log given line announced meanings what first.written now.written stops.means short (omega arith) (omega arith)
-      (each_within settings meanings stood.within) (line_announces settings what stamped d (Some announced) is direction announces) (early_written meanings stood)
+  oversize_ends line announced meanings what (stamped, d, is, direction, (stood, at, announces)) place =
+      let found = oversize_stops MESSAGE_LIMIT settings log given line announced meanings what place (omega arith) (each_within settings meanings stood.within)
+      (line_announces settings what stamped d (Some announced) is direction announces) in
+      answers_oversize MESSAGE_LIMIT settings log given line announced meanings found.0 first.written now.written found.1 found.2 (early_written meanings stood)
 
   -- memory was refused at a line
   memory_ends : (meanings : List (Option Stamped)) (what : Option Stamped) → Halts Told ToldNow settings first now meanings what ordering_fault.Memory
-      → (((given ≤ settings.max_bytes) × StopsInLog log given meanings what) ⊎ ((length log ≤ settings.max_bytes) × (given ≡ length log) × StopsAtEnd log meanings what))
+      → StopsWithin settings.max_bytes log given meanings what
       → Answers MESSAGE_LIMIT settings log given (Err fault.Memory) first.written now.written
   memory_ends meanings what (stamped, d, is, direction, (stood, within)) place =
       let one = ap is_none (line_announces settings what stamped d None is direction within) in
       let each = each_more MESSAGE_LIMIT settings meanings what (each_within settings meanings stood.within) one in
-      let come : HaveCome MESSAGE_LIMIT settings true (min given settings.max_bytes) log (meanings ++ what ∷ []) = elim place [
-        | inl (few, stops) ↦ come_in true stops.first meanings what stops.stops few each
-        | inr (short, all, stops) ↦ all_have_come MESSAGE_LIMIT settings (min given settings.max_bytes) log (meanings ++ what ∷ []) stops.means (le-min (omega arith) short) each
-      ] in (
+      let come = have_come (announces_within MESSAGE_LIMIT settings) settings log given meanings what place each in (
         tt,
         writes_front MESSAGE_LIMIT settings log given fault.Memory (meanings ++ what ∷ []) (early_text MESSAGE_LIMIT settings meanings) first.written now.written come
             (early_written meanings stood) (early_text_grows MESSAGE_LIMIT settings meanings (what ∷ [])),
@@ -144,7 +104,7 @@ module _ (Told ToldNow : Type 0) (settings : Settings) (first now : Writer) (log
 
   -- the target failed at a line
   write_ends : (meanings : List (Option Stamped)) (what : Option Stamped) → Halts Told ToldNow settings first now meanings what ordering_fault.Write
-      → (((given ≤ settings.max_bytes) × StopsInLog log given meanings what) ⊎ ((length log ≤ settings.max_bytes) × (given ≡ length log) × StopsAtEnd log meanings what))
+      → StopsWithin settings.max_bytes log given meanings what
       → Answers MESSAGE_LIMIT settings log given (Err fault.Write) first.written now.written
   write_ends meanings what (stamped, d, is, direction, failed) place =
       let next = trace_next settings meanings what stamped d is direction in
@@ -156,10 +116,7 @@ module _ (Told ToldNow : Type 0) (settings : Settings) (first now : Writer) (log
       ∙ ap (λ T. text_of_put first (early (messages MESSAGE_LIMIT T))) next ∙ some.parts in
       let since : some.front ≡ early_text MESSAGE_LIMIT settings meanings ++ some.more =
       some.since ∙ ap (λ x. x ++ some.more) (text_is_fitting settings first (early (messages_of_lines MESSAGE_LIMIT settings meanings)) start) in
-      let come : HaveCome MESSAGE_LIMIT settings true (min given settings.max_bytes) log all_whats = elim place [
-        | inl (few, stops) ↦ come_in true stops.first meanings what stops.stops few each
-        | inr (short, all, stops) ↦ all_have_come MESSAGE_LIMIT settings (min given settings.max_bytes) log all_whats stops.means (le-min (omega arith) short) each
-      ] in
+      let come = have_come (announces_within MESSAGE_LIMIT settings) settings log given meanings what place each in
       let front = writes_front MESSAGE_LIMIT settings log given fault.Write all_whats some.front first.written now.written come some.wrote (some.rest, text) in
       let each_before = each_front MESSAGE_LIMIT settings meanings (what ∷ []) each in
       let eagerly : WritesEagerly MESSAGE_LIMIT settings log given first.written now.written = elim place [
