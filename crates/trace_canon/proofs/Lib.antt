@@ -4,6 +4,7 @@ pub mod CanonicalLogs
 pub mod LogLines
 pub mod CanonicalWriting
 pub mod WrittenFronts
+pub mod Gatherings
 pub mod Results
 pub mod DecimalPlaces
 pub mod Names

@@ -88,49 +88,9 @@ gathered_written result old text mid held new is wrote =
     block_ended result old text mid held new (rest_along old text mid held (held ++ []) is (sym (append-nil held))) wrote
 
 -- the texts of the first elements, and of one more
-one_more_text : {X : Type 0} (f : X → List ℕ) (xs : List X) (k : ℕ) (d x : X) → k < length xs → x ≡ get_or xs k d
+pub one_more_text : {X : Type 0} (f : X → List ℕ) (xs : List X) (k : ℕ) (d x : X) → k < length xs → x ≡ get_or xs k d
     → flat_map f (take (k + 1) xs) ≡ flat_map f (take k xs) ++ f x
 one_more_text f xs k d x below is = rw (take_more xs k d below, flat_map-append, ← is) (simp append-nil)
-
--- one more element's text was gathered
-pub one_more_gathered : {X : Type 0} (f : X → List ℕ) (xs : List X) (k : ℕ) (d x : X) (old held mid between new rest : List ℕ) → k < length xs
-    → x ≡ get_or xs k d → IsWritten old (held ++ flat_map f (take k xs)) mid between → IsWritten mid (between ++ f x) new rest
-    → IsWritten old (held ++ flat_map f (take (k + 1) xs)) new rest
-one_more_gathered f xs k d x old held mid between new rest below is before more =
-    subst (λ text. IsWritten old text new rest)
-    (append_assoc held (flat_map f (take k xs)) (f x) ∙ ap (λ text. held ++ text) (sym (one_more_text f xs k d x below is)))
-    (written_behind old (held ++ flat_map f (take k xs)) (f x) mid between new rest before more)
-
--- only a front of it was written
-pub one_more_stops : {X : Type 0} (f : X → List ℕ) (xs : List X) (k : ℕ) (d x : X) (old held mid between new : List ℕ) → k < length xs
-    → x ≡ get_or xs k d → IsWritten old (held ++ flat_map f (take k xs)) mid between → HasFront mid (between ++ f x) new
-    → HasFront old (held ++ flat_map f xs) new
-one_more_stops f xs k d x old held mid between new below is before more =
-    let later = flat_map f (drop (k + 1) xs) in
-    let whole : (flat_map f (take k xs) ++ f x) ++ later ≡ flat_map f xs =
-    ap (λ t. t ++ later) (sym (one_more_text f xs k d x below is)) ∙ sym (flat_map-append f (take (k + 1) xs) (drop (k + 1) xs))
-    ∙ ap (flat_map f) (take-append-drop (k + 1) xs) in
-    subst (λ text. HasFront old text new)
-    (append_assoc (held ++ flat_map f (take k xs)) (f x) later ∙ append_assoc held (flat_map f (take k xs)) (f x ++ later)
-    ∙ ap (λ t. held ++ t) (sym (append_assoc (flat_map f (take k xs)) (f x) later) ∙ whole))
-    (front_longer old ((held ++ flat_map f (take k xs)) ++ f x) later new
-    (front_behind old (held ++ flat_map f (take k xs)) (f x) mid between new before more))
-
--- what was held was written, and then a text at once
-pub written_through : {A E : Type 0} (result : Result A E) (old held text mid new after : List ℕ) → mid ≡ old ++ held → after ≡ []
-    → HasWritten result mid text new → HasGathered result old (held ++ text) new after
-written_through (Ok value) old held text mid new after before none wrote = record {
-  front = held ++ text;
-  parts = sym (ap (λ x. (held ++ text) ++ x) none ∙ append-nil (held ++ text));
-  wrote = wrote ∙ ap (λ x. x ++ text) before ∙ append_assoc old held text;
-}
-written_through (Err fault) old held text mid new after before none wrote =
-    front_behind old held text mid [] new (record { front = held; parts = sym (append-nil held); wrote = before }) wrote
-
--- the text after what is held, in other words
-pub gathered_as : {A E : Type 0} (result : Result A E) (old held a b new rest : List ℕ) → a ≡ b → HasGathered result old (held ++ a) new rest
-    → HasGathered result old (held ++ b) new rest
-gathered_as result old held a b new rest same is = gathered_along result old (held ++ a) (held ++ b) new rest (ap (λ x. held ++ x) same) is
 
 -- the first of what was still to be written was gathered
 pub rest_gathered : (start text mid held line later new rest : List ℕ) → IsWritten start text mid (held ++ (line ++ later))

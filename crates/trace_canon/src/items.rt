@@ -3,7 +3,7 @@ ghost use Rattle.std.specs.Prelude.{◌≡◌, ◌^◌, ◌≤◌, ◌+◌, ◌+
 ghost use Rattle.uds_exchange.specs.ItemSeen.{item_value};
 ghost use Rattle.uds_message.specs.Message.{sid as first_byte_of};
 ghost use Rattle.trace_io.specs.Written.{HasWritten};
-ghost use Rattle.trace_canon.specs.Writing.{HasGathered};
+ghost use Rattle.trace_canon.specs.Gathering.{Gathers};
 ghost use Rattle.trace_canon.specs.Words.{direction_text};
 ghost use Rattle.trace_canon.specs.ListText.{code_of, item_line, list_text, outcome_line};
 
@@ -43,12 +43,7 @@ fn gather_item<W: Target>(
     item: &Item,
 ) -> Result<(), DeviceFault>
     requires { W.failures writer.old ≤ 2 ^ 62 }
-    ensures gathered { W.tells writer.old
-        → HasGathered result (W.written writer.old) (block.old.items ++ item_line number (item_value item.now)) (W.written writer.new) block.new.items }
-    ensures tells { W.tells writer.old → W.tells writer.new }
-    ensures failures { MatchResult result
-        (λ _. W.failures writer.new ≡ W.failures writer.old) (λ _. W.failures writer.new ≡ W.failures writer.old + 1) }
-    ensures no_empty_write { W.had_empty_write writer.new ≡ W.had_empty_write writer.old }
+    ensures { Gathers W.Target result writer.old block.old.items (item_line number (item_value item.now)) writer.new block.new.items }
 {
     match item {
         Item::Exchange { request, answer } => {
@@ -89,12 +84,8 @@ fn gather_outcome<W: Target>(
     answer: &Option<Vec<u8>>,
 ) -> Result<(), DeviceFault>
     requires { W.failures writer.old ≤ 2 ^ 62 }
-    ensures gathered { W.tells writer.old → HasGathered result (W.written writer.old)
-        (block.old.items ++ outcome_line request.now.items (option_map (λ reply. reply.items) answer.now)) (W.written writer.new) block.new.items }
-    ensures tells { W.tells writer.old → W.tells writer.new }
-    ensures failures { MatchResult result
-        (λ _. W.failures writer.new ≡ W.failures writer.old) (λ _. W.failures writer.new ≡ W.failures writer.old + 1) }
-    ensures no_empty_write { W.had_empty_write writer.new ≡ W.had_empty_write writer.old }
+    ensures { Gathers W.Target result writer.old block.old.items
+        (outcome_line request.now.items (option_map (λ reply. reply.items) answer.now)) writer.new block.new.items }
 {
     match answer {
         None if suppresses(request) => gather_parts(writer, block, &[Part::Text("silent\n")]),
