@@ -109,19 +109,3 @@ pub dropped_is : (line : ℕ) (d : Dir) (told : VerdictValue) (why : Reason) (si
     → dropped_front line side ++ reason_line why ≡ dropped_line line d told
 dropped_is line d told why side told_is side_is =
     rw (told_is, side_is) (five_and (codes "line ") (decimal line) (codes ": ") (direction_text d) (codes " frame dropped: ") (reason_line why))
-
--- ---- three texts, of which the first two are known in other words
-
-pub first_stops : (old a same b c new : List ℕ) → a ≡ same → HasFront old a new → HasFront old ((same ++ b) ++ c) new
-first_stops old a same b c new is front =
-    front_longer old (same ++ b) c new (front_longer old same b new (subst (λ text. HasFront old text new) is front))
-
-pub second_stops : (old a same b other c mid held new : List ℕ) → a ≡ same → b ≡ other → IsWritten old a mid held → HasFront mid (held ++ b) new
-    → HasFront old ((same ++ other) ++ c) new
-second_stops old a same b other c mid held new is too first front =
-    front_longer old (same ++ other) c new (subst (λ text. HasFront old text new) (ap₂ (λ x y. x ++ y) is too) (front_behind old a b mid held new first front))
-
-pub both_first : (old a same b other mid held new rest : List ℕ) → a ≡ same → b ≡ other → IsWritten old a mid held → IsWritten mid (held ++ b) new rest
-    → IsWritten old (same ++ other) new rest
-both_first old a same b other mid held new rest is too first second =
-    subst (λ text. IsWritten old text new rest) (ap₂ (λ x y. x ++ y) is too) (written_behind old a b mid held new rest first second)

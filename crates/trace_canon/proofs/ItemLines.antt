@@ -1,5 +1,5 @@
 -- The lines of items, one after another.
-use Rattle.std.proofs.Common.{◌≡◌, ℕ, ◌+◌, ◌<◌, List, [], ◌∷◌, ◌++◌, length, take, drop, arith, ap, sym, refl, subst, ◌∙◌, append_assoc, append-nil, length-take, codes, Option, Some, None}
+use Rattle.std.proofs.Common.{◌≡◌, ℕ, ◌+◌, ◌<◌, List, [], ◌∷◌, ◌++◌, length, take, drop, arith, ap, sym, refl, subst, ◌∙◌, append_assoc, append-nil, length-take, codes, Option, Some, None, Ok, Err}
 use Rattle.std.specs.Fmt.{decimal}
 use Rattle.std.specs.Prelude.{slice_get}
 use Rattle.std.proofs.lemmas.List.{take_more, take-append-drop}
@@ -8,8 +8,9 @@ use Rattle.uds_exchange.specs.Meaning.{ItemValue, exchange}
 use Rattle.uds_message.specs.Message.{sid}
 use Rattle.trace_canon.specs.Words.{bytes_text, service_text}
 use Rattle.trace_canon.specs.ListText.{item_line, outcome_line, list_text, list_text_from}
-use Rattle.trace_io.specs.Written.{HasFront, IsWritten}
-use Rattle.trace_canon.proofs.WrittenFronts.{front_longer, front_behind, written_behind}
+use Rattle.trace_io.specs.declared.device.Target.{Ghosts}
+use Rattle.trace_canon.specs.Gathering.{Gathers}
+use Rattle.trace_canon.proofs.Gatherings.{gathers_as, gathers_behind, gathers_front}
 
 -- the front of an exchange's line, up to what came of it
 abbrev pub exchange_front : ℕ → List ℕ → ℕ → List ℕ
@@ -41,25 +42,28 @@ more_lines items i item is =
     ap list_text front ∙ lines-append 1 (take i items) (item ∷ [])
     ∙ ap (λ l. list_text (take i items) ++ l) (append-nil _ ∙ ap (λ n. item_line n item) number)
 
--- one more item's line was gathered
-pub one_more_line : (items : List ItemValue) (i : ℕ) (item : ItemValue) (old mid held new rest : List ℕ) → slice_get items i ≡ Some item
-    → IsWritten old (list_text (take i items)) mid held → IsWritten mid (held ++ item_line (i + 1) item) new rest
-    → IsWritten old (list_text (take (i + 1) items)) new rest
-one_more_line items i item old mid held new rest is before more =
-    subst (λ text. IsWritten old text new rest) (sym (more_lines items i item is))
-    (written_behind old (list_text (take i items)) (item_line (i + 1) item) mid held new rest before more)
+-- the text of the first items was gathered
+module _ {E U W : Type 0} (target : Ghosts W) (items : List ItemValue) (i : ℕ) (item : ItemValue) (is : slice_get items i ≡ Some item) (value : U) (old mid new : W)
+    (kept rest : List ℕ) (before : Gathers {E = E} target (Ok value) old [] (list_text (take i items)) mid kept) where
+  -- and the line of one more
+  pub one_more_line : {V : Type 0} (other : V) → Gathers {E = E} target (Ok other) mid kept (item_line (i + 1) item) new rest
+      → Gathers {E = E} target (Ok value) old [] (list_text (take (i + 1) items)) new rest
+  one_more_line other more =
+      gathers_as target (Ok value) old new [] (list_text (take i items) ++ item_line (i + 1) item) (list_text (take (i + 1) items)) rest (sym (more_lines items i item is))
+      (gathers_behind target value (Ok value) old mid new [] (list_text (take i items)) (item_line (i + 1) item) kept rest before
+      (record { gathered = more.gathered; tells = more.tells; failures = more.failures; no_empty_write = more.no_empty_write }))
 
--- only a front of it was written
-pub line_stops : (items : List ItemValue) (i : ℕ) (item : ItemValue) (old mid held new : List ℕ) → slice_get items i ≡ Some item
-    → IsWritten old (list_text (take i items)) mid held → HasFront mid (held ++ item_line (i + 1) item) new → HasFront old (list_text items) new
-line_stops items i item old mid held new is before more =
-    let later = list_text_from (1 + length (take (i + 1) items)) (drop (i + 1) items) in
-    let whole : (list_text (take i items) ++ item_line (i + 1) item) ++ later ≡ list_text items =
-    ap (λ front. front ++ later) (sym (more_lines items i item is)) ∙ sym (lines-append 1 (take (i + 1) items) (drop (i + 1) items))
-    ∙ ap list_text (take-append-drop (i + 1) items) in
-    subst (λ text. HasFront old text new) whole
-    (front_longer old (list_text (take i items) ++ item_line (i + 1) item) later new
-    (front_behind old (list_text (take i items)) (item_line (i + 1) item) mid held new before more))
+  -- and writing failed at one more
+  pub line_stops : {A V : Type 0} (fault : E) (after : List ℕ) → Gathers {A = V} target (Err fault) mid kept (item_line (i + 1) item) new rest
+      → Gathers {A = A} target (Err fault) old [] (list_text items) new after
+  line_stops {A = A} {V = V} fault after more =
+      let later = list_text_from (1 + length (take (i + 1) items)) (drop (i + 1) items) in
+      let whole : (list_text (take i items) ++ item_line (i + 1) item) ++ later ≡ list_text items =
+      ap (λ front. front ++ later) (sym (more_lines items i item is)) ∙ sym (lines-append 1 (take (i + 1) items) (drop (i + 1) items))
+      ∙ ap list_text (take-append-drop (i + 1) items) in
+      gathers_as target {A = A} (Err fault) old new [] ((list_text (take i items) ++ item_line (i + 1) item) ++ later) (list_text items) after whole
+      (gathers_front target {A = V} {B = A} fault old new [] (list_text (take i items) ++ item_line (i + 1) item) later rest after
+      (gathers_behind target {A = V} value (Err fault) old mid new [] (list_text (take i items)) (item_line (i + 1) item) kept rest before more))
 
 -- there is an item at each place before the end
 pub is_there : {X : Type 0} (items : List X) (i : ℕ) → i < length items → slice_get items i ≡ None → ⊥

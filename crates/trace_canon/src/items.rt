@@ -2,8 +2,7 @@
 ghost use Rattle.std.specs.Prelude.{◌≡◌, ◌^◌, ◌≤◌, ◌+◌, ◌++◌, option_map, MatchResult};
 ghost use Rattle.uds_exchange.specs.ItemSeen.{item_value};
 ghost use Rattle.uds_message.specs.Message.{sid as first_byte_of};
-ghost use Rattle.trace_io.specs.Written.{HasWritten};
-ghost use Rattle.trace_canon.specs.Gathering.{Gathers};
+ghost use Rattle.trace_canon.specs.Gathering.{Gathers, Writes};
 ghost use Rattle.trace_canon.specs.Words.{direction_text};
 ghost use Rattle.trace_canon.specs.ListText.{code_of, item_line, list_text, outcome_line};
 
@@ -20,11 +19,7 @@ const NEGATIVE_RESPONSE: u8 = 0x7F;
 /// Writes the line of each item, in order.
 pub(crate) fn write_items<W: Target>(writer: &mut W, meaning: &Meaning) -> Result<(), DeviceFault>
     requires { W.failures writer.old ≤ 2 ^ 62 }
-    ensures written { W.tells writer.old → HasWritten result (W.written writer.old) (list_text meaning.now) (W.written writer.new) }
-    ensures tells { W.tells writer.old → W.tells writer.new }
-    ensures failures { MatchResult result
-        (λ _. W.failures writer.new ≡ W.failures writer.old) (λ _. W.failures writer.new ≡ W.failures writer.old + 1) }
-    ensures no_empty_write { W.had_empty_write writer.new ≡ W.had_empty_write writer.old }
+    ensures { Writes W.Target result writer.old (list_text meaning.now) writer.new }
 {
     let mut block = Block::new();
     'items: for i in 0..meaning.len() {
