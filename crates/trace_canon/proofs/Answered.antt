@@ -1,9 +1,8 @@
 -- What a run answers on a log, from what it has taken and written: a lemma for each way in which a run ends.
-use Rattle.std.proofs.Common.{◌≡◌, ℕ, ◌+◌, ◌-◌, ◌<◌, ◌≤◌, Bool, true, false, List, [], ◌∷◌, ◌++◌, length, arith, refl, ap, sym, ◌∙◌, Option, Some, Ok, Err, inl, inr}
-use Rattle.std.proofs.Common.{append-nil, length-append}
+use Rattle.std.proofs.Common.{◌≡◌, ℕ, ◌+◌, ◌-◌, ◌<◌, ◌≤◌, true, false, List, ◌++◌, length, arith, refl, ap, ◌∙◌, Option, Ok, Err}
 use Rattle.std.specs.Prelude.{min}
 use Rattle.std.proofs.Math.Nat.{le-min, min-le_left, min-le_right}
-use Rattle.can_log.specs.Log.{log_lines, LinesMean, LogMeans, ended_lines}
+use Rattle.can_log.specs.Log.{LogMeans}
 use Rattle.can_log.specs.Scanning.{Standing}
 use Rattle.can_log.specs.WholeLog.{StandsAfter}
 use Rattle.can_log.specs.declared.frame.Stamped.{Stamped}
@@ -12,12 +11,12 @@ use Rattle.trace_canon.specs.declared.fault.Fault.TheVariants.{BadLine, Oversize
 use Rattle.trace_canon.specs.Settings.{Settings}
 use Rattle.trace_canon.specs.CanonicalLog.{early_text, canonical_log_of_lines, fitting}
 use Rattle.trace_canon.specs.Summing.{summary_of}
-use Rattle.trace_canon.specs.Refusal.{oversize, announces_within, EachWithin}
-use Rattle.trace_canon.specs.LinesRead.{counts_last, AreGiven}
+use Rattle.trace_canon.specs.Refusal.{announces_within, EachWithin}
+use Rattle.trace_canon.specs.LinesRead.{counts_last}
 use Rattle.trace_canon.specs.Outcome.{IsReadWhole}
 use Rattle.trace_canon.specs.Answers.{piece_length, WritesFront, WritesEagerly, Answers}
 use Rattle.trace_canon.proofs.Texts.{Begins, begins_again, early_text_stays, early_text_grows}
-use Rattle.trace_canon.proofs.ReadLines.{stands_lines, stands_read, read_begins, read_more, lines_read_are_there, all_lines_read}
+use Rattle.trace_canon.proofs.ReadLines.{stands_read, read_more, lines_read_are_there, all_lines_read}
 use Rattle.trace_canon.proofs.ScannedLogs.{IsBadBehind, IsOversizeBehind, bad_line, read_before_place, read_before_oversize, not_refused_at_limit}
 use Rattle.trace_canon.proofs.StoppedRuns.{HaveCome, read_with_those}
 

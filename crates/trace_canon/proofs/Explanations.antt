@@ -1,12 +1,12 @@
 -- What a run that explains a log answers, from what its parts have promised.
-use Rattle.std.proofs.Common.{◌≡◌, ℕ, ◌+◌, ◌<◌, ◌≤◌, ◌⊎◌, ◌^◌, Bool, true, false, List, [], ◌∷◌, ◌++◌, length, take}
-use Rattle.std.proofs.Common.{drop, arith, refl, ap, ap₂, sym, subst, ◌∙◌, Option, Some, Result, Ok, Err, inl, inr}
-use Rattle.std.proofs.Common.{append-nil, append_assoc, length-append, length-take}
+use Rattle.std.proofs.Common.{◌≡◌, ℕ, ◌+◌, ◌<◌, ◌≤◌, ◌^◌, true, false, List, [], ◌∷◌, ◌++◌, length, take}
+use Rattle.std.proofs.Common.{drop, arith, refl, ap, ap₂, sym, subst, ◌∙◌, Option, Result, Ok, Err, inl, inr}
+use Rattle.std.proofs.Common.{append-nil, append_assoc}
 use Rattle.std.specs.Prelude.{min, OnOk}
 use Rattle.std.specs.Result.{IfOk}
 use Rattle.std.proofs.Math.Nat.{le-min, min-le_right}
 use Rattle.std.proofs.lemmas.List.{take-append-drop, length-take-le}
-use Rattle.can_log.specs.Log.{log_lines, LinesMean, LogMeans, ended_lines}
+use Rattle.can_log.specs.Log.{LogMeans}
 use Rattle.can_log.specs.Scanning.{Standing}
 use Rattle.can_log.specs.WholeLog.{StandsAfter}
 use Rattle.can_log.specs.declared.frame.Stamped.{Stamped}
@@ -30,7 +30,7 @@ use Rattle.trace_canon.specs.Explained.{takes_all}
 use Rattle.trace_canon.specs.Explaining.{CountsRemoved, Explains, FailsAt, EndsWell, EndsWrong, Ends, explaining_fault, explaining_answer}
 use Rattle.trace_canon.specs.Failing.{FailedIf}
 use Rattle.trace_canon.specs.Laws.{Certifies}
-use Rattle.trace_canon.specs.LinesRead.{counts_last, AreGiven}
+use Rattle.trace_canon.specs.LinesRead.{counts_last}
 use Rattle.trace_canon.specs.Reading.{Took, Stopped, StopsWithin, ReadsLog, TakesSome}
 use Rattle.trace_canon.specs.Settings.{Settings}
 use Rattle.trace_canon.specs.Summing.{summary_of}
@@ -41,7 +41,7 @@ use Rattle.trace_canon.proofs.Explained.{all_taken}
 use Rattle.trace_canon.proofs.Runs.{TookEvents, StoppedOnEvent, StopsOn, IsRunStart, TookLines, StoppedOnLine, took_nothing, has_taken, has_stopped, known_at_end}
 use Rattle.trace_canon.proofs.StoppedRuns.{bad_in_front, bad_at_end, HaveCome, have_come, read_with_those}
 use Rattle.trace_canon.proofs.ReadAgain.{clean_summary_is_certificate}
-use Rattle.trace_canon.proofs.ReadLines.{stands_lines, stands_read, read_begins, lines_read_are_there, all_lines_read}
+use Rattle.trace_canon.proofs.ReadLines.{stands_read, all_lines_read}
 use Rattle.trace_canon.proofs.Receivings.{trace_next}
 use Rattle.trace_canon.proofs.ScannedLogs.{IsBadBehind, bad_counts, read_before_place, no_place_counts}
 use Rattle.trace_canon.proofs.Traces.{trace_from-append}

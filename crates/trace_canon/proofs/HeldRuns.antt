@@ -1,6 +1,6 @@
 -- What a run answers that holds a log's meaning, from what its parts have promised.
-use Rattle.std.proofs.Common.{◌≡◌, Bool, true, false, nat_le, ℕ, ◌≤◌, List, [], ◌++◌, length, take, drop, arith, refl, ap, sym}
-use Rattle.std.proofs.Common.{subst, ◌∙◌, ◌⊎◌, inl, inr, Option, Some, None, Err, append_assoc, length-append, length-take}
+use Rattle.std.proofs.Common.{◌≡◌, Bool, true, false, nat_le, ℕ, ◌≤◌, List, [], length, take, drop, arith, refl, ap, sym}
+use Rattle.std.proofs.Common.{subst, ◌∙◌, inl, inr, Option, Some, None, Err, length-take}
 use Rattle.std.specs.List.{AllByRecursion}
 use Rattle.std.specs.Option.{ok_or}
 use Rattle.std.proofs.lemmas.Bool.{leb-true, leb-false}

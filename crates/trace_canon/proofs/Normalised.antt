@@ -1,12 +1,11 @@
 -- What a run answers where it ends with a fault of the lines, from what its parts have promised.
-use Rattle.std.proofs.Common.{◌≡◌, Bool, true, ℕ, ◌≤◌, List, [], ◌∷◌, ◌++◌, length, take, drop, arith, refl, ap, sym, subst, ◌∙◌, ◌⊎◌}
-use Rattle.std.proofs.Common.{inl, inr, Option, Some, None, Result, Ok, Err, ◌^◌, append-nil, append_assoc, length-append, length-take}
-use Rattle.std.specs.Prelude.{is_none, min}
+use Rattle.std.proofs.Common.{◌≡◌, true, ℕ, ◌≤◌, List, [], ◌∷◌, ◌++◌, length, take, drop, arith, refl, ap, sym, subst, ◌∙◌}
+use Rattle.std.proofs.Common.{inl, inr, Option, Some, None, Result, Ok, Err, ◌^◌, append-nil}
+use Rattle.std.specs.Prelude.{is_none}
 use Rattle.std.specs.List.{AllByRecursion}
 use Rattle.std.proofs.lemmas.List.{take-append-drop, length-take-le}
 use Rattle.std.proofs.Math.Nat.{le-min}
-use Rattle.can_log.specs.Log.{LogMeans, ended_lines}
-use Rattle.can_log.specs.WholeLog.{IsRefusedBehind, IsRefusedWithin}
+use Rattle.can_log.specs.Log.{LogMeans}
 use Rattle.can_log.specs.declared.frame.Dir.{Dir}
 use Rattle.can_log.specs.declared.frame.Stamped.{Stamped}
 use Rattle.isotp_pdu.specs.Reading.{layout_of}
@@ -34,7 +33,7 @@ use Rattle.trace_canon.specs.CanonicalLog.{early_text, canonical_log, canonical_
 use Rattle.isotp_receive.specs.Events.{oversize_in}
 use Rattle.trace_canon.specs.Refusal.{oversize, announces_within, EachWithin}
 use Rattle.trace_canon.specs.Answers.{WritesEagerly, Answers}
-use Rattle.trace_canon.specs.Reading.{Took, Stopped, RefusesIn, StopsWithin, HasEnded, ReadsLog, TakesSome}
+use Rattle.trace_canon.specs.Reading.{Took, Stopped, StopsWithin, HasEnded, ReadsLog, TakesSome}
 use Rattle.uds_exchange.specs.Orderer.{stands_after}
 use Rattle.trace_canon.proofs.CanonicalWriting.{text_none, place_none}
 use Rattle.trace_canon.specs.Putting.{Writer, text_of_put}

@@ -1,5 +1,5 @@
 //! Text gathered in a fixed buffer, so that it is written in few pieces.
-ghost use Rattle.std.specs.Prelude.{◌≡◌, ◌+◌, ◌^◌, ◌<◌, ◌≤◌, ◌++◌, MatchResult};
+ghost use Rattle.std.specs.Prelude.{◌^◌, ◌<◌, ◌≤◌};
 ghost use Rattle.can_log.specs.Canonical.{canonical_line};
 ghost use Rattle.trace_canon.specs.Gathering.{Gathers};
 

@@ -1,5 +1,5 @@
 //! The text that explains a log: what each frame ended, why it was dropped, and what stands at the end.
-ghost use Rattle.std.specs.Prelude.{◌≡◌, ◌+◌, ◌^◌, ◌≤◌, ◌++◌, MatchResult};
+ghost use Rattle.std.specs.Prelude.{◌≡◌, ◌^◌, ◌≤◌, ◌++◌};
 ghost use Rattle.isotp_receive.specs.EventSeen.{seen_event, seen_verdict};
 ghost use Rattle.trace_canon.specs.Gathering.{Gathers, Writes};
 ghost use Rattle.trace_canon.specs.ExplainText.{cause_text, layout_fault_text, reason_line, dropped_line, ended_line, event_text};

@@ -1,9 +1,9 @@
 //! The parts of a line of text, gathered one after another.
-ghost use Rattle.std.specs.Prelude.{◌≡◌, ◌^◌, ◌<◌, ◌≤◌, ◌+◌, ◌++◌, length, drop, option_map, codes, MatchResult};
+ghost use Rattle.std.specs.Prelude.{◌≡◌, ◌^◌, ◌<◌, ◌≤◌, ◌++◌, drop, codes};
 ghost use Rattle.std.specs.Fmt.{decimal};
 ghost use Rattle.can_log.specs.Digits.{digit, hexadecimal};
 ghost use Rattle.trace_canon.specs.Gathering.{Gathers};
-ghost use Rattle.trace_canon.specs.Words.{bytes_text, service_text, code_text};
+ghost use Rattle.trace_canon.specs.Words.{bytes_text};
 ghost use Rattle.trace_canon.specs.Parts.{part_text, parts_text};
 
 use crate::block::{Block, gather};

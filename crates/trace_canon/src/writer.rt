@@ -1,5 +1,5 @@
 //! Canonical lines, written as their messages come.
-ghost use Rattle.std.specs.Prelude.{◌≡◌, ℕ, ◌+◌, ◌^◌, ◌<◌, ◌≤◌, List, [], ◌++◌, length, MatchResult, OnOk, false, true};
+ghost use Rattle.std.specs.Prelude.{◌≡◌, ◌+◌, ◌^◌, ◌<◌, ◌≤◌, [], length, OnOk, false, true};
 ghost use Rattle.can_log.specs.declared.frame.Dir.{Dir as DirValue};
 ghost use Rattle.isotp_receive.specs.declared.TheConstants.{MESSAGE_LIMIT};
 ghost use Rattle.isotp_segment.specs.CanonicalFrames.{canonical_frames};

@@ -1,4 +1,4 @@
-use Rattle.std.proofs.Common.{◌-◌, ℕ, List, arith, ◌∙◌, Option, Err}
+use Rattle.std.proofs.Common.{◌-◌, List, arith, ◌∙◌, Option, Err}
 use Rattle.can_log.specs.declared.frame.Stamped.{Stamped}
 use Rattle.trace_canon.specs.Explaining.{Ends}
 use Rattle.trace_canon.specs.declared.explaining.Explaining.{Explaining}

@@ -1,8 +1,6 @@
-use Rattle.std.proofs.Common.{arith, ℕ, List, [], ◌++◌, ◌≡◌, refl, ap, sym, subst, ◌∙◌, append-nil, Ok}
+use Rattle.std.proofs.Common.{arith, ℕ, List, [], ◌++◌, ◌≡◌, refl, ap, sym, ◌∙◌, append-nil}
 use Rattle.can_log.specs.Canonical.{canonical_line}
 use Rattle.can_log.specs.declared.frame.Dir.{Dir}
-use Rattle.trace_io.specs.declared.DeviceFault.{DeviceFault}
-use Rattle.trace_canon.specs.Gathering.{Gathers}
 use Rattle.trace_canon.specs.Writing.{line_at, text_from, place_after}
 use Rattle.trace_canon.proofs.CanonicalWriting.{text_none, place_none, text_step, place_step, text_stop, place_stop}
 use Rattle.trace_canon.proofs.Gatherings.{gathers_rest, rest_along, rest_fails, writes_block, writes_front, writes_gathered}
