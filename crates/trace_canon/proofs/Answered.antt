@@ -1,9 +1,8 @@
 -- What a run answers on a log, from what it has taken and written: a lemma for each way in which a run ends.
-use Rattle.std.proofs.Common.{◌≡◌, ℕ, ◌+◌, ◌-◌, ◌<◌, ◌≤◌, Bool, true, false, List, [], ◌∷◌, ◌++◌, length, arith, refl, ap, sym, ◌∙◌, Option, Some, Ok, Err, inl, inr}
-use Rattle.std.proofs.Common.{append-nil, length-append}
+use Rattle.std.proofs.Common.{◌≡◌, ℕ, ◌+◌, ◌-◌, ◌<◌, ◌≤◌, true, false, List, ◌++◌, length, arith, refl, ap, ◌∙◌, Option, Ok, Err}
 use Rattle.std.specs.Prelude.{min}
 use Rattle.std.proofs.Math.Nat.{le-min, min-le_left, min-le_right}
-use Rattle.can_log.specs.Log.{log_lines, LinesMean, LogMeans, ended_lines}
+use Rattle.can_log.specs.Log.{LogMeans}
 use Rattle.can_log.specs.Scanning.{Standing}
 use Rattle.can_log.specs.WholeLog.{StandsAfter}
 use Rattle.can_log.specs.declared.frame.Stamped.{Stamped}
@@ -12,13 +11,14 @@ use Rattle.trace_canon.specs.declared.fault.Fault.TheVariants.{BadLine, Oversize
 use Rattle.trace_canon.specs.Settings.{Settings}
 use Rattle.trace_canon.specs.CanonicalLog.{early_text, canonical_log_of_lines, fitting}
 use Rattle.trace_canon.specs.Summing.{summary_of}
-use Rattle.trace_canon.specs.Refusal.{oversize, announces_within, EachWithin}
-use Rattle.trace_canon.specs.LinesRead.{counts_last, AreGiven}
+use Rattle.trace_canon.specs.Refusal.{announces_within, EachWithin}
+use Rattle.trace_canon.specs.LinesRead.{counts_last}
 use Rattle.trace_canon.specs.Outcome.{IsReadWhole}
 use Rattle.trace_canon.specs.Answers.{piece_length, WritesFront, WritesEagerly, Answers}
 use Rattle.trace_canon.proofs.Texts.{Begins, begins_again, early_text_stays, early_text_grows}
-use Rattle.trace_canon.proofs.ReadLines.{stands_lines, stands_read, read_begins, read_more, lines_read_are_there, all_lines_read}
-use Rattle.trace_canon.proofs.ScannedLogs.{IsBadBehind, bad_line, read_before_place, oversize_taken, oversize_last, read_before_oversize, not_refused_at_limit}
+use Rattle.trace_canon.proofs.ReadLines.{stands_read, read_more, lines_read_are_there, all_lines_read}
+use Rattle.trace_canon.proofs.ScannedLogs.{IsBadBehind, IsOversizeBehind, bad_line, read_before_place, read_before_oversize, not_refused_at_limit}
+use Rattle.trace_canon.proofs.StoppedRuns.{HaveCome, read_with_those}
 
 -- ---- refused
 
@@ -35,36 +35,18 @@ answers_bad limit settings log given line column meanings bytes old new bad few 
   },
 )
 
--- a line that ended announces too much; the scanner stands after it
-pub answers_oversize : (limit : ℕ) (settings : Settings) (log : List ℕ) (given line announced : ℕ) (front rest : List ℕ) (meanings : List (Option Stamped))
-    (what : Option Stamped) (standing : Standing) (old new : List ℕ) → StandsAfter front (meanings ++ what ∷ []) standing → log ≡ front ++ rest
-    → length front ≤ settings.max_bytes → length front ≤ given → line ≡ length meanings + 1 → EachWithin limit settings meanings
-    → oversize limit settings what ≡ Some announced → new ≡ old ++ early_text limit settings meanings
+-- a line announces too much, behind lines that take no more than these bytes
+pub answers_oversize : (limit : ℕ) (settings : Settings) (log : List ℕ) (given line announced : ℕ) (meanings : List (Option Stamped)) (bytes : ℕ) (old new : List ℕ)
+    → bytes ≤ min given settings.max_bytes → IsOversizeBehind limit settings log line announced meanings bytes → new ≡ old ++ early_text limit settings meanings
     → Answers limit settings log given (Err (Oversize line announced)) old new
-answers_oversize limit settings log given line announced front rest meanings what standing old new stands parts few come at each announces wrote =
-    let found = oversize_taken limit settings log front rest meanings what standing line announced stands parts few at each announces in (
-      found.over,
-      record {
-        meanings = meanings;
-        read = read_before_oversize limit settings true (min given settings.max_bytes) log line announced meanings (length front) found (le-min come few);
-        wrote = wrote;
-      },
-    )
-
--- the unfinished last line does
-pub answers_oversize_last : (limit : ℕ) (settings : Settings) (log : List ℕ) (given line announced : ℕ) (meanings : List (Option Stamped)) (what : Option Stamped)
-    (old new : List ℕ) → LogMeans log (meanings ++ what ∷ []) → length log ≤ settings.max_bytes → length log ≤ given → line ≡ length meanings + 1
-    → EachWithin limit settings meanings → oversize limit settings what ≡ Some announced → new ≡ old ++ early_text limit settings meanings
-    → Answers limit settings log given (Err (Oversize line announced)) old new
-answers_oversize_last limit settings log given line announced meanings what old new means short come at each announces wrote =
-    let found = oversize_last limit settings log meanings what line announced means short at each announces in (
-      found.over,
-      record {
-        meanings = meanings;
-        read = read_before_oversize limit settings true (min given settings.max_bytes) log line announced meanings (length log) found (le-min come short);
-        wrote = wrote;
-      },
-    )
+answers_oversize limit settings log given line announced meanings bytes old new few found wrote = (
+  found.over,
+  record {
+    meanings = meanings;
+    read = read_before_oversize limit settings true (min given settings.max_bytes) log line announced meanings bytes found few;
+    wrote = wrote;
+  },
+)
 
 -- the log is longer than the limit, and as many bytes as that were taken
 pub answers_limit : (limit : ℕ) (settings : Settings) (log : List ℕ) (given : ℕ) (front rest : List ℕ) (meanings : List (Option Stamped)) (standing : Standing)
@@ -99,44 +81,13 @@ answers_read limit settings log given front rest meanings standing old new stand
 
 -- ---- writing failed, or memory was refused
 
--- These lines of a log mean this, pass, and were given.
-pub record HaveCome (limit : ℕ) (settings : Settings) (with_last : Bool) (count : ℕ) (log : List ℕ) (meanings : List (Option Stamped)) : Type 0 where
-  pub lines : List (List ℕ)
-  pub later : List (List ℕ)
-  pub parts : log_lines log ≡ lines ++ later
-  pub means : LinesMean lines meanings
-  pub each : EachWithin limit settings meanings
-  pub given : AreGiven with_last count log lines
-
--- a scanner has taken them
-pub taken_have_come : (limit : ℕ) (settings : Settings) (with_last : Bool) (count : ℕ) (log front rest : List ℕ) (meanings : List (Option Stamped)) (standing : Standing)
-    → StandsAfter front meanings standing → log ≡ front ++ rest → length front ≤ count → EachWithin limit settings meanings
-    → HaveCome limit settings with_last count log meanings
-taken_have_come limit settings with_last count log front rest meanings standing stands parts few each =
-    let long = ap length stands.parts ∙ length-append (ended_lines stands.lines) standing.line in
-    record {
-      lines = stands.lines;
-      later = log_lines (standing.line ++ rest);
-      parts = stands_lines log front rest meanings standing stands parts;
-      means = stands.means;
-      each = each;
-      given = inl (omega arith);
-    }
-
--- the whole log has come
-pub all_have_come : (limit : ℕ) (settings : Settings) (count : ℕ) (log : List ℕ) (meanings : List (Option Stamped)) → LogMeans log meanings → length log ≤ count
-    → EachWithin limit settings meanings → HaveCome limit settings true count log meanings
-all_have_come limit settings count log meanings means few each =
-    record { lines = log_lines log; later = []; parts = sym (append-nil (log_lines log)); means = means; each = each; given = inr (refl, few) }
-
 -- what was written begins what is written of lines that have come
 pub writes_front : (limit : ℕ) (settings : Settings) (log : List ℕ) (given : ℕ) (fault : Fault) (meanings : List (Option Stamped)) (written old new : List ℕ)
-    → HaveCome limit settings (counts_last fault) (min given settings.max_bytes) log meanings → new ≡ old ++ written
+    → HaveCome (announces_within limit settings) (counts_last fault) (min given settings.max_bytes) log meanings → new ≡ old ++ written
     → Begins written (early_text limit settings meanings) → WritesFront limit settings log given fault old new
 writes_front limit settings log given fault meanings written old new come wrote begins =
-    let read = lines_read_are_there (announces_within limit settings) (counts_last fault) (min given settings.max_bytes) log in
-    let longer = read_begins (announces_within limit settings) (counts_last fault) (min given settings.max_bytes) log read.0 meanings come.lines come.later
-    read.1 come.parts come.means come.each come.given in
+    let read = read_with_those (announces_within limit settings) settings log given fault meanings come in
+    let longer = read.2 in
     let stays = early_text_stays limit settings meanings longer.0 in
     let all : Begins (early_text limit settings meanings) (canonical_log_of_lines limit settings read.0) =
     (stays.0, ap (canonical_log_of_lines limit settings) longer.1 ∙ stays.1) in

@@ -1,15 +1,14 @@
 -- What a run that explains a log answers, from what its parts have promised.
-use Rattle.std.proofs.Common.{◌≡◌, ℕ, ◌+◌, ◌<◌, ◌≤◌, ◌⊎◌, ◌^◌, Bool, true, false, List, [], ◌∷◌, ◌++◌, length, take}
-use Rattle.std.proofs.Common.{drop, arith, refl, ap, ap₂, sym, subst, ◌∙◌, Option, Some, Result, Ok, Err, inl, inr}
-use Rattle.std.proofs.Common.{append-nil, append_assoc, length-append, length-take}
+use Rattle.std.proofs.Common.{◌≡◌, ℕ, ◌+◌, ◌<◌, ◌≤◌, ◌^◌, true, false, List, [], ◌∷◌, ◌++◌, length, take}
+use Rattle.std.proofs.Common.{drop, arith, refl, ap, ap₂, sym, subst, ◌∙◌, Option, Result, Ok, Err, inl, inr}
+use Rattle.std.proofs.Common.{append-nil, append_assoc}
 use Rattle.std.specs.Prelude.{min, OnOk}
 use Rattle.std.specs.Result.{IfOk}
 use Rattle.std.proofs.Math.Nat.{le-min, min-le_right}
 use Rattle.std.proofs.lemmas.List.{take-append-drop, length-take-le}
-use Rattle.can_log.specs.Log.{log_lines, LinesMean, LogMeans, ended_lines}
+use Rattle.can_log.specs.Log.{LogMeans}
 use Rattle.can_log.specs.Scanning.{Standing}
 use Rattle.can_log.specs.WholeLog.{StandsAfter}
-use Rattle.can_log.specs.declared.frame.Dir.{Dir}
 use Rattle.can_log.specs.declared.frame.Stamped.{Stamped}
 use Rattle.trace_io.specs.declared.DeviceFault.{DeviceFault}
 use Rattle.trace_io.specs.declared.device.Target.{Ghosts}
@@ -23,6 +22,7 @@ use Rattle.trace_canon.specs.declared.fault.Fault.TheVariants as fault
 use Rattle.trace_canon.specs.declared.lines.LineFault.{LineFault}
 use Rattle.trace_canon.specs.declared.lines.LineFault.TheVariants as line_fault
 use Rattle.trace_canon.specs.declared.pending.Pending.{Pending}
+use Rattle.trace_canon.specs.declared.receiver.Receiver.{Receiver}
 use Rattle.trace_canon.specs.declared.summary.Summary.{Summary}
 use Rattle.trace_canon.specs.ExplainAnswers.{WritesFrontOfText, AnswersExplain}
 use Rattle.trace_canon.specs.ExplainText.{events_text, events_text_after, unfinished_text, summary_line, explain_text_of_lines}
@@ -30,19 +30,18 @@ use Rattle.trace_canon.specs.Explained.{takes_all}
 use Rattle.trace_canon.specs.Explaining.{CountsRemoved, Explains, FailsAt, EndsWell, EndsWrong, Ends, explaining_fault, explaining_answer}
 use Rattle.trace_canon.specs.Failing.{FailedIf}
 use Rattle.trace_canon.specs.Laws.{Certifies}
-use Rattle.trace_canon.specs.LinesRead.{counts_last, AreGiven}
-use Rattle.trace_canon.specs.Reading.{Took, Stopped, StopsInLog, StopsAtEnd, ReadsLog, TakesSome}
-use Rattle.trace_canon.specs.Receiving.{entry_in}
-use Rattle.trace_canon.specs.Settings.{Settings, direction_of}
+use Rattle.trace_canon.specs.LinesRead.{counts_last}
+use Rattle.trace_canon.specs.Reading.{Took, Stopped, StopsWithin, ReadsLog, TakesSome}
+use Rattle.trace_canon.specs.Settings.{Settings}
 use Rattle.trace_canon.specs.Summing.{summary_of}
 use Rattle.trace_canon.specs.Trace.{trace, trace_from}
 use Rattle.trace_io.specs.Written.{HasFront}
 use Rattle.trace_canon.proofs.EventTexts.{lines_stay, all_written}
 use Rattle.trace_canon.proofs.Explained.{all_taken}
-use Rattle.trace_canon.proofs.Runs.{TookEvents, StoppedOnEvent}
-use Rattle.trace_canon.proofs.Normalised.{bad_in_front, bad_at_end}
+use Rattle.trace_canon.proofs.Runs.{TookEvents, StoppedOnEvent, StopsOn, IsRunStart, TookLines, StoppedOnLine, took_nothing, has_taken, has_stopped, known_at_end}
+use Rattle.trace_canon.proofs.StoppedRuns.{bad_in_front, bad_at_end, HaveCome, have_come, read_with_those}
 use Rattle.trace_canon.proofs.ReadAgain.{clean_summary_is_certificate}
-use Rattle.trace_canon.proofs.ReadLines.{stands_lines, stands_read, read_begins, lines_read_are_there, all_lines_read}
+use Rattle.trace_canon.proofs.ReadLines.{stands_read, all_lines_read}
 use Rattle.trace_canon.proofs.Receivings.{trace_next}
 use Rattle.trace_canon.proofs.ScannedLogs.{IsBadBehind, bad_counts, read_before_place, no_place_counts}
 use Rattle.trace_canon.proofs.Traces.{trace_from-append}
@@ -92,45 +91,14 @@ explains_read limit settings log given front rest meanings standing old new stan
 
 -- ---- writing failed, or memory was refused
 
--- These lines of a log mean this, and were given.
-record LinesCome (with_last : Bool) (count : ℕ) (log : List ℕ) (meanings : List (Option Stamped)) : Type 0 where
-  pub lines : List (List ℕ)
-  pub later : List (List ℕ)
-  pub parts : log_lines log ≡ lines ++ later
-  pub means : LinesMean lines meanings
-  pub given : AreGiven with_last count log lines
-
--- those up to the one on which the run stopped
-lines_come : (settings : Settings) (log : List ℕ) (given : ℕ) (meanings : List (Option Stamped)) (what : Option Stamped)
-    → (((given ≤ settings.max_bytes) × StopsInLog log given meanings what) ⊎ ((length log ≤ settings.max_bytes) × (given ≡ length log) × StopsAtEnd log meanings what))
-    → LinesCome true (min given settings.max_bytes) log (meanings ++ what ∷ [])
-lines_come settings log given meanings what (inl (few, in_log)) =
-    let stops = in_log.stops in
-    let size = length-take given log in
-    let all = ap length stops.parts ∙ length-append stops.front stops.rest in
-    let cut : log ≡ stops.front ++ (stops.rest ++ drop given log) =
-    sym (take-append-drop given log) ∙ ap (λ x. x ++ drop given log) stops.parts ∙ append_assoc stops.front stops.rest (drop given log) in
-    let long = ap length stops.stands.parts ∙ length-append (ended_lines stops.stands.lines) stops.standing.line in
-    record {
-      lines = stops.stands.lines;
-      later = log_lines (stops.standing.line ++ (stops.rest ++ drop given log));
-      parts = stands_lines log stops.front (stops.rest ++ drop given log) (meanings ++ what ∷ []) stops.standing stops.stands cut;
-      means = stops.stands.means;
-      given = inl (le-min (omega arith) (omega arith));
-    }
-lines_come settings log given meanings what (inr (short, all, stops)) =
-    record { lines = log_lines log; later = []; parts = sym (append-nil (log_lines log)); means = stops.means; given = inr (refl, le-min (omega arith) short) }
-
 -- a front of the lines of their frames was written
 writes_front_of_text : (limit : ℕ) (settings : Settings) (log : List ℕ) (given : ℕ) (fault : Fault) (meanings : List (Option Stamped)) (old new : List ℕ)
-    → counts_last fault ≡ true → LinesCome true (min given settings.max_bytes) log meanings → HasFront old (events_text limit (trace settings meanings)) new
+    → counts_last fault ≡ true → HaveCome takes_all true (min given settings.max_bytes) log meanings → HasFront old (events_text limit (trace settings meanings)) new
     → WritesFrontOfText limit settings log given fault old new
 unfolding trace_from
 writes_front_of_text limit settings log given fault meanings old new last come front =
-    let count = min given settings.max_bytes in
-    let come_so = subst (λ b. AreGiven b count log come.lines) (sym last) come.given in
-    let read = lines_read_are_there takes_all (counts_last fault) count log in
-    let longer = read_begins takes_all (counts_last fault) count log read.0 meanings come.lines come.later read.1 come.parts come.means (all_taken meanings) come_so in
+    let read = read_with_those takes_all settings log given fault meanings (subst (λ b. HaveCome takes_all b (min given settings.max_bytes) log meanings) (sym last) come) in
+    let longer = read.2 in
     let T = trace settings meanings in
     let rest = trace_from settings (1 + length meanings) longer.0 in
     let traces : trace settings read.0 ≡ T ++ rest = ap (trace settings) longer.1 ∙ trace_from-append settings 1 meanings longer.0 in
@@ -163,30 +131,24 @@ writes_front_at_end limit settings log given fault meanings old new means few la
 -- ---- each way in which a run ends
 
 -- what is known of a line on which the run stopped
-abbrev pub StopsOn : Type 0 → Type 0 → ℕ → List ℕ → Settings → List (Option Stamped) → Option Stamped → ExplainingFault → ℕ → List ℕ → Type 0
-StopsOn Told ToldNow failures old settings meanings what why failures_now new =
-    (stamped : Stamped) × (d : Dir) × (what ≡ Some stamped) × (Some d ≡ direction_of settings stamped.frame.id)
-    × FailsAt Told ToldNow failures old (trace settings meanings) (entry_in meanings stamped d) why failures_now new
-
--- what is known after lines that were taken
-abbrev pub ExplainsLines : Type 0 → Type 0 → ℕ → List ℕ → Settings → List (Option Stamped) → Pending → ℕ → List ℕ → Type 0
-ExplainsLines Told ToldNow failures old settings meanings pending failures_now new =
-    Explains Told ToldNow failures old (trace settings meanings) pending failures_now new
+abbrev StopsExplaining : Type 0 → Type 0 → ℕ → List ℕ → Settings → ℕ → List ℕ → List (Option Stamped) → Option Stamped → ExplainingFault → Type 0
+StopsExplaining Told ToldNow failures old settings failures_now new = StopsOn settings (λ T e why. FailsAt Told ToldNow failures old T e why failures_now new)
 
 module _ (Told ToldNow : Type 0) (failures : ℕ) (old : List ℕ) (pending : Pending) (failures_now : ℕ) (new : List ℕ) (settings : Settings)
     {S : Type 0} (took : Took S) (stopped : Stopped S ExplainingFault) (s n : S)
-    (gives : (meanings : List (Option Stamped)) → took s meanings n → ExplainsLines Told ToldNow failures old settings meanings pending failures_now new)
+    (gives : (meanings : List (Option Stamped)) → took s meanings n → Explains Told ToldNow failures old (trace settings meanings) pending failures_now new)
     (halts : (meanings : List (Option Stamped)) (what : Option Stamped) (why : ExplainingFault) → stopped s meanings what why n
-    → StopsOn Told ToldNow failures old settings meanings what why failures_now new) where
+    → StopsExplaining Told ToldNow failures old settings failures_now new meanings what why) where
   -- a front of the lines of the frames up to the one on which it stopped
   explains_front : (log : List ℕ) (given : ℕ) (fault : Fault) (meanings : List (Option Stamped)) (what : Option Stamped) (why : ExplainingFault) → Told
       → counts_last fault ≡ true → stopped s meanings what why n
-      → (((given ≤ settings.max_bytes) × StopsInLog log given meanings what) ⊎ ((length log ≤ settings.max_bytes) × (given ≡ length log) × StopsAtEnd log meanings what))
+      → StopsWithin settings.max_bytes log given meanings what
       → WritesFrontOfText MESSAGE_LIMIT settings log given fault old new
   explains_front log given fault meanings what why told last stops place =
       let halted = halts meanings what why stops in
       let next = trace_next settings meanings what halted.0 halted.1 halted.2 halted.3 in
-      writes_front_of_text MESSAGE_LIMIT settings log given fault (meanings ++ what ∷ []) old new last (lines_come settings log given meanings what place)
+      writes_front_of_text MESSAGE_LIMIT settings log given fault (meanings ++ what ∷ []) old new last
+      (have_come takes_all settings log given meanings what place (all_taken (meanings ++ what ∷ [])))
       (subst (λ T. HasFront old (events_text MESSAGE_LIMIT T) new) (sym next) (halted.4.written told))
 
   -- with a fault of the lines
@@ -210,24 +172,17 @@ module _ (Told ToldNow : Type 0) (failures : ℕ) (old : List ℕ) (pending : Pe
   explains_lines A log given told (line_fault.Taker Write) (meanings, what, stops, place) =
       explains_front log given fault.Write meanings what Write told refl stops place
 
-  -- the same, where the limit is known in other words
-  pub explains_of_lines : (A : Type 0) (log : List ℕ) (given : ℕ) → Told → (why : LineFault ExplainingFault) (m : ℕ) → m ≡ settings.max_bytes
-      → ReadsLog took stopped s {A = A} m log given (Err why) n
-      → AnswersExplain MESSAGE_LIMIT settings log given (Err (explaining_fault why)) old new
-  explains_of_lines A log given told why m is read =
-      explains_lines A log given told why (subst (λ k. ReadsLog took stopped s {A = A} k log given (Err why) n) is read)
-
   -- what the target counts then
-  pub explains_failures : {A : Type 0} (B : Type 0) → failures ≤ 2 ^ 62 → (why : LineFault ExplainingFault) → TakesSome took stopped s {A = B} (Err why) n
+  fails_lines : {A : Type 0} (B : Type 0) → failures ≤ 2 ^ 62 → (why : LineFault ExplainingFault) → TakesSome took stopped s {A = B} (Err why) n
       → FailedIf {A = A} fault.Write (Err (explaining_fault why)) failures failures_now
-  explains_failures B few (line_fault.BadLine line column) (meanings, taken) =
+  fails_lines B few (line_fault.BadLine line column) (meanings, taken) =
       record { risen = λ is. absurd (cc is); same = λ _. (gives meanings taken).failures_are }
-  explains_failures B few line_fault.LogLimit (meanings, taken) = record { risen = λ is. absurd (cc is); same = λ _. (gives meanings taken).failures_are }
-  explains_failures B few line_fault.Read (meanings, taken) = record { risen = λ is. absurd (cc is); same = λ _. (gives meanings taken).failures_are }
-  explains_failures B few (line_fault.Taker Memory) (meanings, what, stops) =
+  fails_lines B few line_fault.LogLimit (meanings, taken) = record { risen = λ is. absurd (cc is); same = λ _. (gives meanings taken).failures_are }
+  fails_lines B few line_fault.Read (meanings, taken) = record { risen = λ is. absurd (cc is); same = λ _. (gives meanings taken).failures_are }
+  fails_lines B few (line_fault.Taker Memory) (meanings, what, stops) =
       let halted = halts meanings what Memory stops in
       record { risen = λ is. absurd (cc is); same = λ _. halted.4.failures_are few }
-  explains_failures B few (line_fault.Taker Write) (meanings, what, stops) =
+  fails_lines B few (line_fault.Taker Write) (meanings, what, stops) =
       let halted = halts meanings what Write stops in
       record { risen = λ _. halted.4.failures_are few; same = λ not. absurd (not refl) }
 
@@ -316,8 +271,60 @@ module _ {W : Type 0} (target : Ghosts W) where
       → FailsAt (target.tells s.1) (target.tells t.1) (target.failures s.1) (target.written s.1) T e why (target.failures t.1) (target.written t.1)
       × (target.had_empty_write t.1 ≡ target.had_empty_write s.1)
 
-  pub explained_nothing : (start : Explaining W × W) → ExplainedEvents start [] start
+  explained_nothing : (start : Explaining W × W) → ExplainedEvents start [] start
   explained_nothing start counts = (
     record { removed = counts; failures_are = refl; telling = λ told. told; written = λ told. sym (append-nil (target.written start.1)) },
     refl,
   )
+
+  -- no event was explained
+  abbrev pub HasExplainedNothing : Explaining W → Type 0
+  HasExplainedNothing taker = CountsRemoved [] taker.pending
+
+  -- no line was taken
+  pub takes_nothing : (start : Receiver (Explaining W) × W) → TookLines ExplainedEvents start [] start
+  takes_nothing start = took_nothing ExplainedEvents start (explained_nothing (start.0.taker, start.1))
+
+  -- from such a start on
+  module _ (settings : Settings) (start now : Receiver (Explaining W) × W) (begun : IsRunStart HasExplainedNothing settings start) where
+    -- the events of the lines that were taken were explained, without an empty write
+    pub explained : (meanings : List (Option Stamped)) → TookLines ExplainedEvents start meanings now
+        → Explains (target.tells start.1) (target.tells now.1) (target.failures start.1) (target.written start.1) (trace settings meanings) now.0.taker.pending
+        (target.failures now.1) (target.written now.1) × (target.had_empty_write now.1 ≡ target.had_empty_write start.1)
+    explained meanings lines = has_taken ExplainedEvents settings start now begun meanings lines begun.fresh
+
+    gives : (meanings : List (Option Stamped)) → TookLines ExplainedEvents start meanings now
+        → Explains (target.tells start.1) (target.tells now.1) (target.failures start.1) (target.written start.1) (trace settings meanings) now.0.taker.pending
+        (target.failures now.1) (target.written now.1)
+    gives meanings lines = (explained meanings lines).0
+
+    halts : (meanings : List (Option Stamped)) (what : Option Stamped) (why : ExplainingFault) → StoppedOnLine FailedAtEvent start meanings what why now
+        → StopsExplaining (target.tells start.1) (target.tells now.1) (target.failures start.1) (target.written start.1) settings
+        (target.failures now.1) (target.written now.1) meanings what why
+    halts meanings what why line =
+        let stops = has_stopped FailedAtEvent settings start now begun meanings what why line in
+        (stops.0, stops.1, stops.2, stops.3, (stops.4 begun.fresh).0)
+
+    -- what it answers on a fault of the lines
+    pub explains_of_lines : (A : Type 0) (log : List ℕ) (given : ℕ) → target.tells start.1 → (why : LineFault ExplainingFault) (m : ℕ) → m ≡ settings.max_bytes
+        → ReadsLog (TookLines ExplainedEvents) (StoppedOnLine FailedAtEvent) start {A = A} m log given (Err why) now
+        → AnswersExplain MESSAGE_LIMIT settings log given (Err (explaining_fault why)) (target.written start.1) (target.written now.1)
+    explains_of_lines A log given told why m is read =
+        explains_lines (target.tells start.1) (target.tells now.1) (target.failures start.1) (target.written start.1) now.0.taker.pending
+        (target.failures now.1) (target.written now.1) settings (TookLines ExplainedEvents) (StoppedOnLine FailedAtEvent) start now gives halts A log given told why
+        (subst (λ k. ReadsLog (TookLines ExplainedEvents) (StoppedOnLine FailedAtEvent) start {A = A} k log given (Err why) now) is read)
+
+    -- and what the target counts then
+    pub fails_of_lines : {A : Type 0} (B : Type 0) → target.failures start.1 ≤ 2 ^ 62 → (why : LineFault ExplainingFault)
+        → TakesSome (TookLines ExplainedEvents) (StoppedOnLine FailedAtEvent) start {A = B} (Err why) now
+        → FailedIf {A = A} fault.Write (Err (explaining_fault why)) (target.failures start.1) (target.failures now.1)
+    fails_of_lines {A = A} B few why takes =
+        fails_lines (target.tells start.1) (target.tells now.1) (target.failures start.1) (target.written start.1) now.0.taker.pending
+        (target.failures now.1) (target.written now.1) settings (TookLines ExplainedEvents) (StoppedOnLine FailedAtEvent) start now gives halts {A = A} B few why takes
+
+    -- no write was empty
+    pub writes_some : {A : Type 0} (result : Result A (LineFault ExplainingFault)) → TakesSome (TookLines ExplainedEvents) (StoppedOnLine FailedAtEvent) start result now
+        → target.had_empty_write now.1 ≡ target.had_empty_write start.1
+    writes_some result takes =
+        known_at_end ExplainedEvents FailedAtEvent settings start now begun (target.had_empty_write now.1 ≡ target.had_empty_write start.1)
+        (λ T events. (events begun.fresh).1) (λ T e why failed. (failed begun.fresh).1) result takes

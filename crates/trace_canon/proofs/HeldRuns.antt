@@ -1,12 +1,11 @@
 -- What a run answers that holds a log's meaning, from what its parts have promised.
-use Rattle.std.proofs.Common.{◌≡◌, Bool, true, false, nat_le, ℕ, ◌≤◌, List, [], ◌++◌, length, take, drop, arith, refl, ap, sym}
-use Rattle.std.proofs.Common.{subst, ◌∙◌, ◌⊎◌, inl, inr, Option, Some, None, Err, append_assoc, length-append, length-take}
+use Rattle.std.proofs.Common.{◌≡◌, Bool, true, false, nat_le, ℕ, ◌≤◌, List, [], length, take, drop, arith, refl, ap, sym}
+use Rattle.std.proofs.Common.{subst, ◌∙◌, inl, inr, Option, Some, None, Err, length-take}
 use Rattle.std.specs.List.{AllByRecursion}
 use Rattle.std.specs.Option.{ok_or}
 use Rattle.std.proofs.lemmas.Bool.{leb-true, leb-false}
 use Rattle.std.proofs.lemmas.List.{take-append-drop}
 use Rattle.can_log.specs.Log.{LogMeans}
-use Rattle.can_log.specs.declared.frame.Dir.{Dir}
 use Rattle.can_log.specs.declared.frame.Stamped.{Stamped}
 use Rattle.isotp_receive.specs.declared.TheConstants.{MESSAGE_LIMIT}
 use Rattle.uds_exchange.specs.Meaning.{ItemValue, meaning, flattened}
@@ -17,46 +16,37 @@ use Rattle.trace_canon.specs.declared.holding.HoldingFault.TheVariants as holdin
 use Rattle.trace_canon.specs.declared.lines.LineFault.{LineFault}
 use Rattle.trace_canon.specs.declared.lines.LineFault.TheVariants as line_fault
 use Rattle.trace_canon.specs.declared.meaning.Held.{Held}
-use Rattle.trace_canon.specs.Settings.{Settings, direction_of}
+use Rattle.trace_canon.specs.declared.receiver.Receiver.{Receiver}
+use Rattle.trace_canon.specs.Settings.{Settings}
 use Rattle.trace_canon.specs.Trace.{trace}
 use Rattle.trace_canon.specs.CanonicalLog.{canonical_log, canonical_log_of_lines}
 use Rattle.trace_canon.specs.Messages.{meaning_of_lines}
 use Rattle.trace_canon.specs.Summing.{summary_of}
 use Rattle.trace_canon.specs.Answers.{TellsOutcome}
-use Rattle.trace_canon.specs.Reading.{Took, Stopped, StopsInLog, StopsAtEnd, ReadsLog}
-use Rattle.trace_canon.specs.Receiving.{entry_in}
+use Rattle.trace_canon.specs.Reading.{Took, Stopped, StopsWithin, ReadsLog}
 use Rattle.trace_canon.specs.Ordering.{AnnouncesWithin}
 use Rattle.trace_canon.specs.Holding.{Holds, StopsHolding}
 use Rattle.trace_canon.specs.Held.{fault_of, EndsHeld, FindsMeaning}
 use Rattle.trace_canon.proofs.Finished.{each_within}
-use Rattle.trace_canon.proofs.Normalised.{bad_in_front, bad_at_end, line_announces}
-use Rattle.trace_canon.proofs.Runs.{TookEvents, StoppedOnEvent}
-use Rattle.trace_canon.proofs.ScannedLogs.{bad_line, oversize_taken, oversize_last, not_refused_at_limit}
+use Rattle.trace_canon.proofs.Normalised.{line_announces}
+use Rattle.trace_canon.proofs.Runs.{TookEvents, StoppedOnEvent, StopsOn, IsRunStart, TookLines, StoppedOnLine, took_nothing, has_taken, has_stopped}
+use Rattle.trace_canon.proofs.ScannedLogs.{bad_line, not_refused_at_limit}
+use Rattle.trace_canon.proofs.StoppedRuns.{bad_in_front, bad_at_end, oversize_stops}
 
 -- what is known of a line on which the run stopped
 abbrev pub HaltsHolding : Settings → List (Option Stamped) → Option Stamped → HoldingFault → Type 0
-HaltsHolding settings meanings what why =
-    (stamped : Stamped) × (d : Dir) × (what ≡ Some stamped) × (Some d ≡ direction_of settings stamped.frame.id)
-    × StopsHolding (trace settings meanings) (entry_in meanings stamped d) why
+HaltsHolding settings = StopsOn settings StopsHolding
 
 -- ---- a fault of the lines
 
 module _ (settings : Settings) (log : List ℕ) (given : ℕ) where
   -- a line announces too much
   tells_oversize : (line announced : ℕ) (meanings : List (Option Stamped)) (what : Option Stamped) → HaltsHolding settings meanings what (holding_fault.Oversize line announced)
-      → (((given ≤ settings.max_bytes) × StopsInLog log given meanings what) ⊎ ((length log ≤ settings.max_bytes) × (given ≡ length log) × StopsAtEnd log meanings what))
+      → StopsWithin settings.max_bytes log given meanings what
       → TellsOutcome MESSAGE_LIMIT settings log (fault.Oversize line announced)
-  tells_oversize line announced meanings what (stamped, d, is, direction, (within, at, announces)) (inl (few, stops)) =
-      let size = length-take given log in
-      let all = ap length stops.stops.parts ∙ length-append stops.stops.front stops.stops.rest in
-      let parts : log ≡ stops.stops.front ++ (stops.stops.rest ++ drop given log) =
-      sym (take-append-drop given log) ∙ ap (λ x. x ++ drop given log) stops.stops.parts ∙ append_assoc stops.stops.front stops.stops.rest (drop given log) in
-      (oversize_taken MESSAGE_LIMIT settings log stops.stops.front (stops.stops.rest ++ drop given log) meanings what stops.stops.standing line announced
-      stops.stops.stands parts (omega arith) (omega arith)
-      (each_within settings meanings within) (line_announces settings what stamped d (Some announced) is direction announces)).over
-  tells_oversize line announced meanings what (stamped, d, is, direction, (within, at, announces)) (inr (short, all, stops)) =
-      (oversize_last MESSAGE_LIMIT settings log meanings what line announced stops.means short (omega arith)
-      (each_within settings meanings within) (line_announces settings what stamped d (Some announced) is direction announces)).over
+  tells_oversize line announced meanings what (stamped, d, is, direction, (within, at, announces)) place =
+      (oversize_stops MESSAGE_LIMIT settings log given line announced meanings what place (omega arith) (each_within settings meanings within)
+      (line_announces settings what stamped d (Some announced) is direction announces)).2.over
 
   module _ {S : Type 0} (A : Type 0) (took : Took S) (stopped : Stopped S HoldingFault) (s n : S)
       (gives : (meanings : List (Option Stamped)) → took s meanings n → AllByRecursion AnnouncesWithin (trace settings meanings))
@@ -77,15 +67,6 @@ module _ (settings : Settings) (log : List ℕ) (given : ℕ) where
     tells_lines (line_fault.Taker (holding_fault.Oversize line announced)) (meanings, what, stops, place) =
         tells_oversize line announced meanings what (halts meanings what (holding_fault.Oversize line announced) stops) place
     tells_lines (line_fault.Taker holding_fault.Memory) read = tt
-
--- the same, from what a caller has at hand
-pub tells_of_lines : (settings : Settings) (log : List ℕ) (given : ℕ) {S : Type 0} (A : Type 0) (took : Took S) (stopped : Stopped S HoldingFault) (s n : S)
-    (why : LineFault HoldingFault) (m : ℕ) → m ≡ settings.max_bytes → ReadsLog took stopped s {A = A} m log given (Err why) n
-    → ((meanings : List (Option Stamped)) → took s meanings n → AllByRecursion AnnouncesWithin (trace settings meanings))
-    → ((meanings : List (Option Stamped)) (what : Option Stamped) (why : HoldingFault) → stopped s meanings what why n → HaltsHolding settings meanings what why)
-    → TellsOutcome MESSAGE_LIMIT settings log (fault_of why)
-tells_of_lines settings log given A took stopped s n why m is read gives halts =
-    tells_lines settings log given A took stopped s n gives halts why (subst (λ k. ReadsLog took stopped s {A = A} k log given (Err why) n) is read)
 
 -- ---- the end of the run
 
@@ -110,8 +91,35 @@ HeldEvents s T t = s.0.pairing ≡ meaning [] → Holds T t.0.pairing
 abbrev pub StoppedHolding : StoppedOnEvent Holding (Unit {0}) HoldingFault
 StoppedHolding s T e why t = s.0.pairing ≡ meaning [] → StopsHolding T e why
 
-pub held_nothing : (start : Holding × Unit {0}) → HeldEvents start [] start
+held_nothing : (start : Holding × Unit {0}) → HeldEvents start [] start
 held_nothing start stands = record { stands = stands; within = tt }
+
+-- nothing was held
+abbrev pub HasHeldNothing : Holding → Type 0
+HasHeldNothing taker = taker.pairing ≡ meaning []
+
+-- no line was taken
+pub takes_nothing : (start : Receiver Holding × Unit {0}) → TookLines HeldEvents start [] start
+takes_nothing start = took_nothing HeldEvents start (held_nothing (start.0.taker, start.1))
+
+-- from such a start on
+module _ (settings : Settings) (start now : Receiver Holding × Unit {0}) (begun : IsRunStart HasHeldNothing settings start) where
+  -- what the lines that were taken mean was held
+  pub held : (meanings : List (Option Stamped)) → TookLines HeldEvents start meanings now → Holds (trace settings meanings) now.0.taker.pairing
+  held meanings lines = has_taken HeldEvents settings start now begun meanings lines begun.fresh
+
+  halts : (meanings : List (Option Stamped)) (what : Option Stamped) (why : HoldingFault) → StoppedOnLine StoppedHolding start meanings what why now
+      → HaltsHolding settings meanings what why
+  halts meanings what why line =
+      let stops = has_stopped StoppedHolding settings start now begun meanings what why line in
+      (stops.0, stops.1, stops.2, stops.3, stops.4 begun.fresh)
+
+  -- what it answers on a fault of the lines
+  pub tells_of_lines : (A : Type 0) (log : List ℕ) (given : ℕ) (why : LineFault HoldingFault) (m : ℕ) → m ≡ settings.max_bytes
+      → ReadsLog (TookLines HeldEvents) (StoppedOnLine StoppedHolding) start {A = A} m log given (Err why) now → TellsOutcome MESSAGE_LIMIT settings log (fault_of why)
+  tells_of_lines A log given why m is read =
+      tells_lines settings log given A (TookLines HeldEvents) (StoppedOnLine StoppedHolding) start now (λ meanings lines. (held meanings lines).within) halts why
+      (subst (λ k. ReadsLog (TookLines HeldEvents) (StoppedOnLine StoppedHolding) start {A = A} k log given (Err why) now) is read)
 
 -- ---- the test of the whole meaning
 

@@ -4,6 +4,7 @@ pub mod CanonicalLogs
 pub mod LogLines
 pub mod CanonicalWriting
 pub mod WrittenFronts
+pub mod Gatherings
 pub mod Results
 pub mod DecimalPlaces
 pub mod Names
@@ -18,6 +19,7 @@ pub mod SomeOutcome
 pub mod Texts
 pub mod ReadLines
 pub mod ScannedLogs
+pub mod StoppedRuns
 pub mod Answered
 pub mod Sendable
 pub mod Receivings

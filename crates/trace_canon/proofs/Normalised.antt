@@ -1,12 +1,11 @@
 -- What a run answers where it ends with a fault of the lines, from what its parts have promised.
-use Rattle.std.proofs.Common.{◌≡◌, Bool, true, ℕ, ◌≤◌, List, [], ◌∷◌, ◌++◌, length, take, drop, arith, refl, ap, sym, subst, ◌∙◌, ◌⊎◌}
-use Rattle.std.proofs.Common.{inl, inr, Option, Some, None, Result, Ok, Err, ◌^◌, append-nil, append_assoc, length-append, length-take}
-use Rattle.std.specs.Prelude.{is_none, min}
+use Rattle.std.proofs.Common.{◌≡◌, true, ℕ, ◌≤◌, List, [], ◌∷◌, ◌++◌, length, take, drop, arith, refl, ap, sym, subst, ◌∙◌}
+use Rattle.std.proofs.Common.{inl, inr, Option, Some, None, Result, Ok, Err, ◌^◌, append-nil}
+use Rattle.std.specs.Prelude.{is_none}
 use Rattle.std.specs.List.{AllByRecursion}
 use Rattle.std.proofs.lemmas.List.{take-append-drop, length-take-le}
 use Rattle.std.proofs.Math.Nat.{le-min}
-use Rattle.can_log.specs.Log.{LogMeans, ended_lines}
-use Rattle.can_log.specs.WholeLog.{IsRefusedBehind, IsRefusedWithin}
+use Rattle.can_log.specs.Log.{LogMeans}
 use Rattle.can_log.specs.declared.frame.Dir.{Dir}
 use Rattle.can_log.specs.declared.frame.Stamped.{Stamped}
 use Rattle.isotp_pdu.specs.Reading.{layout_of}
@@ -34,8 +33,7 @@ use Rattle.trace_canon.specs.CanonicalLog.{early_text, canonical_log, canonical_
 use Rattle.isotp_receive.specs.Events.{oversize_in}
 use Rattle.trace_canon.specs.Refusal.{oversize, announces_within, EachWithin}
 use Rattle.trace_canon.specs.Answers.{WritesEagerly, Answers}
-use Rattle.trace_canon.specs.Reading.{Took, Stopped, RefusesIn, StopsIn, StopsInLog, StopsAtEnd, HasEnded, ReadsLog, TakesSome}
-use Rattle.trace_canon.specs.Receiving.{entry_in}
+use Rattle.trace_canon.specs.Reading.{Took, Stopped, StopsWithin, HasEnded, ReadsLog, TakesSome}
 use Rattle.uds_exchange.specs.Orderer.{stands_after}
 use Rattle.trace_canon.proofs.CanonicalWriting.{text_none, place_none}
 use Rattle.trace_canon.specs.Putting.{Writer, text_of_put}
@@ -44,29 +42,15 @@ use Rattle.trace_canon.specs.Finishing.{answer_of, IsFirst, Finishes, fault_of}
 use Rattle.trace_canon.specs.Failing.{FailedIf}
 use Rattle.trace_canon.specs.TextSeen.{writer_of}
 use Rattle.trace_canon.specs.declared.ordering.Ordering.{Ordering}
+use Rattle.trace_canon.specs.declared.receiver.Receiver.{Receiver}
 use Rattle.uds_exchange.specs.Meaning.{meaning, flattened}
-use Rattle.trace_canon.proofs.Answered.{answers_bad, answers_oversize, answers_oversize_last, answers_limit, answers_read, HaveCome, taken_have_come}
-use Rattle.trace_canon.proofs.Answered.{all_have_come, writes_front, writes_front_at_end, writes_eagerly, answers_accepted, answers_output_limit}
+use Rattle.trace_canon.proofs.Answered.{answers_bad, answers_oversize, answers_limit, answers_read}
+use Rattle.trace_canon.proofs.Answered.{writes_front, writes_front_at_end, writes_eagerly, answers_accepted, answers_output_limit}
 use Rattle.trace_canon.proofs.Finished.{text_is_fitting, each_within, oversize_of_one}
 use Rattle.trace_canon.proofs.Receivings.{trace_next}
-use Rattle.trace_canon.proofs.Runs.{TookEvents, StoppedOnEvent}
-use Rattle.trace_canon.proofs.ScannedLogs.{IsBadBehind}
+use Rattle.trace_canon.proofs.Runs.{TookEvents, StoppedOnEvent, StopsOn, IsRunStart, TookLines, StoppedOnLine, took_nothing, has_taken, has_stopped, known_at_end}
+use Rattle.trace_canon.proofs.StoppedRuns.{bad_in_front, bad_at_end, oversize_stops, have_come}
 use Rattle.trace_canon.proofs.Texts.{Begins, begins_again, early_text_grows, fitting_log_begins}
-
--- ---- a refused place
-
-pub bad_in_front : (log : List ℕ) (given line column : ℕ) (meanings : List (Option Stamped)) → RefusesIn (take given log) meanings line column
-    → IsBadBehind log line column meanings given
-bad_in_front log given line column meanings refuses =
-    let size = length-take given log in
-    let refused = subst (λ x. IsRefusedWithin (length (take given log)) meanings x line column) (take-append-drop given log) (refuses (drop given log)) in
-    let inside = refused.2 in
-    record { place = refused.0; behind = refused.1; before = omega arith; within = inl (omega arith) }
-
-pub bad_at_end : (log : List ℕ) (line column : ℕ) (meanings : List (Option Stamped)) → IsRefusedBehind meanings log line column → IsBadBehind log line column meanings (length log)
-bad_at_end log line column meanings (place, behind) =
-    let all = ap length place.parts ∙ length-append (ended_lines place.lines) place.rest in
-    record { place = place; behind = behind; before = omega arith; within = inr (omega arith) }
 
 -- ---- lines
 
@@ -81,9 +65,7 @@ each_more limit settings (x ∷ meanings) what all one = (all.0, each_more limit
 
 -- what is known of a line on which the run stopped
 abbrev pub Halts : Type 0 → Type 0 → Settings → Writer → Writer → List (Option Stamped) → Option Stamped → OrderingFault → Type 0
-Halts Told ToldNow settings first now meanings what why =
-    (stamped : Stamped) × (d : Dir) × (what ≡ Some stamped) × (Some d ≡ direction_of settings stamped.frame.id)
-    × StopsAt Told ToldNow first (trace settings meanings) (entry_in meanings stamped d) why now
+Halts Told ToldNow settings first now = StopsOn settings (λ T e why. StopsAt Told ToldNow first T e why now)
 
 -- the line announces what its frame does
 pub line_announces : (settings : Settings) (what : Option Stamped) (stamped : Stamped) (d : Dir) (o : Option ℕ) → what ≡ Some stamped
@@ -97,48 +79,23 @@ module _ (Told ToldNow : Type 0) (settings : Settings) (first now : Writer) (log
       → now.written ≡ first.written ++ early_text MESSAGE_LIMIT settings meanings
   early_written meanings stood = stood.written told ∙ ap (λ x. first.written ++ x) (text_is_fitting settings first (early (messages_of_lines MESSAGE_LIMIT settings meanings)) start)
 
-  -- the lines that had come with the one on which the run stopped
-  come_in : (with_last : Bool) (firsts meanings : List (Option Stamped)) (what : Option Stamped) → StopsIn firsts (take given log) meanings what → given ≤ settings.max_bytes
-      → EachWithin MESSAGE_LIMIT settings (meanings ++ what ∷ []) → HaveCome MESSAGE_LIMIT settings with_last (min given settings.max_bytes) log (meanings ++ what ∷ [])
-  come_in with_last firsts meanings what stops few each =
-      let size = length-take given log in
-      let all = ap length stops.parts ∙ length-append stops.front stops.rest in
-      let parts : log ≡ stops.front ++ (stops.rest ++ drop given log) =
-      sym (take-append-drop given log) ∙ ap (λ x. x ++ drop given log) stops.parts ∙ append_assoc stops.front stops.rest (drop given log) in
-      taken_have_come MESSAGE_LIMIT settings with_last (min given settings.max_bytes) log stops.front (stops.rest ++ drop given log) (meanings ++ what ∷ []) stops.standing stops.stands
-      parts (le-min (omega arith) (omega arith)) each
-
-  -- where the log goes on after the lines on which the run stopped
-  cut_in : (firsts meanings : List (Option Stamped)) (what : Option Stamped) → (stops : StopsIn firsts (take given log) meanings what)
-      → log ≡ stops.front ++ (stops.rest ++ drop given log)
-  cut_in firsts meanings what stops =
-      sym (take-append-drop given log) ∙ ap (λ x. x ++ drop given log) stops.parts ∙ append_assoc stops.front stops.rest (drop given log)
-
   -- a line announces too much
   oversize_ends : (line announced : ℕ) (meanings : List (Option Stamped)) (what : Option Stamped) → Halts Told ToldNow settings first now meanings what (ordering_fault.Oversize line announced)
-      → (((given ≤ settings.max_bytes) × StopsInLog log given meanings what) ⊎ ((length log ≤ settings.max_bytes) × (given ≡ length log) × StopsAtEnd log meanings what))
+      → StopsWithin settings.max_bytes log given meanings what
       → Answers MESSAGE_LIMIT settings log given (Err (fault.Oversize line announced)) first.written now.written
-  oversize_ends line announced meanings what (stamped, d, is, direction, (stood, at, announces)) (inl (few, stops)) =
-      let size = length-take given log in
-      let all = ap length stops.stops.parts ∙ length-append stops.stops.front stops.stops.rest in
-      answers_oversize MESSAGE_LIMIT settings log given line announced stops.stops.front (stops.stops.rest ++ drop given log) meanings what stops.stops.standing first.written now.written
-      stops.stops.stands (cut_in stops.first meanings what stops.stops) (omega arith) (omega arith) (omega arith) (each_within settings meanings stood.within)
-      (line_announces settings what stamped d (Some announced) is direction announces) (early_written meanings stood)
-  oversize_ends line announced meanings what (stamped, d, is, direction, (stood, at, announces)) (inr (short, all, stops)) =
-      answers_oversize_last MESSAGE_LIMIT settings log given line announced meanings what first.written now.written stops.means short (omega arith) (omega arith)
-      (each_within settings meanings stood.within) (line_announces settings what stamped d (Some announced) is direction announces) (early_written meanings stood)
+  oversize_ends line announced meanings what (stamped, d, is, direction, (stood, at, announces)) place =
+      let found = oversize_stops MESSAGE_LIMIT settings log given line announced meanings what place (omega arith) (each_within settings meanings stood.within)
+      (line_announces settings what stamped d (Some announced) is direction announces) in
+      answers_oversize MESSAGE_LIMIT settings log given line announced meanings found.0 first.written now.written found.1 found.2 (early_written meanings stood)
 
   -- memory was refused at a line
   memory_ends : (meanings : List (Option Stamped)) (what : Option Stamped) → Halts Told ToldNow settings first now meanings what ordering_fault.Memory
-      → (((given ≤ settings.max_bytes) × StopsInLog log given meanings what) ⊎ ((length log ≤ settings.max_bytes) × (given ≡ length log) × StopsAtEnd log meanings what))
+      → StopsWithin settings.max_bytes log given meanings what
       → Answers MESSAGE_LIMIT settings log given (Err fault.Memory) first.written now.written
   memory_ends meanings what (stamped, d, is, direction, (stood, within)) place =
       let one = ap is_none (line_announces settings what stamped d None is direction within) in
       let each = each_more MESSAGE_LIMIT settings meanings what (each_within settings meanings stood.within) one in
-      let come : HaveCome MESSAGE_LIMIT settings true (min given settings.max_bytes) log (meanings ++ what ∷ []) = elim place [
-        | inl (few, stops) ↦ come_in true stops.first meanings what stops.stops few each
-        | inr (short, all, stops) ↦ all_have_come MESSAGE_LIMIT settings (min given settings.max_bytes) log (meanings ++ what ∷ []) stops.means (le-min (omega arith) short) each
-      ] in (
+      let come = have_come (announces_within MESSAGE_LIMIT settings) settings log given meanings what place each in (
         tt,
         writes_front MESSAGE_LIMIT settings log given fault.Memory (meanings ++ what ∷ []) (early_text MESSAGE_LIMIT settings meanings) first.written now.written come
             (early_written meanings stood) (early_text_grows MESSAGE_LIMIT settings meanings (what ∷ [])),
@@ -146,7 +103,7 @@ module _ (Told ToldNow : Type 0) (settings : Settings) (first now : Writer) (log
 
   -- the target failed at a line
   write_ends : (meanings : List (Option Stamped)) (what : Option Stamped) → Halts Told ToldNow settings first now meanings what ordering_fault.Write
-      → (((given ≤ settings.max_bytes) × StopsInLog log given meanings what) ⊎ ((length log ≤ settings.max_bytes) × (given ≡ length log) × StopsAtEnd log meanings what))
+      → StopsWithin settings.max_bytes log given meanings what
       → Answers MESSAGE_LIMIT settings log given (Err fault.Write) first.written now.written
   write_ends meanings what (stamped, d, is, direction, failed) place =
       let next = trace_next settings meanings what stamped d is direction in
@@ -158,10 +115,7 @@ module _ (Told ToldNow : Type 0) (settings : Settings) (first now : Writer) (log
       ∙ ap (λ T. text_of_put first (early (messages MESSAGE_LIMIT T))) next ∙ some.parts in
       let since : some.front ≡ early_text MESSAGE_LIMIT settings meanings ++ some.more =
       some.since ∙ ap (λ x. x ++ some.more) (text_is_fitting settings first (early (messages_of_lines MESSAGE_LIMIT settings meanings)) start) in
-      let come : HaveCome MESSAGE_LIMIT settings true (min given settings.max_bytes) log all_whats = elim place [
-        | inl (few, stops) ↦ come_in true stops.first meanings what stops.stops few each
-        | inr (short, all, stops) ↦ all_have_come MESSAGE_LIMIT settings (min given settings.max_bytes) log all_whats stops.means (le-min (omega arith) short) each
-      ] in
+      let come = have_come (announces_within MESSAGE_LIMIT settings) settings log given meanings what place each in
       let front = writes_front MESSAGE_LIMIT settings log given fault.Write all_whats some.front first.written now.written come some.wrote (some.rest, text) in
       let each_before = each_front MESSAGE_LIMIT settings meanings (what ∷ []) each in
       let eagerly : WritesEagerly MESSAGE_LIMIT settings log given first.written now.written = elim place [
@@ -207,48 +161,29 @@ module _ (Told ToldNow : Type 0) (settings : Settings) (first now : Writer) (log
   answers_lines A took stopped s n gives halts (line_fault.Taker ordering_fault.Write) (meanings, what, stops, place) =
       write_ends meanings what (halts meanings what ordering_fault.Write stops) place
 
--- the same, from what a caller has at hand
-pub answers_of_lines : (Told ToldNow : Type 0) (settings : Settings) (first now : Writer) (log : List ℕ) (given : ℕ) → IsFirst settings first → Told
-    → {S : Type 0} (A : Type 0) (took : Took S) (stopped : Stopped S OrderingFault) (s n : S) (why : LineFault OrderingFault) (m : ℕ) → m ≡ settings.max_bytes
-    → ReadsLog took stopped s {A = A} m log given (Err why) n
-    → ((meanings : List (Option Stamped)) → took s meanings n → Stood Told ToldNow first (trace settings meanings) now)
-    → ((meanings : List (Option Stamped)) (what : Option Stamped) (why : OrderingFault) → stopped s meanings what why n → Halts Told ToldNow settings first now meanings what why)
-    → Answers MESSAGE_LIMIT settings log given (Err (fault_of why)) first.written now.written
-answers_of_lines Told ToldNow settings first now log given start told A took stopped s n why m is read gives halts =
-    answers_lines Told ToldNow settings first now log given start told A took stopped s n gives halts why
-    (subst (λ k. ReadsLog took stopped s {A = A} k log given (Err why) n) is read)
-
 -- ---- the counts of failures
 
 -- these lines were taken, or the run stopped after them
-pub fails_as : {A : Type 0} (Told ToldNow : Type 0) (settings : Settings) (first now : Writer) {S : Type 0} (B : Type 0) (took : Took S) (stopped : Stopped S OrderingFault) (s n : S)
+fails_lines : {A : Type 0} (Told ToldNow : Type 0) (settings : Settings) (first now : Writer) {S : Type 0} (B : Type 0) (took : Took S) (stopped : Stopped S OrderingFault) (s n : S)
     → first.failures ≤ 2 ^ 62
     → ((meanings : List (Option Stamped)) → took s meanings n → Stood Told ToldNow first (trace settings meanings) now)
     → ((meanings : List (Option Stamped)) (what : Option Stamped) (why : OrderingFault) → stopped s meanings what why n → Halts Told ToldNow settings first now meanings what why)
     → (why : LineFault OrderingFault) → TakesSome took stopped s {A = B} (Err why) n → FailedIf {A = A} fault.Write (Err (fault_of why)) first.failures now.failures
-fails_as Told ToldNow settings first now B took stopped s n few gives halts (line_fault.BadLine line column) (meanings, taken) =
+fails_lines Told ToldNow settings first now B took stopped s n few gives halts (line_fault.BadLine line column) (meanings, taken) =
     record { risen = λ is. absurd (cc is); same = λ _. (gives meanings taken).has_put.failures }
-fails_as Told ToldNow settings first now B took stopped s n few gives halts line_fault.LogLimit (meanings, taken) =
+fails_lines Told ToldNow settings first now B took stopped s n few gives halts line_fault.LogLimit (meanings, taken) =
     record { risen = λ is. absurd (cc is); same = λ _. (gives meanings taken).has_put.failures }
-fails_as Told ToldNow settings first now B took stopped s n few gives halts line_fault.Read (meanings, taken) =
+fails_lines Told ToldNow settings first now B took stopped s n few gives halts line_fault.Read (meanings, taken) =
     record { risen = λ is. absurd (cc is); same = λ _. (gives meanings taken).has_put.failures }
-fails_as Told ToldNow settings first now B took stopped s n few gives halts (line_fault.Taker (ordering_fault.Oversize line announced)) (meanings, what, stops) =
+fails_lines Told ToldNow settings first now B took stopped s n few gives halts (line_fault.Taker (ordering_fault.Oversize line announced)) (meanings, what, stops) =
     let halted = halts meanings what (ordering_fault.Oversize line announced) stops in
     record { risen = λ is. absurd (cc is); same = λ _. halted.4.0.has_put.failures }
-fails_as Told ToldNow settings first now B took stopped s n few gives halts (line_fault.Taker ordering_fault.Memory) (meanings, what, stops) =
+fails_lines Told ToldNow settings first now B took stopped s n few gives halts (line_fault.Taker ordering_fault.Memory) (meanings, what, stops) =
     let halted = halts meanings what ordering_fault.Memory stops in
     record { risen = λ is. absurd (cc is); same = λ _. halted.4.0.has_put.failures }
-fails_as Told ToldNow settings first now B took stopped s n few gives halts (line_fault.Taker ordering_fault.Write) (meanings, what, stops) =
+fails_lines Told ToldNow settings first now B took stopped s n few gives halts (line_fault.Taker ordering_fault.Write) (meanings, what, stops) =
     let halted = halts meanings what ordering_fault.Write stops in
     record { risen = λ _. halted.4.failures few; same = λ not. absurd (not refl) }
-
-pub fails_of_lines : {A : Type 0} (Told ToldNow : Type 0) (settings : Settings) (first now : Writer) {S : Type 0} (B : Type 0) (took : Took S) (stopped : Stopped S OrderingFault) (s n : S)
-    → first.failures ≤ 2 ^ 62 → (why : LineFault OrderingFault) → TakesSome took stopped s {A = B} (Err why) n
-    → ((meanings : List (Option Stamped)) → took s meanings n → Stood Told ToldNow first (trace settings meanings) now)
-    → ((meanings : List (Option Stamped)) (what : Option Stamped) (why : OrderingFault) → stopped s meanings what why n → Halts Told ToldNow settings first now meanings what why)
-    → FailedIf {A = A} fault.Write (Err (fault_of why)) first.failures now.failures
-fails_of_lines {A = A} Told ToldNow settings first now B took stopped s n few why takes gives halts =
-    fails_as {A = A} Told ToldNow settings first now B took stopped s n few gives halts why takes
 
 -- the end of the run
 pub fails_at_the_end : (Told ToldNow : Type 0) (settings : Settings) (first : Writer) (meanings : List (Option Stamped)) (result : Result Summary EndFault) (failures : ℕ) (written : List ℕ)
@@ -332,21 +267,58 @@ module _ {W : Type 0} (target : Ghosts W) where
     refl,
   )
 
-  -- The run has put no message.
-  pub record HasNotPut (settings : Settings) (start : Ordering W × W) : Type 0 where
-    pub stands : start.0.orderer ≡ stands_after []
-    pub first : IsFirst settings (writing start)
+  -- no message was put
+  abbrev pub HasPutNothing : Settings → Ordering W → Type 0
+  HasPutNothing settings taker = IsOrderingStart settings taker.orderer taker.text.config taker.text.place taker.text.messages
 
-  pub has_not_put : (settings : Settings) (taker first : Ordering W) (target : W) → first ≡ taker
-      → IsOrderingStart settings taker.orderer taker.text.config taker.text.place taker.text.messages → HasNotPut settings (first, target)
-  has_not_put settings taker first target same orders = record {
-    stands = ap (λ (o : Ordering W). o.orderer) same ∙ orders.stands;
-    first = record {
-      config = ap (λ (o : Ordering W). o.text.config) same ∙ orders.config_is;
-      place = ap (λ (o : Ordering W). o.text.place) same ∙ orders.place_is;
-      messages = ap (λ (o : Ordering W). o.text.messages) same ∙ orders.none;
-    };
-  }
+  -- no line was taken
+  pub takes_nothing : (start : Receiver (Ordering W) × W) → TookLines OrderedEvents start [] start
+  takes_nothing start = took_nothing OrderedEvents start (ordered_nothing (start.0.taker, start.1))
+
+  -- from such a start on
+  module _ (settings : Settings) (start now : Receiver (Ordering W) × W) (begun : IsRunStart (HasPutNothing settings) settings start) where
+    pub is_first : IsFirst settings (writing (start.0.taker, start.1))
+    is_first = record { config = begun.fresh.config_is; place = begun.fresh.place_is; messages = begun.fresh.none }
+
+    -- what is early of the lines that were taken was put, without an empty write
+    pub orders : (meanings : List (Option Stamped)) → TookLines OrderedEvents start meanings now
+        → Orders (target.tells start.1) (target.tells now.1) (writing (start.0.taker, start.1)) (trace settings meanings) now.0.taker.orderer (writing (now.0.taker, now.1))
+        × (target.had_empty_write now.1 ≡ target.had_empty_write start.1)
+    orders meanings lines = has_taken OrderedEvents settings start now begun meanings lines begun.fresh.stands
+
+    gives : (meanings : List (Option Stamped)) → TookLines OrderedEvents start meanings now
+        → Stood (target.tells start.1) (target.tells now.1) (writing (start.0.taker, start.1)) (trace settings meanings) (writing (now.0.taker, now.1))
+    gives meanings lines = (orders meanings lines).0.stood
+
+    halts : (meanings : List (Option Stamped)) (what : Option Stamped) (why : OrderingFault) → StoppedOnLine StoppedOrdering start meanings what why now
+        → Halts (target.tells start.1) (target.tells now.1) settings (writing (start.0.taker, start.1)) (writing (now.0.taker, now.1)) meanings what why
+    halts meanings what why line =
+        let stops = has_stopped StoppedOrdering settings start now begun meanings what why line in
+        (stops.0, stops.1, stops.2, stops.3, (stops.4 begun.fresh.stands).0)
+
+    -- what it answers on a fault of the lines
+    pub answers_of_lines : (A : Type 0) (log : List ℕ) (given : ℕ) → target.tells start.1 → (why : LineFault OrderingFault) (m : ℕ) → m ≡ settings.max_bytes
+        → ReadsLog (TookLines OrderedEvents) (StoppedOnLine StoppedOrdering) start {A = A} m log given (Err why) now
+        → Answers MESSAGE_LIMIT settings log given (Err (fault_of why)) (target.written start.1) (target.written now.1)
+    answers_of_lines A log given told why m is read =
+        answers_lines (target.tells start.1) (target.tells now.1) settings (writing (start.0.taker, start.1)) (writing (now.0.taker, now.1)) log given is_first told A
+        (TookLines OrderedEvents) (StoppedOnLine StoppedOrdering) start now gives halts why
+        (subst (λ k. ReadsLog (TookLines OrderedEvents) (StoppedOnLine StoppedOrdering) start {A = A} k log given (Err why) now) is read)
+
+    -- and what the target counts then
+    pub fails_of_lines : {A : Type 0} (B : Type 0) → target.failures start.1 ≤ 2 ^ 62 → (why : LineFault OrderingFault)
+        → TakesSome (TookLines OrderedEvents) (StoppedOnLine StoppedOrdering) start {A = B} (Err why) now
+        → FailedIf {A = A} fault.Write (Err (fault_of why)) (target.failures start.1) (target.failures now.1)
+    fails_of_lines {A = A} B few why takes =
+        fails_lines {A = A} (target.tells start.1) (target.tells now.1) settings (writing (start.0.taker, start.1)) (writing (now.0.taker, now.1)) B
+        (TookLines OrderedEvents) (StoppedOnLine StoppedOrdering) start now few gives halts why takes
+
+    -- no write was empty
+    pub writes_some : {A : Type 0} (result : Result A (LineFault OrderingFault)) → TakesSome (TookLines OrderedEvents) (StoppedOnLine StoppedOrdering) start result now
+        → target.had_empty_write now.1 ≡ target.had_empty_write start.1
+    writes_some result takes =
+        known_at_end OrderedEvents StoppedOrdering settings start now begun (target.had_empty_write now.1 ≡ target.had_empty_write start.1)
+        (λ T ordered. (ordered begun.fresh.stands).1) (λ T e why halted. (halted begun.fresh.stands).1) result takes
 
 -- ---- the canonical log again
 

@@ -12,6 +12,7 @@ pub mod Compared
 pub mod Listed
 pub mod Failing
 pub mod Writing
+pub mod Gathering
 pub mod Words
 pub mod Parts
 pub mod ListText

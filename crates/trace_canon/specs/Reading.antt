@@ -55,6 +55,12 @@ pub record StopsAtEnd (log : List ℕ) (meanings : List (Option Stamped)) (what 
   pub stands : StandsAfter log meanings standing
   pub means : LogMeans log (meanings ++ what ∷ [])
 
+-- Within its limit m, such a line ended among the bytes given of the log; or it is the unfinished last line of a log that was
+-- given whole.
+abbrev pub StopsWithin : ℕ → List ℕ → ℕ → List (Option Stamped) → Option Stamped → Type 0
+StopsWithin m log given meanings what =
+    ((given ≤ m) × StopsInLog log given meanings what) ⊎ ((length log ≤ m) × (given ≡ length log) × StopsAtEnd log meanings what)
+
 -- a fault that the lines themselves give: not that of the limit or of the source
 abbrev pub IsOfLines : {E : Type 0} → LineFault E → Type 0
 IsOfLines (fault.BadLine line column) = ⊤
@@ -103,9 +109,7 @@ module _ {T E : Type 0} (took : Took T) (stopped : Stopped T E) (start : T) wher
       (meanings : List (Option Stamped)) × took start meanings now × (given ≤ m) × (given ≤ length log)
       × ((standing : Standing) × StandsAfter (take given log) meanings standing)
   ReadsLog m log given (Err (fault.Taker why)) now =
-      (meanings : List (Option Stamped)) × (what : Option Stamped) × stopped start meanings what why now
-      × (((given ≤ m) × StopsInLog log given meanings what)
-      ⊎ ((length log ≤ m) × (given ≡ length log) × StopsAtEnd log meanings what))
+      (meanings : List (Option Stamped)) × (what : Option Stamped) × stopped start meanings what why now × StopsWithin m log given meanings what
 
   -- whatever the bytes were, some lines were taken
   abbrev pub TakesSome : {A : Type 0} → Result A (LineFault E) → T → Type 0

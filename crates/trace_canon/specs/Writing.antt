@@ -1,5 +1,5 @@
 -- Devices of proof: the text of frames, written as far as there is room, line by line.
-use Rattle.std.specs.Prelude.{◌≡◌, ℕ, ◌+◌, ◌-◌, ◌<◌, ◌≤◌, Bool, true, false, nat_le, if◌then◌else◌, List, [], ◌∷◌, ◌++◌, length, Option, Some, None, Result, Ok, Err}
+use Rattle.std.specs.Prelude.{◌≡◌, ℕ, ◌+◌, ◌-◌, ◌<◌, ◌≤◌, Bool, true, false, nat_le, if◌then◌else◌, List, [], ◌∷◌, length, Option, Some, None, Result, Ok, Err}
 use Rattle.can_log.specs.Canonical.{canonical_line}
 use Rattle.can_log.specs.Log.{ended_lines}
 use Rattle.can_log.specs.declared.frame.Dir.{Dir}

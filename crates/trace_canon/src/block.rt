@@ -1,7 +1,7 @@
 //! Text gathered in a fixed buffer, so that it is written in few pieces.
-ghost use Rattle.std.specs.Prelude.{◌≡◌, ◌+◌, ◌^◌, ◌<◌, ◌≤◌, ◌++◌, MatchResult};
+ghost use Rattle.std.specs.Prelude.{◌^◌, ◌<◌, ◌≤◌};
 ghost use Rattle.can_log.specs.Canonical.{canonical_line};
-ghost use Rattle.trace_canon.specs.Writing.{HasGathered};
+ghost use Rattle.trace_canon.specs.Gathering.{Gathers};
 
 use arrayvec::ArrayVec;
 use can_log::{Id, LONGEST_LINE, append_line};
@@ -21,12 +21,7 @@ pub(crate) fn gather<W: Target>(
     text: &[u8],
 ) -> Result<(), DeviceFault>
     requires { W.failures writer.old ≤ 2 ^ 62 }
-    ensures gathered { W.tells writer.old
-        → HasGathered result (W.written writer.old) (block.old.items ++ text.now) (W.written writer.new) block.new.items }
-    ensures tells { W.tells writer.old → W.tells writer.new }
-    ensures failures { MatchResult result
-        (λ _. W.failures writer.new ≡ W.failures writer.old) (λ _. W.failures writer.new ≡ W.failures writer.old + 1) }
-    ensures no_empty_write { W.had_empty_write writer.new ≡ W.had_empty_write writer.old }
+    ensures { Gathers W.Target result writer.old block.old.items text.now writer.new block.new.items }
 {
     if block.remaining_capacity() < text.len() {
         write_all(writer, block.as_slice())?;
@@ -52,12 +47,7 @@ pub(crate) fn gather_line<W: Target>(
 ) -> Result<(), DeviceFault>
     requires failures { W.failures writer.old ≤ 2 ^ 62 }
     requires n { n < 10 ^ 13 }
-    ensures gathered { W.tells writer.old
-        → HasGathered result (W.written writer.old) (block.old.items ++ canonical_line n id frame.now) (W.written writer.new) block.new.items }
-    ensures tells { W.tells writer.old → W.tells writer.new }
-    ensures failures { MatchResult result
-        (λ _. W.failures writer.new ≡ W.failures writer.old) (λ _. W.failures writer.new ≡ W.failures writer.old + 1) }
-    ensures no_empty_write { W.had_empty_write writer.new ≡ W.had_empty_write writer.old }
+    ensures { Gathers W.Target result writer.old block.old.items (canonical_line n id frame.now) writer.new block.new.items }
 {
     if block.remaining_capacity() < LONGEST_LINE {
         write_all(writer, block.as_slice())?;

@@ -1,8 +1,7 @@
 //! The text that explains a log: what each frame ended, why it was dropped, and what stands at the end.
-ghost use Rattle.std.specs.Prelude.{◌≡◌, ◌+◌, ◌^◌, ◌≤◌, ◌++◌, MatchResult};
+ghost use Rattle.std.specs.Prelude.{◌≡◌, ◌^◌, ◌≤◌, ◌++◌};
 ghost use Rattle.isotp_receive.specs.EventSeen.{seen_event, seen_verdict};
-ghost use Rattle.trace_io.specs.Written.{HasWritten};
-ghost use Rattle.trace_canon.specs.Writing.{HasGathered};
+ghost use Rattle.trace_canon.specs.Gathering.{Gathers, Writes};
 ghost use Rattle.trace_canon.specs.ExplainText.{cause_text, layout_fault_text, reason_line, dropped_line, ended_line, event_text};
 ghost use Rattle.trace_canon.specs.ExplainText.{unfinished_line, unfinished_text, summary_line};
 
@@ -24,12 +23,7 @@ pub(crate) fn write_event<W: Target>(
     event: Event<'_>,
 ) -> Result<(), DeviceFault>
     requires { W.failures writer.old ≤ 2 ^ 62 }
-    ensures written { W.tells writer.old
-        → HasWritten result (W.written writer.old) (event_text line dir (seen_event event.entry)) (W.written writer.new) }
-    ensures tells { W.tells writer.old → W.tells writer.new }
-    ensures failures { MatchResult result
-        (λ _. W.failures writer.new ≡ W.failures writer.old) (λ _. W.failures writer.new ≡ W.failures writer.old + 1) }
-    ensures no_empty_write { W.had_empty_write writer.new ≡ W.had_empty_write writer.old }
+    ensures { Writes W.Target result writer.old (event_text line dir (seen_event event.entry)) writer.new }
 {
     block.clear();
     gather_ended(writer, block, line, event.ended)?;
@@ -45,12 +39,7 @@ fn gather_ended<W: Target>(
     ended: Option<Ended>,
 ) -> Result<(), DeviceFault>
     requires { W.failures writer.old ≤ 2 ^ 62 }
-    ensures gathered { W.tells writer.old
-        → HasGathered result (W.written writer.old) (block.old.items ++ ended_line line ended) (W.written writer.new) block.new.items }
-    ensures tells { W.tells writer.old → W.tells writer.new }
-    ensures failures { MatchResult result
-        (λ _. W.failures writer.new ≡ W.failures writer.old) (λ _. W.failures writer.new ≡ W.failures writer.old + 1) }
-    ensures no_empty_write { W.had_empty_write writer.new ≡ W.had_empty_write writer.old }
+    ensures { Gathers W.Target result writer.old block.old.items (ended_line line ended) writer.new block.new.items }
 {
     match ended {
         None => Ok(()),
@@ -96,12 +85,7 @@ fn gather_dropped<W: Target>(
     verdict: Verdict<'_>,
 ) -> Result<(), DeviceFault>
     requires { W.failures writer.old ≤ 2 ^ 62 }
-    ensures gathered { W.tells writer.old
-        → HasGathered result (W.written writer.old) (block.old.items ++ dropped_line line dir (seen_verdict verdict.entry)) (W.written writer.new) block.new.items }
-    ensures tells { W.tells writer.old → W.tells writer.new }
-    ensures failures { MatchResult result
-        (λ _. W.failures writer.new ≡ W.failures writer.old) (λ _. W.failures writer.new ≡ W.failures writer.old + 1) }
-    ensures no_empty_write { W.had_empty_write writer.new ≡ W.had_empty_write writer.old }
+    ensures { Gathers W.Target result writer.old block.old.items (dropped_line line dir (seen_verdict verdict.entry)) writer.new block.new.items }
 {
     let Verdict::Dropped(reason) = verdict else {
         return Ok(());
@@ -127,12 +111,7 @@ fn gather_reason<W: Target>(
     reason: Reason,
 ) -> Result<(), DeviceFault>
     requires { W.failures writer.old ≤ 2 ^ 62 }
-    ensures gathered { W.tells writer.old
-        → HasGathered result (W.written writer.old) (block.old.items ++ reason_line reason) (W.written writer.new) block.new.items }
-    ensures tells { W.tells writer.old → W.tells writer.new }
-    ensures failures { MatchResult result
-        (λ _. W.failures writer.new ≡ W.failures writer.old) (λ _. W.failures writer.new ≡ W.failures writer.old + 1) }
-    ensures no_empty_write { W.had_empty_write writer.new ≡ W.had_empty_write writer.old }
+    ensures { Gathers W.Target result writer.old block.old.items (reason_line reason) writer.new block.new.items }
 {
     match reason {
         Reason::Pdu(fault) => gather_parts(
@@ -200,12 +179,7 @@ pub(crate) fn write_end<W: Target>(
     summary: &Summary,
 ) -> Result<(), DeviceFault>
     requires { W.failures writer.old ≤ 2 ^ 62 }
-    ensures written { W.tells writer.old
-        → HasWritten result (W.written writer.old) (unfinished_text pair.now ++ summary_line summary.now) (W.written writer.new) }
-    ensures tells { W.tells writer.old → W.tells writer.new }
-    ensures failures { MatchResult result
-        (λ _. W.failures writer.new ≡ W.failures writer.old) (λ _. W.failures writer.new ≡ W.failures writer.old + 1) }
-    ensures no_empty_write { W.had_empty_write writer.new ≡ W.had_empty_write writer.old }
+    ensures { Writes W.Target result writer.old (unfinished_text pair.now ++ summary_line summary.now) writer.new }
 {
     block.clear();
     gather_unfinished(writer, block, Dir::Tester, pair.open(Dir::Tester))?;
@@ -222,12 +196,7 @@ fn gather_unfinished<W: Target>(
     begun: Option<(u64, u32)>,
 ) -> Result<(), DeviceFault>
     requires { W.failures writer.old ≤ 2 ^ 62 }
-    ensures gathered { W.tells writer.old
-        → HasGathered result (W.written writer.old) (block.old.items ++ unfinished_line dir begun) (W.written writer.new) block.new.items }
-    ensures tells { W.tells writer.old → W.tells writer.new }
-    ensures failures { MatchResult result
-        (λ _. W.failures writer.new ≡ W.failures writer.old) (λ _. W.failures writer.new ≡ W.failures writer.old + 1) }
-    ensures no_empty_write { W.had_empty_write writer.new ≡ W.had_empty_write writer.old }
+    ensures { Gathers W.Target result writer.old block.old.items (unfinished_line dir begun) writer.new block.new.items }
 {
     match begun {
         None => Ok(()),
@@ -254,12 +223,7 @@ fn gather_summary<W: Target>(
     summary: &Summary,
 ) -> Result<(), DeviceFault>
     requires { W.failures writer.old ≤ 2 ^ 62 }
-    ensures gathered { W.tells writer.old
-        → HasGathered result (W.written writer.old) (block.old.items ++ summary_line summary.now) (W.written writer.new) block.new.items }
-    ensures tells { W.tells writer.old → W.tells writer.new }
-    ensures failures { MatchResult result
-        (λ _. W.failures writer.new ≡ W.failures writer.old) (λ _. W.failures writer.new ≡ W.failures writer.old + 1) }
-    ensures no_empty_write { W.had_empty_write writer.new ≡ W.had_empty_write writer.old }
+    ensures { Gathers W.Target result writer.old block.old.items (summary_line summary.now) writer.new block.new.items }
 {
     gather_parts(
         writer,

@@ -1,5 +1,5 @@
 //! The messages of a log, held as what they mean.
-ghost use Rattle.std.specs.Prelude.{◌≡◌, List, [], ◌∷◌, ◌++◌, OnOk, OnErr};
+ghost use Rattle.std.specs.Prelude.{◌≡◌, []};
 
 use crate::ordering::announced;
 use crate::receiver::EventTaker;

@@ -1,5 +1,5 @@
 //! The lines of a log, read piece by piece.
-ghost use Rattle.std.specs.Prelude.{◌≡◌, ℕ, ◌+◌, ◌-◌, ◌^◌, ◌<◌, ◌≤◌, List, [], ◌∷◌, ◌++◌, length, take, OnOk, IfErr, Option, MatchResult};
+ghost use Rattle.std.specs.Prelude.{◌≡◌, ℕ, ◌+◌, ◌-◌, ◌^◌, ◌<◌, ◌≤◌, List, [], ◌∷◌, ◌++◌, length, OnOk, IfErr, Option, MatchResult};
 ghost use Rattle.can_log.specs.declared.frame.Stamped.{Stamped as StampedValue};
 ghost use Rattle.can_log.specs.WholeLog.{StandsAfter};
 ghost use Rattle.trace_io.specs.Counted.{AreLowCounts};

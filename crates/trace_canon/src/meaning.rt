@@ -1,8 +1,7 @@
 //! What a log means.
-ghost use Rattle.std.specs.Prelude.{◌≡◌, ◌≢◌, ℕ, ◌+◌, ◌^◌, ◌<◌, ◌≤◌, List, [], length, Option, OnOk, IfErr};
+ghost use Rattle.std.specs.Prelude.{◌≡◌, ◌≢◌, ℕ, ◌+◌, ◌^◌, ◌<◌, ◌≤◌, List, length, Option, OnOk, IfErr};
 ghost use Rattle.can_log.specs.declared.frame.Stamped.{Stamped};
 ghost use Rattle.isotp_receive.specs.declared.TheConstants.{MESSAGE_LIMIT};
-ghost use Rattle.uds_exchange.specs.Meaning.{meaning};
 ghost use Rattle.trace_canon.specs.Settings.{Settings, AreSettings};
 ghost use Rattle.trace_canon.specs.Trace.{trace};
 ghost use Rattle.trace_canon.specs.Answers.{GivesMeaning};

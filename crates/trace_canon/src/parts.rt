@@ -1,9 +1,9 @@
 //! The parts of a line of text, gathered one after another.
-ghost use Rattle.std.specs.Prelude.{◌≡◌, ◌^◌, ◌<◌, ◌≤◌, ◌+◌, ◌++◌, length, drop, option_map, codes, MatchResult};
+ghost use Rattle.std.specs.Prelude.{◌≡◌, ◌^◌, ◌<◌, ◌≤◌, ◌++◌, drop, codes};
 ghost use Rattle.std.specs.Fmt.{decimal};
 ghost use Rattle.can_log.specs.Digits.{digit, hexadecimal};
-ghost use Rattle.trace_canon.specs.Writing.{HasGathered};
-ghost use Rattle.trace_canon.specs.Words.{bytes_text, service_text, code_text};
+ghost use Rattle.trace_canon.specs.Gathering.{Gathers};
+ghost use Rattle.trace_canon.specs.Words.{bytes_text};
 ghost use Rattle.trace_canon.specs.Parts.{part_text, parts_text};
 
 use crate::block::{Block, gather};
@@ -40,12 +40,7 @@ pub(crate) fn gather_parts<W: Target>(
     parts: &[Part<'_>],
 ) -> Result<(), DeviceFault>
     requires { W.failures writer.old ≤ 2 ^ 62 }
-    ensures gathered { W.tells writer.old
-        → HasGathered result (W.written writer.old) (block.old.items ++ parts_text parts.now) (W.written writer.new) block.new.items }
-    ensures tells { W.tells writer.old → W.tells writer.new }
-    ensures failures { MatchResult result
-        (λ _. W.failures writer.new ≡ W.failures writer.old) (λ _. W.failures writer.new ≡ W.failures writer.old + 1) }
-    ensures no_empty_write { W.had_empty_write writer.new ≡ W.had_empty_write writer.old }
+    ensures { Gathers W.Target result writer.old block.old.items (parts_text parts.now) writer.new block.new.items }
 {
     'parts: for part in parts {
         gather_part(writer, block, *part)?;
@@ -60,12 +55,7 @@ fn gather_part<W: Target>(
     part: Part<'_>,
 ) -> Result<(), DeviceFault>
     requires { W.failures writer.old ≤ 2 ^ 62 }
-    ensures gathered { W.tells writer.old
-        → HasGathered result (W.written writer.old) (block.old.items ++ part_text part.entry) (W.written writer.new) block.new.items }
-    ensures tells { W.tells writer.old → W.tells writer.new }
-    ensures failures { MatchResult result
-        (λ _. W.failures writer.new ≡ W.failures writer.old) (λ _. W.failures writer.new ≡ W.failures writer.old + 1) }
-    ensures no_empty_write { W.had_empty_write writer.new ≡ W.had_empty_write writer.old }
+    ensures { Gathers W.Target result writer.old block.old.items (part_text part.entry) writer.new block.new.items }
 {
     match part {
         Part::Text(text) => gather(writer, block, text.as_bytes()),
@@ -111,12 +101,7 @@ fn gather_bytes<W: Target>(
     bytes: &[u8],
 ) -> Result<(), DeviceFault>
     requires { W.failures writer.old ≤ 2 ^ 62 }
-    ensures gathered { W.tells writer.old
-        → HasGathered result (W.written writer.old) (block.old.items ++ bytes_text bytes.now) (W.written writer.new) block.new.items }
-    ensures tells { W.tells writer.old → W.tells writer.new }
-    ensures failures { MatchResult result
-        (λ _. W.failures writer.new ≡ W.failures writer.old) (λ _. W.failures writer.new ≡ W.failures writer.old + 1) }
-    ensures no_empty_write { W.had_empty_write writer.new ≡ W.had_empty_write writer.old }
+    ensures { Gathers W.Target result writer.old block.old.items (bytes_text bytes.now) writer.new block.new.items }
 {
     'bytes: for byte in bytes {
         gather(writer, block, &hexadecimal_digits(*byte))?;

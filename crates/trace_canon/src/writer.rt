@@ -1,9 +1,9 @@
 //! Canonical lines, written as their messages come.
-ghost use Rattle.std.specs.Prelude.{◌≡◌, ℕ, ◌+◌, ◌^◌, ◌<◌, ◌≤◌, List, [], ◌++◌, length, MatchResult, OnOk, false, true};
+ghost use Rattle.std.specs.Prelude.{◌≡◌, ◌+◌, ◌^◌, ◌<◌, ◌≤◌, [], length, OnOk, false, true};
 ghost use Rattle.can_log.specs.declared.frame.Dir.{Dir as DirValue};
 ghost use Rattle.isotp_receive.specs.declared.TheConstants.{MESSAGE_LIMIT};
 ghost use Rattle.isotp_segment.specs.CanonicalFrames.{canonical_frames};
-ghost use Rattle.trace_io.specs.Written.{HasWritten};
+ghost use Rattle.trace_canon.specs.Gathering.{Writes};
 ghost use Rattle.trace_canon.specs.Writing.{text_from, place_after};
 
 use crate::block::{Block, gather_line};
@@ -89,15 +89,11 @@ fn write_message<W: Target>(
     message: &[u8],
 ) -> Result<(), DeviceFault>
     requires { W.failures writer.old ≤ 2 ^ 62 }
-    ensures written { W.tells writer.old → HasWritten result (W.written writer.old)
-        (text_from text.old.config text.old.place (canonical_frames MESSAGE_LIMIT dir message.now)) (W.written writer.new) }
-    ensures tells { W.tells writer.old → W.tells writer.new }
+    ensures writes { Writes W.Target result writer.old
+        (text_from text.old.config text.old.place (canonical_frames MESSAGE_LIMIT dir message.now)) writer.new }
     ensures config { text.new.config ≡ text.old.config }
     ensures place { OnOk result (text.new.place ≡ place_after text.old.config text.old.place (canonical_frames MESSAGE_LIMIT dir message.now)) }
     ensures counted { OnOk result (text.old.messages + 1 < 2 ^ 64 → text.new.messages ≡ text.old.messages + 1) }
-    ensures failures { MatchResult result
-        (λ _. W.failures writer.new ≡ W.failures writer.old) (λ _. W.failures writer.new ≡ W.failures writer.old + 1) }
-    ensures no_empty_write { W.had_empty_write writer.new ≡ W.had_empty_write writer.old }
 {
     text.messages = text.messages.saturating_add(1);
     if !has_frames(message) {
@@ -131,13 +127,8 @@ fn write_frames<W: Target>(
     frames: Segments<'_>,
 ) -> Result<(), DeviceFault>
     requires { W.failures writer.old ≤ 2 ^ 62 }
-    ensures written { W.tells writer.old
-        → HasWritten result (W.written writer.old) (text_from config.now place.old frames.entry) (W.written writer.new) }
-    ensures tells { W.tells writer.old → W.tells writer.new }
+    ensures writes { Writes W.Target result writer.old (text_from config.now place.old frames.entry) writer.new }
     ensures place { OnOk result (place.new ≡ place_after config.now place.old frames.entry) }
-    ensures failures { MatchResult result
-        (λ _. W.failures writer.new ≡ W.failures writer.old) (λ _. W.failures writer.new ≡ W.failures writer.old + 1) }
-    ensures no_empty_write { W.had_empty_write writer.new ≡ W.had_empty_write writer.old }
 {
     block.clear();
     'frames: for (sender, frame) in frames {
