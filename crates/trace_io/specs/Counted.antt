@@ -8,11 +8,13 @@ pub record CountedReader (R : Type 0) : Type 0 where
   pub given : ℕ
   pub failures : ℕ
 
--- a writer, with its calls that failed, and whether a write took nothing and did not fail
+-- a writer, with its calls that failed, whether a write took nothing and did not fail, and whether it was flushed and took no
+-- write since
 pub record CountedWriter (W : Type 0) : Type 0 where
   pub inner : W
   pub failures : ℕ
   pub had_empty_write : Bool
+  pub is_flushed : Bool
 
 -- a byte without end, with the reads and the bytes that they gave
 pub record EndlessBytes : Type 0 where

@@ -1,5 +1,5 @@
 //! What an engine asks of the devices that it reads from and writes to.
-ghost use Rattle.std.specs.Prelude.{◌≡◌, ℕ, ◌+◌, ◌^◌, ◌<◌, ◌≤◌, ◌==◌, Bool, ◌||◌, List, ◌++◌, length, take, IfOk, OnErr, MatchResult};
+ghost use Rattle.std.specs.Prelude.{◌≡◌, ℕ, ◌+◌, ◌^◌, ◌<◌, ◌≤◌, ◌==◌, Bool, true, false, ◌||◌, List, ◌++◌, length, take, IfOk, OnOk, OnErr, MatchResult};
 ghost use Rattle.trace_io.specs.Stream.{IsCoherent, Continues, IsOver, SameFronts};
 
 /// A device failed at a call. The kind of the failure is not kept.
@@ -68,7 +68,8 @@ pub trait Source {
 /// Takes bytes, and counts the failures.
 ///
 /// A contract over any target names what the impl says of it: whether it `tells` its bytes; what it has `written`, all bytes
-/// that it holds; its `failures`, a `u64` that whoever writes keeps below 2^63; and whether it `had_empty_write`.
+/// that it holds; its `failures`, a `u64` that whoever writes keeps below 2^63; whether it `had_empty_write`; and whether it
+/// `is_flushed`.
 pub trait Target {
     /// The target says which bytes it took. It need not: a socket does not.
     ghost tells: { Self → Type 0 };
@@ -82,6 +83,9 @@ pub trait Target {
     /// Whether there was a write that took nothing and did not fail: one of an empty piece.
     ghost had_empty_write: { Self → Bool };
 
+    /// Whether it was flushed, and took no write since.
+    ghost is_flushed: { Self → Bool };
+
     /// Takes bytes from the front of the piece, and answers how many: one at least, where there is one. A write that fails took
     /// none, and may be made again.
     fn write(&mut self, piece: &[u8]) -> Result<usize, DeviceFault>
@@ -93,6 +97,7 @@ pub trait Target {
             (λ _. failures self.new ≡ failures self.old) (λ _. failures self.new ≡ failures self.old + 1) }
         ensures had_empty_write { MatchResult result
             (λ n. had_empty_write self.new ≡ (had_empty_write self.old || n == 0)) (λ _. had_empty_write self.new ≡ had_empty_write self.old) }
+        ensures unflushed { OnOk result (is_flushed self.new ≡ false) }
 
         // which bytes it took, where it tells them
         ensures tells { tells self.old → tells self.new }
@@ -105,6 +110,7 @@ pub trait Target {
         ensures failures { MatchResult result
             (λ _. failures self.new ≡ failures self.old) (λ _. failures self.new ≡ failures self.old + 1) }
         ensures had_empty_write { had_empty_write self.new ≡ had_empty_write self.old }
+        ensures flushed { OnOk result (is_flushed self.new ≡ true) }
         ensures tells { tells self.old → tells self.new }
         ensures bytes { tells self.old → written self.new ≡ written self.old };
 

@@ -13,8 +13,9 @@ use std::marker::Model;
 pub struct Writing<W> {
     inner: W,
     failures: u64,
-    /// Only contracts look at it.
+    // Only contracts look at these two.
     had_empty_write: bool,
+    is_flushed: bool,
 }
 
 impl<W> Model for Writing<W> {
@@ -22,18 +23,19 @@ impl<W> Model for Writing<W> {
 
     ghost Value = { CountedWriter W };
 
-    ghost view = { λ w. record { inner = w.inner; failures = w.failures; had_empty_write = w.had_empty_write } };
+    ghost view = { λ w. record { inner = w.inner; failures = w.failures; had_empty_write = w.had_empty_write; is_flushed = w.is_flushed } };
 }
 
 impl<W> Writing<W> {
     /// A writer that was not yet written to through this device: the count begins at 0.
     pub fn new(inner: W) -> Self
-        ensures { result ≡ record { inner = inner; failures = 0; had_empty_write = false } }
+        ensures { result ≡ record { inner = inner; failures = 0; had_empty_write = false; is_flushed = false } }
     {
         Writing {
             inner,
             failures: 0,
             had_empty_write: false,
+            is_flushed: false,
         }
     }
 
@@ -55,7 +57,10 @@ impl<W: Write> Target for Writing<W> {
 
     ghost had_empty_write = { λ w. w.had_empty_write };
 
+    ghost is_flushed = { λ w. w.is_flushed };
+
     fn write(&mut self, piece: &[u8]) -> Result<usize, DeviceFault> {
+        self.is_flushed = false;
         match self.inner.write(piece) {
             Ok(n) if n > 0 => Ok(n),
             Ok(_) if piece.is_empty() => {
@@ -71,7 +76,10 @@ impl<W: Write> Target for Writing<W> {
 
     fn flush(&mut self) -> Result<(), DeviceFault> {
         match self.inner.flush() {
-            Ok(()) => Ok(()),
+            Ok(()) => {
+                self.is_flushed = true;
+                Ok(())
+            }
             Err(_) => {
                 self.failures += 1;
                 Err(DeviceFault)

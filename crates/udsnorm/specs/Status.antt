@@ -1,5 +1,5 @@
 -- Exit statuses.
-use Rattle.std.specs.Prelude.{ℕ}
+use Rattle.std.specs.Prelude.{◌≡◌, ℕ}
 use Rattle.trace_canon.specs.declared.fault.Fault.{Fault}
 use Rattle.trace_canon.specs.declared.fault.Fault.TheVariants as fault
 use Rattle.udsnorm.specs.declared.job.WordsFault.{WordsFault}
@@ -22,3 +22,11 @@ words_status_of (words.Words text) = 2
 words_status_of words.Identifier = 2
 words_status_of (words.Config reason) = 2
 words_status_of words.Memory = 5
+
+-- help is told on the output, and leaves the error output alone; anything else leaves the output alone
+abbrev pub LeavesAlone : {W E : Type 0} → WordsFault → W → W → E → E → Type 0
+LeavesAlone (words.Help text) out out_after err err_after = err_after ≡ err
+LeavesAlone (words.Words text) out out_after err err_after = out_after ≡ out
+LeavesAlone words.Identifier out out_after err err_after = out_after ≡ out
+LeavesAlone (words.Config reason) out out_after err err_after = out_after ≡ out
+LeavesAlone words.Memory out out_after err err_after = out_after ≡ out

@@ -1,6 +1,6 @@
 //! Runs of the program over devices that are open.
 
-ghost use Rattle.std.specs.Prelude.{◌≡◌, ◌≢◌, ℕ, ◌+◌, ◌-◌, ◌^◌, ◌<◌, ◌≤◌, ◌⊎◌, ◌↔◌, List, ◌++◌, Result, OnOk, MatchResult};
+ghost use Rattle.std.specs.Prelude.{◌≡◌, ◌≢◌, ℕ, ◌+◌, ◌-◌, ◌^◌, ◌<◌, ◌≤◌, ◌⊎◌, ◌↔◌, List, ◌++◌, Result, Err, true, OnOk, MatchResult};
 ghost use Rattle.isotp_receive.specs.declared.TheConstants.{MESSAGE_LIMIT};
 ghost use Rattle.trace_canon.specs.Compared.{Compares};
 ghost use Rattle.trace_canon.specs.Failing.{FailedIf};
@@ -35,10 +35,20 @@ pub fn run_one<R: Source, W: Target, E: Target>(
     requires out { IsLowCount (W.failures out.old) }
     requires err { IsLowCount (E.failures err.old) }
 
-    // The status is that of an answer of the engine, and the output took what the engine wrote.
+    // The status is that of an answer of the engine, which after an `Ok` is 4 only where the output failed; and the output took
+    // what the engine wrote.
     ensures run { (answer : Result SummaryValue FaultValue) × IsStatusOf answer result
+        × OnOk answer (result ≡ 4 → W.failures out.old < W.failures out.new)
         × (R.tells input.old → W.tells out.old → (log : List ℕ) → BeginsAs (R.front input.old) (plan.now.config.max_bytes + 1) log
         → EngineAnswers plan.now.job MESSAGE_LIMIT plan.now.config log (R.given input.new - R.given input.old) answer (W.written out.old) (W.written out.new)) }
+
+    // How much is taken.
+    ensures taken { R.given input.new ≤ R.given input.old + plan.now.config.max_bytes + 1 }
+    ensures calls { R.reads input.new ≤ R.reads input.old + plan.now.config.max_bytes + 1 }
+
+    // Where it is done, the output was flushed last, and nothing was told.
+    ensures flushed { result ≡ 0 → W.is_flushed out.new ≡ true }
+    ensures quiet { result ≡ 0 → err.new ≡ err.old }
 
     // No write to the output is empty.
     ensures no_empty_write { W.had_empty_write out.new ≡ W.had_empty_write out.old }
@@ -62,10 +72,13 @@ fn do_job<R: Source, W: Target>(
     requires out { IsLowCount (W.failures out.old) }
     ensures engine { R.tells input.old → W.tells out.old → (log : List ℕ) → BeginsAs (R.front input.old) (plan.now.config.max_bytes + 1) log
         → EngineAnswers plan.now.job MESSAGE_LIMIT plan.now.config log (R.given input.new - R.given input.old) result (W.written out.old) (W.written out.new) }
+    ensures taken { R.given input.new ≤ R.given input.old + plan.now.config.max_bytes + 1 }
+    ensures calls { R.reads input.new ≤ R.reads input.old + plan.now.config.max_bytes + 1 }
     ensures read_fault { FailedIf Fault.Read result (R.failures input.old) (R.failures input.new) }
     ensures write_fault { FailedIf Fault.Write result (W.failures out.old) (W.failures out.new) }
     ensures no_empty_write { W.had_empty_write out.new ≡ W.had_empty_write out.old }
     ensures tells { W.tells out.old → OnOk result (W.tells out.new) }
+    ensures well { OnOk result (W.failures out.new ≡ W.failures out.old) }
 {
     match plan.job {
         Job::Normalise => normalise(alloc, &plan.config, input, out),
@@ -80,8 +93,11 @@ fn end_run<W: Target, E: Target>(answer: Result<Summary, Fault>, out: &mut W, er
     requires out { W.failures out.old ≤ 2 ^ 62 + 1 }
     requires err { IsLowCount (E.failures err.old) }
     ensures status { EndsWith answer (W.failures out.old) (W.failures out.new) result }
+    ensures failed { OnOk answer (result ≡ 4 → W.failures out.old < W.failures out.new) }
     ensures written { MatchResult answer
         (λ _. W.tells out.old → W.written out.new ≡ W.written out.old) (λ _. W.written out.new ≡ W.written out.old) }
+    ensures flushed { result ≡ 0 → W.is_flushed out.new ≡ true }
+    ensures quiet { result ≡ 0 → err.new ≡ err.old }
     ensures no_empty_write { W.had_empty_write out.new ≡ W.had_empty_write out.old }
 {
     match answer {
@@ -109,12 +125,25 @@ pub fn run_two<A: Source, B: Source, W: Target, E: Target>(
     requires out { IsLowCount (W.failures out.old) }
     requires err { IsLowCount (E.failures err.old) }
 
-    // The status is that of the comparison's answer, whose line the output took.
+    // The status is that of the comparison's answer, which after an `Ok` is 4 only where the output failed; and the output took
+    // its line. Of the right log nothing is read where the left one has no meaning.
     ensures run { (answer : Result ComparisonValue CompareFaultValue) × IsStatusOfTwo answer result
+        × OnOk answer (result ≡ 4 → W.failures out.old < W.failures out.new)
         × (W.tells out.old → TookLine answer result (W.written out.old) (W.written out.new))
         × (A.tells left.old → B.tells right.old → (one other : List ℕ)
         → BeginsAs (A.front left.old) (plan.now.config.max_bytes + 1) one → BeginsAs (B.front right.old) (plan.now.config.max_bytes + 1) other
-        → Compares MESSAGE_LIMIT plan.now.config one other answer) }
+        → Compares MESSAGE_LIMIT plan.now.config one other answer)
+        × ((fault : FaultValue) → answer ≡ Err (CompareFault.Left fault) → right.new ≡ right.old) }
+
+    // How much is taken.
+    ensures left_taken { A.given left.new ≤ A.given left.old + plan.now.config.max_bytes + 1 }
+    ensures left_calls { A.reads left.new ≤ A.reads left.old + plan.now.config.max_bytes + 1 }
+    ensures right_taken { B.given right.new ≤ B.given right.old + plan.now.config.max_bytes + 1 }
+    ensures right_calls { B.reads right.new ≤ B.reads right.old + plan.now.config.max_bytes + 1 }
+
+    // Where the logs were compared, the output was flushed last, and nothing was told.
+    ensures flushed { result ≤ 1 → W.is_flushed out.new ≡ true }
+    ensures quiet { result ≤ 1 → err.new ≡ err.old }
 
     // No write to the output is empty.
     ensures no_empty_write { W.had_empty_write out.new ≡ W.had_empty_write out.old }
@@ -136,7 +165,10 @@ fn end_comparison<W: Target, E: Target>(
     requires out { IsLowCount (W.failures out.old) }
     requires err { IsLowCount (E.failures err.old) }
     ensures status { EndsTwoWith answer (W.failures out.old) (W.failures out.new) result }
+    ensures failed { OnOk answer (result ≡ 4 → W.failures out.old < W.failures out.new) }
     ensures line { W.tells out.old → TookLine answer result (W.written out.old) (W.written out.new) }
+    ensures flushed { result ≤ 1 → W.is_flushed out.new ≡ true }
+    ensures quiet { result ≤ 1 → err.new ≡ err.old }
     ensures no_empty_write { W.had_empty_write out.new ≡ W.had_empty_write out.old }
 {
     match answer {
@@ -152,6 +184,7 @@ fn end_comparison<W: Target, E: Target>(
 fn write_comparison<W: Target>(comparison: Comparison, out: &mut W) -> Result<(), DeviceFault>
     requires { IsLowCount (W.failures out.old) }
     ensures written { W.tells out.old → OnOk result (W.written out.new ≡ W.written out.old ++ comparison_line comparison) }
+    ensures flushed { OnOk result (W.is_flushed out.new ≡ true) }
     ensures failures { MatchResult result
         (λ _. W.failures out.new ≡ W.failures out.old) (λ _. W.failures out.new ≡ W.failures out.old + 1) }
     ensures no_empty_write { W.had_empty_write out.new ≡ W.had_empty_write out.old }

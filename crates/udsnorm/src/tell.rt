@@ -1,9 +1,9 @@
 //! What is told where a run has no answer, and the exit status that goes with it.
 
-ghost use Rattle.std.specs.Prelude.{◌≡◌};
+ghost use Rattle.std.specs.Prelude.{◌≡◌, ◌≤◌};
 ghost use Rattle.trace_canon.specs.Compared.{fault_in};
 ghost use Rattle.trace_io.specs.Counted.{IsLowCount};
-ghost use Rattle.udsnorm.specs.Status.{status_of, words_status_of};
+ghost use Rattle.udsnorm.specs.Status.{status_of, words_status_of, LeavesAlone};
 
 use crate::job::{Job, Plan, WordsFault};
 use crate::text::write_line;
@@ -15,7 +15,8 @@ use trace_io::{Target, write_all};
 pub fn tell<W: Target, E: Target>(fault: &WordsFault, out: &mut W, err: &mut E) -> u8
     requires out { IsLowCount (W.failures out.old) }
     requires err { IsLowCount (E.failures err.old) }
-    ensures { result ≡ words_status_of fault.now }
+    ensures status { result ≡ words_status_of fault.now }
+    ensures alone { LeavesAlone fault.now out.old out.new err.old err.new }
 {
     // The parser's texts end with a line feed.
     let _ = match fault {
@@ -44,7 +45,8 @@ pub fn unopened<E: Target>(plan: &Plan, right: bool, err: &mut E) -> u8
 /// Tells a fault, and answers its exit status.
 pub(crate) fn tell_fault<E: Target>(fault: Fault, err: &mut E) -> u8
     requires { IsLowCount (E.failures err.old) }
-    ensures { result ≡ status_of fault }
+    ensures status { result ≡ status_of fault }
+    ensures failed { 3 ≤ result }
 {
     // What can't be written has nowhere to be told.
     let _ = write_line(err, fault);
@@ -54,7 +56,8 @@ pub(crate) fn tell_fault<E: Target>(fault: Fault, err: &mut E) -> u8
 /// Tells the fault of one of two logs, and answers its exit status.
 pub(crate) fn tell_side<E: Target>(fault: CompareFault, err: &mut E) -> u8
     requires { IsLowCount (E.failures err.old) }
-    ensures { result ≡ status_of (fault_in fault) }
+    ensures status { result ≡ status_of (fault_in fault) }
+    ensures failed { 3 ≤ result }
 {
     let _ = write_line(err, fault);
     match fault {
@@ -64,7 +67,8 @@ pub(crate) fn tell_side<E: Target>(fault: CompareFault, err: &mut E) -> u8
 
 /// The exit status of a fault.
 fn status(fault: Fault) -> u8
-    ensures { result ≡ status_of fault }
+    ensures status { result ≡ status_of fault }
+    ensures failed { 3 ≤ result }
 {
     match fault {
         Fault::BadLine { .. } | Fault::Oversize { .. } | Fault::LogLimit | Fault::OutputLimit => 3,
