@@ -1,5 +1,6 @@
 -- From the mask of one load to the bytes at the front that pass a test.
-use Rattle.std.proofs.Common.{drop, length-drop, subst, ◌-◌, ◌≡◌, ℕ, ◌+◌, ◌%◌, ◌^◌, ◌<◌, ◌≤◌, Bool, true, not, ◌||◌, List, map, length, get_or, take, Fits, w8, sym, ap, ◌∙◌, arith}
+use Prim.Native.Nat.{zero, suc}
+use Rattle.std.proofs.Common.{[], ◌∷◌, drop, length-drop, subst, ◌-◌, ◌≡◌, ℕ, ◌+◌, ◌%◌, ◌^◌, ◌<◌, ◌≤◌, Bool, true, not, ◌||◌, List, map, length, get_or, take, Fits, w8, sym, ap, ◌∙◌, arith}
 use Rattle.std.proofs.lemmas.Bool.{agree_below, agree_below_at}
 use Rattle.std.proofs.lemmas.Simd.{map-map, mask_l-mod, length-chunk, zip2_of_maps, first_set_mask_l, run_in_chunk_le, run_in_chunk_fails}
 use Rattle.std.proofs.lemmas.List.{length-map, length-take, get_or-take}
@@ -9,7 +10,7 @@ use Rattle.std.specs.List.{AllByRecursion, prefix_len}
 use Rattle.std.proofs.Math.Seq.{take-add, take-length}
 use Rattle.can_log.proofs.DigitValues.{AreHex}
 use Rattle.can_log.proofs.EachElement.{AllByRecursion-append}
-use lib.Lanes.{chunk, zip2, mask_l, top}
+use lib.Lanes.{Each1, chunk, zip2, mask_l, top}
 use Rattle.can_log.specs.Plain.{IsFrontOf, first_set}
 
 -- an operation on two vectors that were computed lane by lane from v
@@ -43,6 +44,24 @@ run_in_front q bytes r z room fits found f lanes all =
         few = omega (arith, length-take r bytes);
       },
     )
+
+-- ---- whole vectors
+
+-- the lanes of a vector fit, and so does the default of a place beyond them
+lanes_fit : (lanes : List ℕ) → Each1 (Fits w8) lanes → (k : ℕ) → Fits w8 (get_or lanes k 0)
+lanes_fit [] each k = record { fits = omega arith }
+lanes_fit (lane ∷ lanes) each zero = each.0
+lanes_fit (lane ∷ lanes) each (suc k) = lanes_fit lanes each.1 k
+
+-- sixteen lanes pass the test, where none is found that fails it
+pub lanes_pass : (q : ℕ → Bool) (lanes : List ℕ) (r : ℕ) (z : List ℕ) → length lanes ≡ 16 → Each1 (Fits w8) lanes
+    → r ≡ first_set (mask_l (map (top 7) z) % 2 ^ 64) → (f : ℕ → ℕ) → z ≡ map f lanes
+    → agree_below (λ x. top 7 (f x) || q x) (λ _. true) 256 ≡ true
+    → r ≡ 16 → AllByRecursion (λ b. q b ≡ true) lanes
+lanes_pass q lanes r z long fit found f computed all none =
+    let whole : take 16 lanes ≡ lanes = ap (λ (n : ℕ). take n lanes) (sym long) ∙ take-length lanes in
+    let front = run_in_front q lanes r z (omega arith) (lanes_fit lanes fit) found f (computed ∙ ap (map f) (sym whole)) all in
+    subst (AllByRecursion (λ b. q b ≡ true)) (ap (λ (n : ℕ). take n lanes) none ∙ whole) front.1.each
 
 -- ---- more loads
 

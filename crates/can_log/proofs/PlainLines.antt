@@ -1,23 +1,19 @@
 -- The fields of a line of plain form are those of a line, where each has bytes of its kind alone.
 use Prim.Native.Char.{code}
-use Rattle.std.proofs.Common.{◌≡◌, ℕ, ◌≤◌, ◌++◌, true, List, [], length, Option, Some, None, refl, sym, ap, ◌∙◌, arith, inr}
+use Rattle.std.proofs.Common.{◌≡◌, ℕ, ◌++◌, true, List, [], length, length-take, length-drop, append_assoc, Option, Some, None, refl, sym, ap, ◌∙◌, arith, inl, inr}
 use Rattle.std.specs.Prelude.{codes, nat_lt, slice_index}
 use Rattle.std.specs.Borrow.{Bor}
-use Rattle.std.specs.List.{list_all}
 use Rattle.std.proofs.lemmas.List.{append-nil}
-use Rattle.std.specs.Char.{is_ascii_hexdigit}
+use Rattle.std.specs.Char.{is_ascii_digit, is_ascii_hexdigit}
 use Rattle.can_log.specs.declared.plain.Fields.{Fields}
-use Rattle.can_log.specs.declared.field.Class.{Class}
-use Rattle.can_log.specs.declared.field.Class.TheVariants.{Digit}
-use Rattle.can_log.specs.Line.{spell_body, spell_line, IsRunOf, IsIdentifierText, IsDataText, IsBody, IsLineSpelling}
-use Rattle.can_log.specs.FieldReader.{is_in}
-use Rattle.can_log.specs.Plain.{HavePlainWidths, AreFlags, most_digits, flags_spelled, digits_of, body_text, body_with, plain_text, spelling_of}
-use Rattle.can_log.proofs.EachElement.{AllByRecursion-tested}
+use Rattle.can_log.specs.declared.frame.Id.{Id}
+use Rattle.can_log.specs.declared.frame.Kind.{Kind}
+use Rattle.can_log.specs.Frame.{IsFrame, IsIdentifier}
+use Rattle.can_log.proofs.SpelledBytes.{bytes_len}
+use Rattle.can_log.specs.Line.{spell_body, spell_line, identifier_of, kind_of, bytes_spelled, IsRunOf, IsIdentifierText, IsDataText, IsBody, IsLineSpelling}
+use Rattle.can_log.specs.Plain.{HavePlainWidths, IsStamp, AreDecimals, AreFlags, seconds_of, micros_of, most_digits, flags_spelled, digits_of, body_text, body_with, plain_text, spelling_of}
+use Rattle.can_log.proofs.EachElement.{AllByRecursion-front, AllByRecursion-back}
 use Rattle.can_log.proofs.Spelling.{id_to}
-
-run : (class : Class) (least most : ℕ) (bytes : List ℕ) → list_all (is_in class) bytes ≡ true → least ≤ length bytes → length bytes ≤ most
-    → IsRunOf (is_in class) least most bytes
-run class least most bytes all enough few = record { each = AllByRecursion-tested (is_in class) bytes all; enough = enough; few = few }
 
 -- three digits, of which the first is below 8
 pub three_are : (digits : List ℕ) → IsRunOf is_ascii_hexdigit 0 16 digits → length digits ≡ 3 → nat_lt (slice_index digits 0) (code "8") ≡ true → IsIdentifierText digits
@@ -36,22 +32,45 @@ body_is : (flags : Option (Bor (List ℕ))) (digits : List ℕ) → AreFlags fla
 body_is None digits are text = text
 body_is (Some flags) digits are text = (are, text)
 
-pub text_is_spelled : (fields : Fields) → plain_text fields ≡ spell_line (spelling_of fields)
+pub text_is_spelled : (fields : Fields) → IsStamp fields.stamp.now → plain_text fields ≡ spell_line (spelling_of fields)
 unfolding body_text
-text_is_spelled fields =
-    ap (λ (z : List ℕ). codes "(" ++ (fields.seconds.now ++ (codes "." ++ (fields.micros.now ++ (codes ") " ++ (fields.interface.now ++ (codes " " ++ (fields.identifier.now ++ (codes "#" ++ z)))))))))
-    (body_spelled fields.body.flags (digits_of fields.body))
+text_is_spelled fields stamp =
+    let rest = λ (z : List ℕ). codes ") " ++ (fields.interface.now ++ (codes " " ++ (fields.identifier.now ++ (codes "#" ++ z)))) in
+    ap (λ (z : List ℕ). codes "(" ++ (fields.stamp.now ++ rest z)) (body_spelled fields.body.flags (digits_of fields.body))
+    ∙ ap (λ (z : List ℕ). codes "(" ++ (z ++ rest (spell_body (body_with fields.body.flags (digits_of fields.body)) ++ []))) stamp.point
+    ∙ ap (λ (z : List ℕ). codes "(" ++ z) (append_assoc (seconds_of fields.stamp.now) (codes "." ++ micros_of fields.stamp.now) _)
 
 -- the stamp has decimal digits alone
-pub plain_is_line : (fields : Fields) → HavePlainWidths fields → list_all (is_in Digit) fields.seconds.now ≡ true → list_all (is_in Digit) fields.micros.now ≡ true
+pub plain_is_line : (fields : Fields) → HavePlainWidths fields → AreDecimals (seconds_of fields.stamp.now ++ micros_of fields.stamp.now)
     → IsLineSpelling (spelling_of fields)
-plain_is_line fields widths seconds micros = record {
-  seconds = run Digit 1 10 fields.seconds.now seconds (omega (arith, widths.seconds)) (omega (arith, widths.seconds));
-  micros = run Digit 6 6 fields.micros.now micros (omega (arith, widths.micros)) (omega (arith, widths.micros));
-  gap = record { each = (refl, tt); enough = omega arith; few = omega arith };
-  interface = widths.interface;
-  second_gap = record { each = (refl, tt); enough = omega arith; few = omega arith };
-  identifier = widths.identifier;
-  body = body_is fields.body.flags (digits_of fields.body) widths.body.flags widths.body.digits;
-  mark = tt;
+plain_is_line fields widths digits =
+    let stamp = fields.stamp.now in
+    let decimal : ℕ → Type 0 = λ b. is_ascii_digit b ≡ true in
+    record {
+      seconds = record { each = AllByRecursion-front decimal (seconds_of stamp) (micros_of stamp) digits; enough = omega (arith, widths.stamp.long, length-take 10 stamp); few = omega (arith, length-take 10 stamp) };
+      micros = record { each = AllByRecursion-back decimal (seconds_of stamp) (micros_of stamp) digits; enough = omega (arith, widths.stamp.long, length-drop 11 stamp); few = omega (arith, widths.stamp.long, length-drop 11 stamp) };
+      gap = record { each = (refl, tt); enough = omega arith; few = omega arith };
+      interface = widths.interface;
+      second_gap = record { each = (refl, tt); enough = omega arith; few = omega arith };
+      identifier = widths.identifier;
+      body = body_is fields.body.flags (digits_of fields.body) widths.body.flags widths.body.digits;
+      mark = tt;
+    }
+
+-- ---- the frame
+
+identifier_is : (digits : List ℕ) → IsIdentifierText digits → IsIdentifier (identifier_of digits)
+identifier_is digits (run, inl three) = rw three.0 three.1
+identifier_is digits (run, inr eight) = rw eight tt
+
+pub plain_frame : (flags : Option (Bor (List ℕ))) (identifier digits bytes : List ℕ) (id : Id) (kind : Kind) → IsIdentifierText identifier
+    → IsDataText (most_digits flags) digits → id ≡ identifier_of identifier → kind ≡ kind_of (body_with flags digits) → bytes ≡ bytes_spelled digits
+    → IsFrame id kind bytes
+plain_frame None identifier digits bytes id kind text data_text is_id is_kind spelled = record {
+  identifier = rw is_id (identifier_is identifier text);
+  data_length = rw (is_kind, spelled) (omega (arith, bytes_len digits data_text.1, data_text.0.few));
+}
+plain_frame (Some flags) identifier digits bytes id kind text data_text is_id is_kind spelled = record {
+  identifier = rw is_id (identifier_is identifier text);
+  data_length = rw (is_kind, spelled) (omega (arith, bytes_len digits data_text.1, data_text.0.few));
 }

@@ -28,7 +28,7 @@ spelled_are_bytes (high ∷ low ∷ digits) each =
 
 -- ---- in parts
 
-bytes_len : (digits : List ℕ) → length digits % 2 ≡ 0 → 2 * length (bytes_spelled digits) ≡ length digits
+pub bytes_len : (digits : List ℕ) → length digits % 2 ≡ 0 → 2 * length (bytes_spelled digits) ≡ length digits
 bytes_len [] even = refl
 bytes_len (high ∷ []) even = absurd (omega arith)
 bytes_len (high ∷ low ∷ digits) even = omega (arith, bytes_len digits (omega arith))

@@ -1,6 +1,7 @@
 -- A device of proof: the fields of a line of plain form, and the spelling that they make.
-use Rattle.std.specs.Prelude.{◌≡◌, ℕ, ◌≤◌, ◌==◌, if◌then◌else◌, Bool, List, [], ◌++◌, ◌+◌, length, take, codes, Option, Some, None, ⊤}
-use Rattle.std.specs.Char.{is_ascii_hexdigit}
+use Rattle.std.specs.Prelude.{◌≡◌, ℕ, ◌≤◌, ◌==◌, if◌then◌else◌, Bool, List, [], ◌++◌, ◌+◌, length, take, drop, codes, IsTrue, Option, Some, None, ⊤}
+use Rattle.std.specs.List.{AllByRecursion}
+use Rattle.std.specs.Char.{is_ascii_digit, is_ascii_hexdigit}
 use Rattle.std.specs.Int.{trailing_zeros, w64}
 use Rattle.std.specs.Borrow.{Bor}
 use Rattle.can_log.specs.declared.plain.Fields.{Fields}
@@ -44,11 +45,27 @@ abbrev pub body_with : Option (Bor (List ℕ)) → List ℕ → Body
 body_with None digits = classic digits None
 body_with (Some flags) digits = fd flags.now digits
 
+-- the digits of a stamp such as `1700000000.000241` before its point, and those after it
+abbrev pub seconds_of : List ℕ → List ℕ
+seconds_of stamp = take 10 stamp
+
+abbrev pub micros_of : List ℕ → List ℕ
+micros_of stamp = drop 11 stamp
+
+-- each is a decimal digit
+abbrev pub AreDecimals : List ℕ → Type 0
+AreDecimals = AllByRecursion (λ b. IsTrue (is_ascii_digit b))
+
+-- ten bytes, a point, and six bytes
+pub record IsStamp (stamp : List ℕ) : Type 0 where
+  pub long : length stamp ≡ 17
+  pub point : stamp ≡ seconds_of stamp ++ (codes "." ++ micros_of stamp)
+
 -- gaps of one space, and no mark
 abbrev pub spelling_of : Fields → LineSpelling
 spelling_of fields = record {
-  seconds = fields.seconds.now;
-  micros = fields.micros.now;
+  seconds = seconds_of fields.stamp.now;
+  micros = micros_of fields.stamp.now;
   gap = codes " ";
   interface = fields.interface.now;
   second_gap = codes " ";
@@ -60,13 +77,12 @@ spelling_of fields = record {
 -- the bytes of the line
 abbrev pub plain_text : Fields → List ℕ
 plain_text fields =
-    codes "(" ++ (fields.seconds.now ++ (codes "." ++ (fields.micros.now ++ (codes ") " ++ (fields.interface.now ++ (codes " "
-    ++ (fields.identifier.now ++ (codes "#" ++ body_text fields.body))))))))
+    codes "(" ++ (fields.stamp.now ++ (codes ") " ++ (fields.interface.now ++ (codes " "
+    ++ (fields.identifier.now ++ (codes "#" ++ body_text fields.body))))))
 
 -- the fields that end where other bytes begin are legal, and the others have one width
 pub record HavePlainWidths (fields : Fields) : Type 0 where
-  pub seconds : length fields.seconds.now ≡ 10
-  pub micros : length fields.micros.now ≡ 6
+  pub stamp : IsStamp fields.stamp.now
   pub interface : IsRunOf (is_in Visible) 1 15 fields.interface.now
   pub identifier : IsIdentifierText fields.identifier.now
   pub body : IsPlainBody fields.body

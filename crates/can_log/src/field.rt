@@ -1,10 +1,7 @@
 //! What the fields of a line are made of: runs of bytes of one class, and single bytes.
 
 ghost use Rattle.std.specs.Prelude.{◌≡◌, ◌<◌, ◌≤◌, ◌^◌, length, take};
-ghost use Rattle.std.specs.List.{list_all};
-ghost use Rattle.std.specs.Char.{is_ascii_digit};
 ghost use Rattle.std.specs.Str.Parse.{digits_value};
-ghost use Rattle.can_log.specs.Line.{IsRunOf};
 ghost use Rattle.can_log.specs.declared.field.Class.TheVariants.{Digit};
 ghost use Rattle.can_log.specs.FieldReader.{Gives, GivesField, stop_of, stop_at, is_in, run_length, run_at, byte_at};
 
@@ -109,31 +106,6 @@ pub(crate) struct Number<'a> {
     pub(crate) value: u64,
     ghost is: { value ≡ digits_value 10 digits.now },
     ghost bound: { value < 10 ^ 10 },
-}
-
-/// Whether all the bytes are of the class. There is no early exit: where most bytes are, one test at the end is cheaper.
-#[inline(always)]
-pub(crate) fn all_in(class: Class, bytes: &[u8]) -> bool
-    ensures { result ≡ list_all (is_in class) bytes.now }
-{
-    let mut all = true;
-    for b in bytes {
-        all &= class.contains(*b);
-    }
-    all
-}
-
-/// The number that these digits spell.
-#[inline(always)]
-pub(crate) fn number_in(digits: &[u8]) -> Number<'_>
-    requires { IsRunOf is_ascii_digit 0 10 digits.now }
-    ensures { result.digits.now ≡ digits.now }
-{
-    let mut value = 0;
-    for d in digits {
-        value = value * 10 + (*d - b'0') as u64;
-    }
-    Number { digits, value }
 }
 
 /// How many digits there are at the front, at most `most`, and their value.

@@ -54,7 +54,7 @@ pub(crate) fn hex_run(most: usize, bytes: &[u8]) -> usize
 
 /// The first lane that is set in a mask, or the number of lanes.
 #[inline(always)]
-fn first_set(mask: u64) -> usize
+pub(crate) fn first_set(mask: u64) -> usize
     ensures { result ≡ first_set mask }
 {
     if mask == 0 {

@@ -26,6 +26,7 @@ mod line;
 mod meaning;
 mod plain;
 mod scanner;
+mod stamp;
 
 pub use canonical::{LONGEST_LINE, append_line, line_bytes, line_length};
 pub use frame::{Dir, Frame, Id, Kind, Stamped};

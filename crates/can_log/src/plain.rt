@@ -1,17 +1,17 @@
 //! Lines of plain form. In most lines of a log the fields have one width, or end where a byte of another kind follows: such a
 //! line is judged as a whole, sixteen bytes at a time, and its end is found from that of its data.
 
-ghost use Rattle.std.specs.Prelude.{◌≡◌, ◌≤◌, ◌+◌, ◌++◌, [], IfSome, IsTrue, None, codes, length, take};
+ghost use Rattle.std.specs.Prelude.{◌≡◌, ◌≤◌, ◌+◌, ◌++◌, [], IfSome, None, codes, length, take};
 ghost use Rattle.can_log.specs.Line.{parts_in, stamped_of, bytes_spelled, spell_line, IsLineSpelling, IsRunOf, IsIdentifierText, IsDataText};
 ghost use Rattle.can_log.specs.FieldReader.{is_in};
-ghost use Rattle.can_log.specs.Plain.{HavePlainWidths, IsPlainBody, AreFlags, digits_of, flags_spelled, most_digits, body_text, plain_text, spelling_of};
+ghost use Rattle.can_log.specs.Plain.{HavePlainWidths, AreDecimals, seconds_of, micros_of, IsPlainBody, AreFlags, digits_of, flags_spelled, most_digits, body_text, plain_text, spelling_of};
 ghost use Rattle.can_log.specs.declared.field.Class.TheVariants.{Visible};
 
-use crate::field::{Class, all_in, number_in};
 use crate::frame::{Frame, Kind, Stamped};
 use crate::hexadecimal::is_hex_digit;
 use crate::lanes::{LANES, hex_front, hex_run, visible_front};
 use crate::meaning::{identifier_of, put_data};
+use crate::stamp::{has_decimals, micros_of};
 use arrayvec::ArrayVec;
 
 /// The longest line of a classic frame in plain form, and what else the lanes reach: a stamp of 20 bytes, 15 of the interface,
@@ -27,8 +27,8 @@ const LONGEST_INTERFACE: usize = 15;
 /// The fields of a line, by their places alone.
 #[derive(Clone, Copy)]
 pub(crate) struct Fields<'a> {
-    seconds: &'a [u8],
-    micros: &'a [u8],
+    /// Ten digits of seconds, a point, and six digits of microseconds.
+    stamp: &'a [u8],
     interface: &'a [u8],
     identifier: &'a [u8],
     body: PlainBody<'a>,
@@ -54,9 +54,10 @@ pub(crate) fn plain_line(piece: &[u8]) -> Option<(Fields<'_>, &[u8])>
     ensures line { IfSome result (λ x. piece.now ≡ spell_line (spelling_of x.0) ++ (codes "\n" ++ x.1.now)) }
     ensures legal { IfSome result (λ x. IsLineSpelling (spelling_of x.0)) }
     ensures widths { IfSome result (λ x. HavePlainWidths x.0) }
+    ensures decimals { IfSome result (λ x. AreDecimals (seconds_of x.0.stamp.now ++ micros_of x.0.stamp.now)) }
 {
     let (fields, rest) = fields_of(piece)?;
-    if !have_decimals(fields) {
+    if !has_decimals(fields.stamp) {
         return None;
     }
     Some((fields, rest))
@@ -75,21 +76,20 @@ pub(crate) fn put_plain_data(fields: Fields<'_>, data: &mut ArrayVec<u8, 64>)
 /// What a line with these fields and this data records.
 #[inline(always)]
 pub(crate) fn plain_stamped(fields: Fields<'_>, data: ArrayVec<u8, 64>) -> Stamped
-    requires legal { IsLineSpelling (spelling_of fields) }
     requires widths { HavePlainWidths fields }
+    requires decimals { AreDecimals (seconds_of fields.stamp.now ++ micros_of fields.stamp.now) }
     requires spelled { «data».items ≡ bytes_spelled (digits_of fields.body) }
     ensures { result ≡ stamped_of (parts_in (spelling_of fields.entry)) }
 {
-    let seconds = number_in(fields.seconds).value;
-    let micros = number_in(fields.micros).value;
     let id = identifier_of(fields.identifier);
     let kind = match fields.body.flags {
         None => Kind::Classic,
         Some(_) => Kind::Fd,
     };
+    let frame = Frame::from_parts(id, kind, data);
     Stamped {
-        micros: seconds * 1_000_000 + micros,
-        frame: Frame::from_parts(id, kind, data),
+        micros: micros_of(fields.stamp),
+        frame,
     }
 }
 
@@ -105,11 +105,10 @@ fn fields_of(piece: &[u8]) -> Option<(Fields<'_>, &[u8])>
     let [b'(', rest @ ..] = piece else {
         return None;
     };
-    let (seconds, rest) = rest.split_at(10);
-    let [b'.', rest @ ..] = rest else {
+    let (stamp, rest) = rest.split_at(17);
+    if stamp[10] != b'.' {
         return None;
-    };
-    let (micros, rest) = rest.split_at(6);
+    }
     let [b')', b' ', rest @ ..] = rest else {
         return None;
     };
@@ -123,8 +122,7 @@ fn fields_of(piece: &[u8]) -> Option<(Fields<'_>, &[u8])>
     };
     let (body, rest) = body_in_front(rest)?;
     let fields = Fields {
-        seconds,
-        micros,
+        stamp,
         interface,
         identifier,
         body,
@@ -213,13 +211,4 @@ fn digits_in_front(flags: Option<&[u8]>, bytes: &[u8]) -> Option<usize>
         Some(_) => hex_run(128, bytes),
     };
     if digits % 2 == 0 { Some(digits) } else { None }
-}
-
-/// Whether the stamp has decimal digits alone. There is no early exit, so that the processor tests many bytes at once.
-#[inline(always)]
-fn have_decimals(fields: Fields<'_>) -> bool
-    requires { HavePlainWidths fields }
-    ensures { IsTrue result → IsLineSpelling (spelling_of fields.entry) }
-{
-    all_in(Class::Digit, fields.seconds) & all_in(Class::Digit, fields.micros)
 }

@@ -1,0 +1,74 @@
+//! The time stamp of a plain line, by lanes: its sixteen digits are tested at once, and their value is found in four steps.
+
+ghost use Rattle.std.specs.Prelude.{◌≡◌, ◌+◌, ◌*◌, ◌++◌, IsTrue, length};
+ghost use Rattle.std.specs.List.{AllByRecursion};
+ghost use Rattle.std.specs.Char.{is_ascii_digit};
+ghost use Rattle.std.specs.Str.Parse.{digits_value};
+ghost use Rattle.can_log.specs.Plain.{AreDecimals, IsStamp, seconds_of, micros_of};
+
+use crate::lanes::{LANES, first_set};
+use std::simd::prelude::*;
+
+/// Whether the stamp has decimal digits before and after its point.
+#[inline(always)]
+pub(crate) fn has_decimals(stamp: &[u8]) -> bool
+    requires { length stamp.now ≡ 17 }
+    ensures { IsTrue result → AreDecimals (seconds_of stamp.now ++ micros_of stamp.now) }
+{
+    are_decimals(digits_of(stamp))
+}
+
+/// The time in microseconds.
+#[inline(always)]
+pub(crate) fn micros_of(stamp: &[u8]) -> u64
+    requires long { length stamp.now ≡ 17 }
+    requires digits { AreDecimals (seconds_of stamp.now ++ micros_of stamp.now) }
+    ensures { result ≡ digits_value 10 (seconds_of stamp.now) * 1000000 + digits_value 10 (micros_of stamp.now) }
+{
+    number_of(digits_of(stamp))
+}
+
+/// The digits of the stamp, without its point.
+#[inline(always)]
+fn digits_of(stamp: &[u8]) -> u8x16
+    requires { length stamp.now ≡ 17 }
+    ensures { result ≡ seconds_of stamp.now ++ micros_of stamp.now }
+{
+    let seconds = u8x16::from_slice(stamp);
+    let micros = u8x16::from_slice(&stamp[1..]);
+    seconds.shuffle(
+        micros,
+        [0, 1, 2, 3, 4, 5, 6, 7, 8, 9, 26, 27, 28, 29, 30, 31],
+    )
+}
+
+/// Whether each of sixteen bytes is a decimal digit.
+#[inline(always)]
+fn are_decimals(bytes: u8x16) -> bool
+    requires { length bytes ≡ 16 }
+    ensures { IsTrue result → AreDecimals bytes }
+{
+    let others = (bytes - u8x16::splat(b'0')).simd_gt(u8x16::splat(9));
+    first_set(others.to_bitmask()) == LANES
+}
+
+/// The number that sixteen digits spell: each step makes one number of two that lie side by side.
+#[inline(always)]
+fn number_of(digits: u8x16) -> u64
+    requires long { length digits ≡ 16 }
+    requires digits { AreDecimals digits }
+    ensures { result ≡ digits_value 10 digits }
+{
+    let ones = digits - u8x16::splat(b'0');
+    let high: u8x8 = ones.swizzle([0, 2, 4, 6, 8, 10, 12, 14]);
+    let low: u8x8 = ones.swizzle([1, 3, 5, 7, 9, 11, 13, 15]);
+    let hundreds = high.cast::<u16>() * u16x8::splat(10) + low.cast::<u16>();
+    let high: u16x4 = hundreds.swizzle([0, 2, 4, 6]);
+    let low: u16x4 = hundreds.swizzle([1, 3, 5, 7]);
+    let fours = high.cast::<u32>() * u32x4::splat(100) + low.cast::<u32>();
+    let high: u32x2 = fours.swizzle([0, 2]);
+    let low: u32x2 = fours.swizzle([1, 3]);
+    let eights = high.cast::<u64>() * u64x2::splat(10_000) + low.cast::<u64>();
+    let [high, low] = eights.to_array();
+    high * 100_000_000 + low
+}
