@@ -4,3 +4,4 @@ pub mod Configured
 pub mod Built
 pub mod Taken
 pub mod SpelledIdentifiers
+mod CommandJobs
