@@ -6,10 +6,10 @@ use Rattle.std.specs.Prelude.{codes}
 use Rattle.can_log.specs.declared.frame.Stamped.{Stamped}
 use Rattle.can_log.specs.FieldReader.{FieldRead, short, refused}
 use Rattle.can_log.specs.LineReader.{line_at, meaning_by}
-use Rattle.can_log.specs.Line.{Parts, LineMeans, MeansNothing}
+use Rattle.can_log.specs.Line.{Parts, LineMeans, IsNoLine}
 use Rattle.can_log.specs.Refused.{NoLineFeed, HasCompletion, IsRefusedPlace}
 use Rattle.can_log.specs.Log.{log_lines, LinesMean, LogMeans, IsRefusedRest, IsRefusedIn}
-use Rattle.can_log.specs.Laws.{LineMeansOrNothing, LogIsLegalOrRefused}
+use Rattle.can_log.specs.Laws.{LineOrNoLine, LogIsLegalOrRefused}
 use Rattle.can_log.proofs.LineReads.{read_means, means_read, short_becomes, refused_first}
 use Rattle.can_log.proofs.LineFeeds.{first_line}
 use Rattle.can_log.proofs.LineLength.{refused_column}
@@ -22,7 +22,7 @@ use Rattle.can_log.proofs.RefusedPlaces.{place_of, place_end, place_extends, unf
 data Kinds (bytes : List ℕ) : Type 0 where
   meant : (what : Option Stamped) → LineMeans bytes what → Kinds bytes
   refused_at : (column : ℕ) → IsRefusedPlace bytes column → Kinds bytes
-  too_short : HasCompletion bytes → MeansNothing bytes → Kinds bytes
+  too_short : HasCompletion bytes → IsNoLine bytes → Kinds bytes
 
 kind_of_line : (bytes : List ℕ) → NoLineFeed bytes → Kinds bytes
 kind_of_line bytes clean = by (line_at bytes) refl
@@ -34,10 +34,10 @@ kind_of_line bytes clean = by (line_at bytes) refl
         let column = length bytes - length rest + 1 in
         refused_at column (place_of bytes column clean (refused_column bytes rest (refused_first bytes rest e)).1)
 
-pub line_means_or_nothing : LineMeansOrNothing
-line_means_or_nothing bytes = by (line_at bytes) refl
+pub line_or_no_line : LineOrNoLine
+line_or_no_line bytes = by (line_at bytes) refl
   where
-    by : (r : FieldRead (Option Parts)) → line_at bytes ≡ r → ((what : Option Stamped) × LineMeans bytes what) ⊎ MeansNothing bytes
+    by : (r : FieldRead (Option Parts)) → line_at bytes ≡ r → ((what : Option Stamped) × LineMeans bytes what) ⊎ IsNoLine bytes
     by (Ok x) e = inl (meaning_by x.0, read_means bytes x.0 x.1 e)
     by (Err why) e = inr (λ what m. cc (e, (means_read bytes what m).1))
 

@@ -17,7 +17,7 @@ use Rattle.can_log.proofs.LineReads.{one_meaning, empty_legal}
 use Rattle.can_log.proofs.LineFeeds.{line_clean}
 use Rattle.can_log.proofs.LogLines.{ended_lines-last, log_lines-rest, same_length, mean_together}
 use Rattle.can_log.proofs.RefusedPlaces.{place_extends, place_inside}
-use Rattle.can_log.proofs.RefusedLogs.{lines_first, lines_before_are_one, refused_place_is_one, refused_log_means_nothing}
+use Rattle.can_log.proofs.RefusedLogs.{lines_first, lines_before_are_one, refused_place_is_one, refused_log_has_no_meanings}
 
 -- ---- one answer
 
@@ -216,9 +216,9 @@ pub log_tells_one : LogTellsOne
 log_tells_one log report other (inl (meanings, means, is)) (inl (whats2, means2, is2)) =
     is ∙ ap (lines_from 1) (lines_mean_one (log_lines log) meanings whats2 means means2) ∙ sym is2
 log_tells_one log report other (inl (meanings, means, is)) (inr (n, column, place, is2)) =
-    absurd (refused_log_means_nothing log n column meanings place means)
+    absurd (refused_log_has_no_meanings log n column meanings place means)
 log_tells_one log report other (inr (n, column, place, is)) (inl (meanings, means, is2)) =
-    absurd (refused_log_means_nothing log n column meanings place means)
+    absurd (refused_log_has_no_meanings log n column meanings place means)
 log_tells_one log report other (inr (n, column, place, is)) (inr (n2, column2, place2, is2)) =
     let at = refused_place_is_one log n column n2 column2 place place2 in
     let lines = lines_before_are_one log n column n2 column2 place place2 in

@@ -6,8 +6,8 @@ use Rattle.can_log.specs.declared.frame.Stamped.{Stamped}
 use Rattle.can_log.specs.Line.{LineMeans}
 use Rattle.can_log.specs.Refused.{NoLineFeed}
 use Rattle.can_log.specs.Log.{log_lines, LinesMean, LogMeans, ended_lines, IsRefusedRest, IsRefusedIn}
-use Rattle.can_log.specs.Laws.{RefusedPlaceIsOne, RefusedLogMeansNothing}
-use Rattle.can_log.specs.LogLaws.{last_line, RefusedLines, RefusedLineMeansNothing}
+use Rattle.can_log.specs.Laws.{RefusedPlaceIsOne, RefusedLogHasNoMeanings}
+use Rattle.can_log.specs.LogLaws.{last_line, RefusedLines, RefusedLineIsNoLine}
 use Rattle.can_log.proofs.LineFeeds.{first_line, same_line, line_clean, lines_clean}
 use Rattle.can_log.proofs.LogLines.{ended_lines-first, log_lines-ended, log_lines-rest, log_lines-behind, mean_apart}
 use Rattle.can_log.proofs.RefusedPlaces.{end_is_one, no_line_first, no_line_last, place_within, place_in_first}
@@ -63,7 +63,7 @@ refused_place_is_one log line column line2 column2 r t =
 
 -- ---- a refused log has no meaning
 
--- what is refused means nothing as a log
+-- a refused log has no meanings
 ends_mean_nothing : (rest : List ℕ) (column : ℕ) (meanings : List (Option Stamped)) → IsRefusedRest rest column → LogMeans rest meanings → ⊥
 ends_mean_nothing rest column meanings ends means = elim (first_line rest) [
   | inl (line, more, e, clean) ↦ first line more e meanings (subst (λ (z : List (List ℕ)). LinesMean z meanings) (ap log_lines e ∙ log_lines-ended line more clean) means)
@@ -93,8 +93,8 @@ pub refused_lines : RefusedLines
 refused_lines log line column r = ap log_lines r.parts ∙ lines_first r.lines r.meanings r.rest r.legal
 
 -- A refused log has no meaning.
-pub refused_log_means_nothing : RefusedLogMeansNothing
-refused_log_means_nothing log line column meanings r m =
+pub refused_log_has_no_meanings : RefusedLogHasNoMeanings
+refused_log_has_no_meanings log line column meanings r m =
     let lines = refused_lines log line column r in
     let parts = mean_apart r.lines (log_lines r.rest) meanings (subst (λ (z : List (List ℕ)). LinesMean z meanings) lines m) in
     ends_mean_nothing r.rest column parts.1 r.here parts.4
@@ -105,9 +105,9 @@ only_line : (rest line : List ℕ) (later : List (List ℕ)) → last_line rest 
 only_line [] line later is = absurd (cc)
 only_line (b ∷ rest) line later is = cc
 
--- The first line of the rest means nothing, and the place is in it or after it.
-pub refused_line_means_nothing : RefusedLineMeansNothing
-refused_line_means_nothing rest column line later refused is = elim (first_line rest) [
+-- The first line of the rest is no line, and the place is in it or after it.
+pub refused_line_is_no_line : RefusedLineIsNoLine
+refused_line_is_no_line rest column line later refused is = elim (first_line rest) [
   | inl (first, more, e, clean) ↦
       let both : first ∷ log_lines more ≡ line ∷ later = sym (ap log_lines e ∙ log_lines-ended first more clean) ∙ is in
       let same : first ≡ line = cc in

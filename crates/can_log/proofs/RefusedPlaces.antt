@@ -5,7 +5,7 @@ use Rattle.std.proofs.Common.{List, [], ◌∷◌, ◌++◌, length, append_asso
 use Rattle.std.specs.Prelude.{codes}
 use Rattle.std.proofs.lemmas.List.{append-nil}
 use Rattle.can_log.specs.declared.frame.Stamped.{Stamped}
-use Rattle.can_log.specs.Line.{LineMeans, MeansNothing}
+use Rattle.can_log.specs.Line.{LineMeans, IsNoLine}
 use Rattle.can_log.specs.Refused.{NoLineFeed, HasCompletion, HasNoCompletion, IsRefusedPlace, IsUnfinishedAt}
 use Rattle.can_log.specs.Log.{IsRefusedRest}
 use Rattle.can_log.specs.Judging.{IsRefusedAt}
@@ -32,7 +32,7 @@ place_of bytes column clean r =
     }
 
 -- a line feed after what is no line
-pub place_end : (x : List ℕ) → HasCompletion x → MeansNothing x → IsRefusedPlace (x ++ codes "\n") (length x + 1)
+pub place_end : (x : List ℕ) → HasCompletion x → IsNoLine x → IsRefusedPlace (x ++ codes "\n") (length x + 1)
 place_end x legal nothing = record {
   text = x;
   bad = code "\n";
@@ -45,7 +45,7 @@ place_end x legal nothing = record {
 }
 
 -- the end of what is no line
-pub unfinished : (line : List ℕ) (n : ℕ) → n ≡ length line → HasCompletion line → MeansNothing line → IsUnfinishedAt line (n + 1)
+pub unfinished : (line : List ℕ) (n : ℕ) → n ≡ length line → HasCompletion line → IsNoLine line → IsUnfinishedAt line (n + 1)
 unfinished line n e legal nothing = record { at = ap (λ (k : ℕ). k + 1) e; legal = fronts_legal line legal; no_line = nothing }
 
 -- a refused place stays, whatever follows
@@ -71,7 +71,7 @@ not_refused bytes column (more, what, few, m) r =
 
 -- a byte that is refused after a text
 record Refuses (text : List ℕ) (bad : ℕ) : Type 0 where
-  pub line_feed : bad ≡ code "\n" → MeansNothing text
+  pub line_feed : bad ≡ code "\n" → IsNoLine text
   pub other : bad ≢ code "\n" → HasNoCompletion (text ++ bad ∷ [])
 
 refuses_at : {bytes : List ℕ} {column : ℕ} → (r : IsRefusedPlace bytes column) → Refuses r.text r.bad

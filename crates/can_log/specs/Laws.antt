@@ -5,7 +5,7 @@ use Rattle.can_log.specs.declared.scanner.Scan.{Scan}
 use Rattle.can_log.specs.declared.frame.Stamped.{Stamped}
 use Rattle.hex.specs.Hex.{decode_of}
 use Rattle.can_log.specs.Frame.{AreBytes}
-use Rattle.can_log.specs.Line.{IsDataText, LineMeans, MeansNothing, bytes_spelled}
+use Rattle.can_log.specs.Line.{IsDataText, LineMeans, IsNoLine, bytes_spelled}
 use Rattle.can_log.specs.Refused.{NoLineFeed, HasCompletion, HasNoCompletion}
 use Rattle.can_log.specs.Log.{LogMeans, IsRefusedIn}
 use Rattle.can_log.specs.Scanning.{Standing, Scans, Finishes}
@@ -15,9 +15,9 @@ use Rattle.can_log.specs.WholeLog.{at_start, StandsAfter, ReadsOn, ReadsEnd, Sca
 abbrev pub LineMeansAtMostOne : Type 0
 LineMeansAtMostOne = (bytes : List ℕ) (what other : Option Stamped) → LineMeans bytes what → LineMeans bytes other → what ≡ other
 
--- a line means something or nothing
-abbrev pub LineMeansOrNothing : Type 0
-LineMeansOrNothing = (bytes : List ℕ) → ((what : Option Stamped) × LineMeans bytes what) ⊎ MeansNothing bytes
+-- bytes are a line, which means something, or no line
+abbrev pub LineOrNoLine : Type 0
+LineOrNoLine = (bytes : List ℕ) → ((what : Option Stamped) × LineMeans bytes what) ⊎ IsNoLine bytes
 
 -- a line that means something holds no line feed
 abbrev pub LineHasNoLineFeed : Type 0
@@ -61,8 +61,8 @@ abbrev pub LogMeansAtMostOne : Type 0
 LogMeansAtMostOne = (log : List ℕ) (meanings others : List (Option Stamped)) → LogMeans log meanings → LogMeans log others → meanings ≡ others
 
 -- a log with a refused place has no meaning
-abbrev pub RefusedLogMeansNothing : Type 0
-RefusedLogMeansNothing = (log : List ℕ) (line column : ℕ) (meanings : List (Option Stamped)) → IsRefusedIn log line column → ¬ LogMeans log meanings
+abbrev pub RefusedLogHasNoMeanings : Type 0
+RefusedLogHasNoMeanings = (log : List ℕ) (line column : ℕ) (meanings : List (Option Stamped)) → IsRefusedIn log line column → ¬ LogMeans log meanings
 
 -- at the start of a log no byte and no line was read
 abbrev pub StartStands : Type 0

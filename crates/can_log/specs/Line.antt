@@ -151,5 +151,5 @@ LineMeans bytes None = IsLineText [] bytes
 LineMeans bytes (Some stamped) = (line : LineSpelling) × IsLineSpelling line × IsLineText (spell_line line) bytes × (stamped ≡ stamped_of (parts_in line))
 
 -- it is no line
-abbrev pub MeansNothing : List ℕ → Type 0
-MeansNothing bytes = (what : Option Stamped) → ¬ LineMeans bytes what
+abbrev pub IsNoLine : List ℕ → Type 0
+IsNoLine bytes = (what : Option Stamped) → ¬ LineMeans bytes what

@@ -3,7 +3,7 @@ use Prim.Native.Char.{code}
 use Rattle.std.specs.Prelude.{◌≡◌, ◌↔◌, ◌≤◌, ℕ, ◌+◌, List, [], ◌∷◌, ◌++◌, codes, length, Option}
 use Rattle.std.specs.List.{AllByRecursion}
 use Rattle.can_log.specs.declared.frame.Stamped.{Stamped}
-use Rattle.can_log.specs.Line.{LineMeans, MeansNothing}
+use Rattle.can_log.specs.Line.{LineMeans, IsNoLine}
 use Rattle.can_log.specs.Refused.{NoLineFeed}
 use Rattle.can_log.specs.Log.{log_lines, LinesMean, LogMeans, ended_lines, IsRefusedRest, IsRefusedIn}
 
@@ -47,10 +47,10 @@ LinesAreLog = (lines : List (List ℕ)) (meanings : List (Option Stamped)) → L
 abbrev pub RefusedLines : Type 0
 RefusedLines = (log : List ℕ) (line column : ℕ) (place : IsRefusedIn log line column) → log_lines log ≡ place.lines ++ log_lines place.rest
 
--- The first line of that rest means nothing, and the refused byte is in it, or is the one after it.
-abbrev pub RefusedLineMeansNothing : Type 0
-RefusedLineMeansNothing = (rest : List ℕ) (column : ℕ) (line : List ℕ) (later : List (List ℕ)) → IsRefusedRest rest column → log_lines rest ≡ line ∷ later
-    → MeansNothing line × (column ≤ length line + 1)
+-- The first line of that rest is no line, and the refused byte is in it, or is the one after it.
+abbrev pub RefusedLineIsNoLine : Type 0
+RefusedLineIsNoLine = (rest : List ℕ) (column : ℕ) (line : List ℕ) (later : List (List ℕ)) → IsRefusedRest rest column → log_lines rest ≡ line ∷ later
+    → IsNoLine line × (column ≤ length line + 1)
 
 -- Lines and more lines mean what the first ones mean, and then what the others mean.
 abbrev pub LinesMeanInParts : Type 0

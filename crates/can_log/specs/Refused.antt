@@ -3,7 +3,7 @@ use Prim.Native.Char.{code}
 use Rattle.std.specs.Prelude.{◌≡◌, ◌≢◌, ℕ, ◌+◌, ◌≤◌, List, [], ◌∷◌, ◌++◌, length, Option}
 use Rattle.std.specs.List.{AllByRecursion}
 use Rattle.can_log.specs.declared.frame.Stamped.{Stamped}
-use Rattle.can_log.specs.Line.{LineMeans, MeansNothing}
+use Rattle.can_log.specs.Line.{LineMeans, IsNoLine}
 
 -- no byte is a line feed
 abbrev pub NoLineFeed : List ℕ → Type 0
@@ -26,11 +26,11 @@ pub record IsRefusedPlace (bytes : List ℕ) (column : ℕ) : Type 0 where
   pub parts : bytes ≡ text ++ bad ∷ after
   pub at : column ≡ length text + 1
   pub legal : (front more : List ℕ) → text ≡ front ++ more → HasCompletion front
-  pub line_feed : bad ≡ code "\n" → MeansNothing text
+  pub line_feed : bad ≡ code "\n" → IsNoLine text
   pub other : bad ≢ code "\n" → HasNoCompletion (text ++ bad ∷ [])
 
 -- Every byte passes, and yet the bytes are no line: the place is after the last one.
 pub record IsUnfinishedAt (bytes : List ℕ) (column : ℕ) : Type 0 where
   pub at : column ≡ length bytes + 1
   pub legal : (front more : List ℕ) → bytes ≡ front ++ more → HasCompletion front
-  pub no_line : MeansNothing bytes
+  pub no_line : IsNoLine bytes

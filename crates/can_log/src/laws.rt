@@ -1,24 +1,24 @@
 //! What holds of lines and logs. A law is a call without a body: a proof that needs it calls it, and nothing runs.
 
-ghost use Rattle.can_log.specs.Laws.{LineMeansAtMostOne, LineMeansOrNothing, LineHasNoLineFeed, LineIsShort, LineRecordsBytes, DataIsWhatHexDecodes};
+ghost use Rattle.can_log.specs.Laws.{LineMeansAtMostOne, LineOrNoLine, LineHasNoLineFeed, LineIsShort, LineRecordsBytes, DataIsWhatHexDecodes};
 ghost use Rattle.can_log.specs.Laws.{FrontHasCompletion, CompletableHasNoLineFeed, SixteenAreEnough};
-ghost use Rattle.can_log.specs.Laws.{RefusedPlaceIsOne, RefusedLogMeansNothing};
+ghost use Rattle.can_log.specs.Laws.{RefusedPlaceIsOne, RefusedLogHasNoMeanings};
 ghost use Rattle.can_log.specs.Laws.{LogIsLegalOrRefused, LogMeansAtMostOne, LogTellsOne};
 ghost use Rattle.can_log.specs.Laws.{StartStands, ScanReadsOn, FinishReadsEnd, ScanningReadsTheLog};
 ghost use Rattle.can_log.specs.CanonicalLaws.{CanonicalLineMeans, CanonicalTextIsOneLine, CanonicalLineLength};
 ghost use Rattle.can_log.specs.LogLaws.{LogLinesOfParts, LineFeedEndsLine, LogLinesGoOn};
 ghost use Rattle.can_log.specs.LogLaws.{LinesHaveNoLineFeed, LinesMeanAsMany, LinesMeanOneMore, LinesMeanInParts};
 ghost use Rattle.can_log.specs.LogLaws.{LinesAreLog, LineIsLog, LogsJoin};
-ghost use Rattle.can_log.specs.LogLaws.{RefusedLines, RefusedLineMeansNothing};
+ghost use Rattle.can_log.specs.LogLaws.{RefusedLines, RefusedLineIsNoLine};
 
 /// A line means at most one thing.
 pub fn line_means_at_most_one()
     ensures { LineMeansAtMostOne }
 {}
 
-/// A line means something or nothing.
-pub fn line_means_or_nothing()
-    ensures { LineMeansOrNothing }
+/// Bytes are a line, which means something, or no line.
+pub fn line_or_no_line()
+    ensures { LineOrNoLine }
 {}
 
 /// A line that means something holds no line feed.
@@ -72,8 +72,8 @@ pub fn log_means_at_most_one()
 {}
 
 /// A log with a refused place has no meaning.
-pub fn refused_log_means_nothing()
-    ensures { RefusedLogMeansNothing }
+pub fn refused_log_has_no_meanings()
+    ensures { RefusedLogHasNoMeanings }
 {}
 
 /// A new scanner stands at the start of a log: no byte and no line was read.
@@ -157,9 +157,9 @@ pub fn refused_lines()
     ensures { RefusedLines }
 {}
 
-/// The first line of that rest means nothing, and the refused byte is in it, or is the one after it.
-pub fn refused_line_means_nothing()
-    ensures { RefusedLineMeansNothing }
+/// The first line of that rest is no line, and the refused byte is in it, or is the one after it.
+pub fn refused_line_is_no_line()
+    ensures { RefusedLineIsNoLine }
 {}
 
 /// Lines and more lines mean what the first ones mean, and then what the others mean.

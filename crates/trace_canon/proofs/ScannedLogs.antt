@@ -9,7 +9,7 @@ use Rattle.can_log.specs.Refused.{IsRefusedPlace, IsUnfinishedAt}
 use Rattle.can_log.specs.Scanning.{Standing}
 use Rattle.can_log.specs.WholeLog.{StandsAfter}
 use Rattle.can_log.specs.declared.frame.Stamped.{Stamped}
-use Rattle.can_log.proofs.Promises.{refused_log_means_nothing, lines_mean_as_many, lines_mean_one_more, lines_are_log}
+use Rattle.can_log.proofs.Promises.{refused_log_has_no_meanings, lines_mean_as_many, lines_mean_one_more, lines_are_log}
 use Rattle.trace_canon.specs.Settings.{Settings}
 use Rattle.trace_canon.specs.Refusal.{oversize, announces_within, EachPasses, EachWithin, Counts, CountsAsBad, IsBadLine, IsOversizeLine, IsNotRefused}
 use Rattle.trace_canon.specs.LinesRead.{AreLinesRead}
@@ -227,7 +227,7 @@ none_taken log front rest meanings standing line column stands parts place withi
     go : IsRefusedRest place.rest column → ⊥
     go (inl here) =
         let whole = completed front meanings standing stands in
-        refused_log_means_nothing (front ++ whole.more) line column whole.meanings
+        refused_log_has_no_meanings (front ++ whole.more) line column whole.meanings
         (refused_in_front log front rest whole.more line column parts place here within) whole.means
     go (inr here) = let behind = unfinished_is_behind log front rest line column parts place here in absurd (omega arith)
 
