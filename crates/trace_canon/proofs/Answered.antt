@@ -1,8 +1,7 @@
 -- What a run answers on a log, from what it has taken and written: a lemma for each way in which a run ends.
 use Rattle.std.proofs.Common.{◌≡◌, ℕ, ◌+◌, ◌-◌, ◌<◌, ◌≤◌, true, false, List, ◌++◌, length, arith, refl, ap, ◌∙◌, Option, Ok, Err}
 use Rattle.std.specs.Prelude.{min}
-use Rattle.std.proofs.Math.Nat.{le-min, min-le_left, min-le_right}
-use Rattle.can_log.specs.Log.{LogMeans}
+use Rattle.std.proofs.Math.Nat.{min-le_left}
 use Rattle.can_log.specs.Scanning.{Standing}
 use Rattle.can_log.specs.WholeLog.{StandsAfter}
 use Rattle.can_log.specs.declared.frame.Stamped.{Stamped}
@@ -16,9 +15,9 @@ use Rattle.trace_canon.specs.LinesRead.{counts_last}
 use Rattle.trace_canon.specs.Outcome.{IsReadWhole}
 use Rattle.trace_canon.specs.Answers.{piece_length, WritesFront, WritesEagerly, Answers}
 use Rattle.trace_canon.proofs.Texts.{Begins, begins_again, early_text_stays, early_text_grows}
-use Rattle.trace_canon.proofs.ReadLines.{stands_read, read_more, lines_read_are_there, all_lines_read}
-use Rattle.trace_canon.proofs.ScannedLogs.{IsBadBehind, IsOversizeBehind, bad_line, read_before_place, read_before_oversize, not_refused_at_limit}
-use Rattle.trace_canon.proofs.StoppedRuns.{HaveCome, read_with_those}
+use Rattle.trace_canon.proofs.ReadLines.{stands_read, read_more, lines_read_are_there}
+use Rattle.trace_canon.proofs.ScannedLogs.{IsBadBehind, IsOversizeBehind, bad_line, read_before_oversize, not_refused_at_limit}
+use Rattle.trace_canon.proofs.StoppedRuns.{HaveCome, writes_to_bad, writes_to_limit, writes_to_failed_read, writes_front}
 
 -- ---- refused
 
@@ -28,11 +27,7 @@ pub answers_bad : (limit : ℕ) (settings : Settings) (log : List ℕ) (given li
     → new ≡ old ++ early_text limit settings meanings → Answers limit settings log given (Err (BadLine line column)) old new
 answers_bad limit settings log given line column meanings bytes old new bad few come each wrote = (
   bad_line limit settings log line column meanings bytes bad few each,
-  record {
-    meanings = meanings;
-    read = read_before_place (announces_within limit settings) true (min given settings.max_bytes) log line column meanings bytes bad (le-min come few) each;
-    wrote = wrote;
-  },
+  writes_to_bad (announces_within limit settings) (early_text limit settings) settings log given meanings old new line column bytes bad few come each wrote,
 )
 
 -- a line announces too much, behind lines that take no more than these bytes
@@ -53,59 +48,30 @@ pub answers_limit : (limit : ℕ) (settings : Settings) (log : List ℕ) (given 
     (old new : List ℕ) → StandsAfter front meanings standing → log ≡ front ++ rest → length front ≡ settings.max_bytes → settings.max_bytes < length log
     → settings.max_bytes ≤ given → EachWithin limit settings meanings → new ≡ old ++ early_text limit settings meanings
     → Answers limit settings log given (Err LogLimit) old new
-answers_limit limit settings log given front rest meanings standing old new stands parts full long come each wrote =
-    let count : length front ≡ min given settings.max_bytes = omega arith in (
-      (not_refused_at_limit limit settings log front rest meanings standing stands parts full long each, long),
-      record {
-        meanings = meanings;
-        read = stands_read (announces_within limit settings) true (min given settings.max_bytes) log front rest meanings standing stands parts count each
-            (λ yes short. (let few = min-le_right given settings.max_bytes in omega arith));
-        wrote = wrote;
-      },
-    )
+answers_limit limit settings log given front rest meanings standing old new stands parts full long come each wrote = (
+  (not_refused_at_limit limit settings log front rest meanings standing stands parts full long each, long),
+  writes_to_limit (announces_within limit settings) (early_text limit settings) settings log given meanings old new front rest standing stands parts each wrote full long come,
+)
 
 -- reading failed, and all bytes that were given were taken
 pub answers_read : (limit : ℕ) (settings : Settings) (log : List ℕ) (given : ℕ) (front rest : List ℕ) (meanings : List (Option Stamped)) (standing : Standing)
     (old new : List ℕ) → StandsAfter front meanings standing → log ≡ front ++ rest → length front ≡ given → given ≤ settings.max_bytes
     → EachWithin limit settings meanings → new ≡ old ++ early_text limit settings meanings → Answers limit settings log given (Err Read) old new
-answers_read limit settings log given front rest meanings standing old new stands parts full few each wrote =
-    let count : length front ≡ min given settings.max_bytes = omega arith in (
-      tt,
-      record {
-        meanings = meanings;
-        read = stands_read (announces_within limit settings) false (min given settings.max_bytes) log front rest meanings standing stands parts count each
-            (λ yes short. absurd (cc));
-        wrote = wrote;
-      },
-    )
+answers_read limit settings log given front rest meanings standing old new stands parts full few each wrote = (
+  tt,
+  writes_to_failed_read (announces_within limit settings) (early_text limit settings) settings log given meanings old new front rest standing stands parts each wrote full few,
+)
 
 -- ---- writing failed, or memory was refused
 
 -- what was written begins what is written of lines that have come
-pub writes_front : (limit : ℕ) (settings : Settings) (log : List ℕ) (given : ℕ) (fault : Fault) (meanings : List (Option Stamped)) (written old new : List ℕ)
+pub writes_front_of_come : (limit : ℕ) (settings : Settings) (log : List ℕ) (given : ℕ) (fault : Fault) (meanings : List (Option Stamped)) (written old new : List ℕ)
     → HaveCome (announces_within limit settings) (counts_last fault) (min given settings.max_bytes) log meanings → new ≡ old ++ written
     → Begins written (early_text limit settings meanings) → WritesFront limit settings log given fault old new
-writes_front limit settings log given fault meanings written old new come wrote begins =
-    let read = read_with_those (announces_within limit settings) settings log given fault meanings come in
-    let longer = read.2 in
-    let stays = early_text_stays limit settings meanings longer.0 in
-    let all : Begins (early_text limit settings meanings) (canonical_log_of_lines limit settings read.0) =
-    (stays.0, ap (canonical_log_of_lines limit settings) longer.1 ∙ stays.1) in
-    let front = begins_again written (early_text limit settings meanings) (canonical_log_of_lines limit settings read.0) begins all in
-    record { meanings = read.0; read = read.1; written = written; missing = front.0; wrote = wrote; front = front.1 }
-
--- what was written begins the canonical log of all lines
-pub writes_front_at_end : (limit : ℕ) (settings : Settings) (log : List ℕ) (given : ℕ) (fault : Fault) (meanings : List (Option Stamped)) (written old new : List ℕ)
-    → LogMeans log meanings → length log ≤ min given settings.max_bytes → counts_last fault ≡ true → EachWithin limit settings meanings → new ≡ old ++ written
-    → Begins written (canonical_log_of_lines limit settings meanings) → WritesFront limit settings log given fault old new
-writes_front_at_end limit settings log given fault meanings written old new means few last each wrote begins = record {
-  meanings = meanings;
-  read = all_lines_read (announces_within limit settings) (counts_last fault) (min given settings.max_bytes) log meanings means each last few;
-  written = written;
-  missing = begins.0;
-  wrote = wrote;
-  front = begins.1;
-}
+writes_front_of_come limit settings log given fault meanings written old new come wrote begins =
+    writes_front (announces_within limit settings) (canonical_log_of_lines limit settings) settings log given meanings old new fault written come wrote
+    (λ more. begins_again written (early_text limit settings meanings) (canonical_log_of_lines limit settings (meanings ++ more)) begins
+    (early_text_stays limit settings meanings more))
 
 -- what was written begins with what is written of the lines that had ended before the last piece
 pub writes_eagerly : (limit : ℕ) (settings : Settings) (log : List ℕ) (given : ℕ) (front rest : List ℕ) (meanings : List (Option Stamped)) (standing : Standing)

@@ -45,11 +45,11 @@ use Rattle.trace_canon.specs.declared.ordering.Ordering.{Ordering}
 use Rattle.trace_canon.specs.declared.receiver.Receiver.{Receiver}
 use Rattle.uds_exchange.specs.Meaning.{meaning, flattened}
 use Rattle.trace_canon.proofs.Answered.{answers_bad, answers_oversize, answers_limit, answers_read}
-use Rattle.trace_canon.proofs.Answered.{writes_front, writes_front_at_end, writes_eagerly, answers_accepted, answers_output_limit}
+use Rattle.trace_canon.proofs.Answered.{writes_front_of_come, writes_eagerly, answers_accepted, answers_output_limit}
 use Rattle.trace_canon.proofs.Finished.{text_is_fitting, each_within, oversize_of_one}
 use Rattle.trace_canon.proofs.Receivings.{trace_next}
 use Rattle.trace_canon.proofs.Runs.{TookEvents, StoppedOnEvent, StopsOn, IsRunStart, TookLines, StoppedOnLine, took_nothing, has_taken, has_stopped, known_at_end}
-use Rattle.trace_canon.proofs.StoppedRuns.{bad_in_front, bad_at_end, oversize_stops, have_come}
+use Rattle.trace_canon.proofs.StoppedRuns.{bad_in_front, bad_at_end, oversize_stops, have_come, writes_front_of_all}
 use Rattle.trace_canon.proofs.Texts.{Begins, begins_again, early_text_grows, fitting_log_begins}
 
 -- ---- lines
@@ -97,7 +97,7 @@ module _ (Told ToldNow : Type 0) (settings : Settings) (first now : Writer) (log
       let each = each_more MESSAGE_LIMIT settings meanings what (each_within settings meanings stood.within) one in
       let come = have_come (announces_within MESSAGE_LIMIT settings) settings log given meanings what place each in (
         tt,
-        writes_front MESSAGE_LIMIT settings log given fault.Memory (meanings ++ what ∷ []) (early_text MESSAGE_LIMIT settings meanings) first.written now.written come
+        writes_front_of_come MESSAGE_LIMIT settings log given fault.Memory (meanings ++ what ∷ []) (early_text MESSAGE_LIMIT settings meanings) first.written now.written come
             (early_written meanings stood) (early_text_grows MESSAGE_LIMIT settings meanings (what ∷ [])),
       )
 
@@ -116,7 +116,7 @@ module _ (Told ToldNow : Type 0) (settings : Settings) (first now : Writer) (log
       let since : some.front ≡ early_text MESSAGE_LIMIT settings meanings ++ some.more =
       some.since ∙ ap (λ x. x ++ some.more) (text_is_fitting settings first (early (messages_of_lines MESSAGE_LIMIT settings meanings)) start) in
       let come = have_come (announces_within MESSAGE_LIMIT settings) settings log given meanings what place each in
-      let front = writes_front MESSAGE_LIMIT settings log given fault.Write all_whats some.front first.written now.written come some.wrote (some.rest, text) in
+      let front = writes_front_of_come MESSAGE_LIMIT settings log given fault.Write all_whats some.front first.written now.written come some.wrote (some.rest, text) in
       let each_before = each_front MESSAGE_LIMIT settings meanings (what ∷ []) each in
       let eagerly : WritesEagerly MESSAGE_LIMIT settings log given first.written now.written = elim place [
         | inl (few, stops) ↦
@@ -229,7 +229,7 @@ answers_end Told ToldNow settings first log given meanings (Err end_fault.Write)
     let grows = early_text_grows MESSAGE_LIMIT settings ended.earlier ended.more in
     let begins : Begins (early_text MESSAGE_LIMIT settings ended.earlier) (early_text MESSAGE_LIMIT settings meanings) =
     (grows.0, ap (early_text MESSAGE_LIMIT settings) ended.since ∙ grows.1) in
-    let front = writes_front_at_end MESSAGE_LIMIT settings log given fault.Write meanings some.front first.written written means (le-min (omega arith) short) refl each wrote
+    let front = writes_front_of_all (announces_within MESSAGE_LIMIT settings) (canonical_log_of_lines MESSAGE_LIMIT settings) settings log given meanings first.written written fault.Write some.front means (le-min (omega arith) short) refl each wrote
     (begins_again some.front (fitting settings (canonical_log_of_lines MESSAGE_LIMIT settings meanings)) (canonical_log_of_lines MESSAGE_LIMIT settings meanings) (some.rest, text) fits) in
     let eagerly = writes_eagerly MESSAGE_LIMIT settings log given log [] ended.earlier ended.standing some.front first.written written ended.stands (sym (append-nil log)) (omega arith)
     (each_front MESSAGE_LIMIT settings ended.earlier ended.more (subst (EachWithin MESSAGE_LIMIT settings) ended.since each)) wrote

@@ -1,20 +1,21 @@
--- Where a run over a log stopped, and which lines had come then.
-use Rattle.std.proofs.Common.{◌≡◌, ℕ, ◌+◌, ◌≤◌, Bool, true, List, [], ◌∷◌, ◌++◌, length, take, drop, arith, refl, ap, sym, subst, ◌∙◌, Option, Some, inl, inr}
+-- Where a run over a log stopped, which lines had come then, and what was written of those that were read.
+use Rattle.std.proofs.Common.{◌≡◌, ℕ, ◌+◌, ◌<◌, ◌≤◌, Bool, true, false, List, [], ◌∷◌, ◌++◌, length, take, drop, arith, refl, ap, sym, subst, ◌∙◌, Option, Some, inl, inr}
 use Rattle.std.proofs.Common.{append-nil, append_assoc, length-append, length-take}
 use Rattle.std.specs.Prelude.{min}
-use Rattle.std.proofs.Math.Nat.{le-min}
+use Rattle.std.proofs.Math.Nat.{le-min, min-le_right}
 use Rattle.std.proofs.lemmas.List.{take-append-drop}
 use Rattle.can_log.specs.Log.{log_lines, LinesMean, LogMeans, ended_lines}
 use Rattle.can_log.specs.Scanning.{Standing}
 use Rattle.can_log.specs.WholeLog.{StandsAfter, IsRefusedBehind, IsRefusedWithin}
 use Rattle.can_log.specs.declared.frame.Stamped.{Stamped}
 use Rattle.trace_canon.specs.declared.fault.Fault.{Fault}
+use Rattle.trace_canon.specs.declared.fault.Fault.TheVariants as fault
 use Rattle.trace_canon.specs.Settings.{Settings}
 use Rattle.trace_canon.specs.Refusal.{oversize, EachPasses, EachWithin}
-use Rattle.trace_canon.specs.LinesRead.{counts_last, AreGiven, AreReadBefore}
+use Rattle.trace_canon.specs.LinesRead.{counts_last, AreGiven, WritesTextOfRead, WritesFrontOfRead}
 use Rattle.trace_canon.specs.Reading.{RefusesIn, StopsIn, StopsWithin}
-use Rattle.trace_canon.proofs.ReadLines.{stands_lines, read_begins, lines_read_are_there}
-use Rattle.trace_canon.proofs.ScannedLogs.{IsBadBehind, IsOversizeBehind, oversize_taken, oversize_last}
+use Rattle.trace_canon.proofs.ReadLines.{stands_lines, stands_read, read_begins, lines_read_are_there, all_lines_read}
+use Rattle.trace_canon.proofs.ScannedLogs.{IsBadBehind, IsOversizeBehind, oversize_taken, oversize_last, read_before_place}
 use Rattle.trace_canon.proofs.Texts.{Begins}
 
 -- ---- a refused place
@@ -105,11 +106,61 @@ have_come passes settings log given meanings what (inl (few, place)) each =
 have_come passes settings log given meanings what (inr (short, all, stops)) each =
     all_have_come passes (min given settings.max_bytes) log (meanings ++ what ∷ []) stops.means (le-min (omega arith) short) each
 
--- the lines that were read before a fault begin with those that had come
-pub read_with_those : (passes : Option Stamped → Bool) (settings : Settings) (log : List ℕ) (given : ℕ) (fault : Fault) (meanings : List (Option Stamped))
-    → HaveCome passes (counts_last fault) (min given settings.max_bytes) log meanings
-    → (all : List (Option Stamped)) × AreReadBefore passes settings log given fault all × Begins meanings all
-read_with_those passes settings log given fault meanings come =
-    let count = min given settings.max_bytes in
-    let read = lines_read_are_there passes (counts_last fault) count log in
-    (read.0, read.1, read_begins passes (counts_last fault) count log read.0 meanings come.lines come.later read.1 come.parts come.means come.each come.given)
+-- ---- what was written of the lines read
+
+module _ (passes : Option Stamped → Bool) (text : List (Option Stamped) → List ℕ) (settings : Settings) (log : List ℕ) (given : ℕ) (meanings : List (Option Stamped))
+    (old new : List ℕ) where
+  -- up to a refused place
+  pub writes_to_bad : (line column bytes : ℕ) → IsBadBehind log line column meanings bytes → bytes ≤ settings.max_bytes → bytes ≤ given → EachPasses passes meanings
+      → new ≡ old ++ text meanings → WritesTextOfRead passes text settings log given (fault.BadLine line column) old new
+  writes_to_bad line column bytes bad few come each wrote = record {
+    meanings = meanings;
+    read = read_before_place passes true (min given settings.max_bytes) log line column meanings bytes bad (le-min come few) each;
+    wrote = wrote;
+  }
+
+  module _ (front rest : List ℕ) (standing : Standing) (stands : StandsAfter front meanings standing) (parts : log ≡ front ++ rest) (each : EachPasses passes meanings)
+      (wrote : new ≡ old ++ text meanings) where
+    -- up to the limit, of a log that is longer
+    pub writes_to_limit : length front ≡ settings.max_bytes → settings.max_bytes < length log → settings.max_bytes ≤ given
+        → WritesTextOfRead passes text settings log given fault.LogLimit old new
+    writes_to_limit full long come =
+        let count : length front ≡ min given settings.max_bytes = omega arith in
+        record {
+          meanings = meanings;
+          read = stands_read passes true (min given settings.max_bytes) log front rest meanings standing stands parts count each
+              (λ yes short. (let few = min-le_right given settings.max_bytes in omega arith));
+          wrote = wrote;
+        }
+
+    -- up to a failed read, of all bytes that were given
+    pub writes_to_failed_read : length front ≡ given → given ≤ settings.max_bytes → WritesTextOfRead passes text settings log given fault.Read old new
+    writes_to_failed_read full few =
+        let count : length front ≡ min given settings.max_bytes = omega arith in
+        record {
+          meanings = meanings;
+          read = stands_read passes false (min given settings.max_bytes) log front rest meanings standing stands parts count each (λ yes short. absurd (cc));
+          wrote = wrote;
+        }
+
+  -- what was written begins the text of each longer list of lines than those that had come
+  pub writes_front : (fault : Fault) (written : List ℕ) → HaveCome passes (counts_last fault) (min given settings.max_bytes) log meanings → new ≡ old ++ written
+      → ((more : List (Option Stamped)) → Begins written (text (meanings ++ more))) → WritesFrontOfRead passes text settings log given fault old new
+  writes_front fault written come wrote begins =
+      let count = min given settings.max_bytes in
+      let read = lines_read_are_there passes (counts_last fault) count log in
+      let longer = read_begins passes (counts_last fault) count log read.0 meanings come.lines come.later read.1 come.parts come.means come.each come.given in
+      let front = begins longer.0 in
+      record { meanings = read.0; read = read.1; written = written; missing = front.0; wrote = wrote; front = ap text longer.1 ∙ front.1 }
+
+  -- it begins the text of all lines of the log
+  pub writes_front_of_all : (fault : Fault) (written : List ℕ) → LogMeans log meanings → length log ≤ min given settings.max_bytes → counts_last fault ≡ true
+      → EachPasses passes meanings → new ≡ old ++ written → Begins written (text meanings) → WritesFrontOfRead passes text settings log given fault old new
+  writes_front_of_all fault written means few last each wrote begins = record {
+    meanings = meanings;
+    read = all_lines_read passes (counts_last fault) (min given settings.max_bytes) log meanings means each last few;
+    written = written;
+    missing = begins.0;
+    wrote = wrote;
+    front = begins.1;
+  }

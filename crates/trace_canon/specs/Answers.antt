@@ -9,7 +9,7 @@ use Rattle.trace_canon.specs.Settings.{Settings}
 use Rattle.trace_canon.specs.Messages.{HasMeaning}
 use Rattle.trace_canon.specs.CanonicalLog.{canonical_log_of_lines, fitting, early_text}
 use Rattle.trace_canon.specs.Refusal.{Refusal, bad_line, oversize_message, long_log, long_canonical_log, announces_within}
-use Rattle.trace_canon.specs.LinesRead.{AreReadBefore}
+use Rattle.trace_canon.specs.LinesRead.{AreReadBefore, WritesTextOfRead, WritesFrontOfRead}
 use Rattle.trace_canon.specs.Outcome.{Accepted, IsReadWhole, IsOutcome}
 
 -- the most bytes that one read asks for
@@ -17,19 +17,12 @@ abbrev pub piece_length : ℕ
 piece_length = 4096
 
 -- What was written is exactly the text of the messages whose place is known from the lines read before the fault.
-pub record WritesEarly (limit : ℕ) (settings : Settings) (log : List ℕ) (given : ℕ) (fault : Fault) (old new : List ℕ) : Type 0 where
-  pub meanings : List (Option Stamped)
-  pub read : AreReadBefore (announces_within limit settings) settings log given fault meanings
-  pub wrote : new ≡ old ++ early_text limit settings meanings
+abbrev pub WritesEarly : ℕ → Settings → List ℕ → ℕ → Fault → List ℕ → List ℕ → Type 0
+WritesEarly limit settings = WritesTextOfRead (announces_within limit settings) (early_text limit settings) settings
 
 -- What was written is a front of the canonical log of the lines read before the fault.
-pub record WritesFront (limit : ℕ) (settings : Settings) (log : List ℕ) (given : ℕ) (fault : Fault) (old new : List ℕ) : Type 0 where
-  pub meanings : List (Option Stamped)
-  pub read : AreReadBefore (announces_within limit settings) settings log given fault meanings
-  pub written : List ℕ
-  pub missing : List ℕ
-  pub wrote : new ≡ old ++ written
-  pub front : canonical_log_of_lines limit settings meanings ≡ written ++ missing
+abbrev pub WritesFront : ℕ → Settings → List ℕ → ℕ → Fault → List ℕ → List ℕ → Type 0
+WritesFront limit settings = WritesFrontOfRead (announces_within limit settings) (canonical_log_of_lines limit settings) settings
 
 -- What was written begins with the text of the messages whose place is known from the lines that had ended when the last
 -- piece was asked for.

@@ -1,4 +1,4 @@
--- What a call leaves that gathers a text in a block, to be written to a target, or that writes a text.
+-- Devices of proof: what a call leaves that gathers a text in a block, to be written to a target, or that writes a text.
 use Rattle.std.specs.Prelude.{◌≡◌, ℕ, ◌+◌, List, ◌++◌, Result, MatchResult}
 use Rattle.trace_io.specs.Written.{HasWritten}
 use Rattle.trace_io.specs.declared.device.Target.{Ghosts}
