@@ -97,8 +97,19 @@ impl Scanner {
         requires { self.old.taken + length piece.now ≤ 2 ^ 62 }
         ensures answer { Scans self.old piece.now result self.new }
     {
+        let mut answer = Scan::NeedMore;
+        self.scan_into(piece, &mut answer);
+        answer
+    }
+
+    /// The same, over an earlier answer: a frame is large, and where a caller keeps one answer for all lines it is not copied.
+    pub fn scan_into(&mut self, piece: &[u8], answer: &mut Scan)
+        requires { self.old.taken + length piece.now ≤ 2 ^ 62 }
+        ensures answer { Scans self.old piece.now answer.new self.new }
+    {
         if let Some(place) = self.refused {
-            return bad(place);
+            *answer = bad(place);
+            return;
         }
         if self.line.is_empty() {
             // The way of most lines: the frame is made here, where it is answered, and copied nowhere.
@@ -108,17 +119,18 @@ impl Scanner {
                 let used = piece.len() - rest.len();
                 self.lines += 1;
                 self.taken += used as u64;
-                return Scan::Line {
+                *answer = Scan::Line {
                     used,
                     line: self.lines,
                     what: Some(plain_stamped(fields, data)),
                 };
+                return;
             }
         }
-        self.scan_any(piece)
+        *answer = self.scan_any(piece);
     }
 
-    /// The same for a line of any form, and for one that is cut. It is separate, so that `scan` makes a frame at one place alone.
+    /// The same for a line of any form, and for one that is cut. It is separate, so that `scan_into` makes a frame at one place alone.
     #[inline(never)]
     fn scan_any(&mut self, piece: &[u8]) -> Scan
         requires { self.old.taken + length piece.now ≤ 2 ^ 62 }

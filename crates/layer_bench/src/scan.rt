@@ -30,12 +30,13 @@ pub(crate) fn sum_of_lines<R: Read>(alloc: Global, log: &mut R) -> io::Result<u6
 fn sum_of_piece(scanner: &mut Scanner, piece: &[u8]) -> u64 {
     let mut rest = piece;
     let mut sum = 0u64;
+    let mut answer = Scan::NeedMore;
     for _ in 0..piece.len() {
         if scanner.taken() > MOST_TAKEN || rest.len() as u64 > MOST_TAKEN {
             break;
         }
-        // As in the program, the answer stays where the scanner made it.
-        let answer = scanner.scan(rest);
+        // As in the program, each answer is made over the one before it.
+        scanner.scan_into(rest, &mut answer);
         let Scan::Line { used, what, .. } = &answer else {
             break;
         };

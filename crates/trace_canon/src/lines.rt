@@ -112,9 +112,11 @@ fn take_lines<T: LineTaker>(
         → T.took start meanings (taker.old, device.old) → ReadsPiece T.took T.stopped start meanings bytes piece.now result scanner.new (taker.new, device.new) }
 {
     let mut rest = piece;
+    // A frame is large: each answer is made over the one before it.
+    let mut answer = Scan::NeedMore;
     'lines: while !rest.is_empty() {
-        // A frame is large: the answer stays where the scanner made it.
-        match &scanner.scan(rest) {
+        scanner.scan_into(rest, &mut answer);
+        match &answer {
             Scan::Line { used, line, what } => {
                 if let Err(fault) = taker.take(device, *line, what) {
                     return Err(LineFault::Taker(fault));

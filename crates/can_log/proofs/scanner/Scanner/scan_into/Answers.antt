@@ -4,7 +4,7 @@ use Rattle.can_log.specs.Plain.{spelling_of}
 use Rattle.can_log.proofs.Lists.{nil_of}
 use Rattle.can_log.proofs.LineFeeds.{line_clean}
 use Rattle.can_log.proofs.ScannerSteps.{scan_means, none_seen}
-use Rattle.can_log.proofs.scanner.Scanner.scan.Goals as goal
+use Rattle.can_log.proofs.scanner.Scanner.scan_into.Goals as goal
 
 pub returns-in-Some-plain_line : goal.returns-in-Some-plain_line
 returns-in-Some-plain_line c =
