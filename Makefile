@@ -12,7 +12,7 @@ BASH := $(PREFIX)/share/bash-completion/completions/udsnorm
 ZSH := $(PREFIX)/share/zsh/site-functions/_udsnorm
 FISH := $(PREFIX)/share/fish/vendor_completions.d/udsnorm.fish
 
-.PHONY: build run check test install install-built uninstall dist deb interop bench
+.PHONY: build run check attack test install install-built uninstall dist deb interop bench
 
 # Proves the program and what it stands on, and builds it. It says when it starts and when it ends on standard error; what
 # `rt` says is in a file, and shown where the build fails.
@@ -36,6 +36,11 @@ run: build
 # What a change of CRATE touches, the quickest first: a line for each step, up to the first that fails.
 check:
 	@scripts/check $(CRATE)
+
+# Tries the wrong bodies of attacks/, those of CRATE alone where it is given: the prover has to refuse each. About an hour of
+# one processor in all, and no part of `test`, which tries those of must-fail/.
+attack:
+	@scripts/attack $(CRATE)
 
 # The tests of the built program and of the documents, random and hostile logs through it, each growth of memory refused in
 # turn, and then the gate: every proof from nothing, every test, every wrong body refused.

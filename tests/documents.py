@@ -6,7 +6,8 @@
 - the picture of the crates is the one that scripts/draw-crates draws of crates.txt, and names each crate and dependency;
 - each link of each document to a file of the repository, and to a heading in it, leads somewhere;
 - the source files that documents name are there;
-- the table of must-fail edits in docs/proved.md is the one that scripts/must-fail-counts prints;
+- the table of wrong bodies in docs/proved.md is the one that scripts/must-fail-counts prints;
+- each wrong body of must-fail/ and attacks/ can be applied: what it takes away stands once;
 - docs/definitions.md names each file of definitions, and each definition stands in the file that it names;
 - it has each definition that a public function's contract or a law cites.
 
@@ -133,7 +134,33 @@ def named_files(cases):
 def counts(cases):
     table = subprocess.run([TOP / "scripts" / "must-fail-counts"], check=True, capture_output=True, text=True, timeout=60).stdout
     found = table in (DOCS / "proved.md").read_text()
-    cases.report("the table of must-fail edits is that of the files", [] if found else ["put in what scripts/must-fail-counts prints"])
+    cases.report("the table of wrong bodies is that of the files", [] if found else ["put in what scripts/must-fail-counts prints"])
+
+
+def not_there_once(edit, crate):
+    """What a wrong body takes away and doesn't stand once in its file, as it is after what the body changed before."""
+    texts, wrong, path, old = {}, [], None, None
+    for kind, rest in re.findall(r"^(file|old|new): ?(.*)$", edit.read_text(), re.M):
+        if kind == "file":
+            path = crate / rest
+            texts.setdefault(path, path.read_text())
+        elif kind == "old":
+            old = rest
+        else:
+            wrong += [old] if texts[path].count(old) != 1 else []
+            texts[path] = texts[path].replace(old, rest)
+    return wrong
+
+
+def wrong_bodies(cases):
+    for crate in crates():
+        folder = TOP / "crates" / crate
+        edits = [*(folder / "must-fail").glob("*.edit"), *(TOP / "attacks" / crate).glob("*.edit")]
+        wrong = [f"{edit.name}: {old}" for edit in sorted(edits) for old in not_there_once(edit, folder)]
+        names = [edit.name for edit in edits]
+        wrong += [f"{name} stands twice" for name in sorted(set(names)) if names.count(name) > 1]
+        if edits:
+            cases.report(f"the wrong bodies of {crate} can be applied", wrong)
 
 
 def definition_rows(page):
@@ -204,7 +231,7 @@ def main():
     if len(sys.argv) != 1:
         sys.exit(__doc__)
     cases = Cases(None)
-    for test in [picture, links, named_files, counts, definitions, citations]:
+    for test in [picture, links, named_files, counts, wrong_bodies, definitions, citations]:
         test(cases)
     cases.end()
 
