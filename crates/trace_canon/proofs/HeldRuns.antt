@@ -24,6 +24,7 @@ use Rattle.trace_canon.specs.Messages.{meaning_of_lines}
 use Rattle.trace_canon.specs.Summing.{summary_of}
 use Rattle.trace_canon.specs.Answers.{TellsOutcome}
 use Rattle.trace_canon.specs.Reading.{Took, Stopped, StopsWithin, ReadsLog}
+use Rattle.trace_canon.specs.Refusal.{EachWithin}
 use Rattle.trace_canon.specs.Ordering.{AnnouncesWithin}
 use Rattle.trace_canon.specs.Holding.{Holds, StopsHolding}
 use Rattle.trace_canon.specs.Held.{fault_of, EndsHeld, FindsMeaning}
@@ -107,6 +108,10 @@ module _ (settings : Settings) (start now : Receiver Holding × Unit {0}) (begun
   -- what the lines that were taken mean was held
   pub held : (meanings : List (Option Stamped)) → TookLines HeldEvents start meanings now → Holds (trace settings meanings) now.0.taker.pairing
   held meanings lines = has_taken HeldEvents settings start now begun meanings lines begun.fresh
+
+  -- none of them announces too much
+  pub within : (meanings : List (Option Stamped)) → TookLines HeldEvents start meanings now → EachWithin MESSAGE_LIMIT settings meanings
+  within meanings lines = each_within settings meanings (held meanings lines).within
 
   halts : (meanings : List (Option Stamped)) (what : Option Stamped) (why : HoldingFault) → StoppedOnLine StoppedHolding start meanings what why now
       → HaltsHolding settings meanings what why

@@ -19,6 +19,7 @@ pub mod SomeOutcome
 pub mod Texts
 pub mod ReadLines
 pub mod ScannedLogs
+pub mod LastReads
 pub mod StoppedRuns
 pub mod Answered
 pub mod Sendable

@@ -296,6 +296,10 @@ module _ {W : Type 0} (target : Ghosts W) where
         let stops = has_stopped StoppedOrdering settings start now begun meanings what why line in
         (stops.0, stops.1, stops.2, stops.3, (stops.4 begun.fresh.stands).0)
 
+    -- none of the lines that were taken announces too much
+    pub within : (meanings : List (Option Stamped)) → TookLines OrderedEvents start meanings now → EachWithin MESSAGE_LIMIT settings meanings
+    within meanings lines = each_within settings meanings (gives meanings lines).within
+
     -- what it answers on a fault of the lines
     pub answers_of_lines : (A : Type 0) (log : List ℕ) (given : ℕ) → target.tells start.1 → (why : LineFault OrderingFault) (m : ℕ) → m ≡ settings.max_bytes
         → ReadsLog (TookLines OrderedEvents) (StoppedOnLine StoppedOrdering) start {A = A} m log given (Err why) now

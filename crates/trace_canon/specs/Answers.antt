@@ -1,5 +1,5 @@
 -- What is answered on a log, and what is then written.
-use Rattle.std.specs.Prelude.{◌≡◌, ℕ, ◌-◌, List, ◌++◌, Option, Some, None, IfSome, Result, Ok, Err}
+use Rattle.std.specs.Prelude.{◌≡◌, ℕ, ◌-◌, ◌<◌, List, ◌++◌, Option, Some, None, IfSome, Result, Ok, Err}
 use Rattle.can_log.specs.declared.frame.Stamped.{Stamped}
 use Rattle.trace_canon.specs.declared.fault.Fault.{Fault}
 use Rattle.trace_canon.specs.declared.fault.Fault.TheVariants.{BadLine, Oversize, LogLimit, OutputLimit, Read, Write, Memory}
@@ -15,6 +15,12 @@ use Rattle.trace_canon.specs.Outcome.{Accepted, IsReadWhole, IsOutcome}
 -- the most bytes that one read asks for
 abbrev pub piece_length : ℕ
 piece_length = 4096
+
+-- At each read this held of the bytes that had been given by then, as many as the number says. `given` were given in all, so
+-- all but one piece before the last read, and all of them where a read failed: that one was the last, and gave nothing.
+pub record ReadsWhile (Holds : ℕ → Type 0) (given failures failures_now : ℕ) : Type 0 where
+  pub before_piece : Holds (given - piece_length)
+  pub before_failure : failures < failures_now → Holds given
 
 -- What was written is exactly the text of the messages whose place is known from the lines read before the fault.
 abbrev pub WritesEarly : ℕ → Settings → List ℕ → ℕ → Fault → List ℕ → List ℕ → Type 0

@@ -1,9 +1,11 @@
 //! Whether two logs mean the same.
-ghost use Rattle.std.specs.Prelude.{◌≡◌, ◌≢◌, ℕ, ◌+◌, ◌≤◌, List, IfOk, IfErr, Err};
+ghost use Rattle.std.specs.Prelude.{◌≡◌, ◌≢◌, ℕ, ◌+◌, ◌-◌, ◌≤◌, List, IfOk, IfErr, Err};
 ghost use Rattle.isotp_receive.specs.declared.TheConstants.{MESSAGE_LIMIT};
+ghost use Rattle.trace_canon.specs.Answers.{ReadsWhile};
 ghost use Rattle.trace_canon.specs.Compared.{Compares, ComparesTexts, fault_in};
 ghost use Rattle.trace_canon.specs.declared.fault.Fault.{Fault as FaultValue};
 ghost use Rattle.trace_canon.specs.Failing.{FailedIf};
+ghost use Rattle.trace_canon.specs.Refusal.{IsNotRefusedWithin};
 ghost use Rattle.trace_io.specs.Counted.{AreLowCounts};
 ghost use Rattle.trace_io.specs.Stream.{BeginsAs};
 
@@ -45,11 +47,19 @@ pub fn compare<A: Source, B: Source>(
     // Where the first log has no meaning, nothing of the second is read.
     ensures unread { (fault : FaultValue) → result ≡ Err (CompareFault.Left fault) → right.new ≡ right.old }
 
-    // How much is taken.
+    // Nothing is asked for past what refuses a log: at each read nothing that had been given did.
+    ensures left_near { A.tells left.old → (one : List ℕ) → BeginsAs (A.front left.old) (config.now.max_bytes + 1) one
+        → ReadsWhile (IsNotRefusedWithin MESSAGE_LIMIT config.now one) (A.given left.new - A.given left.old) (A.failures left.old) (A.failures left.new) }
+    ensures right_near { B.tells right.old → (other : List ℕ) → BeginsAs (B.front right.old) (config.now.max_bytes + 1) other
+        → ReadsWhile (IsNotRefusedWithin MESSAGE_LIMIT config.now other) (B.given right.new - B.given right.old) (B.failures right.old) (B.failures right.new) }
+
+    // How much is taken. Each read of a log but the last gives a byte.
     ensures left_taken { A.given left.new ≤ A.given left.old + config.now.max_bytes + 1 }
     ensures left_calls { A.reads left.new ≤ A.reads left.old + config.now.max_bytes + 1 }
+    ensures left_progress { A.reads left.new ≤ A.reads left.old + (A.given left.new - A.given left.old) + 1 }
     ensures right_taken { B.given right.new ≤ B.given right.old + config.now.max_bytes + 1 }
     ensures right_calls { B.reads right.new ≤ B.reads right.old + config.now.max_bytes + 1 }
+    ensures right_progress { B.reads right.new ≤ B.reads right.old + (B.given right.new - B.given right.old) + 1 }
 
     // A fault of a source comes exactly where that source failed, and nothing is written.
     ensures left_fault { FailedIf (CompareFault.Left Fault.Read) result (A.failures left.old) (A.failures left.new) }

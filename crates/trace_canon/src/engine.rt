@@ -14,7 +14,8 @@ ghost use Rattle.trace_canon.specs.Receiving.{Receives};
 ghost use Rattle.trace_canon.specs.Ordering.{Orders};
 ghost use Rattle.trace_canon.specs.Finishing.{IsFirst, Finishes, answer_of, fault_of};
 ghost use Rattle.isotp_receive.specs.declared.TheConstants.{MESSAGE_LIMIT};
-ghost use Rattle.trace_canon.specs.Answers.{Answers};
+ghost use Rattle.trace_canon.specs.Answers.{Answers, ReadsWhile};
+ghost use Rattle.trace_canon.specs.Refusal.{IsNotRefusedWithin};
 ghost use Rattle.trace_canon.specs.Failing.{FailedIf};
 ghost use Rattle.trace_io.specs.Counted.{IsLowCount, AreLowCounts};
 ghost use Rattle.trace_io.specs.Stream.{BeginsAs};
@@ -60,9 +61,14 @@ pub fn normalise<R: Source, W: Target>(
     ensures certificate { R.tells reader.old → W.tells writer.old → (log : List ℕ)
         → BeginsAs (R.front reader.old) (config.now.max_bytes + 1) log → IfOk result (λ summary. Certifies MESSAGE_LIMIT config.now log summary) }
 
-    // How much is taken.
+    // Nothing is asked for past what refuses the log: at each read nothing that had been given did.
+    ensures near { R.tells reader.old → (log : List ℕ) → BeginsAs (R.front reader.old) (config.now.max_bytes + 1) log
+        → ReadsWhile (IsNotRefusedWithin MESSAGE_LIMIT config.now log) (R.given reader.new - R.given reader.old) (R.failures reader.old) (R.failures reader.new) }
+
+    // How much is taken. Each read but the last gives a byte.
     ensures taken { R.given reader.new ≤ R.given reader.old + config.now.max_bytes + 1 }
     ensures calls { R.reads reader.new ≤ R.reads reader.old + config.now.max_bytes + 1 }
+    ensures progress { R.reads reader.new ≤ R.reads reader.old + (R.given reader.new - R.given reader.old) + 1 }
 
     // A fault of a device comes exactly where the device failed.
     ensures read_fault { FailedIf Fault.Read result (R.failures reader.old) (R.failures reader.new) }

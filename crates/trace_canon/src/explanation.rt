@@ -2,11 +2,13 @@
 ghost use Rattle.std.specs.Prelude.{◌≡◌, ℕ, ◌+◌, ◌-◌, ◌^◌, ◌≤◌, List, Option, OnOk, IfOk};
 ghost use Rattle.can_log.specs.declared.frame.Stamped.{Stamped as StampedValue};
 ghost use Rattle.isotp_receive.specs.declared.TheConstants.{MESSAGE_LIMIT};
+ghost use Rattle.trace_canon.specs.Answers.{ReadsWhile};
 ghost use Rattle.trace_canon.specs.ExplainAnswers.{AnswersExplain};
 ghost use Rattle.trace_canon.specs.Explaining.{Explains, Ends, explaining_fault, explaining_answer};
 ghost use Rattle.trace_canon.specs.Failing.{FailedIf};
 ghost use Rattle.trace_canon.specs.Laws.{Certifies};
 ghost use Rattle.trace_canon.specs.Receiving.{Receives};
+ghost use Rattle.trace_canon.specs.Refusal.{HasNoBadPlaceWithin};
 ghost use Rattle.trace_canon.specs.Settings.{Settings};
 ghost use Rattle.trace_canon.specs.Trace.{trace};
 ghost use Rattle.trace_io.specs.Counted.{IsLowCount, AreLowCounts};
@@ -48,9 +50,14 @@ pub fn explain<R: Source, W: Target>(
         → BeginsAs (R.front reader.old) (config.now.max_bytes + 1) log
         → IfOk result (Certifies MESSAGE_LIMIT config.now log) }
 
-    // How much is taken.
+    // Nothing is asked for past a refused place: at each read there was none in what had been given.
+    ensures near { R.tells reader.old → (log : List ℕ) → BeginsAs (R.front reader.old) (config.now.max_bytes + 1) log
+        → ReadsWhile (HasNoBadPlaceWithin log) (R.given reader.new - R.given reader.old) (R.failures reader.old) (R.failures reader.new) }
+
+    // How much is taken. Each read but the last gives a byte.
     ensures taken { R.given reader.new ≤ R.given reader.old + config.now.max_bytes + 1 }
     ensures calls { R.reads reader.new ≤ R.reads reader.old + config.now.max_bytes + 1 }
+    ensures progress { R.reads reader.new ≤ R.reads reader.old + (R.given reader.new - R.given reader.old) + 1 }
 
     // A fault of a device comes exactly where the device failed.
     ensures read_fault { FailedIf Fault.Read result (R.failures reader.old) (R.failures reader.new) }

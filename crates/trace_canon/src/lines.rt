@@ -4,7 +4,8 @@ ghost use Rattle.can_log.specs.declared.frame.Stamped.{Stamped as StampedValue};
 ghost use Rattle.can_log.specs.WholeLog.{StandsAfter};
 ghost use Rattle.trace_io.specs.Counted.{AreLowCounts};
 ghost use Rattle.trace_io.specs.Stream.{BeginsAs};
-ghost use Rattle.trace_canon.specs.Reading.{ReadsPiece, ReadsEnd, ReadsLog, IsOfLines, CountsRead, TakesSome};
+ghost use Rattle.trace_canon.specs.Answers.{ReadsWhile};
+ghost use Rattle.trace_canon.specs.Reading.{ReadsPiece, ReadsEnd, ReadsLog, IsOfLines, CountsRead, TakesFront, TakesSome};
 
 use can_log::{Scan, Scanner, Stamped};
 use trace_io::{DeviceFault, Source};
@@ -66,10 +67,15 @@ pub(crate) fn read_lines<R: Source, T: LineTaker>(
         → (start : T × T.Device) → T.took start [] (taker.old, device.old)
         → ReadsLog T.took T.stopped start max_bytes log (R.given reader.new - R.given reader.old) result (taker.new, device.new) }
 
+    ensures near { R.tells reader.old → (log : List ℕ) → BeginsAs (R.front reader.old) (max_bytes + 1) log
+        → (start : T × T.Device) → T.took start [] (taker.old, device.old)
+        → ReadsWhile (TakesFront T.took start log) (R.given reader.new - R.given reader.old) (R.failures reader.old) (R.failures reader.new) }
+
     ensures takes { (start : T × T.Device) → T.took start [] (taker.old, device.old) → TakesSome T.took T.stopped start result (taker.new, device.new) }
 
     ensures given { R.given reader.new ≤ R.given reader.old + max_bytes + 1 }
     ensures reads { R.reads reader.new ≤ R.reads reader.old + max_bytes + 1 }
+    ensures progress { R.reads reader.new ≤ R.reads reader.old + (R.given reader.new - R.given reader.old) + 1 }
     ensures failures { MatchResult result (λ _. R.failures reader.new ≡ R.failures reader.old)
         (λ fault. CountsRead fault (R.failures reader.old) (R.failures reader.new)) }
 {

@@ -1,8 +1,10 @@
 //! The items of a log, listed.
-ghost use Rattle.std.specs.Prelude.{◌≡◌, ◌≢◌, ℕ, ◌+◌, ◌≤◌, List, OnOk, IfErr};
+ghost use Rattle.std.specs.Prelude.{◌≡◌, ◌≢◌, ℕ, ◌+◌, ◌-◌, ◌≤◌, List, OnOk, IfErr};
 ghost use Rattle.isotp_receive.specs.declared.TheConstants.{MESSAGE_LIMIT};
+ghost use Rattle.trace_canon.specs.Answers.{ReadsWhile};
 ghost use Rattle.trace_canon.specs.Failing.{FailedIf};
 ghost use Rattle.trace_canon.specs.Listed.{Lists};
+ghost use Rattle.trace_canon.specs.Refusal.{IsNotRefusedWithin};
 ghost use Rattle.trace_io.specs.Counted.{IsLowCount, AreLowCounts};
 ghost use Rattle.trace_io.specs.Stream.{BeginsAs};
 
@@ -35,9 +37,14 @@ pub fn list<R: Source, W: Target>(
     // Where there is no such list, the target is left alone.
     ensures unwritten { IfErr result (λ fault. fault ≢ Fault.Write → writer.new ≡ writer.old) }
 
-    // How much is taken.
+    // Nothing is asked for past what refuses the log: at each read nothing that had been given did.
+    ensures near { R.tells reader.old → (log : List ℕ) → BeginsAs (R.front reader.old) (config.now.max_bytes + 1) log
+        → ReadsWhile (IsNotRefusedWithin MESSAGE_LIMIT config.now log) (R.given reader.new - R.given reader.old) (R.failures reader.old) (R.failures reader.new) }
+
+    // How much is taken. Each read but the last gives a byte.
     ensures taken { R.given reader.new ≤ R.given reader.old + config.now.max_bytes + 1 }
     ensures calls { R.reads reader.new ≤ R.reads reader.old + config.now.max_bytes + 1 }
+    ensures progress { R.reads reader.new ≤ R.reads reader.old + (R.given reader.new - R.given reader.old) + 1 }
 
     // A fault of a device comes exactly where the device failed.
     ensures read_fault { FailedIf Fault.Read result (R.failures reader.old) (R.failures reader.new) }

@@ -1,10 +1,11 @@
 //! What a log means.
-ghost use Rattle.std.specs.Prelude.{◌≡◌, ◌≢◌, ℕ, ◌+◌, ◌^◌, ◌<◌, ◌≤◌, List, length, Option, OnOk, IfErr};
+ghost use Rattle.std.specs.Prelude.{◌≡◌, ◌≢◌, ℕ, ◌+◌, ◌-◌, ◌^◌, ◌<◌, ◌≤◌, List, length, Option, OnOk, IfErr};
 ghost use Rattle.can_log.specs.declared.frame.Stamped.{Stamped};
 ghost use Rattle.isotp_receive.specs.declared.TheConstants.{MESSAGE_LIMIT};
 ghost use Rattle.trace_canon.specs.Settings.{Settings, AreSettings};
 ghost use Rattle.trace_canon.specs.Trace.{trace};
-ghost use Rattle.trace_canon.specs.Answers.{GivesMeaning};
+ghost use Rattle.trace_canon.specs.Answers.{ReadsWhile, GivesMeaning};
+ghost use Rattle.trace_canon.specs.Refusal.{IsNotRefusedWithin};
 ghost use Rattle.trace_canon.specs.Failing.{FailedIf};
 ghost use Rattle.trace_canon.specs.Receiving.{Receives};
 ghost use Rattle.trace_canon.specs.Holding.{Holds};
@@ -38,9 +39,14 @@ pub fn meaning_of<R: Source>(
     ensures answer { R.tells reader.old → (log : List ℕ)
         → BeginsAs (R.front reader.old) (config.now.max_bytes + 1) log → GivesMeaning MESSAGE_LIMIT config.now log result }
 
-    // How much is taken.
+    // Nothing is asked for past what refuses the log: at each read nothing that had been given did.
+    ensures near { R.tells reader.old → (log : List ℕ) → BeginsAs (R.front reader.old) (config.now.max_bytes + 1) log
+        → ReadsWhile (IsNotRefusedWithin MESSAGE_LIMIT config.now log) (R.given reader.new - R.given reader.old) (R.failures reader.old) (R.failures reader.new) }
+
+    // How much is taken. Each read but the last gives a byte.
     ensures taken { R.given reader.new ≤ R.given reader.old + config.now.max_bytes + 1 }
     ensures calls { R.reads reader.new ≤ R.reads reader.old + config.now.max_bytes + 1 }
+    ensures progress { R.reads reader.new ≤ R.reads reader.old + (R.given reader.new - R.given reader.old) + 1 }
 
     // A fault of the source comes exactly where the source failed, and nothing is written.
     ensures read_fault { FailedIf Fault.Read result (R.failures reader.old) (R.failures reader.new) }
@@ -66,9 +72,12 @@ pub(crate) fn read_meaning<R: Source>(
     requires reader { AreLowCounts (R.reads reader.old) (R.given reader.old) (R.failures reader.old) }
     ensures answer { R.tells reader.old → (log : List ℕ)
         → BeginsAs (R.front reader.old) (config.now.max_bytes + 1) log → FindsMeaning MESSAGE_LIMIT config.now log result }
+    ensures near { R.tells reader.old → (log : List ℕ) → BeginsAs (R.front reader.old) (config.now.max_bytes + 1) log
+        → ReadsWhile (IsNotRefusedWithin MESSAGE_LIMIT config.now log) (R.given reader.new - R.given reader.old) (R.failures reader.old) (R.failures reader.new) }
     ensures settings { OnOk result (AreSettings config.now) }
     ensures taken { R.given reader.new ≤ R.given reader.old + config.now.max_bytes + 1 }
     ensures calls { R.reads reader.new ≤ R.reads reader.old + config.now.max_bytes + 1 }
+    ensures progress { R.reads reader.new ≤ R.reads reader.old + (R.given reader.new - R.given reader.old) + 1 }
     ensures read_fault { FailedIf Fault.Read result (R.failures reader.old) (R.failures reader.new) }
     ensures never_write { IfErr result (λ fault. fault ≢ Fault.Write) }
 {

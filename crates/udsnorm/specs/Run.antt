@@ -1,10 +1,11 @@
 -- How a run ends.
 use Rattle.std.specs.Prelude.{◌≡◌, ◌≢◌, ℕ, ◌⊎◌, List, ◌++◌, Result, Ok, Err}
 use Rattle.trace_canon.specs.Settings.{Settings}
-use Rattle.trace_canon.specs.Answers.{Answers}
+use Rattle.trace_canon.specs.Answers.{Answers, ReadsWhile}
 use Rattle.trace_canon.specs.Listed.{Lists}
 use Rattle.trace_canon.specs.ExplainAnswers.{AnswersExplain}
 use Rattle.trace_canon.specs.Compared.{fault_in}
+use Rattle.trace_canon.specs.Refusal.{HasNoBadPlaceWithin, IsNotRefusedWithin}
 use Rattle.trace_canon.specs.declared.comparing.Comparison.{Comparison}
 use Rattle.trace_canon.specs.declared.comparing.Comparison.TheVariants.{Same, Different}
 use Rattle.trace_canon.specs.declared.fault.CompareFault.{CompareFault}
@@ -21,6 +22,13 @@ EngineAnswers job.Normalise limit settings log given answer old new = Answers li
 EngineAnswers job.List limit settings log given answer old new = Lists limit settings log answer old new
 EngineAnswers job.Explain limit settings log given answer old new = AnswersExplain limit settings log given answer old new
 EngineAnswers job.Compare limit settings log given answer old new = ⊥
+
+-- how the engine that does this job reads: only while nothing that was given refuses the log
+abbrev pub EngineReads : Job → ℕ → Settings → List ℕ → ℕ → ℕ → ℕ → Type 0
+EngineReads job.Normalise limit settings log given failures failures_now = ReadsWhile (IsNotRefusedWithin limit settings log) given failures failures_now
+EngineReads job.List limit settings log given failures failures_now = ReadsWhile (IsNotRefusedWithin limit settings log) given failures failures_now
+EngineReads job.Explain limit settings log given failures failures_now = ReadsWhile (HasNoBadPlaceWithin log) given failures failures_now
+EngineReads job.Compare limit settings log given failures failures_now = ⊥
 
 -- the exit status of a run over one log whose engine answered this: its fault's; and else 0, or 4 where the flush at the
 -- end failed

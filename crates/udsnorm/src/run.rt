@@ -2,8 +2,10 @@
 
 ghost use Rattle.std.specs.Prelude.{◌≡◌, ◌≢◌, ℕ, ◌+◌, ◌-◌, ◌^◌, ◌<◌, ◌≤◌, ◌⊎◌, ◌↔◌, List, ◌++◌, Result, Err, true, OnOk, MatchResult};
 ghost use Rattle.isotp_receive.specs.declared.TheConstants.{MESSAGE_LIMIT};
+ghost use Rattle.trace_canon.specs.Answers.{ReadsWhile};
 ghost use Rattle.trace_canon.specs.Compared.{Compares};
 ghost use Rattle.trace_canon.specs.Failing.{FailedIf};
+ghost use Rattle.trace_canon.specs.Refusal.{IsNotRefusedWithin};
 ghost use Rattle.trace_canon.specs.declared.comparing.Comparison.{Comparison as ComparisonValue};
 ghost use Rattle.trace_canon.specs.declared.fault.CompareFault.{CompareFault as CompareFaultValue};
 ghost use Rattle.trace_canon.specs.declared.fault.Fault.{Fault as FaultValue};
@@ -12,7 +14,7 @@ ghost use Rattle.trace_io.specs.Counted.{AreLowCounts, IsLowCount};
 ghost use Rattle.trace_io.specs.Stream.{BeginsAs};
 ghost use Rattle.udsnorm.specs.Comparisons.{comparison_line};
 ghost use Rattle.udsnorm.specs.Ending.{EndsWith, EndsTwoWith};
-ghost use Rattle.udsnorm.specs.Run.{EngineAnswers, IsStatusOf, IsStatusOfTwo, TookLine, status_of_comparison};
+ghost use Rattle.udsnorm.specs.Run.{EngineAnswers, EngineReads, IsStatusOf, IsStatusOfTwo, TookLine, status_of_comparison};
 
 use crate::comparison::comparison_line;
 use crate::job::{Job, Plan};
@@ -42,9 +44,14 @@ pub fn run_one<R: Source, W: Target, E: Target>(
         × (R.tells input.old → W.tells out.old → (log : List ℕ) → BeginsAs (R.front input.old) (plan.now.config.max_bytes + 1) log
         → EngineAnswers plan.now.job MESSAGE_LIMIT plan.now.config log (R.given input.new - R.given input.old) answer (W.written out.old) (W.written out.new)) }
 
-    // How much is taken.
+    // Nothing is asked for past what refuses the log.
+    ensures near { R.tells input.old → (log : List ℕ) → BeginsAs (R.front input.old) (plan.now.config.max_bytes + 1) log
+        → EngineReads plan.now.job MESSAGE_LIMIT plan.now.config log (R.given input.new - R.given input.old) (R.failures input.old) (R.failures input.new) }
+
+    // How much is taken. Each read but the last gives a byte.
     ensures taken { R.given input.new ≤ R.given input.old + plan.now.config.max_bytes + 1 }
     ensures calls { R.reads input.new ≤ R.reads input.old + plan.now.config.max_bytes + 1 }
+    ensures progress { R.reads input.new ≤ R.reads input.old + (R.given input.new - R.given input.old) + 1 }
 
     // Where it is done, the output was flushed last, and nothing was told.
     ensures flushed { result ≡ 0 → W.is_flushed out.new ≡ true }
@@ -72,8 +79,11 @@ fn do_job<R: Source, W: Target>(
     requires out { IsLowCount (W.failures out.old) }
     ensures engine { R.tells input.old → W.tells out.old → (log : List ℕ) → BeginsAs (R.front input.old) (plan.now.config.max_bytes + 1) log
         → EngineAnswers plan.now.job MESSAGE_LIMIT plan.now.config log (R.given input.new - R.given input.old) result (W.written out.old) (W.written out.new) }
+    ensures near { R.tells input.old → (log : List ℕ) → BeginsAs (R.front input.old) (plan.now.config.max_bytes + 1) log
+        → EngineReads plan.now.job MESSAGE_LIMIT plan.now.config log (R.given input.new - R.given input.old) (R.failures input.old) (R.failures input.new) }
     ensures taken { R.given input.new ≤ R.given input.old + plan.now.config.max_bytes + 1 }
     ensures calls { R.reads input.new ≤ R.reads input.old + plan.now.config.max_bytes + 1 }
+    ensures progress { R.reads input.new ≤ R.reads input.old + (R.given input.new - R.given input.old) + 1 }
     ensures read_fault { FailedIf Fault.Read result (R.failures input.old) (R.failures input.new) }
     ensures write_fault { FailedIf Fault.Write result (W.failures out.old) (W.failures out.new) }
     ensures no_empty_write { W.had_empty_write out.new ≡ W.had_empty_write out.old }
@@ -135,11 +145,19 @@ pub fn run_two<A: Source, B: Source, W: Target, E: Target>(
         → Compares MESSAGE_LIMIT plan.now.config one other answer)
         × ((fault : FaultValue) → answer ≡ Err (CompareFault.Left fault) → right.new ≡ right.old) }
 
-    // How much is taken.
+    // Nothing is asked for past what refuses a log.
+    ensures left_near { A.tells left.old → (one : List ℕ) → BeginsAs (A.front left.old) (plan.now.config.max_bytes + 1) one
+        → ReadsWhile (IsNotRefusedWithin MESSAGE_LIMIT plan.now.config one) (A.given left.new - A.given left.old) (A.failures left.old) (A.failures left.new) }
+    ensures right_near { B.tells right.old → (other : List ℕ) → BeginsAs (B.front right.old) (plan.now.config.max_bytes + 1) other
+        → ReadsWhile (IsNotRefusedWithin MESSAGE_LIMIT plan.now.config other) (B.given right.new - B.given right.old) (B.failures right.old) (B.failures right.new) }
+
+    // How much is taken. Each read of a log but the last gives a byte.
     ensures left_taken { A.given left.new ≤ A.given left.old + plan.now.config.max_bytes + 1 }
     ensures left_calls { A.reads left.new ≤ A.reads left.old + plan.now.config.max_bytes + 1 }
+    ensures left_progress { A.reads left.new ≤ A.reads left.old + (A.given left.new - A.given left.old) + 1 }
     ensures right_taken { B.given right.new ≤ B.given right.old + plan.now.config.max_bytes + 1 }
     ensures right_calls { B.reads right.new ≤ B.reads right.old + plan.now.config.max_bytes + 1 }
+    ensures right_progress { B.reads right.new ≤ B.reads right.old + (B.given right.new - B.given right.old) + 1 }
 
     // Where the logs were compared, the output was flushed last, and nothing was told.
     ensures flushed { result ≤ 1 → W.is_flushed out.new ≡ true }

@@ -7,7 +7,8 @@ use Rattle.trace_canon.specs.declared.ordering.Ordering.{Ordering}
 use Rattle.trace_canon.specs.declared.receiver.Receiver.{Receiver}
 use Rattle.trace_canon.specs.declared.summary.Summary.{Summary}
 use Rattle.trace_canon.proofs.Normalised.{answers_of_lines, answers_end, fails_of_lines, fails_at_the_end, reads_at_the_end, tells_at_the_end, canonical_again, recording_again, answer_is_certificate}
-use Rattle.trace_canon.proofs.Normalised.{writing, OrderedEvents, HasPutNothing, takes_nothing, is_first, orders, writes_some}
+use Rattle.trace_canon.proofs.Normalised.{writing, OrderedEvents, HasPutNothing, takes_nothing, is_first, orders, within, writes_some}
+use Rattle.trace_canon.proofs.LastReads.{reads_unrefused}
 use Rattle.trace_canon.proofs.Runs.{TookLines, IsRunStart, starts_run, has_received}
 use Rattle.trace_canon.proofs.Streams.{few_in_log}
 use Rattle.trace_canon.proofs.engine.normalise.Given.{Over}
@@ -32,6 +33,13 @@ returns-in-Err-clause-answer g c = λ reads told log begins.
     rw c.fault_of.ensures
     (answers_of_lines W c.args.config.now (start g at) (c.read_lines.new.taker, c.read_lines.new.device) (begun g at) (Unit {0}) log
     (g.R.Source.given c.read_lines.new.reader - g.R.Source.given c.args.reader.now) told c.in-Err.fault c.max_bytes.result c.max_bytes.ensures.value read)
+
+pub returns-in-Err-clause-near : goal.returns-in-Err-clause-near
+returns-in-Err-clause-near g c = λ reads log begins.
+    let W = g.W.Target in
+    let at = (goal.at.returns-in-Err-clause-near g c).After-start-receiver in
+    reads_unrefused MESSAGE_LIMIT c.args.config.now (λ meanings now lines. within W c.args.config.now (start g at) now (begun g at) meanings lines)
+    (c.in-Err.ensures.near reads log (rw c.max_bytes.ensures.value begins) (start g at) (takes_nothing W (start g at)))
 
 pub returns-in-Err-clause-write_fault : goal.returns-in-Err-clause-write_fault
 returns-in-Err-clause-write_fault g c =
@@ -124,3 +132,10 @@ pub returns-in-Ok-clause-certificate : goal.returns-in-Ok-clause-certificate
 returns-in-Ok-clause-certificate g c = λ reads told log begins.
     answer_is_certificate c.args.config.now log (g.R.Source.given c.read_lines.new.reader - g.R.Source.given c.args.reader.now) c.answer_of.result
     (g.W.Target.written c.args.writer.now) (g.W.Target.written c.finish.new.device) (returns-in-Ok-clause-answer g c reads told log begins)
+
+pub returns-in-Ok-clause-near : goal.returns-in-Ok-clause-near
+returns-in-Ok-clause-near g c = λ reads log begins.
+    let W = g.W.Target in
+    let at = (goal.at.returns-in-Ok-clause-near g c).After-start-receiver in
+    reads_unrefused MESSAGE_LIMIT c.args.config.now (λ meanings now lines. within W c.args.config.now (start g at) now (begun g at) meanings lines)
+    (c.in-Ok.ensures.near reads log (rw c.max_bytes.ensures.value begins) (start g at) (takes_nothing W (start g at)))
