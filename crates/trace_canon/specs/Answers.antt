@@ -16,8 +16,8 @@ use Rattle.trace_canon.specs.Outcome.{Accepted, IsReadWhole, IsOutcome}
 abbrev pub piece_length : ℕ
 piece_length = 4096
 
--- At each read this held of the bytes that had been given by then, as many as the number says. `given` were given in all, so
--- all but one piece before the last read, and all of them where a read failed: that one was the last, and gave nothing.
+-- Whenever a read was asked for, this held of the number of bytes that had been given by then. With `given` bytes in all it
+-- holds of all but one piece, and where a read failed, of all: that one was the last, and gave nothing.
 pub record ReadsWhile (Holds : ℕ → Type 0) (given failures failures_now : ℕ) : Type 0 where
   pub before_piece : Holds (given - piece_length)
   pub before_failure : failures < failures_now → Holds given

@@ -1,5 +1,5 @@
 -- Each command has a job of its own.
-use Rattle.std.proofs.Common.{◌≡◌, refl, List, [], ◌∷◌}
+use Rattle.std.proofs.Common.{◌≡◌, refl, [], ◌∷◌}
 use Rattle.std.specs.Prelude.{map}
 use Rattle.udsnorm.specs.Commands.{commands}
 use Rattle.udsnorm.specs.Words.{job_named}
