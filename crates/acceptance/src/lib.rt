@@ -32,6 +32,8 @@ mod identifiers;
 #[cfg(test)]
 mod limits;
 #[cfg(test)]
+mod pairings;
+#[cfg(test)]
 mod receptions;
 #[cfg(test)]
 mod recordings;
