@@ -26,6 +26,8 @@ mod devices;
 #[cfg(test)]
 mod examples;
 #[cfg(test)]
+mod frame_layouts;
+#[cfg(test)]
 mod frame_verdicts;
 #[cfg(test)]
 mod identifiers;
