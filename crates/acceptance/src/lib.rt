@@ -34,6 +34,8 @@ mod identifiers;
 #[cfg(test)]
 mod limits;
 #[cfg(test)]
+mod log_lines;
+#[cfg(test)]
 mod pairings;
 #[cfg(test)]
 mod receptions;
