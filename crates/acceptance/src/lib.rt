@@ -36,6 +36,8 @@ mod limits;
 #[cfg(test)]
 mod log_lines;
 #[cfg(test)]
+mod message_frames;
+#[cfg(test)]
 mod message_kinds;
 #[cfg(test)]
 mod pairings;
