@@ -22,6 +22,8 @@ mod canonical_logs;
 #[cfg(test)]
 mod comparisons;
 #[cfg(test)]
+mod device_calls;
+#[cfg(test)]
 mod devices;
 #[cfg(test)]
 mod examples;
