@@ -159,9 +159,10 @@ def make_check_goes_upwards():
         ("acceptance", "acceptance try --test", ["acceptance: rt fmt", "acceptance: rt check", "acceptance: rt try --test"]),
         (
             "isotp_segment",
-            "refused_memory check",
-            ["isotp_segment: rt fmt", "isotp_segment: rt check", "isotp_segment: rt try --test"]
-            + [f"{user}: rt check" for user in ["trace_canon", "layer_bench", "acceptance", "refused_memory"]],
+            "acceptance try --test",
+            ["isotp_segment: rt fmt", "isotp_segment: rt check"]
+            + [f"{user}: rt check" for user in ["trace_canon", "layer_bench", "acceptance", "refused_memory"]]
+            + ["acceptance: rt try --test"],
         ),
     ]:
         with tempfile.TemporaryDirectory() as folder:
