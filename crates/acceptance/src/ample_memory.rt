@@ -5,6 +5,7 @@ use crate::run::{GIBIBYTE, explained, listed, meaning, run};
 use can_log::Dir::{self, Tester, Unit};
 use can_log::{Frame, Id, Kind};
 use isotp_receive::{Recorded, messages_of};
+use std::alloc::{AllocError, Global};
 use std::test::Fail;
 use trace_canon::Comparison;
 use uds_exchange::{MessageSink, Orderer, Pairing};
@@ -104,14 +105,20 @@ fn thousands_of_frames_are_received(rt: HostRuntime) -> Result<(), Fail> {
     Ok(())
 }
 
-#[test]
-fn thousands_of_frames_are_taken_through_each_call(rt: HostRuntime) -> Result<(), Fail> {
-    let mut log = String::new(rt.alloc());
+/// A request, thousands of strays of the unit, and the answer.
+fn log_of_thousands(alloc: Global) -> Result<String, AllocError> {
+    let mut log = String::new(alloc);
     log.push_str("(1.000000) can0 7E0#0322F190\n")?;
     for _ in 0..4 * MANY {
         log.push_str("(1.000000) can0 7E8#0759595959595959\n")?;
     }
     log.push_str("(1.000000) can0 7E8#0462F19041\n")?;
+    Ok(log)
+}
+
+#[test]
+fn thousands_of_frames_are_normalised(rt: HostRuntime) -> Result<(), Fail> {
+    let log = log_of_thousands(rt.alloc())?;
     let (answer, text) = run(rt.alloc(), GIBIBYTE, log.as_bytes())?;
     let summary = answer?;
     assert_eq!(rt;
@@ -123,14 +130,25 @@ fn thousands_of_frames_are_taken_through_each_call(rt: HostRuntime) -> Result<()
         text.get(46..92),
         Some(b"(0000000000.001000) can0 7E8#0462F19041CCCCCC\n".as_slice())
     );
+    let same = compared(rt.alloc(), GIBIBYTE, log.as_bytes(), text.as_slice())?;
+    assert_eq!(rt; same, Ok(Comparison::Same));
+    Ok(())
+}
+
+#[test]
+fn thousands_of_frames_have_a_meaning(rt: HostRuntime) -> Result<(), Fail> {
+    let log = log_of_thousands(rt.alloc())?;
+    let items = meaning(rt.alloc(), GIBIBYTE, log.as_bytes())??;
+    assert_eq!(rt; items.len(), 2001);
+    Ok(())
+}
+
+#[test]
+fn thousands_of_frames_are_listed_and_explained(rt: HostRuntime) -> Result<(), Fail> {
+    let log = log_of_thousands(rt.alloc())?;
     let log = log.as_bytes();
-    assert_eq!(rt;
-        meaning(rt.alloc(), GIBIBYTE, log)?.map(|items| items.len()),
-        Ok(2001)
-    );
+    let answer = run(rt.alloc(), GIBIBYTE, log)?.0;
     assert_eq!(rt; listed(rt.alloc(), GIBIBYTE, log)?.0, answer);
     assert_eq!(rt; explained(rt.alloc(), GIBIBYTE, log)?.0, answer);
-    let same = compared(rt.alloc(), GIBIBYTE, log, text.as_slice())?;
-    assert_eq!(rt; same, Ok(Comparison::Same));
     Ok(())
 }

@@ -1,15 +1,14 @@
 //! Whether two logs mean the same.
 
-use crate::rows::{frames_marked, marked, name_of};
+use crate::pairings::items_text;
+use crate::rows::{assert_marked, frames_marked, name_of};
 use crate::run::{GIBIBYTE, VIN_LINES, listed, log_of, meaning};
-use can_log::Dir::Unit;
 use can_log::Id;
 use std::alloc::Global;
 use std::io::Read;
 use std::test::Fail;
 use trace_canon::{CompareFault, Comparison, Config, Fault, compare};
 use trace_io::{Reading, Source};
-use uds_exchange::Item;
 
 /// Two logs compared, each between the tester 7E0 and the unit 7E8.
 pub(crate) fn compared<A: Read + Drop, B: Read + Drop>(
@@ -113,21 +112,25 @@ fn logs_differ_at_the_first_item_that_does(rt: HostRuntime) -> Result<(), Fail> 
     for row in COMPARED.split("\n\n") {
         let left = frames_marked(alloc, row, "left")?;
         let right = frames_marked(alloc, row, "right")?;
-        let expected = marked(alloc, row, "found")?;
         let (left, right) = (left.as_bytes(), right.as_bytes());
         for (one, other) in [(left, right), (right, left)] {
-            let found = match compared(alloc, GIBIBYTE, one, other)?? {
-                Comparison::Same => String::from_str(alloc, "same\n")?,
-                Comparison::Different { item } => format!(in alloc; "item {item}\n")?,
-            };
-            assert_eq!(rt; found.as_str(), expected.as_str(), "{}", name_of(row));
+            let found = comparison(alloc, one, other)?;
+            assert_marked(&rt, alloc, row, "found", found.as_str())?;
         }
         for log in [left, right] {
-            let found = compared(alloc, GIBIBYTE, log, log)?;
-            assert_eq!(rt; found, Ok(Comparison::Same), "{}", name_of(row));
+            let found = comparison(alloc, log, log)?;
+            assert_eq!(rt; found.as_str(), "same\n", "{}", name_of(row));
         }
     }
     Ok(())
+}
+
+/// Tells what comparing two logs answers.
+fn comparison(alloc: Global, left: &[u8], right: &[u8]) -> Result<String, Fail> {
+    Ok(match compared(alloc, GIBIBYTE, left, right)?? {
+        Comparison::Same => String::from_str(alloc, "same\n")?,
+        Comparison::Different { item } => format!(in alloc; "item {item}\n")?,
+    })
 }
 
 #[test]
@@ -180,33 +183,21 @@ fn of_the_second_log_nothing_is_read_where_the_first_is_refused(
     Ok(())
 }
 
+/// The items of a log.
+fn items_of(alloc: Global, log: &[u8]) -> Result<String, Fail> {
+    let meaning = meaning(alloc, GIBIBYTE, log)??;
+    Ok(items_text(alloc, &meaning)?)
+}
+
 #[test]
 fn the_meaning_of_a_session_has_its_messages(rt: HostRuntime) -> Result<(), Fail> {
     let mut log = log_of(rt.alloc(), &VIN_LINES)?;
-    assert_eq!(rt; meaning(rt.alloc(), GIBIBYTE, log.as_bytes())??.len(), 1);
+    let items = items_of(rt.alloc(), log.as_bytes())?;
+    assert_eq!(rt; items.as_str(), VIN_ITEM);
     log.push_str("(1700000000.040000) can0 7E8#037F2278\n")?;
-    let items = meaning(rt.alloc(), GIBIBYTE, log.as_bytes())??;
-    assert_eq!(rt; items.len(), 2);
-    let Some(
-        Item::Exchange {
-            request,
-            answer: Some(answer),
-        },
-    ) = items.item(0)
-    else {
-        return Err("no exchange")?;
-    };
-    assert_eq!(rt; request.as_slice(), [0x22, 0xF1, 0x90].as_slice());
-    assert_eq!(rt;
-        answer.as_slice(),
-        b"\x62\xF1\x90WBA3A5C50EF123456".as_slice()
-    );
-    let Some(Item::Stray { dir, bytes }) = items.item(1) else {
-        return Err("no stray")?;
-    };
-    assert_eq!(rt;
-        (*dir, bytes.as_slice()),
-        (Unit, [0x7F, 0x22, 0x78].as_slice())
-    );
+    let items = items_of(rt.alloc(), log.as_bytes())?;
+    assert_eq!(rt; items.strip_prefix(VIN_ITEM), Some("stray Unit#7F2278\n"));
     Ok(())
 }
+
+const VIN_ITEM: &str = "exchange 22F190 -> 62F1905742413341354335304546313233343536\n";

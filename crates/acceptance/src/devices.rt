@@ -80,28 +80,58 @@ fn a_read_that_fails_is_told_by_each_call(rt: HostRuntime) -> Result<(), Fail> {
     let (log, told) = (log_of(alloc, &SESSION)?, log_of(alloc, &EXPLAINED)?);
     let log = log.as_bytes();
     for given in 0..=log.len() {
-        let (answer, text) = listed(alloc, GIBIBYTE, failing(log, given))?;
-        assert_eq!(rt; answer, Err(Fault::Read), "{given} bytes listed");
-        assert!(rt; text.is_empty(), "{given} bytes listed");
-        let (answer, text) = explained(alloc, GIBIBYTE, failing(log, given))?;
-        assert_eq!(rt; answer, Err(Fault::Read), "{given} bytes explained");
-        let is_front = told.as_bytes().starts_with(text.as_slice());
-        assert!(rt; is_front, "{given} bytes explained");
+        assert_listing_fails(&rt, alloc, log, given)?;
+        assert_explaining_fails(&rt, alloc, log, given, told.as_bytes())?;
         let fault = meaning(alloc, GIBIBYTE, failing(log, given))?.err();
         assert_eq!(rt; fault, Some(Fault::Read), "the meaning of {given} bytes");
-        let answer = compared(alloc, GIBIBYTE, failing(log, given), log)?;
-        assert_eq!(rt;
-            answer,
-            Err(CompareFault::Left(Fault::Read)),
-            "{given} bytes"
-        );
-        let answer = compared(alloc, GIBIBYTE, log, failing(log, given))?;
-        assert_eq!(rt;
-            answer,
-            Err(CompareFault::Right(Fault::Read)),
-            "{given} bytes"
-        );
+        assert_comparing_fails(&rt, alloc, log, given)?;
     }
+    Ok(())
+}
+
+/// A read that fails while a log is listed: nothing is written.
+fn assert_listing_fails(
+    rt: &impl Abort,
+    alloc: Global,
+    log: &[u8],
+    given: usize,
+) -> Result<(), Fail> {
+    let (answer, text) = listed(alloc, GIBIBYTE, failing(log, given))?;
+    assert_eq!(rt; answer, Err(Fault::Read), "{given} bytes listed");
+    assert!(rt; text.is_empty(), "{given} bytes listed");
+    Ok(())
+}
+
+/// And while it is explained: a front of what is told of it is written.
+fn assert_explaining_fails(
+    rt: &impl Abort,
+    alloc: Global,
+    log: &[u8],
+    given: usize,
+    told: &[u8],
+) -> Result<(), Fail> {
+    let (answer, text) = explained(alloc, GIBIBYTE, failing(log, given))?;
+    assert_eq!(rt; answer, Err(Fault::Read), "{given} bytes explained");
+    assert!(rt;
+        told.starts_with(text.as_slice()),
+        "{given} bytes explained"
+    );
+    Ok(())
+}
+
+/// And while it is compared, on either side.
+fn assert_comparing_fails(
+    rt: &impl Abort,
+    alloc: Global,
+    log: &[u8],
+    given: usize,
+) -> Result<(), Fail> {
+    let answer = compared(alloc, GIBIBYTE, failing(log, given), log)?;
+    let left = CompareFault::Left(Fault::Read);
+    assert_eq!(rt; answer, Err(left), "{given} bytes");
+    let answer = compared(alloc, GIBIBYTE, log, failing(log, given))?;
+    let right = CompareFault::Right(Fault::Read);
+    assert_eq!(rt; answer, Err(right), "{given} bytes");
     Ok(())
 }
 
@@ -127,10 +157,16 @@ macro_rules! assert_each_write_fails {
 }
 
 #[test]
-fn a_write_that_fails_is_told_by_each_call(rt: HostRuntime) -> Result<(), Fail> {
+fn a_write_that_fails_is_told_by_list(rt: HostRuntime) -> Result<(), Fail> {
     let log = log_of(rt.alloc(), &SESSION)?;
     let text = log_of(rt.alloc(), &LISTED)?;
     assert_each_write_fails!(rt, list, log.as_bytes(), text.as_bytes());
+    Ok(())
+}
+
+#[test]
+fn a_write_that_fails_is_told_by_explain(rt: HostRuntime) -> Result<(), Fail> {
+    let log = log_of(rt.alloc(), &SESSION)?;
     let text = log_of(rt.alloc(), &EXPLAINED)?;
     assert_each_write_fails!(rt, explain, log.as_bytes(), text.as_bytes());
     Ok(())

@@ -69,6 +69,12 @@ fn a_continue_frame_has_the_identifier_of_the_other_side(rt: HostRuntime) -> Res
     assert_eq!(rt; answer?.dropped, 0);
     assert_eq!(rt; text.as_slice(), MIXED_CANONICAL);
     assert_eq!(rt; listing(&rt, sides, 245, MIXED_CANONICAL)?, None);
+    Ok(())
+}
+
+#[test]
+fn a_log_of_both_formats_has_the_limit_of_its_lines(rt: HostRuntime) -> Result<(), Fail> {
+    let sides = (BASE_TESTER, UNIT);
     let (answer, _) = normalised(&rt, sides, 244, MIXED_CANONICAL)?;
     assert_eq!(rt; answer, Err(Fault::LogLimit));
     // The log is shorter than its canonical log.

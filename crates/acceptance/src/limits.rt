@@ -1,9 +1,10 @@
 //! Logs at the limit: what is looked at, why a log is refused, and what was written before.
 
 use crate::run::{VIN_CANONICAL, VIN_LINES, front_of, log_of, log_of_frames, run_cut};
-use std::alloc::Global;
+use std::alloc::{AllocError, Global};
 use std::process::Abort;
 use std::test::Fail;
+use trace_canon::{Fault, Summary};
 
 /// Under this limit the log is accepted or refused with this fault, and this is written.
 fn assert_run(
@@ -15,12 +16,22 @@ fn assert_run(
     written: &[u8],
 ) -> Result<(), Fail> {
     let (answer, text) = run_cut(rt, alloc, limit, log.as_bytes())?;
-    let found = match answer {
-        Ok(_) => String::from_str(alloc, ACCEPTED)?,
-        Err(fault) => format!(in alloc; "{fault}")?,
-    };
-    assert_eq!(rt; found.as_str(), told, "limit {limit}: {log}");
+    assert_answer(rt, alloc, answer, told)?;
     assert_eq!(rt; text.as_slice(), written, "limit {limit}: {log}");
+    Ok(())
+}
+
+/// This is told of an answer.
+fn assert_answer(
+    rt: &impl Abort,
+    alloc: Global,
+    answer: Result<Summary, Fault>,
+    told: &str,
+) -> Result<(), AllocError> {
+    match answer {
+        Ok(_) => assert_eq!(rt; ACCEPTED, told),
+        Err(fault) => assert_eq!(rt; format!(in alloc; "{fault}")?.as_str(), told),
+    }
     Ok(())
 }
 

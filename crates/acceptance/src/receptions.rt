@@ -1,6 +1,6 @@
 //! Logs in which frames are lost: what is dropped, what ends, and what is left unfinished.
 
-use crate::rows::{frames_marked, marked};
+use crate::rows::{assert_marked, frames_marked, marked};
 use crate::run::{GIBIBYTE, assert_row, explained, front_of, log_of, normalised, run_cut, told};
 use std::alloc::Global;
 use std::process::Abort;
@@ -359,10 +359,9 @@ fn too_long_an_announcement_is_told_as_dropped(rt: HostRuntime) -> Result<(), Fa
         let (answer, _) = run_cut(&rt, alloc, GIBIBYTE, log.as_bytes())?;
         let fault = answer.err().ok_or("accepted")?;
         let refused = format!(in alloc; "{fault}\n")?;
-        assert_eq!(rt; refused.as_str(), marked(alloc, row, "refused")?.as_str());
+        assert_marked(&rt, alloc, row, "refused", refused.as_str())?;
         let (_, text) = explained(alloc, GIBIBYTE, log.as_bytes())?;
-        let told = marked(alloc, row, "told")?;
-        assert_eq!(rt; String::from_utf8(text)?.as_str(), told.as_str());
+        assert_marked(&rt, alloc, row, "told", String::from_utf8(text)?.as_str())?;
     }
     Ok(())
 }

@@ -7,7 +7,7 @@ use std::test::Fail;
 use trace_canon::Fault;
 
 /// A response of this length, in which no two neighbouring bytes are equal.
-fn message_of(alloc: Global, len: usize) -> Result<Vec<u8>, AllocError> {
+pub(crate) fn message_of(alloc: Global, len: usize) -> Result<Vec<u8>, AllocError> {
     let mut message = Vec::new(alloc);
     for i in 0..len {
         message.push((i % 251) as u8)?;
@@ -29,21 +29,11 @@ impl Recorder {
         let mark = if data.len() > 8 { "#1" } else { "" };
         let line = format!(in alloc; "({seconds:010}.{millis:03}000) can0 {id}#{mark}")?;
         self.log.push_str(&line)?;
-        push_digits(&mut self.log, data)?;
+        self.log.push_str(&hex::encode_upper(alloc, data)?)?;
         self.log.push('\n')?;
         self.frames = self.frames.saturating_add(1);
         Ok(())
     }
-}
-
-/// Writes two hexadecimal digits for each byte.
-fn push_digits(text: &mut String, bytes: &[u8]) -> Result<(), AllocError> {
-    const DIGITS: &[u8; 16] = b"0123456789ABCDEF";
-    for byte in bytes {
-        text.push(DIGITS[(byte / 16) as usize] as char)?;
-        text.push(DIGITS[(byte % 16) as usize] as char)?;
-    }
-    Ok(())
 }
 
 /// How a unit may send a message: the size of its frames, what they are padded with, and whether the last one is as long
@@ -181,7 +171,7 @@ const LENGTHS: [(usize, usize); 6] = [
 ];
 
 #[test]
-fn canonical_logs_of_each_length_are_their_own_and_listed(rt: HostRuntime) -> Result<(), Fail> {
+fn canonical_logs_of_each_length_are_their_own(rt: HostRuntime) -> Result<(), Fail> {
     let alloc = rt.alloc();
     for (len, lines) in LENGTHS {
         let message = message_of(alloc, len)?;
@@ -195,12 +185,32 @@ fn canonical_logs_of_each_length_are_their_own_and_listed(rt: HostRuntime) -> Re
             "{len} bytes"
         );
         assert!(rt; text.as_slice() == canonical.as_bytes(), "{len} bytes");
-        let (answer, _) = run_cut(&rt, alloc, limit - 1, canonical.as_bytes())?;
+    }
+    Ok(())
+}
+
+#[test]
+fn canonical_logs_of_each_length_have_their_limit(rt: HostRuntime) -> Result<(), Fail> {
+    let alloc = rt.alloc();
+    for (len, lines) in LENGTHS {
+        let message = message_of(alloc, len)?;
+        let canonical = CANONICAL.record(alloc, message.as_slice())?;
+        let limit = (LINE * lines) as u64 - 1;
+        let (answer, _) = run_cut(&rt, alloc, limit, canonical.as_bytes())?;
         assert_eq!(rt; answer, Err(Fault::LogLimit), "{len} bytes");
-        let mut item = String::from_str(alloc, "1 stray unit ")?;
-        push_digits(&mut item, message.as_slice())?;
-        item.push('\n')?;
-        let (_, list) = listed(alloc, limit, canonical.as_bytes())?;
+    }
+    Ok(())
+}
+
+#[test]
+fn messages_of_each_length_are_listed(rt: HostRuntime) -> Result<(), Fail> {
+    let alloc = rt.alloc();
+    for (len, _) in LENGTHS {
+        let message = message_of(alloc, len)?;
+        let canonical = CANONICAL.record(alloc, message.as_slice())?;
+        let digits = hex::encode_upper(alloc, message.as_slice())?;
+        let item = format!(in alloc; "1 stray unit {digits}\n")?;
+        let (_, list) = listed(alloc, canonical.len() as u64, canonical.as_bytes())?;
         assert!(rt; list.as_slice() == item.as_bytes(), "{len} bytes");
     }
     Ok(())

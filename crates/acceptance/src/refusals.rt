@@ -1,6 +1,8 @@
 //! Which logs are accepted, and where the others are refused.
 
 use crate::run::{GIBIBYTE, VIN_LINES, log_of, log_of_frames, run_cut};
+use std::alloc::Global;
+use std::process::Abort;
 use std::test::Fail;
 use trace_canon::{Fault, Summary};
 
@@ -45,28 +47,44 @@ const REFUSED: &str = "\
 25 (1.000000) can0 7E0#00 RT
 38 (1.000000) can0 7E8#1000001000004142_8";
 
+/// A blank line, and a frame that is written.
+const FRAME: &str = "\n(1.000000) can0 7E0#0111\n";
+
 #[test]
 fn refused_lines_are_told_by_line_and_column(rt: HostRuntime) -> Result<(), Fail> {
-    let alloc = rt.alloc();
     for row in REFUSED.split('\n') {
-        let (column, line) = row.split_once(' ').ok_or("no column")?;
-        for (number, log) in [
-            (1, format!(in alloc; "{line}\n")?),
-            (
-                3,
-                format!(in alloc;
-                    "\n(1.000000) can0 7E0#0111\n{line}\n(1.000000) can0 7E0#0111\n"
-                )?,
-            ),
-        ] {
-            let (answer, text) = run_cut(&rt, alloc, GIBIBYTE, log.as_bytes())?;
-            let fault = answer.err().ok_or("accepted")?;
-            let told = format!(in alloc; "{fault}")?;
-            let expected = format!(in alloc; "line {number} column {column}: not a log line")?;
-            assert_eq!(rt; told.as_str(), expected.as_str(), "{line}");
-            assert_eq!(rt; text.is_empty(), number == 1, "{line}");
-        }
+        assert_refused_after(&rt, rt.alloc(), 1, "", row)?;
+        assert_refused_after(&rt, rt.alloc(), 3, FRAME, row)?;
     }
+    Ok(())
+}
+
+/// The line of a row is refused at its column, as line `number`, after these lines and before them.
+fn assert_refused_after(
+    rt: &impl Abort,
+    alloc: Global,
+    number: u64,
+    lines: &str,
+    row: &str,
+) -> Result<(), Fail> {
+    let (column, line) = row.split_once(' ').ok_or("no column")?;
+    let after = lines.strip_prefix('\n').unwrap_or("");
+    let log = format!(in alloc; "{lines}{line}\n{after}")?;
+    let expected = format!(in alloc; "line {number} column {column}: not a log line")?;
+    assert_refused(rt, alloc, log.as_bytes(), expected.as_str())
+}
+
+/// A log is refused, and this is told. Something is written where the first line is another one.
+fn assert_refused(rt: &impl Abort, alloc: Global, log: &[u8], expected: &str) -> Result<(), Fail> {
+    let (answer, text) = run_cut(rt, alloc, GIBIBYTE, log)?;
+    let fault = answer.err().ok_or("accepted")?;
+    let told = format!(in alloc; "{fault}")?;
+    assert_eq!(rt; told.as_str(), expected);
+    assert_eq!(rt;
+        text.is_empty(),
+        expected.starts_with("line 1 "),
+        "{expected}"
+    );
     Ok(())
 }
 

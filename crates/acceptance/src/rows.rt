@@ -1,7 +1,13 @@
 //! Tables in a text: rows are separated by a blank line, and a row is a line with its name and lines that each begin with a
-//! mark. A text is proved far faster than an array of arrays.
+//! mark. A text is proved far faster than an array of arrays. What a call answers is told as a text too, and compared with
+//! lines of the row.
 
+use can_log::Dir::{Tester, Unit};
+use can_log::{Dir, Frame, Scan, Scanner};
+use isotp_receive::Message;
 use std::alloc::{AllocError, Global};
+use std::process::Abort;
+use std::test::Fail;
 
 /// The first line of a row.
 pub(crate) fn name_of(row: &str) -> &str {
@@ -20,6 +26,29 @@ pub(crate) fn marked(alloc: Global, row: &str, mark: &str) -> Result<String, All
     Ok(text)
 }
 
+/// What follows this mark in the first line of a row that begins with it.
+pub(crate) fn line_marked<'a>(row: &'a str, mark: &str) -> &'a str {
+    for line in row.split('\n').skip(1) {
+        if let Some(rest) = line.strip_prefix(mark) {
+            return rest.strip_prefix(' ').unwrap_or(rest);
+        }
+    }
+    ""
+}
+
+/// These lines are those of the row that begin with this mark.
+pub(crate) fn assert_marked(
+    rt: &impl Abort,
+    alloc: Global,
+    row: &str,
+    mark: &str,
+    found: &str,
+) -> Result<(), AllocError> {
+    let expected = marked(alloc, row, mark)?;
+    assert_eq!(rt; found, expected.as_str(), "{}", name_of(row));
+    Ok(())
+}
+
 /// The log of the frames in the lines of a row that begin with this mark, a millisecond apart from 0 on, as in a canonical
 /// log.
 pub(crate) fn frames_marked(alloc: Global, row: &str, mark: &str) -> Result<String, AllocError> {
@@ -34,4 +63,55 @@ pub(crate) fn frames_marked(alloc: Global, row: &str, mark: &str) -> Result<Stri
         }
     }
     Ok(log)
+}
+
+/// The frame that a line of a log spells so.
+pub(crate) fn frame_of(alloc: Global, spelled: &str) -> Result<Frame, Fail> {
+    let line = format!(in alloc; "(0.000000) can0 {spelled}\n")?;
+    let line = line.as_bytes();
+    if line.len() > 1000 {
+        return Err("no line is so long")?;
+    }
+    match Scanner::new().scan(line) {
+        Scan::Line {
+            what: Some(stamped),
+            ..
+        } => Ok(stamped.frame),
+        _ => Err("no frame")?,
+    }
+}
+
+/// The messages in the lines of a row that begin with this mark, each spelled as its direction, `#` and its digits.
+pub(crate) fn messages_marked(alloc: Global, row: &str, mark: &str) -> Result<Vec<Message>, Fail> {
+    let mut messages = Vec::new(alloc);
+    for line in row.split('\n').skip(1) {
+        if let Some(rest) = line.strip_prefix(mark) {
+            messages.push(message_spelled(alloc, rest)?)?;
+        }
+    }
+    Ok(messages)
+}
+
+fn message_spelled(alloc: Global, spelled: &str) -> Result<Message, Fail> {
+    let (dir, digits) = spelled.split_once('#').ok_or("no message")?;
+    let dir = match dir {
+        " Tester" => Tester,
+        " Unit" => Unit,
+        _ => return Err("no direction")?,
+    };
+    Ok(Message {
+        dir,
+        bytes: hex::decode(alloc, digits)?,
+    })
+}
+
+/// Tells a message as a row spells it, in a line.
+pub(crate) fn push_message(
+    alloc: Global,
+    text: &mut String,
+    dir: Dir,
+    bytes: &[u8],
+) -> Result<(), AllocError> {
+    let digits = hex::encode_upper(alloc, bytes)?;
+    text.push_str(&format!(in alloc; "{dir:?}#{digits}\n")?)
 }

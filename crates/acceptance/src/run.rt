@@ -1,6 +1,6 @@
 //! A log taken through the calls: what the other tests look at.
 
-use crate::rows::{frames_marked, marked, name_of};
+use crate::rows::{assert_marked, frames_marked, marked, name_of};
 use can_log::Id;
 use std::alloc::{AllocError, Global};
 use std::io::Read;
@@ -73,18 +73,42 @@ pub(crate) fn run_cut(rt: &impl Abort, alloc: Global, limit: u64, log: &[u8]) ->
     let whole = run(alloc, limit, log)?;
     let cut = run_over(alloc, limit, byte_by_byte(log))?;
     assert!(rt; cut == whole, "byte by byte");
+    assert_explained(rt, alloc, limit, log, whole.0)?;
+    assert_meant(rt, alloc, limit, log, whole.0)?;
+    Ok(whole)
+}
+
+/// Explaining a log ends in this way too, but where only its canonical log does.
+fn assert_explained(
+    rt: &impl Abort,
+    alloc: Global,
+    limit: u64,
+    log: &[u8],
+    answer: Result<Summary, Fault>,
+) -> Result<(), Fail> {
     let told = explained(alloc, limit, log)?;
     let cut = explained(alloc, limit, byte_by_byte(log))?;
     assert!(rt; cut == told, "explained byte by byte");
-    if !matches!(whole.0, Err(Fault::Oversize { .. } | Fault::OutputLimit)) {
-        assert_eq!(rt; told.0, whole.0, "explained");
+    if !matches!(answer, Err(Fault::Oversize { .. } | Fault::OutputLimit)) {
+        assert_eq!(rt; told.0, answer, "explained");
     }
-    let (answer, text) = listed(alloc, limit, log)?;
-    assert_eq!(rt; answer, whole.0, "listed");
-    assert!(rt; answer.is_ok() || text.is_empty(), "listed");
+    Ok(())
+}
+
+/// The calls that give the meaning of a log end in this way too.
+fn assert_meant(
+    rt: &impl Abort,
+    alloc: Global,
+    limit: u64,
+    log: &[u8],
+    answer: Result<Summary, Fault>,
+) -> Result<(), Fail> {
+    let (found, text) = listed(alloc, limit, log)?;
+    assert_eq!(rt; found, answer, "listed");
+    assert!(rt; found.is_ok() || text.is_empty(), "listed");
     let fault = meaning(alloc, limit, log)?.err();
-    assert_eq!(rt; fault, whole.0.err(), "the meaning");
-    Ok(whole)
+    assert_eq!(rt; fault, answer.err(), "the meaning");
+    Ok(())
 }
 
 /// The summary and the canonical log of a log that is accepted. The canonical log is normalised again: it has to be its
@@ -144,8 +168,7 @@ pub(crate) fn assert_listed(
     row: &str,
 ) -> Result<(), Fail> {
     let (_, text) = listed(alloc, GIBIBYTE, log.as_bytes())?;
-    let (text, expected) = (String::from_utf8(text)?, marked(alloc, row, "item")?);
-    assert_eq!(rt; text.as_str(), expected.as_str(), "{}", name_of(row));
+    assert_marked(rt, alloc, row, "item", String::from_utf8(text)?.as_str())?;
     Ok(())
 }
 

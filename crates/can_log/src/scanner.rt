@@ -309,6 +309,3 @@ fn front_of(bytes: &[u8], n: usize) -> &[u8]
 {
     if n < bytes.len() { &bytes[..n] } else { bytes }
 }
-
-#[cfg(test)]
-mod tests;

@@ -17,8 +17,6 @@
 
 mod frame;
 pub mod laws;
-#[cfg(test)]
-mod tests;
 
 ghost use Rattle.std.specs.Prelude.{◌≡◌, ◌≤◌, ℕ, List, length};
 ghost use Rattle.can_log.specs.declared.frame.Dir.{Dir};

@@ -18,8 +18,6 @@ mod endless;
 mod faulty;
 pub mod laws;
 mod reader;
-#[cfg(test)]
-mod tests;
 mod whole;
 mod writer;
 

@@ -21,8 +21,6 @@ mod orderer;
 mod pairing;
 mod sink;
 mod step;
-#[cfg(test)]
-mod tests;
 
 pub use item::Item;
 pub use meaning::Meaning;

@@ -14,8 +14,6 @@
 
 mod message;
 mod names;
-#[cfg(test)]
-mod tests;
 
 pub use message::{Answer, TesterKind, answers, suppresses, tester_kind};
 pub use names::{code_name, service_name};

@@ -1,10 +1,10 @@
 //! What std's errors become, and what the devices for tests give and take.
-use crate::{
+use std::io;
+use std::io::ErrorKind;
+use trace_io::{
     DeviceFault, Endless, FailsAfter, FailsAt, FullAfter, Reading, Short, Source, Target, Writing,
     write_all,
 };
-use std::io;
-use std::io::ErrorKind;
 
 #[test]
 fn any_error_of_the_reader_is_a_failure_and_gives_nothing(rt: HostRuntime) {
@@ -69,7 +69,7 @@ fn a_write_that_takes_nothing_is_a_failure(rt: HostRuntime) {
 }
 
 #[test]
-fn short_devices_give_and_take_one_byte_a_call(rt: HostRuntime) {
+fn a_short_device_gives_one_byte_a_call(rt: HostRuntime) {
     let mut reader = Reading::new(Short {
         inner: b"ab".as_slice(),
         most: 1,
@@ -80,6 +80,10 @@ fn short_devices_give_and_take_one_byte_a_call(rt: HostRuntime) {
     assert_eq!(rt; reader.read(&mut buffer), Ok(1));
     assert_eq!(rt; buffer[0], b'b');
     assert_eq!(rt; reader.read(&mut buffer), Ok(0));
+}
+
+#[test]
+fn a_short_device_takes_one_byte_a_call(rt: HostRuntime) {
     let mut writer = Writing::new(Short {
         inner: Vec::new(rt.alloc()),
         most: 1,
@@ -107,7 +111,7 @@ fn a_text_is_written_whole_or_as_far_as_there_is_room(rt: HostRuntime) {
 }
 
 #[test]
-fn every_call_behind_two_bytes_fails(rt: HostRuntime) {
+fn every_read_behind_two_bytes_fails(rt: HostRuntime) {
     let mut reader = Reading::new(FailsAfter {
         inner: b"abc".as_slice(),
         room: 2,
@@ -119,6 +123,10 @@ fn every_call_behind_two_bytes_fails(rt: HostRuntime) {
     assert_eq!(rt; reader.read(&mut buffer), Err(DeviceFault));
     assert_eq!(rt; reader.read(&mut buffer), Err(DeviceFault));
     assert_eq!(rt; reader.into_inner().inner, b"c".as_slice());
+}
+
+#[test]
+fn every_write_behind_two_bytes_fails(rt: HostRuntime) {
     let mut writer = Writing::new(FailsAfter {
         inner: Vec::new(rt.alloc()),
         room: 2,
@@ -142,6 +150,11 @@ fn one_byte_is_given_without_end(rt: HostRuntime) {
         (source.reads(), source.given(), source.failures()),
         (3, 2, 0)
     );
+}
+
+#[test]
+fn a_repeated_byte_is_given_without_end(rt: HostRuntime) {
+    let mut buffer = [0; 2];
     let mut reader = Reading::new(Short {
         inner: io::repeat(b'\n'),
         most: 1,

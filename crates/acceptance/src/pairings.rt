@@ -1,0 +1,433 @@
+//! What lists of messages mean, and the order in which they are put. No expected value comes from the program.
+
+use crate::rows::{assert_marked, line_marked, messages_marked, name_of, push_message};
+use can_log::Dir::{self, Tester, Unit};
+use std::alloc::{AllocError, Global};
+use std::process::Abort;
+use std::test::Fail;
+use uds_exchange::{Item, Meaning, MessageSink, OrderFault, Orderer, Pairing};
+
+/// Lists of messages, and the items that they mean.
+const MEANINGS: &str = "\
+no message
+
+a late answer is a stray of the next request
+message Tester#22F190
+message Tester#1902FF
+message Unit#62F19041
+message Unit#5902FF
+item exchange 22F190 unanswered
+item exchange 1902FF -> 5902FF
+item stray Unit#62F19041
+
+a keep-alive between request and answer
+message Tester#22F190
+message Tester#3E80
+message Unit#62F19041
+item exchange 22F190 -> 62F19041
+item stray Tester#3E80
+
+a keep-alive alone
+message Tester#3E80
+item stray Tester#3E80
+
+a suppressed request without answer
+message Tester#1083
+item exchange 1083 unanswered
+
+a suppressed request with a pending reply and an answer
+message Tester#1083
+message Unit#7F1078
+message Unit#5003
+item exchange 1083 -> 5003
+
+a pending reply before the answer and one behind it
+message Tester#22F190
+message Tester#3E80
+message Unit#7F2278
+message Unit#62F19041
+message Unit#7F2278
+item exchange 22F190 -> 62F19041
+item stray Tester#3E80
+item stray Unit#7F2278
+
+two pending replies
+message Tester#22F190
+message Unit#7F2278
+message Unit#7F2278
+message Unit#7F2231
+item exchange 22F190 -> 7F2231
+
+a pending reply without answer
+message Tester#22F190
+message Unit#7F2278
+item exchange 22F190 unanswered
+
+pending replies of four bytes and for another service
+message Tester#22F190
+message Unit#7F227800
+message Unit#7F1978
+item exchange 22F190 unanswered
+item stray Unit#7F227800
+item stray Unit#7F1978
+
+a negative response of four bytes
+message Tester#22F190
+message Unit#7F223100
+message Unit#7F2231
+item exchange 22F190 -> 7F2231
+item stray Unit#7F223100
+
+the answer to TesterPresent behind a keep-alive
+message Tester#3E00
+message Tester#3E80
+message Unit#7E00
+item exchange 3E00 -> 7E00
+item stray Tester#3E80
+
+almost keep-alives
+message Tester#3E8000
+message Tester#3E
+item exchange 3E8000 unanswered
+item exchange 3E unanswered
+
+a request without positive response
+message Tester#3F
+message Unit#7F
+message Unit#7F3F
+message Unit#7F2211
+message Unit#7F3F78
+message Unit#7F3F11
+item exchange 3F -> 7F3F11
+item stray Unit#7F
+item stray Unit#7F3F
+item stray Unit#7F2211
+
+requests by bit 6 alone
+message Tester#BA
+message Unit#7FBA99
+message Tester#00
+message Unit#40
+message Tester#62F1
+message Tester#FF
+item exchange BA -> 7FBA99
+item exchange 00 -> 40
+item stray Tester#62F1
+item stray Tester#FF
+
+strays before the first request
+message Unit#62F190
+message Tester#3E80
+message Unit#7F2278
+message Tester#22F190
+item stray Unit#62F190
+item stray Tester#3E80
+item stray Unit#7F2278
+item exchange 22F190 unanswered
+
+strays of an unanswered request stay before the next one
+message Tester#22F190
+message Unit#5902
+message Tester#1902FF
+item exchange 22F190 unanswered
+item stray Unit#5902
+item exchange 1902FF unanswered
+
+a second answer
+message Tester#22F190
+message Unit#62F19041
+message Unit#62F19042
+item exchange 22F190 -> 62F19041
+item stray Unit#62F19042
+
+an answer of the tester
+message Tester#22F190
+message Tester#62F190
+item exchange 22F190 unanswered
+item stray Tester#62F190
+
+empty messages
+message Tester#
+message Tester#22
+message Unit#
+message Tester#
+item stray Tester#
+item exchange 22 unanswered
+item stray Unit#
+item stray Tester#
+";
+
+#[test]
+fn each_list_has_the_meaning_of_its_row(rt: HostRuntime) -> Result<(), Fail> {
+    let alloc = rt.alloc();
+    for row in MEANINGS.split("\n\n") {
+        let meaning = meaning_of(alloc, row, "message")?;
+        let items = items_text(alloc, &meaning)?;
+        assert_marked(&rt, alloc, row, "item", items.as_str())?;
+        assert_eq!(rt; meaning.is_empty(), items.is_empty(), "{}", name_of(row));
+        let behind = meaning.item(meaning.len());
+        assert!(rt; behind.is_none(), "{}", name_of(row));
+    }
+    Ok(())
+}
+
+/// What the messages in the lines of a row with this mark mean.
+fn meaning_of(alloc: Global, row: &str, mark: &str) -> Result<Meaning, Fail> {
+    let mut pairing = Pairing::new(alloc);
+    for message in &messages_marked(alloc, row, mark)? {
+        pairing.take(message.dir, message.bytes.as_slice())?;
+    }
+    Ok(pairing.finish())
+}
+
+/// Tells the items of a meaning, each in a line.
+pub(crate) fn items_text(alloc: Global, meaning: &Meaning) -> Result<String, AllocError> {
+    let mut text = String::new(alloc);
+    for i in 0..meaning.len() {
+        push_item(alloc, &mut text, meaning.item(i))?;
+    }
+    Ok(text)
+}
+
+fn push_item(alloc: Global, text: &mut String, item: Option<&Item>) -> Result<(), AllocError> {
+    match item {
+        Some(Item::Exchange { request, answer }) => {
+            let request = hex::encode_upper(alloc, request.as_slice())?;
+            let answer = match answer {
+                Some(answer) => {
+                    let answer = hex::encode_upper(alloc, answer.as_slice())?;
+                    format!(in alloc; "-> {answer}")?
+                }
+                None => String::from_str(alloc, "unanswered")?,
+            };
+            text.push_str(&format!(in alloc; "exchange {request} {answer}\n")?)
+        }
+        Some(Item::Stray { dir, bytes }) => {
+            text.push_str("stray ")?;
+            push_message(alloc, text, *dir, bytes.as_slice())
+        }
+        None => text.push_str("none\n"),
+    }
+}
+
+/// Two lists, and the place at which their meanings first differ.
+const DIFFERENCES: &str = "\
+two empty lists
+place None
+
+the same list
+left Tester#22F190
+left Unit#62F19041
+right Tester#22F190
+right Unit#62F19041
+place None
+
+a keep-alive before the answer and after it
+left Tester#22F190
+left Tester#3E80
+left Unit#62F19041
+right Tester#22F190
+right Unit#62F19041
+right Tester#3E80
+place None
+
+another answer
+left Tester#22F190
+left Unit#62F19041
+right Tester#22F190
+right Unit#62F19042
+place Some(0)
+
+no answer
+left Tester#3E80
+left Tester#22F190
+left Unit#62F19041
+right Tester#3E80
+right Tester#22F190
+place Some(1)
+
+a meaning that ends
+left Tester#3E80
+left Tester#22F190
+left Tester#3E80
+right Tester#3E80
+place Some(1)
+
+an empty one
+right Tester#3E80
+place Some(0)
+";
+
+#[test]
+fn meanings_differ_first_where_the_row_says(rt: HostRuntime) -> Result<(), Fail> {
+    let alloc = rt.alloc();
+    for row in DIFFERENCES.split("\n\n") {
+        let left = meaning_of(alloc, row, "left")?;
+        let right = meaning_of(alloc, row, "right")?;
+        for place in [left.first_difference(&right), right.first_difference(&left)] {
+            let place = format!(in alloc; "{place:?}\n")?;
+            assert_marked(&rt, alloc, row, "place", &place)?;
+        }
+    }
+    Ok(())
+}
+
+/// Keeps up to a number of messages, as a text.
+#[derive(Drop)]
+struct Recorder {
+    alloc: Global,
+    messages: String,
+    put: usize,
+    room: usize,
+}
+
+impl Recorder {
+    fn new(alloc: Global, room: usize) -> Recorder {
+        Recorder {
+            alloc,
+            messages: String::new(alloc),
+            put: 0,
+            room,
+        }
+    }
+}
+
+impl MessageSink for Recorder {
+    ghost use Rattle.std.specs.Prelude.{⊤};
+
+    type Fault = &'static str;
+
+    ghost after_ok = { λ old dir message new. ⊤ };
+
+    ghost after_err = { λ old dir message fault new. ⊤ };
+
+    fn put(&mut self, dir: Dir, message: &[u8]) -> Result<(), &'static str> {
+        if self.put >= self.room {
+            return Err("full");
+        }
+        self.put = self.put.saturating_add(1);
+        push_message(self.alloc, &mut self.messages, dir, message).map_err(|_| "memory")
+    }
+}
+
+/// Messages, and a sink with room for so many; after each message the bytes held and the number of messages put, or why there
+/// is none, and the same at the end; and the messages as they were put.
+const STEPS: &str = "\
+a pending reply before the answer and one after it
+room 10
+message Tester#22F190
+step 0 bytes held, 1 put
+message Tester#3E80
+step 2 bytes held, 1 put
+message Unit#7F2278
+step 2 bytes held, 1 put
+message Unit#62F19041
+step 0 bytes held, 3 put
+message Unit#7F2278
+step 0 bytes held, 4 put
+step 0 bytes held, 4 put
+order Tester#22F190
+order Unit#62F19041
+order Tester#3E80
+order Unit#7F2278
+
+nothing is put after the sink has refused
+room 1
+message Tester#22F190
+step 0 bytes held, 1 put
+message Tester#3E80
+step 2 bytes held, 1 put
+message Unit#7F2278
+step 2 bytes held, 1 put
+message Unit#62F19041
+step Sink(\"full\")
+message Unit#7F2278
+step Failed
+step Failed
+order Tester#22F190
+
+a refusal at the end
+room 1
+message Tester#22F190
+step 0 bytes held, 1 put
+message Tester#3E80
+step 2 bytes held, 1 put
+step Sink(\"full\")
+order Tester#22F190
+";
+
+#[test]
+fn messages_are_put_as_soon_as_their_place_is_known(rt: HostRuntime) -> Result<(), Fail> {
+    let alloc = rt.alloc();
+    for row in STEPS.split("\n\n") {
+        let room = line_marked(row, "room").parse::<usize>()?;
+        let mut sink = Recorder::new(alloc, room);
+        let steps = steps_of(alloc, row, &mut sink)?;
+        assert_marked(&rt, alloc, row, "step", steps.as_str())?;
+        assert_marked(&rt, alloc, row, "order", sink.messages.as_str())?;
+    }
+    Ok(())
+}
+
+/// Tells what is answered to each message of a row, and at the end.
+fn steps_of(alloc: Global, row: &str, sink: &mut Recorder) -> Result<String, Fail> {
+    let mut steps = String::new(alloc);
+    let mut orderer = Orderer::new(alloc);
+    for message in &messages_marked(alloc, row, "message")? {
+        let answer = orderer.take(message.dir, message.bytes.as_slice(), sink);
+        push_step(alloc, &mut steps, answer, orderer.held(), sink.put)?;
+    }
+    let answer = orderer.finish(sink);
+    push_step(alloc, &mut steps, answer, 0, sink.put)?;
+    Ok(steps)
+}
+
+fn push_step(
+    alloc: Global,
+    text: &mut String,
+    answer: Result<(), OrderFault<&'static str>>,
+    held: u64,
+    put: usize,
+) -> Result<(), AllocError> {
+    let step = match answer {
+        Ok(()) => format!(in alloc; "{held} bytes held, {put} put\n")?,
+        Err(fault) => format!(in alloc; "{fault:?}\n")?,
+    };
+    text.push_str(&step)
+}
+
+/// Tells the messages of a meaning in order.
+fn in_order(alloc: Global, meaning: &Meaning) -> Result<String, AllocError> {
+    let mut text = String::new(alloc);
+    for i in 0..meaning.len() {
+        if let Some(item) = meaning.item(i) {
+            push_in_order(alloc, &mut text, item)?;
+        }
+    }
+    Ok(text)
+}
+
+fn push_in_order(alloc: Global, text: &mut String, item: &Item) -> Result<(), AllocError> {
+    match item {
+        Item::Exchange { request, answer } => {
+            push_message(alloc, text, Tester, request.as_slice())?;
+            if let Some(answer) = answer {
+                push_message(alloc, text, Unit, answer.as_slice())?;
+            }
+            Ok(())
+        }
+        Item::Stray { dir, bytes } => push_message(alloc, text, *dir, bytes.as_slice()),
+    }
+}
+
+#[test]
+fn the_order_is_that_of_the_meaning(rt: HostRuntime) -> Result<(), Fail> {
+    let alloc = rt.alloc();
+    for row in MEANINGS.split("\n\n") {
+        let mut sink = Recorder::new(alloc, 10);
+        steps_of(alloc, row, &mut sink)?;
+        let order = in_order(alloc, &meaning_of(alloc, row, "message")?)?;
+        assert_eq!(rt; sink.messages.as_str(), order.as_str(), "{}", name_of(row));
+    }
+    Ok(())
+}
