@@ -139,6 +139,13 @@ def comparisons(cases):
         ("45", "a.log", "a.log", b"left: canonical log longer than the limit\n"),
     ]:
         cases.case(f"compare --limit {limit}", cases.run(["compare", "--limit", limit, left, right]), REFUSAL, b"", error)
+    for words, status, output, error in [
+        (["compare", "--limit=92", "a.log", "--unit", "7e2", "--", "-b"], DIFFERENT, b"different at item 2\n", b""),
+        (["compare", "--limit=91", "a.log", "--unit", "7e2", "--", "-b"], REFUSAL, b"", b"right: canonical log longer than the limit\n"),
+        (["compare", "--limit=91", "--unit", "7e2", "--", "-b", "a.log"], REFUSAL, b"", b"left: canonical log longer than the limit\n"),
+        (["compare", "a.log", "--", "-b"], DONE, b"same\n", b""),
+    ]:
+        cases.case(" ".join(words), cases.run(words), status, output, error)
 
 
 def files_that_fail(cases):
@@ -216,7 +223,7 @@ def main():
     cases = Cases(os.path.abspath(sys.argv[1]))
     files = {
         "a.log": LOG, "-": LOG, "--limit": LOG, "größe.log": LOG, "empty.log": b"",
-        "other.log": LOG.replace(b"7E0", b"7e2"), "refused.log": NO_LOG_LINE,
+        "other.log": LOG.replace(b"7E0", b"7e2"), "-b": LOG + LOG.replace(b"7E0", b"7e2"), "refused.log": NO_LOG_LINE,
         "oversize.log": OVERSIZE,
     }
     with tempfile.TemporaryDirectory() as folder:

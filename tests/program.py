@@ -7,15 +7,19 @@ are those of examples/.
 Prints a line for each case and ends with `N passed, M failed`; its status is 1 where a case failed.
 """
 
+import errno
 import os
 import re
+import resource
+import signal
 import subprocess
 import sys
 import tempfile
 from pathlib import Path
 
 import oracle
-from cases import DEVICE, DIFFERENT, DONE, REFUSAL, Cases
+from cases import DEVICE, DIFFERENT, DONE, REFUSAL, WORDS, Cases
+from refuser import READ, WRITE, Refuser
 
 FIRST_LOG = b"(1700000000.000000) can0 7E0#0322F190"
 FIRST_CANONICAL = b"(0000000000.000000) can0 7E0#0322F190CCCCCCCC\n"
@@ -31,6 +35,18 @@ SIDES = {"extended-identifiers.log": {oracle.TESTER: "18DA10F1", oracle.UNIT: "1
 
 READ_FAILED = b"read failed\n"
 WRITE_FAILED = b"write failed\n"
+
+# Words with which the program tells something on standard error, and its exit status.
+TOLD = [
+    (["lis"], WORDS),
+    (["list", "--limit", "0"], WORDS),
+    (["list", "missing"], DEVICE),
+    (["list", EXAMPLES], DEVICE),
+    (["list", EXAMPLES / "refused.log"], REFUSAL),
+    (["compare", "missing", "missing"], DEVICE),
+    (["compare", EXAMPLES / "vin.log", "missing"], DEVICE),
+    (["compare", EXAMPLES / "vin.log", EXAMPLES / "refused.log"], REFUSAL),
+]
 
 
 def bad_line(line, column):
@@ -66,6 +82,20 @@ def logs(cases):
     cases.case("its canonical log again", cases.run(log=canonical), DONE, canonical)
     lines = log.count(b"\n")
     cases.case("a log of 10 MB that is refused at its end", cases.run(log=log + b"("), REFUSAL, canonical, bad_line(lines + 1, 2))
+
+
+def default_limit(cases):
+    """A log may have 2^30 bytes, where no words say otherwise."""
+    line = b"(0000000001.000000) can0 123##0" + b"00" * 48 + b"\n"
+    for name, last, status, error in [
+        ("a log of 2^30 bytes", b"", DONE, b""),
+        ("a log of one byte more", b"\n", REFUSAL, b"log longer than the limit\n"),
+    ]:
+        program = subprocess.Popen([cases.program], stdin=subprocess.PIPE, stdout=subprocess.PIPE, stderr=subprocess.PIPE)
+        for _ in range(2**10):
+            program.stdin.write(line * 2**13)
+        output, told = program.communicate(last, timeout=60)
+        cases.case(name, (program.returncode, output, told), status, error=error)
 
 
 def the_longest_message(cases):
@@ -165,12 +195,23 @@ def devices(cases):
             pass
         with open(read_only, "rb") as output:
             cases.case("an output that takes no bytes", cases.run(log=FIRST_LOG, stdout=output), DEVICE, None, WRITE_FAILED)
+    with tempfile.TemporaryFile() as file:
+        cases.case("a file that may have 20 bytes", cases.run(log=FIRST_LOG, stdout=file, preexec_fn=take_20_bytes), DEVICE, None, WRITE_FAILED)
+        file.seek(0)
+        took = file.read()
+        cases.report("what that file has", [] if took == FIRST_CANONICAL[:20] else [f"{took!r}"])
     reader, writer = os.pipe()
     os.close(reader)
     cases.case("a pipe that nobody reads", cases.run(log=FIRST_LOG, stdout=writer), DEVICE, None, WRITE_FAILED)
     os.close(writer)
     broken_pipe(cases)
     slow_pipe(cases)
+
+
+def take_20_bytes():
+    """Has a write beyond 20 bytes of a file fail."""
+    signal.signal(signal.SIGXFSZ, signal.SIG_IGN)
+    resource.setrlimit(resource.RLIMIT_FSIZE, (20, 20))
 
 
 def broken_pipe(cases):
@@ -200,6 +241,49 @@ def slow_pipe(cases):
     cases.case("a log in small pieces", (program.returncode, output, error), DONE, want)
 
 
+def device_calls(cases):
+    """Whichever read or write fails, the program says so, and has written a front of its text. A log is read in pieces of
+    4,096 bytes, and once more at its end; 178 canonical lines fit into the buffer of the output."""
+    log, canonical = long_log(20_000)
+    pieces, lines = -(-len(log) // 4096), canonical.count(b"\n")
+    with tempfile.TemporaryDirectory() as folder:
+        refuser = Refuser(folder)
+        blank, long, vin = Path(folder, "blank.log"), Path(folder, "long.log"), EXAMPLES / "vin.log"
+        blank.write_bytes(b"\n")
+        long.write_bytes(log)
+        for words, reads, writes in [
+            (["normalise", blank], [2], 0),
+            (["normalise", vin], [2], 1),
+            (["normalise", long], [pieces + 1], -(-lines // 178)),
+            (["list", vin], [2], 1),
+            (["explain", vin], [2], 1),
+            (["compare", vin, long], [2, pieces + 1], 1),
+        ]:
+            sides = [b"left: ", b"right: "] if words[0] == "compare" else [b""]
+            told = [side + READ_FAILED for side, number in zip(sides, reads) for _ in range(number)]
+            name = " ".join([words[0], *[log.name for log in words[1:]]])
+            each_fails(cases, refuser, f"{name}, each read fails ({len(told)})", words, READ, told)
+            each_fails(cases, refuser, f"{name}, each read is interrupted ({len(told)})", words, READ, told, errno.EINTR)
+            each_fails(cases, refuser, f"{name}, each write fails ({writes})", words, WRITE, [WRITE_FAILED] * writes)
+        for words, status in TOLD:
+            name = " ".join(os.path.basename(word) for word in words)
+            found = refuser.run(cases.program, words, WRITE, 1)
+            cases.report(f"what can't be told: {name}", [] if found == (status, b"", b"", True) else [f"{found}"])
+
+
+def each_fails(cases, refuser, name, words, kind, told, error=errno.EIO):
+    """Each call of this kind fails in turn, and this is told of it. No further call is made."""
+    ample = cases.run(words)
+    wrong = []
+    for call, fault in enumerate(told, 1):
+        status, text, came, is_refused = refuser.run(cases.program, words, kind, call, error)
+        if (status, came, is_refused) != (DEVICE, fault, True) or not ample[1].startswith(text):
+            wrong.append(f"call {call}: status {status}, output {text[:100]!r}, error output {came!r}")
+    if refuser.run(cases.program, words, kind, len(told) + 1, error) != (*ample, False):
+        wrong.append(f"there is a call {len(told) + 1}")
+    cases.report(name, wrong)
+
+
 def memory(cases):
     """A log of 100 MB through a pipe takes no more memory than a short one."""
     log, _ = long_log(1_000_000)
@@ -225,7 +309,7 @@ def main():
     if len(sys.argv) != 2:
         sys.exit(__doc__)
     cases = Cases(os.path.abspath(sys.argv[1]))
-    for test in [logs, the_longest_message, examples, copies, devices, memory]:
+    for test in [logs, default_limit, the_longest_message, examples, copies, devices, device_calls, memory]:
         test(cases)
     cases.end()
 

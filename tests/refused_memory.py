@@ -22,6 +22,8 @@ import tempfile
 from collections import Counter
 from pathlib import Path
 
+from refuser import GROWTH, Refuser
+
 TESTS = Path(__file__).resolve().parent
 EXAMPLES = TESTS.parent / "examples"
 CALLS = TESTS.parent / "crates" / "refused_memory"
@@ -31,8 +33,6 @@ MEMORY = 5
 TOLD = [b"out of memory\n"]
 TOLD_OF_TWO = [*TOLD, b"left: out of memory\n", b"right: out of memory\n"]
 MOST_GROWTHS = 1000
-# What the library that refuses a growth writes to standard error.
-REFUSED = b"refused\n"
 
 # How many growths each call of the libraries has over each session of the crate.
 CALL_GROWTHS = """
@@ -127,24 +127,6 @@ LOGS = {
 }
 
 
-def build_refuser(folder):
-    """The library that refuses a growth to the process that loads it, built by the kit's own compiler."""
-    guide = subprocess.run(["rt", "doc"], capture_output=True, text=True, check=True).stdout.strip()
-    toolchain = Path(guide).parent / "toolchain"
-    refuser = Path(folder) / "refuse_growth.so"
-    words = [toolchain / "bin" / "clang", "--target=x86_64-unknown-linux-gnu", f"--sysroot={toolchain}"]
-    words += ["-O1", "-fPIC", "-shared", "-nostdlib", "-fuse-ld=lld", "-o", refuser, TESTS / "refuse_growth.c"]
-    subprocess.run(words, check=True)
-    return refuser
-
-
-def run(program, words, refuser, growth):
-    """Status, output and fault of the program, and whether a growth was refused."""
-    refusing = {"LD_PRELOAD": str(refuser), "REFUSED_GROWTH": str(growth)}
-    done = subprocess.run([program, *words], capture_output=True, timeout=60, env={**os.environ, **refusing})
-    return done.returncode, done.stdout, done.stderr.removeprefix(REFUSED), done.stderr.startswith(REFUSED)
-
-
 def words_refused(program, refuser, name, words, growths, swallowed):
     """Whichever growth is refused, the program says so, and has written a front of what it writes with ample memory. Of a
     comparison it says so without a side, then of the left log and then of the right one. The parser swallows this
@@ -154,7 +136,7 @@ def words_refused(program, refuser, name, words, growths, swallowed):
     told = TOLD_OF_TWO if "compare" in words else TOLD
     same_answers = 0
     for growth in range(1, MOST_GROWTHS):
-        status, output, fault, is_refused = run(program, words, refuser, growth)
+        status, output, fault, is_refused = refuser.run(program, words, GROWTH, growth)
         if not is_refused:
             holds = (growth - 1, same_answers) == (growths, swallowed) and (status, output, fault) == ample
             seen = (f"{growth - 1} growths", f"{same_answers} swallowed", status, output[:100], fault)
@@ -200,7 +182,7 @@ def call_growths(tests, refuser, test):
     None where it ends in another way."""
     growths = Counter()
     for growth in range(1, MOST_GROWTHS):
-        status, output, error, is_refused = run(tests, [test], refuser, growth)
+        status, output, error, is_refused = refuser.run(tests, [test], GROWTH, growth)
         if not is_refused:
             return growths if status == 0 else None
         session = re.match(rb'error: "(\w+)"\n', error)
@@ -226,7 +208,7 @@ def main():
     if len(sys.argv) != 2:
         sys.exit(__doc__)
     with tempfile.TemporaryDirectory() as folder:
-        refuser = build_refuser(folder)
+        refuser = Refuser(folder)
         the_program(os.path.abspath(sys.argv[1]), refuser, Path(folder))
         the_libraries(refuser)
     print(f"{passed} passed, {failed} failed")

@@ -1,6 +1,8 @@
 //! An identifier as an option spells it.
 
 ghost use Rattle.std.specs.Prelude.{◌≡◌};
+ghost use Rattle.std.specs.Char.{is_ascii_hexdigit};
+ghost use Rattle.std.specs.List.{list_all};
 ghost use Rattle.udsnorm.specs.Identifiers.{identifier_of};
 
 use can_log::Id;
@@ -12,7 +14,7 @@ pub(crate) fn identifier(text: &str) -> Option<Id>
     ensures { result ≡ identifier_of text.now }
 {
     // A sign is no digit of an identifier.
-    if !text.as_bytes().iter().all(|byte| byte.is_ascii_hexdigit()) {
+    if !are_digits(text) {
         return None;
     }
     match text.len() {
@@ -20,4 +22,11 @@ pub(crate) fn identifier(text: &str) -> Option<Id>
         8 => u32::from_str_radix(text, 16).ok().map(Id::Ext),
         _ => None,
     }
+}
+
+/// Whether a text has hexadecimal digits alone.
+fn are_digits(text: &str) -> bool
+    ensures { result ≡ list_all is_ascii_hexdigit text.now }
+{
+    text.as_bytes().iter().all(|byte| byte.is_ascii_hexdigit())
 }

@@ -8,7 +8,7 @@ use thiserror::Error;
 use trace_canon::{Config, ConfigFault};
 
 /// What the program does with a log, or with two.
-#[derive(Clone, Copy, Debug, PartialEq, Eq)]
+#[derive(Clone, Copy, PartialEq, Eq)]
 pub enum Job {
     /// Writes the canonical log.
     Normalise,
@@ -21,7 +21,7 @@ pub enum Job {
 }
 
 /// What a command line asks for.
-#[derive(Debug, Drop, PartialEq, Eq)]
+#[derive(Drop)]
 pub struct Plan {
     pub job: Job,
     pub config: Config,
@@ -32,7 +32,7 @@ pub struct Plan {
 }
 
 /// Why a command line asks for nothing that the program does.
-#[derive(Debug, Drop, PartialEq, Eq, Error)]
+#[derive(Debug, Drop, Error)]
 pub enum WordsFault {
     /// Help was asked for. This is its text.
     #[error("{0}")]

@@ -20,8 +20,6 @@ mod identifiers;
 mod job;
 mod run;
 mod tell;
-#[cfg(test)]
-mod tests;
 mod text;
 mod words;
 

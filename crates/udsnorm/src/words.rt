@@ -4,7 +4,7 @@ ghost use Rattle.std.specs.Prelude.{◌≡◌, ◌≢◌, None, IfOk, IfErr, IsS
 ghost use Rattle.clap.specs.Words.{FailsBy, first_of, found_of, kind_of, rows_of, subcommand_rows_of};
 ghost use Rattle.udsnorm.specs.Commands.{command_in, refusals, words_or_normalise};
 ghost use Rattle.udsnorm.specs.Identifiers.{identifier_of};
-ghost use Rattle.udsnorm.specs.Words.{IsCalled, IsConfiguredBy, IsConfiguredIn, IsPlanOf, IsPlanned, IsPlannedFrom, IsRefusedFor, job_named};
+ghost use Rattle.udsnorm.specs.Words.{AreFilesOf, IsCalled, IsConfiguredBy, IsConfiguredIn, IsPlanOf, IsPlanned, IsPlannedFrom, IsRefusedFor, job_named};
 
 use crate::command::{LEFT, LIMIT, LOG, RIGHT, TESTER, UNIT, command};
 use crate::identifiers::identifier;
@@ -87,24 +87,34 @@ fn plan_of(alloc: Global, job: Job, found: &ArgMatches<'_>) -> Result<Plan, Word
     ensures fault { IfErr result (IsRefusedFor job (rows_of (found_of found.now))) }
 {
     let config = configuration(found)?;
+    let (first, second) = files_of(alloc, job, found)?;
+    Ok(Plan {
+        job,
+        config,
+        first,
+        second,
+    })
+}
+
+/// The files of a job: the log, if it is named, and no other; or the two to compare.
+fn files_of(
+    alloc: Global,
+    job: Job,
+    found: &ArgMatches<'_>,
+) -> Result<(Option<String>, Option<String>), WordsFault>
+    ensures files { IfOk result (λ files. AreFilesOf job (rows_of (found_of found.now)) (option_map string_bytes files.0) (option_map string_bytes files.1)) }
+    ensures fault { IfErr result (IsRefusedFor job (rows_of (found_of found.now))) }
+{
     if job != Job::Compare {
-        return Ok(Plan {
-            job,
-            config,
-            first: copied(alloc, text_of(found, LOG))?,
-            second: None,
-        });
+        return Ok((copied(alloc, text_of(found, LOG))?, None));
     }
     let (Some(left), Some(right)) = (text_of(found, LEFT), text_of(found, RIGHT)) else {
         // The parser asks for both.
         return Err(WordsFault::Words(String::new(alloc)));
     };
-    Ok(Plan {
-        job,
-        config,
-        first: Some(String::from_str(alloc, left)?),
-        second: Some(String::from_str(alloc, right)?),
-    })
+    let first = String::from_str(alloc, left)?;
+    let second = String::from_str(alloc, right)?;
+    Ok((Some(first), Some(second)))
 }
 
 /// The configuration that the options ask for. Each of them has a default.

@@ -1,10 +1,8 @@
-use Rattle.std.proofs.Common.{rules, tests, arith, ap, sym, refl, ◌≡◌, ◌∙◌, true, length, Some}
+use Rattle.std.proofs.Common.{arith, ap, sym, refl, ◌≡◌, ◌∙◌, true, length, Some}
 use Rattle.std.specs.Char.{is_ascii_hexdigit}
 use Rattle.std.specs.List.{list_all}
 use Rattle.std.specs.Result.{result_ok}
 use Rattle.std.specs.Str.Parse.{digits_value}
-use Rattle.std.proofs.lemmas.Iterator.{YieldsList-from_slice}
-use Rattle.std.proofs.lemmas.Iterator.Search.{all_from_yields_List}
 use Rattle.can_log.specs.declared.frame.Id.TheVariants as id
 use Rattle.udsnorm.specs.Identifiers.{identifier_of}
 use Rattle.udsnorm.proofs.SpelledIdentifiers.{digits_are_read, some_of}
@@ -13,9 +11,7 @@ use Rattle.udsnorm.proofs.identifiers.identifier.Goals as goal
 pub returns-in-3 : goal.returns-in-3
 unfolding identifier_of
 returns-in-3 c =
-    let all = all_from_yields_List is_ascii_hexdigit _ _ c.all.result c.all.ensures.ran (YieldsList-from_slice c.as_bytes.result.now cc) (λ x b q k. search (rules, tests)) in
-    let passed : c.all.result ≡ true = c.if-not-all.false in
-    let each : list_all is_ascii_hexdigit c.args.text.now ≡ true = ap (list_all is_ascii_hexdigit) (sym c.as_bytes.ensures.value) ∙ sym all ∙ passed in
+    let each : list_all is_ascii_hexdigit c.args.text.now ≡ true = sym c.are_digits.ensures ∙ c.if-not-are_digits.false in
     let long : length c.args.text.now ≡ 3 = c.in-3.is in
     let read = digits_are_read 16 c.args.text.now c.from_str_radix.result c.from_str_radix.ensures.value each (omega arith) (rw long (omega arith)) in
     let ok : c.ok.result ≡ Some (digits_value 16 c.args.text.now) = c.ok.ensures.value ∙ ap result_ok read in
@@ -25,9 +21,7 @@ returns-in-3 c =
 pub returns-in-8 : goal.returns-in-8
 unfolding identifier_of
 returns-in-8 c =
-    let all = all_from_yields_List is_ascii_hexdigit _ _ c.all.result c.all.ensures.ran (YieldsList-from_slice c.as_bytes.result.now cc) (λ x b q k. search (rules, tests)) in
-    let passed : c.all.result ≡ true = c.if-not-all.false in
-    let each : list_all is_ascii_hexdigit c.args.text.now ≡ true = ap (list_all is_ascii_hexdigit) (sym c.as_bytes.ensures.value) ∙ sym all ∙ passed in
+    let each : list_all is_ascii_hexdigit c.args.text.now ≡ true = sym c.are_digits.ensures ∙ c.if-not-are_digits.false in
     let long : length c.args.text.now ≡ 8 = c.in-8.is in
     let read = digits_are_read 32 c.args.text.now c.from_str_radix-in-8.result c.from_str_radix-in-8.ensures.value each (omega arith) (rw long (omega arith)) in
     let ok : c.ok-in-8.result ≡ Some (digits_value 16 c.args.text.now) = c.ok-in-8.ensures.value ∙ ap result_ok read in
