@@ -13,8 +13,8 @@ const FRONT: usize = 25;
 /// Where the last digit of the milliseconds stands.
 const LAST_DIGIT: usize = 14;
 
-/// The time of a canonical line, with the bytes that stand before its identifier. Of ten lines nine differ there from the
-/// line before in one digit, so they are kept for the next line.
+/// The time of a canonical line, with the bytes that stand before its identifier. They are kept for the next line: of ten
+/// lines nine differ there from the line before in one digit.
 #[derive(Clone, Copy)]
 pub struct LineClock {
     millis: u64,
@@ -69,7 +69,7 @@ impl LineClock {
     }
 }
 
-/// The bytes before the identifier, made anew.
+/// The bytes before the identifier, made anew. One line in ten needs them, so this stays out of the way of the others.
 #[inline(never)]
 fn front_at(millis: u64) -> [u8; FRONT]
     requires { millis < 10 ^ 13 }
