@@ -2,7 +2,7 @@
 //! program.
 
 use crate::rows::{assert_marked, line_marked, marked, name_of};
-use can_log::{Id, Scan, Scanner, Stamped, line_bytes};
+use can_log::{Id, LineClock, Scan, Scanner, Stamped, append_line, line_bytes};
 use std::alloc::{AllocError, Global};
 use std::process::Abort;
 use std::test::Fail;
@@ -465,5 +465,31 @@ fn first_and_last_lines(rt: HostRuntime) {
         ),
     ] {
         assert_eq!(rt; line_bytes(n, id, &data).as_slice(), line);
+    }
+}
+
+#[test]
+fn times_are_counted_up_from_line_to_line(rt: HostRuntime) {
+    for (before, line) in [
+        (0, b"(0000000000.001000) can0 7E0#0000000000000000\n"),
+        (8, b"(0000000000.009000) can0 7E0#0000000000000000\n"),
+        (9, b"(0000000000.010000) can0 7E0#0000000000000000\n"),
+        (99, b"(0000000000.100000) can0 7E0#0000000000000000\n"),
+        (999, b"(0000000001.000000) can0 7E0#0000000000000000\n"),
+        (
+            1_009_999,
+            b"(0000001010.000000) can0 7E0#0000000000000000\n",
+        ),
+        (
+            9_999_999_999_998,
+            b"(9999999999.999000) can0 7E0#0000000000000000\n",
+        ),
+    ] {
+        let mut clock = LineClock::at(before);
+        clock.advance();
+        let mut text = line_bytes(before, Id::Std(0x7E0), &[0; 8]);
+        text.clear();
+        append_line(&mut text, &clock, Id::Std(0x7E0), &[0; 8]);
+        assert_eq!(rt; text.as_slice(), line.as_slice());
     }
 }

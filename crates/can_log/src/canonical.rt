@@ -1,13 +1,13 @@
 //! The canonical line of a frame.
-ghost use Rattle.std.specs.Prelude.{◌≡◌, ◌+◌, ◌/◌, ◌%◌, ◌^◌, ◌<◌, ◌≤◌, [], ◌∷◌, ◌++◌, Some, codes, length};
+ghost use Rattle.std.specs.Prelude.{◌≡◌, ◌+◌, ◌^◌, ◌<◌, ◌≤◌, [], ◌∷◌, ◌++◌, Some, length};
 ghost use Rattle.arrayvec.specs.ArrayVec.{array_vec_len};
-ghost use Rattle.can_log.specs.Digits.{decimal};
 ghost use Rattle.can_log.specs.Canonical.{canonical_length, canonical_line, canonical_stamped};
 ghost use Rattle.can_log.specs.Frame.{IsCanIdentifier};
 ghost use Rattle.can_log.specs.Log.{LogMeans};
 
-use crate::digit_lanes::{decimal_digits, digits_of_bytes, hexadecimal_digits};
+use crate::digit_lanes::{digits_of_bytes, hexadecimal_digits};
 use crate::frame::Id;
+use crate::line_clock::LineClock;
 use arrayvec::ArrayVec;
 
 /// How many bytes the line of a base identifier has.
@@ -27,19 +27,22 @@ pub fn line_bytes(n: u64, id: Id, data: &[u8; 8]) -> ArrayVec<u8, LONGEST_LINE>
     ensures means { LogMeans result.items (Some (canonical_stamped n id «data».now) ∷ []) }
 {
     let mut line = ArrayVec::new();
-    append_line(&mut line, n, id, data);
+    append_line(&mut line, &LineClock::at(n), id, data);
     line
 }
 
-/// Appends the line that [`line_bytes`] makes, so that it is made where it is to lie.
+/// Appends the line at the clock's time that [`line_bytes`] makes, so that it is made where it is to lie.
 #[inline(always)]
-pub fn append_line<const CAP: usize>(text: &mut ArrayVec<u8, CAP>, n: u64, id: Id, data: &[u8; 8])
-    requires n { n < 10 ^ 13 }
-    requires room { array_vec_len text.old + canonical_length id ≤ CAP }
-    ensures { text.new.items ≡ text.old.items ++ canonical_line n id «data».now }
+pub fn append_line<const CAP: usize>(
+    text: &mut ArrayVec<u8, CAP>,
+    clock: &LineClock,
+    id: Id,
+    data: &[u8; 8],
+)
+    requires { array_vec_len text.old + canonical_length id ≤ CAP }
+    ensures { text.new.items ≡ text.old.items ++ canonical_line clock.now id «data».now }
 {
-    append(text, &stamp(n));
-    append(text, b"00) can0 ");
+    append(text, &clock.front());
     match id {
         Id::Std(number) => append(text, &hexadecimal_digits::<3>(u32::from(number))),
         Id::Ext(number) => append(text, &hexadecimal_digits::<8>(number)),
@@ -57,19 +60,6 @@ pub fn line_length(id: Id) -> usize
         Id::Std(_) => BASE_LINE,
         Id::Ext(_) => LONGEST_LINE,
     }
-}
-
-/// The time as far as its milliseconds, and the zero after them. With a digit in place of each of its two marks it is one
-/// number of sixteen digits.
-#[inline(always)]
-fn stamp(n: u64) -> [u8; 16]
-    requires { n < 10 ^ 13 }
-    ensures { result ≡ codes "(" ++ decimal 10 (n / 1000) ++ codes "." ++ decimal 3 (n % 1000) ++ codes "0" }
-{
-    let mut text = decimal_digits(n / 1000 * 100_000 + n % 1000 * 10);
-    text[0] = b'(';
-    text[11] = b'.';
-    text
 }
 
 /// Appends bytes that there is room for.

@@ -23,6 +23,7 @@ mod hexadecimal;
 mod lanes;
 pub mod laws;
 mod line;
+mod line_clock;
 mod meaning;
 mod plain;
 mod scanner;
@@ -30,4 +31,5 @@ mod stamp;
 
 pub use canonical::{LONGEST_LINE, append_line, line_bytes, line_length};
 pub use frame::{Dir, Frame, Id, Kind, Stamped};
+pub use line_clock::LineClock;
 pub use scanner::{Scan, Scanner};

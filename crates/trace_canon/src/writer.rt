@@ -9,7 +9,7 @@ ghost use Rattle.trace_canon.specs.Writing.{text_from, place_after};
 use crate::block::{Block, gather_line};
 use crate::config::Config;
 use crate::place::Place;
-use can_log::Dir;
+use can_log::{Dir, line_length};
 use isotp_receive::MESSAGE_LIMIT;
 use isotp_segment::Segments;
 use trace_io::{DeviceFault, MOST_FAILURES, Target, write_all};
@@ -132,10 +132,13 @@ fn write_frames<W: Target>(
 {
     block.clear();
     'frames: for (sender, frame) in frames {
-        let Some(number) = place.next_line(config, sender) else {
+        let id = config.id_of(sender);
+        let length = line_length(id);
+        if !place.has_room(length) {
             return write_all(writer, block.as_slice());
-        };
-        gather_line(writer, block, number, config.id_of(sender), &frame)?;
+        }
+        gather_line(writer, block, place.clock(), id, &frame)?;
+        place.pass(length);
     }
     write_all(writer, block.as_slice())
 }

@@ -1,4 +1,4 @@
-use Rattle.std.proofs.Common.{ℕ, cond, ltb, refl, sym}
+use Rattle.std.proofs.Common.{ℕ, cond, ltb, refl}
 use Rattle.std.specs.Char.{is_ascii_digit}
 use Rattle.std.proofs.lemmas.Bool.{eqb-true}
 use Rattle.std.proofs.lemmas.Simd.{splat_is_map, zip2_splat}
