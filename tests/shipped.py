@@ -156,13 +156,13 @@ def make_check_goes_upwards():
     """`make check` with another `rt`, up to the step that fails: each crate comes after those that it stands on."""
     for crate, failing, steps in [
         ("uds_message", "uds_message check", ["uds_message: rt fmt", "uds_message: rt check"]),
-        ("acceptance", "acceptance try --test --seconds 600", ["acceptance: rt fmt", "acceptance: rt check", "acceptance: rt try --test"]),
+        ("acceptance", "acceptance test", ["acceptance: rt fmt", "acceptance: rt check", "acceptance: rt test"]),
         (
             "isotp_segment",
-            "acceptance try --test --seconds 600",
+            "acceptance test",
             ["isotp_segment: rt fmt", "isotp_segment: rt check"]
             + [f"{user}: rt check" for user in ["trace_canon", "layer_bench", "acceptance", "refused_memory"]]
-            + ["acceptance: rt try --test"],
+            + ["acceptance: rt test"],
         ),
     ]:
         with tempfile.TemporaryDirectory() as folder:
