@@ -52,23 +52,18 @@ sixteen_more i digits le =
     let two : take (16 * i + 16) digits ≡ take (16 * i) digits ++ take 16 (drop (16 * i) digits) = take-add (16 * i) 16 digits in
     rw (next, two) (spelled_append (take (16 * i) digits) (take 16 (drop (16 * i) digits)) (omega (arith, all)))
 
+-- what a slice from a place on holds
+pub rest_of : (n : ℕ) (digits : List ℕ) → take (length digits - n) (drop n digits) ≡ drop n digits
+rest_of n digits = rw (← length-drop n digits) (take-length (drop n digits))
+
 -- what follows the front of a slice is the slice's rest
 pub the_rest : (i : ℕ) (digits : List ℕ) → 16 * i ≤ length digits
     → bytes_spelled (take (16 * i) digits) ++ bytes_spelled (take (length digits - 16 * i) (drop (16 * i) digits)) ≡ bytes_spelled digits
 the_rest i digits le =
     let front : length (take (16 * i) digits) ≡ 16 * i = length-take-le (16 * i) digits le in
-    let back : take (length digits - 16 * i) (drop (16 * i) digits) ≡ drop (16 * i) digits =
-    rw (← length-drop (16 * i) digits) (take-length (drop (16 * i) digits))
-    in
+    let back = rest_of (16 * i) digits in
     rw back (sym (spelled_append (take (16 * i) digits) (drop (16 * i) digits) (omega (arith, front))))
     ∙ ap (λ (whole : List ℕ). bytes_spelled whole) (take-append-drop (16 * i) digits)
-
--- and there are at most 64 bytes in both
-pub the_rest_fits : (i : ℕ) (digits : List ℕ) → IsDataText 128 digits → 16 * i ≤ length digits
-    → length (bytes_spelled (take (16 * i) digits)) + length (bytes_spelled (take (length digits - 16 * i) (drop (16 * i) digits))) ≤ 64
-the_rest_fits i digits text le =
-    let both = length-append (bytes_spelled (take (16 * i) digits)) (bytes_spelled (take (length digits - 16 * i) (drop (16 * i) digits))) in
-    omega (arith, both, ap (λ (bytes : List ℕ). length bytes) (the_rest i digits le), bytes_len digits text.1, text.0.few)
 
 -- a part of a front that is data
 pub part_of_front : (i sixteens : ℕ) (digits : List ℕ) → IsDataText 128 (take (16 * sixteens) digits) → 16 * sixteens ≤ length digits → i < sixteens
@@ -159,16 +154,19 @@ pub few_digits : (digits : ℕ) (bytes : List ℕ) → IsDataText 128 (take digi
 few_digits digits bytes text room = omega (arith, length-take-le digits bytes room, text.0.few)
 
 -- the bytes of the first digits, and those of the last
-pub spelled_in_parts : (digits : ℕ) (bytes spelled : List ℕ) → digits + 15 ≤ length bytes → 0 < digits % 16 → IsDataText 128 (take digits bytes)
-    → AreSpelledInFront (take 16 (drop (in_sixteens digits) bytes)) spelled
-    → bytes_spelled (take (in_sixteens digits) bytes) ++ take (digits % 16 / 2) spelled ≡ bytes_spelled (take digits bytes)
-spelled_in_parts digits bytes spelled room some text are =
-    let last = last_digits digits bytes text (omega arith) in
-    let second = front_bytes (digits % 16) (drop (in_sixteens digits) bytes) spelled (omega (arith, length-drop (in_sixteens digits) bytes)) (omega arith) last.0 are in
+pub spelled_in_parts : (digits : ℕ) (bytes : List ℕ) → digits ≤ length bytes → IsDataText 128 (take digits bytes)
+    → bytes_spelled (take (in_sixteens digits) bytes) ++ bytes_spelled (take (digits % 16) (drop (in_sixteens digits) bytes)) ≡ bytes_spelled (take digits bytes)
+spelled_in_parts digits bytes room text =
+    let last = last_digits digits bytes text room in
     let first : length (take (in_sixteens digits) bytes) ≡ in_sixteens digits = length-take-le (in_sixteens digits) bytes (omega arith) in
-    ap (λ (z : List ℕ). bytes_spelled (take (in_sixteens digits) bytes) ++ z) second
-    ∙ sym (spelled_append (take (in_sixteens digits) bytes) (take (digits % 16) (drop (in_sixteens digits) bytes)) (omega (arith, first)))
+    sym (spelled_append (take (in_sixteens digits) bytes) (take (digits % 16) (drop (in_sixteens digits) bytes)) (omega (arith, first)))
     ∙ ap (λ (z : List ℕ). bytes_spelled z) (sym last.1)
+
+-- all digits stand in whole sixteens
+pub whole_sixteens : (digits : List ℕ) → length digits % 16 ≡ 0 → bytes_spelled (take (in_sixteens (length digits)) digits) ≡ bytes_spelled digits
+whole_sixteens digits none =
+    let all : in_sixteens (length digits) ≡ length digits = omega arith in
+    ap (λ (n : ℕ). bytes_spelled (take n digits)) all ∙ ap (λ (z : List ℕ). bytes_spelled z) (take-length digits)
 
 -- ---- what `hex` decodes
 

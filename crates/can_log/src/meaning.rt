@@ -1,17 +1,18 @@
 //! What the digits of a line mean: its time, and its frame.
 
-ghost use Rattle.std.specs.Prelude.{◌≡◌, ◌<◌, ◌≤◌, ◌+◌, ◌*◌, ℕ, length, take, IsTrue, []};
+ghost use Rattle.std.specs.Prelude.{◌≡◌, ◌<◌, ◌≤◌, ◌+◌, ◌-◌, ◌*◌, ◌/◌, ◌++◌, ℕ, length, take, drop, IsTrue, []};
 ghost use Rattle.std.specs.List.{AllByRecursion};
 ghost use Rattle.std.specs.Char.{is_ascii_hexdigit};
 ghost use Rattle.std.specs.Str.Parse.{digits_value};
+ghost use Rattle.can_log.specs.FrameData.{zeros};
 ghost use Rattle.can_log.specs.Line.{IsRunOf, IsDataText, IsIdentifierText, identifier_of, bytes_spelled, stamped_of};
 ghost use Rattle.can_log.specs.LineReader.{AreParts};
 ghost use Rattle.can_log.specs.Views.{parts_of};
 
 use crate::frame::{Frame, Id, Kind, Stamped};
+use crate::frame_data::FrameData;
 use crate::hexadecimal::hex_digit_value;
 use crate::line::{Body, Parts};
-use arrayvec::ArrayVec;
 use std::simd::prelude::*;
 
 /// The frame that a line of these parts records, and its time.
@@ -23,7 +24,7 @@ pub(crate) fn stamped_of(parts: Parts<'_>) -> Stamped
     let id = identifier_of(parts.identifier);
     let (kind, data) = match parts.body {
         Body::Classic(digits, _) => (Kind::Classic, data_of(digits)),
-        Body::Remote(_, _) => (Kind::Remote, ArrayVec::new()),
+        Body::Remote(_, _) => (Kind::Remote, FrameData::new()),
         Body::Fd(_, digits) => (Kind::Fd, data_of(digits)),
     };
     Stamped {
@@ -62,60 +63,83 @@ fn hex_number(digits: &[u8]) -> u32
 /// The bytes that pairs of digits spell: sixteen digits at a time, and what is left of them by the crate `hex`. That tests
 /// each digit against three ranges, branches that the processor can't foresee in data; so it has the short rest alone.
 #[inline(always)]
-fn data_of(digits: &[u8]) -> ArrayVec<u8, 64>
+fn data_of(digits: &[u8]) -> FrameData
     requires { IsDataText 128 digits.now }
-    ensures { result.items ≡ bytes_spelled digits.now }
+    ensures { result ≡ bytes_spelled digits.now }
 {
     let sixteens = digits.len() / 16;
-    let mut bytes = ArrayVec::new();
-    put_sixteens(sixteens, digits, &mut bytes);
-    let last = few_bytes(&digits[16 * sixteens..]);
-    let _ = bytes.try_extend_from_slice(last.as_slice());
-    bytes
+    let mut data = FrameData::new();
+    put_sixteens(sixteens, digits, &mut data);
+    if digits.len() % 16 != 0 {
+        let last = &digits[16 * sixteens..];
+        data.append(&few_bytes(last), last.len() / 2);
+    }
+    data
 }
 
 /// Puts the bytes that a multiple of sixteen digits spells, whatever follows them.
 #[inline(always)]
-fn put_sixteens(sixteens: usize, digits: &[u8], bytes: &mut ArrayVec<u8, 64>)
+fn put_sixteens(sixteens: usize, digits: &[u8], data: &mut FrameData)
     requires few { sixteens ≤ 8 }
     requires room { 16 * sixteens ≤ length digits.now }
     requires text { IsDataText 128 (take (16 * sixteens) digits.now) }
-    requires empty { bytes.old.items ≡ [] }
-    ensures { bytes.new.items ≡ bytes_spelled (take (16 * sixteens) digits.now) }
+    requires empty { «data».old ≡ [] }
+    ensures { «data».new ≡ bytes_spelled (take (16 * sixteens) digits.now) }
 {
     for i in 0..sixteens {
-        let _ = bytes.try_extend_from_slice(&eight_bytes(&digits[16 * i..16 * i + 16]));
+        data.append(&eight_bytes(&digits[16 * i..16 * i + 16]), 8);
     }
 }
 
 /// Puts the bytes that digits spell, by lanes alone: at least fifteen bytes follow the digits.
 #[inline(always)]
-pub(crate) fn put_data(digits: usize, text: &[u8], bytes: &mut ArrayVec<u8, 64>)
+pub(crate) fn put_data(digits: usize, text: &[u8], data: &mut FrameData)
     requires room { digits + 15 ≤ length text.now }
     requires text { IsDataText 128 (take digits text.now) }
-    requires empty { bytes.old.items ≡ [] }
-    ensures { bytes.new.items ≡ bytes_spelled (take digits text.now) }
+    requires empty { «data».old ≡ [] }
+    ensures { «data».new ≡ bytes_spelled (take digits text.now) }
 {
     let sixteens = digits / 16;
-    put_sixteens(sixteens, text, bytes);
+    put_sixteens(sixteens, text, data);
     if digits % 16 != 0 {
-        let last = spelled(u8x16::from_slice(&text[16 * sixteens..]));
-        let _ = bytes.try_extend_from_slice(&last[..digits % 16 / 2]);
+        put_few(digits % 16, &text[16 * sixteens..], data);
     }
 }
 
-/// The bytes that fewer than sixteen digits spell.
+/// Puts the bytes that at most sixteen digits spell, after those that are there. The lanes reach sixteen bytes.
 #[inline(always)]
-fn few_bytes(digits: &[u8]) -> ArrayVec<u8, 8>
+pub(crate) fn put_few(digits: usize, text: &[u8], data: &mut FrameData)
+    requires few { digits ≤ 16 }
+    requires reach { 16 ≤ length text.now }
+    requires text { IsDataText 16 (take digits text.now) }
+    requires room { length «data».old + 8 ≤ 64 }
+    ensures { «data».new ≡ «data».old ++ bytes_spelled (take digits text.now) }
+{
+    let count = digits / 2;
+    let bytes = spelled(u8x16::from_slice(text));
+    data.append(&kept(count, bytes), count);
+}
+
+/// The first `count` of eight bytes, and zeros in the place of the others.
+#[inline(always)]
+fn kept(count: usize, bytes: [u8; 8]) -> [u8; 8]
+    requires { count ≤ 8 }
+    ensures { result ≡ take count bytes ++ zeros (8 - count) }
+{
+    let is_kept = u8x8::from_array([0, 1, 2, 3, 4, 5, 6, 7]).simd_lt(u8x8::splat(count as u8));
+    is_kept.select(u8x8::from_array(bytes), u8x8::splat(0)).to_array()
+}
+
+/// The bytes that fewer than sixteen digits spell, and zeros after them.
+#[inline(always)]
+fn few_bytes(digits: &[u8]) -> [u8; 8]
     requires few { length digits.now < 16 }
     requires text { IsDataText 128 digits.now }
-    ensures { result.items ≡ bytes_spelled digits.now }
+    ensures first { take (length digits.now / 2) result ≡ bytes_spelled digits.now }
+    ensures others { drop (length digits.now / 2) result ≡ zeros (8 - length digits.now / 2) }
 {
-    let len = digits.len() / 2;
-    let mut decoded = [0; 8];
-    decode(digits, &mut decoded[..len]);
-    let mut bytes = ArrayVec::new();
-    let _ = bytes.try_extend_from_slice(&decoded[..len]);
+    let mut bytes = [0; 8];
+    decode(digits, &mut bytes[..digits.len() / 2]);
     bytes
 }
 
