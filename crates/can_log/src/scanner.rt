@@ -128,11 +128,20 @@ impl Scanner {
                 return;
             }
         }
+        self.scan_any_into(piece, answer);
+    }
+
+    /// The same for a line of any form, and for one that is cut. It is separate, so that `scan_into` makes a frame at one place
+    /// alone, and has no room for another answer, which would be cleared for each line.
+    #[inline(never)]
+    fn scan_any_into(&mut self, piece: &[u8], answer: &mut Scan)
+        requires { self.old.taken + length piece.now ≤ 2 ^ 62 }
+        ensures answer { Scans self.old piece.now answer.new self.new }
+    {
         *answer = self.scan_any(piece);
     }
 
-    /// The same for a line of any form, and for one that is cut. It is separate, so that `scan_into` makes a frame at one place alone.
-    #[inline(never)]
+    /// The same, as a value.
     fn scan_any(&mut self, piece: &[u8]) -> Scan
         requires { self.old.taken + length piece.now ≤ 2 ^ 62 }
         ensures answer { Scans self.old piece.now result self.new }
