@@ -127,7 +127,9 @@ fn kept(count: usize, bytes: [u8; 8]) -> [u8; 8]
     ensures { result ≡ take count bytes ++ zeros (8 - count) }
 {
     let is_kept = u8x8::from_array([0, 1, 2, 3, 4, 5, 6, 7]).simd_lt(u8x8::splat(count as u8));
-    is_kept.select(u8x8::from_array(bytes), u8x8::splat(0)).to_array()
+    is_kept
+        .select(u8x8::from_array(bytes), u8x8::splat(0))
+        .to_array()
 }
 
 /// The bytes that fewer than sixteen digits spell, and zeros after them.
@@ -163,15 +165,17 @@ fn eight_bytes(digits: &[u8]) -> [u8; 8]
     spelled(u8x16::from_slice(digits))
 }
 
-/// The bytes that the digits in the first lanes spell, all at once. What stands in the other lanes makes other bytes.
+/// The bytes that the digits in the first lanes spell, all at once. What stands in the other lanes makes other bytes. Of the
+/// distances from `0` and from ten before `a`, in lower case, the lesser is a digit's value: the other one is above 15.
 #[inline(always)]
 fn spelled(digits: u8x16) -> [u8; 8]
     requires { length digits ≡ 16 }
     ensures { (n : ℕ) → n ≤ 8 → AllByRecursion (λ b. IsTrue (is_ascii_hexdigit b)) (take (2 * n) digits)
         → take n result ≡ bytes_spelled (take (2 * n) digits) }
 {
-    let above = digits.simd_gt(u8x16::splat(b'9'));
-    let values = (digits & u8x16::splat(15)) + above.select(u8x16::splat(9), u8x16::splat(0));
+    let from_zero = digits - u8x16::splat(b'0');
+    let from_letters = (digits | u8x16::splat(0x20)) - u8x16::splat(b'a' - 10);
+    let values = from_zero.simd_min(from_letters);
     let high: u8x8 = values.swizzle([0, 2, 4, 6, 8, 10, 12, 14]);
     let low: u8x8 = values.swizzle([1, 3, 5, 7, 9, 11, 13, 15]);
     (high * u8x8::splat(16) + low).to_array()
