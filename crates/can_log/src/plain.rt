@@ -174,15 +174,15 @@ fn body_in_front(bytes: &[u8]) -> Option<(PlainBody<'_>, &[u8])>
 {
     let (flags, behind) = flags_in_front(bytes)?;
     let digits = digits_in_front(flags, behind)?;
-    let [b'\n', rest @ ..] = &behind[digits..] else {
+    if behind[digits] != b'\n' {
         return None;
-    };
+    }
     let body = PlainBody {
         flags,
         digits,
         behind,
     };
-    Some((body, rest))
+    Some((body, &behind[digits + 1..]))
 }
 
 /// `#` and the digit of the flags, where an FD frame has them, and the bytes after them.
