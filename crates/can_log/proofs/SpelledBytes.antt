@@ -1,6 +1,6 @@
 -- The bytes that pairs of digits spell.
 use Rattle.std.proofs.Common.{◌≡◌, ℕ, ◌+◌, ◌-◌, ◌*◌, ◌/◌, ◌%◌, ◌<◌, ◌≤◌, true, false, refl, sym, subst, ap, ◌∙◌, arith}
-use Rattle.std.proofs.Common.{List, [], ◌∷◌, ◌++◌, length, length-append, length-take-le, length-drop, take, drop, Some, Ok}
+use Rattle.std.proofs.Common.{List, [], ◌∷◌, ◌++◌, length, length-take-le, length-drop, take, drop, Some, Ok}
 use Rattle.std.specs.Prelude.{◌==◌}
 use Rattle.std.specs.List.{AllByRecursion}
 use Rattle.std.specs.Char.{is_ascii_hexdigit, digit_value}

@@ -1,4 +1,4 @@
--- How the data of a frame lies in its 64 bytes.
+-- A device of proof: how the data of a frame lies in its 64 bytes.
 use Rattle.std.specs.Prelude.{◌≡◌, ℕ, ◌-◌, ◌≤◌, List, ◌++◌, length, take, drop, replicate}
 use Rattle.std.proofs.Common.{length-take-le, take-append-drop, sym, ap, ◌∙◌, arith}
 

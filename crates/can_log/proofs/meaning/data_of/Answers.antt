@@ -1,4 +1,4 @@
-use Rattle.std.proofs.Common.{◌≡◌, ◌≤◌, ◌*◌, ◌/◌, take, length, ◌∙◌, arith}
+use Rattle.std.proofs.Common.{◌≡◌, ◌*◌, ◌/◌, take, length, ◌∙◌, arith}
 use Rattle.can_log.specs.Line.{bytes_spelled}
 use Rattle.can_log.proofs.SpelledBytes.{the_rest, whole_sixteens, spelled_so_far}
 use Rattle.can_log.proofs.meaning.data_of.Goals as goal

@@ -1,4 +1,4 @@
-use Rattle.std.proofs.Common.{◌*◌, ◌/◌, ◌≡◌, length, ap, List, ℕ, arith}
+use Rattle.std.proofs.Common.{◌/◌, ◌≡◌, length, ap, List, ℕ, arith}
 use Rattle.can_log.specs.Line.{bytes_spelled}
 use Rattle.can_log.proofs.FilledBytes.{others_zero}
 use Rattle.can_log.proofs.SpelledBytes.{bytes_len}

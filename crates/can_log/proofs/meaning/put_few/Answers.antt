@@ -1,4 +1,4 @@
-use Rattle.std.proofs.Common.{◌≡◌, ◌/◌, ◌++◌, List, ℕ, ap, ◌∙◌, arith}
+use Rattle.std.proofs.Common.{◌/◌, ◌++◌, List, ℕ, ap, ◌∙◌, arith}
 use Rattle.can_log.proofs.FilledBytes.{others_behind}
 use Rattle.can_log.proofs.SpelledBytes.{front_bytes}
 use Rattle.can_log.proofs.meaning.put_few.Goals as goal

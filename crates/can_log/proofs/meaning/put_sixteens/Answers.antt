@@ -1,4 +1,4 @@
-use Rattle.std.proofs.Common.{◌≡◌, ◌+◌, ◌-◌, ◌*◌, ◌≤◌, take, length, sym, ◌∙◌, arith}
+use Rattle.std.proofs.Common.{◌≡◌, ◌+◌, ◌-◌, ◌*◌, take, length, sym, ◌∙◌, arith}
 use Rattle.can_log.specs.Line.{bytes_spelled}
 use Rattle.can_log.proofs.SpelledBytes.{part_of_front, sixteen_more, spelled_so_far}
 use Rattle.can_log.proofs.FilledBytes.{all_eight}

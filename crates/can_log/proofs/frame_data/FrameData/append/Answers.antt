@@ -1,4 +1,4 @@
-use Rattle.std.proofs.Common.{◌≡◌, ◌+◌, ◌≤◌, ◌++◌, ◌∙◌, arith, ap, subst, sym, List, ℕ, take, length}
+use Rattle.std.proofs.Common.{◌≡◌, ◌++◌, ◌∙◌, arith, ap, sym, List, ℕ, take, length}
 use Rattle.can_log.proofs.FilledBytes.{AreAppended, filled_further}
 use Rattle.can_log.specs.FrameData.{fits_in}
 use Rattle.can_log.proofs.frame_data.FrameData.append.Goals as goal
