@@ -22,26 +22,32 @@ options = option (codes "tester") (codes "7E0") ∷ option (codes "unit") (codes
 abbrev pub with_files : Text → List Rule → Shape
 with_files name files = record (new_shape name) { rules = options ++ files }
 
--- a log that may be given, and one that has to be
-abbrev pub log : List Rule
-log = new_rule (codes "LOG") ∷ []
+-- the files of a command: a log that may be given, or two that have to be
+abbrev pub one_log : List Rule
+one_log = new_rule (codes "LOG") ∷ []
 
 abbrev pub required : Text → Rule
 required name = record (new_rule name) { required = true }
 
--- the program: it has no options itself, and one command has to be named
+abbrev pub two_logs : List Rule
+two_logs = required (codes "A") ∷ required (codes "B") ∷ []
+
+-- the program before its commands: it has no options itself, and one command has to be named
+abbrev pub program : Shape
+program = record (new_shape (codes "udsnorm")) {
+  no_binary_name = true;
+  disable_help_subcommand = true;
+  subcommand_required = true;
+}
+
+-- the program
 abbrev pub commands : App
 commands = record {
-  top = record (new_shape (codes "udsnorm")) {
-    is_leaf = false;
-    no_binary_name = true;
-    disable_help_subcommand = true;
-    subcommand_required = true;
-  };
-  subs = with_files (codes "normalise") log
-      ∷ with_files (codes "list") log
-      ∷ with_files (codes "explain") log
-      ∷ with_files (codes "compare") (required (codes "A") ∷ required (codes "B") ∷ [])
+  top = record program { is_leaf = false };
+  subs = with_files (codes "normalise") one_log
+      ∷ with_files (codes "list") one_log
+      ∷ with_files (codes "explain") one_log
+      ∷ with_files (codes "compare") two_logs
       ∷ [];
 }
 

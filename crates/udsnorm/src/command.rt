@@ -2,7 +2,7 @@
 
 ghost use Rattle.std.specs.Prelude.{◌≡◌, [], codes, false, IfOk};
 ghost use Rattle.clap.specs.Words.{app_of, new_rule, rule_of};
-ghost use Rattle.udsnorm.specs.Commands.{commands, limit, option, required, with_files};
+ghost use Rattle.udsnorm.specs.Commands.{commands, limit, one_log, option, program, required, two_logs, with_files};
 
 use clap::{Arg, Command, value_parser};
 use std::alloc::{AllocError, Global};
@@ -81,44 +81,64 @@ Exit status: 0 the logs mean the same, 1 they differ, 2 wrong words, 3 a log is 
 
 Example: udsnorm compare yesterday.log today.log";
 
-/// All commands of the program.
+/// The program with all its commands.
 pub(crate) fn command<'a>(alloc: Global) -> Result<Command<'a>, AllocError>
     ensures { IfOk result (λ c. app_of c ≡ commands) }
 {
-    let normalise = with_options(alloc, "normalise", "Writes the canonical log", OF_NORMALISE)?;
-    let list = with_options(
-        alloc,
-        "list",
-        "Writes the exchanges and stray messages",
-        OF_LIST,
-    )?;
-    let explain = with_options(
-        alloc,
-        "explain",
-        "Writes which frames were dropped and which receptions ended early, and why",
-        OF_EXPLAIN,
-    )?;
-    let compare = with_options(
-        alloc,
-        "compare",
-        "Says whether two logs have the same exchanges and stray messages",
-        OF_COMPARE,
-    )?;
+    program(alloc)?
+        .subcommand(over_one_log(alloc, "normalise", "Writes the canonical log", OF_NORMALISE)?)?
+        .subcommand(over_one_log(
+            alloc,
+            "list",
+            "Writes the exchanges and stray messages",
+            OF_LIST,
+        )?)?
+        .subcommand(over_one_log(
+            alloc,
+            "explain",
+            "Writes which frames were dropped and which receptions ended early, and why",
+            OF_EXPLAIN,
+        )?)?
+        .subcommand(compare(alloc)?)
+}
+
+/// The program before its commands, one of which has to be named.
+fn program<'a>(alloc: Global) -> Result<Command<'a>, AllocError>
+    ensures { IfOk result (λ c. app_of c ≡ record { top = program; subs = [] }) }
+{
     Command::new(alloc, "udsnorm")
-        .bin_name("udsnorm")?
         .no_binary_name(true)
         .disable_help_subcommand(true)
         .subcommand_required(true)
         .about("Gives recorded vehicle diagnostic sessions one canonical spelling")
         .after_help(OF_THE_PROGRAM)
-        .subcommand(normalise.arg(log(alloc))?)?
-        .subcommand(list.arg(log(alloc))?)?
-        .subcommand(explain.arg(log(alloc))?)?
-        .subcommand(
-            compare
-                .arg(required_log(alloc, LEFT, "The left log"))?
-                .arg(required_log(alloc, RIGHT, "The right log"))?,
-        )
+        .bin_name("udsnorm")
+}
+
+/// A command over one log.
+fn over_one_log<'a>(
+    alloc: Global,
+    name: &'a str,
+    about: &'a str,
+    after_help: &'a str,
+) -> Result<Command<'a>, AllocError>
+    ensures { IfOk result (λ c. app_of c ≡ record { top = with_files name.entry.now one_log; subs = [] }) }
+{
+    with_options(alloc, name, about, after_help)?.arg(log(alloc))
+}
+
+/// The command over two logs.
+fn compare<'a>(alloc: Global) -> Result<Command<'a>, AllocError>
+    ensures { IfOk result (λ c. app_of c ≡ record { top = with_files (codes "compare") two_logs; subs = [] }) }
+{
+    with_options(
+        alloc,
+        "compare",
+        "Says whether two logs have the same exchanges and stray messages",
+        OF_COMPARE,
+    )?
+    .arg(required_log(alloc, LEFT, "The left log"))?
+    .arg(required_log(alloc, RIGHT, "The right log"))
 }
 
 /// A command with the options that every command has.
