@@ -2,18 +2,20 @@
 ghost use Rattle.std.specs.Prelude.{◌≡◌, ◌≢◌, ℕ, ◌+◌, ◌-◌, ◌≤◌, List, IfOk, IfErr, Err};
 ghost use Rattle.isotp_receive.specs.declared.TheConstants.{MESSAGE_LIMIT};
 ghost use Rattle.trace_canon.specs.Answers.{ReadsWhile};
-ghost use Rattle.trace_canon.specs.Compared.{Compares, ComparesTexts, fault_in};
+ghost use Rattle.trace_canon.specs.Compared.{Compares, ComparesTexts, difference, fault_in};
 ghost use Rattle.trace_canon.specs.declared.fault.Fault.{Fault as FaultValue};
 ghost use Rattle.trace_canon.specs.Failing.{FailedIf};
 ghost use Rattle.trace_canon.specs.Refusal.{IsNotRefusedWithin};
 ghost use Rattle.trace_io.specs.Counted.{AreLowCounts};
 ghost use Rattle.trace_io.specs.Stream.{BeginsAs};
+ghost use Rattle.uds_exchange.specs.Difference.{IsFirstDifference};
 
 use crate::config::Config;
 use crate::fault::{CompareFault, Fault};
 use crate::meaning::read_meaning;
 use std::alloc::Global;
 use trace_io::Source;
+use uds_exchange::Meaning;
 
 /// What two logs are to each other.
 #[derive(Clone, Copy, Debug, PartialEq, Eq)]
@@ -74,8 +76,15 @@ pub fn compare<A: Source, B: Source>(
         Ok(held) => held.meaning,
         Err(fault) => return Err(CompareFault::Right(fault)),
     };
-    match one.first_difference(&other) {
-        None => Ok(Comparison::Same),
-        Some(item) => Ok(Comparison::Different { item }),
+    Ok(comparison_of(&one, &other))
+}
+
+/// How two meanings compare.
+fn comparison_of(one: &Meaning, other: &Meaning) -> Comparison
+    ensures { IsFirstDifference one.now other.now (difference result) }
+{
+    match one.first_difference(other) {
+        None => Comparison::Same,
+        Some(item) => Comparison::Different { item },
     }
 }
