@@ -1,7 +1,7 @@
 //! Whole sessions: their canonical logs, what is counted in them, and what they list.
 
-use crate::rows::{frames_marked, marked, name_of};
-use crate::run::{GIBIBYTE, VIN_CANONICAL, assert_listed, assert_row, listed, log_of, told};
+use crate::rows::{assert_text, frames_marked, marked, name_of, rows_of};
+use crate::run::{GIBIBYTE, VIN_CANONICAL, assert_listed, assert_row, listed, told};
 use std::test::Fail;
 
 /// The one item of a session in which a vehicle identification number is read.
@@ -72,14 +72,13 @@ told lines 10 frames 5 messages 2 dropped 0 ended 0 unfinished 0 pending 0
 #[test]
 fn seven_recordings_of_a_session_have_one_canonical_log(rt: HostRuntime) -> Result<(), Fail> {
     let alloc = rt.alloc();
-    let expected = log_of(alloc, &VIN_CANONICAL)?;
-    assert_eq!(rt; expected.len(), 230);
-    for row in RECORDINGS.split("\n\n") {
+    assert_eq!(rt; VIN_CANONICAL.len(), 230);
+    for row in rows_of(RECORDINGS) {
         let (log, counts) = (marked(alloc, row, "line")?, marked(alloc, row, "told")?);
         let canonical = told(&rt, alloc, log.as_str(), counts.as_str(), name_of(row))?;
-        assert_eq!(rt; canonical.as_str(), expected.as_str(), "{}", name_of(row));
+        assert_text(&rt, row, canonical.as_str(), VIN_CANONICAL);
         let (_, items) = listed(alloc, GIBIBYTE, log.as_bytes())?;
-        assert_eq!(rt; items.as_slice(), VIN_LISTED.as_bytes(), "{}", name_of(row));
+        assert_text(&rt, row, String::from_utf8(items)?.as_str(), VIN_LISTED);
     }
     Ok(())
 }
@@ -356,7 +355,7 @@ item 1 stray unit 620102030405060708090A0B0C0D0E0F101112131415161718191A1B1C1D1E
 #[test]
 fn each_session_has_its_canonical_frames_and_items(rt: HostRuntime) -> Result<(), Fail> {
     let alloc = rt.alloc();
-    for row in WORKED.split("\n\n") {
+    for row in rows_of(WORKED) {
         let log = frames_marked(alloc, row, "frame")?;
         assert_row(&rt, alloc, log.as_str(), row)?;
         assert_listed(&rt, alloc, log.as_str(), row)?;

@@ -1,13 +1,12 @@
 //! Whether two logs mean the same.
 
 use crate::pairings::items_text;
-use crate::rows::{assert_marked, frames_marked, name_of};
-use crate::run::{GIBIBYTE, VIN_LINES, listed, log_of, meaning};
-use can_log::Id;
+use crate::rows::{assert_marked, assert_text, frames_marked, line_marked, marked, rows_of};
+use crate::run::{GIBIBYTE, VIN_LOG, listed, meaning, sides};
 use std::alloc::Global;
 use std::io::Read;
 use std::test::Fail;
-use trace_canon::{CompareFault, Comparison, Config, Fault, compare};
+use trace_canon::{CompareFault, Comparison, Fault, compare};
 use trace_io::{Reading, Source};
 
 /// Two logs compared, each between the tester 7E0 and the unit 7E8.
@@ -17,9 +16,8 @@ pub(crate) fn compared<A: Read + Drop, B: Read + Drop>(
     left: A,
     right: B,
 ) -> Result<Result<Comparison, CompareFault>, Fail> {
-    let config = Config::new(Id::Std(0x7E0), Id::Std(0x7E8), limit)?;
     let (mut left, mut right) = (Reading::new(left), Reading::new(right));
-    Ok(compare(alloc, &config, &mut left, &mut right))
+    Ok(compare(alloc, &sides(limit)?, &mut left, &mut right))
 }
 
 /// The frames of two logs, and the first item, counted from 0, at which they differ.
@@ -109,7 +107,7 @@ found item 1
 #[test]
 fn logs_differ_at_the_first_item_that_does(rt: HostRuntime) -> Result<(), Fail> {
     let alloc = rt.alloc();
-    for row in COMPARED.split("\n\n") {
+    for row in rows_of(COMPARED) {
         let left = frames_marked(alloc, row, "left")?;
         let right = frames_marked(alloc, row, "right")?;
         let (left, right) = (left.as_bytes(), right.as_bytes());
@@ -119,7 +117,7 @@ fn logs_differ_at_the_first_item_that_does(rt: HostRuntime) -> Result<(), Fail> 
         }
         for log in [left, right] {
             let found = comparison(alloc, log, log)?;
-            assert_eq!(rt; found.as_str(), "same\n", "{}", name_of(row));
+            assert_text(&rt, row, found.as_str(), "same\n");
         }
     }
     Ok(())
@@ -146,6 +144,57 @@ fn blank_and_foreign_lines_mean_nothing(rt: HostRuntime) -> Result<(), Fail> {
     Ok(())
 }
 
+/// Two logs under a limit, one of them refused at least, and why they are not compared.
+const NOT_COMPARED: &str = "\
+a digit is missing in the first
+limit 100
+left (1.000000) can0 7E0#0
+right (1.000000) a 7E0#0111
+found Left(BadLine { line: 1, column: 22 })
+
+in the second
+limit 100
+left (1.000000) a 7E0#0111
+right (1.000000) can0 7E0#0
+found Right(BadLine { line: 1, column: 22 })
+
+in both
+limit 100
+left (1.000000) can0 7E0#0
+right (1.000000) can0 7E0#0
+found Left(BadLine { line: 1, column: 22 })
+
+the canonical log of the first is too long
+limit 45
+left (1.000000) a 7E0#0111
+right (1.000000) can0 7E0#0
+found Left(OutputLimit)
+
+that of the second
+limit 45
+right (1.000000) a 7E0#0111
+found Right(OutputLimit)
+
+the second itself
+limit 21
+right (1.000000) a 7E0#0111
+found Right(LogLimit)
+";
+
+#[test]
+fn the_log_that_is_refused_is_told(rt: HostRuntime) -> Result<(), Fail> {
+    let alloc = rt.alloc();
+    for row in rows_of(NOT_COMPARED) {
+        let limit = line_marked(row, "limit").parse::<u64>()?;
+        let (left, right) = (marked(alloc, row, "left")?, marked(alloc, row, "right")?);
+        let found = compared(alloc, limit, left.as_bytes(), right.as_bytes())?;
+        let fault = found.err().ok_or("accepted")?;
+        let fault = format!(in alloc; "{fault:?}\n")?;
+        assert_marked(&rt, alloc, row, "found", fault.as_str())?;
+    }
+    Ok(())
+}
+
 /// A line in which a digit is missing.
 const REFUSED: &[u8] = b"(1.000000) can0 7E0#0\n";
 
@@ -155,29 +204,11 @@ const PLACE: Fault = Fault::BadLine {
 };
 
 #[test]
-fn the_log_that_is_refused_is_told(rt: HostRuntime) -> Result<(), Fail> {
-    let one = b"(1.000000) a 7E0#0111\n".as_slice();
-    for (limit, left, right, expected) in [
-        (100, REFUSED, one, CompareFault::Left(PLACE)),
-        (100, one, REFUSED, CompareFault::Right(PLACE)),
-        (100, REFUSED, REFUSED, CompareFault::Left(PLACE)),
-        (45, one, REFUSED, CompareFault::Left(Fault::OutputLimit)),
-        (45, b"", one, CompareFault::Right(Fault::OutputLimit)),
-        (21, b"", one, CompareFault::Right(Fault::LogLimit)),
-    ] {
-        let found = compared(rt.alloc(), limit, left, right)?;
-        assert_eq!(rt; found, Err(expected), "limit {limit}");
-    }
-    Ok(())
-}
-
-#[test]
 fn of_the_second_log_nothing_is_read_where_the_first_is_refused(
     rt: HostRuntime,
 ) -> Result<(), Fail> {
-    let config = Config::new(Id::Std(0x7E0), Id::Std(0x7E8), GIBIBYTE)?;
     let (mut left, mut right) = (Reading::new(REFUSED), Reading::new(REFUSED));
-    let found = compare(rt.alloc(), &config, &mut left, &mut right);
+    let found = compare(rt.alloc(), &sides(GIBIBYTE)?, &mut left, &mut right);
     assert_eq!(rt; found, Err(CompareFault::Left(PLACE)));
     assert_eq!(rt; (right.reads(), right.given()), (0, 0));
     Ok(())
@@ -191,10 +222,9 @@ fn items_of(alloc: Global, log: &[u8]) -> Result<String, Fail> {
 
 #[test]
 fn the_meaning_of_a_session_has_its_messages(rt: HostRuntime) -> Result<(), Fail> {
-    let mut log = log_of(rt.alloc(), &VIN_LINES)?;
-    let items = items_of(rt.alloc(), log.as_bytes())?;
+    let items = items_of(rt.alloc(), VIN_LOG.as_bytes())?;
     assert_eq!(rt; items.as_str(), VIN_ITEM);
-    log.push_str("(1700000000.040000) can0 7E8#037F2278\n")?;
+    let log = format!(in rt.alloc(); "{VIN_LOG}(1700000000.040000) can0 7E8#037F2278\n")?;
     let items = items_of(rt.alloc(), log.as_bytes())?;
     assert_eq!(rt; items.strip_prefix(VIN_ITEM), Some("stray Unit#7F2278\n"));
     Ok(())

@@ -2,15 +2,14 @@
 
 use crate::comparisons::compared;
 use crate::run::{
-    GIBIBYTE, LINE, VIN_CANONICAL, VIN_LINES, byte_by_byte, explained, front_of, listed, log_of,
-    meaning, run_over,
+    Call, GIBIBYTE, LINE, Ran, VIN_CANONICAL, VIN_LOG, answer_of, byte_by_byte, explained,
+    front_of, listed, meaning, run_over, sides,
 };
-use can_log::Id;
-use std::alloc::Global;
-use std::io::{ErrorKind, Write};
+use std::alloc::{AllocError, Global};
+use std::io::ErrorKind;
 use std::process::Abort;
 use std::test::Fail;
-use trace_canon::{CompareFault, Config, Fault, Summary, explain, list, normalise};
+use trace_canon::{CompareFault, Fault, normalise};
 use trace_io::{Endless, FailsAfter, FailsAt, FullAfter, Reading, Short, Source, Target, Writing};
 
 /// A reader that gives one byte a call, until the read after `given` bytes fails.
@@ -22,66 +21,61 @@ fn failing(log: &[u8], given: usize) -> FailsAt<Short<&[u8]>> {
     }
 }
 
+/// A call failed in this way at a place of its device, and had written this.
+fn assert_failed(rt: &impl Abort, ran: &Ran, fault: Fault, written: &[u8], place: usize) {
+    assert_eq!(rt; ran.0, Err(fault), "{place} bytes");
+    assert_eq!(rt; ran.1.as_slice(), written, "{place} bytes");
+}
+
 #[test]
 fn a_read_that_fails_after_so_many_bytes(rt: HostRuntime) -> Result<(), Fail> {
-    let alloc = rt.alloc();
-    let log = log_of(alloc, &VIN_LINES)?;
-    let canonical = log_of(alloc, &VIN_CANONICAL)?;
+    let log = VIN_LOG.as_bytes();
     for given in 0..=log.len() {
         let written = match given {
             0..38 => 0,
             38..212 => LINE,
             _ => 230,
         };
-        let at = failing(log.as_bytes(), given);
+        let written = front_of(VIN_CANONICAL.as_bytes(), written);
+        let ran = run_over(rt.alloc(), GIBIBYTE, failing(log, given))?;
+        assert_failed(&rt, &ran, Fault::Read, written, given);
         let after = FailsAfter {
-            inner: log.as_bytes(),
+            inner: log,
             room: given,
             kind: ErrorKind::Interrupted,
         };
-        for (answer, text) in [
-            run_over(alloc, GIBIBYTE, at)?,
-            run_over(alloc, GIBIBYTE, after)?,
-        ] {
-            assert_eq!(rt; answer, Err(Fault::Read), "{given} bytes");
-            assert_eq!(rt;
-                text.as_slice(),
-                front_of(canonical.as_bytes(), written),
-                "{given} bytes"
-            );
-        }
+        let ran = run_over(rt.alloc(), GIBIBYTE, after)?;
+        assert_failed(&rt, &ran, Fault::Read, written, given);
     }
     Ok(())
 }
 
 /// A session after two frames that mean nothing.
-const SESSION: [&str; 5] = [
-    "(1.000000) can0 7E8#40",
-    "(1.001000) can0 7E8#21",
-    "(1.002000) can0 7E0#0322F190",
-    "(1.003000) can0 7E0#023E80",
-    "(1.004000) can0 7E8#0462F19041",
-];
+const SESSION: &str = "\
+(1.000000) can0 7E8#40
+(1.001000) can0 7E8#21
+(1.002000) can0 7E0#0322F190
+(1.003000) can0 7E0#023E80
+(1.004000) can0 7E8#0462F19041
+";
 
-const LISTED: [&str; 2] = [
-    "1 exchange ReadDataByIdentifier 22F190 -> positive 62F19041",
-    "2 stray tester 3E80",
-];
+const LISTED: &str = "\
+1 exchange ReadDataByIdentifier 22F190 -> positive 62F19041
+2 stray tester 3E80
+";
 
-const EXPLAINED: [&str; 3] = [
-    "line 1: unit frame dropped: unknown kind",
-    "line 2: unit frame dropped: consecutive frame unexpected",
-    "lines 5 frames 5 messages 3 dropped 2 ended 0 unfinished 0 pending 0",
-];
+const EXPLAINED: &str = "\
+line 1: unit frame dropped: unknown kind
+line 2: unit frame dropped: consecutive frame unexpected
+lines 5 frames 5 messages 3 dropped 2 ended 0 unfinished 0 pending 0
+";
 
 #[test]
 fn a_read_that_fails_is_told_by_each_call(rt: HostRuntime) -> Result<(), Fail> {
-    let alloc = rt.alloc();
-    let (log, told) = (log_of(alloc, &SESSION)?, log_of(alloc, &EXPLAINED)?);
-    let log = log.as_bytes();
+    let (alloc, log) = (rt.alloc(), SESSION.as_bytes());
     for given in 0..=log.len() {
         assert_listing_fails(&rt, alloc, log, given)?;
-        assert_explaining_fails(&rt, alloc, log, given, told.as_bytes())?;
+        assert_explaining_fails(&rt, alloc, log, given)?;
         let fault = meaning(alloc, GIBIBYTE, failing(log, given))?.err();
         assert_eq!(rt; fault, Some(Fault::Read), "the meaning of {given} bytes");
         assert_comparing_fails(&rt, alloc, log, given)?;
@@ -96,9 +90,8 @@ fn assert_listing_fails(
     log: &[u8],
     given: usize,
 ) -> Result<(), Fail> {
-    let (answer, text) = listed(alloc, GIBIBYTE, failing(log, given))?;
-    assert_eq!(rt; answer, Err(Fault::Read), "{given} bytes listed");
-    assert!(rt; text.is_empty(), "{given} bytes listed");
+    let ran = listed(alloc, GIBIBYTE, failing(log, given))?;
+    assert_failed(rt, &ran, Fault::Read, b"", given);
     Ok(())
 }
 
@@ -108,14 +101,10 @@ fn assert_explaining_fails(
     alloc: Global,
     log: &[u8],
     given: usize,
-    told: &[u8],
 ) -> Result<(), Fail> {
-    let (answer, text) = explained(alloc, GIBIBYTE, failing(log, given))?;
-    assert_eq!(rt; answer, Err(Fault::Read), "{given} bytes explained");
-    assert!(rt;
-        told.starts_with(text.as_slice()),
-        "{given} bytes explained"
-    );
+    let ran = explained(alloc, GIBIBYTE, failing(log, given))?;
+    let told = front_of(EXPLAINED.as_bytes(), ran.1.len());
+    assert_failed(rt, &ran, Fault::Read, told, given);
     Ok(())
 }
 
@@ -135,70 +124,61 @@ fn assert_comparing_fails(
     Ok(())
 }
 
-/// Fails each write of a call that writes this text of a log, to a writer that takes one byte a call.
-macro_rules! assert_each_write_fails {
-    ($rt:expr, $call:path, $log:expr, $text:expr) => {
-        for room in 0..$text.len() {
-            let config = Config::new(Id::Std(0x7E0), Id::Std(0x7E8), GIBIBYTE)?;
-            let mut writer = Writing::new(FailsAt {
-                inner: Short {
-                    inner: Vec::new($rt.alloc()),
-                    most: 1,
-                },
-                after: Some(room as u64),
-                kind: ErrorKind::Other,
-            });
-            let answer = $call($rt.alloc(), &config, &mut Reading::new($log), &mut writer);
-            assert_eq!($rt; answer, Err(Fault::Write), "{room} bytes");
-            let taken = writer.into_inner().inner.inner;
-            assert_eq!($rt; taken.as_slice(), front_of($text, room), "{room} bytes");
-        }
-    };
-}
-
 #[test]
 fn a_write_that_fails_is_told_by_list(rt: HostRuntime) -> Result<(), Fail> {
-    let log = log_of(rt.alloc(), &SESSION)?;
-    let text = log_of(rt.alloc(), &LISTED)?;
-    assert_each_write_fails!(rt, list, log.as_bytes(), text.as_bytes());
-    Ok(())
+    assert_each_write_fails(&rt, rt.alloc(), Call::List, LISTED.as_bytes())
 }
 
 #[test]
 fn a_write_that_fails_is_told_by_explain(rt: HostRuntime) -> Result<(), Fail> {
-    let log = log_of(rt.alloc(), &SESSION)?;
-    let text = log_of(rt.alloc(), &EXPLAINED)?;
-    assert_each_write_fails!(rt, explain, log.as_bytes(), text.as_bytes());
+    assert_each_write_fails(&rt, rt.alloc(), Call::Explain, EXPLAINED.as_bytes())
+}
+
+/// Each write of a call that writes this text of the session fails in turn. The writer takes one byte a call.
+fn assert_each_write_fails(
+    rt: &impl Abort,
+    alloc: Global,
+    call: Call,
+    text: &[u8],
+) -> Result<(), Fail> {
+    let config = sides(GIBIBYTE)?;
+    for room in 0..text.len() {
+        let writer = FailsAt {
+            inner: short(alloc),
+            after: Some(room as u64),
+            kind: ErrorKind::Other,
+        };
+        let (answer, writer) = answer_of(alloc, call, &config, SESSION.as_bytes(), writer);
+        let ran = (answer, writer.into_inner().inner.inner);
+        assert_failed(rt, &ran, Fault::Write, front_of(text, room), room);
+    }
     Ok(())
 }
 
-/// What `normalise` answers over a log of the vehicle identification number, and the writer afterwards.
-fn write_to<W: Write + Drop>(
-    alloc: Global,
-    writer: W,
-) -> Result<(Result<Summary, Fault>, W), Fail> {
-    let log = log_of(alloc, &VIN_LINES)?;
-    let config = Config::new(Id::Std(0x7E0), Id::Std(0x7E8), GIBIBYTE)?;
-    let mut reader = Reading::new(log.as_bytes());
-    let mut writer = Writing::new(writer);
-    let answer = normalise(alloc, &config, &mut reader, &mut writer);
-    Ok((answer, writer.into_inner()))
+/// A writer that takes one byte a call.
+fn short(alloc: Global) -> Short<Vec<u8>> {
+    Short {
+        inner: Vec::new(alloc),
+        most: 1,
+    }
 }
 
 #[test]
 fn a_writer_that_fails_after_a_hundred_bytes(rt: HostRuntime) -> Result<(), Fail> {
-    let alloc = rt.alloc();
-    let canonical = log_of(alloc, &VIN_CANONICAL)?;
     let writer = FailsAfter {
-        inner: Vec::new(alloc),
+        inner: Vec::new(rt.alloc()),
         room: 100,
         kind: ErrorKind::Other,
     };
-    let (answer, writer) = write_to(alloc, writer)?;
-    assert_eq!(rt; answer, Err(Fault::Write));
-    assert_eq!(rt;
-        writer.inner.as_slice(),
-        front_of(canonical.as_bytes(), 100)
+    let log = VIN_LOG.as_bytes();
+    let (answer, writer) = answer_of(rt.alloc(), Call::Normalise, &sides(GIBIBYTE)?, log, writer);
+    let ran = (answer, writer.into_inner().inner);
+    assert_failed(
+        &rt,
+        &ran,
+        Fault::Write,
+        front_of(VIN_CANONICAL.as_bytes(), 100),
+        100,
     );
     Ok(())
 }
@@ -206,94 +186,79 @@ fn a_writer_that_fails_after_a_hundred_bytes(rt: HostRuntime) -> Result<(), Fail
 #[test]
 fn a_writer_that_takes_one_byte_a_call(rt: HostRuntime) -> Result<(), Fail> {
     const CALLS: u64 = 1000;
-    let alloc = rt.alloc();
-    let canonical = log_of(alloc, &VIN_CANONICAL)?;
     let writer = FailsAt {
-        inner: Short {
-            inner: Vec::new(alloc),
-            most: 1,
-        },
+        inner: short(rt.alloc()),
         after: Some(CALLS),
         kind: ErrorKind::Other,
     };
-    let (answer, writer) = write_to(alloc, writer)?;
-    assert_eq!(rt; answer?.messages, 2);
-    assert_eq!(rt; writer.inner.inner.as_slice(), canonical.as_bytes());
-    assert_eq!(rt; writer.after, Some(CALLS - 230));
+    let log = VIN_LOG.as_bytes();
+    let (answer, writer) = answer_of(rt.alloc(), Call::Normalise, &sides(GIBIBYTE)?, log, writer);
+    let FailsAt { inner, after, .. } = writer.into_inner();
+    assert_eq!(rt; (answer?.messages, after), (2, Some(CALLS - 230)));
+    assert_eq!(rt; inner.inner.as_slice(), VIN_CANONICAL.as_bytes());
     Ok(())
 }
 
 #[test]
 fn a_writer_that_is_full_after_so_many_bytes(rt: HostRuntime) -> Result<(), Fail> {
-    let alloc = rt.alloc();
-    let canonical = log_of(alloc, &VIN_CANONICAL)?;
-    for room in 0..canonical.len() {
+    let config = sides(GIBIBYTE)?;
+    let log = VIN_LOG.as_bytes();
+    for room in 0..VIN_CANONICAL.len() {
         let writer = FullAfter {
-            inner: Short {
-                inner: Vec::new(alloc),
-                most: 1,
-            },
+            inner: short(rt.alloc()),
             room,
         };
-        let (answer, writer) = write_to(alloc, writer)?;
-        assert_eq!(rt; answer, Err(Fault::Write), "{room} bytes");
-        let taken = writer.inner.inner.as_slice();
-        assert_eq!(rt; taken, front_of(canonical.as_bytes(), room), "{room} bytes");
+        let (answer, writer) = answer_of(rt.alloc(), Call::Normalise, &config, log, writer);
+        let ran = (answer, writer.into_inner().inner.inner);
+        let written = front_of(VIN_CANONICAL.as_bytes(), room);
+        assert_failed(&rt, &ran, Fault::Write, written, room);
     }
     Ok(())
 }
 
 #[test]
 fn a_list_that_does_not_fit_its_target(rt: HostRuntime) -> Result<(), Fail> {
-    let config = Config::new(Id::Std(0x7E0), Id::Std(0x7E8), GIBIBYTE)?;
-    let mut reader = Reading::new(b"(1.000000) can0 7E0#023E80\n".as_slice());
-    let mut writer = Writing::new(FullAfter {
-        inner: Vec::new(rt.alloc()),
-        room: 7,
-    });
-    let answer = list(rt.alloc(), &config, &mut reader, &mut writer);
-    assert_eq!(rt; answer, Err(Fault::Write));
-    assert_eq!(rt; writer.failures(), 1);
-    let FullAfter { inner, .. } = writer.into_inner();
-    assert_eq!(rt; inner.as_slice(), b"1 stray".as_slice());
-    Ok(())
+    let log = "(1.000000) can0 7E0#023E80\n";
+    assert_not_fitting(&rt, rt.alloc(), Call::List, log, "1 stray")
 }
 
 #[test]
 fn an_explanation_that_does_not_fit_its_target(rt: HostRuntime) -> Result<(), Fail> {
-    let log = b"(1.000000) can0 7E8#40\n(1.000000) can0 7E8#40\n".as_slice();
-    let config = Config::new(Id::Std(0x7E0), Id::Std(0x7E8), GIBIBYTE)?;
-    let mut reader = Reading::new(log);
-    let mut writer = Writing::new(FullAfter {
-        inner: Vec::new(rt.alloc()),
-        room: 50,
-    });
-    let answer = explain(rt.alloc(), &config, &mut reader, &mut writer);
-    assert_eq!(rt; answer, Err(Fault::Write));
+    let log = "(1.000000) can0 7E8#40\n(1.000000) can0 7E8#40\n";
+    let told = "line 1: unit frame dropped: unknown kind\nline 2: u";
+    assert_not_fitting(&rt, rt.alloc(), Call::Explain, log, told)
+}
+
+/// A call over a log fails once, to a target that has room for this text and for no more.
+fn assert_not_fitting(
+    rt: &impl Abort,
+    alloc: Global,
+    call: Call,
+    log: &str,
+    text: &str,
+) -> Result<(), Fail> {
+    let writer = FullAfter {
+        inner: Vec::new(alloc),
+        room: text.len(),
+    };
+    let (answer, writer) = answer_of(alloc, call, &sides(GIBIBYTE)?, log.as_bytes(), writer);
     assert_eq!(rt; writer.failures(), 1);
-    assert_eq!(rt;
-        writer.into_inner().inner.as_slice(),
-        b"line 1: unit frame dropped: unknown kind\nline 2: u".as_slice()
-    );
+    let ran = (answer, writer.into_inner().inner);
+    assert_failed(rt, &ran, Fault::Write, text.as_bytes(), text.len());
     Ok(())
 }
 
 #[test]
 fn a_log_in_the_middle_of_which_writing_fails(rt: HostRuntime) -> Result<(), Fail> {
     let alloc = rt.alloc();
-    let session = log_of(alloc, &VIN_LINES)?;
-    let mut log = String::new(alloc);
-    for _ in 0..100 {
-        log.push_str(session.as_str())?;
-    }
+    let log = hundred_sessions(alloc)?;
     let mut reader = Reading::new(log.as_bytes());
     let mut writer = Writing::new(FailsAt {
         inner: Vec::new(alloc),
         after: Some(0),
         kind: ErrorKind::Other,
     });
-    let config = Config::new(Id::Std(0x7E0), Id::Std(0x7E8), GIBIBYTE)?;
-    let answer = normalise(alloc, &config, &mut reader, &mut writer);
+    let answer = normalise(alloc, &sides(GIBIBYTE)?, &mut reader, &mut writer);
     assert_eq!(rt; answer, Err(Fault::Write));
     assert!(rt; reader.given() <= 38 + 4095);
     assert_eq!(rt; writer.failures(), 1);
@@ -301,12 +266,19 @@ fn a_log_in_the_middle_of_which_writing_fails(rt: HostRuntime) -> Result<(), Fai
     Ok(())
 }
 
+fn hundred_sessions(alloc: Global) -> Result<String, AllocError> {
+    let mut log = String::new(alloc);
+    for _ in 0..100 {
+        log.push_str(VIN_LOG)?;
+    }
+    Ok(log)
+}
+
 #[test]
 fn a_reader_that_never_ends(rt: HostRuntime) -> Result<(), Fail> {
-    let config = Config::new(Id::Std(0x7E0), Id::Std(0x7E8), 100)?;
     let mut reader = Endless::new(b'\n');
     let mut writer = Writing::new(Vec::new(rt.alloc()));
-    let answer = normalise(rt.alloc(), &config, &mut reader, &mut writer);
+    let answer = normalise(rt.alloc(), &sides(100)?, &mut reader, &mut writer);
     assert_eq!(rt; answer, Err(Fault::LogLimit));
     assert_eq!(rt; (reader.reads(), reader.given()), (101, 101));
     assert!(rt; writer.into_inner().is_empty());

@@ -1,6 +1,6 @@
 //! The logs of `examples/` as the layers read them, messages of several frames included.
 
-use crate::rows::{frames_marked, marked, name_of};
+use crate::rows::{assert_text, frames_marked, marked, name_of, rows_of};
 use crate::run::{GIBIBYTE, Ran, assert_listed, normalised};
 use can_log::Id;
 use std::alloc::Global;
@@ -130,11 +130,11 @@ item 2 exchange ReadDTCInformation 1902FF -> positive 5902FF0123452FC0731008
 #[test]
 fn each_example_has_its_canonical_log_and_items(rt: HostRuntime) -> Result<(), Fail> {
     let alloc = rt.alloc();
-    for row in EXAMPLES.split("\n\n") {
+    for row in rows_of(EXAMPLES) {
         let log = marked(alloc, row, "line")?;
         let (summary, canonical) = normalised(&rt, alloc, log.as_str())?;
         let expected = frames_marked(alloc, row, "canonical")?;
-        assert_eq!(rt; canonical.as_str(), expected.as_str(), "{}", name_of(row));
+        assert_text(&rt, row, canonical.as_str(), expected.as_str());
         let lost = (summary.dropped, summary.ended, summary.unfinished);
         assert_eq!(rt; lost, (0, 0, 0), "{}", name_of(row));
         assert_listed(&rt, alloc, log.as_str(), row)?;

@@ -1,6 +1,6 @@
 //! What a frame says, whatever came before it. No expected value comes from the program.
 
-use crate::rows::{assert_marked, frame_of, line_marked};
+use crate::rows::{assert_marked, frame_of, line_marked, lines_of, rows_of};
 use can_log::{Frame, Id, Kind};
 use isotp_pdu::{Pdu, read_pdu};
 use std::alloc::{AllocError, Global};
@@ -12,144 +12,141 @@ use std::test::Fail;
 const FRAMES: &str = "\
 remote frame
 frame 7E8#R
-fault Remote
+says Remote
 
 no data
 frame 7E8#
-fault Empty
+says Empty
 
 single frame of length 0
 frame 7E8#00
-fault SingleLength
+says SingleLength
 
 single frame without its one byte
 frame 7E8#01
-fault SingleLength
+says SingleLength
 
 single frame of one byte
 frame 7E8#0141
-reads Single #41
+says Single #41
 
 single frame of length 8
 frame 7E8#0841424344454647
-fault SingleLength
+says SingleLength
 
 9 bytes
 frame 7E8##0214142434445464748
-fault FrameLength
+says FrameLength
 
 11 bytes
 frame 7E8##0034142434445464748494A
-fault FrameLength
+says FrameLength
 
 padded single frame of 8 bytes
 frame 7E8##00341424300000000
-reads Single #414243
+says Single #414243
 
 short length in a single frame of 12 bytes
 frame 7E8##00341424300000000AAAAAAAA
-fault SingleLength
+says SingleLength
 
 full single frame of 12 bytes
 frame 7E8##0000A4142434445464748494A
-reads Single #4142434445464748494A
+says Single #4142434445464748494A
 
 single frame of 12 bytes, one too many announced
 frame 7E8##0000B4142434445464748494A
-fault SingleLength
+says SingleLength
 
 first frame of a message of 7 bytes
 frame 7E8#1007414243444546
-fault FirstLength
+says FirstLength
 
 first frame of 7 bytes
 frame 7E8#10084142434445
-fault FirstLength
+says FirstLength
 
 first frame of a message of 8 bytes
 frame 7E8#1008414243444546
-reads First 8 8 #414243444546
+says First 8 8 #414243444546
 
 first frame of 12 bytes, message of 10
 frame 7E8##0100A4142434445464748494A
-fault FirstLength
+says FirstLength
 
 first frame of 12 bytes, message of 11
 frame 7E8##0100B4142434445464748494A
-reads First 11 12 #4142434445464748494A
+says First 11 12 #4142434445464748494A
 
 escaped 4096
 frame 7E8#1000000010004142
-reads First 4096 8 #4142
+says First 4096 8 #4142
 
 escaped 4095
 frame 7E8#100000000FFF4142
-fault FirstLength
+says FirstLength
 
 escaped 4294967295
 frame 7E8#1000FFFFFFFF4142
-reads First 4294967295 8 #4142
+says First 4294967295 8 #4142
 
 consecutive frame without data
 frame 7E8#21
-reads Next 1 1 #
+says Next 1 1 #
 
 flow control of 2 bytes
 frame 7E8#3000
-fault FlowShort
+says FlowShort
 
 short before the flow status
 frame 7E8#3F
-fault FlowShort
+says FlowShort
 
 flow status 3
 frame 7E8#330000
-fault FlowStatus
+says FlowStatus
 
 continue
 frame 7E8#300000
-reads Flow Continue
+says Flow Continue
 
 wait
 frame 7E8#310000
-reads Flow Wait
+says Flow Wait
 
 overflow
 frame 7E8#320000
-reads Flow Overflow
+says Flow Overflow
 
 kind 4
 frame 7E8#40
-fault UnknownKind
+says UnknownKind
 ";
 
 #[test]
 fn each_frame_has_the_layout_or_fault_of_its_row(rt: HostRuntime) -> Result<(), Fail> {
     let alloc = rt.alloc();
-    for row in FRAMES.split("\n\n") {
+    for row in rows_of(FRAMES) {
         let frame = frame_of(alloc, line_marked(row, "frame"))?;
-        match read_pdu(&frame) {
-            Ok(pdu) => assert_marked(&rt, alloc, row, "reads", &told(alloc, pdu)?)?,
-            Err(fault) => {
-                let fault = format!(in alloc; "{fault:?}\n")?;
-                assert_marked(&rt, alloc, row, "fault", &fault)?;
-            }
-        }
+        assert_marked(&rt, alloc, row, "says", &told(alloc, &frame)?)?;
     }
     Ok(())
 }
 
-/// Tells a layout with its bytes.
-fn told(alloc: Global, pdu: Pdu<'_>) -> Result<String, AllocError> {
-    let (what, bytes) = match pdu {
-        Pdu::Single(bytes) => (String::from_str(alloc, "Single")?, bytes),
-        Pdu::First { len, rx_dl, bytes } => (format!(in alloc; "First {len} {rx_dl}")?, bytes),
-        Pdu::Next {
-            sn,
-            frame_len,
-            bytes,
-        } => (format!(in alloc; "Next {sn} {frame_len}")?, bytes),
-        Pdu::Flow(status) => return format!(in alloc; "Flow {status:?}\n"),
+/// Tells what a frame says: its layout with its bytes, or its fault.
+fn told(alloc: Global, frame: &Frame) -> Result<String, AllocError> {
+    let (what, bytes) = match read_pdu(frame) {
+        Ok(Pdu::Single(bytes)) => (String::from_str(alloc, "Single")?, bytes),
+        Ok(Pdu::First { len, rx_dl, bytes }) => (format!(in alloc; "First {len} {rx_dl}")?, bytes),
+        Ok(
+            Pdu::Next {
+                sn,
+                frame_len,
+                bytes,
+            },
+        ) => (format!(in alloc; "Next {sn} {frame_len}")?, bytes),
+        Ok(Pdu::Flow(status)) => return format!(in alloc; "Flow {status:?}\n"),
+        Err(fault) => return format!(in alloc; "{fault:?}\n"),
     };
     let digits = hex::encode_upper(alloc, bytes)?;
     format!(in alloc; "{what} #{digits}\n")
@@ -292,18 +289,23 @@ head 103E: FirstLength
 
 #[test]
 fn every_kind_of_frame_at_every_length(rt: HostRuntime) -> Result<(), Fail> {
-    let alloc = rt.alloc();
-    for row in LENGTHS.split("\n\n") {
-        for len in line_marked(row, "lengths").split(' ') {
-            assert_heads(&rt, alloc, len.parse::<usize>()?, row)?;
-        }
+    for row in rows_of(LENGTHS) {
+        assert_lengths(&rt, rt.alloc(), row)?;
+    }
+    Ok(())
+}
+
+/// Frames of each length of a row say what the row has.
+fn assert_lengths(rt: &impl Abort, alloc: Global, row: &str) -> Result<(), Fail> {
+    for len in line_marked(row, "lengths").split(' ') {
+        assert_heads(rt, alloc, len.parse::<usize>()?, row)?;
     }
     Ok(())
 }
 
 /// Frames of this length that begin as a row has it say what it has.
 fn assert_heads(rt: &impl Abort, alloc: Global, len: usize, row: &str) -> Result<(), Fail> {
-    for line in row.split('\n') {
+    for line in lines_of(row) {
         if let Some(head) = line.strip_prefix("head ") {
             let (head, answer) = head.split_once(": ").ok_or("no answer")?;
             assert_says(rt, alloc, len, head, answer)?;
@@ -315,20 +317,27 @@ fn assert_heads(rt: &impl Abort, alloc: Global, len: usize, row: &str) -> Result
 /// The heads of frames of a length that no CAN frame has.
 const HEADS: &str = "1000 1FFF 100000001000 100000000FFF 2F 31 3F 40";
 
-/// The lengths above 8 bytes that a CAN frame has.
-const LEGAL: &str = "12 16 20 24 32 48 64";
+/// The lengths above 8 bytes that a CAN frame has, each between spaces.
+const LEGAL: &str = " 12 16 20 24 32 48 64 ";
 
 #[test]
 fn no_frame_has_another_length(rt: HostRuntime) -> Result<(), Fail> {
     let alloc = rt.alloc();
     for len in 9..64usize {
-        let text = format!(in alloc; "{len}")?;
-        if !LEGAL.split(' ').any(|legal| legal == text.as_str()) {
-            let singles = format!(in alloc; "00{:02X} 00{:02X}", len - 2, len - 1)?;
-            for head in singles.split(' ').chain(HEADS.split(' ')) {
-                assert_says(&rt, alloc, len, head, "FrameLength")?;
-            }
+        let text = format!(in alloc; " {len} ")?;
+        if !LEGAL.contains(text.as_str()) {
+            assert_has_no_frame(&rt, alloc, len)?;
         }
+    }
+    Ok(())
+}
+
+/// Bytes so many are no frame, whatever their head.
+fn assert_has_no_frame(rt: &impl Abort, alloc: Global, len: usize) -> Result<(), Fail> {
+    let (short, long) = (len.saturating_sub(2), len.saturating_sub(1));
+    let heads = format!(in alloc; "00{short:02X} 00{long:02X} {HEADS}")?;
+    for head in heads.split(' ') {
+        assert_says(rt, alloc, len, head, "FrameLength")?;
     }
     Ok(())
 }
@@ -343,39 +352,40 @@ fn assert_says(
 ) -> Result<(), Fail> {
     let mut data = hex::decode(alloc, head)?;
     data.resize(len, 9)?;
-    for (kind, most) in [(Kind::Classic, 8), (Kind::Fd, 64)] {
-        if len <= most {
-            let frame = Frame::new(Id::Std(0x7E8), kind, data.as_slice()).ok_or("no frame")?;
-            let found = match read_pdu(&frame) {
-                Ok(pdu) => placed(rt, alloc, pdu, data.as_slice())?,
-                Err(fault) => format!(in alloc; "{fault:?}")?,
-            };
-            assert_eq!(rt;
-                found.as_str(),
-                answer,
-                "{len} bytes from {head} on, {kind:?}"
-            );
-        }
+    let expected = expected_of(alloc, answer, data.as_slice())?;
+    if len <= 8 {
+        assert_told(rt, alloc, Kind::Classic, data.as_slice(), expected.as_str())?;
+    }
+    if len <= 64 {
+        assert_told(rt, alloc, Kind::Fd, data.as_slice(), expected.as_str())?;
     }
     Ok(())
 }
 
-/// Tells a layout with the place from which on its bytes are those of the frame. The length that it has of the frame is right.
-fn placed(rt: &impl Abort, alloc: Global, pdu: Pdu<'_>, data: &[u8]) -> Result<String, AllocError> {
-    let (what, can_dl, bytes) = match pdu {
-        Pdu::Single(bytes) => (String::from_str(alloc, "Single")?, data.len(), bytes),
-        Pdu::First { len, rx_dl, bytes } => {
-            (format!(in alloc; "First {len}")?, rx_dl as usize, bytes)
-        }
-        Pdu::Next {
-            sn,
-            frame_len,
-            bytes,
-        } => (format!(in alloc; "Next {sn}")?, frame_len as usize, bytes),
-        Pdu::Flow(status) => return format!(in alloc; "Flow {status:?}"),
+/// What is told of a frame with this data: where the answer names the place of the bytes in the frame, the length of the frame
+/// and these bytes, and else the answer.
+fn expected_of(alloc: Global, answer: &str, data: &[u8]) -> Result<String, Fail> {
+    let Some((what, place)) = answer.split_once(", from ") else {
+        return Ok(format!(in alloc; "{answer}\n")?);
     };
-    assert_eq!(rt; can_dl, data.len(), "{what}");
-    assert!(rt; data.ends_with(bytes), "{what}");
-    let place = data.len().saturating_sub(bytes.len());
-    format!(in alloc; "{what}, from {place}")
+    let bytes = data.get(place.parse::<usize>()?..).ok_or("no place")?;
+    let (len, digits) = (data.len(), hex::encode_upper(alloc, bytes)?);
+    if what == "Single" {
+        return Ok(format!(in alloc; "Single #{digits}\n")?);
+    }
+    Ok(format!(in alloc; "{what} {len} #{digits}\n")?)
+}
+
+/// This is told of a frame of this kind with this data.
+fn assert_told(
+    rt: &impl Abort,
+    alloc: Global,
+    kind: Kind,
+    data: &[u8],
+    expected: &str,
+) -> Result<(), Fail> {
+    let frame = Frame::new(Id::Std(0x7E8), kind, data).ok_or("no frame")?;
+    let found = told(alloc, &frame)?;
+    assert_eq!(rt; found.as_str(), expected, "{kind:?}, {} bytes", data.len());
+    Ok(())
 }

@@ -1,7 +1,7 @@
 //! What each frame does to the receptions: its verdict, and the reception that it ends. No expected value comes from the program.
 
 use crate::recordings::message_of;
-use crate::rows::{assert_marked, frame_of};
+use crate::rows::{assert_marked, frame_of, lines_of, rows_of};
 use can_log::Dir::{Tester, Unit};
 use can_log::{Dir, Frame, Id, Kind};
 use isotp_receive::{Event, Pair, Recorded, Verdict, messages_of};
@@ -228,7 +228,7 @@ open Unit, line 1, 20 bytes
 
 #[test]
 fn consecutive_frames_on_time_and_late(rt: HostRuntime) -> Result<(), Fail> {
-    for row in TIMES.split("\n\n") {
+    for row in rows_of(TIMES) {
         follow(&rt, rt.alloc(), row)?;
     }
     Ok(())
@@ -236,7 +236,7 @@ fn consecutive_frames_on_time_and_late(rt: HostRuntime) -> Result<(), Fail> {
 
 #[test]
 fn the_first_reason_that_holds_drops_a_consecutive_frame(rt: HostRuntime) -> Result<(), Fail> {
-    for row in LENGTHS.split("\n\n") {
+    for row in rows_of(LENGTHS) {
         follow(&rt, rt.alloc(), row)?;
     }
     Ok(())
@@ -244,7 +244,7 @@ fn the_first_reason_that_holds_drops_a_consecutive_frame(rt: HostRuntime) -> Res
 
 #[test]
 fn a_new_start_or_an_overflow_ends_a_reception(rt: HostRuntime) -> Result<(), Fail> {
-    for row in ENDS.split("\n\n") {
+    for row in rows_of(ENDS) {
         follow(&rt, rt.alloc(), row)?;
     }
     Ok(())
@@ -327,7 +327,7 @@ event ends Unit, line 1, 20 bytes, Late: Dropped(NextLate)
 #[test]
 fn what_has_no_part_leaves_the_reception(rt: HostRuntime) -> Result<(), Fail> {
     let alloc = rt.alloc();
-    for between in NO_PART.split("\n\n") {
+    for between in rows_of(NO_PART) {
         let (name, between) = between.split_once('\n').ok_or("no frame")?;
         for end in GOES_ON {
             let row = format!(in alloc; "{name}\n{BEGAN}{between}\n{end}")?;
@@ -374,7 +374,7 @@ fn open_of(alloc: Global, pair: &Pair) -> Result<String, AllocError> {
 fn trace_of(alloc: Global, row: &str) -> Result<Vec<Recorded>, Fail> {
     let mut trace = Vec::new(alloc);
     let mut line = 1u64;
-    for text in row.split('\n') {
+    for text in lines_of(row) {
         if let Some(frame) = text.strip_prefix("frame ") {
             trace.push(recorded(alloc, line, frame)?)?;
             line = line.saturating_add(1);

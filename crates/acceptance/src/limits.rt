@@ -1,189 +1,231 @@
 //! Logs at the limit: what is looked at, why a log is refused, and what was written before.
 
-use crate::run::{VIN_CANONICAL, VIN_LINES, front_of, log_of, log_of_frames, run_cut};
+use crate::rows::{assert_marked, frames_marked, lines_of, log_marked, rows_of};
+use crate::run::{Ran, VIN_CANONICAL, VIN_LOG, run_cut};
 use std::alloc::{AllocError, Global};
 use std::process::Abort;
 use std::test::Fail;
-use trace_canon::{Fault, Summary};
 
-/// Under this limit the log is accepted or refused with this fault, and this is written.
-fn assert_run(
-    rt: &impl Abort,
-    alloc: Global,
-    limit: u64,
-    log: &str,
-    told: &str,
-    written: &[u8],
-) -> Result<(), Fail> {
-    let (answer, text) = run_cut(rt, alloc, limit, log.as_bytes())?;
-    assert_answer(rt, alloc, answer, told)?;
-    assert_eq!(rt; text.as_slice(), written, "limit {limit}: {log}");
-    Ok(())
-}
+/// Logs of which nothing is written, and what is told of each under some limits.
+const NOTHING_WRITTEN: &str = "\
+a digit is missing, and byte 22, the line feed, shows it
+line (1.000000) can0 7E0#0
+limit 22, 0 bytes: line 1 column 22: not a log line
+limit 21, 0 bytes: log longer than the limit
 
-/// This is told of an answer.
-fn assert_answer(
-    rt: &impl Abort,
-    alloc: Global,
-    answer: Result<Summary, Fault>,
-    told: &str,
-) -> Result<(), AllocError> {
-    match answer {
-        Ok(_) => assert_eq!(rt; ACCEPTED, told),
-        Err(fault) => assert_eq!(rt; format!(in alloc; "{fault}")?.as_str(), told),
-    }
-    Ok(())
-}
+that a line is unfinished is told only of a log within the limit
+last (1.000000) can0 7E0#0
+limit 21, 0 bytes: line 1 column 22: not a log line
+limit 20, 0 bytes: log longer than the limit
 
-const ACCEPTED: &str = "accepted";
+a line of 36 bytes is whole with its line feed
+line (1.000000) can0 7E8#1000001000004142
+line x
+limit 100, 0 bytes: line 1: 1048576 bytes announced, the limit is 1048575
+limit 37, 0 bytes: line 1: 1048576 bytes announced, the limit is 1048575
+limit 36, 0 bytes: log longer than the limit
 
-const LOG_LIMIT: &str = "log longer than the limit";
+or where the log ends
+last (1.000000) can0 7E8#1000001000004142
+limit 36, 0 bytes: line 1: 1048576 bytes announced, the limit is 1048575
+limit 35, 0 bytes: log longer than the limit
 
-const OUTPUT_LIMIT: &str = "canonical log longer than the limit";
+the byte after the limit is not looked at
+line
+line x
+limit 2, 0 bytes: line 2 column 1: not a log line
+limit 1, 0 bytes: log longer than the limit
 
-const OVERSIZE: &str = "line 1: 1048576 bytes announced, the limit is 1048575";
+nor is one that may not follow a carriage return
+last (1.000000) can0 7E0#00\rx
+limit 24, 0 bytes: line 1 column 24: not a log line
+limit 23, 0 bytes: log longer than the limit
 
-const BAD_4: &str = "line 4 column 1: not a log line";
+a fraction of one digit
+line (1.0) a 7E0#0111
+limit 100, 0 bytes: line 1 column 5: not a log line
 
-const OVERSIZE_4: &str = "line 4: 1048576 bytes announced, the limit is 1048575";
+the smallest limit, and an empty log
+limit 1, 0 bytes: accepted, 0 messages, 0 dropped
 
-/// A line of 21 bytes, in which a digit is missing, and the line feed that shows it.
-const HALF_BYTE: &str = "(1.000000) can0 7E0#0\n";
+a line feed
+line
+limit 1, 0 bytes: accepted, 0 messages, 0 dropped
 
-/// The same line, unfinished.
-const UNFINISHED: &str = "(1.000000) can0 7E0#0";
+a carriage return
+last \r
+limit 1, 0 bytes: accepted, 0 messages, 0 dropped
 
-/// A complete line of 22 bytes, a carriage return, and a byte that may not follow it.
-const AFTER_CR: &str = "(1.000000) can0 7E0#00\rx";
+two line feeds
+line
+line
+limit 1, 0 bytes: log longer than the limit
 
-/// An announcement of a byte too much in a line of 36 bytes, its line feed, and a refused line.
-const LONG: &str = "(1.000000) can0 7E8#1000001000004142\nx\n";
+a byte that begins no line
+last x
+limit 1, 0 bytes: line 1 column 1: not a log line
 
-/// The same announcement in a last line without a line feed.
-const LONG_LAST: &str = "(1.000000) can0 7E8#1000001000004142";
+a byte that begins one
+last (
+limit 1, 0 bytes: line 1 column 2: not a log line
 
-/// A single frame in a line of 22 bytes, line feed included.
-const ONE: &str = "(1.000000) a 7E0#0111\n";
+a canonical log can be longer than its log
+line (1.000000) a 7E0#0111
+limit 45, 0 bytes: canonical log longer than the limit
+limit 22, 0 bytes: canonical log longer than the limit
+limit 21, 0 bytes: log longer than the limit
 
-/// Three single frames in 75 bytes.
-const THREE: &str =
-    "(1.000000) can0 7E0#0111\n(1.000000) can0 7E0#0111\n(1.000000) can0 7E0#0111\n";
-
-/// And a refused line after them.
-const THREE_AND_BAD: &str =
-    "(1.000000) can0 7E0#0111\n(1.000000) can0 7E0#0111\n(1.000000) can0 7E0#0111\nx\n";
-
-/// And an announcement of a byte too much after them, in 34 bytes.
-const THREE_AND_LONG: &str =
-    "(1.000000) can0 7E0#0111\n(1.000000) can0 7E0#0111\n(1.000000) can0 7E0#0111\n(1.000000) a 7E8#1000001000004142\n";
-
-/// A message of 20 bytes in one frame, in a last line of 70 bytes without a line feed.
-const FD_LAST: &str = "(1.000000) can0 7E8##000141101010101010101010101010101010101010101AAAA";
-
-/// Limit, log and what is told of it.
-type Limited = (u64, &'static str, &'static str);
-
-/// Nothing is written of these.
-const NOTHING_WRITTEN: [Limited; 24] = [
-    // The refused byte is the line feed, byte 22.
-    (22, HALF_BYTE, "line 1 column 22: not a log line"),
-    (21, HALF_BYTE, LOG_LIMIT),
-    // That a line is unfinished is told only of a log that is within the limit.
-    (21, UNFINISHED, "line 1 column 22: not a log line"),
-    (20, UNFINISHED, LOG_LIMIT),
-    // A line is whole with its line feed, or where the log ends.
-    (100, LONG, OVERSIZE),
-    (37, LONG, OVERSIZE),
-    (36, LONG, LOG_LIMIT),
-    (36, LONG_LAST, OVERSIZE),
-    (35, LONG_LAST, LOG_LIMIT),
-    // The byte after the limit is not looked at.
-    (2, "\nx\n", "line 2 column 1: not a log line"),
-    (1, "\nx\n", LOG_LIMIT),
-    (24, AFTER_CR, "line 1 column 24: not a log line"),
-    (23, AFTER_CR, LOG_LIMIT),
-    (100, "(1.0) a 7E0#0111\n", "line 1 column 5: not a log line"),
-    // The smallest limit.
-    (1, "", ACCEPTED),
-    (1, "\n", ACCEPTED),
-    (1, "\r", ACCEPTED),
-    (1, "\n\n", LOG_LIMIT),
-    (1, "x", "line 1 column 1: not a log line"),
-    (1, "(", "line 1 column 2: not a log line"),
-    // A canonical log can be longer than its log.
-    (45, ONE, OUTPUT_LIMIT),
-    (22, ONE, OUTPUT_LIMIT),
-    (21, ONE, LOG_LIMIT),
-    (69, FD_LAST, LOG_LIMIT),
-];
+a message of 20 bytes in a last line of 70
+last (1.000000) can0 7E8##000141101010101010101010101010101010101010101AAAA
+limit 69, 0 bytes: log longer than the limit
+";
 
 #[test]
 fn a_log_is_looked_at_up_to_its_limit(rt: HostRuntime) -> Result<(), Fail> {
-    for (limit, log, told) in NOTHING_WRITTEN {
-        assert_run(&rt, rt.alloc(), limit, log, told, &[])?;
+    for row in rows_of(NOTHING_WRITTEN) {
+        assert_row_limits(&rt, rt.alloc(), row)?;
     }
     Ok(())
 }
 
-/// The canonical frames of three messages, and of one.
-const SINGLE: &[&str] = &[
-    "7E0#0111CCCCCCCCCCCC",
-    "7E0#0111CCCCCCCCCCCC",
-    "7E0#0111CCCCCCCCCCCC",
-];
+/// Logs and their canonical frames; under each limit so many bytes are written of these, and this is told.
+const WRITTEN: &str = "\
+a single frame
+line (1.000000) a 7E0#0111
+canonical 7E0#0111CCCCCCCCCCCC
+limit 46, 46 bytes: accepted, 1 messages, 0 dropped
 
-const SEVERAL: &[&str] = &[
-    "7E8#1014110101010101",
-    "7E0#300000CCCCCCCCCC",
-    "7E8#2101010101010101",
-    "7E8#2201010101010101",
-];
+whole lines, of a message too; a last line counts without its line feed
+last (1.000000) can0 7E8##000141101010101010101010101010101010101010101AAAA
+canonical 7E8#1014110101010101
+canonical 7E0#300000CCCCCCCCCC
+canonical 7E8#2101010101010101
+canonical 7E8#2201010101010101
+limit 184, 184 bytes: accepted, 1 messages, 0 dropped
+limit 183, 138 bytes: canonical log longer than the limit
+limit 138, 138 bytes: canonical log longer than the limit
+limit 137, 92 bytes: canonical log longer than the limit
+limit 70, 46 bytes: canonical log longer than the limit
 
-/// The canonical frames of these, and how many of them are written.
-const WRITTEN: [(Limited, &[&str], usize); 12] = [
-    ((46, ONE, ACCEPTED), SINGLE, 1),
-    // Whole lines, of a message too. A last line counts without its line feed.
-    ((184, FD_LAST, ACCEPTED), SEVERAL, 4),
-    ((183, FD_LAST, OUTPUT_LIMIT), SEVERAL, 3),
-    ((138, FD_LAST, OUTPUT_LIMIT), SEVERAL, 3),
-    ((137, FD_LAST, OUTPUT_LIMIT), SEVERAL, 2),
-    ((70, FD_LAST, OUTPUT_LIMIT), SEVERAL, 1),
-    ((138, THREE, ACCEPTED), SINGLE, 3),
-    ((137, THREE, OUTPUT_LIMIT), SINGLE, 2),
-    // Whatever refuses the log later is told in its place.
-    ((77, THREE_AND_BAD, BAD_4), SINGLE, 1),
-    ((75, THREE_AND_BAD, LOG_LIMIT), SINGLE, 1),
-    ((109, THREE_AND_LONG, OVERSIZE_4), SINGLE, 2),
-    ((108, THREE_AND_LONG, LOG_LIMIT), SINGLE, 2),
-];
+three single frames in 75 bytes
+line (1.000000) can0 7E0#0111
+line (1.000000) can0 7E0#0111
+line (1.000000) can0 7E0#0111
+canonical 7E0#0111CCCCCCCCCCCC
+canonical 7E0#0111CCCCCCCCCCCC
+canonical 7E0#0111CCCCCCCCCCCC
+limit 138, 138 bytes: accepted, 3 messages, 0 dropped
+limit 137, 92 bytes: canonical log longer than the limit
+
+a refused line after them is told in its place
+line (1.000000) can0 7E0#0111
+line (1.000000) can0 7E0#0111
+line (1.000000) can0 7E0#0111
+line x
+canonical 7E0#0111CCCCCCCCCCCC
+canonical 7E0#0111CCCCCCCCCCCC
+canonical 7E0#0111CCCCCCCCCCCC
+limit 77, 46 bytes: line 4 column 1: not a log line
+limit 75, 46 bytes: log longer than the limit
+
+and so is an announcement of a byte too much, in 34 bytes
+line (1.000000) can0 7E0#0111
+line (1.000000) can0 7E0#0111
+line (1.000000) can0 7E0#0111
+line (1.000000) a 7E8#1000001000004142
+canonical 7E0#0111CCCCCCCCCCCC
+canonical 7E0#0111CCCCCCCCCCCC
+canonical 7E0#0111CCCCCCCCCCCC
+limit 109, 92 bytes: line 4: 1048576 bytes announced, the limit is 1048575
+limit 108, 92 bytes: log longer than the limit
+";
 
 #[test]
 fn what_fits_is_written(rt: HostRuntime) -> Result<(), Fail> {
-    let alloc = rt.alloc();
-    for ((limit, log, told), frames, lines) in WRITTEN {
-        let written = log_of_frames(alloc, &frames[..lines.min(frames.len())])?;
-        assert_run(&rt, alloc, limit, log, told, written.as_bytes())?;
+    for row in rows_of(WRITTEN) {
+        assert_row_limits(&rt, rt.alloc(), row)?;
     }
     Ok(())
 }
+
+/// Limits of a session.
+const OF_SESSION: &str = "\
+a session of 212 bytes, whose canonical log has 230
+limit 230, 230 bytes: accepted, 2 messages, 0 dropped
+limit 229, 184 bytes: canonical log longer than the limit
+limit 212, 184 bytes: canonical log longer than the limit
+limit 211, 46 bytes: log longer than the limit
+";
+
+/// And those of its canonical log.
+const OF_CANONICAL: &str = "\
+a canonical log of 230 bytes
+limit 230, 230 bytes: accepted, 2 messages, 0 dropped
+limit 229, 46 bytes: log longer than the limit
+";
 
 #[test]
 fn a_session_at_its_limits(rt: HostRuntime) -> Result<(), Fail> {
     let alloc = rt.alloc();
-    let log = log_of(alloc, &VIN_LINES)?;
-    let canonical = log_of(alloc, &VIN_CANONICAL)?;
-    assert_eq!(rt; (log.len(), canonical.len()), (212, 230));
-    let (log, canonical) = (log.as_str(), canonical.as_str());
-    for (limit, log, told, written) in [
-        (230, canonical, ACCEPTED, 230),
-        (229, canonical, LOG_LIMIT, 46),
-        (230, log, ACCEPTED, 230),
-        (229, log, OUTPUT_LIMIT, 184),
-        (212, log, OUTPUT_LIMIT, 184),
-        (211, log, LOG_LIMIT, 46),
-    ] {
-        let written = front_of(canonical.as_bytes(), written);
-        assert_run(&rt, alloc, limit, log, told, written)?;
+    assert_eq!(rt; (VIN_LOG.len(), VIN_CANONICAL.len()), (212, 230));
+    assert_limits(&rt, alloc, OF_SESSION, VIN_LOG, VIN_CANONICAL)?;
+    assert_limits(&rt, alloc, OF_CANONICAL, VIN_CANONICAL, VIN_CANONICAL)
+}
+
+/// Of the log of a row, under its limits, what the row says is told and written.
+fn assert_row_limits(rt: &impl Abort, alloc: Global, row: &str) -> Result<(), Fail> {
+    let log = log_marked(alloc, row)?;
+    let canonical = frames_marked(alloc, row, "canonical")?;
+    assert_limits(rt, alloc, row, log.as_str(), canonical.as_str())
+}
+
+/// The same of this log and its canonical log.
+fn assert_limits(
+    rt: &impl Abort,
+    alloc: Global,
+    row: &str,
+    log: &str,
+    canonical: &str,
+) -> Result<(), Fail> {
+    let mut told = String::new(alloc);
+    for limit in &limits_of(alloc, row)? {
+        let ran = run_cut(rt, alloc, *limit, log.as_bytes())?;
+        push_limited(rt, alloc, &mut told, *limit, &ran, canonical)?;
     }
+    assert_marked(rt, alloc, row, "limit", told.as_str())?;
     Ok(())
+}
+
+/// The limits of a row.
+pub(crate) fn limits_of(alloc: Global, row: &str) -> Result<Vec<u64>, Fail> {
+    let mut limits = Vec::new(alloc);
+    for line in lines_of(row) {
+        if let Some(rest) = line.strip_prefix("limit ") {
+            let (limit, _) = rest.split_once(',').ok_or("no limit")?;
+            limits.push(limit.parse::<u64>()?)?;
+        }
+    }
+    Ok(limits)
+}
+
+/// Tells how a call ended under a limit, and how many bytes it wrote: the first of this text.
+pub(crate) fn push_limited(
+    rt: &impl Abort,
+    alloc: Global,
+    told: &mut String,
+    limit: u64,
+    ran: &Ran,
+    text: &str,
+) -> Result<(), AllocError> {
+    let written = ran.1.as_slice();
+    assert!(rt; text.as_bytes().starts_with(written), "limit {limit}");
+    let answer = match ran.0 {
+        Ok(summary) => {
+            let (messages, dropped) = (summary.messages, summary.dropped);
+            format!(in alloc; "accepted, {messages} messages, {dropped} dropped")?
+        }
+        Err(fault) => format!(in alloc; "{fault}")?,
+    };
+    let len = written.len();
+    told.push_str(&format!(in alloc; "{limit}, {len} bytes: {answer}\n")?)
 }

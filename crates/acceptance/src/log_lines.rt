@@ -1,7 +1,7 @@
 //! The grammar of lines at its corners, logs that are cut in every way, and canonical lines. No expected value comes from the
 //! program.
 
-use crate::rows::{assert_marked, line_marked, marked, name_of};
+use crate::rows::{assert_marked, lines_of, log_marked, name_of, rows_of};
 use can_log::{Id, LineClock, Scan, Scanner, Stamped, append_line, line_bytes};
 use std::alloc::{AllocError, Global};
 use std::process::Abort;
@@ -133,7 +133,7 @@ means 1700000000002169 7E8#00000000000000000000000000000000000000000000000000000
 
 #[test]
 fn logs_are_read_however_they_are_cut(rt: HostRuntime) -> Result<(), Fail> {
-    for row in LOGS.split("\n\n") {
+    for row in rows_of(LOGS) {
         assert_log(&rt, rt.alloc(), row)?;
     }
     Ok(())
@@ -146,8 +146,7 @@ fn lines_of_plain_form_mean_what_they_spell(rt: HostRuntime) -> Result<(), Fail>
 
 /// The log of a row means what the row has.
 fn assert_log(rt: &impl Abort, alloc: Global, row: &str) -> Result<(), Fail> {
-    let mut log = marked(alloc, row, "line")?;
-    log.push_str(line_marked(row, "last"))?;
+    let log = log_marked(alloc, row)?;
     let scanned = scanned_each_way(rt, alloc, row, log.as_bytes())?;
     let mut means = String::new(alloc);
     for what in &scanned.lines {
@@ -326,7 +325,7 @@ const REFUSED: &str = "\
 #[test]
 fn refused_bytes_are_found_however_the_log_is_cut(rt: HostRuntime) -> Result<(), Fail> {
     let alloc = rt.alloc();
-    for row in REFUSED.split('\n') {
+    for row in lines_of(REFUSED) {
         let (_, line) = row.split_once(' ').ok_or("no column")?;
         let log = format!(in alloc; "{line}\n")?;
         assert_refused(&rt, alloc, row, log.as_bytes())?;
@@ -344,7 +343,7 @@ const UNFINISHED: &str = "\
 
 #[test]
 fn refused_bytes_of_an_unfinished_line_are_found(rt: HostRuntime) -> Result<(), Fail> {
-    for row in UNFINISHED.split('\n') {
+    for row in lines_of(UNFINISHED) {
         let (_, line) = row.split_once(' ').ok_or("no column")?;
         assert_refused(&rt, rt.alloc(), row, line.as_bytes())?;
     }

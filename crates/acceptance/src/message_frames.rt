@@ -1,7 +1,7 @@
 //! The canonical frames of a message. No expected value comes from the program.
 
 use crate::recordings::message_of;
-use crate::rows::{assert_marked, messages_marked, push_message};
+use crate::rows::{assert_marked, lines_of, messages_marked, push_message, rows_of};
 use can_log::Dir::{self, Unit};
 use isotp_receive::MESSAGE_LIMIT;
 use isotp_segment::{Segments, frame_count};
@@ -25,7 +25,7 @@ frame Unit#214445CCCCCCCCCC
 #[test]
 fn each_message_has_the_frames_of_its_row(rt: HostRuntime) -> Result<(), Fail> {
     let alloc = rt.alloc();
-    for row in MESSAGES.split("\n\n") {
+    for row in rows_of(MESSAGES) {
         for message in &messages_marked(alloc, row, "message")? {
             let frames = frames_of(&rt, alloc, message.dir, message.bytes.as_slice())?;
             assert_marked(&rt, alloc, row, "frame", frames.as_str())?;
@@ -61,7 +61,7 @@ const LENGTHS: &str = "\
 #[test]
 fn the_length_stands_in_the_first_frame(rt: HostRuntime) -> Result<(), Fail> {
     let alloc = rt.alloc();
-    for row in LENGTHS.split('\n') {
+    for row in lines_of(LENGTHS) {
         let len = row.split(' ').next().ok_or("no length")?.parse::<usize>()?;
         let message = message_of(alloc, len)?;
         assert!(rt; message.len() == len);

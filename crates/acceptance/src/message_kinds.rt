@@ -1,5 +1,6 @@
 //! The vectors of the message formats, and the two tables byte by byte. No value here comes from the program.
 
+use crate::rows::lines_of;
 use std::test::Fail;
 use uds_message::{answers, code_name, service_name, suppresses, tester_kind};
 
@@ -17,7 +18,7 @@ FF80 Other
 #[test]
 fn requests_and_keep_alives_by_their_bytes(rt: HostRuntime) -> Result<(), Fail> {
     let alloc = rt.alloc();
-    for row in KINDS.split('\n') {
+    for row in lines_of(KINDS) {
         let (message, kind) = row.split_once(' ').ok_or("no kind")?;
         let found = tester_kind(hex::decode(alloc, message)?.as_slice());
         assert_eq!(rt; format!(in alloc; "{found:?}")?.as_str(), kind, "{row}");
@@ -47,7 +48,7 @@ BA#FA Final
 #[test]
 fn final_and_pending_answers_by_their_bytes(rt: HostRuntime) -> Result<(), Fail> {
     let alloc = rt.alloc();
-    for row in ANSWERS.split('\n') {
+    for row in lines_of(ANSWERS) {
         let (sid, answer) = row.split_once('#').ok_or("no message")?;
         let (message, answer) = answer.split_once(' ').ok_or("no answer")?;
         let sid = u8::from_str_radix(sid, 16)?;
@@ -71,7 +72,7 @@ BA80 false
 #[test]
 fn bit_7_of_a_sub_function_suppresses(rt: HostRuntime) -> Result<(), Fail> {
     let alloc = rt.alloc();
-    for row in SUPPRESSES.split('\n') {
+    for row in lines_of(SUPPRESSES) {
         let (message, answer) = row.split_once(' ').ok_or("no answer")?;
         let found = suppresses(hex::decode(alloc, message)?.as_slice());
         assert_eq!(rt; format!(in alloc; "{found}")?.as_str(), answer, "{row}");

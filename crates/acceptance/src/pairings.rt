@@ -1,6 +1,8 @@
 //! What lists of messages mean, and the order in which they are put. No expected value comes from the program.
 
-use crate::rows::{assert_marked, line_marked, messages_marked, name_of, push_message};
+use crate::rows::{
+    assert_marked, assert_text, line_marked, messages_marked, name_of, push_message, rows_of,
+};
 use can_log::Dir::{self, Tester, Unit};
 use std::alloc::{AllocError, Global};
 use std::process::Abort;
@@ -160,7 +162,7 @@ item stray Tester#
 #[test]
 fn each_list_has_the_meaning_of_its_row(rt: HostRuntime) -> Result<(), Fail> {
     let alloc = rt.alloc();
-    for row in MEANINGS.split("\n\n") {
+    for row in rows_of(MEANINGS) {
         let meaning = meaning_of(alloc, row, "message")?;
         let items = items_text(alloc, &meaning)?;
         assert_marked(&rt, alloc, row, "item", items.as_str())?;
@@ -261,7 +263,7 @@ place Some(0)
 #[test]
 fn meanings_differ_first_where_the_row_says(rt: HostRuntime) -> Result<(), Fail> {
     let alloc = rt.alloc();
-    for row in DIFFERENCES.split("\n\n") {
+    for row in rows_of(DIFFERENCES) {
         let left = meaning_of(alloc, row, "left")?;
         let right = meaning_of(alloc, row, "right")?;
         for place in [left.first_difference(&right), right.first_difference(&left)] {
@@ -359,7 +361,7 @@ order Tester#22F190
 #[test]
 fn messages_are_put_as_soon_as_their_place_is_known(rt: HostRuntime) -> Result<(), Fail> {
     let alloc = rt.alloc();
-    for row in STEPS.split("\n\n") {
+    for row in rows_of(STEPS) {
         let room = line_marked(row, "room").parse::<usize>()?;
         let mut sink = Recorder::new(alloc, room);
         let steps = steps_of(alloc, row, &mut sink)?;
@@ -423,11 +425,11 @@ fn push_in_order(alloc: Global, text: &mut String, item: &Item) -> Result<(), Al
 #[test]
 fn the_order_is_that_of_the_meaning(rt: HostRuntime) -> Result<(), Fail> {
     let alloc = rt.alloc();
-    for row in MEANINGS.split("\n\n") {
+    for row in rows_of(MEANINGS) {
         let mut sink = Recorder::new(alloc, 10);
         steps_of(alloc, row, &mut sink)?;
         let order = in_order(alloc, &meaning_of(alloc, row, "message")?)?;
-        assert_eq!(rt; sink.messages.as_str(), order.as_str(), "{}", name_of(row));
+        assert_text(&rt, row, sink.messages.as_str(), order.as_str());
     }
     Ok(())
 }

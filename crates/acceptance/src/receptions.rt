@@ -1,11 +1,11 @@
 //! Logs in which frames are lost: what is dropped, what ends, and what is left unfinished.
 
-use crate::rows::{assert_marked, frames_marked, marked};
-use crate::run::{GIBIBYTE, assert_row, explained, front_of, log_of, normalised, run_cut, told};
+use crate::limits::{limits_of, push_limited};
+use crate::rows::{assert_marked, frames_marked, marked, rows_of};
+use crate::run::{GIBIBYTE, assert_row, explained, normalised, run_cut, told};
 use std::alloc::Global;
 use std::process::Abort;
 use std::test::Fail;
-use trace_canon::Fault;
 
 /// Logs in which something is lost, what is told of them, and the frames of their canonical logs.
 const LOSSY: &str = "\
@@ -151,7 +151,7 @@ told lines 1 frames 0 messages 0 dropped 0 ended 0 unfinished 0 pending 0
 #[test]
 fn what_is_lost_is_told(rt: HostRuntime) -> Result<(), Fail> {
     let alloc = rt.alloc();
-    for row in LOSSY.split("\n\n") {
+    for row in rows_of(LOSSY) {
         let log = frames_marked(alloc, row, "frame")?;
         assert_row(&rt, alloc, log.as_str(), row)?;
     }
@@ -261,7 +261,7 @@ canonical 7E8#214445CCCCCCCCCC
 #[test]
 fn a_consecutive_frame_is_late_after_a_second(rt: HostRuntime) -> Result<(), Fail> {
     let alloc = rt.alloc();
-    for row in STAMPED.split("\n\n") {
+    for row in rows_of(STAMPED) {
         let log = marked(alloc, row, "line")?;
         assert_row(&rt, alloc, log.as_str(), row)?;
     }
@@ -354,7 +354,7 @@ told lines 3 frames 3 messages 0 dropped 2 ended 1 unfinished 0 pending 0
 #[test]
 fn too_long_an_announcement_is_told_as_dropped(rt: HostRuntime) -> Result<(), Fail> {
     let alloc = rt.alloc();
-    for row in TOO_LONG.split("\n\n") {
+    for row in rows_of(TOO_LONG) {
         let log = frames_marked(alloc, row, "frame")?;
         let (answer, _) = run_cut(&rt, alloc, GIBIBYTE, log.as_bytes())?;
         let fault = answer.err().ok_or("accepted")?;
@@ -366,35 +366,33 @@ fn too_long_an_announcement_is_told_as_dropped(rt: HostRuntime) -> Result<(), Fa
     Ok(())
 }
 
+/// A log under limits. The line feed of its second line is byte 46. Of a refused log so many bytes are told, then why it is
+/// refused.
+const REFUSED: &str = "\
+a line that is none after two frames
+line (1.000000) can0 7E8#40
+line (1.000000) can0 7E8#21
+line x
+told line 1: unit frame dropped: unknown kind
+told line 2: unit frame dropped: consecutive frame unexpected
+limit 1073741824, 98 bytes: line 3 column 1: not a log line
+limit 47, 98 bytes: line 3 column 1: not a log line
+limit 46, 98 bytes: log longer than the limit
+limit 45, 41 bytes: log longer than the limit
+";
+
 #[test]
 fn of_a_refused_log_the_frames_before_the_place_are_told(rt: HostRuntime) -> Result<(), Fail> {
     let alloc = rt.alloc();
-    let log = log_of(
-        alloc,
-        &["(1.000000) can0 7E8#40", "(1.000000) can0 7E8#21", "x"],
-    )?;
-    let told = log_of(
-        alloc,
-        &[
-            "line 1: unit frame dropped: unknown kind",
-            "line 2: unit frame dropped: consecutive frame unexpected",
-        ],
-    )?;
-    let bad_line = Fault::BadLine { line: 3, column: 1 };
-    // The line feed of the second line is byte 46.
-    for (limit, fault, written) in [
-        (GIBIBYTE, bad_line, 98),
-        (47, bad_line, 98),
-        (46, Fault::LogLimit, 98),
-        (45, Fault::LogLimit, 41),
-    ] {
-        let (answer, text) = explained(alloc, limit, log.as_bytes())?;
-        assert_eq!(rt; answer, Err(fault), "limit {limit}");
-        assert_eq!(rt;
-            text.as_slice(),
-            front_of(told.as_bytes(), written),
-            "limit {limit}"
-        );
+    let (log, told) = (
+        marked(alloc, REFUSED, "line")?,
+        marked(alloc, REFUSED, "told")?,
+    );
+    let mut found = String::new(alloc);
+    for limit in &limits_of(alloc, REFUSED)? {
+        let ran = explained(alloc, *limit, log.as_bytes())?;
+        push_limited(&rt, alloc, &mut found, *limit, &ran, told.as_str())?;
     }
+    assert_marked(&rt, alloc, REFUSED, "limit", found.as_str())?;
     Ok(())
 }

@@ -1,6 +1,7 @@
 //! One message in many recordings: each way to send it has the same canonical log.
 
-use crate::run::{GIBIBYTE, LINE, listed, run, run_cut};
+use crate::rows::{lines_of, push_stamp};
+use crate::run::{GIBIBYTE, LINE, Ran, listed, run, run_cut};
 use std::alloc::{AllocError, Global};
 use std::process::Abort;
 use std::test::Fail;
@@ -25,11 +26,11 @@ struct Recorder {
 impl Recorder {
     /// Records a frame, as CAN FD where it has more bytes than a classic one.
     fn frame(&mut self, alloc: Global, id: &str, data: &[u8]) -> Result<(), AllocError> {
-        let (seconds, millis) = (self.frames / 1000, self.frames % 1000);
-        let mark = if data.len() > 8 { "#1" } else { "" };
-        let line = format!(in alloc; "({seconds:010}.{millis:03}000) can0 {id}#{mark}")?;
-        self.log.push_str(&line)?;
-        self.log.push_str(&hex::encode_upper(alloc, data)?)?;
+        let mark = if data.len() > 8 { "##1" } else { "#" };
+        let digits = hex::encode_upper(alloc, data)?;
+        push_stamp(alloc, &mut self.log, self.frames)?;
+        self.log
+            .push_str(&format!(in alloc; " {id}{mark}{digits}")?)?;
         self.log.push('\n')?;
         self.frames = self.frames.saturating_add(1);
         Ok(())
@@ -107,42 +108,48 @@ impl Style {
 fn assert_recordings(rt: &impl Abort, alloc: Global, len: usize, rx_dl: usize) -> Result<(), Fail> {
     let message = message_of(alloc, len)?;
     let canonical = CANONICAL.record(alloc, message.as_slice())?;
-    for (padding, long_last) in [(0x00, false), (0x00, true), (0xFF, false), (0xFF, true)] {
-        let style = Style {
-            rx_dl,
-            padding,
-            long_last,
-        };
-        let log = style.record(alloc, message.as_slice())?;
-        let (answer, text) = run(alloc, GIBIBYTE, log.as_bytes())?;
-        assert_eq!(rt;
-            answer.map(|summary| summary.messages),
-            Ok(1),
-            "{len} bytes, {style:?}"
-        );
-        assert!(rt;
-            text.as_slice() == canonical.as_bytes(),
-            "{len} bytes, {style:?}"
-        );
+    for padding in [0x00, 0xFF] {
+        for long_last in [false, true] {
+            let style = Style {
+                rx_dl,
+                padding,
+                long_last,
+            };
+            let log = style.record(alloc, message.as_slice())?;
+            let ran = run(alloc, GIBIBYTE, log.as_bytes())?;
+            assert_one_message(rt, &ran, canonical.as_str(), style);
+        }
     }
     Ok(())
 }
 
+/// A recording has one message, and this canonical log.
+fn assert_one_message(rt: &impl Abort, ran: &Ran, canonical: &str, style: Style) {
+    assert_eq!(rt; ran.0.map(|summary| summary.messages), Ok(1), "{style:?}");
+    assert!(rt; ran.1.as_slice() == canonical.as_bytes(), "{style:?}");
+}
+
 /// The sizes of frames, and the length of the shortest message that takes more than one of them.
-const SIZES: [(usize, usize); 8] = [
-    (8, 8),
-    (12, 11),
-    (16, 15),
-    (20, 19),
-    (24, 23),
-    (32, 31),
-    (48, 47),
-    (64, 63),
-];
+const SIZES: &str = "\
+8 8
+12 11
+16 15
+20 19
+24 23
+32 31
+48 47
+64 63";
+
+/// The two numbers of a row.
+fn numbers_of(row: &str) -> Result<(usize, usize), Fail> {
+    let (first, second) = row.split_once(' ').ok_or("one number")?;
+    Ok((first.parse::<usize>()?, second.parse::<usize>()?))
+}
 
 #[test]
 fn size_and_padding_of_frames_change_nothing(rt: HostRuntime) -> Result<(), Fail> {
-    for (rx_dl, shortest) in SIZES {
+    for row in lines_of(SIZES) {
+        let (rx_dl, shortest) = numbers_of(row)?;
         for len in [shortest, 4094, 4095, 4096] {
             assert_recordings(&rt, rt.alloc(), len, rx_dl)?;
         }
@@ -154,49 +161,48 @@ fn size_and_padding_of_frames_change_nothing(rt: HostRuntime) -> Result<(), Fail
 fn size_and_padding_of_frames_change_nothing_of_a_message_of_65535_bytes(
     rt: HostRuntime,
 ) -> Result<(), Fail> {
-    for (rx_dl, _) in SIZES {
+    for row in lines_of(SIZES) {
+        let (rx_dl, _) = numbers_of(row)?;
         assert_recordings(&rt, rt.alloc(), 65_535, rx_dl)?;
     }
     Ok(())
 }
 
 /// Lengths of messages, and how many lines their canonical logs have.
-const LENGTHS: [(usize, usize); 6] = [
-    (8, 3),
-    (13, 3),
-    (14, 4),
-    (4095, 587),
-    (4096, 587),
-    (65_535, 9364),
-];
+const LENGTHS: &str = "\
+8 3
+13 3
+14 4
+4095 587
+4096 587
+65535 9364";
+
+/// The canonical log of a message of this length.
+fn canonical_of(alloc: Global, len: usize) -> Result<String, AllocError> {
+    let message = message_of(alloc, len)?;
+    CANONICAL.record(alloc, message.as_slice())
+}
 
 #[test]
 fn canonical_logs_of_each_length_are_their_own(rt: HostRuntime) -> Result<(), Fail> {
-    let alloc = rt.alloc();
-    for (len, lines) in LENGTHS {
-        let message = message_of(alloc, len)?;
-        let canonical = CANONICAL.record(alloc, message.as_slice())?;
-        assert_eq!(rt; canonical.len(), LINE * lines, "{len} bytes");
+    for row in lines_of(LENGTHS) {
+        let (len, lines) = numbers_of(row)?;
+        let canonical = canonical_of(rt.alloc(), len)?;
+        assert_eq!(rt; canonical.len(), lines.saturating_mul(LINE), "{len} bytes");
         let limit = canonical.len() as u64;
-        let (answer, text) = run_cut(&rt, alloc, limit, canonical.as_bytes())?;
-        assert_eq!(rt;
-            answer.map(|summary| summary.messages),
-            Ok(1),
-            "{len} bytes"
-        );
-        assert!(rt; text.as_slice() == canonical.as_bytes(), "{len} bytes");
+        let ran = run_cut(&rt, rt.alloc(), limit, canonical.as_bytes())?;
+        assert_one_message(&rt, &ran, canonical.as_str(), CANONICAL);
     }
     Ok(())
 }
 
 #[test]
 fn canonical_logs_of_each_length_have_their_limit(rt: HostRuntime) -> Result<(), Fail> {
-    let alloc = rt.alloc();
-    for (len, lines) in LENGTHS {
-        let message = message_of(alloc, len)?;
-        let canonical = CANONICAL.record(alloc, message.as_slice())?;
-        let limit = (LINE * lines) as u64 - 1;
-        let (answer, _) = run_cut(&rt, alloc, limit, canonical.as_bytes())?;
+    for row in lines_of(LENGTHS) {
+        let (len, lines) = numbers_of(row)?;
+        let canonical = canonical_of(rt.alloc(), len)?;
+        let limit = (lines.saturating_mul(LINE) as u64).saturating_sub(1);
+        let (answer, _) = run_cut(&rt, rt.alloc(), limit, canonical.as_bytes())?;
         assert_eq!(rt; answer, Err(Fault::LogLimit), "{len} bytes");
     }
     Ok(())
@@ -204,14 +210,19 @@ fn canonical_logs_of_each_length_have_their_limit(rt: HostRuntime) -> Result<(),
 
 #[test]
 fn messages_of_each_length_are_listed(rt: HostRuntime) -> Result<(), Fail> {
-    let alloc = rt.alloc();
-    for (len, _) in LENGTHS {
-        let message = message_of(alloc, len)?;
-        let canonical = CANONICAL.record(alloc, message.as_slice())?;
-        let digits = hex::encode_upper(alloc, message.as_slice())?;
-        let item = format!(in alloc; "1 stray unit {digits}\n")?;
-        let (_, list) = listed(alloc, canonical.len() as u64, canonical.as_bytes())?;
-        assert!(rt; list.as_slice() == item.as_bytes(), "{len} bytes");
+    for row in lines_of(LENGTHS) {
+        let (len, _) = numbers_of(row)?;
+        assert_listed(&rt, rt.alloc(), len)?;
     }
+    Ok(())
+}
+
+/// A message of this length is listed with its digits.
+fn assert_listed(rt: &impl Abort, alloc: Global, len: usize) -> Result<(), Fail> {
+    let canonical = canonical_of(alloc, len)?;
+    let digits = hex::encode_upper(alloc, message_of(alloc, len)?.as_slice())?;
+    let item = format!(in alloc; "1 stray unit {digits}\n")?;
+    let (_, list) = listed(alloc, canonical.len() as u64, canonical.as_bytes())?;
+    assert!(rt; list.as_slice() == item.as_bytes(), "{len} bytes");
     Ok(())
 }

@@ -7,17 +7,28 @@ use can_log::{Dir, Frame, Scan, Scanner};
 use isotp_receive::Message;
 use std::alloc::{AllocError, Global};
 use std::process::Abort;
+use std::str::Split;
 use std::test::Fail;
+
+/// The rows of a table. Like [`lines_of`] it promises nothing, so that no proof of a loop over them reads the table.
+pub(crate) fn rows_of(table: &str) -> Split<'_, &'static str> {
+    table.split("\n\n")
+}
+
+/// The lines of a row, or of a table whose rows are lines.
+pub(crate) fn lines_of(row: &str) -> Split<'_, char> {
+    row.split('\n')
+}
 
 /// The first line of a row.
 pub(crate) fn name_of(row: &str) -> &str {
-    row.split('\n').next().unwrap_or("")
+    lines_of(row).next().unwrap_or("")
 }
 
 /// The lines of a row that begin with this mark, without it and the space after it.
 pub(crate) fn marked(alloc: Global, row: &str, mark: &str) -> Result<String, AllocError> {
     let mut text = String::new(alloc);
-    for line in row.split('\n').skip(1) {
+    for line in lines_of(row).skip(1) {
         if let Some(rest) = line.strip_prefix(mark) {
             text.push_str(rest.strip_prefix(' ').unwrap_or(rest))?;
             text.push_str("\n")?;
@@ -28,7 +39,7 @@ pub(crate) fn marked(alloc: Global, row: &str, mark: &str) -> Result<String, All
 
 /// What follows this mark in the first line of a row that begins with it.
 pub(crate) fn line_marked<'a>(row: &'a str, mark: &str) -> &'a str {
-    for line in row.split('\n').skip(1) {
+    for line in lines_of(row).skip(1) {
         if let Some(rest) = line.strip_prefix(mark) {
             return rest.strip_prefix(' ').unwrap_or(rest);
         }
@@ -45,8 +56,20 @@ pub(crate) fn assert_marked(
     found: &str,
 ) -> Result<(), AllocError> {
     let expected = marked(alloc, row, mark)?;
-    assert_eq!(rt; found, expected.as_str(), "{}", name_of(row));
+    assert_text(rt, row, found, expected.as_str());
     Ok(())
+}
+
+/// Of this row this text was found, as expected.
+pub(crate) fn assert_text(rt: &impl Abort, row: &str, found: &str, expected: &str) {
+    assert_eq!(rt; found, expected, "{}", name_of(row));
+}
+
+/// The log of a row: its lines with `line`, and the one with `last`, which has no line feed.
+pub(crate) fn log_marked(alloc: Global, row: &str) -> Result<String, AllocError> {
+    let mut log = marked(alloc, row, "line")?;
+    log.push_str(line_marked(row, "last"))?;
+    Ok(log)
 }
 
 /// The log of the frames in the lines of a row that begin with this mark, a millisecond apart from 0 on, as in a canonical
@@ -54,15 +77,21 @@ pub(crate) fn assert_marked(
 pub(crate) fn frames_marked(alloc: Global, row: &str, mark: &str) -> Result<String, AllocError> {
     let mut log = String::new(alloc);
     let mut n = 0usize;
-    for line in row.split('\n').skip(1) {
+    for line in lines_of(row).skip(1) {
         if let Some(frame) = line.strip_prefix(mark) {
-            let (seconds, millis) = (n / 1000, n % 1000);
-            let line = format!(in alloc; "({seconds:010}.{millis:03}000) can0{frame}\n")?;
-            log.push_str(&line)?;
+            push_stamp(alloc, &mut log, n)?;
+            log.push_str(frame)?;
+            log.push_str("\n")?;
             n = n.saturating_add(1);
         }
     }
     Ok(log)
+}
+
+/// The front of a line before which stand `n` others, each a millisecond.
+pub(crate) fn push_stamp(alloc: Global, log: &mut String, n: usize) -> Result<(), AllocError> {
+    let (seconds, millis) = (n / 1000, n % 1000);
+    log.push_str(&format!(in alloc; "({seconds:010}.{millis:03}000) can0")?)
 }
 
 /// The frame that a line of a log spells so.
@@ -84,7 +113,7 @@ pub(crate) fn frame_of(alloc: Global, spelled: &str) -> Result<Frame, Fail> {
 /// The messages in the lines of a row that begin with this mark, each spelled as its direction, `#` and its digits.
 pub(crate) fn messages_marked(alloc: Global, row: &str, mark: &str) -> Result<Vec<Message>, Fail> {
     let mut messages = Vec::new(alloc);
-    for line in row.split('\n').skip(1) {
+    for line in lines_of(row).skip(1) {
         if let Some(rest) = line.strip_prefix(mark) {
             messages.push(message_spelled(alloc, rest)?)?;
         }

@@ -1,12 +1,12 @@
 //! A log taken through the calls: what the other tests look at.
 
-use crate::rows::{assert_marked, frames_marked, marked, name_of};
+use crate::rows::{assert_marked, assert_text, frames_marked, marked, name_of};
 use can_log::Id;
-use std::alloc::{AllocError, Global};
-use std::io::Read;
+use std::alloc::Global;
+use std::io::{Read, Write};
 use std::process::Abort;
 use std::test::Fail;
-use trace_canon::{Config, Fault, Summary, explain, list, meaning_of, normalise};
+use trace_canon::{Config, ConfigFault, Fault, Summary, explain, list, meaning_of, normalise};
 use trace_io::{Reading, Short, Writing};
 use uds_exchange::Meaning;
 
@@ -19,33 +19,60 @@ pub(crate) const LINE: usize = 46;
 /// What a call answered, and what it wrote.
 pub(crate) type Ran = (Result<Summary, Fault>, Vec<u8>);
 
-/// A log between the tester 7E0 and the unit 7E8, normalised under a limit.
+/// A call that reads a log and writes a text.
+#[derive(Clone, Copy)]
+pub(crate) enum Call {
+    Normalise,
+    List,
+    Explain,
+}
+
+/// The tester 7E0 and the unit 7E8, under a limit.
+pub(crate) fn sides(limit: u64) -> Result<Config, ConfigFault> {
+    Config::new(Id::Std(0x7E0), Id::Std(0x7E8), limit)
+}
+
+/// What a call answers over this reader, and the writer as it left it.
+pub(crate) fn answer_of<R: Read + Drop, W: Write + Drop>(
+    alloc: Global,
+    call: Call,
+    config: &Config,
+    reader: R,
+    writer: W,
+) -> (Result<Summary, Fault>, Writing<W>) {
+    let (mut reader, mut writer) = (Reading::new(reader), Writing::new(writer));
+    let answer = match call {
+        Call::Normalise => normalise(alloc, config, &mut reader, &mut writer),
+        Call::List => list(alloc, config, &mut reader, &mut writer),
+        Call::Explain => explain(alloc, config, &mut reader, &mut writer),
+    };
+    (answer, writer)
+}
+
+/// What a call answers over this reader, and the text that it writes.
+pub(crate) fn ran<R: Read + Drop>(alloc: Global, call: Call, config: &Config, reader: R) -> Ran {
+    let (answer, writer) = answer_of(alloc, call, config, reader, Vec::new(alloc));
+    (answer, writer.into_inner())
+}
+
+/// A log normalised under a limit.
 pub(crate) fn run(alloc: Global, limit: u64, log: &[u8]) -> Result<Ran, Fail> {
-    run_over(alloc, limit, log)
+    Ok(ran(alloc, Call::Normalise, &sides(limit)?, log))
 }
 
 /// The same, over any reader.
 pub(crate) fn run_over<R: Read + Drop>(alloc: Global, limit: u64, reader: R) -> Result<Ran, Fail> {
-    let config = Config::new(Id::Std(0x7E0), Id::Std(0x7E8), limit)?;
-    let mut writer = Writing::new(Vec::new(alloc));
-    let answer = normalise(alloc, &config, &mut Reading::new(reader), &mut writer);
-    Ok((answer, writer.into_inner()))
+    Ok(ran(alloc, Call::Normalise, &sides(limit)?, reader))
 }
 
 /// The items of a log, listed.
 pub(crate) fn listed<R: Read + Drop>(alloc: Global, limit: u64, reader: R) -> Result<Ran, Fail> {
-    let config = Config::new(Id::Std(0x7E0), Id::Std(0x7E8), limit)?;
-    let mut writer = Writing::new(Vec::new(alloc));
-    let answer = list(alloc, &config, &mut Reading::new(reader), &mut writer);
-    Ok((answer, writer.into_inner()))
+    Ok(ran(alloc, Call::List, &sides(limit)?, reader))
 }
 
 /// What the frames of a log do, explained.
 pub(crate) fn explained<R: Read + Drop>(alloc: Global, limit: u64, reader: R) -> Result<Ran, Fail> {
-    let config = Config::new(Id::Std(0x7E0), Id::Std(0x7E8), limit)?;
-    let mut writer = Writing::new(Vec::new(alloc));
-    let answer = explain(alloc, &config, &mut Reading::new(reader), &mut writer);
-    Ok((answer, writer.into_inner()))
+    Ok(ran(alloc, Call::Explain, &sides(limit)?, reader))
 }
 
 /// What a log means.
@@ -54,8 +81,7 @@ pub(crate) fn meaning<R: Read + Drop>(
     limit: u64,
     reader: R,
 ) -> Result<Result<Meaning, Fault>, Fail> {
-    let config = Config::new(Id::Std(0x7E0), Id::Std(0x7E8), limit)?;
-    Ok(meaning_of(alloc, &config, &mut Reading::new(reader)))
+    Ok(meaning_of(alloc, &sides(limit)?, &mut Reading::new(reader)))
 }
 
 /// A reader that gives one byte a call.
@@ -156,7 +182,7 @@ pub(crate) fn assert_row(rt: &impl Abort, alloc: Global, log: &str, row: &str) -
     let expected = marked(alloc, row, "told")?;
     let canonical = told(rt, alloc, log, expected.as_str(), name_of(row))?;
     let frames = frames_marked(alloc, row, "canonical")?;
-    assert_eq!(rt; canonical.as_str(), frames.as_str(), "{}", name_of(row));
+    assert_text(rt, row, canonical.as_str(), frames.as_str());
     Ok(())
 }
 
@@ -178,40 +204,19 @@ pub(crate) fn front_of(text: &[u8], len: usize) -> &[u8] {
 }
 
 /// A vehicle identification number, read in five classic frames.
-pub(crate) const VIN_LINES: [&str; 5] = [
-    "(1700000000.000000) can0 7E0#0322F190",
-    "(1700000000.012000) can0 7E8#101462F190574241",
-    "(1700000000.012300) can0 7E0#300000",
-    "(1700000000.020000) can0 7E8#2133413543353045",
-    "(1700000000.030000) can0 7E8#2246313233343536",
-];
+pub(crate) const VIN_LOG: &str = "\
+(1700000000.000000) can0 7E0#0322F190
+(1700000000.012000) can0 7E8#101462F190574241
+(1700000000.012300) can0 7E0#300000
+(1700000000.020000) can0 7E8#2133413543353045
+(1700000000.030000) can0 7E8#2246313233343536
+";
 
-/// The lines of its canonical log.
-pub(crate) const VIN_CANONICAL: [&str; 5] = [
-    "(0000000000.000000) can0 7E0#0322F190CCCCCCCC",
-    "(0000000000.001000) can0 7E8#101462F190574241",
-    "(0000000000.002000) can0 7E0#300000CCCCCCCCCC",
-    "(0000000000.003000) can0 7E8#2133413543353045",
-    "(0000000000.004000) can0 7E8#2246313233343536",
-];
-
-/// A text of these lines.
-pub(crate) fn log_of(alloc: Global, lines: &[&str]) -> Result<String, AllocError> {
-    let mut log = String::new(alloc);
-    for line in lines {
-        log.push_str(line)?;
-        log.push_str("\n")?;
-    }
-    Ok(log)
-}
-
-/// A log of these frames, a millisecond apart from 0 on, as in a canonical log.
-pub(crate) fn log_of_frames(alloc: Global, frames: &[&str]) -> Result<String, AllocError> {
-    let mut log = String::new(alloc);
-    for (n, frame) in frames.iter().enumerate() {
-        let (seconds, millis) = (n / 1000, n % 1000);
-        let line = format!(in alloc; "({seconds:010}.{millis:03}000) can0 {frame}\n")?;
-        log.push_str(&line)?;
-    }
-    Ok(log)
-}
+/// Its canonical log.
+pub(crate) const VIN_CANONICAL: &str = "\
+(0000000000.000000) can0 7E0#0322F190CCCCCCCC
+(0000000000.001000) can0 7E8#101462F190574241
+(0000000000.002000) can0 7E0#300000CCCCCCCCCC
+(0000000000.003000) can0 7E8#2133413543353045
+(0000000000.004000) can0 7E8#2246313233343536
+";
