@@ -42,7 +42,7 @@ pub fn append_line<const CAP: usize>(
     requires { array_vec_len text.old + canonical_length id ≤ CAP }
     ensures { text.new.items ≡ text.old.items ++ canonical_line clock.now id «data».now }
 {
-    append(text, &clock.front());
+    append(text, clock.front());
     match id {
         Id::Std(number) => append(text, &hexadecimal_digits::<3>(u32::from(number))),
         Id::Ext(number) => append(text, &hexadecimal_digits::<8>(number)),

@@ -28,7 +28,7 @@ pub(crate) fn hexadecimal_digits<const WIDTH: usize>(number: u32) -> [u8; WIDTH]
 pub(crate) fn digits_of_bytes(bytes: &[u8; 8]) -> [u8; 16]
     ensures { result ≡ flat_map (hexadecimal 2) bytes.now }
 {
-    let bytes = u8x8::from_array(*bytes);
+    let bytes = u8x8::from_slice(bytes);
     let high = bytes >> u8x8::splat(4);
     let low = bytes & u8x8::splat(15);
     digits_of(high.shuffle(low, [0, 8, 1, 9, 2, 10, 3, 11, 4, 12, 5, 13, 6, 14, 7, 15])).to_array()

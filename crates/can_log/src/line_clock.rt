@@ -62,10 +62,10 @@ impl LineClock {
 
     /// The bytes before the identifier.
     #[inline(always)]
-    pub(crate) fn front(&self) -> [u8; FRONT]
-        ensures { result ≡ canonical_front self.now }
+    pub(crate) fn front(&self) -> &[u8; FRONT]
+        ensures { result.now ≡ canonical_front self.now }
     {
-        self.front
+        &self.front
     }
 }
 

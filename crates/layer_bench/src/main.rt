@@ -51,7 +51,7 @@ fn work<R: Read>(
         "pair" => pair::sum_of_strays(alloc, first)?,
         "order" => order::sum_of_held(alloc, first)?,
         "put" => order::sum_of_put(alloc, first)?,
-        "line" => line::sum_of_bytes(first),
+        "line" => line::sum_of_ends(first),
         _ => return Ok(None),
     }))
 }

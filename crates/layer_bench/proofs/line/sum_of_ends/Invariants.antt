@@ -1,5 +1,5 @@
 use Rattle.std.proofs.Common.{◌≡◌}
-use Rattle.layer_bench.proofs.line.sum_of_bytes.Given as goal
+use Rattle.layer_bench.proofs.line.sum_of_ends.Given as goal
 
 -- the clock stands at the number of the next line
 abbrev pub invariant-loop-number : goal.invariant-loop-number
