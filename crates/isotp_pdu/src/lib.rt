@@ -89,6 +89,7 @@ pub enum PduFault {
 
 /// What the frame says, or else the first fault that applies. It takes neither the identifier nor
 /// the frames before into account, and treats classic and FD frames of equal length the same.
+#[inline(always)]
 pub fn read_pdu(frame: &Frame) -> Result<Pdu<'_>, PduFault>
     ensures value { layout_seen result ≡ layout_of frame.now }
     ensures layout { (layout : Layout) → (layout_seen result ≡ Ok layout) ↔ HasLayout frame.now layout }
@@ -99,6 +100,7 @@ pub fn read_pdu(frame: &Frame) -> Result<Pdu<'_>, PduFault>
 }
 
 /// The same by the one equation that the other clauses follow from.
+#[inline(always)]
 #[tactic(auto, unfolding(crate::specs::Reading::layout_of))]
 fn read_frame(frame: &Frame) -> Result<Pdu<'_>, PduFault>
     ensures { layout_seen result ≡ layout_of frame.now }
@@ -110,6 +112,7 @@ fn read_frame(frame: &Frame) -> Result<Pdu<'_>, PduFault>
 }
 
 /// A data frame of these bytes.
+#[inline(always)]
 fn read_bytes(bytes: &[u8]) -> Result<Pdu<'_>, PduFault>
     requires { length bytes.now ≤ 64 }
     ensures { layout_seen result ≡ of_bytes bytes.now }
