@@ -1,8 +1,9 @@
 -- The 8 bytes of a frame, as they are copied into it.
-use Rattle.std.proofs.Common.{◌≡◌, ℕ, ◌-◌, ◌≤◌, List, ◌++◌, length, take, drop, refl, sym, ◌∙◌, ap, arith}
-use Rattle.std.specs.Prelude.{replicate}
+use Rattle.std.proofs.Common.{◌≡◌, ℕ, ◌+◌, ◌-◌, ◌≤◌, List, ◌++◌, length, take, drop, refl, sym, ◌∙◌, ap, arith}
+use Rattle.std.specs.Prelude.{[], ◌∷◌, replicate, slice_set}
+use Rattle.std.specs.Array.{IsFirstChunk}
 use Rattle.std.proofs.Math.Seq.{take-append_seam, drop-append_seam}
-use Rattle.std.proofs.lemmas.List.{append-nil, take-append-le, drop-replicate, take-replicate}
+use Rattle.std.proofs.lemmas.List.{append-nil, take-append-le, take_all, length-drop, drop-drop, drop-replicate, take-replicate}
 use Rattle.isotp_receive.proofs.Promises.{take_over}
 use Rattle.isotp_segment.specs.CanonicalFrames.{filled, padding}
 use borrow.Rule.Slice.PartMut.{put_mid}
@@ -46,3 +47,15 @@ pub put_mid-padded : (control bytes written copied : List ℕ) (size : ℕ) → 
     → put_mid (length control) size (written ++ drop (length control) (replicate 8 padding)) copied ≡ filled control bytes
 put_mid-padded control bytes written copied size fits short is w c =
     rw (w, c, is) (put_mid-behind control bytes (length bytes) ∙ filled-padded control bytes fits short)
+
+-- a full frame, made of the eight bytes from one before its own on: the control information goes over that one
+full_frame : (control : ℕ) (before chunk : List ℕ) → IsFirstChunk before chunk 8 → slice_set chunk 0 control ≡ filled (control ∷ []) (drop 1 before)
+full_frame control [] chunk first = absurd (omega (arith, first.enough))
+full_frame control (byte ∷ bytes) chunk first =
+    ap (λ l. slice_set l 0 control) first.same ∙ filled-whole (control ∷ []) bytes (omega arith) (omega (arith, first.enough))
+
+pub full_frame_at : (control place before : ℕ) (message chunk : List ℕ) → before + 1 ≡ place → IsFirstChunk (take (length message - before) (drop before message)) chunk 8
+    → slice_set chunk 0 control ≡ filled (control ∷ []) (drop place message)
+full_frame_at control place before message chunk is first =
+    let rest = take_all (length message - before) (drop before message) (omega (arith, length-drop before message)) in
+    full_frame control _ chunk first ∙ ap (λ l. filled (control ∷ []) (drop 1 l)) rest ∙ ap (filled (control ∷ [])) (drop-drop 1 before message ∙ ap (λ n. drop n message) is)

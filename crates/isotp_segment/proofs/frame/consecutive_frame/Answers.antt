@@ -1,0 +1,8 @@
+use Rattle.std.proofs.Common.{arith}
+use Rattle.isotp_segment.proofs.Padding.{full_frame_at}
+use Rattle.isotp_segment.proofs.frame.consecutive_frame.Goals as goal
+
+pub returns-in-Some : goal.returns-in-Some
+returns-in-Some c = record {
+  value = full_frame_at _ _ _ c.args.message.now _ (grind (arith, c.room_in_first.ensures.value)) c.in-Some.ensures.cases;
+}
