@@ -1,6 +1,7 @@
 //! The text that explains a log: what each frame ended, why it was dropped, and what stands at the end.
-ghost use Rattle.std.specs.Prelude.{◌≡◌, ◌^◌, ◌≤◌, ◌++◌};
+ghost use Rattle.std.specs.Prelude.{◌≡◌, ◌^◌, ◌≤◌, ◌++◌, Some};
 ghost use Rattle.isotp_receive.specs.EventSeen.{seen_event, seen_verdict};
+ghost use Rattle.isotp_receive.specs.Verdict.{dropped};
 ghost use Rattle.trace_canon.specs.Gathering.{Gathers, Writes};
 ghost use Rattle.trace_canon.specs.ExplainText.{cause_text, layout_fault_text, reason_line, dropped_line, ended_line, event_text};
 ghost use Rattle.trace_canon.specs.ExplainText.{unfinished_line, unfinished_text, summary_line};
@@ -43,24 +44,38 @@ fn gather_ended<W: Target>(
 {
     match ended {
         None => Ok(()),
-        Some(ended) => gather_parts(
-            writer,
-            block,
-            &[
-                Part::Text("line "),
-                Part::Number(line),
-                Part::Text(": "),
-                Part::Text(direction_name(ended.dir)),
-                Part::Text(" reception from line "),
-                Part::Number(ended.begun_line),
-                Part::Text(" of "),
-                Part::Number(u64::from(ended.len)),
-                Part::Text(" bytes ended: "),
-                Part::Text(cause_name(ended.cause)),
-                Part::Text("\n"),
-            ],
-        ),
+        Some(ended) => gather_ended_line(writer, block, line, ended),
     }
+}
+
+/// Gathers the line of a reception that ended. Few frames end one, so this stays out of the way of the others.
+#[inline(never)]
+fn gather_ended_line<W: Target>(
+    writer: &mut W,
+    block: &mut Block,
+    line: u64,
+    ended: Ended,
+) -> Result<(), DeviceFault>
+    requires { W.failures writer.old ≤ 2 ^ 62 }
+    ensures { Gathers W.Target result writer.old block.old.items (ended_line line (Some ended)) writer.new block.new.items }
+{
+    gather_parts(
+        writer,
+        block,
+        &[
+            Part::Text("line "),
+            Part::Number(line),
+            Part::Text(": "),
+            Part::Text(direction_name(ended.dir)),
+            Part::Text(" reception from line "),
+            Part::Number(ended.begun_line),
+            Part::Text(" of "),
+            Part::Number(u64::from(ended.len)),
+            Part::Text(" bytes ended: "),
+            Part::Text(cause_name(ended.cause)),
+            Part::Text("\n"),
+        ],
+    )
 }
 
 /// Why a reception ended.
@@ -87,9 +102,24 @@ fn gather_dropped<W: Target>(
     requires { W.failures writer.old ≤ 2 ^ 62 }
     ensures { Gathers W.Target result writer.old block.old.items (dropped_line line dir (seen_verdict verdict.entry)) writer.new block.new.items }
 {
-    let Verdict::Dropped(reason) = verdict else {
-        return Ok(());
-    };
+    match verdict {
+        Verdict::Dropped(reason) => gather_dropped_line(writer, block, line, dir, reason),
+        _ => Ok(()),
+    }
+}
+
+/// Gathers the line of a dropped frame. Few frames are dropped, so this stays out of the way of the others.
+#[inline(never)]
+fn gather_dropped_line<W: Target>(
+    writer: &mut W,
+    block: &mut Block,
+    line: u64,
+    dir: Dir,
+    reason: Reason,
+) -> Result<(), DeviceFault>
+    requires { W.failures writer.old ≤ 2 ^ 62 }
+    ensures { Gathers W.Target result writer.old block.old.items (dropped_line line dir (dropped reason)) writer.new block.new.items }
+{
     gather_parts(
         writer,
         block,
