@@ -79,11 +79,10 @@ impl Kind {
 /// A frame of a CAN log. Its data lies in the frame itself: nothing is allocated.
 #[derive(Debug, Drop, PartialEq, Eq)]
 pub struct Frame {
-    // The largest part comes first: after smaller ones it would be copied at odd addresses. The kind comes next, in bytes
-    // that would else be a gap before the identifier: those of a gap are written too.
+    // The largest part comes first: after smaller ones it would be copied at odd addresses. No gap lies between the parts.
     data: FrameData,
-    kind: Kind,
     id: Id,
+    kind: Kind,
 }
 
 impl Model for Frame {

@@ -10,7 +10,7 @@ use std::marker::Model;
 #[derive(Debug, Drop, PartialEq, Eq)]
 pub(crate) struct FrameData {
     bytes: [u8; 64],
-    len: u8,
+    len: u32,
 }
 
 impl Model for FrameData {
@@ -51,7 +51,7 @@ impl FrameData {
         filled[..bytes.len()].copy_from_slice(bytes);
         FrameData {
             bytes: filled,
-            len: bytes.len() as u8,
+            len: bytes.len() as u32,
         }
     }
 
@@ -65,7 +65,7 @@ impl FrameData {
     {
         let len = self.len as usize;
         self.bytes[len..len + 8].copy_from_slice(eight);
-        self.len += count as u8;
+        self.len += count as u32;
     }
 
     /// The bytes.
