@@ -3,11 +3,12 @@
 ghost use Rattle.std.specs.Prelude.{◌≡◌, ◌+◌, ◌-◌, ◌≤◌, [], ◌++◌, length, take, drop};
 ghost use Rattle.can_log.specs.FrameData.{zeros};
 
+use std::fmt;
 use std::marker::Model;
 
 /// At most 64 bytes. All after them are zero, so that the bytes of whole vectors are written, and two are equal exactly where
 /// all fields are.
-#[derive(Debug, Drop, PartialEq, Eq)]
+#[derive(Drop, PartialEq, Eq)]
 pub(crate) struct FrameData {
     bytes: [u8; 64],
     len: u32,
@@ -75,5 +76,12 @@ impl FrameData {
         ensures fits { length self.now ≤ 64 }
     {
         &self.bytes[..self.len as usize]
+    }
+}
+
+/// The data alone, without the zeros after it.
+impl fmt::Debug for FrameData {
+    fn fmt<W: fmt::Write>(&self, f: &mut fmt::Formatter<W>) -> fmt::Result {
+        f.debug_list().entries(self.as_slice()).finish()
     }
 }
