@@ -1,7 +1,8 @@
 /* Refuses one call of a process, and says so on standard error: a growth of memory, a read or a write. It is loaded in front of
    the C library (LD_PRELOAD). The variable REFUSED_GROWTH, REFUSED_READ or REFUSED_WRITE has the number of the call among those
-   of its kind, counted from 1, and REFUSED_AS the error number of a read or a write; 0 gives or takes nothing. Where there is REFUSED_FOR_GOOD, every
-   later write to that file is refused too. Where there is MOST_BYTES, no read or write takes more bytes than that. */
+   of its kind, counted from 1, and REFUSED_AS the error number of a read or a write, 0 where it gives or takes nothing. Where
+   there is REFUSED_FOR_GOOD, later writes to the same file are refused too. MOST_BYTES is the most that a read gives or a write
+   takes. */
 
 extern void *__libc_malloc(unsigned long size);
 extern void *__libc_realloc(void *old, unsigned long size);

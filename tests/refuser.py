@@ -1,4 +1,4 @@
-"""Runs of a process to which one call is refused, a growth of memory, a read or a write, or whose reads and writes are short."""
+"""Runs of a process to which a growth of memory, a read or a write is refused, or whose reads and writes are short."""
 
 import errno
 import os

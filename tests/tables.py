@@ -20,6 +20,13 @@ from pathlib import Path
 TESTS = Path(__file__).resolve().parent
 EXAMPLES = TESTS.parent / "examples"
 
+# A vehicle identification number, read in five classic frames.
+VIN = (EXAMPLES / "vin.log").read_bytes()
+VIN_CANONICAL = (EXAMPLES / "vin.canonical").read_bytes()
+
+# The length of a canonical line with its line feed.
+CANONICAL_LINE = 46
+
 
 class Row:
     """The name of a row, and its lines, each with its mark and its text."""
