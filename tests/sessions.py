@@ -385,6 +385,7 @@ def main():
             recordings, long_logs, devices,
         ]
         names, checks = zip(*(case for kind in kinds for case in kind(program)))
+        cases.report("each table of rows/ is taken", [f"{name} is not" for name in tables.left()])
         for name, wrong in zip(names, workers.map(answer_of, checks)):
             cases.report(name, wrong)
     cases.end()

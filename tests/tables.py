@@ -18,6 +18,7 @@ and lines with these a canonical log:
 from pathlib import Path
 
 TESTS = Path(__file__).resolve().parent
+ROWS = TESTS / "rows"
 EXAMPLES = TESTS.parent / "examples"
 
 # A vehicle identification number, read in five classic frames.
@@ -26,6 +27,10 @@ VIN_CANONICAL = (EXAMPLES / "vin.canonical").read_bytes()
 
 # The length of a canonical line with its line feed.
 CANONICAL_LINE = 46
+
+
+# The names of the tables that were read.
+taken = set()
 
 
 class Row:
@@ -79,8 +84,14 @@ def stamped(number, frame):
 
 def paragraphs(name):
     """The head of a table, and its rows, as lists of lines."""
-    text = (TESTS / "rows" / f"{name}.txt").read_text().removesuffix("\n")
+    taken.add(name)
+    text = (ROWS / f"{name}.txt").read_text().removesuffix("\n")
     return [[unescaped(line) for line in paragraph.split("\n")] for paragraph in text.split("\n\n")]
+
+
+def left():
+    """The names of the tables that were not read."""
+    return sorted({path.stem for path in ROWS.iterdir()} - taken)
 
 
 def unescaped(line):
