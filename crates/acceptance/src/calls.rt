@@ -69,25 +69,40 @@ fn answer_of<R: Read + Drop, W: Write + Drop>(
     Ok((answer, writer))
 }
 
-/// A reader of the session that gives at most so many bytes a call.
-fn session(most: usize) -> Short<&'static [u8]> {
+/// A reader of the session that gives a byte a call.
+fn byte_by_byte() -> Short<&'static [u8]> {
     Short {
         inner: LOG.as_bytes(),
-        most,
+        most: 1,
     }
 }
 
-/// One that gives a byte a call, until the read after a hundred bytes fails.
+/// The same until the read after a hundred bytes fails.
 fn failing() -> FailsAt<Short<&'static [u8]>> {
     FailsAt {
-        inner: session(1),
+        inner: byte_by_byte(),
         after: Some(100),
         kind: ErrorKind::Other,
     }
 }
 
-/// What a call writes of the session is this text, read at once and byte by byte. Where reading fails in its middle, so much
-/// of the text was written; where a writer has room for fifty bytes, those.
+/// What a call writes of the session in this reader is this text.
+fn assert_written<R: Read + Drop>(
+    rt: &impl Abort,
+    alloc: Global,
+    call: Call,
+    reader: R,
+    text: &str,
+) -> Result<(), Fail> {
+    let (answer, writer) = answer_of(alloc, call, reader, Vec::new(alloc))?;
+    let summary = answer?;
+    assert_eq!(rt; (summary.frames, summary.messages), (5, 2));
+    assert_eq!(rt; writer.into_inner().as_slice(), text.as_bytes());
+    Ok(())
+}
+
+/// A call writes this text of the session, read at once and byte by byte. Where reading fails in its middle, so much of the
+/// text was written; where a writer has room for fifty bytes, those.
 fn assert_call(
     rt: &impl Abort,
     alloc: Global,
@@ -95,12 +110,8 @@ fn assert_call(
     text: &str,
     early: usize,
 ) -> Result<(), Fail> {
-    for most in [1, 1000] {
-        let (answer, writer) = answer_of(alloc, call, session(most), Vec::new(alloc))?;
-        let summary = answer?;
-        assert_eq!(rt; (summary.frames, summary.messages), (5, 2));
-        assert_eq!(rt; writer.into_inner().as_slice(), text.as_bytes());
-    }
+    assert_written(rt, alloc, call, LOG.as_bytes(), text)?;
+    assert_written(rt, alloc, call, byte_by_byte(), text)?;
     let (answer, writer) = answer_of(alloc, call, failing(), Vec::new(alloc))?;
     assert_eq!(rt; answer, Err(Fault::Read));
     assert_eq!(rt;
@@ -112,7 +123,7 @@ fn assert_call(
         room: 50,
         kind: ErrorKind::Other,
     };
-    let (answer, writer) = answer_of(alloc, call, session(1000), writer)?;
+    let (answer, writer) = answer_of(alloc, call, LOG.as_bytes(), writer)?;
     assert_eq!(rt; (answer, writer.failures()), (Err(Fault::Write), 1));
     assert_eq!(rt;
         Some(writer.into_inner().inner.as_slice()),
@@ -139,10 +150,8 @@ fn meaning<R: Read + Drop>(
 #[test]
 fn the_meaning_of_a_session_has_its_messages(rt: HostRuntime) -> Result<(), Fail> {
     let alloc = rt.alloc();
-    for most in [1, 1000] {
-        let items = items_text(alloc, &meaning(alloc, session(most))??)?;
-        assert_eq!(rt; items.as_str(), ITEM);
-    }
+    let items = items_text(alloc, &meaning(alloc, byte_by_byte())??)?;
+    assert_eq!(rt; items.as_str(), ITEM);
     let log = format!(in alloc; "{LOG}(1700000000.040000) can0 7E8#037F2278\n")?;
     let items = items_text(alloc, &meaning(alloc, log.as_bytes())??)?;
     assert_eq!(rt; items.strip_prefix(ITEM), Some("stray Unit#7F2278\n"));
@@ -150,21 +159,26 @@ fn the_meaning_of_a_session_has_its_messages(rt: HostRuntime) -> Result<(), Fail
     Ok(())
 }
 
+/// What comparing the logs of these readers answers, and how many reads of the right one were made.
+fn compared<A: Read + Drop, B: Read + Drop>(
+    alloc: Global,
+    left: A,
+    right: B,
+) -> Result<(Result<Comparison, CompareFault>, u64), ConfigFault> {
+    let (mut left, mut right) = (Reading::new(left), Reading::new(right));
+    let found = compare(alloc, &sides()?, &mut left, &mut right);
+    Ok((found, right.reads()))
+}
+
 #[test]
 fn a_session_is_compared(rt: HostRuntime) -> Result<(), Fail> {
-    let (alloc, config) = (rt.alloc(), sides()?);
-    for most in [1, 1000] {
-        let (mut left, mut right) = (Reading::new(session(most)), Reading::new(session(1000)));
-        let found = compare(alloc, &config, &mut left, &mut right);
-        assert_eq!(rt; found, Ok(Comparison::Same));
-    }
-    let (mut left, mut right) = (Reading::new(failing()), Reading::new(session(1)));
-    let found = compare(alloc, &config, &mut left, &mut right);
-    assert_eq!(rt; found, Err(CompareFault::Left(Fault::Read)));
-    assert_eq!(rt; (right.reads(), right.given()), (0, 0));
-    let (mut left, mut right) = (Reading::new(session(1)), Reading::new(failing()));
-    let found = compare(alloc, &config, &mut left, &mut right);
-    assert_eq!(rt; found, Err(CompareFault::Right(Fault::Read)));
+    let alloc = rt.alloc();
+    let found = compared(alloc, LOG.as_bytes(), byte_by_byte())?;
+    assert_eq!(rt; found, (Ok(Comparison::Same), 213));
+    let found = compared(alloc, failing(), byte_by_byte())?;
+    assert_eq!(rt; found, (Err(CompareFault::Left(Fault::Read)), 0));
+    let found = compared(alloc, byte_by_byte(), failing())?;
+    assert_eq!(rt; found, (Err(CompareFault::Right(Fault::Read)), 101));
     Ok(())
 }
 
