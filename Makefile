@@ -47,6 +47,7 @@ attack:
 test: build
 	@python3 tests/command_line.py $(PROGRAM)
 	@python3 tests/program.py $(PROGRAM)
+	@python3 tests/sessions.py $(PROGRAM)
 	@python3 tests/documents.py
 	@python3 tests/shipped.py $(PROGRAM)
 	@python3 tests/recipes.py $(PROGRAM)

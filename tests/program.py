@@ -1,6 +1,5 @@
 #!/usr/bin/env python3
-"""Tests of the built program over logs and devices, what only a process can show; and that the logs in the text of a test
-are those of examples/.
+"""Tests of the built program over logs and devices, what only a process can show.
 
     tests/program.py crates/udsnorm/out/udsnorm
 
@@ -28,7 +27,6 @@ OVERSIZE = b"(1.000000) can0 7E8#1000001000004142\n"
 
 TOP = Path(__file__).resolve().parent.parent
 EXAMPLES = TOP / "examples"
-COPIES = TOP / "crates" / "acceptance" / "src" / "examples.rt"
 
 # The identifiers of the examples that are not of 7E0 and 7E8.
 SIDES = {"extended-identifiers.log": {oracle.TESTER: "18DA10F1", oracle.UNIT: "18DAF110"}}
@@ -146,17 +144,6 @@ def examples(cases):
     stray = vin.read_bytes() + b"(1700000100.000000) can0 7E8#037F2278\n"
     cases.case("a pending reply after the answer", cases.run(["compare", vin, "/dev/stdin"], stray), DIFFERENT, b"different at item 2\n")
     cases.case("a session with a lost frame", cases.run(["compare", vin, EXAMPLES / "lost-frame.log"]), DIFFERENT, b"different at item 1\n")
-
-
-def copies(cases):
-    """The tests of `acceptance` can't read files: each log that they have in their text is one of examples/, byte for byte."""
-    tables = re.findall(r': &str = "\\\n(.*?)";', COPIES.read_text(), re.DOTALL)
-    rows = [row for table in tables for row in table.split("\n\n")]
-    cases.report("logs in the tests of acceptance", [] if rows else ["none was found"])
-    for name, *lines in (row.splitlines() for row in rows):
-        copy = "".join(f"{line.removeprefix('line ')}\n" for line in lines if line.startswith("line "))
-        same = copy.encode() == (EXAMPLES / name).read_bytes()
-        cases.report(f"examples/{name} in the tests of acceptance", [] if same else ["another text"])
 
 
 def long_log(size):
@@ -309,7 +296,7 @@ def main():
     if len(sys.argv) != 2:
         sys.exit(__doc__)
     cases = Cases(os.path.abspath(sys.argv[1]))
-    for test in [logs, default_limit, the_longest_message, examples, copies, devices, device_calls, memory]:
+    for test in [logs, default_limit, the_longest_message, examples, devices, device_calls, memory]:
         test(cases)
     cases.end()
 

@@ -1,4 +1,4 @@
-"""Runs of a process to which one call is refused: a growth of memory, a read or a write."""
+"""Runs of a process to which a growth of memory, a read or a write is refused, or whose reads and writes are short."""
 
 import errno
 import os
@@ -9,6 +9,9 @@ TESTS = Path(__file__).resolve().parent
 
 # The kinds of calls, by the variable that has the number of the one that is refused.
 GROWTH, READ, WRITE = "REFUSED_GROWTH", "REFUSED_READ", "REFUSED_WRITE"
+
+# Stands for the error number of a write that does not fail, and takes no byte.
+TAKES_NOTHING = 0
 
 # What the library that refuses a call writes to standard error.
 REFUSED = b"refused\n"
@@ -25,10 +28,17 @@ class Refuser:
         words += ["-O1", "-fPIC", "-shared", "-nostdlib", "-fuse-ld=lld", "-o", self.library, TESTS / "refuse_call.c"]
         subprocess.run(words, check=True)
 
-    def run(self, program, words, kind, call, error=errno.EIO):
-        """Status, output and error output of a program to which this call of its kind is refused, and whether it was."""
-        refusing = {"LD_PRELOAD": str(self.library), kind: str(call), "REFUSED_AS": str(error)}
-        done = subprocess.run(
-            [program, *words], stdin=subprocess.DEVNULL, capture_output=True, timeout=60, env={**os.environ, **refusing}
-        )
-        return done.returncode, done.stdout, done.stderr.removeprefix(REFUSED), done.stderr.startswith(REFUSED)
+    def run(self, program, words, kind, call, error=errno.EIO, for_good=False, **options):
+        """Status, output and error output of a program to which this call of its kind is refused, and whether it was. For good:
+        so is each later write to the same file."""
+        refusing = {kind: str(call), "REFUSED_AS": str(error), **({"REFUSED_FOR_GOOD": "1"} if for_good else {})}
+        status, output, told = self.start(program, words, refusing, **options)
+        return status, output, told.removeprefix(REFUSED), told.startswith(REFUSED)
+
+    def start(self, program, words, variables=(), log=b"", most=None):
+        """Status, output and error output of a program that takes a log from standard input. No read or write takes more
+        bytes than `most`, where that is given."""
+        shortening = {} if most is None else {"MOST_BYTES": str(most)}
+        environment = {**os.environ, "LD_PRELOAD": str(self.library), **dict(variables), **shortening}
+        done = subprocess.run([program, *words], input=log, capture_output=True, timeout=60, env=environment)
+        return done.returncode, done.stdout, done.stderr

@@ -1,7 +1,6 @@
 //! What each frame does to the receptions: its verdict, and the reception that it ends. No expected value comes from the program.
 
-use crate::recordings::message_of;
-use crate::rows::{assert_marked, frame_of, lines_of, rows_of};
+use crate::rows::{assert_marked, frame_of, lines_of, message_of, rows_of};
 use can_log::Dir::{Tester, Unit};
 use can_log::{Dir, Frame, Id, Kind};
 use isotp_receive::{Event, Pair, Recorded, Verdict, messages_of};

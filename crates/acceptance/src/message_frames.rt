@@ -1,7 +1,6 @@
 //! The canonical frames of a message. No expected value comes from the program.
 
-use crate::recordings::message_of;
-use crate::rows::{assert_marked, lines_of, messages_marked, push_message, rows_of};
+use crate::rows::{assert_marked, lines_of, message_of, messages_marked, push_message, rows_of};
 use can_log::Dir::{self, Unit};
 use isotp_receive::MESSAGE_LIMIT;
 use isotp_segment::{Segments, frame_count};

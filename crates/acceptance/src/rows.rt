@@ -72,28 +72,6 @@ pub(crate) fn log_marked(alloc: Global, row: &str) -> Result<String, AllocError>
     Ok(log)
 }
 
-/// The log of the frames in the lines of a row that begin with this mark, a millisecond apart from 0 on, as in a canonical
-/// log.
-pub(crate) fn frames_marked(alloc: Global, row: &str, mark: &str) -> Result<String, AllocError> {
-    let mut log = String::new(alloc);
-    let mut n = 0usize;
-    for line in lines_of(row).skip(1) {
-        if let Some(frame) = line.strip_prefix(mark) {
-            push_stamp(alloc, &mut log, n)?;
-            log.push_str(frame)?;
-            log.push_str("\n")?;
-            n = n.saturating_add(1);
-        }
-    }
-    Ok(log)
-}
-
-/// The front of a line before which stand `n` others, each a millisecond.
-pub(crate) fn push_stamp(alloc: Global, log: &mut String, n: usize) -> Result<(), AllocError> {
-    let (seconds, millis) = (n / 1000, n % 1000);
-    log.push_str(&format!(in alloc; "({seconds:010}.{millis:03}000) can0")?)
-}
-
 /// The frame that a line of a log spells so.
 pub(crate) fn frame_of(alloc: Global, spelled: &str) -> Result<Frame, Fail> {
     let line = format!(in alloc; "(0.000000) can0 {spelled}\n")?;
@@ -143,4 +121,13 @@ pub(crate) fn push_message(
 ) -> Result<(), AllocError> {
     let digits = hex::encode_upper(alloc, bytes)?;
     text.push_str(&format!(in alloc; "{dir:?}#{digits}\n")?)
+}
+
+/// A message of this length, in which no two neighbouring bytes are equal.
+pub(crate) fn message_of(alloc: Global, len: usize) -> Result<Vec<u8>, AllocError> {
+    let mut message = Vec::new(alloc);
+    for i in 0..len {
+        message.push((i % 251) as u8)?;
+    }
+    Ok(message)
 }

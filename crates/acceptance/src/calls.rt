@@ -1,0 +1,227 @@
+//! A session through each call of `trace_canon`, over devices that only a test has. What whole logs become is tested over the
+//! built program, by `tests/sessions.py`.
+
+use crate::pairings::items_text;
+use can_log::Id;
+use std::alloc::Global;
+use std::io::{ErrorKind, Read, Write};
+use std::process::Abort;
+use std::test::Fail;
+use trace_canon::{
+    CompareFault, Comparison, Config, ConfigFault, Fault, Summary, compare, explain, list,
+    meaning_of, normalise,
+};
+use trace_io::{Endless, FailsAfter, FailsAt, Reading, Short, Source, Target, Writing};
+use uds_exchange::Meaning;
+
+/// A vehicle identification number, read in five classic frames.
+const LOG: &str = "\
+(1700000000.000000) can0 7E0#0322F190
+(1700000000.012000) can0 7E8#101462F190574241
+(1700000000.012300) can0 7E0#300000
+(1700000000.020000) can0 7E8#2133413543353045
+(1700000000.030000) can0 7E8#2246313233343536
+";
+
+/// Its canonical log.
+const CANONICAL: &str = "\
+(0000000000.000000) can0 7E0#0322F190CCCCCCCC
+(0000000000.001000) can0 7E8#101462F190574241
+(0000000000.002000) can0 7E0#300000CCCCCCCCCC
+(0000000000.003000) can0 7E8#2133413543353045
+(0000000000.004000) can0 7E8#2246313233343536
+";
+
+const LISTED: &str =
+    "1 exchange ReadDataByIdentifier 22F190 -> positive 62F1905742413341354335304546313233343536\n";
+
+const EXPLAINED: &str = "lines 5 frames 5 messages 2 dropped 0 ended 0 unfinished 0 pending 0\n";
+
+const ITEM: &str = "exchange 22F190 -> 62F1905742413341354335304546313233343536\n";
+
+/// A call that reads a log and writes a text.
+#[derive(Clone, Copy)]
+enum Call {
+    Normalise,
+    List,
+    Explain,
+}
+
+/// The tester 7E0 and the unit 7E8.
+fn sides() -> Result<Config, ConfigFault> {
+    Config::new(Id::Std(0x7E0), Id::Std(0x7E8), 1 << 30)
+}
+
+/// What a call answers over this reader, and the writer as it left it.
+fn answer_of<R: Read + Drop, W: Write + Drop>(
+    alloc: Global,
+    call: Call,
+    reader: R,
+    writer: W,
+) -> Result<(Result<Summary, Fault>, Writing<W>), ConfigFault> {
+    let config = sides()?;
+    let (mut reader, mut writer) = (Reading::new(reader), Writing::new(writer));
+    let answer = match call {
+        Call::Normalise => normalise(alloc, &config, &mut reader, &mut writer),
+        Call::List => list(alloc, &config, &mut reader, &mut writer),
+        Call::Explain => explain(alloc, &config, &mut reader, &mut writer),
+    };
+    Ok((answer, writer))
+}
+
+/// A reader of the session that gives a byte a call.
+fn byte_by_byte() -> Short<&'static [u8]> {
+    Short {
+        inner: LOG.as_bytes(),
+        most: 1,
+    }
+}
+
+/// The same until the read after a hundred bytes fails.
+fn failing() -> FailsAt<Short<&'static [u8]>> {
+    FailsAt {
+        inner: byte_by_byte(),
+        after: Some(100),
+        kind: ErrorKind::Other,
+    }
+}
+
+/// What a call writes of the session in this reader is this text.
+fn assert_written<R: Read + Drop>(
+    rt: &impl Abort,
+    alloc: Global,
+    call: Call,
+    reader: R,
+    text: &str,
+) -> Result<(), Fail> {
+    let (answer, writer) = answer_of(alloc, call, reader, Vec::new(alloc))?;
+    let summary = answer?;
+    assert_eq!(rt; (summary.frames, summary.messages), (5, 2));
+    assert_eq!(rt; writer.into_inner().as_slice(), text.as_bytes());
+    Ok(())
+}
+
+/// A call writes this text of the session, read at once and byte by byte. Where reading fails in its middle, so much of the
+/// text was written; where a writer has room for fifty bytes, those.
+fn assert_call(
+    rt: &impl Abort,
+    alloc: Global,
+    call: Call,
+    text: &str,
+    early: usize,
+) -> Result<(), Fail> {
+    assert_written(rt, alloc, call, LOG.as_bytes(), text)?;
+    assert_written(rt, alloc, call, byte_by_byte(), text)?;
+    let (answer, writer) = answer_of(alloc, call, failing(), Vec::new(alloc))?;
+    assert_eq!(rt; answer, Err(Fault::Read));
+    assert_eq!(rt;
+        Some(writer.into_inner().as_slice()),
+        text.as_bytes().get(..early)
+    );
+    let writer = FailsAfter {
+        inner: Vec::new(alloc),
+        room: 50,
+        kind: ErrorKind::Other,
+    };
+    let (answer, writer) = answer_of(alloc, call, LOG.as_bytes(), writer)?;
+    assert_eq!(rt; (answer, writer.failures()), (Err(Fault::Write), 1));
+    assert_eq!(rt;
+        Some(writer.into_inner().inner.as_slice()),
+        text.as_bytes().get(..50)
+    );
+    Ok(())
+}
+
+#[test]
+fn each_call_writes_its_text_of_a_session(rt: HostRuntime) -> Result<(), Fail> {
+    assert_call(&rt, rt.alloc(), Call::Normalise, CANONICAL, 46)?;
+    assert_call(&rt, rt.alloc(), Call::List, LISTED, 0)?;
+    assert_call(&rt, rt.alloc(), Call::Explain, EXPLAINED, 0)
+}
+
+/// What the log of this reader means.
+fn meaning<R: Read + Drop>(
+    alloc: Global,
+    reader: R,
+) -> Result<Result<Meaning, Fault>, ConfigFault> {
+    Ok(meaning_of(alloc, &sides()?, &mut Reading::new(reader)))
+}
+
+#[test]
+fn the_meaning_of_a_session_has_its_messages(rt: HostRuntime) -> Result<(), Fail> {
+    let alloc = rt.alloc();
+    let items = items_text(alloc, &meaning(alloc, byte_by_byte())??)?;
+    assert_eq!(rt; items.as_str(), ITEM);
+    let log = format!(in alloc; "{LOG}(1700000000.040000) can0 7E8#037F2278\n")?;
+    let items = items_text(alloc, &meaning(alloc, log.as_bytes())??)?;
+    assert_eq!(rt; items.strip_prefix(ITEM), Some("stray Unit#7F2278\n"));
+    assert_eq!(rt; meaning(alloc, failing())?.err(), Some(Fault::Read));
+    Ok(())
+}
+
+/// What comparing the logs of these readers answers, and how many reads of the right one were made.
+fn compared<A: Read + Drop, B: Read + Drop>(
+    alloc: Global,
+    left: A,
+    right: B,
+) -> Result<(Result<Comparison, CompareFault>, u64), ConfigFault> {
+    let (mut left, mut right) = (Reading::new(left), Reading::new(right));
+    let found = compare(alloc, &sides()?, &mut left, &mut right);
+    Ok((found, right.reads()))
+}
+
+#[test]
+fn a_session_is_compared(rt: HostRuntime) -> Result<(), Fail> {
+    let alloc = rt.alloc();
+    let found = compared(alloc, LOG.as_bytes(), byte_by_byte())?;
+    assert_eq!(rt; found, (Ok(Comparison::Same), 213));
+    let found = compared(alloc, failing(), byte_by_byte())?;
+    assert_eq!(rt; found, (Err(CompareFault::Left(Fault::Read)), 0));
+    let found = compared(alloc, byte_by_byte(), failing())?;
+    assert_eq!(rt; found, (Err(CompareFault::Right(Fault::Read)), 101));
+    Ok(())
+}
+
+#[test]
+fn a_log_in_the_middle_of_which_writing_fails(rt: HostRuntime) -> Result<(), Fail> {
+    let alloc = rt.alloc();
+    let mut log = String::new(alloc);
+    for _ in 0..100 {
+        log.push_str(LOG)?;
+    }
+    let mut reader = Reading::new(log.as_bytes());
+    let mut writer = Writing::new(FailsAt {
+        inner: Vec::new(alloc),
+        after: Some(0),
+        kind: ErrorKind::Other,
+    });
+    let answer = normalise(alloc, &sides()?, &mut reader, &mut writer);
+    assert_eq!(rt; answer, Err(Fault::Write));
+    assert!(rt; reader.given() <= 38 + 4095);
+    assert_eq!(rt; writer.failures(), 1);
+    assert!(rt; writer.into_inner().inner.is_empty());
+    Ok(())
+}
+
+#[test]
+fn a_reader_that_never_ends(rt: HostRuntime) -> Result<(), Fail> {
+    let config = Config::new(Id::Std(0x7E0), Id::Std(0x7E8), 100)?;
+    let mut reader = Endless::new(b'\n');
+    let mut writer = Writing::new(Vec::new(rt.alloc()));
+    let answer = normalise(rt.alloc(), &config, &mut reader, &mut writer);
+    assert_eq!(rt; answer, Err(Fault::LogLimit));
+    assert_eq!(rt; (reader.reads(), reader.given()), (101, 101));
+    assert!(rt; writer.into_inner().is_empty());
+    Ok(())
+}
+
+#[test]
+fn a_configuration_has_its_identifiers(rt: HostRuntime) -> Result<(), Fail> {
+    let sides = (Id::Ext(0x1FFFFFFF), Id::Std(0x7FF));
+    let config = Config::new(sides.0, sides.1, 1)?;
+    assert_eq!(rt; (config.tester(), config.unit()), sides);
+    // No word of the program spells a base identifier of more than three digits.
+    let refused = Config::new(Id::Std(0x7E0), Id::Std(0xFFFF), 1).err();
+    assert_eq!(rt; refused, Some(ConfigFault::IdRange));
+    Ok(())
+}

@@ -1,0 +1,150 @@
+"""Cases of tests/sessions.py: devices that are short, fail, fill up or never end."""
+
+import errno
+import itertools
+import subprocess
+from functools import partial
+
+from cases import DEVICE, DONE, REFUSAL
+from refuser import READ, TAKES_NOTHING, WRITE
+from runs import LONG_LOG, READ_FAILED, WRITE_FAILED, Ended, differences, files, how, pipe
+from tables import CANONICAL_LINE, VIN, VIN_CANONICAL
+
+# A session after two frames that mean nothing.
+SESSION = b"""\
+(1.000000) can0 7E8#40
+(1.001000) can0 7E8#21
+(1.002000) can0 7E0#0322F190
+(1.003000) can0 7E0#023E80
+(1.004000) can0 7E8#0462F19041
+"""
+
+LISTED = b"""\
+1 exchange ReadDataByIdentifier 22F190 -> positive 62F19041
+2 stray tester 3E80
+"""
+
+EXPLAINED = b"""\
+line 1: unit frame dropped: unknown kind
+line 2: unit frame dropped: consecutive frame unexpected
+lines 5 frames 5 messages 3 dropped 2 ended 0 unfinished 0 pending 0
+"""
+
+
+KEEP_ALIVE = b"(1.000000) can0 7E0#023E80\n"
+KEEP_ALIVE_LISTED = b"1 stray tester 3E80\n"
+
+NO_FRAMES = 2 * b"(1.000000) can0 7E8#40\n"
+NO_FRAMES_EXPLAINED = b"""\
+line 1: unit frame dropped: unknown kind
+line 2: unit frame dropped: unknown kind
+lines 2 frames 2 messages 0 dropped 2 ended 0 unfinished 0 pending 0
+"""
+
+
+def devices(program):
+    yield "normalise, a read fails after each byte", partial(reads_fail, program)
+    yield "list, a read fails after each byte", partial(listing_fails, program)
+    yield "explain, a read fails after each byte", partial(explaining_fails, program)
+    yield "compare, a read of either log fails after each byte", partial(comparing_fails, program)
+    for job, log, text in [
+        ("normalise", VIN, VIN_CANONICAL),
+        ("list", SESSION, LISTED),
+        ("list", KEEP_ALIVE, KEEP_ALIVE_LISTED),
+        ("explain", SESSION, EXPLAINED),
+        ("explain", NO_FRAMES, NO_FRAMES_EXPLAINED),
+    ]:
+        name = f"{job} of {len(log)} bytes"
+        yield f"{name}, a write fails after each byte", partial(writes_fail, program, job, log, text, errno.EIO)
+        yield f"{name}, the output is full after each byte", partial(writes_fail, program, job, log, text, TAKES_NOTHING)
+    yield "an output that takes a hundred bytes", partial(hundred_bytes, program)
+    yield "a log in the middle of which writing fails", partial(fails_in_the_middle, program)
+    yield "a log that never ends", partial(never_ends, program)
+
+
+def reads_fail(program):
+    """What is known from the bytes before is written. They come one a call, or else all in the first call."""
+    wrong = []
+    for given in range(len(VIN) + 1):
+        written = 0 if given < 38 else CANONICAL_LINE if given < 212 else 230
+        want = Ended(DEVICE, VIN_CANONICAL[:written], READ_FAILED), True
+        wrong += differences(f"{given} bytes", program.run_failing(["normalise"], READ, given + 1, VIN, most=1), want)
+        second = program.run_failing(["normalise"], READ, min(given, 1) + 1, VIN[:given], error=errno.EINTR)
+        wrong += differences(f"interrupted after {given} bytes", second, want)
+    return wrong
+
+
+def listing_fails(program):
+    """Nothing is listed."""
+    wrong = []
+    for given in range(len(SESSION) + 1):
+        found = program.run_failing(["list"], READ, given + 1, SESSION, most=1)
+        wrong += differences(f"{given} bytes", found, (Ended(DEVICE, b"", READ_FAILED), True))
+    return wrong
+
+
+def explaining_fails(program):
+    """A front of what is told of the log is written."""
+    wrong = []
+    for given in range(len(SESSION) + 1):
+        found, is_refused = program.run_failing(["explain"], READ, given + 1, SESSION, most=1)
+        want = Ended(DEVICE, EXPLAINED[: len(found.output)], READ_FAILED), True
+        wrong += differences(f"{given} bytes", (found, is_refused), want)
+    return wrong
+
+
+def comparing_fails(program):
+    """The side whose read failed is told. The right log is read after the last read of the left one, which gives nothing."""
+    wrong, reads = [], len(SESSION) + 1
+    with files(SESSION, SESSION) as names:
+        for side, given in itertools.product(range(2), range(reads)):
+            want = Ended(DEVICE, b"", [b"left: ", b"right: "][side] + READ_FAILED), True
+            found = program.run_failing(["compare", *names], READ, side * reads + given + 1, most=1)
+            wrong += differences(f"{['left', 'right'][side]}, {given} bytes", found, want)
+    return wrong
+
+
+def writes_fail(program, job, log, text, error):
+    """To an output that takes a byte a call so much of the text is written as it takes, in as many calls as the text has
+    bytes."""
+    wrong = []
+    for room in range(len(text)):
+        found = program.run_failing([job], WRITE, room + 1, log, most=1, error=error)
+        wrong += differences(f"{room} bytes", found, (Ended(DEVICE, text[:room], WRITE_FAILED), True))
+    found = program.run_failing([job], WRITE, len(text) + 1, log, most=1)
+    return wrong + differences("all bytes", found, (Ended(DONE, text, b""), False))
+
+
+def hundred_bytes(program):
+    found = program.run_failing(["normalise"], WRITE, 2, VIN, most=100)
+    return differences("normalise", found, (Ended(DEVICE, VIN_CANONICAL[:100], WRITE_FAILED), True))
+
+
+def fails_in_the_middle(program):
+    """Little more of the log is read than fills the output's buffer: of 36 sessions, in two pieces of 4,096 bytes."""
+    log = 100 * VIN
+    with pipe(log) as reader, open("/dev/full", "wb") as full:
+        found = program.run_over(["normalise"], reader, full)
+        read = len(log) - len(reader.read())
+    wrong = differences("normalise", how(found), (DEVICE, WRITE_FAILED))
+    return wrong + ([] if read <= 8192 else [f"{read} bytes were read"])
+
+
+def never_ends(program):
+    """Of line feeds without end one more is read than the limit, and byte by byte no further read is made."""
+    words, log, want = ["normalise", "--limit", "100"], 4096 * b"\n", Ended(REFUSAL, b"", LONG_LOG)
+    endless = subprocess.Popen(["yes", ""], stdout=subprocess.PIPE)
+    found = program.run_over(words, endless.stdout)
+    endless.stdout.close()
+    endless.wait(timeout=60)
+    with pipe(log) as reader:
+        again = program.run_over(words, reader)
+        read = len(log) - len(reader.read())
+    last = program.run_failing(words, READ, 101, log, most=1)
+    further = program.run_failing(words, READ, 102, log, most=1)
+    return [
+        *differences("normalise", (found, again), (want, want)),
+        *differences("bytes that are read", read, 101),
+        *differences("read 101 fails", last, (Ended(DEVICE, b"", READ_FAILED), True)),
+        *differences("read 102 fails", further, (want, False)),
+    ]

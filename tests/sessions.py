@@ -1,0 +1,394 @@
+#!/usr/bin/env python3
+"""Whole logs through the built program: the tables of rows/, one message in many recordings, and devices that fail.
+
+    tests/sessions.py crates/udsnorm/out/udsnorm
+
+Prints a line for each case and ends with `N passed, M failed`; its status is 1 where a case failed.
+"""
+
+import itertools
+import os
+import sys
+import tempfile
+from collections import namedtuple
+from concurrent.futures import ThreadPoolExecutor
+from functools import partial
+
+import tables
+from cases import DIFFERENT, DONE, REFUSAL, WORDS, Cases
+from devices import devices
+from recordings import CANONICAL, SIZES, Style, message_of, recorded
+from refuser import Refuser
+from runs import LONG_LOG, Ended, Program, differences, files, how, pipe, place
+from tables import CANONICAL_LINE, VIN, Row
+
+JOBS = ["normalise", "list", "explain"]
+
+# The counts of a canonical log, of which nothing is lost.
+CLEAN = "lines {lines} frames {lines} messages {messages} dropped 0 ended 0 unfinished 0 pending 0\n"
+
+# Why a log is refused that can be explained all the same.
+ONLY_NORMALISED = (b" bytes announced, the limit is 1048575\n", b"canonical log longer than the limit\n")
+
+# How the jobs ended over one log, and what is wrong with that.
+Taken = namedtuple("Taken", "normalised listed explained wrong")
+
+
+# --- A log through the jobs -------------------------------------------------------------------------------------------------
+
+
+def taken(program, log, options=()):
+    """A log through each job, in one piece and byte by byte, which has to give the same. Listing ends as normalising does, and
+    lists nothing where the log is refused. So does explaining, for which no message is too long and which has no canonical
+    log."""
+    ended, wrong = [], []
+    for job in JOBS:
+        ended.append(program.run([job, *options], log))
+        wrong += differences(f"{job} byte by byte", program.run_short([job, *options], log), ended[-1])
+    normalised, listed, explained = ended
+    wrong += differences("how list ends", how(listed), how(normalised))
+    wrong += differences("what is listed of a refused log", listed.output if listed.status else b"", b"")
+    if not normalised.error.endswith(ONLY_NORMALISED):
+        wrong += differences("how explain ends", how(explained), how(normalised))
+    return Taken(normalised, listed, explained, wrong)
+
+
+def counts_in(explained):
+    """The last line of an explanation, as numbers by their names."""
+    words = explained.output.decode().splitlines()[-1].split(" ")
+    return {name: int(number) for name, number in zip(words[::2], words[1::2])}
+
+
+def again(program, canonical, found, options):
+    """A canonical log is its own and lists the same, with the messages that were kept, and without a frame lost."""
+    counts = counts_in(found.explained)
+    clean = CLEAN.format(lines=canonical.count(b"\n"), messages=counts["messages"] - counts["pending"]).encode()
+    wants = [Ended(DONE, canonical, b""), found.listed, Ended(DONE, clean, b"")]
+    ended = [program.run([job, *options], canonical) for job in JOBS]
+    return differences("the canonical log again", ended, wants)
+
+
+def sides(row):
+    """The options for the tester and the unit of a row."""
+    return [word for both in row.texts("between") for side in zip(["--tester", "--unit"], both.split(" ")) for word in side]
+
+
+# --- Tables of logs ---------------------------------------------------------------------------------------------------------
+
+SESSIONS = [
+    "one_session", "sessions", "examples", "equal_numbers", "lost_frames", "late_frames", "long_announcements",
+    "long_announcements_told", "written_before_a_refused_line",
+]
+
+
+def sessions(program):
+    """A table in which a row has items, or what is told, has those of each log."""
+    for name in SESSIONS:
+        rows = tables.table(name)
+        texts = [mark for mark in ("told", "item") if any(row.has(mark) for row in rows)]
+        for row in rows:
+            yield f"{name}: {row.name}", partial(session, program, row, texts)
+
+
+def session(program, row, texts):
+    """A log has the canonical log of its row, or is refused as that says and has so much written."""
+    options = sides(row)
+    found = taken(program, row.log(), options)
+    refused, canonical = row.text("refused"), row.canonical()
+    wrong = found.wrong + differences("normalise", found.normalised, Ended(REFUSAL if refused else DONE, canonical, refused))
+    for mark, ended in [("told", found.explained), ("item", found.listed)]:
+        if mark in texts:
+            wrong += differences(mark, ended, Ended(DONE, row.text(mark), b""))
+    return wrong if refused else wrong + again(program, canonical, found, options)
+
+
+def logs_without_message(program):
+    for row in tables.table("lines_without_message"):
+        yield f"lines_without_message: {row.name}", partial(without_message, program, row)
+
+
+def without_message(program, row):
+    """All frames of a log are dropped; nothing else is counted, written or listed."""
+    found = taken(program, row.log())
+    counts = counts_in(found.explained)
+    told = "{lines} lines, {frames} frames\n".format(**counts).encode()
+    others = {name: number for name, number in counts.items() if name not in ("lines", "frames")}
+    nothing = Ended(DONE, b"", b"")
+    return [
+        *found.wrong,
+        *differences("lines and frames", told, row.text("counts")),
+        *differences("other counts", others, dict(messages=0, dropped=counts["frames"], ended=0, unfinished=0, pending=0)),
+        *differences("normalise and list", (found.normalised, found.listed), (nothing, nothing)),
+    ]
+
+
+FRAME = b"(1.000000) can0 7E0#0111\n"
+FRAME_CANONICAL = b"(0000000000.000000) can0 7E0#0111CCCCCCCCCCCC\n"
+
+
+def refused_lines(program):
+    for name, check in [("refused_lines", refused_line), ("unfinished_lines", unfinished_line)]:
+        for row in tables.lines(name):
+            column, _, line = row.partition(" ")
+            yield f"{name}: {row!r}", partial(check, program, column, line.encode())
+
+
+def refused_line(program, column, line):
+    """A line is refused at its column: as the first one, and as the third one, after and before a frame."""
+    behind = b"\n" + FRAME + line + b"\n" + FRAME
+    return refused(program, line + b"\n", 1, column) + refused(program, behind, 3, column, FRAME_CANONICAL)
+
+
+def unfinished_line(program, column, line):
+    return refused(program, line, 1, column)
+
+
+def refused(program, log, line, column, written=b""):
+    """A log is refused at this place, and this is written."""
+    found = taken(program, log)
+    return found.wrong + differences("normalise", found.normalised, Ended(REFUSAL, written, place(line, column)))
+
+
+def recording_that_breaks_off(program):
+    yield "a recording that breaks off after each of its bytes", partial(breaks_off, program)
+
+
+def breaks_off(program):
+    """Of all fronts of a recording 42 are accepted, and the others are refused at their ends."""
+    wrong, accepted = differences("bytes of the recording", len(VIN), 212), 0
+    for length in range(len(VIN) + 1):
+        front = VIN[:length]
+        found = taken(program, front)
+        wrong += found.wrong
+        if found.normalised.status == DONE:
+            accepted += 1
+        else:
+            end = place(front.count(b"\n") + 1, length - front.rfind(b"\n"))
+            wrong += differences(f"{length} bytes", how(found.normalised), (REFUSAL, end))
+    return wrong + differences("how many are accepted", accepted, 42)
+
+
+# --- Limits and configurations ----------------------------------------------------------------------------------------------
+
+
+def limits(program):
+    for name in ["limits_nothing_written", "limits_written", "limits_of_extended_identifiers"]:
+        for row in tables.table(name):
+            yield f"{name}: {row.name}", partial(under_limits, program, row)
+    for row in tables.table("explained_under_limits"):
+        yield f"explained_under_limits: {row.name}", partial(explained_under_limits, program, row)
+
+
+def under_limits(program, row):
+    """Under each limit of a row it is told as the row has it how a log ends, and how many bytes of its canonical log are
+    written."""
+    wrong = []
+    for limit in limits_of(row):
+        found = taken(program, row.log(), [*sides(row), "--limit", limit])
+        wrong += found.wrong + limited(row, limit, found.normalised, row.canonical(), accepted(found))
+    return wrong
+
+
+def accepted(found):
+    """What a row tells of an accepted log."""
+    counts = counts_in(found.explained) if found.normalised.status == DONE else None
+    return "accepted, {messages} messages, {dropped} dropped".format(**counts) if counts else ""
+
+
+def explained_under_limits(program, row):
+    """The same of the text that explains a refused log."""
+    wrong = []
+    for limit in limits_of(row):
+        found = program.run(["explain", "--limit", limit], row.log())
+        wrong += differences("byte by byte", program.run_short(["explain", "--limit", limit], row.log()), found)
+        wrong += limited(row, limit, found, row.text("told"))
+    return wrong
+
+
+def limits_of(row):
+    return [text.partition(",")[0] for text in row.texts("limit")]
+
+
+def limited(row, limit, ended, text, accepted=""):
+    """A job ended as a line of the row says, and wrote a front of this text. An accepted log has nothing on standard error."""
+    told = f"{limit}, {len(ended.output)} bytes: {accepted}{ended.error.decode().removesuffix(chr(10))}"
+    wrong = [] if told in row.texts("limit") else [f"told {told}"]
+    wrong += differences("status", ended.status, DONE if accepted else REFUSAL)
+    return wrong + differences(f"written under {limit}", ended.output, text[: len(ended.output)])
+
+
+def configurations(program):
+    for row in tables.lines("configurations"):
+        yield f"configurations: {row}", partial(configured, program, *row.split(" ", 3))
+
+
+def configured(program, tester, unit, limit, answer):
+    """There is a configuration, with which an empty log is accepted, or this is told."""
+    found = program.run(["list", "--tester", tester, "--unit", unit, "--limit", limit])
+    is_accepted = answer == "accepted"
+    return differences("list", found, Ended(DONE, b"", b"") if is_accepted else Ended(WORDS, b"", f"{answer}\n".encode()))
+
+
+# --- Comparisons ------------------------------------------------------------------------------------------------------------
+
+
+def comparisons(program):
+    for name in ["comparisons", "refused_comparisons"]:
+        for row in tables.table(name):
+            yield f"{name}: {row.name}", partial(compared, program, row)
+    yield "the right log is left alone where the left one is refused", partial(left_alone, program)
+
+
+def compared(program, row):
+    """Two logs are compared as the row has it. Accepted ones also the other way round, and each with itself."""
+    left, right, found = row.side("left"), row.side("right"), row.text("found")
+    options = [word for limit in row.texts("limit") for word in ("--limit", limit)]
+    if found == b"same\n" or found.startswith(b"different "):
+        pairs = [(left, right, found), (right, left, found), (left, left, b"same\n"), (right, right, b"same\n")]
+        answers = [(one, other, Ended(DONE if text == b"same\n" else DIFFERENT, text, b"")) for one, other, text in pairs]
+    else:
+        answers = [(left, right, Ended(REFUSAL, b"", found))]
+    wrong = []
+    for one, other, answer in answers:
+        with files(one, other) as words:
+            wrong += differences("compare", program.run(["compare", *options, *words]), answer)
+            wrong += differences("byte by byte", program.run_short(["compare", *options, *words]), answer)
+    return wrong
+
+
+def left_alone(program):
+    line = b"(1.000000) can0 7E0#0\n"
+    with files(line, b"") as (left, _), pipe(line) as right:
+        found = program.run_over(["compare", left, "/dev/stdin"], right)
+        rest = right.read()
+    want = Ended(REFUSAL, b"", b"left: " + place(1, 22))
+    return differences("compare", (found, rest), (want, line))
+
+
+# --- One message in many recordings -----------------------------------------------------------------------------------------
+
+# Lengths of messages, and how many lines their canonical logs have.
+LENGTHS = {8: 3, 13: 3, 14: 4, 4095: 587, 4096: 587, 65535: 9364}
+
+def recordings(program):
+    for size, shortest in SIZES.items():
+        for length in [shortest, 4094, 4095, 4096, 65_535]:
+            yield f"a message of {length} bytes in frames of {size}", partial(sent_in_each_style, program, length, size)
+    for length, lines in LENGTHS.items():
+        yield f"the canonical log of a message of {length} bytes", partial(is_its_own, program, length, lines)
+
+
+def sent_in_each_style(program, length, size):
+    """However its frames are padded, a recording of a message has the message's canonical log."""
+    message, wrong = message_of(length), []
+    canonical = recorded(CANONICAL, message)
+    for style in itertools.starmap(partial(Style, size), itertools.product([b"\x00", b"\xff"], [False, True])):
+        log = recorded(style, message)
+        wrong += differences(f"{style}", program.run(["normalise"], log), Ended(DONE, canonical, b""))
+        wrong += differences(f"messages of {style}", counts_in(program.run(["explain"], log))["messages"], 1)
+    return wrong
+
+
+def is_its_own(program, length, lines):
+    """The canonical log of a message has so many lines and is its own at a limit of its length, where the message is listed;
+    with a byte less it is too long."""
+    message = message_of(length)
+    canonical = recorded(CANONICAL, message)
+    at_limit = taken(program, canonical, ["--limit", str(len(canonical))])
+    below = taken(program, canonical, ["--limit", str(len(canonical) - 1)])
+    item = f"1 stray unit {message.hex().upper()}\n".encode()
+    return [
+        *differences("bytes", len(canonical), lines * CANONICAL_LINE),
+        *at_limit.wrong,
+        *differences("normalise", at_limit.normalised, Ended(DONE, canonical, b"")),
+        *differences("messages", counts_in(at_limit.explained)["messages"], 1),
+        *differences("list", at_limit.listed, Ended(DONE, item, b"")),
+        *below.wrong,
+        *differences("a byte below", how(below.normalised), (REFUSAL, LONG_LOG)),
+    ]
+
+
+# --- Logs of many lines -----------------------------------------------------------------------------------------------------
+
+
+def long_logs(program):
+    byte_rows = Row("frames of one byte are all dropped", frames_of_one_byte())
+    start_rows = Row("each first frame ends the one before", first_frames())
+    for row in [byte_rows, start_rows]:
+        yield row.name, partial(session, program, row, ["told"])
+    yield "thousands of frames that wait for an answer", partial(thousands_of_strays, program)
+    yield "thousands of frames of exchanges", partial(thousands_of_exchanges, program)
+
+
+def frames_of_one_byte():
+    kinds = ["single frame length", "first frame length", "consecutive frame unexpected", "flow control too short"]
+    for byte in range(256):
+        yield f"line (1.000000) can0 7E8#{byte:02X}"
+        yield f"told line {byte + 1}: unit frame dropped: {kinds[byte // 16] if byte < 64 else 'unknown kind'}"
+    yield "told lines 256 frames 256 messages 0 dropped 256 ended 0 unfinished 0 pending 0"
+
+
+def first_frames():
+    for begun in range(1, 1001):
+        yield "line (1.000000) can0 7E8#1FFF414243444546"
+        reception = f"unit reception from line {begun} of 4095 bytes"
+        yield f"told line {begun + 1}: {reception} ended: new start" if begun < 1000 else f"told end: {reception} unfinished"
+    yield "told lines 1000 frames 1000 messages 0 dropped 0 ended 999 unfinished 1 pending 0"
+
+
+def thousands_of_strays(program):
+    """A request, thousands of strays of the unit, and the answer, which is written before them. The canonical log means the
+    same."""
+    strays = 2000 * b"(1.000000) can0 7E8#0759595959595959\n"
+    log = b"(1.000000) can0 7E0#0322F190\n" + strays + b"(1.000000) can0 7E8#0462F19041\n"
+    found = taken(program, log)
+    counts = counts_in(found.explained)
+    with files(log, found.normalised.output) as names:
+        same = program.run(["compare", *names])
+    return [
+        *found.wrong,
+        *differences("how normalise ends", how(found.normalised), (DONE, b"")),
+        *differences("bytes", len(found.normalised.output), 92_092),
+        *differences("the second line", found.normalised.output[46:92], b"(0000000000.001000) can0 7E8#0462F19041CCCCCC\n"),
+        *differences("counts", (counts["frames"], counts["messages"], counts["dropped"]), (2002, 2002, 0)),
+        *differences("items", found.listed.output.count(b"\n"), 2001),
+        *differences("compare", same, Ended(DONE, b"same\n", b"")),
+    ]
+
+
+def thousands_of_exchanges(program):
+    frames = ["7E0#0322F190", "7E8#100862F190414243", "7E0#300000", "7E8#214445"]
+    log = b"".join(tables.stamped(number, frame) for number, frame in enumerate(500 * frames))
+    counts = counts_in(program.run(["explain"], log))
+    return differences("counts", (counts["frames"], counts["messages"]), (2000, 1000))
+
+
+# ----------------------------------------------------------------------------------------------------------------------------
+
+
+def answer_of(check):
+    """What is wrong by a check. An answer that it can't read is wrong, too."""
+    try:
+        return check()
+    except (LookupError, ValueError) as error:
+        return [f"an answer that can't be read: {error!r}"]
+
+
+def main():
+    if len(sys.argv) != 2:
+        sys.exit(__doc__)
+    cases = Cases(os.path.abspath(sys.argv[1]))
+    with tempfile.TemporaryDirectory() as folder, ThreadPoolExecutor() as workers:
+        program = Program(cases.program, Refuser(folder))
+        kinds = [
+            sessions, logs_without_message, refused_lines, recording_that_breaks_off, limits, configurations, comparisons,
+            recordings, long_logs, devices,
+        ]
+        names, checks = zip(*(case for kind in kinds for case in kind(program)))
+        cases.report("each table of rows/ is taken", [f"{name} is not" for name in tables.left()])
+        for name, wrong in zip(names, workers.map(answer_of, checks)):
+            cases.report(name, wrong)
+    cases.end()
+
+
+main()

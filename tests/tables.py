@@ -1,0 +1,111 @@
+r"""Tables of logs and of what is expected of them: the files of rows/.
+
+Rows are separated by a blank line. A row begins with its name; each other line is a mark and a text. The head of a table, its
+first paragraph, says in lines that begin with `#` what it has, and its other lines are lines of each row, after the row's own.
+In a text `\r` is a carriage return and `\x20` a space. Lines with these marks make a log:
+
+    line TEXT     a line
+    last TEXT     a last line, which has no line feed
+    frame FRAME   a line with this frame, a millisecond after the frame before
+    log NAME      the lines of this file of examples/
+
+and lines with these a canonical log:
+
+    canonical FRAME   a line with this frame, a millisecond after the frame before
+    gives NAME        the lines of this file of examples/
+"""
+
+from pathlib import Path
+
+TESTS = Path(__file__).resolve().parent
+ROWS = TESTS / "rows"
+EXAMPLES = TESTS.parent / "examples"
+
+# A vehicle identification number, read in five classic frames.
+VIN = (EXAMPLES / "vin.log").read_bytes()
+VIN_CANONICAL = (EXAMPLES / "vin.canonical").read_bytes()
+
+# The length of a canonical line with its line feed.
+CANONICAL_LINE = 46
+
+
+# The names of the tables that were read.
+taken = set()
+
+
+class Row:
+    """The name of a row, and its lines, each with its mark and its text."""
+
+    def __init__(self, name, lines):
+        self.name = name
+        self.lines = [tuple(line.partition(" ")[::2]) for line in lines]
+
+    def has(self, mark):
+        return any(found == mark for found, _ in self.lines)
+
+    def texts(self, mark):
+        return [text for found, text in self.lines if found == mark]
+
+    def text(self, mark):
+        """The lines with this mark as one text."""
+        return "".join(f"{text}\n" for text in self.texts(mark)).encode()
+
+    def log(self):
+        return log_of(self.lines)
+
+    def canonical(self):
+        kinds = {"canonical": "frame", "gives": "log"}
+        return log_of([(kinds[mark], text) for mark, text in self.lines if mark in kinds])
+
+    def side(self, mark):
+        """The log of one side of a comparison: after the mark of the side stands a frame, or a line with its own mark."""
+        texts = [text.partition(" ") for text in self.texts(mark)]
+        return log_of([("line", rest) if first == "line" else ("frame", first + space + rest) for first, space, rest in texts])
+
+
+def log_of(lines):
+    """The log that these marked lines make."""
+    log, frames = b"", 0
+    for mark, text in lines:
+        if mark == "log":
+            log += (EXAMPLES / text).read_bytes()
+        elif mark == "frame":
+            log += stamped(frames, text)
+            frames += 1
+        elif mark in ("line", "last"):
+            log += text.encode() + (b"\n" if mark == "line" else b"")
+    return log
+
+
+def stamped(number, frame):
+    """The line of a frame before which stand so many others, a millisecond each."""
+    return f"({number // 1000:010d}.{number % 1000:03d}000) can0 {frame}\n".encode()
+
+
+def paragraphs(name):
+    """The head of a table, and its rows, as lists of lines."""
+    taken.add(name)
+    text = (ROWS / f"{name}.txt").read_text().removesuffix("\n")
+    return [[unescaped(line) for line in paragraph.split("\n")] for paragraph in text.split("\n\n")]
+
+
+def left():
+    """The names of the tables that were not read."""
+    return sorted({path.stem for path in ROWS.iterdir()} - taken)
+
+
+def unescaped(line):
+    return line.replace("\\r", "\r").replace("\\x20", " ")
+
+
+def table(name):
+    """The rows of a table."""
+    head, *rows = paragraphs(name)
+    of_each = [line for line in head if not line.startswith("#")]
+    return [Row(row[0], row[1:] + of_each) for row in rows]
+
+
+def lines(name):
+    """The rows of a table whose rows are lines without a name."""
+    _, rows = paragraphs(name)
+    return rows
