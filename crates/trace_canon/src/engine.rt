@@ -12,7 +12,7 @@ ghost use Rattle.trace_canon.specs.Putting.{Writer};
 ghost use Rattle.trace_canon.specs.TextSeen.{writer_of};
 ghost use Rattle.trace_canon.specs.Receiving.{Receives};
 ghost use Rattle.trace_canon.specs.Ordering.{Orders};
-ghost use Rattle.trace_canon.specs.Finishing.{IsFirst, Finishes, answer_of, fault_of};
+ghost use Rattle.trace_canon.specs.Finishing.{IsFirst, Finishes, answer_of, fault_of_ordering};
 ghost use Rattle.isotp_receive.specs.declared.TheConstants.{MESSAGE_LIMIT};
 ghost use Rattle.trace_canon.specs.Answers.{Answers, ReadsWhile};
 ghost use Rattle.trace_canon.specs.Refusal.{IsNotRefusedWithin};
@@ -84,13 +84,13 @@ pub fn normalise<R: Source, W: Target>(
     let mut receiver = Receiver::start(config, pair, Ordering::start(alloc, config));
     match read_lines(config.max_bytes(), reader, &mut receiver, writer) {
         Ok(()) => answer_of(finish(receiver, writer)),
-        Err(fault) => Err(fault_of(fault)),
+        Err(fault) => Err(fault_of_ordering(fault)),
     }
 }
 
 /// What a fault of the lines is called.
-fn fault_of(fault: LineFault<OrderingFault>) -> Fault
-    ensures { result ≡ fault_of fault }
+fn fault_of_ordering(fault: LineFault<OrderingFault>) -> Fault
+    ensures { result ≡ fault_of_ordering fault }
 {
     match fault {
         LineFault::BadLine { line, column } => Fault::BadLine { line, column },

@@ -9,7 +9,7 @@ ghost use Rattle.trace_canon.specs.Refusal.{IsNotRefusedWithin};
 ghost use Rattle.trace_canon.specs.Failing.{FailedIf};
 ghost use Rattle.trace_canon.specs.Receiving.{Receives};
 ghost use Rattle.trace_canon.specs.Holding.{Holds};
-ghost use Rattle.trace_canon.specs.Held.{EndsHeld, FindsMeaning, fault_of};
+ghost use Rattle.trace_canon.specs.Held.{EndsHeld, FindsMeaning, fault_of_holding};
 ghost use Rattle.trace_io.specs.Counted.{AreLowCounts};
 ghost use Rattle.trace_io.specs.Stream.{BeginsAs};
 
@@ -88,13 +88,13 @@ pub(crate) fn read_meaning<R: Source>(
     let mut receiver = Receiver::start(config, pair, taker);
     match read_lines(config.max_bytes(), reader, &mut receiver, &mut ()) {
         Ok(()) => finish(receiver).ok_or(Fault::OutputLimit),
-        Err(fault) => Err(fault_of(fault)),
+        Err(fault) => Err(fault_of_holding(fault)),
     }
 }
 
 /// What a fault of the lines is called.
-fn fault_of(fault: LineFault<HoldingFault>) -> Fault
-    ensures { result ≡ fault_of fault }
+fn fault_of_holding(fault: LineFault<HoldingFault>) -> Fault
+    ensures { result ≡ fault_of_holding fault }
 {
     match fault {
         LineFault::BadLine { line, column } => Fault::BadLine { line, column },
