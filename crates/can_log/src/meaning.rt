@@ -23,9 +23,9 @@ pub(crate) fn stamped_of(parts: Parts<'_>) -> Stamped
 {
     let id = identifier_of(parts.identifier);
     let (kind, data) = match parts.body {
-        Body::Classic(digits, _) => (Kind::Classic, data_of(digits)),
+        Body::Classic(digits, _) => (Kind::Classic, decoded(digits)),
         Body::Remote(_, _) => (Kind::Remote, FrameData::new()),
-        Body::Fd(_, digits) => (Kind::Fd, data_of(digits)),
+        Body::Fd(_, digits) => (Kind::Fd, decoded(digits)),
     };
     Stamped {
         micros: parts.seconds.value * 1_000_000 + parts.micros.value,
@@ -63,7 +63,7 @@ fn hex_number(digits: &[u8]) -> u32
 /// The bytes that pairs of digits spell: sixteen digits at a time, and what is left of them by the crate `hex`. That tests
 /// each digit against three ranges, branches that the processor can't foresee in data; so it has the short rest alone.
 #[inline(always)]
-fn data_of(digits: &[u8]) -> FrameData
+fn decoded(digits: &[u8]) -> FrameData
     requires { IsDataText 128 digits.now }
     ensures { result ≡ bytes_spelled digits.now }
 {

@@ -1,7 +1,7 @@
 use Rattle.std.proofs.Common.{◌≡◌, ◌*◌, ◌/◌, take, length, ◌∙◌, arith}
 use Rattle.can_log.specs.Line.{bytes_spelled}
 use Rattle.can_log.proofs.SpelledBytes.{the_rest, whole_sixteens, spelled_so_far}
-use Rattle.can_log.proofs.meaning.data_of.Goals as goal
+use Rattle.can_log.proofs.meaning.decoded.Goals as goal
 
 pub append-requires-clause-room : goal.append-requires-clause-room
 append-requires-clause-room c =
