@@ -12,7 +12,7 @@ use Rattle.can_log.specs.Log.{log_lines, LinesMean, LogMeans, IsRefusedRest, IsR
 use Rattle.can_log.specs.Laws.{LineOrNoLine, LogIsLegalOrRefused}
 use Rattle.can_log.proofs.LineReads.{read_means, means_read, short_becomes, refused_first}
 use Rattle.can_log.proofs.LineFeeds.{first_line}
-use Rattle.can_log.proofs.LineLength.{refused_column}
+use Rattle.can_log.proofs.LineLength.{column_of_rest}
 use Rattle.can_log.proofs.LogLines.{ended_lines-first, log_lines-ended, log_lines-rest}
 use Rattle.can_log.proofs.RefusedPlaces.{place_of, place_end, place_extends, unfinished}
 
@@ -32,7 +32,7 @@ kind_of_line bytes clean = by (line_at bytes) refl
     by (Err short) e = too_short (short_becomes bytes e) (λ what m. cc (e, (means_read bytes what m).1))
     by (Err (refused rest)) e =
         let column = length bytes - length rest + 1 in
-        refused_at column (place_of bytes column clean (refused_column bytes rest (refused_first bytes rest e)).1)
+        refused_at column (place_of bytes column clean (column_of_rest bytes rest (refused_first bytes rest e)).1)
 
 pub line_or_no_line : LineOrNoLine
 line_or_no_line bytes = by (line_at bytes) refl

@@ -4,8 +4,8 @@ use Rattle.std.proofs.Common.{List, ◌∷◌, ◌++◌, length, take, drop, app
 use Rattle.std.specs.Prelude.{codes}
 use Rattle.std.proofs.lemmas.List.{length-take, take-append-drop, take_all}
 use Rattle.std.proofs.lemmas.Bool.{cases_lt}
-use Rattle.can_log.specs.declared.scanner.Verdict.{Verdict}
-use Rattle.can_log.specs.declared.scanner.Verdict.TheVariants as verdict
+use Rattle.can_log.specs.declared.scanner.Judgement.{Judgement}
+use Rattle.can_log.specs.declared.scanner.Judgement.TheVariants as judgement
 use Rattle.can_log.specs.Line.{Body, classic, remote, fd, LineSpelling, spell_body, spell_mark, spell_line, IsBody, IsMark, IsLineSpelling, LineMeans}
 use Rattle.can_log.specs.declared.frame.Stamped.{Stamped}
 use Rattle.can_log.specs.Refused.{HasCompletion}
@@ -40,9 +40,9 @@ pub becomes_length : (bytes : List ℕ) → HasCompletion bytes → length bytes
 becomes_length bytes (more, s, few, m) = omega (arith, means_length (bytes ++ more) s m, length-append bytes more)
 
 -- the column of a refused byte, by how many bytes are left
-pub refused_column : (bytes rest : List ℕ) → IsRefusedFrom bytes rest
+pub column_of_rest : (bytes rest : List ℕ) → IsRefusedFrom bytes rest
     → (length bytes - length rest + 1 ≤ 224) × IsRefusedAt bytes (length bytes - length rest + 1)
-refused_column bytes rest r =
+column_of_rest bytes rest r =
     let whole : length bytes ≡ length r.text + (length r.after + 1) = omega (arith, ap (λ (z : List ℕ). length z) r.parts, length-append r.text (r.bad ∷ r.after)) in
     let left : length rest ≡ length r.after + 1 = omega (arith, ap (λ (z : List ℕ). length z) r.at) in
     let at : length bytes - length rest + 1 ≡ length r.text + 1 = omega (arith, whole, left) in (
@@ -50,17 +50,17 @@ refused_column bytes rest r =
       record { text = r.text; bad = r.bad; after = r.after; parts = r.parts; at = at; legal = r.legal; hopeless = r.hopeless },
     )
 
--- a verdict on 224 bytes is one on all
-joined_judged : (line bytes : List ℕ) (n : ℕ) (v : Verdict) → length line + n ≡ 224 → n ≤ length bytes → Judged (line ++ take n bytes) v → Judged (line ++ bytes) v
+-- a judgement on 224 bytes is one on all
+joined_judged : (line bytes : List ℕ) (n : ℕ) (v : Judgement) → length line + n ≡ 224 → n ≤ length bytes → Judged (line ++ take n bytes) v → Judged (line ++ bytes) v
 joined_judged line bytes n v size long h = by v h
   where
     len : length (line ++ take n bytes) ≡ 224
     len = omega (arith, length-append line (take n bytes), length-take n bytes)
 
-    by : (v : Verdict) → Judged (line ++ take n bytes) v → Judged (line ++ bytes) v
-    by (verdict.Means what) h = absurd (omega (arith, len, means_length (line ++ take n bytes) _ h))
-    by verdict.Short h = absurd (omega (arith, len, becomes_length (line ++ take n bytes) h.0))
-    by (verdict.Refused column) r = record {
+    by : (v : Judgement) → Judged (line ++ take n bytes) v → Judged (line ++ bytes) v
+    by (judgement.Means what) h = absurd (omega (arith, len, means_length (line ++ take n bytes) _ h))
+    by judgement.Short h = absurd (omega (arith, len, becomes_length (line ++ take n bytes) h.0))
+    by (judgement.Refused column) r = record {
       text = r.text;
       bad = r.bad;
       after = r.after ++ drop n bytes;
@@ -72,7 +72,7 @@ joined_judged line bytes n v size long h = by v h
       hopeless = r.hopeless;
     }
 
-pub joined_any : (line bytes : List ℕ) (n : ℕ) (v : Verdict) → length line + n ≡ 224 → Judged (line ++ take n bytes) v → Judged (line ++ bytes) v
+pub joined_any : (line bytes : List ℕ) (n : ℕ) (v : Judgement) → length line + n ≡ 224 → Judged (line ++ take n bytes) v → Judged (line ++ bytes) v
 joined_any line bytes n v size h = elim (cases_lt n (length bytes)) [
   | inl lt ↦ joined_judged line bytes n v size (omega arith) h
   | inr le ↦ subst (λ (z : List ℕ). Judged (line ++ z) v) (take_all n bytes le) h

@@ -10,7 +10,7 @@ use Rattle.can_log.specs.declared.scanner.Scan.TheVariants as scan
 use Rattle.can_log.specs.Refused.{NoLineFeed}
 use Rattle.can_log.specs.Log.{log_lines, LinesMean, LogMeans, ended_lines}
 use Rattle.can_log.specs.Scanning.{Standing, Scans, ScansOn, ScansFrom, Finishes, FinishesOn, FinishesFrom}
-use Rattle.can_log.specs.WholeLog.{at_start, StandsAfter, IsRefusedBehind, ReadsOn, ReadsEnd, ScansAll, Told, line, refused, told, lines_from}
+use Rattle.can_log.specs.WholeLog.{at_start, StandsAfter, IsRefusedBehind, ReadsOn, ReadsEnd, ScansAll, Told, line, refused, report_of, lines_from}
 use Rattle.can_log.specs.Laws.{LogMeansAtMostOne, StartStands, ScanReadsOn, FinishReadsEnd, ScanningReadsTheLog, LogTellsOne}
 use Rattle.can_log.proofs.Lists.{parts_more}
 use Rattle.can_log.proofs.LineReads.{one_meaning, empty_legal}
@@ -132,7 +132,7 @@ TellsRest meanings log report =
     ⊎ ((number : ℕ) × (column : ℕ) × (more : List (Option Stamped)) × IsRefusedBehind (meanings ++ more) log number column
     × (report ≡ lines_from (length meanings + 1) more ++ refused number column ∷ []))
 
-tells_end : (log : List ℕ) (meanings : List (Option Stamped)) (last : Scan) → ReadsEnd log meanings last → TellsRest meanings log (told (last ∷ []))
+tells_end : (log : List ℕ) (meanings : List (Option Stamped)) (last : Scan) → ReadsEnd log meanings last → TellsRest meanings log (report_of (last ∷ []))
 tells_end log meanings scan.NeedMore r = absurd r
 tells_end log meanings (scan.Line used n what) (n_is, means) = inl (what ∷ [], means, ap (λ (z : ℕ). line z what ∷ []) n_is)
 tells_end log meanings (scan.Bad n column) place = inr (n, column, [], subst (λ (z : List (Option Stamped)). IsRefusedBehind z log n column) (sym (append-nil meanings)) place, refl)
@@ -166,14 +166,14 @@ tells_line log meanings what n report n_is rest = elim rest [
 
 tells_all : (answers : List Scan) (pieces : List (List ℕ)) (bytes : List ℕ) (meanings : List (Option Stamped)) (old between new : Standing) (last : Scan)
     → StandsAfter bytes meanings old → ScansAll old pieces answers between → Finishes between last new
-    → TellsRest meanings (bytes ++ concat pieces) (told (answers ++ last ∷ []))
+    → TellsRest meanings (bytes ++ concat pieces) (report_of (answers ++ last ∷ []))
 tells_all [] [] bytes meanings old between new last stands is finishes =
-    subst (λ (z : List ℕ). TellsRest meanings z (told (last ∷ []))) (sym (append-nil bytes))
+    subst (λ (z : List ℕ). TellsRest meanings z (report_of (last ∷ []))) (sym (append-nil bytes))
     (tells_end bytes meanings last (finish_reads_end bytes meanings between new last (subst (StandsAfter bytes meanings) (sym is) stands) finishes))
 tells_all [] (piece ∷ pieces) bytes meanings old between new last stands s finishes = absurd s
 tells_all (answer ∷ answers) [] bytes meanings old between new last stands s finishes = absurd s
 tells_all (scan.NeedMore ∷ answers) (piece ∷ pieces) bytes meanings old between new last stands (next, s, more) finishes =
-    subst (λ (z : List ℕ). TellsRest meanings z (told (answers ++ last ∷ []))) (append_assoc bytes piece (concat pieces))
+    subst (λ (z : List ℕ). TellsRest meanings z (report_of (answers ++ last ∷ []))) (append_assoc bytes piece (concat pieces))
     (tells_all answers pieces (bytes ++ piece) meanings next between new last (scan_reads_on bytes meanings piece old next scan.NeedMore stands s) more finishes)
 tells_all (scan.Line used n what ∷ answers) (piece ∷ pieces) bytes meanings old between new last stands (next, s, more) finishes =
     let step = scan_reads_on bytes meanings piece old next (scan.Line used n what) stands s in
@@ -181,8 +181,8 @@ tells_all (scan.Line used n what ∷ answers) (piece ∷ pieces) bytes meanings 
     append_assoc bytes (take used piece) (drop used piece ++ concat pieces)
     ∙ ap (λ (z : List ℕ). bytes ++ z) (sym (parts_more (take used piece) (drop used piece) (sym (take-append-drop used piece)) (concat pieces)))
     in
-    tells_line (bytes ++ (piece ++ concat pieces)) meanings what n (told (answers ++ last ∷ [])) step.1
-    (subst (λ (z : List ℕ). TellsRest (meanings ++ what ∷ []) z (told (answers ++ last ∷ []))) same
+    tells_line (bytes ++ (piece ++ concat pieces)) meanings what n (report_of (answers ++ last ∷ [])) step.1
+    (subst (λ (z : List ℕ). TellsRest (meanings ++ what ∷ []) z (report_of (answers ++ last ∷ []))) same
     (tells_all answers (drop used piece ∷ pieces) (bytes ++ take used piece) (meanings ++ what ∷ []) next between new last step.2 more finishes))
 tells_all (scan.Bad n column ∷ answers) (piece ∷ pieces) bytes meanings old between new last stands (next, s, more) finishes =
     let place = scan_reads_on bytes meanings piece old next (scan.Bad n column) stands s (concat pieces) in

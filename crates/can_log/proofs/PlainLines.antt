@@ -10,7 +10,7 @@ use Rattle.can_log.specs.declared.frame.Id.{Id}
 use Rattle.can_log.specs.declared.frame.Kind.{Kind}
 use Rattle.can_log.specs.Frame.{IsFrame, IsIdentifier}
 use Rattle.can_log.proofs.SpelledBytes.{bytes_len}
-use Rattle.can_log.specs.Line.{spell_body, spell_line, identifier_of, kind_of, bytes_spelled, IsRunOf, IsIdentifierText, IsDataText, IsBody, IsLineSpelling}
+use Rattle.can_log.specs.Line.{spell_body, spell_line, identifier_of, frame_kind_of, bytes_spelled, IsRunOf, IsIdentifierText, IsDataText, IsBody, IsLineSpelling}
 use Rattle.can_log.specs.Plain.{HavePlainWidths, IsStamp, AreDecimals, AreFlags, seconds_of, micros_of, most_digits, flags_spelled, digits_of, body_text, body_with, plain_text, spelling_of}
 use Rattle.can_log.proofs.EachElement.{AllByRecursion-front, AllByRecursion-back}
 use Rattle.can_log.proofs.Spelling.{id_to}
@@ -64,7 +64,7 @@ identifier_is digits (run, inl three) = rw three.0 three.1
 identifier_is digits (run, inr eight) = rw eight tt
 
 pub plain_frame : (flags : Option (Bor (List ℕ))) (identifier digits bytes : List ℕ) (id : Id) (kind : Kind) → IsIdentifierText identifier
-    → IsDataText (most_digits flags) digits → id ≡ identifier_of identifier → kind ≡ kind_of (body_with flags digits) → bytes ≡ bytes_spelled digits
+    → IsDataText (most_digits flags) digits → id ≡ identifier_of identifier → kind ≡ frame_kind_of (body_with flags digits) → bytes ≡ bytes_spelled digits
     → IsFrame id kind bytes
 plain_frame None identifier digits bytes id kind text data_text is_id is_kind spelled = record {
   identifier = rw is_id (identifier_is identifier text);

@@ -7,8 +7,8 @@ use Rattle.std.proofs.lemmas.List.{length-take-le}
 use Rattle.can_log.specs.declared.frame.Stamped.{Stamped}
 use Rattle.can_log.specs.declared.scanner.Scan.{Scan}
 use Rattle.can_log.specs.declared.scanner.Scan.TheVariants as scan
-use Rattle.can_log.specs.declared.scanner.Verdict.{Verdict}
-use Rattle.can_log.specs.declared.scanner.Verdict.TheVariants as verdict
+use Rattle.can_log.specs.declared.scanner.Judgement.{Judgement}
+use Rattle.can_log.specs.declared.scanner.Judgement.TheVariants as judgement
 use Rattle.can_log.specs.Line.{LineMeans, IsNoLine}
 use Rattle.can_log.specs.Refused.{NoLineFeed, HasCompletion, IsRefusedPlace, IsUnfinishedAt}
 use Rattle.can_log.specs.Scanning.{Place, Standing, Scans, ScansFrom, Finishes, FinishesFrom}
@@ -78,7 +78,7 @@ finish_refuses old new answer column e is stands some at =
     subst (λ (a : Scan). Finishes old a new) (sym is)
     (subst (λ (r : Option Place). FinishesFrom r old (scan.Bad (old.lines + 1) column) new) (sym e) (some, refl, at, stands))
 
-pub not_meant : (line : List ℕ) (v : Verdict) → Judged line v → ((w : Option Stamped) → v ≡ verdict.Means w → ⊥) → HasCompletion line → IsNoLine line
-not_meant line (verdict.Means w) j h legal = absurd (h w refl)
-not_meant line verdict.Short j h legal = j.1
-not_meant line (verdict.Refused column) j h legal = absurd (not_refused line column legal j)
+pub not_meant : (line : List ℕ) (v : Judgement) → Judged line v → ((w : Option Stamped) → v ≡ judgement.Means w → ⊥) → HasCompletion line → IsNoLine line
+not_meant line (judgement.Means w) j h legal = absurd (h w refl)
+not_meant line judgement.Short j h legal = j.1
+not_meant line (judgement.Refused column) j h legal = absurd (not_refused line column legal j)

@@ -9,7 +9,7 @@ use Rattle.can_log.specs.Line.{IsDataText, LineMeans, IsNoLine, bytes_spelled}
 use Rattle.can_log.specs.Refused.{NoLineFeed, HasCompletion, HasNoCompletion}
 use Rattle.can_log.specs.Log.{LogMeans, IsRefusedIn}
 use Rattle.can_log.specs.Scanning.{Standing, Scans, Finishes}
-use Rattle.can_log.specs.WholeLog.{at_start, StandsAfter, ReadsOn, ReadsEnd, ScansAll, Told, told, TellsLog}
+use Rattle.can_log.specs.WholeLog.{at_start, StandsAfter, ReadsOn, ReadsEnd, ScansAll, Told, report_of, TellsLog}
 
 -- a line means at most one thing
 abbrev pub LineMeansAtMostOne : Type 0
@@ -81,7 +81,7 @@ FinishReadsEnd = (log : List ℕ) (meanings : List (Option Stamped)) (old new : 
 -- Over any pieces, with a last `finish`, a scanner tells all of the log that they make, and nothing else.
 abbrev pub ScanningReadsTheLog : Type 0
 ScanningReadsTheLog = (pieces : List (List ℕ)) (answers : List Scan) (last : Scan) (between new : Standing) → ScansAll at_start pieces answers between → Finishes between last new
-    → TellsLog (concat pieces) (told (answers ++ last ∷ []))
+    → TellsLog (concat pieces) (report_of (answers ++ last ∷ []))
 
 -- Two runs over one log, cut in two ways, tell the same.
 abbrev pub LogTellsOne : Type 0

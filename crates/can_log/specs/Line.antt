@@ -106,10 +106,10 @@ abbrev pub identifier_of : List ℕ → Id
 identifier_of digits = if length digits == 8 then id.Ext (digits_value 16 digits) else id.Std (digits_value 16 digits)
 
 -- the kind of the frame, by the form of the body
-abbrev pub kind_of : Body → Kind
-kind_of (classic digits raw_dlc) = kind.Classic
-kind_of (remote digit raw_dlc) = kind.Remote
-kind_of (fd flags digits) = kind.Fd
+abbrev pub frame_kind_of : Body → Kind
+frame_kind_of (classic digits raw_dlc) = kind.Classic
+frame_kind_of (remote digit raw_dlc) = kind.Remote
+frame_kind_of (fd flags digits) = kind.Fd
 
 -- the bytes that pairs of hexadecimal digits spell
 abbrev pub bytes_spelled : List ℕ → List ℕ
@@ -138,7 +138,7 @@ parts_in line = record { seconds = line.seconds; micros = line.micros; identifie
 abbrev pub stamped_of : Parts → Stamped
 stamped_of parts = record {
   micros = digits_value 10 parts.seconds * 1000000 + digits_value 10 parts.micros;
-  frame = record { id = identifier_of parts.identifier; kind = kind_of parts.body; bytes = data_of parts.body };
+  frame = record { id = identifier_of parts.identifier; kind = frame_kind_of parts.body; bytes = data_of parts.body };
 }
 
 -- the text, with one carriage return after it or none

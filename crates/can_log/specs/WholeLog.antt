@@ -67,12 +67,12 @@ pub data Told : Type 0 where
   refused : ℕ → ℕ → Told
 
 -- what the answers tell, up to the first refusal, which is answered again and again
-abbrev pub told : List Scan → List Told
-told [] = []
-told (scan.NeedMore ∷ answers) = told answers
-told (scan.Line used number what ∷ answers) = line number what ∷ told answers
-told (scan.Bad number column ∷ answers) = refused number column ∷ []
-told (scan.End ∷ answers) = told answers
+abbrev pub report_of : List Scan → List Told
+report_of [] = []
+report_of (scan.NeedMore ∷ answers) = report_of answers
+report_of (scan.Line used number what ∷ answers) = line number what ∷ report_of answers
+report_of (scan.Bad number column ∷ answers) = refused number column ∷ []
+report_of (scan.End ∷ answers) = report_of answers
 
 -- lines that mean this, with their numbers
 abbrev pub lines_from : ℕ → List (Option Stamped) → List Told

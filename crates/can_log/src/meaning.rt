@@ -23,9 +23,9 @@ pub(crate) fn stamped_of(parts: Parts<'_>) -> Stamped
 {
     let id = identifier_of(parts.identifier);
     let (kind, data) = match parts.body {
-        Body::Classic(digits, _) => (Kind::Classic, data_of(digits)),
+        Body::Classic(digits, _) => (Kind::Classic, decoded(digits)),
         Body::Remote(_, _) => (Kind::Remote, FrameData::new()),
-        Body::Fd(_, digits) => (Kind::Fd, data_of(digits)),
+        Body::Fd(_, digits) => (Kind::Fd, decoded(digits)),
     };
     Stamped {
         micros: parts.seconds.value * 1_000_000 + parts.micros.value,
@@ -62,7 +62,7 @@ fn hex_number(digits: &[u8]) -> u32
 
 /// The data that digits spell.
 #[inline(always)]
-fn data_of(digits: &[u8]) -> FrameData
+fn decoded(digits: &[u8]) -> FrameData
     requires { IsDataText 128 digits.now }
     ensures { result ≡ bytes_spelled digits.now }
 {

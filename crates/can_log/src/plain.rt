@@ -12,7 +12,7 @@ use crate::frame_data::FrameData;
 use crate::hexadecimal::is_hex_digit;
 use crate::lanes::{LANES, hex_front, hex_run, visible_front};
 use crate::meaning::{identifier_of, put_data};
-use crate::stamp::{has_decimals, micros_of};
+use crate::stamp::{has_decimals, time_of};
 
 /// The longest line of a classic frame in plain form, and what else the lanes reach: a stamp of 20 bytes, 15 of the interface,
 /// a space, 8 digits of the identifier, `#`, 16 of the data, and a line feed.
@@ -89,7 +89,7 @@ pub(crate) fn plain_stamped(fields: Fields<'_>, data: FrameData) -> Stamped
     };
     let frame = Frame::from_parts(id, kind, data);
     Stamped {
-        micros: micros_of(fields.stamp),
+        micros: time_of(fields.stamp),
         frame,
     }
 }

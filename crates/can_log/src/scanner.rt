@@ -163,7 +163,7 @@ impl Scanner {
                 }
                 Err(column) => self.refuse(column),
             },
-            None => match refused(self.line.as_slice(), piece) {
+            None => match refused_column(self.line.as_slice(), piece) {
                 None => {
                     // There is room: what can be completed has at most 223 bytes.
                     let _ = self.line.try_extend_from_slice(piece);
@@ -185,8 +185,8 @@ impl Scanner {
         if self.line.is_empty() {
             return Scan::End;
         }
-        match verdict_on(self.line.as_slice()) {
-            Verdict::Means(what) => {
+        match judgement_on(self.line.as_slice()) {
+            Judgement::Means(what) => {
                 self.line.clear();
                 self.lines += 1;
                 Scan::Line {
@@ -240,7 +240,7 @@ fn bad(place: Place) -> Scan
 
 /// What the bytes of a line are, whole or so far.
 #[derive(Drop)]
-enum Verdict {
+enum Judgement {
     Means(Option<Stamped>),
     /// They end too early, and can be completed.
     Short,
@@ -255,41 +255,41 @@ fn ended(line: &[u8], bytes: &[u8]) -> Result<Option<Stamped>, u32>
     ensures ok { IfOk result (λ what. LineMeans (line.now ++ bytes.now) what) }
     ensures err { IfErr result (λ column. IsRefusedPlace ((line.now ++ bytes.now) ++ codes "\n") column) }
 {
-    match line_verdict(line, bytes) {
-        Verdict::Means(what) => Ok(what),
-        Verdict::Short => Err((line.len() + bytes.len() + 1) as u32),
-        Verdict::Refused(column) => Err(column),
+    match line_judgement(line, bytes) {
+        Judgement::Means(what) => Ok(what),
+        Judgement::Short => Err((line.len() + bytes.len() + 1) as u32),
+        Judgement::Refused(column) => Err(column),
     }
 }
 
 /// The column that is refused, if one is.
-fn refused(line: &[u8], bytes: &[u8]) -> Option<u32>
+fn refused_column(line: &[u8], bytes: &[u8]) -> Option<u32>
     requires short { length line.now ≤ 223 }
     requires clean { NoLineFeed (line.now ++ bytes.now) }
     ensures none { IfNone result (HasCompletion (line.now ++ bytes.now)) }
     ensures some { IfSome result (λ column. IsRefusedPlace (line.now ++ bytes.now) column) }
 {
-    match joined_verdict(line, bytes) {
-        Verdict::Means(_) => None,
-        Verdict::Short => None,
-        Verdict::Refused(column) => Some(column),
+    match joined_judgement(line, bytes) {
+        Judgement::Means(_) => None,
+        Judgement::Short => None,
+        Judgement::Refused(column) => Some(column),
     }
 }
 
-/// The verdict on `line` and then `bytes`, with no copy where nothing comes before `bytes`.
-fn line_verdict(line: &[u8], bytes: &[u8]) -> Verdict
+/// The judgement on `line` and then `bytes`, with no copy where nothing comes before `bytes`.
+fn line_judgement(line: &[u8], bytes: &[u8]) -> Judgement
     requires { length line.now ≤ 223 }
     ensures { Judged (line.now ++ bytes.now) result }
 {
     if line.is_empty() {
-        verdict_on(bytes)
+        judgement_on(bytes)
     } else {
-        joined_verdict(line, bytes)
+        joined_judgement(line, bytes)
     }
 }
 
-/// The verdict on a line that is cut. Of 224 bytes one is refused, so no more are looked at.
-fn joined_verdict(line: &[u8], bytes: &[u8]) -> Verdict
+/// The judgement on a line that is cut. Of 224 bytes one is refused, so no more are looked at.
+fn joined_judgement(line: &[u8], bytes: &[u8]) -> Judgement
     requires { length line.now ≤ 223 }
     ensures { Judged (line.now ++ bytes.now) result }
 {
@@ -297,19 +297,19 @@ fn joined_verdict(line: &[u8], bytes: &[u8]) -> Verdict
     // There is room: of the two no more than 224 bytes are joined.
     let _ = joined.try_extend_from_slice(line);
     let _ = joined.try_extend_from_slice(front_of(bytes, 224 - line.len()));
-    verdict_on(joined.as_slice())
+    judgement_on(joined.as_slice())
 }
 
-/// The verdict on bytes that lie in one piece.
+/// The judgement on bytes that lie in one piece.
 #[inline(always)]
-fn verdict_on(bytes: &[u8]) -> Verdict
+fn judgement_on(bytes: &[u8]) -> Judgement
     ensures { Judged bytes.now result }
 {
     match judge(bytes) {
-        Ok(None) => Verdict::Means(None),
-        Ok(Some(parts)) => Verdict::Means(Some(stamped_of(parts))),
-        Err(Stop::Short) => Verdict::Short,
-        Err(Stop::Refused(rest)) => Verdict::Refused((bytes.len() - rest.len() + 1) as u32),
+        Ok(None) => Judgement::Means(None),
+        Ok(Some(parts)) => Judgement::Means(Some(stamped_of(parts))),
+        Err(Stop::Short) => Judgement::Short,
+        Err(Stop::Refused(rest)) => Judgement::Refused((bytes.len() - rest.len() + 1) as u32),
     }
 }
 

@@ -20,12 +20,12 @@ pub(crate) fn has_decimals(stamp: &[u8]) -> bool
 
 /// The time in microseconds.
 #[inline(always)]
-pub(crate) fn micros_of(stamp: &[u8]) -> u64
+pub(crate) fn time_of(stamp: &[u8]) -> u64
     requires long { length stamp.now ≡ 17 }
     requires digits { AreDecimals (seconds_of stamp.now ++ micros_of stamp.now) }
     ensures { result ≡ digits_value 10 (seconds_of stamp.now) * 1000000 + digits_value 10 (micros_of stamp.now) }
 {
-    number_of(digits_of(stamp))
+    decimal_number(digits_of(stamp))
 }
 
 /// The digits of the stamp, without its point.
@@ -54,7 +54,7 @@ fn are_decimals(bytes: u8x16) -> bool
 
 /// The number that sixteen digits spell: each step makes one number of two that lie side by side.
 #[inline(always)]
-fn number_of(digits: u8x16) -> u64
+fn decimal_number(digits: u8x16) -> u64
     requires long { length digits ≡ 16 }
     requires digits { AreDecimals digits }
     ensures { result ≡ digits_value 10 digits }

@@ -11,7 +11,7 @@ use Rattle.can_log.specs.declared.frame.Kind.TheVariants as kind
 use Rattle.isotp_pdu.specs.declared.PduFault.{PduFault}
 use Rattle.isotp_pdu.specs.declared.PduFault.TheVariants as fault
 use Rattle.isotp_pdu.specs.Layout.{Layout, single, first, consecutive, is_can_dl, least_first, first_byte, Spells, SpellsSingle, HasLayout}
-use Rattle.isotp_pdu.specs.Reading.{layout_of, of_frame, of_bytes, of_kind, single_of, first_of, short_first_of, escaped_first_of, status_of, are_bytes}
+use Rattle.isotp_pdu.specs.Reading.{layout_of, of_frame, of_bytes, of_kind, single_of, first_of, short_first_of, escaped_first_of, flow_status_of, are_bytes}
 use Rattle.isotp_pdu.specs.Fault.{IsFault}
 use Rattle.isotp_pdu.proofs.Precedence.{IsBegun, at_least_one, from_length, from_empty, from_kind, from_single, from_first, from_flow, from_status}
 use Rattle.isotp_pdu.proofs.Digits.{digits}
@@ -91,7 +91,7 @@ module _ (i : Id) (k : Kind) (data_frame : k ≢ kind.Remote) where
 
   -- flow control, by its second and third byte
   flow_read : (c : ℕ) (rest : List ℕ) (fits : IsTrue (is_can_dl (length (c ∷ rest))))
-      → c / 16 ≡ 3 → 3 ≤ length (c ∷ rest) → Judged (frame_of (c ∷ rest)) (status_of (c % 16))
+      → c / 16 ≡ 3 → 3 ≤ length (c ∷ rest) → Judged (frame_of (c ∷ rest)) (flow_status_of (c % 16))
   flow_read c [] fits is_kind long = absurd (omega arith)
   flow_read c (b ∷ []) fits is_kind long = absurd (omega arith)
   flow_read c (b ∷ d ∷ rest) fits is_kind long =

@@ -47,13 +47,17 @@ first_of bytes =
     else if (slice_index bytes 0 % 16 == 0) && (slice_index bytes 1 == 0) then escaped_first_of bytes
     else short_first_of bytes
 
--- flow control, by its low bits
-abbrev pub status_of : ℕ → Result Layout PduFault
-status_of low =
+-- the flow status in the low bits of the first byte
+abbrev pub flow_status_of : ℕ → Result Layout PduFault
+flow_status_of low =
     if low == 0 then Ok (flow_control status.Continue)
     else if low == 1 then Ok (flow_control status.Wait)
     else if low == 2 then Ok (flow_control status.Overflow)
     else Err fault.FlowStatus
+
+-- flow control
+abbrev pub flow_of : List ℕ → Result Layout PduFault
+flow_of bytes = if nat_lt (length bytes) 3 then Err fault.FlowShort else flow_status_of (slice_index bytes 0 % 16)
 
 -- a frame of a kind
 abbrev pub of_kind : ℕ → List ℕ → Result Layout PduFault
@@ -61,7 +65,7 @@ of_kind kind bytes =
     if kind == 0 then single_of bytes
     else if kind == 1 then first_of bytes
     else if kind == 2 then Ok (consecutive (slice_index bytes 0 % 16) (length bytes) (drop 1 bytes))
-    else if kind == 3 then (if nat_lt (length bytes) 3 then Err fault.FlowShort else status_of (slice_index bytes 0 % 16))
+    else if kind == 3 then flow_of bytes
     else Err fault.UnknownKind
 
 -- a data frame

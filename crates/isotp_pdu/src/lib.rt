@@ -16,11 +16,11 @@
 
 pub mod laws;
 
-ghost use Rattle.std.specs.Prelude.{◌≡◌, ◌↔◌, ◌≤◌, ◌<◌, ◌%◌, length, slice_index, nat_lt, if◌then◌else◌, IfOk};
+ghost use Rattle.std.specs.Prelude.{◌≡◌, ◌↔◌, ◌≤◌, ◌<◌, length, IfOk};
 ghost use Rattle.isotp_pdu.specs.Layout.{Layout, HasLayout, IsSoundLayout, layout_seen};
 ghost use Rattle.isotp_pdu.specs.Reading.{layout_of};
 ghost use Rattle.isotp_pdu.specs.Layout.{is_can_dl, least_first};
-ghost use Rattle.isotp_pdu.specs.Reading.{of_bytes, single_of, first_of, short_first_of, escaped_first_of, status_of};
+ghost use Rattle.isotp_pdu.specs.Reading.{of_bytes, single_of, first_of, short_first_of, escaped_first_of, flow_of};
 ghost use Rattle.isotp_pdu.specs.Fault.{IsFault};
 
 use can_log::{Frame, Kind};
@@ -223,7 +223,7 @@ fn read_escaped_first(bytes: &[u8]) -> Result<Pdu<'_>, PduFault>
 /// Flow control (section 9.6.5).
 fn read_flow(bytes: &[u8]) -> Result<Pdu<'_>, PduFault>
     requires { 0 < length bytes.now }
-    ensures { layout_seen result ≡ if nat_lt (length bytes.now) 3 then Err PduFault.FlowShort else status_of (slice_index bytes.now 0 % 16) }
+    ensures { layout_seen result ≡ flow_of bytes.now }
 {
     if bytes.len() < 3 {
         return Err(PduFault::FlowShort);

@@ -3,14 +3,14 @@
 ghost use Rattle.std.specs.Prelude.{◌≡◌};
 ghost use Rattle.udsnorm.specs.Comparisons.{comparison_line};
 
-use crate::text::{Line, push_decimal, push_text};
+use crate::text::{ComparisonLine, push_decimal, push_text};
 use trace_canon::Comparison;
 
 /// The line of a comparison, in which items are counted from 1.
-pub(crate) fn comparison_line(comparison: Comparison) -> Line
+pub(crate) fn comparison_line(comparison: Comparison) -> ComparisonLine
     ensures { result.items ≡ comparison_line comparison }
 {
-    let mut line = Line::new();
+    let mut line = ComparisonLine::new();
     match comparison {
         Comparison::Same => push_text(&mut line, "same\n"),
         Comparison::Different { item } => {

@@ -9,11 +9,11 @@ use arrayvec::{ArrayString, ArrayVec};
 use std::fmt::{Display, Write};
 use trace_io::{DeviceFault, Target, write_all};
 
-/// Room for the longest line that is told: an announcement that is too long, in the right log.
-const LONGEST_LINE: usize = 96;
+/// Room for the longest line that tells a fault: an announcement that is too long, in the right log.
+const LONGEST_FAULT: usize = 96;
 
-/// A line of bytes as it is made.
-pub(crate) type Line = ArrayVec<u8, 64>;
+/// The line of a comparison as it is made.
+pub(crate) type ComparisonLine = ArrayVec<u8, 64>;
 
 /// Writes a message as a line.
 pub(crate) fn write_line<W: Target, D: Display + Drop>(
@@ -24,14 +24,14 @@ pub(crate) fn write_line<W: Target, D: Display + Drop>(
     ensures failures { MatchResult result
         (λ _. W.failures target.new ≡ W.failures target.old) (λ _. W.failures target.new ≡ W.failures target.old + 1) }
 {
-    let mut line = ArrayString::<LONGEST_LINE>::new();
+    let mut line = ArrayString::<LONGEST_FAULT>::new();
     // What is told always fits.
     let _ = writeln!(line, "{message}");
     write_all(target, line.as_str().as_bytes())
 }
 
 /// Puts a text at the end of the line.
-pub(crate) fn push_text(line: &mut Line, text: &str)
+pub(crate) fn push_text(line: &mut ComparisonLine, text: &str)
     requires { array_vec_len line.old + length text.now ≤ 64 }
     ensures { line.new.items ≡ line.old.items ++ text.now }
 {
@@ -39,7 +39,7 @@ pub(crate) fn push_text(line: &mut Line, text: &str)
 }
 
 /// Puts the digits of a number at the end of the line.
-pub(crate) fn push_decimal(line: &mut Line, number: u128)
+pub(crate) fn push_decimal(line: &mut ComparisonLine, number: u128)
     requires { array_vec_len line.old + length (decimal number) ≤ 64 }
     ensures { line.new.items ≡ line.old.items ++ decimal number }
 {

@@ -7,11 +7,11 @@ use Rattle.can_log.proofs.ScannerSteps.{not_meant, finish_refuses, none_seen}
 use Rattle.can_log.specs.Refused.{IsUnfinishedAt}
 use Rattle.can_log.proofs.scanner.Scanner.finish.Goals as goal
 
-pub returns-in_default-verdict_on : goal.returns-in_default-verdict_on
-returns-in_default-verdict_on c =
+pub returns-in_default-judgement_on : goal.returns-in_default-judgement_on
+returns-in_default-judgement_on c =
     let line = c.self.inside.line.items in
-    let j = subst (λ (z : List ℕ). Judged z c.verdict_on.result) c.as_slice.ensures.value c.verdict_on.ensures in
-    let at = unfinished line c.len.result c.len.ensures.value c.self.invariant.legal (not_meant line c.verdict_on.result j c.in_default-verdict_on.not-Means c.self.invariant.legal) in
+    let j = subst (λ (z : List ℕ). Judged z c.judgement_on.result) c.as_slice.ensures.value c.judgement_on.ensures in
+    let at = unfinished line c.len.result c.len.ensures.value c.self.invariant.legal (not_meant line c.judgement_on.result j c.in_default-judgement_on.not-Means c.self.invariant.legal) in
     record {
       answer = finish_refuses c.args.self.now c.refuse.new.self c.refuse.result (c.len.result + 1)
           (rw (← c.self.view_is) (none_seen _ c.self.inside.refused c.in_default.is)) c.refuse.ensures.result c.refuse.ensures.place

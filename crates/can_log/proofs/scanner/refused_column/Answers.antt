@@ -1,6 +1,6 @@
 use Rattle.can_log.proofs.LineReads.{means_becomes}
 use Rattle.can_log.proofs.RefusedPlaces.{place_of}
-use Rattle.can_log.proofs.scanner.refused.Goals as goal
+use Rattle.can_log.proofs.scanner.refused_column.Goals as goal
 
 pub returns-in-Means-clause-none : goal.returns-in-Means-clause-none
 returns-in-Means-clause-none c = means_becomes _ c.in-Means.field-0 c.in-Means.ensures

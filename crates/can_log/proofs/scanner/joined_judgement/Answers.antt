@@ -3,7 +3,7 @@ use Rattle.std.proofs.lemmas.List.{length-take}
 use Rattle.can_log.specs.Judging.{Judged}
 use Rattle.can_log.proofs.Results.{from_ok}
 use Rattle.can_log.proofs.LineLength.{joined_any}
-use Rattle.can_log.proofs.scanner.joined_verdict.Goals as goal
+use Rattle.can_log.proofs.scanner.joined_judgement.Goals as goal
 
 pub returns : goal.returns
 returns c =
@@ -18,5 +18,5 @@ returns c =
     let two : c.try_extend_from_slice-2.new.self.items ≡ line ++ take n bytes =
     from_ok c.try_extend_from_slice-2.result c.try_extend_from_slice-2.ensures.ok fits2 ∙ rw (one, c.front_of.ensures) refl
     in
-    let judged = subst (λ (z : List ℕ). Judged z c.verdict_on.result) (c.as_slice.ensures.value ∙ two) c.verdict_on.ensures in
-    joined_any line bytes n c.verdict_on.result (omega arith) judged
+    let judged = subst (λ (z : List ℕ). Judged z c.judgement_on.result) (c.as_slice.ensures.value ∙ two) c.judgement_on.ensures in
+    joined_any line bytes n c.judgement_on.result (omega arith) judged

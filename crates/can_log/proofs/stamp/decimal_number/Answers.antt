@@ -2,7 +2,7 @@ use Rattle.std.proofs.Common.{get_or, sym, subst}
 use Rattle.std.proofs.lemmas.Simd.{pick_l_whole}
 use Rattle.can_log.specs.Plain.{AreDecimals}
 use Rattle.can_log.proofs.LaneNumbers.{sixteen_is}
-use Rattle.can_log.proofs.stamp.number_of.Goals as goal
+use Rattle.can_log.proofs.stamp.decimal_number.Goals as goal
 
 pub returns : goal.returns
 returns c =

@@ -1,7 +1,0 @@
-use Rattle.std.proofs.Common.{List, ℕ, ap, ◌∙◌}
-use Rattle.std.specs.Str.Parse.{digits_value}
-use Rattle.can_log.proofs.LaneNumbers.{stamp_value}
-use Rattle.can_log.proofs.stamp.micros_of.Goals as goal
-
-pub returns : goal.returns
-returns c = c.number_of.ensures ∙ ap (λ (l : List ℕ). digits_value 10 l) c.digits_of.ensures ∙ stamp_value c.args.stamp.now c.requires.long
