@@ -193,6 +193,8 @@ def memory(cases):
     ]:
         log = begun + line * (20_000_000 // len(line))
         holds_at_most(cases, job, f"{begun!r} and then {line[:40]!r}", log, most * len(log))
+    log = REQUEST + ONE_BYTE * 500_000
+    holds_at_most(cases, "normalise", "strays that are held, and as many after the next request", 2 * log, HELD * len(log))
     log = two_receptions()
     cases.case("two of the longest messages lack their last frames", cases.run(["explain"], log), DONE, UNFINISHED)
     for job in ["normalise", "explain"]:
