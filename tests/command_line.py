@@ -28,10 +28,12 @@ SAME_IDENTIFIER = b"tester and unit have the same identifier\n"
 LIMIT_RANGE = b"limit out of range\n"
 
 # Words that ask for help, and lines of it, of which the first one begins it.
+FAILED_DEVICE = b"4 a file can't be opened, or reading or writing failed, 5 out of memory."
 PROGRAM_HELP = [
     b"Gives recorded vehicle diagnostic sessions one canonical spelling",
     b"Usage: udsnorm <COMMAND>",
     b"  0  done, even if a log holds neither identifier; compare: the logs mean the same",
+    b"  4  a file can't be opened, or reading or writing failed",
     b"Example: udsnorm compare yesterday.log today.log",
 ]
 LIST_HELP = [
@@ -40,6 +42,7 @@ LIST_HELP = [
     b"  [LOG]  The recorded log; without it standard input is read",
     b"A log that holds neither identifier has no such line, and the status is 0. The last line of",
     b"`udsnorm explain` then says `frames 0`.",
+    FAILED_DEVICE,
     b"Example: udsnorm list --tester 7E1 --unit 7E9 recorded.log",
 ]
 NORMALISE_HELP = [
@@ -47,6 +50,7 @@ NORMALISE_HELP = [
     b"Usage: udsnorm normalise [OPTIONS] [LOG]",
     b"A log that holds neither identifier has an empty canonical log, and the status is 0. The last",
     b"line of `udsnorm explain` then says `frames 0`.",
+    FAILED_DEVICE,
     b"Example: udsnorm normalise recorded.log > canonical.log",
 ]
 EXPLAIN_HELP = [
@@ -54,6 +58,7 @@ EXPLAIN_HELP = [
     b"Usage: udsnorm explain [OPTIONS] [LOG]",
     b"Where it says `frames 0`, the log holds neither identifier: `normalise` and `list` write",
     b"nothing of it, with status 0.",
+    FAILED_DEVICE,
     b"Example: udsnorm explain recorded.log",
 ]
 COMPARE_HELP = [
@@ -63,6 +68,7 @@ COMPARE_HELP = [
     b"  <B>  The right log",
     b"Two logs that hold neither identifier mean the same. The last line of `udsnorm explain` says",
     b"`frames 0` of each.",
+    FAILED_DEVICE,
     b"Example: udsnorm compare yesterday.log today.log",
 ]
 HELPS = [

@@ -45,10 +45,18 @@ FOREIGN = b"(0.000000) a 000#\n"
 BLANK = b"\n"
 LONGEST = b"(0000000000.000000)" + b" " * 16 + b"abcdefghijklmno" + b" " * 16 + b"18DAF110##0" + b"00" * 64 + b" " * 16 + b"T\n"
 
-# Kilobytes that the program has without a log, at most; bytes that it holds for each byte of one.
-PROGRAM_KILOBYTES = 4_000
+# Bytes that the program has without a log, at most; those of the two receptions; and those that it holds for each byte of a
+# log.
+PROGRAM_BYTES = 2_500_000
+RECEPTION_BYTES = 2 * oracle.MESSAGE_LIMIT
 HELD = Fraction(17, 22)
 MEANT = Fraction(96, 22)
+
+# What explain says of two of the longest messages that lack their last frames, and then counts.
+UNFINISHED = b"""\
+end: tester reception from line 1 of 1048575 bytes unfinished
+end: unit reception from line 2 of 1048575 bytes unfinished
+.."""
 
 REFUSED_LOGS = [b"x", b"(", b"\n" * 1000 + b"\xff" * 1000, LONGEST + b"(1.0\n" * 1000, b"(0.000000) a 7E8#1000FFFFFFFF4142\n" * 1000]
 
@@ -147,39 +155,59 @@ def one_line_of_error(cases):
             cases.report(f"{job} of refused log {number}: {error!r}", [] if is_told or is_line else [f"status {status}"])
 
 
-def peak(program, words, begun, line, size):
-    """The most kilobytes that a job has, until it has read a log of at least this size through a pipe. The log's length, too."""
+def peak(program, words, log):
+    """The most kilobytes that a job has, until it has read a log through a pipe."""
     run = subprocess.Popen([program, *words], stdin=subprocess.PIPE, stdout=subprocess.DEVNULL)
-    lines = 65_536 // len(line) + 1
-    blocks = size // (lines * len(line)) + 1
-    run.stdin.write(begun)
-    for _ in range(blocks):
-        run.stdin.write(line * lines)
+    run.stdin.write(log)
     run.stdin.flush()
     # A pipe holds 65,536 bytes, of which no word can tell whether they were read.
     time.sleep(0.1)
     told = Path(f"/proc/{run.pid}/status").read_text()
     run.stdin.close()
     run.wait(timeout=60)
-    return int(re.search(r"^VmHWM:\s+(\d+) kB$", told, re.M)[1]), len(begun) + blocks * lines * len(line)
+    return int(re.search(r"^VmHWM:\s+(\d+) kB$", told, re.M)[1])
+
+
+def holds_at_most(cases, job, name, log, most):
+    """Beyond what it has without a log, the job holds this many bytes at most."""
+    kilobytes = peak(cases.program, [job], log)
+    allowed = int(PROGRAM_BYTES + most) // 1024
+    wrong = [] if kilobytes <= allowed else [f"more than {allowed} kB"]
+    cases.report(f"{job} of {len(log)} bytes, {name}: {kilobytes} kB", wrong)
 
 
 def memory(cases):
-    """Held strays take 17 bytes for 22 bytes of a log; what a log means takes 96; explain and normalise hold nothing else."""
+    """Held strays take 17 bytes for 22 bytes of a log; what a log means takes 96; receptions take what they announce, once as
+    much has come. Nothing else is held: no piece, unfinished line or text that is written takes memory as a log goes on."""
     for job, begun, line, most in [
         ("normalise", REQUEST, ONE_BYTE, HELD),
         ("normalise", b"", REQUEST, 0),
         ("normalise", b"", ONE_BYTE, 0),
         ("normalise", b"", FIRST, 0),
+        ("normalise", b"", FOURTEEN_BYTES, 0),
         ("explain", REQUEST, ONE_BYTE, 0),
         ("explain", b"", CONSECUTIVE, 0),
+        ("explain", b"", LONGEST, 0),
         ("list", REQUEST, ONE_BYTE, MEANT),
         ("list", b"", REQUEST, MEANT),
     ]:
-        kilobytes, length = peak(cases.program, [job], begun, line, 20_000_000)
-        allowed = PROGRAM_KILOBYTES + int(most * length) // 1024
-        name = f"{job} of {length} bytes, {begun!r} and then {line!r}: {kilobytes} kB"
-        cases.report(name, [] if kilobytes <= allowed else [f"more than {allowed} kB"])
+        log = begun + line * (20_000_000 // len(line))
+        holds_at_most(cases, job, f"{begun!r} and then {line[:40]!r}", log, most * len(log))
+    log = REQUEST + ONE_BYTE * 500_000
+    holds_at_most(cases, "normalise", "strays that are held, and as many after the next request", 2 * log, HELD * len(log))
+    log = two_receptions()
+    cases.case("two of the longest messages lack their last frames", cases.run(["explain"], log), DONE, UNFINISHED)
+    for job in ["normalise", "explain"]:
+        holds_at_most(cases, job, "no log", b"", 0)
+        holds_at_most(cases, job, "two of the longest messages without their last frames", log, RECEPTION_BYTES)
+
+
+def two_receptions():
+    """Two of the longest messages, one of each side, in frames of 64 bytes that take turns. Both lack their last frame."""
+    size = oracle.MESSAGE_LIMIT
+    first = b"\x10\x00" + size.to_bytes(4, "big") + bytes(58)
+    later = [bytes([0x20 | number % 16]) + bytes(63) for number in range(1, -(-(size - 58) // 63))]
+    return b"".join(f"(0.000000) a {side}##0{data.hex()}\n".encode() for data in [first, *later] for side in ("7E0", "7E8"))
 
 
 def work(cases):

@@ -4,7 +4,8 @@
     tests/refused_memory.py crates/udsnorm/out/udsnorm
 
 The built program, by each of its jobs over each log of examples/, two small sessions and a long log, and with words that
-it only answers: whichever growth is refused, it ends with status 5 and has written a front of what it writes otherwise.
+it only answers: whichever growth is refused, it ends with status 5 and has written a front of what it writes otherwise. Of
+a comparison it says which log it was reading.
 Each call of the libraries that takes memory, over three sessions, by the tests of the crate `refused_memory`: a call that
 is refused memory says so and has written a front of its text, and the same call made again gives what it gives otherwise.
 
@@ -20,6 +21,7 @@ import subprocess
 import sys
 import tempfile
 from collections import Counter
+from itertools import groupby
 from pathlib import Path
 
 from refuser import GROWTH, Refuser
@@ -29,9 +31,10 @@ EXAMPLES = TESTS.parent / "examples"
 CALLS = TESTS.parent / "crates" / "refused_memory"
 
 MEMORY = 5
-# What the program says of a growth that is refused: over one log, and over two in the order in which it comes.
-TOLD = [b"out of memory\n"]
-TOLD_OF_TWO = [*TOLD, b"left: out of memory\n", b"right: out of memory\n"]
+# What the program says of a growth that is refused: in its words or over one log, and over each of two.
+TOLD = b"out of memory\n"
+TOLD_LEFT = b"left: " + TOLD
+TOLD_RIGHT = b"right: " + TOLD
 MOST_GROWTHS = 1000
 
 # How many growths each call of the libraries has over each session of the crate.
@@ -47,42 +50,49 @@ explain          2      0     2
 compare         10      8    13
 """
 
-# How many growths each job has over each log, apart from those of its words; compare over the log and vin.log.
+# How many growths each job has over each log, apart from those of its words. A log is compared with vin.log, and where
+# identifiers stand beside it with its canonical log: compare has the growths that list has over the left log, and then those
+# over the right one.
 JOB_GROWTHS = """
-                       normalise  list  explain  compare
-both-directions                3     8        3       13
-candump-any                    0     5        0       10
-candump-fd                     1     8        1       13
-candump-marks                  2     7        2       12
-extended-identifiers           0     2        0        7
-first                          0     2        0        7
-lost-frame                     2     6        2       11
-pending                        4     8        2       13
-refused                        0     2        0        2
-single-frames                  0     6        0       11
-vin-fd-crlf                    0     3        0        8
-vin                            2     5        2       10
-stray                          2     4        0        9
-both                           2     5        2       10
-long                           0     -        0        -
+                                                       normalise  list  explain  compare
+both-directions                                                3     8        3       13
+candump-any                                                    0     5        0       10
+candump-fd                                                     1     8        1       13
+candump-marks                                                  2     7        2       12
+extended-identifiers                                           0     2        0        7
+extended-identifiers --tester 18DA10F1 --unit 18DAF110         2     7        2       14
+first                                                          0     2        0        7
+lost-frame                                                     2     6        2       11
+pending                                                        4     8        2       13
+refused                                                        0     2        0        2
+single-frames                                                  0     6        0       11
+vin-fd-crlf                                                    0     3        0        8
+vin                                                            2     5        2       10
+stray                                                          2     4        0        9
+both                                                           2     5        2       10
+long                                                           0     -        0        -
 """
 
 # How many growths words of the command line have, and how many of them are swallowed inside the parser: the answer is then the
 # same. Most where it looks for words to suggest. A file that is missing is told before a job begins.
 WORD_GROWTHS = """
-                           growths  swallowed
-normalise missing               72          1
-list missing                    72          1
-explain missing                 72          1
-compare missing missing         83          1
---help                          79          1
-list --help                    114          1
-lis                             79         13
-list --limi 1                   93         11
-list --limit x                  64          1
-compare a                      103          1
-list --tester 7E                69          1
-list --tester 800               69          1
+                                                           growths  swallowed
+normalise missing                                               72          1
+list missing                                                    72          1
+explain missing                                                 72          1
+compare missing missing                                         83          1
+normalise --tester 18DA10F1 --unit 18DAF110 missing             86          1
+list --tester 18DA10F1 --unit 18DAF110 missing                  86          1
+explain --tester 18DA10F1 --unit 18DAF110 missing               86          1
+compare --tester 18DA10F1 --unit 18DAF110 missing missing       97          1
+--help                                                          79          1
+list --help                                                    114          1
+lis                                                             79         13
+list --limi 1                                                   93         11
+list --limit x                                                  64          1
+compare a                                                      103          1
+list --tester 7E                                                69          1
+list --tester 800                                               69          1
 """
 
 passed = 0
@@ -127,29 +137,40 @@ LOGS = {
 }
 
 
-def words_refused(program, refuser, name, words, growths, swallowed):
-    """Whichever growth is refused, the program says so, and has written a front of what it writes with ample memory. Of a
-    comparison it says so without a side, then of the left log and then of the right one. The parser swallows this
-    many growths: its answer is the same."""
+def told_of_each(program, refuser, words):
+    """What the program says where each growth in turn is refused: that it was, after a front of what it writes with ample
+    memory, or nothing (None) where its answer is that of ample memory. Any other answer stands there as it is."""
     done = subprocess.run([program, *words], capture_output=True, timeout=60)
     ample = done.returncode, done.stdout, done.stderr
-    told = TOLD_OF_TWO if "compare" in words else TOLD
-    same_answers = 0
+    told = []
     for growth in range(1, MOST_GROWTHS):
         status, output, fault, is_refused = refuser.run(program, words, GROWTH, growth)
+        answer = status, output[:100], fault
+        is_ample = (status, output, fault) == ample
         if not is_refused:
-            holds = (growth - 1, same_answers) == (growths, swallowed) and (status, output, fault) == ample
-            seen = (f"{growth - 1} growths", f"{same_answers} swallowed", status, output[:100], fault)
-            case(f"{name}, each of {growths} growths refused", holds, seen)
-            return
-        if status == MEMORY and fault in told and done.stdout.startswith(output):
-            told = told[told.index(fault) :]
-            continue
-        if (status, output, fault) != ample:
-            case(f"{name}, growth {growth} refused", False, (status, output[:100], fault))
-            return
-        same_answers += 1
-    case(f"{name} comes to an end of its growths", False, MOST_GROWTHS)
+            return told if is_ample else [*told, answer]
+        is_front = status == MEMORY and done.stdout.startswith(output)
+        told.append(None if is_ample else fault if is_front else answer)
+    return told
+
+
+def words_refused(program, refuser, name, words, begun, later=()):
+    """The growths of the words come first, of which the parser swallows some; then those of the job, with what is told of
+    each."""
+    growths, swallowed = begun["growths"], begun["swallowed"]
+    told = told_of_each(program, refuser, words)
+    of_words = Counter({TOLD: growths - swallowed, None: swallowed})
+    holds = Counter(told[:growths]) == of_words and told[growths:] == [*later]
+    seen = [(what, len([*same])) for what, same in groupby(told)]
+    case(f"{name}, each of {growths + len(later)} growths refused", holds, seen)
+
+
+def told_of_job(job, growths):
+    """What is told of each growth of a job, by its row of the table."""
+    if job != "compare":
+        return [TOLD] * growths[job]
+    left = growths["list"]
+    return [TOLD_LEFT] * left + [TOLD_RIGHT] * (growths[job] - left)
 
 
 def the_program(program, refuser, folder):
@@ -158,15 +179,19 @@ def the_program(program, refuser, folder):
         logs[name] = folder / f"{name}.log"
         logs[name].write_bytes(log)
     of_words, of_jobs = table(WORD_GROWTHS), table(JOB_GROWTHS)
-    for words, expected in of_words.items():
-        words_refused(program, refuser, f"the words {words!r}", words.split(), **expected)
-    case("the table has each log", set(of_jobs) == set(logs), sorted(set(of_jobs) ^ set(logs)))
-    for name in sorted(set(of_jobs) & set(logs)):
-        for job, growths in of_jobs[name].items():
-            files = [logs[name], logs["vin"]] if job == "compare" else [logs[name]]
-            begun = of_words[" ".join([job, *["missing"] * len(files)])]
-            words = [job, *map(str, files)]
-            words_refused(program, refuser, f"{job} of {name}", words, begun["growths"] + growths, begun["swallowed"])
+    for words, begun in of_words.items():
+        words_refused(program, refuser, f"the words {words!r}", words.split(), begun)
+    named = {row.split()[0] for row in of_jobs}
+    case("the table has each log", named == set(logs), sorted(named ^ set(logs)))
+    for row, growths in of_jobs.items():
+        name, *options = row.split()
+        left = logs[name]
+        right = left.with_suffix(".canonical") if options else logs["vin"]
+        for job in growths:
+            files = [left, right] if job == "compare" else [left]
+            begun = of_words[" ".join([job, *options, *["missing"] * len(files)])]
+            words = [job, *options, *map(str, files)]
+            words_refused(program, refuser, f"{job} of {row}", words, begun, told_of_job(job, growths))
 
 
 def build_calls():

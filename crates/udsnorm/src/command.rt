@@ -42,8 +42,8 @@ the same canonical log exactly if they have the same exchanges and stray message
 A log that holds neither identifier has an empty canonical log, and the status is 0. The last
 line of `udsnorm explain` then says `frames 0`.
 
-Exit status: 0 done, 2 wrong words, 3 the log is refused, 4 reading or writing failed,
-5 out of memory.
+Exit status: 0 done, 2 wrong words, 3 the log is refused,
+4 a file can't be opened, or reading or writing failed, 5 out of memory.
 
 Example: udsnorm normalise recorded.log > canonical.log";
 
@@ -54,8 +54,8 @@ stray message outside of any exchange.
 A log that holds neither identifier has no such line, and the status is 0. The last line of
 `udsnorm explain` then says `frames 0`.
 
-Exit status: 0 done, 2 wrong words, 3 the log is refused, 4 reading or writing failed,
-5 out of memory.
+Exit status: 0 done, 2 wrong words, 3 the log is refused,
+4 a file can't be opened, or reading or writing failed, 5 out of memory.
 
 Example: udsnorm list --tester 7E1 --unit 7E9 recorded.log";
 
@@ -65,8 +65,8 @@ Each line names the line of the log. The last line counts what the log has.
 Where it says `frames 0`, the log holds neither identifier: `normalise` and `list` write
 nothing of it, with status 0.
 
-Exit status: 0 done, 2 wrong words, 3 the log is refused, 4 reading or writing failed,
-5 out of memory.
+Exit status: 0 done, 2 wrong words, 3 the log is refused,
+4 a file can't be opened, or reading or writing failed, 5 out of memory.
 
 Example: udsnorm explain recorded.log";
 

@@ -8,7 +8,8 @@
 //! ```
 //!
 //! Without words it writes the canonical log of standard input. The exit status tells how it went: 0 done or the same,
-//! 1 different, 2 wrong words, 3 a log is refused, 4 a read or a write failed, 5 memory was refused.
+//! 1 different, 2 wrong words, 3 a log is refused, 4 a file can't be opened, or reading or writing failed, 5 memory was
+//! refused.
 #![tactic(auto)]
 
 ghost use Rattle.std.specs.Prelude.{◌≡◌};
