@@ -1,4 +1,4 @@
-//! From a source to a target.
+//! A log written as its canonical log.
 ghost use Rattle.std.specs.Prelude.{◌≡◌, ℕ, ◌+◌, ◌-◌, ◌^◌, ◌<◌, ◌≤◌, List, ◌++◌, length, Option, OnOk, IfOk};
 ghost use Rattle.can_log.specs.Dir.{Message};
 ghost use Rattle.uds_exchange.specs.Meaning.{meaning, flattened};
@@ -61,7 +61,8 @@ pub fn normalise<R: Source, W: Target>(
     ensures certificate { R.tells reader.old → W.tells writer.old → (log : List ℕ)
         → BeginsAs (R.front reader.old) (config.now.max_bytes + 1) log → IfOk result (λ summary. Certifies MESSAGE_LIMIT config.now log summary) }
 
-    // Nothing is asked for past what refuses the log: at each read nothing that had been given did.
+    // Reading stops within one piece: of all bytes given but the last 4,096 none refuses the log, and of all where a read
+    // failed.
     ensures near { R.tells reader.old → (log : List ℕ) → BeginsAs (R.front reader.old) (config.now.max_bytes + 1) log
         → ReadsWhile (IsNotRefusedWithin MESSAGE_LIMIT config.now log) (R.given reader.new - R.given reader.old) (R.failures reader.old) (R.failures reader.new) }
 

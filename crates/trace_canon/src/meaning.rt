@@ -39,7 +39,8 @@ pub fn meaning_of<R: Source>(
     ensures answer { R.tells reader.old → (log : List ℕ)
         → BeginsAs (R.front reader.old) (config.now.max_bytes + 1) log → GivesMeaning MESSAGE_LIMIT config.now log result }
 
-    // Nothing is asked for past what refuses the log: at each read nothing that had been given did.
+    // Reading stops within one piece: of all bytes given but the last 4,096 none refuses the log, and of all where a read
+    // failed.
     ensures near { R.tells reader.old → (log : List ℕ) → BeginsAs (R.front reader.old) (config.now.max_bytes + 1) log
         → ReadsWhile (IsNotRefusedWithin MESSAGE_LIMIT config.now log) (R.given reader.new - R.given reader.old) (R.failures reader.old) (R.failures reader.new) }
 
