@@ -290,8 +290,8 @@ def sent_in_each_style(program, length, size):
 
 
 def is_its_own(program, length, lines):
-    """The canonical log of a message has so many lines and is its own at a limit of its length, where the message is listed;
-    with a byte less it is too long."""
+    """The canonical log of a message has this number of lines and is its own at a limit of its length, where the message is
+    listed; with a byte less it is too long."""
     message = message_of(length)
     canonical = recorded(CANONICAL, message)
     at_limit = taken(program, canonical, ["--limit", str(len(canonical))])

@@ -78,7 +78,7 @@ def log_of(lines):
 
 
 def stamped(number, frame):
-    """The line of a frame before which stand so many others, a millisecond each."""
+    """The line of a frame after this number of others, a millisecond each."""
     return f"({number // 1000:010d}.{number % 1000:03d}000) can0 {frame}\n".encode()
 
 

@@ -11,7 +11,7 @@ use trace_io::{
     Endless, FailsAfter, FailsAt, FullAfter, Reading, Short, Source, Target, Writing, write_all,
 };
 
-/// Reads of so many bytes, what each answers with the buffer afterwards, and what is counted.
+/// Reads, each with room for a number of bytes, what it answers with the buffer afterwards, and what is counted.
 const FAILS_AT_THE_SECOND_READ: &str = "\
 three bytes, and a failure between them
 read 2: Ok(2) 6162
@@ -300,7 +300,7 @@ fn assert_reads<R: Source>(
     Ok(())
 }
 
-/// Tells what is answered to a read of so many bytes, and the buffer, which was all zeros.
+/// Tells what is answered to a read with room for this number of bytes, and the buffer, which was all zeros.
 fn push_read<R: Source>(
     rt: &impl Abort,
     alloc: Global,

@@ -332,7 +332,7 @@ fn no_frame_has_another_length(rt: HostRuntime) -> Result<(), Fail> {
     Ok(())
 }
 
-/// Bytes so many are no frame, whatever their head.
+/// Bytes of this number are no frame, whatever their head.
 fn assert_has_no_frame(rt: &impl Abort, alloc: Global, len: usize) -> Result<(), Fail> {
     let (short, long) = (len.saturating_sub(2), len.saturating_sub(1));
     let heads = format!(in alloc; "00{short:02X} 00{long:02X} {HEADS}")?;

@@ -312,8 +312,8 @@ impl MessageSink for Recorder {
     }
 }
 
-/// Messages, and a sink with room for so many; after each message the bytes held and the number of messages put, or why there
-/// is none, and the same at the end; and the messages as they were put.
+/// Messages, and a sink with room for a number of them; after each message the bytes held and the number of messages put, or
+/// why there is none, and the same at the end; and the messages as they were put.
 const STEPS: &str = "\
 a pending reply before the answer and one after it
 room 10

@@ -23,7 +23,7 @@ use Rattle.can_log.proofs.SmallFields.{weaken, Giving, giving_law, giving_begins
 abbrev stamp : List ℕ → List ℕ → Stamp
 stamp seconds micros = record { seconds = seconds; micros = micros }
 
--- what is read behind the seconds, and behind the point
+-- what is read after the seconds, and after the point
 abbrev micros_at : List ℕ → Reader Stamp
 micros_at seconds = do
   micros ← run_at Digit 6 6
@@ -408,7 +408,7 @@ end_alone P h v text (b ∷ rest) form after = absurd after
 abbrev parts : Stamp → List ℕ → Body → Parts
 parts time identifier body = record { seconds = time.seconds; micros = time.micros; identifier = identifier; body = body }
 
--- what is read behind the body, of a line with these parts
+-- what is read after the body, of a line with these parts
 abbrev ending_at : Parts → Reader Parts
 ending_at p = do
   mark_at
@@ -441,7 +441,7 @@ ending_follows p q text rest f after =
           subst (λ (z : List ℕ). Follows AfterFrame (z ++ (f.back ++ rest))) (sym none) (end_alone AfterFrame (inr refl) f.second.0 f.back rest f.second.1 after)
     ])
 
--- what is read behind the `#` of an identifier, before it, and behind the time
+-- what is read after the `#` of an identifier, before it, and after the time
 abbrev body_on_at : Stamp → List ℕ → Reader Parts
 body_on_at time identifier = body_at >>= λ body. ending_at (parts time identifier body)
 

@@ -73,7 +73,7 @@ byte_law c = record {
 pub byte_begins : (c : ℕ) → CanEnd (OneByte c) 1 []
 byte_begins c = record { more = c ∷ []; value = tt; few = omega arith; form = refl }
 
--- the law of a byte and what is read behind it
+-- the law of a byte and what is read after it
 pub behind_byte : (c : ℕ) {W : Type 0} {next : Reader W} {Next : W → List ℕ → Type 0} {may_follow : ℕ → Type 0} {n m : ℕ}
     → Law next Next may_follow n → CanEnd Next m [] → (most : ℕ) → 1 + m ≤ most → n ≤ most
     → Law (byte_at c >> next) (Then (OneByte c) (λ _. Next)) may_follow most

@@ -2,7 +2,7 @@
 use Rattle.std.specs.Prelude.{◌≡◌, ℕ, ◌-◌, ◌≤◌, List, ◌++◌, length, take, drop, replicate}
 use Rattle.std.proofs.Common.{length-take-le, take-append-drop, sym, ap, ◌∙◌, arith}
 
--- so many zeros
+-- this number of zeros
 abbrev pub zeros : ℕ → List ℕ
 zeros n = replicate n 0
 

@@ -47,7 +47,7 @@ LinesAreLog = (lines : List (List ℕ)) (meanings : List (Option Stamped)) → L
 abbrev pub RefusedLines : Type 0
 RefusedLines = (log : List ℕ) (line column : ℕ) (place : IsRefusedIn log line column) → log_lines log ≡ place.lines ++ log_lines place.rest
 
--- The first line of that rest is no line, and the refused byte is in it, or is the one after it.
+-- Where bytes are refused, the first of their lines is no line, and the refused byte is in it, or is the one after it.
 abbrev pub RefusedLineIsNoLine : Type 0
 RefusedLineIsNoLine = (rest : List ℕ) (column : ℕ) (line : List ℕ) (later : List (List ℕ)) → IsRefusedRest rest column → log_lines rest ≡ line ∷ later
     → IsNoLine line × (column ≤ length line + 1)

@@ -157,7 +157,7 @@ pub fn refused_lines()
     ensures { RefusedLines }
 {}
 
-/// The first line of that rest is no line, and the refused byte is in it, or is the one after it.
+/// Where bytes are refused, the first of their lines is no line, and the refused byte is in it, or is the one after it.
 pub fn refused_line_is_no_line()
     ensures { RefusedLineIsNoLine }
 {}

@@ -23,8 +23,8 @@ use std::marker::Model;
 pub enum Scan {
     /// The whole piece was taken, and no line ended.
     NeedMore,
-    /// The first `used` bytes of the piece were taken, the last of them the line feed that ends line number `line`.
-    /// The rest of the piece is handed in again. A blank line is `None`.
+    /// Line number `line` was taken. Of a piece the first `used` bytes were, the last of them its line feed; the rest of the
+    /// piece is handed in again. At the end of the log the line has no line feed, and `used` is 0. A blank line is `None`.
     Line {
         used: usize,
         line: u64,

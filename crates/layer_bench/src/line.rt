@@ -3,7 +3,7 @@
 use arrayvec::ArrayVec;
 use can_log::{Id, LONGEST_LINE, LineClock, append_line};
 
-/// A clock can count so many milliseconds up from 0.
+/// The milliseconds that a clock can count up from 0.
 const MOST_LINES: u64 = 9_999_999_999_999;
 
 /// The first and the last byte of each of the first `count` lines, added up. The lines of the two sides take turns, and each

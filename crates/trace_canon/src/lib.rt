@@ -22,9 +22,11 @@
 //! (0000000000.004000) can0 7E8#2246313233343536
 //! ```
 //!
-//! One way runs through the crate. [`lines`] reads pieces and hands on what each line means; [`receiver`] knows the two
-//! directions, receives their frames, counts, and hands on what each frame did; [`ordering`] puts the messages in order,
-//! and [`writer`] writes their canonical lines.
+//! One way runs through the crate. `lines` reads pieces and hands on what each line means; `receiver` knows the two
+//! directions, receives their frames, counts, and hands on what each frame did; `ordering` puts the messages in order,
+//! and `writer` writes their canonical lines. The other calls read a log on the same way as far as the receiver:
+//! [`meaning_of`] and [`list`] tell what it means, [`explain`] which frames were dropped and which receptions ended, and
+//! [`compare`] whether two logs mean the same.
 #![tactic(auto)]
 
 mod block;

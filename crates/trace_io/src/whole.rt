@@ -5,7 +5,8 @@ ghost use Rattle.trace_io.specs.Written.{HasWritten};
 
 use crate::device::{DeviceFault, Target};
 
-/// How often a target may have failed before a text is written to it. No run of an engine reaches it.
+/// How often a target may have failed before a text is written to it. No run of an engine writes beyond it: each begins at no
+/// more, and ends with its first failure.
 pub const MOST_FAILURES: u64 = 1 << 62;
 
 /// Writes all of the text, and nothing where that is empty. A target that fails has taken a part of it.

@@ -14,7 +14,7 @@ MeaningIsKept = (M : List Message) → meaning (flattened (meaning M)) ≡ meani
 abbrev pub NoneIsLost : Type 0
 NoneIsLost = (M : List Message) → length (flattened (meaning M)) + length (removed_messages M) ≡ length M
 
--- a meaning has no message that the list has not: what passes of each message of the list passes of those of the meaning
+-- a meaning has no message that the list has not: what holds of each message of a list holds of each message of its meaning
 abbrev pub NoneIsMadeUp : Type 0
 NoneIsMadeUp = (passes : Message → Bool) (M : List Message)
     → list_all passes M ≡ true → list_all passes (flattened (meaning M)) ≡ true

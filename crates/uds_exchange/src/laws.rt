@@ -23,7 +23,7 @@ pub fn none_is_lost()
     ensures { NoneIsLost }
 {}
 
-/// What passes of each message of a list passes of each message of its meaning.
+/// What holds of each message of a list holds of each message of its meaning.
 pub fn none_is_made_up()
     ensures { NoneIsMadeUp }
 {}

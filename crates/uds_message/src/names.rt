@@ -10,8 +10,8 @@ struct Row {
     has_sub_function: bool,
 }
 
-/// The name of a service by its identifier, in the spelling of ISO 14229-1 without blanks; `None` where the table
-/// has no such service.
+/// The name of a service by its identifier, in this project's spelling, which has neither blanks nor hyphens; `None` where
+/// the table has no such service.
 pub fn service_name(sid: u8) -> Option<&'static str>
     ensures { option_map (λ name. name.now) result ≡ option_map (λ row. row.name) (service_row sid) }
 {
@@ -88,8 +88,8 @@ fn without_sub_function(name: &'static str) -> Row
     }
 }
 
-/// The name of a negative response code, in the spelling of ISO 14229-1 without blanks; `None` where the table has no
-/// such code.
+/// The name of a negative response code, in this project's spelling, which has neither blanks nor hyphens; `None` where the
+/// table has no such code.
 pub fn code_name(code: u8) -> Option<&'static str>
     ensures { option_map (λ name. name.now) result ≡ name_of_code code }
 {

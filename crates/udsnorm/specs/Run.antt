@@ -23,7 +23,7 @@ EngineAnswers job.List limit settings log given answer old new = Lists limit set
 EngineAnswers job.Explain limit settings log given answer old new = AnswersExplain limit settings log given answer old new
 EngineAnswers job.Compare limit settings log given answer old new = ⊥
 
--- how the engine that does this job reads: only while nothing that was given refuses the log
+-- how near to what refuses the log the engine that does this job stops reading
 abbrev pub EngineReads : Job → ℕ → Settings → List ℕ → ℕ → ℕ → ℕ → Type 0
 EngineReads job.Normalise limit settings log given failures failures_now = ReadsWhile (IsNotRefusedWithin limit settings log) given failures failures_now
 EngineReads job.List limit settings log given failures failures_now = ReadsWhile (IsNotRefusedWithin limit settings log) given failures failures_now

@@ -44,7 +44,7 @@ pub fn run_one<R: Source, W: Target, E: Target>(
         × (R.tells input.old → W.tells out.old → (log : List ℕ) → BeginsAs (R.front input.old) (plan.now.config.max_bytes + 1) log
         → EngineAnswers plan.now.job MESSAGE_LIMIT plan.now.config log (R.given input.new - R.given input.old) answer (W.written out.old) (W.written out.new)) }
 
-    // Nothing is asked for past what refuses the log.
+    // Reading stops within one piece of what refuses the log.
     ensures near { R.tells input.old → (log : List ℕ) → BeginsAs (R.front input.old) (plan.now.config.max_bytes + 1) log
         → EngineReads plan.now.job MESSAGE_LIMIT plan.now.config log (R.given input.new - R.given input.old) (R.failures input.old) (R.failures input.new) }
 
@@ -136,7 +136,7 @@ pub fn run_two<A: Source, B: Source, W: Target, E: Target>(
     requires err { IsLowCount (E.failures err.old) }
 
     // The status is that of the comparison's answer, which after an `Ok` is 4 only where the output failed; and the output took
-    // its line. Of the right log nothing is read where the left one has no meaning.
+    // its line. After a fault of the left log nothing of the right one was read.
     ensures run { (answer : Result ComparisonValue CompareFaultValue) × IsStatusOfTwo answer result
         × OnOk answer (result ≡ 4 → W.failures out.old < W.failures out.new)
         × (W.tells out.old → TookLine answer result (W.written out.old) (W.written out.new))
@@ -145,7 +145,7 @@ pub fn run_two<A: Source, B: Source, W: Target, E: Target>(
         → Compares MESSAGE_LIMIT plan.now.config one other answer)
         × ((fault : FaultValue) → answer ≡ Err (CompareFault.Left fault) → right.new ≡ right.old) }
 
-    // Nothing is asked for past what refuses a log.
+    // Reading stops within one piece of what refuses a log.
     ensures left_near { A.tells left.old → (one : List ℕ) → BeginsAs (A.front left.old) (plan.now.config.max_bytes + 1) one
         → ReadsWhile (IsNotRefusedWithin MESSAGE_LIMIT plan.now.config one) (A.given left.new - A.given left.old) (A.failures left.old) (A.failures left.new) }
     ensures right_near { B.tells right.old → (other : List ℕ) → BeginsAs (B.front right.old) (plan.now.config.max_bytes + 1) other
