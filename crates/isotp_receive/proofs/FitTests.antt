@@ -112,7 +112,7 @@ module _ (s : StandingReception) (micros sequence_number can_dl : ℕ) where
 
 -- a frame that completes a message ends nothing
 told-last : (d : Dir) (s : StandingReception) (fit : Fit) (sequence_number : ℕ) (bytes m : List ℕ)
-    → (on_fit d s fit sequence_number bytes).told ≡ message m → (on_fit d s fit sequence_number bytes).ended ≡ None
+    → (on_fit d s fit sequence_number bytes).verdict ≡ message m → (on_fit d s fit sequence_number bytes).ended ≡ None
 told-last d s last sequence_number bytes m h = refl
 told-last d s one_more sequence_number bytes m h = absurd (cc)
 told-last d s late sequence_number bytes m h = absurd (cc)
@@ -120,6 +120,6 @@ told-last d s wrong_number sequence_number bytes m h = absurd (cc)
 told-last d s wrong_length sequence_number bytes m h = absurd (cc)
 
 pub last-ends-nothing : (d : Dir) (o : Option StandingReception) (micros sequence_number can_dl : ℕ) (bytes m : List ℕ)
-    → (on_consecutive d o micros sequence_number can_dl bytes).told ≡ message m → (on_consecutive d o micros sequence_number can_dl bytes).ended ≡ None
+    → (on_consecutive d o micros sequence_number can_dl bytes).verdict ≡ message m → (on_consecutive d o micros sequence_number can_dl bytes).ended ≡ None
 last-ends-nothing d None micros sequence_number can_dl bytes m h = refl
 last-ends-nothing d (Some s) micros sequence_number can_dl bytes m h = told-last d s (fit_of s micros sequence_number can_dl) sequence_number bytes m h

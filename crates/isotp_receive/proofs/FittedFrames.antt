@@ -160,7 +160,7 @@ module _ (limit : ℕ) (T : List Entry) (e : Entry) (i k sequence_number can_dl 
       ∙ ap (λ x. refused x reason.NextLength) (ends-by m cause.Length)
 
   pub kept : OnTime → Fits → k + 1 < o.count
-      → verdict limit T e ≡ record { ended = None; told = stored }
+      → verdict limit T e ≡ record { ended = None; verdict = stored }
   kept on fits less =
       let m = meets in
       let tests = m.fits_to fits in
@@ -170,7 +170,7 @@ module _ (limit : ℕ) (T : List Entry) (e : Entry) (i k sequence_number can_dl 
   -- ---- and it has a row
 
   last-row : (whole : List ℕ) → Delivers limit (T ++ e ∷ []) (length T) e.dir whole → (a : EventValue) × HasVerdict limit T e a
-  last-row whole (in_frames c) = (record { ended = None; told = message whole }, last_frame whole c)
+  last-row whole (in_frames c) = (record { ended = None; verdict = message whole }, last_frame whole c)
   last-row whole (in_one_frame one) =
       let is_e : one.entry ≡ e = get-same (T ++ e ∷ []) (length T) one.entry e one.stands (get-here T [] e) in
       let both : single whole ≡ consecutive sequence_number can_dl bytes = sym one.kind ∙ ap (role e.dir) is_e ∙ goes in
@@ -206,7 +206,7 @@ module _ (limit : ℕ) (T : List Entry) (e : Entry) (i k sequence_number can_dl 
                 | inl b ↦ (_, stored_frame (so fit.one_more (m.time_from t, m.fits_from number f, m.more_from b)))
                 | inr b ↦ (let whole = take m.st.len (m.st.bytes ++ bytes) in
                     let is = fits-so m fit.last (is-last m.st e.micros sequence_number can_dl t q f b) in
-                    last-row whole ((message-delivers limit T e whole).0 (ap (λ a. a.told) is)))
+                    last-row whole ((message-delivers limit T e whole).0 (ap (λ a. a.verdict) is)))
               ]
             ])
       ]
