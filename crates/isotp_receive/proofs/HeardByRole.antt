@@ -56,18 +56,18 @@ placed-overflow n d (Some s) = elim (cases_Bool (s.taken == 0)) [ inl e ↦ rw e
 placed-first : (n limit len : ℕ) → placed n (cond (nat_le len limit) began (dropped (as_reason.TooLong len))) ≡ []
 placed-first n limit len = elim (cases_Bool (nat_le len limit)) [ inl e ↦ rw e refl | inr e ↦ rw e refl ]
 
--- what a reading of the direction's own frame tells
-placed-reading : (n limit : ℕ) (d : Dir) (own others : Option StandingReception) (line micros : ℕ) (x : Result Layout PduFault)
+-- what the layout of a frame of the direction itself tells
+placed-layout : (n limit : ℕ) (d : Dir) (own others : Option StandingReception) (line micros : ℕ) (x : Result Layout PduFault)
     → placed n (on_layout limit d own others micros x).verdict ≡ at_place n (completed own micros (own_role line micros x))
-placed-reading n limit d own others line micros (Err f) = refl
-placed-reading n limit d own others line micros (Ok (layout.single m)) = refl
-placed-reading n limit d own others line micros (Ok (layout.first len rx_dl bytes)) = placed-first n limit len
-placed-reading n limit d None others line micros (Ok (layout.consecutive sequence_number can_dl bytes)) = refl
-placed-reading n limit d (Some s) others line micros (Ok (layout.consecutive sequence_number can_dl bytes)) =
+placed-layout n limit d own others line micros (Err f) = refl
+placed-layout n limit d own others line micros (Ok (layout.single m)) = refl
+placed-layout n limit d own others line micros (Ok (layout.first len rx_dl bytes)) = placed-first n limit len
+placed-layout n limit d None others line micros (Ok (layout.consecutive sequence_number can_dl bytes)) = refl
+placed-layout n limit d (Some s) others line micros (Ok (layout.consecutive sequence_number can_dl bytes)) =
     placed-fit n d s (fit_of s micros sequence_number can_dl) sequence_number bytes
-placed-reading n limit d own others line micros (Ok (layout.flow_control Continue)) = placed-pace n others
-placed-reading n limit d own others line micros (Ok (layout.flow_control Wait)) = placed-pace n others
-placed-reading n limit d own others line micros (Ok (layout.flow_control Overflow)) = placed-overflow n (other_direction d) others
+placed-layout n limit d own others line micros (Ok (layout.flow_control Continue)) = placed-pace n others
+placed-layout n limit d own others line micros (Ok (layout.flow_control Wait)) = placed-pace n others
+placed-layout n limit d own others line micros (Ok (layout.flow_control Overflow)) = placed-overflow n (other_direction d) others
 
 nothing-else : (o : Option StandingReception) (micros : ℕ) (x : Result Layout PduFault) → completed o micros (other_role x) ≡ []
 nothing-else o micros (Err f) = refl
@@ -84,6 +84,6 @@ pub told-by-role : (limit : ℕ) (d : Dir) (n : ℕ) (past : List Entry) (e : En
 unfolding verdict role
 told-by-role limit d n past e =
     elim (cases_Bool (same_direction d e.dir)) [
-      | inl q ↦ rw q (rw (same d e.dir q) (placed-reading n limit e.dir (stands limit e.dir past) (stands limit (other_direction e.dir) past) e.line e.micros (layout_of e.frame)))
+      | inl q ↦ rw q (rw (same d e.dir q) (placed-layout n limit e.dir (stands limit e.dir past) (stands limit (other_direction e.dir) past) e.line e.micros (layout_of e.frame)))
       | inr q ↦ rw q (ap (at_place n) (sym (nothing-else (stands limit d past) e.micros (layout_of e.frame))))
     ]

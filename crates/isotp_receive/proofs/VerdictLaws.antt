@@ -33,7 +33,7 @@ use Rattle.isotp_receive.proofs.DeliversLaws.{message-delivers}
 use Rattle.isotp_receive.proofs.FittedFrames as fitted
 use Rattle.isotp_receive.proofs.FittedFrames.{on-own, ended-is}
 
--- ---- the verdict, by the reading of the frame
+-- ---- the verdict, by the layout of the frame
 
 verdict-by : (limit : ℕ) (T : List Entry) (e : Entry) (x : Result Layout PduFault) → layout_of e.frame ≡ x
     → verdict limit T e ≡ on_layout limit e.dir (stands limit e.dir T) (stands limit (other_direction e.dir) T) e.micros x
