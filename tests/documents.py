@@ -146,7 +146,7 @@ def counts(cases):
 
 def numbers(cases, document, sentence, counted):
     """A sentence of a document, with a group for each number, says what was counted."""
-    found = re.search(sentence, document.read_text())
+    found = re.search(sentence, document.read_text().replace("\n", " "))
     told = [int(number) for number in found.groups()] if found else None
     name = f"{name_of(document)}: {found[0] if found else sentence}"
     cases.report(name, [] if told == counted else [f"counted are {counted}"])
@@ -180,7 +180,6 @@ def planted(cases):
             r"Of the (\d+) bodies of the first round, over `trace_canon`, (\d+) are refused and (\d+) pass",
             [wrong + right, wrong, right],
         ),
-        (ATTACKS, r"trials for the (\d+) bodies", [wrong + right]),
         (ATTACKS, r"tried (\d+) more, over `udsnorm` too", [again + last]),
         (ATTACKS, r"All (\d+) for `trace_canon` are refused, and of (\d+) for `udsnorm` (\d+)", [again, last, of_program]),
         (PROVED, r"\| `trace_canon` \| (\d+) \| (\d+) \| (\d+) \|", [wrong + right + again, wrong + again, right]),

@@ -41,7 +41,7 @@ kept-first limit len h = elim (cases_Bool (nat_le len limit)) [
 ]
 
 turn-fit : (limit : ℕ) (d : Dir) (st : StandingReception) (micros sequence_number can_dl : ℕ) (bytes : List ℕ) (fit : Fit)
-    → fit_of st micros sequence_number can_dl ≡ fit → IsKept (on_fit d st fit sequence_number bytes).told
+    → fit_of st micros sequence_number can_dl ≡ fit → IsKept (on_fit d st fit sequence_number bytes).verdict
     → Turn limit (Some st) micros (consecutive sequence_number can_dl bytes)
 turn-fit limit d st micros sequence_number can_dl bytes one_more e h = t_more st sequence_number can_dl bytes refl e
 turn-fit limit d st micros sequence_number can_dl bytes last e h = t_last st sequence_number can_dl bytes refl e
@@ -50,7 +50,7 @@ turn-fit limit d st micros sequence_number can_dl bytes wrong_number e h = absur
 turn-fit limit d st micros sequence_number can_dl bytes wrong_length e h = absurd h
 
 turn-own : (limit : ℕ) (d : Dir) (own others : Option StandingReception) (line micros : ℕ) (r : Result Layout PduFault)
-    → (on_layout limit d own others micros r).ended ≡ None → IsKept (on_layout limit d own others micros r).told → Turn limit own micros (own_role line micros r)
+    → (on_layout limit d own others micros r).ended ≡ None → IsKept (on_layout limit d own others micros r).verdict → Turn limit own micros (own_role line micros r)
 turn-own limit d own others line micros (Err f) h k = absurd k
 turn-own limit d own others line micros (Ok (layout.single m)) h k = t_single m (not-ended _ d own h)
 turn-own limit d own others line micros (Ok (layout.first len rx_dl bytes)) h k = t_first _ (not-ended _ d own h) (kept-first limit len k)
@@ -62,7 +62,7 @@ turn-own limit d own others line micros (Ok (layout.flow_control s)) h k = t_no_
 
 -- ---- to the other one
 
-no-overflow : (d : Dir) (o : Option StandingReception) → (on_overflow d o).ended ≡ None → IsKept (on_overflow d o).told → ⊥
+no-overflow : (d : Dir) (o : Option StandingReception) → (on_overflow d o).ended ≡ None → IsKept (on_overflow d o).verdict → ⊥
 no-overflow d None h k = k
 no-overflow d (Some s) h k = elim (cases_Bool (s.taken == 0)) [
   | inl t ↦ (let e = rw t at h in cc)
@@ -70,7 +70,7 @@ no-overflow d (Some s) h k = elim (cases_Bool (s.taken == 0)) [
 ]
 
 turn-other : (limit : ℕ) (d : Dir) (own others o : Option StandingReception) (micros : ℕ) (r : Result Layout PduFault)
-    → (on_layout limit d own others micros r).ended ≡ None → IsKept (on_layout limit d own others micros r).told → Turn limit o micros (other_role r)
+    → (on_layout limit d own others micros r).ended ≡ None → IsKept (on_layout limit d own others micros r).verdict → Turn limit o micros (other_role r)
 turn-other limit d own others o micros (Err f) h k = t_no_part
 turn-other limit d own others o micros (Ok (layout.single m)) h k = t_no_part
 turn-other limit d own others o micros (Ok (layout.first len rx_dl bytes)) h k = t_no_part
@@ -79,7 +79,7 @@ turn-other limit d own others o micros (Ok (layout.flow_control Continue)) h k =
 turn-other limit d own others o micros (Ok (layout.flow_control Wait)) h k = t_continue_or_wait
 turn-other limit d own others o micros (Ok (layout.flow_control Overflow)) h k = absurd (no-overflow (other_direction d) others h k)
 
-pub turn : (limit : ℕ) (d : Dir) (past : List Entry) (e : Entry) → (verdict limit past e).ended ≡ None → IsKept (verdict limit past e).told
+pub turn : (limit : ℕ) (d : Dir) (past : List Entry) (e : Entry) → (verdict limit past e).ended ≡ None → IsKept (verdict limit past e).verdict
     → Turn limit (stands limit d past) e.micros (role d e)
 unfolding verdict role
 turn limit d past e h k =

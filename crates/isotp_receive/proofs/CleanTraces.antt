@@ -106,11 +106,11 @@ one-completed n d o micros overflow = refl
 one-completed n d o micros no_part = refl
 
 told-completed : (limit n : ℕ) (past : List Entry) (e : Entry)
-    → map {B = Message} (λ m. (e.dir, m)) (completed (stands limit e.dir past) e.micros (role e.dir e)) ≡ told_message e.dir (verdict limit past e).told
+    → map {B = Message} (λ m. (e.dir, m)) (completed (stands limit e.dir past) e.micros (role e.dir e)) ≡ told_message e.dir (verdict limit past e).verdict
 told-completed limit n past e =
     let by_role = rw (same-self e.dir) at (told-by-role limit e.dir n past e) in
     sym (one-completed n e.dir (stands limit e.dir past) e.micros (role e.dir e))
-    ∙ ap (map {B = Message} (λ x. (e.dir, x.1))) (sym by_role) ∙ placed-told n e.dir (verdict limit past e).told
+    ∙ ap (map {B = Message} (λ x. (e.dir, x.1))) (sym by_role) ∙ placed-told n e.dir (verdict limit past e).verdict
 
 -- ---- a frame with a clean verdict carries a message, or is idle
 
@@ -130,7 +130,7 @@ own-same d e own = elim (cases_Bool (same_direction d e.dir)) [
   | inr t ↦ absurd (none-own (layout_of e.frame) (rw t at own))
 ]
 
-own-or-idle : (limit : ℕ) (past : List Entry) (e : Entry) → (verdict limit past e).ended ≡ None → IsKept (verdict limit past e).told
+own-or-idle : (limit : ℕ) (past : List Entry) (e : Entry) → (verdict limit past e).ended ≡ None → IsKept (verdict limit past e).verdict
     → IsOwn (role e.dir e) ⊎ IsIdle (layout_of e.frame)
 unfolding role
 own-or-idle limit past e h k =
@@ -156,7 +156,7 @@ Steps limit T n past e d ps =
     Advanced limit T d n e (after limit (stands limit d past) e.micros (role d e)) ps (completed (stands limit d past) e.micros (role d e))
 
 module _ (limit : ℕ) (T : List Entry) (n : ℕ) (past es : List Entry) (e : Entry) (at : At T n e)
-    (ended : (verdict limit past e).ended ≡ None) (kept : IsKept (verdict limit past e).told)
+    (ended : (verdict limit past e).ended ≡ None) (kept : IsKept (verdict limit past e).verdict)
     (pending : Dir → List ℕ) (steps : (d : Dir) → Steps limit T n past e d (pending d))
     (rest : Completed limit T (suc n) (past ++ e ∷ []) es (λ d. (steps d).left)) where
   pairs-join : EachPair AreApart ((steps e.dir).out ++ rest.gs)
@@ -214,7 +214,7 @@ module _ (limit : ℕ) (T : List Entry) (n : ℕ) (past es : List Entry) (e : En
     gs = (steps e.dir).out ++ rest.gs;
     told = map-append {B = Message} (λ g. (g.dir, g.message)) (steps e.dir).out rest.gs
         ∙ ap (λ l. l ++ map {B = Message} (λ g. (g.dir, g.message)) rest.gs) ((steps e.dir).told_out ∙ told-completed limit n past e)
-        ∙ ap (λ l. told_message e.dir (verdict limit past e).told ++ l) rest.told;
+        ∙ ap (λ l. told_message e.dir (verdict limit past e).verdict ++ l) rest.told;
     each = AllByRecursion-append (IsTransfer limit T) (steps e.dir).out rest.gs (steps e.dir).each rest.each;
     pairs = pairs-join;
     others = others-join;

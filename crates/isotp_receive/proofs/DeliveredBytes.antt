@@ -25,7 +25,7 @@ module _ (limit : ℕ) (P : List ℕ → Type 0) (all : List Entry)
   Each : List Message → Type 0
   Each messages = AllByRecursion (λ (x : Message). P x.1) messages
 
-  told_each : (past : List Entry) (e : Entry) (later : List Entry) (told : VerdictValue) → all ≡ past ++ e ∷ later → (verdict limit past e).told ≡ told
+  told_each : (past : List Entry) (e : Entry) (later : List Entry) (told : VerdictValue) → all ≡ past ++ e ∷ later → (verdict limit past e).verdict ≡ told
       → Each (told_message e.dir told)
   unfolding Each
   told_each past e later (message m) parts is = (each past e later m parts ((message-delivers limit past e m).0 is), tt)
@@ -38,8 +38,8 @@ module _ (limit : ℕ) (P : List ℕ → Type 0) (all : List Entry)
   unfolding Each
   each_message past [] parts = tt
   each_message past (e ∷ rest) parts =
-      AllByRecursion-append (λ (x : Message). P x.1) (told_message e.dir (verdict limit past e).told) (messages_after limit (past ++ e ∷ []) rest)
-      (told_each past e rest (verdict limit past e).told parts refl)
+      AllByRecursion-append (λ (x : Message). P x.1) (told_message e.dir (verdict limit past e).verdict) (messages_after limit (past ++ e ∷ []) rest)
+      (told_each past e rest (verdict limit past e).verdict parts refl)
       (each_message (past ++ e ∷ []) rest (parts ∙ sym (append_assoc past (e ∷ []) rest)))
 
 -- ---- how many, and how long
@@ -54,7 +54,7 @@ told_few d (dropped reason) = omega arith
 few_after : (limit : ℕ) (past T : List Entry) → length (messages_after limit past T) ≤ length T
 few_after limit past [] = omega arith
 few_after limit past (e ∷ rest) =
-    let told = (verdict limit past e).told in
+    let told = (verdict limit past e).verdict in
     omega (arith, told_few e.dir told, few_after limit (past ++ e ∷ []) rest, length-append (told_message e.dir told) (messages_after limit (past ++ e ∷ []) rest))
 
 pub messages_are_few : MessagesAreFew

@@ -26,8 +26,8 @@ use Rattle.isotp_receive.proofs.HeardByRole.{completed, completed_by, at_place, 
 
 -- ---- what the verdict tells is what the frame completes
 
-told-at : (limit : ℕ) (T : List Entry) (e : Entry) → placed 0 (verdict limit T e).told ≡ at_place 0 (completed (stands limit e.dir T) e.micros (role e.dir e))
-told-at limit T e = ap (λ b. cond b (placed 0 (verdict limit T e).told) []) (sym (same-self e.dir)) ∙ told-by-role limit e.dir 0 T e
+told-at : (limit : ℕ) (T : List Entry) (e : Entry) → placed 0 (verdict limit T e).verdict ≡ at_place 0 (completed (stands limit e.dir T) e.micros (role e.dir e))
+told-at limit T e = ap (λ b. cond b (placed 0 (verdict limit T e).verdict) []) (sym (same-self e.dir)) ∙ told-by-role limit e.dir 0 T e
 
 placed-message : (t : VerdictValue) (m : List ℕ) → placed 0 t ≡ (0, m) ∷ [] → t ≡ message m
 placed-message (message x) m h = ap message (ap (λ p. p.1) (cons-head h))
@@ -181,12 +181,12 @@ completed-all limit T d e m (in_frames c) = completed-in limit T d e m c
 
 -- ---- both together
 
-pub delivers-there : (limit : ℕ) (T rest : List Entry) (e : Entry) (m : List ℕ) → (verdict limit T e).told ≡ message m → Delivers limit (T ++ e ∷ rest) (length T) e.dir m
+pub delivers-there : (limit : ℕ) (T rest : List Entry) (e : Entry) (m : List ℕ) → (verdict limit T e).verdict ≡ message m → Delivers limit (T ++ e ∷ rest) (length T) e.dir m
 delivers-there limit T rest e m h =
     let w = place-message (completed (stands limit e.dir T) e.micros (role e.dir e)) m (sym (told-at limit T e) ∙ ap (placed 0) h) in
     delivered limit T e.dir e rest m w.0 (role e.dir e) (stands limit e.dir T) refl refl w.1
 
-pub message-delivers : (limit : ℕ) (T : List Entry) (e : Entry) (m : List ℕ) → ((verdict limit T e).told ≡ message m) ↔ Delivers limit (T ++ e ∷ []) (length T) e.dir m
+pub message-delivers : (limit : ℕ) (T : List Entry) (e : Entry) (m : List ℕ) → ((verdict limit T e).verdict ≡ message m) ↔ Delivers limit (T ++ e ∷ []) (length T) e.dir m
 message-delivers limit T e m = (delivers-there limit T [] e m, from) where
-  from : Delivers limit (T ++ e ∷ []) (length T) e.dir m → (verdict limit T e).told ≡ message m
-  from h = placed-message (verdict limit T e).told m (told-at limit T e ∙ ap (at_place 0) (completed-all limit T e.dir e m h))
+  from : Delivers limit (T ++ e ∷ []) (length T) e.dir m → (verdict limit T e).verdict ≡ message m
+  from h = placed-message (verdict limit T e).verdict m (told-at limit T e ∙ ap (at_place 0) (completed-all limit T e.dir e m h))

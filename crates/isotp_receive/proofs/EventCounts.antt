@@ -71,7 +71,7 @@ none_counted p x xs none = elim (cases_Bool (p x)) [
 ]
 
 abbrev dropped_event : EventValue → Bool
-dropped_event event = is_dropped event.told
+dropped_event event = is_dropped event.verdict
 
 abbrev ended_event : EventValue → Bool
 ended_event event = is_some event.ended
@@ -97,7 +97,7 @@ none_ended (Some ended) is = absurd (cc)
 clean_drops_none : (limit : ℕ) (past T : List Entry) → EachClean limit past T → count_by dropped_event (events_after limit past T) ≡ 0
 clean_drops_none limit past [] clean = refl
 clean_drops_none limit past (e ∷ rest) clean =
-    count_none dropped_event (verdict limit past e) (events_after limit (past ++ e ∷ []) rest) (kept_is_not_dropped (verdict limit past e).told clean.0.kept)
+    count_none dropped_event (verdict limit past e) (events_after limit (past ++ e ∷ []) rest) (kept_is_not_dropped (verdict limit past e).verdict clean.0.kept)
     (clean_drops_none limit (past ++ e ∷ []) rest clean.1)
 
 clean_ends_none : (limit : ℕ) (past T : List Entry) → EachClean limit past T → count_by ended_event (events_after limit past T) ≡ 0
@@ -112,7 +112,7 @@ each_clean limit past [] none_dropped no_end = tt
 each_clean limit past (e ∷ rest) none_dropped no_end =
     let one = none_counted dropped_event (verdict limit past e) (events_after limit (past ++ e ∷ []) rest) none_dropped in
     let other = none_counted ended_event (verdict limit past e) (events_after limit (past ++ e ∷ []) rest) no_end in (
-      record { goes_on = none_ended (verdict limit past e).ended other.first; kept = not_dropped_is_kept (verdict limit past e).told one.first },
+      record { goes_on = none_ended (verdict limit past e).ended other.first; kept = not_dropped_is_kept (verdict limit past e).verdict one.first },
       each_clean limit (past ++ e ∷ []) rest one.later other.later,
     )
 
@@ -139,7 +139,7 @@ clean_is_counted limit T = (clean_counts_none limit T, counts_none_is_clean limi
 -- ---- a first frame that announces too much is what is dropped as too long
 
 abbrev NoLength : EventValue → Type 0
-NoLength event = too_long_in event.told ≡ None
+NoLength event = too_long_in event.verdict ≡ None
 
 fit_length : (d : Dir) (standing : StandingReception) (fit : Fit) (number : ℕ) (bytes : List ℕ) → NoLength (on_fit d standing fit number bytes)
 fit_length d standing late number bytes = refl
@@ -160,11 +160,11 @@ flow_length d None Overflow = refl
 flow_length d (Some standing) Continue = refl
 flow_length d (Some standing) Wait = refl
 flow_length d (Some standing) Overflow =
-    cond_both (standing.taken == 0) (record { ended = ended_as cause.Overflow d (Some standing); told = flowed }) (refused None reason.FlowUnexpected)
+    cond_both (standing.taken == 0) (record { ended = ended_as cause.Overflow d (Some standing); verdict = flowed }) (refused None reason.FlowUnexpected)
     NoLength (λ _. refl) (λ _. refl)
 
 layout_length : (limit : ℕ) (d : Dir) (own others : Option StandingReception) (micros : ℕ) (r : Result Layout PduFault)
-    → too_long_in (on_layout limit d own others micros r).told ≡ oversize_in limit r
+    → too_long_in (on_layout limit d own others micros r).verdict ≡ oversize_in limit r
 layout_length limit d own others micros (Ok (layout.single whole)) = refl
 layout_length limit d own others micros (Ok (layout.first announced rx_dl bytes)) = by_test (nat_le announced limit)
   where
@@ -189,4 +189,4 @@ kept_is_short flowed kept = refl
 kept_is_short (dropped reason) kept = absurd kept
 
 pub kept_is_within : KeptIsWithin
-kept_is_within limit T e kept = sym (too_long_is_announced limit T e) ∙ kept_is_short (verdict limit T e).told kept
+kept_is_within limit T e kept = sym (too_long_is_announced limit T e) ∙ kept_is_short (verdict limit T e).verdict kept

@@ -6,7 +6,7 @@ use Rattle.std.proofs.lemmas.Bool.{and_parts, ltb-true, ltb-false, leb-true, eqb
 use Rattle.can_log.specs.declared.frame.Dir.{Dir}
 use Rattle.isotp_receive.specs.OnTime.{n_cr}
 use Rattle.isotp_receive.specs.Fit.{Fit, late, wrong_number, wrong_length, one_more, last}
-use Rattle.isotp_receive.specs.StandingReception.{StandingReception, is_on_time, expected, has_length, wants_more, fit_of, is_next}
+use Rattle.isotp_receive.specs.StandingReception.{StandingReception, is_on_time, expected, has_length, stays_incomplete, fit_of, is_next}
 use Rattle.isotp_receive.specs.Verdict.{message, on_fit, on_consecutive}
 
 -- what the tests make of it: whether it is on time, of the expected number, of a length that fits, and not the last
@@ -26,11 +26,11 @@ module _ (s : StandingReception) (micros sequence_number can_dl : ℕ) where
       → fit_of s micros sequence_number can_dl ≡ wrong_length
   is-wrong-length on_time number fits = rw (on_time, number, fits) refl
 
-  pub is-more : is_on_time s micros ≡ true → (sequence_number == expected s) ≡ true → has_length s can_dl ≡ true → wants_more s ≡ true
+  pub is-more : is_on_time s micros ≡ true → (sequence_number == expected s) ≡ true → has_length s can_dl ≡ true → stays_incomplete s ≡ true
       → fit_of s micros sequence_number can_dl ≡ one_more
   is-more on_time number fits more = rw (on_time, number, fits, more) refl
 
-  pub is-last : is_on_time s micros ≡ true → (sequence_number == expected s) ≡ true → has_length s can_dl ≡ true → wants_more s ≡ false
+  pub is-last : is_on_time s micros ≡ true → (sequence_number == expected s) ≡ true → has_length s can_dl ≡ true → stays_incomplete s ≡ false
       → fit_of s micros sequence_number can_dl ≡ last
   is-last on_time number fits more = rw (on_time, number, fits, more) refl
 
@@ -79,13 +79,13 @@ pub record WasNext (s : StandingReception) (micros sequence_number can_dl : ℕ)
 module _ (s : StandingReception) (micros sequence_number can_dl : ℕ) where
   pub was-more : fit_of s micros sequence_number can_dl ≡ one_more → WasMore s micros sequence_number can_dl
   was-more is =
-      let w = more-inv (is_on_time s micros) (sequence_number == expected s) (has_length s can_dl) (wants_more s) is in
+      let w = more-inv (is_on_time s micros) (sequence_number == expected s) (has_length s can_dl) (stays_incomplete s) is in
       let fit = (and_parts (nat_lt (length s.bytes) s.len) _ w.2).1 in
       record { on_time = leb-true _ _ w.0; number = eqb-true _ _ w.1; full = eqb-true _ _ (rw w.3 at fit); room = ltb-true _ _ w.3 }
 
   pub was-last : fit_of s micros sequence_number can_dl ≡ last → WasLast s micros sequence_number can_dl
   was-last is =
-      let w = last-inv (is_on_time s micros) (sequence_number == expected s) (has_length s can_dl) (wants_more s) is in
+      let w = last-inv (is_on_time s micros) (sequence_number == expected s) (has_length s can_dl) (stays_incomplete s) is in
       let fit = (and_parts (nat_lt (length s.bytes) s.len) _ w.2).1 in
       let ends = and_parts (nat_le (1 + (s.len - length s.bytes)) can_dl) _ (rw w.3 at fit) in
       record {
@@ -97,7 +97,7 @@ module _ (s : StandingReception) (micros sequence_number can_dl : ℕ) where
       }
 
   pub next-tests : is_next (fit_of s micros sequence_number can_dl) ≡ (is_on_time s micros && (sequence_number == expected s && has_length s can_dl))
-  next-tests = next-by-tests (is_on_time s micros) (sequence_number == expected s) (has_length s can_dl) (wants_more s)
+  next-tests = next-by-tests (is_on_time s micros) (sequence_number == expected s) (has_length s can_dl) (stays_incomplete s)
 
   pub was-next : is_next (fit_of s micros sequence_number can_dl) ≡ true → WasNext s micros sequence_number can_dl
   was-next is =
@@ -112,7 +112,7 @@ module _ (s : StandingReception) (micros sequence_number can_dl : ℕ) where
 
 -- a frame that completes a message ends nothing
 told-last : (d : Dir) (s : StandingReception) (fit : Fit) (sequence_number : ℕ) (bytes m : List ℕ)
-    → (on_fit d s fit sequence_number bytes).told ≡ message m → (on_fit d s fit sequence_number bytes).ended ≡ None
+    → (on_fit d s fit sequence_number bytes).verdict ≡ message m → (on_fit d s fit sequence_number bytes).ended ≡ None
 told-last d s last sequence_number bytes m h = refl
 told-last d s one_more sequence_number bytes m h = absurd (cc)
 told-last d s late sequence_number bytes m h = absurd (cc)
@@ -120,6 +120,6 @@ told-last d s wrong_number sequence_number bytes m h = absurd (cc)
 told-last d s wrong_length sequence_number bytes m h = absurd (cc)
 
 pub last-ends-nothing : (d : Dir) (o : Option StandingReception) (micros sequence_number can_dl : ℕ) (bytes m : List ℕ)
-    → (on_consecutive d o micros sequence_number can_dl bytes).told ≡ message m → (on_consecutive d o micros sequence_number can_dl bytes).ended ≡ None
+    → (on_consecutive d o micros sequence_number can_dl bytes).verdict ≡ message m → (on_consecutive d o micros sequence_number can_dl bytes).ended ≡ None
 last-ends-nothing d None micros sequence_number can_dl bytes m h = refl
 last-ends-nothing d (Some s) micros sequence_number can_dl bytes m h = told-last d s (fit_of s micros sequence_number can_dl) sequence_number bytes m h

@@ -15,7 +15,7 @@ use Rattle.isotp_receive.specs.Trace.{Entry, FirstFrame, single, consecutive, ro
 use Rattle.isotp_receive.specs.OnTime.{IsOnTime}
 use Rattle.isotp_receive.specs.Fit.{Fit, FitsSo}
 use Rattle.isotp_receive.specs.Fit as fit
-use Rattle.isotp_receive.specs.StandingReception.{StandingReception, reference, fits_length, standing_of, is_on_time, expected, has_length, wants_more, fit_of, stands}
+use Rattle.isotp_receive.specs.StandingReception.{StandingReception, reference, fits_length, standing_of, is_on_time, expected, has_length, stays_incomplete, fit_of, stands}
 use Rattle.isotp_receive.specs.Places.{bytes_in_first, bytes_before, consecutive_frames_in, FitsAs}
 use Rattle.isotp_receive.specs.Verdict.{EventValue, message, stored, refused, ended_as, verdict, on_fit, on_consecutive}
 use Rattle.isotp_receive.specs.VerdictTable.{IsOpenBefore, ended_by, FitsNext, HasVerdict, next_late, wrong_number, wrong_length, stored_frame, last_frame}
@@ -78,8 +78,8 @@ module _ (limit : ℕ) (T : List Entry) (e : Entry) (i k sequence_number can_dl 
     time_from : is_on_time st e.micros ≡ true → OnTime
     fits_to : Fits → (sequence_number ≡ (k + 1) % 16) × (has_length st can_dl ≡ true)
     fits_from : sequence_number ≡ (k + 1) % 16 → has_length st can_dl ≡ true → Fits
-    more_to : k + 1 < o.count → wants_more st ≡ true
-    more_from : wants_more st ≡ true → k + 1 < o.count
+    more_to : k + 1 < o.count → stays_incomplete st ≡ true
+    more_from : stays_incomplete st ≡ true → k + 1 < o.count
 
   meets : Meets
   meets =
@@ -160,7 +160,7 @@ module _ (limit : ℕ) (T : List Entry) (e : Entry) (i k sequence_number can_dl 
       ∙ ap (λ x. refused x reason.NextLength) (ends-by m cause.Length)
 
   pub kept : OnTime → Fits → k + 1 < o.count
-      → verdict limit T e ≡ record { ended = None; told = stored }
+      → verdict limit T e ≡ record { ended = None; verdict = stored }
   kept on fits less =
       let m = meets in
       let tests = m.fits_to fits in
@@ -170,7 +170,7 @@ module _ (limit : ℕ) (T : List Entry) (e : Entry) (i k sequence_number can_dl 
   -- ---- and it has a row
 
   last-row : (whole : List ℕ) → Delivers limit (T ++ e ∷ []) (length T) e.dir whole → (a : EventValue) × HasVerdict limit T e a
-  last-row whole (in_frames c) = (record { ended = None; told = message whole }, last_frame whole c)
+  last-row whole (in_frames c) = (record { ended = None; verdict = message whole }, last_frame whole c)
   last-row whole (in_one_frame one) =
       let is_e : one.entry ≡ e = get-same (T ++ e ∷ []) (length T) one.entry e one.stands (get-here T [] e) in
       let both : single whole ≡ consecutive sequence_number can_dl bytes = sym one.kind ∙ ap (role e.dir) is_e ∙ goes in
@@ -202,11 +202,11 @@ module _ (limit : ℕ) (T : List Entry) (e : Entry) (i k sequence_number can_dl 
         | inl q ↦ (let number : sequence_number ≡ (k + 1) % 16 = eqb-true sequence_number (expected m.st) q ∙ m.next in
             elim (cases_Bool (has_length m.st can_dl)) [
               | inr f ↦ (_, wrong_length (so fit.wrong_length (m.time_from t, number, λ fits. false≢true (sym f ∙ (m.fits_to fits).1))))
-              | inl f ↦ elim (cases_Bool (wants_more m.st)) [
+              | inl f ↦ elim (cases_Bool (stays_incomplete m.st)) [
                 | inl b ↦ (_, stored_frame (so fit.one_more (m.time_from t, m.fits_from number f, m.more_from b)))
                 | inr b ↦ (let whole = take m.st.len (m.st.bytes ++ bytes) in
                     let is = fits-so m fit.last (is-last m.st e.micros sequence_number can_dl t q f b) in
-                    last-row whole ((message-delivers limit T e whole).0 (ap (λ a. a.told) is)))
+                    last-row whole ((message-delivers limit T e whole).0 (ap (λ a. a.verdict) is)))
               ]
             ])
       ]

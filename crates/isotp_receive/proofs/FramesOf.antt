@@ -33,7 +33,7 @@ use Rattle.isotp_receive.proofs.Delivered.{transfer_place, told-recording}
 DeliveredAt : ℕ → List Entry → Placed → Type 0
 DeliveredAt limit T x = Delivers limit T x.place x.dir x.message
 
-one-delivered : (limit : ℕ) (T past rest : List Entry) (e : Entry) (n : ℕ) (t : VerdictValue) → (verdict limit past e).told ≡ t → n ≡ length past → T ≡ past ++ e ∷ rest
+one-delivered : (limit : ℕ) (T past rest : List Entry) (e : Entry) (n : ℕ) (t : VerdictValue) → (verdict limit past e).verdict ≡ t → n ≡ length past → T ≡ past ++ e ∷ rest
     → AllByRecursion (DeliveredAt limit T) (tag e.dir (placed n t))
 unfolding DeliveredAt
 one-delivered limit T past rest e n (message m) is place whole = (
@@ -49,8 +49,8 @@ one-delivered limit T past rest e n (dropped r) is place whole = tt
 told-delivered : (limit : ℕ) (T : List Entry) (n : ℕ) (past es : List Entry) → n ≡ length past → T ≡ past ++ es → AllByRecursion (DeliveredAt limit T) (all_told limit n past es)
 told-delivered limit T n past [] place whole = tt
 told-delivered limit T n past (e ∷ es) place whole =
-    AllByRecursion-append (DeliveredAt limit T) (tag e.dir (placed n (verdict limit past e).told)) (all_told limit (suc n) (past ++ e ∷ []) es)
-    (one-delivered limit T past es e n (verdict limit past e).told refl place whole)
+    AllByRecursion-append (DeliveredAt limit T) (tag e.dir (placed n (verdict limit past e).verdict)) (all_told limit (suc n) (past ++ e ∷ []) es)
+    (one-delivered limit T past es e n (verdict limit past e).verdict refl place whole)
     (told-delivered limit T (suc n) (past ++ e ∷ []) es (omega (arith, length-append past (e ∷ []))) (whole ∙ sym (append_assoc past (e ∷ []) es)))
 
 AtItsLast : ℕ → List Entry → Transfer → Type 0

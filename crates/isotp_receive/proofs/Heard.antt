@@ -16,5 +16,5 @@ placed position (dropped reason) = []
 abbrev pub heard : ℕ → Dir → ℕ → List Entry → List Entry → List (ℕ × List ℕ)
 heard limit d position past [] = []
 heard limit d position past (e ∷ rest) =
-    (if same_direction d e.dir then placed position (verdict limit past e).told else [])
+    (if same_direction d e.dir then placed position (verdict limit past e).verdict else [])
     ++ heard limit d (suc position) (past ++ e ∷ []) rest

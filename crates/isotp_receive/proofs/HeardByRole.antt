@@ -38,36 +38,36 @@ at_place n [] = []
 at_place n (m ∷ ms) = (n, m) ∷ []
 
 placed-fit : (n : ℕ) (d : Dir) (s : StandingReception) (fit : Fit) (sequence_number : ℕ) (bytes : List ℕ)
-    → placed n (on_fit d s fit sequence_number bytes).told ≡ at_place n (completed_by fit s bytes)
+    → placed n (on_fit d s fit sequence_number bytes).verdict ≡ at_place n (completed_by fit s bytes)
 placed-fit n d s last sequence_number bytes = refl
 placed-fit n d s one_more sequence_number bytes = refl
 placed-fit n d s late sequence_number bytes = refl
 placed-fit n d s wrong_number sequence_number bytes = refl
 placed-fit n d s wrong_length sequence_number bytes = refl
 
-placed-pace : (n : ℕ) (o : Option StandingReception) → placed n (on_continue_or_wait o).told ≡ []
+placed-pace : (n : ℕ) (o : Option StandingReception) → placed n (on_continue_or_wait o).verdict ≡ []
 placed-pace n None = refl
 placed-pace n (Some s) = refl
 
-placed-overflow : (n : ℕ) (d : Dir) (o : Option StandingReception) → placed n (on_overflow d o).told ≡ []
+placed-overflow : (n : ℕ) (d : Dir) (o : Option StandingReception) → placed n (on_overflow d o).verdict ≡ []
 placed-overflow n d None = refl
 placed-overflow n d (Some s) = elim (cases_Bool (s.taken == 0)) [ inl e ↦ rw e refl | inr e ↦ rw e refl ]
 
 placed-first : (n limit len : ℕ) → placed n (cond (nat_le len limit) began (dropped (as_reason.TooLong len))) ≡ []
 placed-first n limit len = elim (cases_Bool (nat_le len limit)) [ inl e ↦ rw e refl | inr e ↦ rw e refl ]
 
--- what a reading of the direction's own frame tells
-placed-reading : (n limit : ℕ) (d : Dir) (own others : Option StandingReception) (line micros : ℕ) (x : Result Layout PduFault)
-    → placed n (on_layout limit d own others micros x).told ≡ at_place n (completed own micros (own_role line micros x))
-placed-reading n limit d own others line micros (Err f) = refl
-placed-reading n limit d own others line micros (Ok (layout.single m)) = refl
-placed-reading n limit d own others line micros (Ok (layout.first len rx_dl bytes)) = placed-first n limit len
-placed-reading n limit d None others line micros (Ok (layout.consecutive sequence_number can_dl bytes)) = refl
-placed-reading n limit d (Some s) others line micros (Ok (layout.consecutive sequence_number can_dl bytes)) =
+-- what the layout of a frame of the direction itself tells
+placed-layout : (n limit : ℕ) (d : Dir) (own others : Option StandingReception) (line micros : ℕ) (x : Result Layout PduFault)
+    → placed n (on_layout limit d own others micros x).verdict ≡ at_place n (completed own micros (own_role line micros x))
+placed-layout n limit d own others line micros (Err f) = refl
+placed-layout n limit d own others line micros (Ok (layout.single m)) = refl
+placed-layout n limit d own others line micros (Ok (layout.first len rx_dl bytes)) = placed-first n limit len
+placed-layout n limit d None others line micros (Ok (layout.consecutive sequence_number can_dl bytes)) = refl
+placed-layout n limit d (Some s) others line micros (Ok (layout.consecutive sequence_number can_dl bytes)) =
     placed-fit n d s (fit_of s micros sequence_number can_dl) sequence_number bytes
-placed-reading n limit d own others line micros (Ok (layout.flow_control Continue)) = placed-pace n others
-placed-reading n limit d own others line micros (Ok (layout.flow_control Wait)) = placed-pace n others
-placed-reading n limit d own others line micros (Ok (layout.flow_control Overflow)) = placed-overflow n (other_direction d) others
+placed-layout n limit d own others line micros (Ok (layout.flow_control Continue)) = placed-pace n others
+placed-layout n limit d own others line micros (Ok (layout.flow_control Wait)) = placed-pace n others
+placed-layout n limit d own others line micros (Ok (layout.flow_control Overflow)) = placed-overflow n (other_direction d) others
 
 nothing-else : (o : Option StandingReception) (micros : ℕ) (x : Result Layout PduFault) → completed o micros (other_role x) ≡ []
 nothing-else o micros (Err f) = refl
@@ -80,10 +80,10 @@ nothing-else o micros (Ok (layout.flow_control Overflow)) = refl
 
 -- what a frame tells a direction, by its role
 pub told-by-role : (limit : ℕ) (d : Dir) (n : ℕ) (past : List Entry) (e : Entry)
-    → cond (same_direction d e.dir) (placed n (verdict limit past e).told) [] ≡ at_place n (completed (stands limit d past) e.micros (role d e))
+    → cond (same_direction d e.dir) (placed n (verdict limit past e).verdict) [] ≡ at_place n (completed (stands limit d past) e.micros (role d e))
 unfolding verdict role
 told-by-role limit d n past e =
     elim (cases_Bool (same_direction d e.dir)) [
-      | inl q ↦ rw q (rw (same d e.dir q) (placed-reading n limit e.dir (stands limit e.dir past) (stands limit (other_direction e.dir) past) e.line e.micros (layout_of e.frame)))
+      | inl q ↦ rw q (rw (same d e.dir q) (placed-layout n limit e.dir (stands limit e.dir past) (stands limit (other_direction e.dir) past) e.line e.micros (layout_of e.frame)))
       | inr q ↦ rw q (ap (at_place n) (sym (nothing-else (stands limit d past) e.micros (layout_of e.frame))))
     ]

@@ -7,7 +7,7 @@ use Rattle.std.proofs.Math.Bool.{and-true}
 use Rattle.can_log.specs.declared.frame.Dir.{Dir}
 use Rattle.isotp_receive.specs.Trace.{Entry, FirstFrame, FrameRole, single, first, consecutive, continue_or_wait, overflow, no_part, role}
 use Rattle.isotp_receive.specs.Places.{consecutive_by, consecutive_frames_in}
-use Rattle.isotp_receive.specs.StandingReception.{carried_by, carried, referred, reference, carried_after, is_on_time, expected, has_length, wants_more, keeps_by, keep, is_open, StandingReception, standing_of, since, or_else, stands}
+use Rattle.isotp_receive.specs.StandingReception.{carried_by, carried, referred, reference, carried_after, is_on_time, expected, has_length, stays_incomplete, keeps_by, keep, is_open, StandingReception, standing_of, since, or_else, stands}
 use Rattle.isotp_receive.specs.Machine.{continued_by, continued, continue, after}
 use Rattle.isotp_receive.proofs.Choices.{stopped, unchanged, stopped-at-zero, moved-behind}
 use Rattle.isotp_receive.proofs.Readings.{IsRoleOf, role_from}
@@ -29,10 +29,10 @@ continued-by-tests true true true true s micros bytes = refl
 
 goes_if : (s : StandingReception) (micros sequence_number can_dl : ℕ) (bytes : List ℕ)
     → continued s micros (consecutive sequence_number can_dl bytes)
-    ≡ cond (is_on_time s micros && (sequence_number == expected s && (has_length s can_dl && wants_more s)))
+    ≡ cond (is_on_time s micros && (sequence_number == expected s && (has_length s can_dl && stays_incomplete s)))
     (Some (record s { taken = s.taken + 1; bytes = s.bytes ++ bytes; reference = micros })) None
 goes_if s micros sequence_number can_dl bytes =
-    continued-by-tests (is_on_time s micros) (sequence_number == expected s) (has_length s can_dl) (wants_more s) s micros bytes
+    continued-by-tests (is_on_time s micros) (sequence_number == expected s) (has_length s can_dl) (stays_incomplete s) s micros bytes
 
 pull : (c : Bool) (st : StandingReception) (micros : ℕ) (r : FrameRole) → continue (cond c (Some st) None) micros r ≡ cond c (continued st micros r) None
 pull true st micros r = refl
@@ -82,7 +82,7 @@ module _ (limit : ℕ) (d : Dir) (s : FirstFrame) (es : List Entry) (micros : �
         reference = micros;
       })) None)
       (next-tests st micros sequence_number can_dl)
-      ∙ moved-behind within room (nat_lt (carried_after s (consecutive_frames_in d es + 1)) s.len) (wants_more st) kept
+      ∙ moved-behind within room (nat_lt (carried_after s (consecutive_frames_in d es + 1)) s.len) (stays_incomplete st) kept
       (is_on_time st micros) (sequence_number == expected st) (has_length st can_dl) _ _
       (λ h. lt-ltb _ _ (omega (arith, ltb-true (carried_after s (consecutive_frames_in d es + 1)) s.len h)))
       (λ ha hb hk.

@@ -54,7 +54,7 @@ spelled_lies x (layout.first len rx_dl bytes) (is_rx_dl, size, parts) sound =
 spelled_lies x (layout.consecutive sequence_number can_dl bytes) (few, size, parts) sound = sym (ap (drop 1) parts)
 spelled_lies x (layout.flow_control status) spelled sound = tt
 
--- ---- what is known of a reading
+-- ---- what is known of the layout of a frame
 
 -- the bytes are in the frame, one after another
 abbrev pub StandIn : List ℕ → List ℕ → Type 0

@@ -33,7 +33,7 @@ side d (x ∷ xs) = cond (same_direction d x.dir) ((x.place, x.message) ∷ side
 -- the messages that the frames from position n on complete, where `past` came before them
 abbrev pub all_told : ℕ → ℕ → List Entry → List Entry → List Placed
 all_told limit n past [] = []
-all_told limit n past (e ∷ es) = tag e.dir (placed n (verdict limit past e).told) ++ all_told limit (suc n) (past ++ e ∷ []) es
+all_told limit n past (e ∷ es) = tag e.dir (placed n (verdict limit past e).verdict) ++ all_told limit (suc n) (past ++ e ∷ []) es
 
 -- the positions rise, from n on
 abbrev pub Rise : ℕ → List Placed → Type 0
@@ -52,8 +52,8 @@ one-side n d x (dropped r) xs = none-chosen (same_direction d x) (side d xs)
 pub heard-side : (limit : ℕ) (d : Dir) (n : ℕ) (past es : List Entry) → heard limit d n past es ≡ side d (all_told limit n past es)
 heard-side limit d n past [] = refl
 heard-side limit d n past (e ∷ es) =
-    ap (λ l. cond (same_direction d e.dir) (placed n (verdict limit past e).told) [] ++ l) (heard-side limit d (suc n) (past ++ e ∷ []) es)
-    ∙ one-side n d e.dir (verdict limit past e).told (all_told limit (suc n) (past ++ e ∷ []) es)
+    ap (λ l. cond (same_direction d e.dir) (placed n (verdict limit past e).verdict) [] ++ l) (heard-side limit d (suc n) (past ++ e ∷ []) es)
+    ∙ one-side n d e.dir (verdict limit past e).verdict (all_told limit (suc n) (past ++ e ∷ []) es)
 
 -- ---- without their positions they are the messages of the trace
 
@@ -70,8 +70,8 @@ one-message n x (dropped r) xs = refl
 pub messages-told : (limit n : ℕ) (past es : List Entry) → messages_after limit past es ≡ map pair (all_told limit n past es)
 messages-told limit n past [] = refl
 messages-told limit n past (e ∷ es) =
-    ap (λ l. told_message e.dir (verdict limit past e).told ++ l) (messages-told limit (suc n) (past ++ e ∷ []) es)
-    ∙ one-message n e.dir (verdict limit past e).told (all_told limit (suc n) (past ++ e ∷ []) es)
+    ap (λ l. told_message e.dir (verdict limit past e).verdict ++ l) (messages-told limit (suc n) (past ++ e ∷ []) es)
+    ∙ one-message n e.dir (verdict limit past e).verdict (all_told limit (suc n) (past ++ e ∷ []) es)
 
 -- ---- their positions rise
 
@@ -88,7 +88,7 @@ one-rise n x (dropped r) xs h = weaken n (suc n) xs (omega arith) h
 
 pub told-rise : (limit n : ℕ) (past es : List Entry) → Rise n (all_told limit n past es)
 told-rise limit n past [] = tt
-told-rise limit n past (e ∷ es) = one-rise n e.dir (verdict limit past e).told _ (told-rise limit (suc n) (past ++ e ∷ []) es)
+told-rise limit n past (e ∷ es) = one-rise n e.dir (verdict limit past e).verdict _ (told-rise limit (suc n) (past ++ e ∷ []) es)
 
 -- ---- lists that rise are one where they are one in each direction
 
@@ -135,10 +135,10 @@ told-append limit n past [] ys = (let zero_more : n ≡ n + 0 = omega arith in
     ap (λ l. all_told limit n l ys) (sym (append-nil past)) ∙ ap (λ k. all_told limit k (past ++ []) ys) zero_more)
 told-append limit n past (e ∷ xs) ys =
     let one_more_place : suc n + length xs ≡ n + length (e ∷ xs) = omega arith in
-    ap (λ l. tag e.dir (placed n (verdict limit past e).told) ++ l) (told-append limit (suc n) (past ++ e ∷ []) xs ys
+    ap (λ l. tag e.dir (placed n (verdict limit past e).verdict) ++ l) (told-append limit (suc n) (past ++ e ∷ []) xs ys
     ∙ ap (λ l. all_told limit (suc n) (past ++ e ∷ []) xs ++ all_told limit (suc n + length xs) l ys) (append_assoc past (e ∷ []) xs)
     ∙ ap (λ k. all_told limit (suc n) (past ++ e ∷ []) xs ++ all_told limit k (past ++ e ∷ xs) ys) one_more_place)
-    ∙ sym (append_assoc (tag e.dir (placed n (verdict limit past e).told)) (all_told limit (suc n) (past ++ e ∷ []) xs) _)
+    ∙ sym (append_assoc (tag e.dir (placed n (verdict limit past e).verdict)) (all_told limit (suc n) (past ++ e ∷ []) xs) _)
 
 abbrev pub told_within : ℕ → List Placed → List Placed
 told_within k [] = []
@@ -167,9 +167,9 @@ within-one k n d (dropped r) below = refl
 within-all : (limit k n : ℕ) (past es : List Entry) → n + length es ≤ k → told_within k (all_told limit n past es) ≡ all_told limit n past es
 within-all limit k n past [] le = refl
 within-all limit k n past (e ∷ es) le =
-    within-append k (tag e.dir (placed n (verdict limit past e).told)) (all_told limit (suc n) (past ++ e ∷ []) es)
-    ∙ ap (λ l. l ++ told_within k (all_told limit (suc n) (past ++ e ∷ []) es)) (within-one k n e.dir (verdict limit past e).told (omega arith))
-    ∙ ap (λ l. tag e.dir (placed n (verdict limit past e).told) ++ l) (within-all limit k (suc n) (past ++ e ∷ []) es (omega arith))
+    within-append k (tag e.dir (placed n (verdict limit past e).verdict)) (all_told limit (suc n) (past ++ e ∷ []) es)
+    ∙ ap (λ l. l ++ told_within k (all_told limit (suc n) (past ++ e ∷ []) es)) (within-one k n e.dir (verdict limit past e).verdict (omega arith))
+    ∙ ap (λ l. tag e.dir (placed n (verdict limit past e).verdict) ++ l) (within-all limit k (suc n) (past ++ e ∷ []) es (omega arith))
 
 rest-within : (limit k : ℕ) (past ys : List Entry) (n : ℕ) → (ys ≡ []) ⊎ (k ≤ n) → told_within k (all_told limit n past ys) ≡ []
 rest-within limit k past ys n (inl none) = rw none refl

@@ -33,7 +33,7 @@ use Rattle.isotp_receive.proofs.DeliversLaws.{message-delivers}
 use Rattle.isotp_receive.proofs.FittedFrames as fitted
 use Rattle.isotp_receive.proofs.FittedFrames.{on-own, ended-is}
 
--- ---- the verdict, by the reading of the frame
+-- ---- the verdict, by the layout of the frame
 
 verdict-by : (limit : ℕ) (T : List Entry) (e : Entry) (x : Result Layout PduFault) → layout_of e.frame ≡ x
     → verdict limit T e ≡ on_layout limit e.dir (stands limit e.dir T) (stands limit (other_direction e.dir) T) e.micros x
@@ -45,8 +45,8 @@ role-by : (e : Entry) (sequence_number can_dl : ℕ) (bytes : List ℕ) → layo
 unfolding role
 role-by e sequence_number can_dl bytes h = rw (same-self e.dir, h) refl
 
-both : (a : EventValue) (x : Option Ended) (t : VerdictValue) → a.ended ≡ x → a.told ≡ t → a ≡ record { ended = x; told = t }
-both a x t h g = ap (λ y. record { ended = y; told = a.told }) h ∙ ap (λ y. record { ended = x; told = y }) g
+both : (a : EventValue) (x : Option Ended) (t : VerdictValue) → a.ended ≡ x → a.verdict ≡ t → a ≡ record { ended = x; verdict = t }
+both a x t h g = ap (λ y. record { ended = y; verdict = a.verdict }) h ∙ ap (λ y. record { ended = x; verdict = y }) g
 
 no-flow : (limit : ℕ) (d : Dir) (own others : Option StandingReception) (micros : ℕ) (s : Status) → others ≡ None
     → on_layout limit d own others micros (Ok (layout.flow_control s)) ≡ refused None reason.FlowUnexpected
@@ -55,7 +55,7 @@ no-flow limit d own others micros Wait h = rw h refl
 no-flow limit d own others micros Overflow h = rw h refl
 
 moves-on : (limit : ℕ) (d : Dir) (own others : Option StandingReception) (micros : ℕ) (s : Status) (st : StandingReception) → s ≢ Overflow → others ≡ Some st
-    → on_layout limit d own others micros (Ok (layout.flow_control s)) ≡ record { ended = None; told = flowed }
+    → on_layout limit d own others micros (Ok (layout.flow_control s)) ≡ record { ended = None; verdict = flowed }
 moves-on limit d own others micros Continue st apart h = rw h refl
 moves-on limit d own others micros Wait st apart h = rw h refl
 moves-on limit d own others micros Overflow st apart h = absurd (apart refl)
@@ -110,7 +110,7 @@ next-is limit T e {f = f} n =
 
 tabled : (limit : ℕ) (T : List Entry) (e : Entry) (a : EventValue) → HasVerdict limit T e a → verdict limit T e ≡ a
 tabled limit T e _ (no_layout f h) = verdict-by limit T e (Err f) h
-tabled limit T e _ (single_frame m x h ends) = verdict-by limit T e _ h ∙ ap (λ y. record { ended = y; told = message m }) (ends-so limit T e x ends)
+tabled limit T e _ (single_frame m x h ends) = verdict-by limit T e _ h ∙ ap (λ y. record { ended = y; verdict = message m }) (ends-so limit T e x ends)
 tabled limit T e _ (first_frame len rx_dl bytes x h fits ends) =
     verdict-by limit T e _ h
     ∙ both _ x began (ends-so limit T e x ends) (ap (λ b. cond b began (dropped (reason.TooLong len))) (le-leb len limit fits))
@@ -135,7 +135,7 @@ tabled limit T e _ (last_frame m c) =
     let goes = (next-is limit T e c.fit).kind in
     let told = (message-delivers limit T e m).1 (in_frames c) in
     let is = on-own limit T e next.sequence_number next.can_dl next.bytes goes in
-    let ends = last-ends-nothing e.dir (stands limit e.dir T) e.micros next.sequence_number next.can_dl next.bytes m (ap (λ a. a.told) (sym is) ∙ told) in
+    let ends = last-ends-nothing e.dir (stands limit e.dir T) e.micros next.sequence_number next.can_dl next.bytes m (ap (λ a. a.verdict) (sym is) ∙ told) in
     both (verdict limit T e) None (message m) (ap (λ a. a.ended) is ∙ ends) told
 tabled limit T e _ (flow_unexpected s h none) =
     verdict-by limit T e _ h
@@ -147,14 +147,14 @@ tabled limit T e _ (overflow_in_time i h o) =
     let d = other_direction e.dir in
     let w = some-open limit T e d i 0 cause.Overflow o in
     verdict-by limit T e _ h ∙ ap (on_overflow d) w.1
-    ∙ ap (λ n. cond (n == 0) (record { ended = ended_as cause.Overflow d (Some w.0); told = flowed }) (refused None reason.FlowUnexpected)) w.3
-    ∙ ap (λ y. record { ended = y; told = flowed }) w.2
+    ∙ ap (λ n. cond (n == 0) (record { ended = ended_as cause.Overflow d (Some w.0); verdict = flowed }) (refused None reason.FlowUnexpected)) w.3
+    ∙ ap (λ y. record { ended = y; verdict = flowed }) w.2
 tabled limit T e _ (overflow_too_late i k h o some) =
     let d = other_direction e.dir in
     let w = some-open limit T e d i k cause.Overflow o in
     let taken = w.3 in
     verdict-by limit T e _ h ∙ ap (on_overflow d) w.1
-    ∙ ap (λ b. cond b (record { ended = ended_as cause.Overflow d (Some w.0); told = flowed }) (refused None reason.FlowUnexpected))
+    ∙ ap (λ b. cond b (record { ended = ended_as cause.Overflow d (Some w.0); verdict = flowed }) (refused None reason.FlowUnexpected))
     (ne_eqb w.0.taken 0 (λ z. omega (arith, z)))
 
 -- ---- and each frame has a row
@@ -177,10 +177,10 @@ flow-row : (limit : ℕ) (T : List Entry) (e : Entry) (s : Status) (o : Option S
 flow-row limit T e s None h is = (refused None reason.FlowUnexpected, flow_unexpected s h (nothing-open limit T e (other_direction e.dir) is))
 flow-row limit T e Continue (Some st) h is =
     let w = stands-open limit T (e ∷ []) (other_direction e.dir) st is in
-    (record { ended = None; told = flowed }, flow Continue w.begun w.number h (λ same. cc) w.is_open)
+    (record { ended = None; verdict = flowed }, flow Continue w.begun w.number h (λ same. cc) w.is_open)
 flow-row limit T e Wait (Some st) h is =
     let w = stands-open limit T (e ∷ []) (other_direction e.dir) st is in
-    (record { ended = None; told = flowed }, flow Wait w.begun w.number h (λ same. cc) w.is_open)
+    (record { ended = None; verdict = flowed }, flow Wait w.begun w.number h (λ same. cc) w.is_open)
 flow-row limit T e Overflow (Some st) h is =
     let w = stands-open limit T (e ∷ []) (other_direction e.dir) st is in
     overflow-row limit T e w.begun w.number h w.is_open
@@ -189,11 +189,11 @@ row : (limit : ℕ) (T : List Entry) (e : Entry) (x : Result Layout PduFault) �
 row limit T e (Err f) h = (refused None (reason.Pdu f), no_layout f h)
 row limit T e (Ok (layout.single m)) h =
     let w = new-start limit T e (stands limit e.dir T) refl in
-    (record { ended = w.0; told = message m }, single_frame m w.0 h w.1)
+    (record { ended = w.0; verdict = message m }, single_frame m w.0 h w.1)
 row limit T e (Ok (layout.first len rx_dl bytes)) h =
     let w = new-start limit T e (stands limit e.dir T) refl in
     elim (cases_Bool (nat_le len limit)) [
-      | inl t ↦ (record { ended = w.0; told = began }, first_frame len rx_dl bytes w.0 h (leb-true len limit t) w.1)
+      | inl t ↦ (record { ended = w.0; verdict = began }, first_frame len rx_dl bytes w.0 h (leb-true len limit t) w.1)
       | inr t ↦ (refused w.0 (reason.TooLong len), too_long len rx_dl bytes w.0 h (leb-false len limit t) w.1)
     ]
 row limit T e (Ok (layout.consecutive sequence_number can_dl bytes)) h = consecutive-row limit T e sequence_number can_dl bytes (stands limit e.dir T) h refl

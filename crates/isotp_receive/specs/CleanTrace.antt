@@ -16,7 +16,7 @@ IsKept flowed = ⊤
 -- the frame was not dropped, and no reception ended without its message
 pub record IsCleanEvent (answer : EventValue) : Type 0 where
   pub goes_on : answer.ended ≡ None
-  pub kept : IsKept answer.told
+  pub kept : IsKept answer.verdict
 
 -- each of the frames is answered so, where `past` came before them
 abbrev pub EachClean : ℕ → List Entry → List Entry → Type 0

@@ -14,4 +14,4 @@ seen_verdict (as_verdict.Dropped reason) = dropped reason
 
 -- an event
 abbrev pub seen_event : Event → EventValue
-seen_event event = record { ended = event.ended; told = seen_verdict event.verdict }
+seen_event event = record { ended = event.ended; verdict = seen_verdict event.verdict }

@@ -31,7 +31,7 @@ is_dropped flowed = false
 
 -- how many frames of the trace are dropped
 abbrev pub dropped_in : ℕ → List Entry → ℕ
-dropped_in limit T = count_by (λ (event : EventValue). is_dropped event.told) (events limit T)
+dropped_in limit T = count_by (λ (event : EventValue). is_dropped event.verdict) (events limit T)
 
 -- how many end a reception before its message is complete
 abbrev pub ended_in : ℕ → List Entry → ℕ

@@ -52,7 +52,7 @@ KeepsFewerBytes =
 abbrev pub AMessageIsDelivered : Type 0
 AMessageIsDelivered =
     (limit : ℕ) (T : List Entry) (e : Entry) (bytes : List ℕ)
-    → ((verdict limit T e).told ≡ message bytes) ↔ Delivers limit (T ++ e ∷ []) (length T) e.dir bytes
+    → ((verdict limit T e).verdict ≡ message bytes) ↔ Delivers limit (T ++ e ∷ []) (length T) e.dir bytes
 
 -- what the places say of the bytes that have come is what the reception counts
 abbrev pub PlacesAgreeOnBytes : Type 0

@@ -16,7 +16,6 @@ pub mod RecordingLaws
 pub mod MessageLaws
 pub mod Growth
 pub mod EventSeen
-pub mod Recorded
 pub mod Taken
 pub mod Machine
 pub mod Kept

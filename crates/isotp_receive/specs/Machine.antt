@@ -54,15 +54,15 @@ after limit standing micros continue_or_wait = continue standing micros continue
 after limit standing micros overflow = continue standing micros overflow
 after limit standing micros no_part = standing
 
--- both after one more frame of this reading
+-- both after one more frame of this layout or fault
 abbrev pub both_after : ℕ → Receptions → ℕ → ℕ → Dir → Result Layout PduFault → Receptions
-both_after limit both line micros Tester reading = record {
-  tester = after limit both.tester micros (own_role line micros reading);
-  unit = after limit both.unit micros (other_role reading);
+both_after limit both line micros Tester layout = record {
+  tester = after limit both.tester micros (own_role line micros layout);
+  unit = after limit both.unit micros (other_role layout);
 }
-both_after limit both line micros Unit reading = record {
-  unit = after limit both.unit micros (own_role line micros reading);
-  tester = after limit both.tester micros (other_role reading);
+both_after limit both line micros Unit layout = record {
+  unit = after limit both.unit micros (own_role line micros layout);
+  tester = after limit both.tester micros (other_role layout);
 }
 
 -- both where nothing stands for the direction any more

@@ -47,11 +47,11 @@ FirstFrameIsRead = (d : Dir) (e : Entry) (start : FirstFrame) → role d e ≡ f
 
 -- a frame is dropped as too long exactly where it announces a length above the limit, and with that length
 abbrev pub TooLongIsAnnounced : Type 0
-TooLongIsAnnounced = (limit : ℕ) (T : List Entry) (e : Entry) → too_long_in (verdict limit T e).told ≡ oversize_in limit (layout_of e.frame)
+TooLongIsAnnounced = (limit : ℕ) (T : List Entry) (e : Entry) → too_long_in (verdict limit T e).verdict ≡ oversize_in limit (layout_of e.frame)
 
 -- so a frame that is not dropped announces none
 abbrev pub KeptIsWithin : Type 0
-KeptIsWithin = (limit : ℕ) (T : List Entry) (e : Entry) → IsKept (verdict limit T e).told → oversize_in limit (layout_of e.frame) ≡ None
+KeptIsWithin = (limit : ℕ) (T : List Entry) (e : Entry) → IsKept (verdict limit T e).verdict → oversize_in limit (layout_of e.frame) ≡ None
 
 -- a trace is clean exactly where nothing of it is counted as dropped, ended or unfinished
 abbrev pub CleanIsCounted : Type 0

@@ -95,7 +95,7 @@ abbrev pub IsGiven : ℕ → List Transfer → Type 0
 IsGiven position [] = ⊥
 IsGiven position (transfer ∷ transfers) = IsIn position transfer.positions ⊎ IsGiven position transfers
 
--- a continue frame, a wait frame (section 9.6.5) or a frame without a reading
+-- a continue frame, a wait frame (section 9.6.5) or a frame without a layout
 abbrev pub IsIdle : Result Layout PduFault → Type 0
 IsIdle (Ok (layout.flow_control Continue)) = ⊤
 IsIdle (Ok (layout.flow_control Wait)) = ⊤

@@ -80,9 +80,9 @@ expected standing = (standing.taken + 1) % 16
 abbrev pub has_length : StandingReception → ℕ → Bool
 has_length standing can_dl = fits_length standing.len standing.rx_dl (length standing.bytes) can_dl
 
--- the next consecutive frame isn't the last
-abbrev pub wants_more : StandingReception → Bool
-wants_more standing = nat_lt (length standing.bytes + (standing.rx_dl - 1)) standing.len
+-- it stays incomplete with the next consecutive frame, which isn't the last
+abbrev pub stays_incomplete : StandingReception → Bool
+stays_incomplete standing = nat_lt (length standing.bytes + (standing.rx_dl - 1)) standing.len
 
 -- how a consecutive frame of this time, sequence number and CAN_DL fits
 abbrev pub fit_of : StandingReception → ℕ → ℕ → ℕ → Fit
@@ -90,7 +90,7 @@ fit_of standing micros sequence_number can_dl =
     if not (is_on_time standing micros) then late
     else if not (sequence_number == expected standing) then wrong_number
     else if not (has_length standing can_dl) then wrong_length
-    else if wants_more standing then one_more
+    else if stays_incomplete standing then one_more
     else last
 
 -- it is the next one

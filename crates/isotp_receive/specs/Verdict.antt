@@ -29,7 +29,7 @@ pub data VerdictValue : Type 0 where
 -- the reception that the frame ends, if it ends one, and what becomes of the frame
 pub record EventValue : Type 0 where
   pub ended : Option Ended
-  pub told : VerdictValue
+  pub verdict : VerdictValue
 
 -- what ends for this cause, where this stands for d, if anything does
 abbrev pub ended_as : Cause → Dir → Option StandingReception → Option Ended
@@ -38,7 +38,7 @@ ended_as cause d (Some standing) = Some (record { dir = d; begun_line = standing
 
 -- a frame that is refused, and ends this
 abbrev pub refused : Option Ended → Reason → EventValue
-refused ended reason = record { ended = ended; told = dropped reason }
+refused ended reason = record { ended = ended; verdict = dropped reason }
 
 -- a consecutive frame that fits so: it is refused and ends what stands, or is stored, or completes the message
 abbrev pub on_fit : Dir → StandingReception → Fit → ℕ → List ℕ → EventValue
@@ -46,8 +46,8 @@ on_fit d standing late sequence_number bytes = refused (ended_as cause.Late d (S
 on_fit d standing wrong_number sequence_number bytes =
     refused (ended_as cause.Sequence d (Some standing)) (reason.NextSequence (expected standing) sequence_number)
 on_fit d standing wrong_length sequence_number bytes = refused (ended_as cause.Length d (Some standing)) reason.NextLength
-on_fit d standing one_more sequence_number bytes = record { ended = None; told = stored }
-on_fit d standing last sequence_number bytes = record { ended = None; told = message (take standing.len (standing.bytes ++ bytes)) }
+on_fit d standing one_more sequence_number bytes = record { ended = None; verdict = stored }
+on_fit d standing last sequence_number bytes = record { ended = None; verdict = message (take standing.len (standing.bytes ++ bytes)) }
 
 -- a consecutive frame, by how it fits what stands
 abbrev pub on_consecutive : Dir → Option StandingReception → ℕ → ℕ → ℕ → List ℕ → EventValue
@@ -58,13 +58,13 @@ on_consecutive d (Some standing) micros sequence_number can_dl bytes =
 -- a continue or wait frame is expected where this stands for the other direction
 abbrev pub on_continue_or_wait : Option StandingReception → EventValue
 on_continue_or_wait None = refused None reason.FlowUnexpected
-on_continue_or_wait (Some standing) = record { ended = None; told = flowed }
+on_continue_or_wait (Some standing) = record { ended = None; verdict = flowed }
 
 -- an overflow frame, where that took no consecutive frame yet, and then ends it
 abbrev pub on_overflow : Dir → Option StandingReception → EventValue
 on_overflow other None = refused None reason.FlowUnexpected
 on_overflow other (Some standing) =
-    if standing.taken == 0 then record { ended = ended_as cause.Overflow other (Some standing); told = flowed }
+    if standing.taken == 0 then record { ended = ended_as cause.Overflow other (Some standing); verdict = flowed }
     else refused None reason.FlowUnexpected
 
 -- a flow control frame by its status
@@ -76,9 +76,9 @@ on_flow_control other standing Overflow = on_overflow other standing
 -- a frame of direction d with this layout or fault, at this time, where own stands for d and others for the other direction
 abbrev pub on_layout : ℕ → Dir → Option StandingReception → Option StandingReception → ℕ → Result Layout PduFault → EventValue
 on_layout limit d own others micros (Err fault) = refused None (reason.Pdu fault)
-on_layout limit d own others micros (Ok (layout.single whole)) = record { ended = ended_as cause.NewStart d own; told = message whole }
+on_layout limit d own others micros (Ok (layout.single whole)) = record { ended = ended_as cause.NewStart d own; verdict = message whole }
 on_layout limit d own others micros (Ok (layout.first len rx_dl bytes)) =
-    record { ended = ended_as cause.NewStart d own; told = if nat_le len limit then began else dropped (reason.TooLong len) }
+    record { ended = ended_as cause.NewStart d own; verdict = if nat_le len limit then began else dropped (reason.TooLong len) }
 on_layout limit d own others micros (Ok (layout.consecutive sequence_number can_dl bytes)) = on_consecutive d own micros sequence_number can_dl bytes
 on_layout limit d own others micros (Ok (layout.flow_control status)) = on_flow_control (other_direction d) others status
 
@@ -97,7 +97,7 @@ told_message d (dropped reason) = []
 -- the messages that these frames deliver after the frames `past`
 abbrev pub messages_after : ℕ → List Entry → List Entry → List Message
 messages_after limit past [] = []
-messages_after limit past (e ∷ rest) = told_message e.dir (verdict limit past e).told ++ messages_after limit (past ++ e ∷ []) rest
+messages_after limit past (e ∷ rest) = told_message e.dir (verdict limit past e).verdict ++ messages_after limit (past ++ e ∷ []) rest
 
 -- the messages that a trace delivers, in order
 abbrev pub messages : ℕ → List Entry → List Message

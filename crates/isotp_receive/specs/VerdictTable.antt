@@ -47,11 +47,11 @@ pub data HasVerdict (limit : ℕ) (T : List Entry) (e : Entry) : EventValue → 
   no_layout : (fault : PduFault) → layout_of e.frame ≡ Err fault → HasVerdict limit T e (refused None (reason.Pdu fault))
   -- a single frame
   single_frame : (whole : List ℕ) (ended : Option Ended) → layout_of e.frame ≡ Ok (layout.single whole) → EndsByNewStart limit T e ended
-      → HasVerdict limit T e (record { ended = ended; told = message whole })
+      → HasVerdict limit T e (record { ended = ended; verdict = message whole })
   -- a first frame that announces at most the limit, and one that announces more
   first_frame : (len rx_dl : ℕ) (bytes : List ℕ) (ended : Option Ended) → layout_of e.frame ≡ Ok (layout.first len rx_dl bytes)
       → len ≤ limit → EndsByNewStart limit T e ended
-      → HasVerdict limit T e (record { ended = ended; told = began })
+      → HasVerdict limit T e (record { ended = ended; verdict = began })
   too_long : (len rx_dl : ℕ) (bytes : List ℕ) (ended : Option Ended) → layout_of e.frame ≡ Ok (layout.first len rx_dl bytes)
       → limit < len → EndsByNewStart limit T e ended
       → HasVerdict limit T e (refused ended (reason.TooLong len))
@@ -68,9 +68,9 @@ pub data HasVerdict (limit : ℕ) (T : List Entry) (e : Entry) : EventValue → 
   wrong_length : (fits : FitsNext limit T e fit.wrong_length)
       → HasVerdict limit T e (refused (Some (ended_by e.dir fits.is_open.begins.start cause.Length)) reason.NextLength)
   stored_frame : FitsNext limit T e fit.one_more
-      → HasVerdict limit T e (record { ended = None; told = stored })
+      → HasVerdict limit T e (record { ended = None; verdict = stored })
   last_frame : (whole : List ℕ) → Completes limit (T ++ e ∷ []) (length T) e.dir whole
-      → HasVerdict limit T e (record { ended = None; told = message whole })
+      → HasVerdict limit T e (record { ended = None; verdict = message whole })
   -- flow control where nothing is open for the other direction, and where a reception is: continue or wait, overflow
   -- before its first consecutive frame, and overflow later
   flow_unexpected : (status : Status) → layout_of e.frame ≡ Ok (layout.flow_control status)
@@ -78,11 +78,11 @@ pub data HasVerdict (limit : ℕ) (T : List Entry) (e : Entry) : EventValue → 
       → HasVerdict limit T e (refused None reason.FlowUnexpected)
   flow : (status : Status) (begun number : ℕ) → layout_of e.frame ≡ Ok (layout.flow_control status) → status ≢ Overflow
       → IsOpenBefore limit T e (other_direction e.dir) begun number
-      → HasVerdict limit T e (record { ended = None; told = flowed })
+      → HasVerdict limit T e (record { ended = None; verdict = flowed })
   overflow_in_time : (begun : ℕ) → layout_of e.frame ≡ Ok (layout.flow_control Overflow)
       → (reception : IsOpenBefore limit T e (other_direction e.dir) begun 0)
       → HasVerdict limit T e
-      (record { ended = Some (ended_by (other_direction e.dir) reception.begins.start cause.Overflow); told = flowed })
+      (record { ended = Some (ended_by (other_direction e.dir) reception.begins.start cause.Overflow); verdict = flowed })
   overflow_too_late : (begun number : ℕ) → layout_of e.frame ≡ Ok (layout.flow_control Overflow)
       → IsOpenBefore limit T e (other_direction e.dir) begun number → 0 < number
       → HasVerdict limit T e (refused None reason.FlowUnexpected)

@@ -18,7 +18,7 @@ impl<'a> Event<'a> {
 
     /// A frame that ended nothing.
     pub(crate) fn of(verdict: Verdict<'a>) -> Event<'a>
-        ensures { seen_event result ≡ record { ended = None; told = seen_verdict verdict.entry } }
+        ensures { seen_event result ≡ record { ended = None; verdict = seen_verdict verdict.entry } }
     {
         Event {
             ended: None,

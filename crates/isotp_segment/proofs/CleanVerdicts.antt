@@ -11,7 +11,7 @@ use Rattle.isotp_receive.specs.Trace.{Entry, At}
 use Rattle.isotp_receive.specs.Places.{bytes_in_first, bytes_before, FitsAs}
 use Rattle.isotp_receive.specs.OnTime.{n_cr, IsReference, IsOnTime}
 use Rattle.isotp_receive.specs.Fit.{one_more, last}
-use Rattle.isotp_receive.specs.StandingReception.{StandingReception, fits_length, wants_more, stands}
+use Rattle.isotp_receive.specs.StandingReception.{StandingReception, fits_length, stays_incomplete, stands}
 use Rattle.isotp_receive.specs.OpenReception.{IsOpenAt}
 use Rattle.isotp_receive.specs.Verdict.{on_fit, verdict}
 use Rattle.isotp_receive.specs.CleanTrace.{IsCleanEvent}
@@ -79,7 +79,7 @@ module _ (limit : ℕ) (T rest : List Entry) (d : Dir) (begun number : ℕ)
       let next : (sequence_number == (standing.taken + 1) % 16) ≡ true = eq-eqb _ _ (fit.0 ∙ ap (λ n. (n + 1) % 16) (sym k.taken)) in
       let size : fits_length standing.len standing.rx_dl (length standing.bytes) can_dl ≡ true = rw (k.len, k.rx_dl, k.size) fit.1 in
       rw (own, is, k.standing_there, time, next, size)
-      (cond_both (wants_more standing) one_more last (λ fit. IsCleanEvent (on_fit d standing fit sequence_number bytes))
+      (cond_both (stays_incomplete standing) one_more last (λ fit. IsCleanEvent (on_fit d standing fit sequence_number bytes))
       (λ _. record { goes_on = refl; kept = tt })
       (λ _. record { goes_on = refl; kept = tt }))
 

@@ -43,7 +43,7 @@ pub(crate) trait EventTaker {
     /// Why no more events are taken, where memory was refused for the next frame of the trace. Memory is only asked for
     /// where the frame can be received.
     fn refused(&self, device: &Self::Device) -> Self::Fault
-        ensures { (start : Self × Self.Device) (T : List Entry) (e : Entry) → IsKept (verdict MESSAGE_LIMIT T e).told
+        ensures { (start : Self × Self.Device) (T : List Entry) (e : Entry) → IsKept (verdict MESSAGE_LIMIT T e).verdict
             → took start T (self.now, device.now) → stopped start T e result (self.now, device.now) };
 }
 
