@@ -1,10 +1,7 @@
 -- Bytes put among the 64 that hold the data of a frame.
-use Prim.Native.Nat.{zero, suc}
-use Rattle.std.proofs.Common.{◌≡◌, ℕ, ◌+◌, ◌-◌, ◌≤◌, List, [], ◌∷◌, ◌++◌, map, cond, nat_lt, get_or, refl, length, length-append, length-drop, length-take-le, take, drop, subst, sym, ap, ◌∙◌, arith}
+use Rattle.std.proofs.Common.{◌≡◌, ℕ, ◌+◌, ◌-◌, ◌≤◌, List, ◌++◌, length, length-append, length-drop, take, drop, subst, sym, ap, ◌∙◌, arith}
 use Rattle.std.proofs.lemmas.List.{take-append-le, drop-append-le, drop-replicate, replicate-append-replicate}
 use Rattle.std.proofs.Math.Seq.{take-add, take-length, take-append_seam, drop-append_seam, drop-append-add}
-use Rattle.std.proofs.lemmas.Simd.{pick_l_whole}
-use lib.Lanes.{sel_l, top}
 use borrow.Rule.Slice.PartMut.{put_mid}
 use Rattle.can_log.specs.FrameData.{IsFilled, zeros, fits_in}
 
@@ -58,39 +55,9 @@ first_filled bytes put same few =
       rest = drop-append_seam bytes rest ∙ drop-replicate (length bytes) 64 0;
     })
 
--- of eight lanes those below a number are kept
-abbrev pub kept_lanes : ℕ → List ℕ → List ℕ
-kept_lanes count lanes = sel_l (map (λ k. top 7 (cond (nat_lt k count) 255 0)) (0 ∷ 1 ∷ 2 ∷ 3 ∷ 4 ∷ 5 ∷ 6 ∷ 7 ∷ [])) lanes (zeros 8)
-
-eight_kept : (count b0 b1 b2 b3 b4 b5 b6 b7 : ℕ) → count ≤ 8 → kept_lanes count (b0 ∷ b1 ∷ b2 ∷ b3 ∷ b4 ∷ b5 ∷ b6 ∷ b7 ∷ []) ≡ take count (b0 ∷ b1 ∷ b2 ∷ b3 ∷ b4 ∷ b5 ∷ b6 ∷ b7 ∷ []) ++ zeros (8 - count)
-eight_kept zero b0 b1 b2 b3 b4 b5 b6 b7 few = refl
-eight_kept (suc zero) b0 b1 b2 b3 b4 b5 b6 b7 few = refl
-eight_kept (suc (suc zero)) b0 b1 b2 b3 b4 b5 b6 b7 few = refl
-eight_kept (suc (suc (suc zero))) b0 b1 b2 b3 b4 b5 b6 b7 few = refl
-eight_kept (suc (suc (suc (suc zero)))) b0 b1 b2 b3 b4 b5 b6 b7 few = refl
-eight_kept (suc (suc (suc (suc (suc zero))))) b0 b1 b2 b3 b4 b5 b6 b7 few = refl
-eight_kept (suc (suc (suc (suc (suc (suc zero)))))) b0 b1 b2 b3 b4 b5 b6 b7 few = refl
-eight_kept (suc (suc (suc (suc (suc (suc (suc zero))))))) b0 b1 b2 b3 b4 b5 b6 b7 few = refl
-eight_kept (suc (suc (suc (suc (suc (suc (suc (suc zero)))))))) b0 b1 b2 b3 b4 b5 b6 b7 few = refl
-eight_kept (suc (suc (suc (suc (suc (suc (suc (suc (suc n))))))))) b0 b1 b2 b3 b4 b5 b6 b7 few = absurd (omega arith)
-
-pub lanes_kept : (count : ℕ) (lanes : List ℕ) → length lanes ≡ 8 → count ≤ 8 → kept_lanes count lanes ≡ take count lanes ++ zeros (8 - count)
-lanes_kept count lanes long few =
-    let whole = sym (pick_l_whole 0 lanes 8 long) in
-    rw whole (eight_kept count (get_or lanes 0 0) (get_or lanes 1 0) (get_or lanes 2 0) (get_or lanes 3 0) (get_or lanes 4 0) (get_or lanes 5 0) (get_or lanes 6 0) (get_or lanes 7 0) few)
-
 -- what is left of eight zeros
 pub others_zero : (n : ℕ) (put : List ℕ) → length put ≡ n → drop n (put ++ drop n (zeros 8)) ≡ zeros (8 - n)
 others_zero n put long = subst (λ (k : ℕ). drop k (put ++ drop k (zeros 8)) ≡ zeros (8 - k)) long (drop-append_seam put (drop (length put) (zeros 8)) ∙ drop-replicate (length put) 8 0)
-
--- as many bytes, and then the zeros in the place of the others
-pub others_behind : (count : ℕ) (bytes kept : List ℕ) → length bytes ≡ 8 → count ≤ 8 → kept ≡ take count bytes ++ zeros (8 - count)
-    → (take count kept ≡ take count bytes) × (drop count kept ≡ zeros (8 - count))
-others_behind count bytes kept long few is =
-    let front : length (take count bytes) ≡ count = length-take-le count bytes (omega (arith, long)) in (
-      ap (λ (z : List ℕ). take count z) is ∙ ap (λ (n : ℕ). take n (take count bytes ++ zeros (8 - count))) (sym front) ∙ take-append_seam (take count bytes) (zeros (8 - count)),
-      ap (λ (z : List ℕ). drop count z) is ∙ ap (λ (n : ℕ). drop n (take count bytes ++ zeros (8 - count))) (sym front) ∙ drop-append_seam (take count bytes) (zeros (8 - count)),
-    )
 
 pub all_eight : (bytes : List ℕ) → length bytes ≡ 8 → take 8 bytes ≡ bytes
 all_eight bytes eight = ap (λ (n : ℕ). take n bytes) (sym eight) ∙ take-length bytes

@@ -74,3 +74,8 @@ plain_frame (Some flags) identifier digits bytes id kind text data_text is_id is
   identifier = rw is_id (identifier_is identifier text);
   data_length = rw (is_kind, spelled) (omega (arith, bytes_len digits data_text.1, data_text.0.few));
 }
+
+-- a line of plain form has no more digits of data than any may have
+pub plain_data : (flags : Option (Bor (List ℕ))) (digits : List ℕ) → IsDataText (most_digits flags) digits → IsDataText 128 digits
+plain_data None digits text = (record { each = text.0.each; enough = text.0.enough; few = omega (arith, text.0.few) }, text.1)
+plain_data (Some flags) digits text = text

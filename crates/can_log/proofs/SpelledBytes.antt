@@ -85,36 +85,12 @@ part_of_front i sixteens digits text room lt =
       omega (arith, long),
     )
 
--- a front of data is data
-pub front_of_data : (n digits : ℕ) (bytes : List ℕ) → IsDataText 128 (take digits bytes) → digits ≤ length bytes → n ≤ digits → n % 2 ≡ 0
-    → IsDataText 128 (take n bytes)
-front_of_data n digits bytes text room le even =
-    let is_hex = λ (b : ℕ). is_ascii_hexdigit b ≡ true in
-    let long = length-take-le n bytes (omega arith) in
-    let most = length-take-le digits bytes room in (
-      record {
-        each = subst (AllByRecursion is_hex) (take-take n digits bytes le) (AllByRecursion-take is_hex n (take digits bytes) text.0.each);
-        enough = omega arith;
-        few = omega (arith, long, most, text.0.few);
-      },
-      ap (λ (k : ℕ). k % 2) long ∙ even,
-    )
-
 -- ---- by lanes
 
 -- what the digits in the first of sixteen lanes spell, of the bytes of all lanes
 abbrev pub AreSpelledInFront : List ℕ → List ℕ → Type 0
 AreSpelledInFront lanes spelled =
     (n : ℕ) → n ≤ 8 → AllByRecursion (λ b. is_ascii_hexdigit b ≡ true) (take (2 * n) lanes) → take n spelled ≡ bytes_spelled (take (2 * n) lanes)
-
-pub front_bytes : (digits : ℕ) (bytes spelled : List ℕ) → 16 ≤ length bytes → digits ≤ 16 → IsDataText 16 (take digits bytes)
-    → AreSpelledInFront (take 16 bytes) spelled → take (digits / 2) spelled ≡ bytes_spelled (take digits bytes)
-front_bytes digits bytes spelled room few text are =
-    let n = digits / 2 in
-    let even : digits % 2 ≡ 0 = ap (λ (k : ℕ). k % 2) (sym (length-take-le digits bytes (omega arith))) ∙ text.1 in
-    let twice : 2 * n ≡ digits = omega arith in
-    let front : take (2 * n) (take 16 bytes) ≡ take digits bytes = ap (λ (k : ℕ). take k (take 16 bytes)) twice ∙ take-take digits 16 bytes few in
-    are n (omega arith) (subst (AllByRecursion (λ b. is_ascii_hexdigit b ≡ true)) (sym front) text.0.each) ∙ ap (λ (z : List ℕ). bytes_spelled z) front
 
 -- all lanes hold digits
 pub all_bytes : (digits spelled : List ℕ) → length digits ≡ 16 → length spelled ≡ 8 → AreHex digits → AreSpelledInFront (take 16 digits) spelled
@@ -128,39 +104,6 @@ all_bytes digits spelled long eight each are =
 -- how many of the digits stand in whole sixteens
 abbrev in_sixteens : ℕ → ℕ
 in_sixteens digits = 16 * (digits / 16)
-
--- the digits after these
-pub last_digits : (digits : ℕ) (bytes : List ℕ) → IsDataText 128 (take digits bytes) → digits ≤ length bytes
-    → IsDataText 16 (take (digits % 16) (drop (in_sixteens digits) bytes)) × (take digits bytes ≡ take (in_sixteens digits) bytes ++ take (digits % 16) (drop (in_sixteens digits) bytes))
-last_digits digits bytes text room =
-    let is_hex = λ (b : ℕ). is_ascii_hexdigit b ≡ true in
-    let last = take (digits % 16) (drop (in_sixteens digits) bytes) in
-    let sum : in_sixteens digits + digits % 16 ≡ digits = omega arith in
-    let parts : take digits bytes ≡ take (in_sixteens digits) bytes ++ last = ap (λ (n : ℕ). take n bytes) (sym sum) ∙ take-add (in_sixteens digits) (digits % 16) bytes in
-    let long : length last ≡ digits % 16 = length-take-le (digits % 16) (drop (in_sixteens digits) bytes) (omega (arith, length-drop (in_sixteens digits) bytes)) in
-    let even : digits % 2 ≡ 0 = ap (λ (k : ℕ). k % 2) (sym (length-take-le digits bytes room)) ∙ text.1 in (
-      (
-        record {
-          each = AllByRecursion-back is_hex (take (in_sixteens digits) bytes) last (subst (AllByRecursion is_hex) parts text.0.each);
-          enough = omega arith;
-          few = omega (arith, long);
-        },
-        omega (arith, long, even),
-      ),
-      parts,
-    )
-
-pub few_digits : (digits : ℕ) (bytes : List ℕ) → IsDataText 128 (take digits bytes) → digits ≤ length bytes → digits ≤ 128
-few_digits digits bytes text room = omega (arith, length-take-le digits bytes room, text.0.few)
-
--- the bytes of the first digits, and those of the last
-pub spelled_in_parts : (digits : ℕ) (bytes : List ℕ) → digits ≤ length bytes → IsDataText 128 (take digits bytes)
-    → bytes_spelled (take (in_sixteens digits) bytes) ++ bytes_spelled (take (digits % 16) (drop (in_sixteens digits) bytes)) ≡ bytes_spelled (take digits bytes)
-spelled_in_parts digits bytes room text =
-    let last = last_digits digits bytes text room in
-    let first : length (take (in_sixteens digits) bytes) ≡ in_sixteens digits = length-take-le (in_sixteens digits) bytes (omega arith) in
-    sym (spelled_append (take (in_sixteens digits) bytes) (take (digits % 16) (drop (in_sixteens digits) bytes)) (omega (arith, first)))
-    ∙ ap (λ (z : List ℕ). bytes_spelled z) (sym last.1)
 
 -- all digits stand in whole sixteens
 pub whole_sixteens : (digits : List ℕ) → length digits % 16 ≡ 0 → bytes_spelled (take (in_sixteens (length digits)) digits) ≡ bytes_spelled digits

@@ -60,21 +60,31 @@ fn hex_number(digits: &[u8]) -> u32
     n
 }
 
-/// The bytes that pairs of digits spell: sixteen digits at a time, and what is left of them by the crate `hex`. That tests
-/// each digit against three ranges, branches that the processor can't foresee in data; so it has the short rest alone.
+/// The data that digits spell.
 #[inline(always)]
 fn data_of(digits: &[u8]) -> FrameData
     requires { IsDataText 128 digits.now }
     ensures { result ≡ bytes_spelled digits.now }
 {
-    let sixteens = digits.len() / 16;
     let mut data = FrameData::new();
-    put_sixteens(sixteens, digits, &mut data);
+    put_data(digits, &mut data);
+    data
+}
+
+/// Puts the bytes that pairs of digits spell: sixteen digits at a time, and what is left of them by the crate `hex`. That tests
+/// each digit against three ranges, branches that the processor can't foresee in data; so it has the short rest alone.
+#[inline(always)]
+pub(crate) fn put_data(digits: &[u8], data: &mut FrameData)
+    requires text { IsDataText 128 digits.now }
+    requires empty { «data».old ≡ [] }
+    ensures { «data».new ≡ bytes_spelled digits.now }
+{
+    let sixteens = digits.len() / 16;
+    put_sixteens(sixteens, digits, data);
     if digits.len() % 16 != 0 {
         let last = &digits[16 * sixteens..];
         data.append(&few_bytes(last), last.len() / 2);
     }
-    data
 }
 
 /// Puts the bytes that a multiple of sixteen digits spells, whatever follows them.
@@ -89,47 +99,6 @@ fn put_sixteens(sixteens: usize, digits: &[u8], data: &mut FrameData)
     for i in 0..sixteens {
         data.append(&eight_bytes(&digits[16 * i..16 * i + 16]), 8);
     }
-}
-
-/// Puts the bytes that digits spell, by lanes alone: at least fifteen bytes follow the digits.
-#[inline(always)]
-pub(crate) fn put_data(digits: usize, text: &[u8], data: &mut FrameData)
-    requires room { digits + 15 ≤ length text.now }
-    requires text { IsDataText 128 (take digits text.now) }
-    requires empty { «data».old ≡ [] }
-    ensures { «data».new ≡ bytes_spelled (take digits text.now) }
-{
-    let sixteens = digits / 16;
-    put_sixteens(sixteens, text, data);
-    if digits % 16 != 0 {
-        put_few(digits % 16, &text[16 * sixteens..], data);
-    }
-}
-
-/// Puts the bytes that at most sixteen digits spell, after those that are there. The lanes reach sixteen bytes.
-#[inline(always)]
-pub(crate) fn put_few(digits: usize, text: &[u8], data: &mut FrameData)
-    requires few { digits ≤ 16 }
-    requires reach { 16 ≤ length text.now }
-    requires text { IsDataText 16 (take digits text.now) }
-    requires room { length «data».old + 8 ≤ 64 }
-    ensures { «data».new ≡ «data».old ++ bytes_spelled (take digits text.now) }
-{
-    let count = digits / 2;
-    let bytes = spelled(u8x16::from_slice(text));
-    data.append(&kept(count, bytes), count);
-}
-
-/// The first `count` of eight bytes, and zeros in the place of the others.
-#[inline(always)]
-fn kept(count: usize, bytes: [u8; 8]) -> [u8; 8]
-    requires { count ≤ 8 }
-    ensures { result ≡ take count bytes ++ zeros (8 - count) }
-{
-    let is_kept = u8x8::from_array([0, 1, 2, 3, 4, 5, 6, 7]).simd_lt(u8x8::splat(count as u8));
-    is_kept
-        .select(u8x8::from_array(bytes), u8x8::splat(0))
-        .to_array()
 }
 
 /// The bytes that fewer than sixteen digits spell, and zeros after them.

@@ -11,7 +11,7 @@ use crate::frame::{Frame, Kind, Stamped};
 use crate::frame_data::FrameData;
 use crate::hexadecimal::is_hex_digit;
 use crate::lanes::{LANES, hex_front, hex_run, visible_front};
-use crate::meaning::{identifier_of, put_data, put_few};
+use crate::meaning::{identifier_of, put_data};
 use crate::stamp::{has_decimals, micros_of};
 
 /// The longest line of a classic frame in plain form, and what else the lanes reach: a stamp of 20 bytes, 15 of the interface,
@@ -71,10 +71,7 @@ pub(crate) fn put_plain_data(fields: Fields<'_>, data: &mut FrameData)
     ensures { «data».new ≡ bytes_spelled (digits_of fields.entry.body) }
 {
     let body = fields.body;
-    match body.flags {
-        None => put_few(body.digits, body.behind, data),
-        Some(_) => put_data(body.digits, body.behind, data),
-    }
+    put_data(&body.behind[..body.digits], data)
 }
 
 /// What a line with these fields and this data records.
