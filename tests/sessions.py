@@ -168,6 +168,72 @@ def breaks_off(program):
     return wrong + differences("how many are accepted", accepted, 42)
 
 
+FIRST = "line (0.000000) can0 7E8#101462F190574241"
+NEXT = "line (1.00000{late}) can0 7E8#2133413543353045"
+COUNTS = "told lines 3 frames 3 messages {messages} dropped {dropped} ended {late} unfinished {open} pending 0"
+IS_OPEN = ["told end: unit reception from line 1 of 20 bytes unfinished"]
+IS_LATE = [
+    "told line 3: unit reception from line 1 of 20 bytes ended: late",
+    "told line 3: unit frame dropped: consecutive frame late",
+]
+
+
+def frames_without_part(program):
+    """After such a frame a reception goes on a second after its first frame, and is late a microsecond later."""
+    for row in tables.table("frames_without_part"):
+        for late, end in enumerate([IS_OPEN, IS_LATE]):
+            counts = dict(messages=len(row.texts("canonical")), dropped=len(row.texts("told")) + late, late=late, open=1 - late)
+            lines = [f"{mark} {text}" for mark, text in row.lines]
+            whole = Row(row.name, [FIRST, *lines, NEXT.format(late=late), *end, COUNTS.format(**counts)])
+            name = f"frames_without_part: {row.name}, {['on time', 'late'][late]}"
+            yield name, partial(session, program, whole, ["told"])
+
+
+# --- Names ------------------------------------------------------------------------------------------------------------------
+
+
+def names_listed(program):
+    yield "each service is listed by its name", partial(services_named, program, names_in("services"))
+    yield "each response code is listed by its name", partial(codes_named, program, names_in("response_codes"))
+
+
+def names_in(table):
+    """The names of a table, by their bytes."""
+    return {int(byte, 16): name for byte, _, name in (row.partition(" ") for row in tables.lines(table))}
+
+
+def services_named(program, services):
+    """A request of each byte without bit 6, with bit 7 of its second byte and without it: with it a request for a service that
+    has a sub-function asks for no answer."""
+    wrong = []
+    for second in [0x7F, 0x81]:
+        frames, items = [], []
+        for sid in (sid for sid in range(256) if not sid & 0x40):
+            name, _, has_sub_function = services.get(sid, f"service_{sid:02X}").partition(", ")
+            frames.append(f"7E0#02{sid:02X}{second:02X}")
+            outcome = "silent" if second & 0x80 and has_sub_function else "unanswered"
+            items.append(f"exchange {name} {sid:02X}{second:02X} -> {outcome}")
+        wrong += listed(program, frames, items)
+    return wrong
+
+
+def codes_named(program, codes):
+    """A negative response of each code but 78."""
+    frames, items = [], []
+    for code in (code for code in range(256) if code != 0x78):
+        frames += ["7E0#0322F190", f"7E8#037F22{code:02X}"]
+        items.append(f"exchange ReadDataByIdentifier 22F190 -> negative {codes.get(code, f'code_{code:02X}')} 7F22{code:02X}")
+    return listed(program, frames, items)
+
+
+def listed(program, frames, items):
+    """A log of these frames has these items."""
+    log = b"".join(tables.stamped(number, frame) for number, frame in enumerate(frames))
+    text = "".join(f"{number} {item}\n" for number, item in enumerate(items, 1))
+    found = taken(program, log)
+    return found.wrong + differences("list", found.listed, Ended(DONE, text.encode(), b""))
+
+
 # --- Limits and configurations ----------------------------------------------------------------------------------------------
 
 
@@ -268,12 +334,13 @@ def left_alone(program):
 # --- One message in many recordings -----------------------------------------------------------------------------------------
 
 # Lengths of messages, and how many lines their canonical logs have.
-LENGTHS = {8: 3, 13: 3, 14: 4, 4095: 587, 4096: 587, 65535: 9364}
+LENGTHS = {8: 3, 13: 3, 14: 4, 4095: 587, 4096: 587, 65535: 9364, 65536: 9364}
 
 def recordings(program):
     for size, shortest in SIZES.items():
         for length in [shortest, 4094, 4095, 4096, 65_535]:
             yield f"a message of {length} bytes in frames of {size}", partial(sent_in_each_style, program, length, size)
+    yield "the longest message in frames of 64", partial(sent_in_each_style, program, 1_048_575, 64)
     for length, lines in LENGTHS.items():
         yield f"the canonical log of a message of {length} bytes", partial(is_its_own, program, length, lines)
 
@@ -381,8 +448,8 @@ def main():
     with tempfile.TemporaryDirectory() as folder, ThreadPoolExecutor() as workers:
         program = Program(cases.program, Refuser(folder))
         kinds = [
-            sessions, logs_without_message, refused_lines, recording_that_breaks_off, limits, configurations, comparisons,
-            recordings, long_logs, devices,
+            sessions, logs_without_message, frames_without_part, refused_lines, recording_that_breaks_off, names_listed, limits,
+            configurations, comparisons, recordings, long_logs, devices,
         ]
         names, checks = zip(*(case for kind in kinds for case in kind(program)))
         cases.report("each table of rows/ is taken", [f"{name} is not" for name in tables.left()])
