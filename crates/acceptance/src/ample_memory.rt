@@ -1,6 +1,9 @@
 //! Calls that take memory, with ample supply and much to keep: none of them gives up.
 
+use crate::calls::meaning;
+use crate::rows::{frame_of, repeated};
 use can_log::Dir::{self, Tester, Unit};
+use isotp_receive::{Pair, Verdict};
 use std::test::Fail;
 use uds_exchange::{MessageSink, Orderer, Pairing};
 
@@ -18,7 +21,7 @@ fn hundreds_of_exchanges_are_paired(rt: HostRuntime) -> Result<(), Fail> {
         pairing.take(Unit, &STRAY)?;
         pairing.take(Unit, &[0x62, 0xF1, 0x90, 0x41])?;
     }
-    assert_eq!(rt; pairing.finish().len(), 2 * MANY);
+    assert!(rt; pairing.finish().len() == 2 * MANY);
     Ok(())
 }
 
@@ -29,7 +32,7 @@ fn hundreds_of_strays_are_paired(rt: HostRuntime) -> Result<(), Fail> {
     for _ in 0..MANY {
         pairing.take(Unit, &STRAY)?;
     }
-    assert_eq!(rt; pairing.finish().len(), MANY + 1);
+    assert!(rt; pairing.finish().len() == MANY + 1);
     Ok(())
 }
 
@@ -67,9 +70,35 @@ fn kilobytes_are_held_for_an_answer(rt: HostRuntime) -> Result<(), Fail> {
     for _ in 0..MANY {
         orderer.take(Unit, &STRAY, &mut put)?;
     }
-    assert_eq!(rt; (orderer.held(), put.messages), (50_000, 1));
+    assert!(rt; orderer.held() == 50_000 && put.messages == 1);
     orderer.take(Unit, &[0x62, 0xF1, 0x90], &mut put)?;
-    assert_eq!(rt; (orderer.held(), put.messages), (0, MANY + 2));
-    assert_eq!(rt; put.bytes, 50_006);
+    assert!(rt; orderer.held() == 0 && put.messages == MANY + 2 && put.bytes == 50_006);
+    Ok(())
+}
+
+#[test]
+fn thousands_of_frames_are_received(rt: HostRuntime) -> Result<(), Fail> {
+    let alloc = rt.alloc();
+    let mut pair = Pair::new(alloc);
+    let (mut begun, mut finished) = (0usize, 0usize);
+    let first = frame_of(alloc, "7E8#100862F190414243")?;
+    let last = frame_of(alloc, "7E8#214445")?;
+    for _ in 0..2 * MANY {
+        if pair.accept(1, 0, Unit, &first)?.verdict == Verdict::Began {
+            begun = begun.saturating_add(1);
+        }
+        if pair.accept(1, 0, Unit, &last)?.verdict == Verdict::Message(b"\x62\xF1\x90ABCDE") {
+            finished = finished.saturating_add(1);
+        }
+    }
+    assert!(rt; begun == 2 * MANY && finished == 2 * MANY);
+    Ok(())
+}
+
+#[test]
+fn thousands_of_frames_have_a_meaning(rt: HostRuntime) -> Result<(), Fail> {
+    let alloc = rt.alloc();
+    let log = repeated(alloc, "(1.000000) can0 7E8#0759595959595959\n", 4 * MANY)?;
+    assert!(rt; meaning(alloc, log.as_bytes())??.len() == 4 * MANY);
     Ok(())
 }

@@ -1,23 +1,26 @@
 //! What std's errors become, and what the devices for tests give and take. The answers of a device are told call by call, and
 //! compared with a row.
 
-use crate::rows::{assert_marked, line_marked, lines_of, name_of, rows_of};
+use crate::rows::{
+    assert_front, assert_marked, digits_of, line_marked, lines_of, number_of, rows_of,
+};
 use std::alloc::{AllocError, Global};
 use std::io;
 use std::io::ErrorKind;
 use std::process::Abort;
 use std::test::Fail;
 use trace_io::{
-    Endless, FailsAfter, FailsAt, FullAfter, Reading, Short, Source, Target, Writing, write_all,
+    DeviceFault, Endless, FailsAfter, FailsAt, FullAfter, Reading, Short, Source, Target, Writing,
+    write_all,
 };
 
 /// Reads, each with room for a number of bytes, what it answers with the buffer afterwards, and what is counted.
 const FAILS_AT_THE_SECOND_READ: &str = "\
 three bytes, and a failure between them
-read 2: Ok(2) 6162
-read 2: Err(DeviceFault) 0000
-read 2: Ok(1) 6300
-read 2: Ok(0) 0000
+read 2: 2 #6162
+read 2: fails #0000
+read 2: 1 #6300
+read 2: 0 #0000
 counts 4 reads, 3 bytes, 1 failures
 ";
 
@@ -43,25 +46,25 @@ fn any_error_of_the_reader_is_a_failure_and_gives_nothing(rt: HostRuntime) -> Re
 const FAILS_AT_A_CALL: &str = "\
 the first write
 after 0
-call write a: Err(DeviceFault)
-call write b: Ok(1)
-call flush: Ok(())
+call write a: fails
+call write b: 1
+call flush: 0
 counts 1 failures
 taken b
 
 the second write
 after 1
-call write a: Ok(1)
-call write b: Err(DeviceFault)
-call flush: Ok(())
+call write a: 1
+call write b: fails
+call flush: 0
 counts 1 failures
 taken a
 
 the flush
 after 2
-call write a: Ok(1)
-call write b: Ok(1)
-call flush: Err(DeviceFault)
+call write a: 1
+call write b: 1
+call flush: fails
 counts 1 failures
 taken ab
 ";
@@ -76,7 +79,7 @@ fn any_error_of_the_writer_is_a_failure_and_takes_nothing(rt: HostRuntime) -> Re
         for row in rows_of(FAILS_AT_A_CALL) {
             let mut writer = Writing::new(FailsAt {
                 inner: Vec::new(rt.alloc()),
-                after: Some(line_marked(row, "after").parse::<u64>()?),
+                after: Some(number_of(line_marked(row, "after"))?),
                 kind,
             });
             assert_writes(&rt, rt.alloc(), &mut writer, row)?;
@@ -89,11 +92,11 @@ fn any_error_of_the_writer_is_a_failure_and_takes_nothing(rt: HostRuntime) -> Re
 /// An empty piece asks for nothing, and so it doesn't fail.
 const FULL: &str = "\
 room for two bytes
-call write a: Ok(1)
-call write bc: Ok(1)
-call write c: Err(DeviceFault)
-call write : Ok(0)
-call flush: Ok(())
+call write a: 1
+call write bc: 1
+call write c: fails
+call write : 0
+call flush: 0
 counts 1 failures
 taken ab
 ";
@@ -111,9 +114,9 @@ fn a_write_that_takes_nothing_is_a_failure(rt: HostRuntime) -> Result<(), Fail> 
 
 const SHORT_READS: &str = "\
 two bytes
-read 4: Ok(1) 61000000
-read 4: Ok(1) 62000000
-read 4: Ok(0) 00000000
+read 4: 1 #61000000
+read 4: 1 #62000000
+read 4: 0 #00000000
 counts 3 reads, 2 bytes, 0 failures
 ";
 
@@ -128,8 +131,8 @@ fn a_short_device_gives_one_byte_a_call(rt: HostRuntime) -> Result<(), Fail> {
 
 const SHORT_WRITES: &str = "\
 two bytes in two calls
-call write ab: Ok(1)
-call write b: Ok(1)
+call write ab: 1
+call write b: 1
 counts 0 failures
 taken ab
 ";
@@ -154,29 +157,29 @@ fn a_short_device_takes_one_byte_a_call(rt: HostRuntime) -> Result<(), Fail> {
 const WHOLE: &str = "\
 no room
 room 0
-call all : Ok(())
-call all abc: Err(DeviceFault)
+call all : 0
+call all abc: fails
 counts 1 failures
 taken
 
 room for a part
 room 2
-call all : Ok(())
-call all abc: Err(DeviceFault)
+call all : 0
+call all abc: fails
 counts 1 failures
 taken ab
 
 as much room as is needed
 room 3
-call all : Ok(())
-call all abc: Ok(())
+call all : 0
+call all abc: 3
 counts 0 failures
 taken abc
 
 more room
 room 4
-call all : Ok(())
-call all abc: Ok(())
+call all : 0
+call all abc: 3
 counts 0 failures
 taken abc
 ";
@@ -187,7 +190,7 @@ fn a_text_is_written_whole_or_as_far_as_there_is_room(rt: HostRuntime) -> Result
         let mut writer = Writing::new(Short {
             inner: FullAfter {
                 inner: Vec::new(rt.alloc()),
-                room: line_marked(row, "room").parse::<usize>()?,
+                room: number_of(line_marked(row, "room"))? as usize,
             },
             most: 1,
         });
@@ -204,10 +207,10 @@ fn a_text_is_written_whole_or_as_far_as_there_is_room(rt: HostRuntime) -> Result
 
 const FAILING_READS: &str = "\
 three bytes, of which two are given
-read 1: Ok(1) 61
-read 4: Ok(1) 62000000
-read 4: Err(DeviceFault) 00000000
-read 4: Err(DeviceFault) 00000000
+read 1: 1 #61
+read 4: 1 #62000000
+read 4: fails #00000000
+read 4: fails #00000000
 counts 4 reads, 2 bytes, 2 failures
 left c
 ";
@@ -226,9 +229,9 @@ fn every_read_behind_two_bytes_fails(rt: HostRuntime) -> Result<(), Fail> {
 
 const FAILING_WRITES: &str = "\
 three bytes, of which two are taken
-call write a: Ok(1)
-call write bc: Ok(1)
-call write c: Err(DeviceFault)
+call write a: 1
+call write bc: 1
+call write c: fails
 counts 1 failures
 taken ab
 ";
@@ -252,9 +255,9 @@ fn every_write_behind_two_bytes_fails(rt: HostRuntime) -> Result<(), Fail> {
 
 const ENDLESS: &str = "\
 a line feed without end
-read 0: Ok(0)
-read 2: Ok(1) 0A00
-read 2: Ok(1) 0A00
+read 0: 0 #
+read 2: 1 #0A00
+read 2: 1 #0A00
 counts 3 reads, 2 bytes, 0 failures
 ";
 
@@ -265,8 +268,8 @@ fn one_byte_is_given_without_end(rt: HostRuntime) -> Result<(), Fail> {
 
 const REPEATED: &str = "\
 a line feed repeated
-read 2: Ok(1) 0A00
-read 2: Ok(1) 0A00
+read 2: 1 #0A00
+read 2: 1 #0A00
 counts 2 reads, 2 bytes, 0 failures
 ";
 
@@ -290,7 +293,7 @@ fn assert_reads<R: Source>(
     for line in lines_of(row) {
         if let Some(read) = line.strip_prefix("read ") {
             let (room, _) = read.split_once(':').ok_or("no answer")?;
-            push_read(rt, alloc, &mut told, reader, room.parse::<usize>()?)?;
+            push_read(rt, alloc, &mut told, reader, number_of(room)? as usize)?;
         }
     }
     assert_marked(rt, alloc, row, "read", told.as_str())?;
@@ -313,9 +316,17 @@ fn push_read<R: Source>(
     assert!(rt; reader.reads() < 1000 && reader.given() < 1000 && reader.failures() < 1000);
     assert!(rt; buffer.len() < 1000);
     let answer = reader.read(&mut buffer);
-    let digits = hex::encode_upper(alloc, buffer.as_slice())?;
-    text.push_str(format!(in alloc; "{room}: {answer:?} {digits}")?.trim_end())?;
-    text.push_str("\n")
+    let told = told_answer(alloc, answer)?;
+    let digits = digits_of(alloc, &buffer)?;
+    text.push_str(&format!(in alloc; "{room}: {told} #{digits}\n")?)
+}
+
+/// Tells how many bytes a call gave or took, or that it failed.
+fn told_answer(alloc: Global, answer: Result<usize, DeviceFault>) -> Result<String, AllocError> {
+    match answer {
+        Ok(count) => format!(in alloc; "{count}"),
+        Err(DeviceFault) => String::from_str(alloc, "fails"),
+    }
 }
 
 /// A writer answers the calls of a row as the row has it, and has counted what the row says.
@@ -339,7 +350,7 @@ fn assert_writes<W: Target>(
     Ok(())
 }
 
-/// Tells what is answered to a call: a piece written, a whole text written, or else a flush.
+/// Tells what is answered to a call.
 fn push_write<W: Target>(
     rt: &impl Abort,
     alloc: Global,
@@ -347,21 +358,25 @@ fn push_write<W: Target>(
     writer: &mut W,
     call: &str,
 ) -> Result<(), AllocError> {
+    let answer = answer_to(rt, writer, call);
+    let told = told_answer(alloc, answer)?;
+    text.push_str(&format!(in alloc; "{call}: {told}\n")?)
+}
+
+/// How many bytes are taken of a piece or of a whole text. A flush, the other call, takes none.
+fn answer_to<W: Target>(rt: &impl Abort, writer: &mut W, call: &str) -> Result<usize, DeviceFault> {
     assert!(rt; writer.failures() < 1000);
-    let answer = match call.split_once(' ') {
-        Some(("write", piece)) => format!(in alloc; "{:?}", writer.write(piece.as_bytes()))?,
-        Some(("all", whole)) => format!(in alloc; "{:?}", write_all(writer, whole.as_bytes()))?,
-        _ => format!(in alloc; "{:?}", writer.flush())?,
-    };
-    text.push_str(&format!(in alloc; "{call}: {answer}\n")?)
+    if let Some(piece) = call.strip_prefix("write ") {
+        return writer.write(piece.as_bytes());
+    }
+    if let Some(whole) = call.strip_prefix("all ") {
+        return write_all(writer, whole.as_bytes()).and(Ok(whole.len()));
+    }
+    writer.flush().and(Ok(0))
 }
 
 /// These bytes are those that the row has with this mark.
 fn assert_bytes(rt: &impl Abort, row: &str, mark: &str, found: &[u8]) {
-    assert_eq!(rt;
-        found,
-        line_marked(row, mark).as_bytes(),
-        "{}",
-        name_of(row)
-    );
+    let expected = line_marked(row, mark);
+    assert_front(rt, found, expected, expected.len());
 }

@@ -1,6 +1,9 @@
 //! What a frame says, whatever came before it. No expected value comes from the program.
 
-use crate::rows::{assert_marked, frame_of, line_marked, lines_of, rows_of};
+use crate::rows::{
+    assert_marked, assert_text, bytes_of, digits_of, frame_of, line_marked, lines_of, number_of,
+    rows_of,
+};
 use can_log::{Frame, Id, Kind};
 use isotp_pdu::{Pdu, read_pdu};
 use std::alloc::{AllocError, Global};
@@ -135,21 +138,27 @@ fn each_frame_has_the_layout_or_fault_of_its_row(rt: HostRuntime) -> Result<(), 
 
 /// Tells what a frame says: its layout with its bytes, or its fault.
 fn told(alloc: Global, frame: &Frame) -> Result<String, AllocError> {
-    let (what, bytes) = match read_pdu(frame) {
-        Ok(Pdu::Single(bytes)) => (String::from_str(alloc, "Single")?, bytes),
-        Ok(Pdu::First { len, rx_dl, bytes }) => (format!(in alloc; "First {len} {rx_dl}")?, bytes),
+    match read_pdu(frame) {
+        Ok(Pdu::Single(bytes)) => with_bytes(alloc, "Single", bytes),
+        Ok(Pdu::First { len, rx_dl, bytes }) => {
+            with_bytes(alloc, &format!(in alloc; "First {len} {rx_dl}")?, bytes)
+        }
         Ok(
             Pdu::Next {
                 sn,
                 frame_len,
                 bytes,
             },
-        ) => (format!(in alloc; "Next {sn} {frame_len}")?, bytes),
-        Ok(Pdu::Flow(status)) => return format!(in alloc; "Flow {status:?}\n"),
-        Err(fault) => return format!(in alloc; "{fault:?}\n"),
-    };
-    let digits = hex::encode_upper(alloc, bytes)?;
-    format!(in alloc; "{what} #{digits}\n")
+        ) => with_bytes(alloc, &format!(in alloc; "Next {sn} {frame_len}")?, bytes),
+        Ok(Pdu::Flow(status)) => format!(in alloc; "Flow {status:?}\n"),
+        Err(fault) => format!(in alloc; "{fault:?}\n"),
+    }
+}
+
+/// Tells a layout and the bytes of the message.
+fn with_bytes(alloc: Global, layout: &str, bytes: &[u8]) -> Result<String, AllocError> {
+    let digits = digits_of(alloc, bytes)?;
+    format!(in alloc; "{layout} #{digits}\n")
 }
 
 /// Lengths of frames, how they may begin, and what they then say: the layout with the place of its bytes in the frame, or the
@@ -298,7 +307,7 @@ fn every_kind_of_frame_at_every_length(rt: HostRuntime) -> Result<(), Fail> {
 /// Frames of each length of a row say what the row has.
 fn assert_lengths(rt: &impl Abort, alloc: Global, row: &str) -> Result<(), Fail> {
     for len in line_marked(row, "lengths").split(' ') {
-        assert_heads(rt, alloc, len.parse::<usize>()?, row)?;
+        assert_heads(rt, alloc, number_of(len)? as usize, row)?;
     }
     Ok(())
 }
@@ -350,14 +359,14 @@ fn assert_says(
     head: &str,
     answer: &str,
 ) -> Result<(), Fail> {
-    let mut data = hex::decode(alloc, head)?;
+    let mut data = bytes_of(alloc, head)?;
     data.resize(len, 9)?;
-    let expected = expected_of(alloc, answer, data.as_slice())?;
+    let expected = expected_of(alloc, answer, &data)?;
     if len <= 8 {
-        assert_told(rt, alloc, Kind::Classic, data.as_slice(), expected.as_str())?;
+        assert_told(rt, alloc, Kind::Classic, &data, &expected)?;
     }
     if len <= 64 {
-        assert_told(rt, alloc, Kind::Fd, data.as_slice(), expected.as_str())?;
+        assert_told(rt, alloc, Kind::Fd, &data, &expected)?;
     }
     Ok(())
 }
@@ -368,12 +377,12 @@ fn expected_of(alloc: Global, answer: &str, data: &[u8]) -> Result<String, Fail>
     let Some((what, place)) = answer.split_once(", from ") else {
         return Ok(format!(in alloc; "{answer}\n")?);
     };
-    let bytes = data.get(place.parse::<usize>()?..).ok_or("no place")?;
-    let (len, digits) = (data.len(), hex::encode_upper(alloc, bytes)?);
+    let bytes = data.get(number_of(place)? as usize..).ok_or("no place")?;
     if what == "Single" {
-        return Ok(format!(in alloc; "Single #{digits}\n")?);
+        return Ok(with_bytes(alloc, what, bytes)?);
     }
-    Ok(format!(in alloc; "{what} {len} #{digits}\n")?)
+    let len = data.len();
+    Ok(with_bytes(alloc, &format!(in alloc; "{what} {len}")?, bytes)?)
 }
 
 /// This is told of a frame of this kind with this data.
@@ -385,7 +394,6 @@ fn assert_told(
     expected: &str,
 ) -> Result<(), Fail> {
     let frame = Frame::new(Id::Std(0x7E8), kind, data).ok_or("no frame")?;
-    let found = told(alloc, &frame)?;
-    assert_eq!(rt; found.as_str(), expected, "{kind:?}, {} bytes", data.len());
+    assert_text(rt, expected, &told(alloc, &frame)?, expected);
     Ok(())
 }

@@ -1,7 +1,7 @@
 //! The grammar of lines at its corners, logs that are cut in every way, and canonical lines. No expected value comes from the
 //! program.
 
-use crate::rows::{assert_marked, lines_of, log_marked, name_of, rows_of};
+use crate::rows::{assert_marked, digits_of, lines_of, log_marked, name_of, rows_of};
 use can_log::{Id, LineClock, Scan, Scanner, Stamped, append_line, line_bytes};
 use std::alloc::{AllocError, Global};
 use std::process::Abort;
@@ -174,7 +174,7 @@ fn push_meaning(
         Id::Std(id) => format!(in alloc; "{id:03X}")?,
         Id::Ext(id) => format!(in alloc; "{id:08X}")?,
     };
-    let digits = hex::encode_upper(alloc, stamped.frame.data())?;
+    let digits = digits_of(alloc, stamped.frame.data())?;
     let (micros, kind) = (stamped.micros, stamped.frame.kind());
     text.push_str(&format!(in alloc; "{micros} {id}#{digits} {kind:?}\n")?)
 }
@@ -245,22 +245,35 @@ fn hand_in(
 ) -> Result<(), Fail> {
     let mut rest = piece;
     for _ in 0..=piece.len() {
-        assert!(rt; scanner.taken() < 1_000_000 && rest.len() < 1_000_000);
-        match scanner.scan(rest) {
-            Scan::NeedMore => return Ok(()),
-            Scan::Bad { line, column } => {
-                scanned.refused = Some((line, column));
-                return Ok(());
-            }
-            Scan::Line { used, line, what } => {
-                scanned.lines.push(what)?;
-                assert_eq!(rt; line, scanned.lines.len() as u64);
-                rest = rest.get(used..).ok_or("more was used than handed in")?;
-            }
-            Scan::End => return Err("an end of a piece")?,
+        match hand_in_once(rt, scanner, scanned, rest)? {
+            Some(used) => rest = rest.get(used..).ok_or("more was used than handed in")?,
+            None => return Ok(()),
         }
     }
     Err("a piece without an end")?
+}
+
+/// How many bytes were taken up to the end of a line, where one ends in the piece.
+fn hand_in_once(
+    rt: &impl Abort,
+    scanner: &mut Scanner,
+    scanned: &mut Scanned,
+    piece: &[u8],
+) -> Result<Option<usize>, Fail> {
+    assert!(rt; scanner.taken() < 1_000_000 && piece.len() < 1_000_000);
+    match scanner.scan(piece) {
+        Scan::NeedMore => Ok(None),
+        Scan::Bad { line, column } => {
+            scanned.refused = Some((line, column));
+            Ok(None)
+        }
+        Scan::Line { used, line, what } => {
+            scanned.lines.push(what)?;
+            assert!(rt; line == scanned.lines.len() as u64);
+            Ok(Some(used))
+        }
+        Scan::End => Err("an end of a piece")?,
+    }
 }
 
 fn finish(rt: &impl Abort, mut scanner: Scanner, scanned: &mut Scanned) -> Result<(), Fail> {
@@ -275,89 +288,66 @@ fn finish(rt: &impl Abort, mut scanner: Scanner, scanned: &mut Scanned) -> Resul
     Ok(())
 }
 
-/// The column of the first byte that no line can have there, and the line.
+/// The column of the first byte that no line can have there, and the line; at the end lines without a line feed.
 const REFUSED: &str = "\
-1  (1.000000) can0 7E0#
-1 DROPCOUNT: 1
-6 (2024-01-01 00:00:00.000000) can0 7E0#00
-2 (.000000) can0 7E0#
-12 (12345678901.000000) can0 7E0#
-10 (1.0000000) can0 7E0#
-27 (1.000000) abcdefghijklmnop 7E0#
-27 (1.000000)                 can0 7E0#
-20 (1.000000) can0 800#00
-21 (1.000000) can0 7E00#
-23 (1.000000) can0 7E0#03.22
-37 (1.000000) can0 7E0#001122334455667788
-23 (1.000000) can0 7E0#00_9
-22 (1.000000) can0 7E0#R9
-22 (1.000000) can0 7E0##
-24 (1.000000) can0 7E0#00 X
-24 (1.000000) can0 7E0#00\x20
-24 (1.000000) can0 7E0#00\rx
-5 (1.0\r
-22 (1.000000) can0 7E0#0
-22 (1.000000) can0 7E0#0\r
-24 (1.000000) can0 7E0#00\r\r
-9 (1.00000) can0 7E0#
-3 (1,000000) can0 7E0#
-11 (1.000000)can0 7E0#
-13 (1.000000) c\x7fn0 7E0#
-32 (1.000000) can0                 7E0#
-37 (1.000000) can0 7E0#                 R
-19 (1.000000) can0 7E#
-20 (1.000000) can0 FFF#
-24 (1.000000) can0 1FFFFFF#
-25 (1.000000) can0 1FFFFFFF0#
-35 (1.000000) can0 7E0#00112233445566_9
-38 (1.000000) can0 7E0#0011223344556677_8
-38 (1.000000) can0 7E0#0011223344556677_G
-23 (1.000000) can0 7E0#R7_9
-22 (1.000000) can0 7E0#R_9
-24 (1.000000) can0 7E0#R8_8
-21 (1.000000) can0 7E0#r
-22 (1.000000) can0 7E0# t
-23 (1.000000) can0 7E0# RT
-23 (1.000000) can0 7E0##0_9
-40 (1.000000) can0 7E0##000112233445566778_9
-151 (1.000000) can0 7E0##0000102030405060708090A0B0C0D0E0F101112131415161718191A1B1C1D1E1F202122232425262728292A2B2C2D2E2F303132333435363738393A3B3C3D3E3F00";
+1 line  (1.000000) can0 7E0#
+1 line DROPCOUNT: 1
+6 line (2024-01-01 00:00:00.000000) can0 7E0#00
+2 line (.000000) can0 7E0#
+12 line (12345678901.000000) can0 7E0#
+10 line (1.0000000) can0 7E0#
+27 line (1.000000) abcdefghijklmnop 7E0#
+27 line (1.000000)                 can0 7E0#
+20 line (1.000000) can0 800#00
+21 line (1.000000) can0 7E00#
+23 line (1.000000) can0 7E0#03.22
+37 line (1.000000) can0 7E0#001122334455667788
+23 line (1.000000) can0 7E0#00_9
+22 line (1.000000) can0 7E0#R9
+22 line (1.000000) can0 7E0##
+24 line (1.000000) can0 7E0#00 X
+24 line (1.000000) can0 7E0#00\x20
+24 line (1.000000) can0 7E0#00\rx
+5 line (1.0\r
+22 line (1.000000) can0 7E0#0
+22 line (1.000000) can0 7E0#0\r
+24 line (1.000000) can0 7E0#00\r\r
+9 line (1.00000) can0 7E0#
+3 line (1,000000) can0 7E0#
+11 line (1.000000)can0 7E0#
+13 line (1.000000) c\x7fn0 7E0#
+32 line (1.000000) can0                 7E0#
+37 line (1.000000) can0 7E0#                 R
+19 line (1.000000) can0 7E#
+20 line (1.000000) can0 FFF#
+24 line (1.000000) can0 1FFFFFF#
+25 line (1.000000) can0 1FFFFFFF0#
+35 line (1.000000) can0 7E0#00112233445566_9
+38 line (1.000000) can0 7E0#0011223344556677_8
+38 line (1.000000) can0 7E0#0011223344556677_G
+23 line (1.000000) can0 7E0#R7_9
+22 line (1.000000) can0 7E0#R_9
+24 line (1.000000) can0 7E0#R8_8
+21 line (1.000000) can0 7E0#r
+22 line (1.000000) can0 7E0# t
+23 line (1.000000) can0 7E0# RT
+23 line (1.000000) can0 7E0##0_9
+40 line (1.000000) can0 7E0##000112233445566778_9
+151 line (1.000000) can0 7E0##0000102030405060708090A0B0C0D0E0F101112131415161718191A1B1C1D1E1F202122232425262728292A2B2C2D2E2F303132333435363738393A3B3C3D3E3F00
+16 last (1.000000) can0
+2 last (
+22 last (1.000000) can0 7E0#0
+2 last \r\r
+24 last (1.000000) can0 7E0#00 \r";
 
 #[test]
 fn refused_bytes_are_found_however_the_log_is_cut(rt: HostRuntime) -> Result<(), Fail> {
     let alloc = rt.alloc();
-    for row in lines_of(REFUSED) {
-        let (_, line) = row.split_once(' ').ok_or("no column")?;
-        let log = format!(in alloc; "{line}\n")?;
-        assert_refused(&rt, alloc, row, log.as_bytes())?;
+    for refused in lines_of(REFUSED) {
+        let (column, line) = refused.split_once(' ').ok_or("no column")?;
+        let row = format!(in alloc; "{refused}\n{line}\nrefused line 1 column {column}\n")?;
+        assert_log(&rt, alloc, &row)?;
     }
-    Ok(())
-}
-
-/// The same of lines without a line feed.
-const UNFINISHED: &str = "\
-16 (1.000000) can0
-2 (
-22 (1.000000) can0 7E0#0
-2 \r\r
-24 (1.000000) can0 7E0#00 \r";
-
-#[test]
-fn refused_bytes_of_an_unfinished_line_are_found(rt: HostRuntime) -> Result<(), Fail> {
-    for row in lines_of(UNFINISHED) {
-        let (_, line) = row.split_once(' ').ok_or("no column")?;
-        assert_refused(&rt, rt.alloc(), row, line.as_bytes())?;
-    }
-    Ok(())
-}
-
-/// A log of one line is refused at the column in front of the row.
-fn assert_refused(rt: &impl Abort, alloc: Global, row: &str, log: &[u8]) -> Result<(), Fail> {
-    let scanned = scanned_each_way(rt, alloc, row, log)?;
-    assert!(rt; scanned.lines.is_empty(), "{row}");
-    let (line, column) = scanned.refused.ok_or("accepted")?;
-    assert_eq!(rt; line, 1, "{row}");
-    let column = format!(in alloc; "{column} ")?;
-    assert!(rt; row.starts_with(column.as_str()), "{column}: {row}");
     Ok(())
 }
 
@@ -399,71 +389,66 @@ fn each_byte_of_a_plain_fd_line_is_looked_at(rt: HostRuntime) {
 #[test]
 fn a_long_line_of_digits_takes_nothing(rt: HostRuntime) -> Result<(), Fail> {
     let mut piece = Vec::new(rt.alloc());
+    piece.push(b'(')?;
     piece.resize(1_000_000, b'1')?;
-    assert!(rt; !piece.is_empty());
-    piece[0] = b'(';
     let mut scanner = Scanner::new();
     assert!(rt; scanner.taken() == 0 && piece.len() < 2_000_000);
-    assert_eq!(rt;
-        scanner.scan(&piece),
-        Scan::Bad {
-            line: 1,
-            column: 12
-        }
-    );
-    assert_eq!(rt; scanner.taken(), 0);
-    assert_eq!(rt;
-        scanner.finish(),
-        Scan::Bad {
-            line: 1,
-            column: 12
-        }
-    );
+    let refused = Scan::Bad {
+        line: 1,
+        column: 12,
+    };
+    assert!(rt; scanner.scan(&piece) == refused && scanner.taken() == 0);
+    assert!(rt; scanner.finish() == refused);
     Ok(())
 }
 
+/// Numbers of lines, identifiers, data, and the canonical lines.
+const CANONICAL_LINES: [(u64, Id, [u8; 8], &str); 6] = [
+    (
+        0,
+        Id::Std(0),
+        [0; 8],
+        "(0000000000.000000) can0 000#0000000000000000\n",
+    ),
+    (
+        1,
+        Id::Std(0x7E8),
+        [0x10, 0x14, 0x62, 0xF1, 0x90, 0x57, 0x42, 0x41],
+        "(0000000000.001000) can0 7E8#101462F190574241\n",
+    ),
+    (
+        9_999_999_999_999,
+        Id::Std(0x7FF),
+        [0xFF; 8],
+        "(9999999999.999000) can0 7FF#FFFFFFFFFFFFFFFF\n",
+    ),
+    (
+        0,
+        Id::Ext(0x18DA10F1),
+        [0x03, 0x22, 0xF1, 0x90, 0xCC, 0xCC, 0xCC, 0xCC],
+        "(0000000000.000000) can0 18DA10F1#0322F190CCCCCCCC\n",
+    ),
+    (
+        9_999_999_999_999,
+        Id::Ext(0x1FFFFFFF),
+        [0xFF; 8],
+        "(9999999999.999000) can0 1FFFFFFF#FFFFFFFFFFFFFFFF\n",
+    ),
+    (
+        2,
+        Id::Ext(0x7E0),
+        [0; 8],
+        "(0000000000.002000) can0 000007E0#0000000000000000\n",
+    ),
+];
+
 #[test]
 fn first_and_last_lines(rt: HostRuntime) {
-    let vin = [0x10, 0x14, 0x62, 0xF1, 0x90, 0x57, 0x42, 0x41];
-    for (n, id, data, line) in [
-        (
-            0,
-            Id::Std(0),
-            [0; 8],
-            b"(0000000000.000000) can0 000#0000000000000000\n".as_slice(),
-        ),
-        (
-            1,
-            Id::Std(0x7E8),
-            vin,
-            b"(0000000000.001000) can0 7E8#101462F190574241\n".as_slice(),
-        ),
-        (
-            9_999_999_999_999,
-            Id::Std(0x7FF),
-            [0xFF; 8],
-            b"(9999999999.999000) can0 7FF#FFFFFFFFFFFFFFFF\n".as_slice(),
-        ),
-        (
-            0,
-            Id::Ext(0x18DA10F1),
-            [0x03, 0x22, 0xF1, 0x90, 0xCC, 0xCC, 0xCC, 0xCC],
-            b"(0000000000.000000) can0 18DA10F1#0322F190CCCCCCCC\n".as_slice(),
-        ),
-        (
-            9_999_999_999_999,
-            Id::Ext(0x1FFFFFFF),
-            [0xFF; 8],
-            b"(9999999999.999000) can0 1FFFFFFF#FFFFFFFFFFFFFFFF\n".as_slice(),
-        ),
-        (
-            2,
-            Id::Ext(0x7E0),
-            [0; 8],
-            b"(0000000000.002000) can0 000007E0#0000000000000000\n".as_slice(),
-        ),
-    ] {
-        assert_eq!(rt; line_bytes(n, id, &data).as_slice(), line);
+    for (n, id, data, line) in CANONICAL_LINES {
+        assert!(rt;
+            line_bytes(n, id, &data).as_slice() == line.as_bytes(),
+            "{line}"
+        );
     }
 }
 

@@ -1,7 +1,8 @@
 //! What lists of messages mean, and the order in which they are put. No expected value comes from the program.
 
 use crate::rows::{
-    assert_marked, assert_text, line_marked, messages_marked, name_of, push_message, rows_of,
+    assert_marked, assert_text, digits_of, line_marked, lines_of, message_spelled, number_of,
+    push_message, rows_of, shown,
 };
 use can_log::Dir::{self, Tester, Unit};
 use std::alloc::{AllocError, Global};
@@ -163,12 +164,15 @@ item stray Tester#
 fn each_list_has_the_meaning_of_its_row(rt: HostRuntime) -> Result<(), Fail> {
     let alloc = rt.alloc();
     for row in rows_of(MEANINGS) {
-        let meaning = meaning_of(alloc, row, "message")?;
+        let meaning = meaning_of(alloc, row, "message ")?;
         let items = items_text(alloc, &meaning)?;
-        assert_marked(&rt, alloc, row, "item", items.as_str())?;
-        assert_eq!(rt; meaning.is_empty(), items.is_empty(), "{}", name_of(row));
-        let behind = meaning.item(meaning.len());
-        assert!(rt; behind.is_none(), "{}", name_of(row));
+        assert_marked(&rt, alloc, row, "item", &items)?;
+        assert!(rt;
+            meaning.is_empty() == items.is_empty() && meaning.item(meaning.len()).is_none()
+        );
+        let mut sink = Recorder::new(alloc, 10);
+        steps_of(alloc, row, &mut sink)?;
+        assert_text(&rt, row, &sink.messages, &in_order(alloc, &meaning)?);
     }
     Ok(())
 }
@@ -176,8 +180,11 @@ fn each_list_has_the_meaning_of_its_row(rt: HostRuntime) -> Result<(), Fail> {
 /// What the messages in the lines of a row with this mark mean.
 fn meaning_of(alloc: Global, row: &str, mark: &str) -> Result<Meaning, Fail> {
     let mut pairing = Pairing::new(alloc);
-    for message in &messages_marked(alloc, row, mark)? {
-        pairing.take(message.dir, message.bytes.as_slice())?;
+    for line in lines_of(row) {
+        if let Some(message) = line.strip_prefix(mark) {
+            let (dir, bytes) = message_spelled(alloc, message)?;
+            pairing.take(dir, &bytes)?;
+        }
     }
     Ok(pairing.finish())
 }
@@ -186,29 +193,30 @@ fn meaning_of(alloc: Global, row: &str, mark: &str) -> Result<Meaning, Fail> {
 pub(crate) fn items_text(alloc: Global, meaning: &Meaning) -> Result<String, AllocError> {
     let mut text = String::new(alloc);
     for i in 0..meaning.len() {
-        push_item(alloc, &mut text, meaning.item(i))?;
+        if let Some(item) = meaning.item(i) {
+            push_item(alloc, &mut text, item)?;
+        }
     }
     Ok(text)
 }
 
-fn push_item(alloc: Global, text: &mut String, item: Option<&Item>) -> Result<(), AllocError> {
+fn push_item(alloc: Global, text: &mut String, item: &Item) -> Result<(), AllocError> {
     match item {
-        Some(Item::Exchange { request, answer }) => {
-            let request = hex::encode_upper(alloc, request.as_slice())?;
-            let answer = match answer {
-                Some(answer) => {
-                    let answer = hex::encode_upper(alloc, answer.as_slice())?;
-                    format!(in alloc; "-> {answer}")?
-                }
-                None => String::from_str(alloc, "unanswered")?,
-            };
-            text.push_str(&format!(in alloc; "exchange {request} {answer}\n")?)
+        Item::Exchange { request, answer } => {
+            text.push_str("exchange ")?;
+            text.push_str(&digits_of(alloc, request)?)?;
+            if let Some(answer) = answer {
+                text.push_str(" -> ")?;
+                text.push_str(&digits_of(alloc, answer)?)?;
+                text.push_str("\n")
+            } else {
+                text.push_str(" unanswered\n")
+            }
         }
-        Some(Item::Stray { dir, bytes }) => {
+        Item::Stray { dir, bytes } => {
             text.push_str("stray ")?;
-            push_message(alloc, text, *dir, bytes.as_slice())
+            push_message(alloc, text, *dir, bytes)
         }
-        None => text.push_str("none\n"),
     }
 }
 
@@ -264,12 +272,21 @@ place Some(0)
 fn meanings_differ_first_where_the_row_says(rt: HostRuntime) -> Result<(), Fail> {
     let alloc = rt.alloc();
     for row in rows_of(DIFFERENCES) {
-        let left = meaning_of(alloc, row, "left")?;
-        let right = meaning_of(alloc, row, "right")?;
-        for place in [left.first_difference(&right), right.first_difference(&left)] {
-            let place = format!(in alloc; "{place:?}\n")?;
-            assert_marked(&rt, alloc, row, "place", &place)?;
-        }
+        let left = meaning_of(alloc, row, "left ")?;
+        let right = meaning_of(alloc, row, "right ")?;
+        let place = line_marked(row, "place");
+        assert_text(
+            &rt,
+            row,
+            &shown(alloc, &left.first_difference(&right))?,
+            place,
+        );
+        assert_text(
+            &rt,
+            row,
+            &shown(alloc, &right.first_difference(&left))?,
+            place,
+        );
     }
     Ok(())
 }
@@ -279,12 +296,12 @@ fn meanings_differ_first_where_the_row_says(rt: HostRuntime) -> Result<(), Fail>
 struct Recorder {
     alloc: Global,
     messages: String,
-    put: usize,
-    room: usize,
+    put: u64,
+    room: u64,
 }
 
 impl Recorder {
-    fn new(alloc: Global, room: usize) -> Recorder {
+    fn new(alloc: Global, room: u64) -> Recorder {
         Recorder {
             alloc,
             messages: String::new(alloc),
@@ -362,11 +379,10 @@ order Tester#22F190
 fn messages_are_put_as_soon_as_their_place_is_known(rt: HostRuntime) -> Result<(), Fail> {
     let alloc = rt.alloc();
     for row in rows_of(STEPS) {
-        let room = line_marked(row, "room").parse::<usize>()?;
-        let mut sink = Recorder::new(alloc, room);
+        let mut sink = Recorder::new(alloc, number_of(line_marked(row, "room"))?);
         let steps = steps_of(alloc, row, &mut sink)?;
-        assert_marked(&rt, alloc, row, "step", steps.as_str())?;
-        assert_marked(&rt, alloc, row, "order", sink.messages.as_str())?;
+        assert_marked(&rt, alloc, row, "step", &steps)?;
+        assert_marked(&rt, alloc, row, "order", &sink.messages)?;
     }
     Ok(())
 }
@@ -375,9 +391,12 @@ fn messages_are_put_as_soon_as_their_place_is_known(rt: HostRuntime) -> Result<(
 fn steps_of(alloc: Global, row: &str, sink: &mut Recorder) -> Result<String, Fail> {
     let mut steps = String::new(alloc);
     let mut orderer = Orderer::new(alloc);
-    for message in &messages_marked(alloc, row, "message")? {
-        let answer = orderer.take(message.dir, message.bytes.as_slice(), sink);
-        push_step(alloc, &mut steps, answer, orderer.held(), sink.put)?;
+    for line in lines_of(row) {
+        if let Some(message) = line.strip_prefix("message ") {
+            let (dir, bytes) = message_spelled(alloc, message)?;
+            let answer = orderer.take(dir, &bytes, sink);
+            push_step(alloc, &mut steps, answer, orderer.held(), sink.put)?;
+        }
     }
     let answer = orderer.finish(sink);
     push_step(alloc, &mut steps, answer, 0, sink.put)?;
@@ -389,13 +408,15 @@ fn push_step(
     text: &mut String,
     answer: Result<(), OrderFault<&'static str>>,
     held: u64,
-    put: usize,
+    put: u64,
 ) -> Result<(), AllocError> {
-    let step = match answer {
-        Ok(()) => format!(in alloc; "{held} bytes held, {put} put\n")?,
-        Err(fault) => format!(in alloc; "{fault:?}\n")?,
-    };
-    text.push_str(&step)
+    match answer {
+        Ok(()) => text.push_str(&format!(in alloc; "{held} bytes held, {put} put\n")?),
+        Err(fault) => {
+            text.push_str(&shown(alloc, &fault)?)?;
+            text.push_str("\n")
+        }
+    }
 }
 
 /// Tells the messages of a meaning in order.
@@ -412,24 +433,12 @@ fn in_order(alloc: Global, meaning: &Meaning) -> Result<String, AllocError> {
 fn push_in_order(alloc: Global, text: &mut String, item: &Item) -> Result<(), AllocError> {
     match item {
         Item::Exchange { request, answer } => {
-            push_message(alloc, text, Tester, request.as_slice())?;
+            push_message(alloc, text, Tester, request)?;
             if let Some(answer) = answer {
-                push_message(alloc, text, Unit, answer.as_slice())?;
+                push_message(alloc, text, Unit, answer)?;
             }
             Ok(())
         }
-        Item::Stray { dir, bytes } => push_message(alloc, text, *dir, bytes.as_slice()),
+        Item::Stray { dir, bytes } => push_message(alloc, text, *dir, bytes),
     }
-}
-
-#[test]
-fn the_order_is_that_of_the_meaning(rt: HostRuntime) -> Result<(), Fail> {
-    let alloc = rt.alloc();
-    for row in rows_of(MEANINGS) {
-        let mut sink = Recorder::new(alloc, 10);
-        steps_of(alloc, row, &mut sink)?;
-        let order = in_order(alloc, &meaning_of(alloc, row, "message")?)?;
-        assert_text(&rt, row, sink.messages.as_str(), order.as_str());
-    }
-    Ok(())
 }

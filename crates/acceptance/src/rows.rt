@@ -2,10 +2,10 @@
 //! mark. A text is proved far faster than an array of arrays. What a call answers is told as a text too, and compared with
 //! lines of the row.
 
-use can_log::Dir::{Tester, Unit};
-use can_log::{Dir, Frame, Scan, Scanner};
-use isotp_receive::Message;
+use can_log::Dir::{self, Tester, Unit};
+use can_log::{Frame, Scan, Scanner};
 use std::alloc::{AllocError, Global};
+use std::fmt::Debug;
 use std::process::Abort;
 use std::str::Split;
 use std::test::Fail;
@@ -65,11 +65,25 @@ pub(crate) fn assert_text(rt: &impl Abort, row: &str, found: &str, expected: &st
     assert_eq!(rt; found, expected, "{}", name_of(row));
 }
 
+/// These bytes are the first ones of a text, so many.
+pub(crate) fn assert_front(rt: &impl Abort, found: &[u8], text: &str, len: usize) {
+    assert!(rt; Some(found) == text.as_bytes().get(..len), "{text}");
+}
+
 /// The log of a row: its lines with `line`, and the one with `last`, which has no line feed.
 pub(crate) fn log_marked(alloc: Global, row: &str) -> Result<String, AllocError> {
     let mut log = marked(alloc, row, "line")?;
     log.push_str(line_marked(row, "last"))?;
     Ok(log)
+}
+
+/// A text so many times.
+pub(crate) fn repeated(alloc: Global, text: &str, times: usize) -> Result<String, AllocError> {
+    let mut whole = String::new(alloc);
+    for _ in 0..times {
+        whole.push_str(text)?;
+    }
+    Ok(whole)
 }
 
 /// The frame that a line of a log spells so.
@@ -88,28 +102,32 @@ pub(crate) fn frame_of(alloc: Global, spelled: &str) -> Result<Frame, Fail> {
     }
 }
 
-/// The messages in the lines of a row that begin with this mark, each spelled as its direction, `#` and its digits.
-pub(crate) fn messages_marked(alloc: Global, row: &str, mark: &str) -> Result<Vec<Message>, Fail> {
-    let mut messages = Vec::new(alloc);
-    for line in lines_of(row).skip(1) {
-        if let Some(rest) = line.strip_prefix(mark) {
-            messages.push(message_spelled(alloc, rest)?)?;
-        }
-    }
-    Ok(messages)
+/// The bytes that these digits spell. Like the next ones it promises nothing, so that no proof of a caller weighs what the call
+/// in it promises.
+pub(crate) fn bytes_of(alloc: Global, digits: &str) -> Result<Vec<u8>, Fail> {
+    Ok(hex::decode(alloc, digits)?)
 }
 
-fn message_spelled(alloc: Global, spelled: &str) -> Result<Message, Fail> {
+/// The digits of these bytes.
+pub(crate) fn digits_of(alloc: Global, bytes: &[u8]) -> Result<String, AllocError> {
+    hex::encode_upper(alloc, bytes)
+}
+
+/// The number that these digits spell.
+pub(crate) fn number_of(digits: &str) -> Result<u64, Fail> {
+    Ok(digits.parse::<u64>()?)
+}
+
+/// A value as a row spells it.
+pub(crate) fn shown<T: Debug>(alloc: Global, value: &T) -> Result<String, AllocError> {
+    format!(in alloc; "{value:?}")
+}
+
+/// The direction and the bytes of a message, spelled with `#` between them.
+pub(crate) fn message_spelled(alloc: Global, spelled: &str) -> Result<(Dir, Vec<u8>), Fail> {
     let (dir, digits) = spelled.split_once('#').ok_or("no message")?;
-    let dir = match dir {
-        " Tester" => Tester,
-        " Unit" => Unit,
-        _ => return Err("no direction")?,
-    };
-    Ok(Message {
-        dir,
-        bytes: hex::decode(alloc, digits)?,
-    })
+    let dir = if dir == "Tester" { Tester } else { Unit };
+    Ok((dir, bytes_of(alloc, digits)?))
 }
 
 /// Tells a message as a row spells it, in a line.
@@ -119,15 +137,7 @@ pub(crate) fn push_message(
     dir: Dir,
     bytes: &[u8],
 ) -> Result<(), AllocError> {
-    let digits = hex::encode_upper(alloc, bytes)?;
-    text.push_str(&format!(in alloc; "{dir:?}#{digits}\n")?)
-}
-
-/// A message of this length, in which no two neighbouring bytes are equal.
-pub(crate) fn message_of(alloc: Global, len: usize) -> Result<Vec<u8>, AllocError> {
-    let mut message = Vec::new(alloc);
-    for i in 0..len {
-        message.push((i % 251) as u8)?;
-    }
-    Ok(message)
+    text.push_str(if dir == Tester { "Tester#" } else { "Unit#" })?;
+    text.push_str(&digits_of(alloc, bytes)?)?;
+    text.push_str("\n")
 }
