@@ -13,7 +13,6 @@ pub mod LaneDigits
 pub mod LaneRuns
 pub mod LaneNumbers
 pub mod SpelledBytes
-pub mod FilledBytes
 pub mod HexTable
 -- a line, field by field
 pub mod Runs

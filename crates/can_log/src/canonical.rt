@@ -64,7 +64,7 @@ pub fn line_length(id: Id) -> usize
 
 /// Appends bytes that there is room for.
 #[inline(always)]
-fn append<const CAP: usize>(text: &mut ArrayVec<u8, CAP>, bytes: &[u8])
+pub(crate) fn append<const CAP: usize>(text: &mut ArrayVec<u8, CAP>, bytes: &[u8])
     requires { array_vec_len text.old + length bytes.now ≤ CAP }
     ensures { text.new.items ≡ text.old.items ++ bytes.now }
 {

@@ -1,6 +1,6 @@
 //! A frame of a CAN log: its identifier, its kind and its data, and when it was recorded.
 
-use crate::frame_data::FrameData;
+use arrayvec::ArrayVec;
 use std::marker::Model;
 
 /// Which of the two sides of a diagnostic session sent a frame or a message.
@@ -80,7 +80,7 @@ impl Kind {
 #[derive(Debug, Drop, PartialEq, Eq)]
 pub struct Frame {
     // The largest part comes first: after smaller ones it would be copied at odd addresses. No gap lies between the parts.
-    data: FrameData,
+    data: ArrayVec<u8, 64>,
     id: Id,
     kind: Kind,
 }
@@ -90,11 +90,11 @@ impl Model for Frame {
 
     ghost Value = { FrameValue };
 
-    ghost view = { λ f. record { id = f.id; kind = f.kind; bytes = f.«data» } };
+    ghost view = { λ f. record { id = f.id; kind = f.kind; bytes = f.«data».items } };
 
-    ghost invariant = { λ f. IsFrame f.id f.kind f.«data» };
+    ghost invariant = { λ f. IsFrame f.id f.kind f.«data».items };
 
-    ghost inverse = { λ v. record { id = v.id; kind = v.kind; «data» = v.bytes } };
+    ghost inverse = { λ v. record { id = v.id; kind = v.kind; «data» = record { items = v.bytes } } };
 }
 
 impl Frame {
@@ -110,17 +110,19 @@ impl Frame {
         if !id.is_in_range() || data.len() > kind.most_bytes() {
             return None;
         }
+        let mut held = ArrayVec::new();
+        let _ = held.try_extend_from_slice(data);
         Some(Frame {
             id,
             kind,
-            data: FrameData::of(data),
+            data: held,
         })
     }
 
     /// The frame with these parts.
-    pub(crate) fn from_parts(id: Id, kind: Kind, data: FrameData) -> Frame
-        requires { IsFrame id kind «data» }
-        ensures { result ≡ record { id = id; kind = kind; bytes = «data» } }
+    pub(crate) fn from_parts(id: Id, kind: Kind, data: ArrayVec<u8, 64>) -> Frame
+        requires { IsFrame id kind «data».items }
+        ensures { result ≡ record { id = id; kind = kind; bytes = «data».items } }
     {
         Frame { id, kind, data }
     }

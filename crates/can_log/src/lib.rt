@@ -19,7 +19,6 @@ mod canonical;
 mod digit_lanes;
 mod field;
 mod frame;
-mod frame_data;
 mod hexadecimal;
 mod lanes;
 pub mod laws;

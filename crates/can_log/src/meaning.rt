@@ -4,15 +4,15 @@ ghost use Rattle.std.specs.Prelude.{◌≡◌, ◌<◌, ◌≤◌, ◌+◌, ◌-
 ghost use Rattle.std.specs.List.{AllByRecursion};
 ghost use Rattle.std.specs.Char.{is_ascii_hexdigit};
 ghost use Rattle.std.specs.Str.Parse.{digits_value};
-ghost use Rattle.can_log.specs.FrameData.{zeros};
 ghost use Rattle.can_log.specs.Line.{IsRunOf, IsDataText, IsIdentifierText, identifier_of, bytes_spelled, stamped_of};
 ghost use Rattle.can_log.specs.LineReader.{AreParts};
 ghost use Rattle.can_log.specs.Views.{parts_of};
 
+use crate::canonical::append;
 use crate::frame::{Frame, Id, Kind, Stamped};
-use crate::frame_data::FrameData;
 use crate::hexadecimal::hex_digit_value;
 use crate::line::{Body, Parts};
+use arrayvec::ArrayVec;
 use std::simd::prelude::*;
 
 /// The frame that a line of these parts records, and its time.
@@ -24,7 +24,7 @@ pub(crate) fn stamped_of(parts: Parts<'_>) -> Stamped
     let id = identifier_of(parts.identifier);
     let (kind, data) = match parts.body {
         Body::Classic(digits, _) => (Kind::Classic, decoded(digits)),
-        Body::Remote(_, _) => (Kind::Remote, FrameData::new()),
+        Body::Remote(_, _) => (Kind::Remote, ArrayVec::new()),
         Body::Fd(_, digits) => (Kind::Fd, decoded(digits)),
     };
     Stamped {
@@ -62,11 +62,11 @@ fn hex_number(digits: &[u8]) -> u32
 
 /// The data that digits spell.
 #[inline(always)]
-fn decoded(digits: &[u8]) -> FrameData
+fn decoded(digits: &[u8]) -> ArrayVec<u8, 64>
     requires { IsDataText 128 digits.now }
-    ensures { result ≡ bytes_spelled digits.now }
+    ensures { result.items ≡ bytes_spelled digits.now }
 {
-    let mut data = FrameData::new();
+    let mut data = ArrayVec::new();
     put_data(digits, &mut data);
     data
 }
@@ -74,30 +74,30 @@ fn decoded(digits: &[u8]) -> FrameData
 /// Puts the bytes that pairs of digits spell: sixteen digits at a time, and what is left of them by the crate `hex`. That tests
 /// each digit against three ranges, branches that the processor can't foresee in data; so it has the short rest alone.
 #[inline(always)]
-pub(crate) fn put_data(digits: &[u8], data: &mut FrameData)
+pub(crate) fn put_data(digits: &[u8], data: &mut ArrayVec<u8, 64>)
     requires text { IsDataText 128 digits.now }
-    requires empty { «data».old ≡ [] }
-    ensures { «data».new ≡ bytes_spelled digits.now }
+    requires empty { «data».old.items ≡ [] }
+    ensures { «data».new.items ≡ bytes_spelled digits.now }
 {
     let sixteens = digits.len() / 16;
     put_sixteens(sixteens, digits, data);
     if digits.len() % 16 != 0 {
         let last = &digits[16 * sixteens..];
-        data.append(&few_bytes(last), last.len() / 2);
+        append(data, &few_bytes(last)[..last.len() / 2]);
     }
 }
 
 /// Puts the bytes that a multiple of sixteen digits spells, whatever follows them.
 #[inline(always)]
-fn put_sixteens(sixteens: usize, digits: &[u8], data: &mut FrameData)
+fn put_sixteens(sixteens: usize, digits: &[u8], data: &mut ArrayVec<u8, 64>)
     requires few { sixteens ≤ 8 }
     requires room { 16 * sixteens ≤ length digits.now }
     requires text { IsDataText 128 (take (16 * sixteens) digits.now) }
-    requires empty { «data».old ≡ [] }
-    ensures { «data».new ≡ bytes_spelled (take (16 * sixteens) digits.now) }
+    requires empty { «data».old.items ≡ [] }
+    ensures { «data».new.items ≡ bytes_spelled (take (16 * sixteens) digits.now) }
 {
     for i in 0..sixteens {
-        data.append(&eight_bytes(&digits[16 * i..16 * i + 16]), 8);
+        append(data, &eight_bytes(&digits[16 * i..16 * i + 16]));
     }
 }
 
@@ -106,8 +106,7 @@ fn put_sixteens(sixteens: usize, digits: &[u8], data: &mut FrameData)
 fn few_bytes(digits: &[u8]) -> [u8; 8]
     requires few { length digits.now < 16 }
     requires text { IsDataText 128 digits.now }
-    ensures first { take (length digits.now / 2) result ≡ bytes_spelled digits.now }
-    ensures others { drop (length digits.now / 2) result ≡ zeros (8 - length digits.now / 2) }
+    ensures { take (length digits.now / 2) result ≡ bytes_spelled digits.now }
 {
     let mut bytes = [0; 8];
     decode(digits, &mut bytes[..digits.len() / 2]);

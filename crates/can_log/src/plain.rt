@@ -8,11 +8,11 @@ ghost use Rattle.can_log.specs.Plain.{HavePlainWidths, AreDecimals, seconds_of, 
 ghost use Rattle.can_log.specs.declared.field.Class.TheVariants.{Visible};
 
 use crate::frame::{Frame, Kind, Stamped};
-use crate::frame_data::FrameData;
 use crate::hexadecimal::is_hex_digit;
 use crate::lanes::{LANES, hex_front, hex_run, visible_front};
 use crate::meaning::{identifier_of, put_data};
 use crate::stamp::{has_decimals, time_of};
+use arrayvec::ArrayVec;
 
 /// The longest line of a classic frame in plain form, and what else the lanes reach: a stamp of 20 bytes, 15 of the interface,
 /// a space, 8 digits of the identifier, `#`, 16 of the data, and a line feed.
@@ -65,10 +65,10 @@ pub(crate) fn plain_line(piece: &[u8]) -> Option<(Fields<'_>, &[u8])>
 
 /// The data of a line with these fields, put where the frame takes it from: a copy more would cost as much as all the rest.
 #[inline(always)]
-pub(crate) fn put_plain_data(fields: Fields<'_>, data: &mut FrameData)
+pub(crate) fn put_plain_data(fields: Fields<'_>, data: &mut ArrayVec<u8, 64>)
     requires widths { HavePlainWidths fields }
-    requires empty { «data».old ≡ [] }
-    ensures { «data».new ≡ bytes_spelled (digits_of fields.entry.body) }
+    requires empty { «data».old.items ≡ [] }
+    ensures { «data».new.items ≡ bytes_spelled (digits_of fields.entry.body) }
 {
     let body = fields.body;
     put_data(&body.behind[..body.digits], data)
@@ -76,10 +76,10 @@ pub(crate) fn put_plain_data(fields: Fields<'_>, data: &mut FrameData)
 
 /// What a line with these fields and this data records.
 #[inline(always)]
-pub(crate) fn plain_stamped(fields: Fields<'_>, data: FrameData) -> Stamped
+pub(crate) fn plain_stamped(fields: Fields<'_>, data: ArrayVec<u8, 64>) -> Stamped
     requires widths { HavePlainWidths fields }
     requires decimals { AreDecimals (seconds_of fields.stamp.now ++ micros_of fields.stamp.now) }
-    requires spelled { «data» ≡ bytes_spelled (digits_of fields.body) }
+    requires spelled { «data».items ≡ bytes_spelled (digits_of fields.body) }
     ensures { result ≡ stamped_of (parts_in (spelling_of fields.entry)) }
 {
     let id = identifier_of(fields.identifier);

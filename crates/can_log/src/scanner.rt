@@ -10,7 +10,6 @@ ghost use Rattle.can_log.specs.declared.scanner.Scan.TheVariants.{Bad};
 
 use crate::field::Stop;
 use crate::frame::Stamped;
-use crate::frame_data::FrameData;
 use crate::line::judge;
 use crate::meaning::stamped_of;
 use crate::plain::{plain_line, plain_stamped, put_plain_data};
@@ -115,7 +114,7 @@ impl Scanner {
         if self.line.is_empty() {
             // The way of most lines: the frame is made here, where it is answered, and copied nowhere.
             if let Some((fields, rest)) = plain_line(piece) {
-                let mut data = FrameData::new();
+                let mut data = ArrayVec::new();
                 put_plain_data(fields, &mut data);
                 let used = piece.len() - rest.len();
                 self.lines += 1;
