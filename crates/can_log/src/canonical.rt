@@ -1,7 +1,10 @@
 //! The canonical line of a frame.
-ghost use Rattle.std.specs.Prelude.{◌≡◌, ◌+◌, ◌^◌, ◌<◌, ◌≤◌, [], ◌∷◌, ◌++◌, Some, length};
+ghost use Rattle.std.specs.Prelude.{◌≡◌, ◌+◌, ◌^◌, ◌<◌, ◌≤◌, [], ◌∷◌, ◌++◌, Some, codes, length, take};
+ghost use Rattle.std.specs.List.{flat_map};
 ghost use Rattle.arrayvec.specs.ArrayVec.{array_vec_len};
-ghost use Rattle.can_log.specs.Canonical.{canonical_length, canonical_line, canonical_stamped};
+ghost use Rattle.can_log.specs.Canonical.{canonical_front, canonical_length, canonical_line, canonical_stamped};
+ghost use Rattle.can_log.specs.Digits.{hexadecimal};
+ghost use Rattle.can_log.specs.declared.frame.Id.TheVariants.{Std, Ext};
 ghost use Rattle.can_log.specs.Frame.{IsCanIdentifier};
 ghost use Rattle.can_log.specs.Log.{LogMeans};
 
@@ -11,7 +14,7 @@ use crate::line_clock::LineClock;
 use arrayvec::ArrayVec;
 
 /// How many bytes the line of a base identifier has.
-const BASE_LINE: usize = 46;
+pub const BASE_LINE: usize = 46;
 
 /// How many bytes the line of an extended identifier has, which is the longest: its number has five digits more.
 pub const LONGEST_LINE: usize = 51;
@@ -42,14 +45,51 @@ pub fn append_line<const CAP: usize>(
     requires { array_vec_len text.old + canonical_length id ≤ CAP }
     ensures { text.new.items ≡ text.old.items ++ canonical_line clock.now id «data».now }
 {
-    append(text, clock.front());
     match id {
-        Id::Std(number) => append(text, &hexadecimal_digits::<3>(u32::from(number))),
-        Id::Ext(number) => append(text, &hexadecimal_digits::<8>(number)),
+        Id::Std(number) => append(text, &base_line(clock, number, data)),
+        Id::Ext(number) => append(text, &extended_line(clock, number, data)),
     }
-    append(text, b"#");
-    append(text, &digits_of_bytes(data));
-    append(text, b"\n");
+}
+
+/// The line at the clock's time of a base identifier, as a whole: a block takes it in one piece.
+#[inline(always)]
+pub fn base_line(clock: &LineClock, number: u16, data: &[u8; 8]) -> [u8; BASE_LINE]
+    ensures { result ≡ canonical_line clock.now (Std number) «data».now }
+{
+    laid(clock, &hexadecimal_digits::<3>(u32::from(number)), data)
+}
+
+/// The same of an extended identifier.
+#[inline(always)]
+pub fn extended_line(clock: &LineClock, number: u32, data: &[u8; 8]) -> [u8; LONGEST_LINE]
+    ensures { result ≡ canonical_line clock.now (Ext number) «data».now }
+{
+    laid(clock, &hexadecimal_digits::<8>(number), data)
+}
+
+/// The line of an identifier of these digits. Its parts have places that are known when it is compiled.
+#[inline(always)]
+fn laid<const LENGTH: usize>(clock: &LineClock, digits: &[u8], data: &[u8; 8]) -> [u8; LENGTH]
+    requires { LENGTH ≡ 43 + length digits.now }
+    ensures { result ≡ canonical_front clock.now ++ digits.now ++ codes "#" ++ flat_map (hexadecimal 2) «data».now ++ codes "\n" }
+{
+    let mut line = [b'\n'; LENGTH];
+    lay(&mut line, 0, clock.front());
+    lay(&mut line, 25, digits);
+    lay(&mut line, 25 + digits.len(), b"#");
+    lay(&mut line, 26 + digits.len(), &digits_of_bytes(data));
+    lay(&mut line, 42 + digits.len(), b"\n");
+    line
+}
+
+/// Writes a part of a line over the bytes from `at` on.
+#[inline(always)]
+fn lay(line: &mut [u8], at: usize, part: &[u8])
+    requires { at + length part.now ≤ length line.old }
+    ensures laid { take (at + length part.now) line.new ≡ take at line.old ++ part.now }
+    ensures long { length line.new ≡ length line.old }
+{
+    line[at..at + part.len()].copy_from_slice(part);
 }
 
 /// How many bytes the line of an identifier has, its line feed counted.

@@ -29,7 +29,9 @@ mod plain;
 mod scanner;
 mod stamp;
 
-pub use canonical::{LONGEST_LINE, append_line, line_bytes, line_length};
+pub use canonical::{
+    BASE_LINE, LONGEST_LINE, append_line, base_line, extended_line, line_bytes, line_length,
+};
 pub use frame::{Dir, Frame, Id, Kind, Stamped};
 pub use line_clock::LineClock;
 pub use scanner::{Scan, Scanner};

@@ -40,7 +40,7 @@ fn gather_ended<W: Target>(
     ended: Option<Ended>,
 ) -> Result<(), DeviceFault>
     requires { W.failures writer.old ≤ 2 ^ 62 }
-    ensures { Gathers W.Target result writer.old block.old.items (ended_line line ended) writer.new block.new.items }
+    ensures { Gathers W.Target result writer.old block.old (ended_line line ended) writer.new block.new }
 {
     match ended {
         None => Ok(()),
@@ -57,7 +57,7 @@ fn gather_ended_line<W: Target>(
     ended: Ended,
 ) -> Result<(), DeviceFault>
     requires { W.failures writer.old ≤ 2 ^ 62 }
-    ensures { Gathers W.Target result writer.old block.old.items (ended_line line (Some ended)) writer.new block.new.items }
+    ensures { Gathers W.Target result writer.old block.old (ended_line line (Some ended)) writer.new block.new }
 {
     gather_parts(
         writer,
@@ -100,7 +100,7 @@ fn gather_dropped<W: Target>(
     verdict: Verdict<'_>,
 ) -> Result<(), DeviceFault>
     requires { W.failures writer.old ≤ 2 ^ 62 }
-    ensures { Gathers W.Target result writer.old block.old.items (dropped_line line dir (seen_verdict verdict.entry)) writer.new block.new.items }
+    ensures { Gathers W.Target result writer.old block.old (dropped_line line dir (seen_verdict verdict.entry)) writer.new block.new }
 {
     match verdict {
         Verdict::Dropped(reason) => gather_dropped_line(writer, block, line, dir, reason),
@@ -118,7 +118,7 @@ fn gather_dropped_line<W: Target>(
     reason: Reason,
 ) -> Result<(), DeviceFault>
     requires { W.failures writer.old ≤ 2 ^ 62 }
-    ensures { Gathers W.Target result writer.old block.old.items (dropped_line line dir (dropped reason)) writer.new block.new.items }
+    ensures { Gathers W.Target result writer.old block.old (dropped_line line dir (dropped reason)) writer.new block.new }
 {
     gather_parts(
         writer,
@@ -141,7 +141,7 @@ fn gather_reason<W: Target>(
     reason: Reason,
 ) -> Result<(), DeviceFault>
     requires { W.failures writer.old ≤ 2 ^ 62 }
-    ensures { Gathers W.Target result writer.old block.old.items (reason_line reason) writer.new block.new.items }
+    ensures { Gathers W.Target result writer.old block.old (reason_line reason) writer.new block.new }
 {
     match reason {
         Reason::Pdu(fault) => gather_parts(
@@ -226,7 +226,7 @@ fn gather_unfinished<W: Target>(
     begun: Option<(u64, u32)>,
 ) -> Result<(), DeviceFault>
     requires { W.failures writer.old ≤ 2 ^ 62 }
-    ensures { Gathers W.Target result writer.old block.old.items (unfinished_line dir begun) writer.new block.new.items }
+    ensures { Gathers W.Target result writer.old block.old (unfinished_line dir begun) writer.new block.new }
 {
     match begun {
         None => Ok(()),
@@ -253,7 +253,7 @@ fn gather_summary<W: Target>(
     summary: &Summary,
 ) -> Result<(), DeviceFault>
     requires { W.failures writer.old ≤ 2 ^ 62 }
-    ensures { Gathers W.Target result writer.old block.old.items (summary_line summary.now) writer.new block.new.items }
+    ensures { Gathers W.Target result writer.old block.old (summary_line summary.now) writer.new block.new }
 {
     gather_parts(
         writer,

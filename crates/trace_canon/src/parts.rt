@@ -40,7 +40,7 @@ pub(crate) fn gather_parts<W: Target>(
     parts: &[Part<'_>],
 ) -> Result<(), DeviceFault>
     requires { W.failures writer.old ≤ 2 ^ 62 }
-    ensures { Gathers W.Target result writer.old block.old.items (parts_text parts.now) writer.new block.new.items }
+    ensures { Gathers W.Target result writer.old block.old (parts_text parts.now) writer.new block.new }
 {
     'parts: for part in parts {
         gather_part(writer, block, *part)?;
@@ -55,7 +55,7 @@ fn gather_part<W: Target>(
     part: Part<'_>,
 ) -> Result<(), DeviceFault>
     requires { W.failures writer.old ≤ 2 ^ 62 }
-    ensures { Gathers W.Target result writer.old block.old.items (part_text part.entry) writer.new block.new.items }
+    ensures { Gathers W.Target result writer.old block.old (part_text part.entry) writer.new block.new }
 {
     match part {
         Part::Text(text) => gather(writer, block, text.as_bytes()),
@@ -101,7 +101,7 @@ fn gather_bytes<W: Target>(
     bytes: &[u8],
 ) -> Result<(), DeviceFault>
     requires { W.failures writer.old ≤ 2 ^ 62 }
-    ensures { Gathers W.Target result writer.old block.old.items (bytes_text bytes.now) writer.new block.new.items }
+    ensures { Gathers W.Target result writer.old block.old (bytes_text bytes.now) writer.new block.new }
 {
     'bytes: for byte in bytes {
         gather(writer, block, &hexadecimal_digits(*byte))?;
