@@ -26,6 +26,7 @@ pub mod PlainLines
 pub mod Judging
 -- what holds of lines
 pub mod LineFeeds
+pub mod PaddedLines
 pub mod LineLength
 pub mod RecordedBytes
 -- logs

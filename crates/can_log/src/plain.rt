@@ -2,12 +2,12 @@
 //! line is judged as a whole, sixteen bytes at a time, and its end is found from that of its data.
 
 ghost use Rattle.std.specs.Prelude.{◌≡◌, ◌≤◌, ◌+◌, ◌++◌, [], IfSome, None, codes, length, take};
-ghost use Rattle.can_log.specs.Line.{parts_in, stamped_of, bytes_spelled, spell_line, IsLineSpelling, IsRunOf, IsIdentifierText, IsDataText};
+ghost use Rattle.can_log.specs.Line.{parts_in, identifier_of, stamped_of, bytes_spelled, spell_line, IsLineSpelling, IsRunOf, IsIdentifierText, IsDataText};
 ghost use Rattle.can_log.specs.FieldReader.{is_in};
 ghost use Rattle.can_log.specs.Plain.{HavePlainWidths, AreDecimals, seconds_of, micros_of, IsPlainBody, AreFlags, digits_of, flags_spelled, most_digits, body_text, plain_text, spelling_of};
 ghost use Rattle.can_log.specs.declared.field.Class.TheVariants.{Visible};
 
-use crate::frame::{Frame, Kind, Stamped};
+use crate::frame::{Frame, Id, Kind, Stamped};
 use crate::hexadecimal::is_hex_digit;
 use crate::lanes::{LANES, hex_front, hex_run, visible_front};
 use crate::meaning::{identifier_of, put_data};
@@ -74,15 +74,24 @@ pub(crate) fn put_plain_data(fields: Fields<'_>, data: &mut ArrayVec<u8, 64>)
     put_data(&body.behind[..body.digits], data)
 }
 
-/// What a line with these fields and this data records.
+/// The identifier of a line with these fields.
 #[inline(always)]
-pub(crate) fn plain_stamped(fields: Fields<'_>, data: ArrayVec<u8, 64>) -> Stamped
+pub(crate) fn plain_identifier(fields: Fields<'_>) -> Id
+    requires { HavePlainWidths fields }
+    ensures { result ≡ identifier_of fields.entry.identifier.now }
+{
+    identifier_of(fields.identifier)
+}
+
+/// What a line with these fields, this identifier and this data records.
+#[inline(always)]
+pub(crate) fn plain_stamped(fields: Fields<'_>, id: Id, data: ArrayVec<u8, 64>) -> Stamped
     requires widths { HavePlainWidths fields }
+    requires identifier { id ≡ identifier_of fields.identifier.now }
     requires decimals { AreDecimals (seconds_of fields.stamp.now ++ micros_of fields.stamp.now) }
     requires spelled { «data».items ≡ bytes_spelled (digits_of fields.body) }
     ensures { result ≡ stamped_of (parts_in (spelling_of fields.entry)) }
 {
-    let id = identifier_of(fields.identifier);
     let kind = match fields.body.flags {
         None => Kind::Classic,
         Some(_) => Kind::Fd,

@@ -12,10 +12,16 @@ use crate::field::Stop;
 use crate::frame::Stamped;
 use crate::line::judge;
 use crate::meaning::stamped_of;
-use crate::plain::{plain_line, plain_stamped, put_plain_data};
+use crate::plain::{plain_identifier, plain_line, plain_stamped, put_plain_data};
 use arrayvec::ArrayVec;
 use memchr::memchr;
 use std::marker::Model;
+
+/// The longest line of plain form that is copied, where it is cut or stands at the end of a piece.
+const LONGEST_COPIED: usize = 176;
+
+/// Room for it, and for what the lanes reach beyond it.
+const PADDED: usize = 192;
 
 /// What came of a piece of the log, or of its end.
 #[derive(Debug, Drop, PartialEq, Eq)]
@@ -122,7 +128,7 @@ impl Scanner {
                 *answer = Scan::Line {
                     used,
                     line: self.lines,
-                    what: Some(plain_stamped(fields, data)),
+                    what: Some(plain_stamped(fields, plain_identifier(fields), data)),
                 };
                 return;
             }
@@ -254,11 +260,35 @@ fn ended(line: &[u8], bytes: &[u8]) -> Result<Option<Stamped>, u32>
     ensures ok { IfOk result (λ what. LineMeans (line.now ++ bytes.now) what) }
     ensures err { IfErr result (λ column. IsRefusedPlace ((line.now ++ bytes.now) ++ codes "\n") column) }
 {
+    if let Some(stamped) = plain_ended(line, bytes) {
+        return Ok(Some(stamped));
+    }
     match line_judgement(line, bytes) {
         Judgement::Means(what) => Ok(what),
         Judgement::Short => Err((line.len() + bytes.len() + 1) as u32),
         Judgement::Refused(column) => Err(column),
     }
+}
+
+/// What a line of plain form that ends after `bytes` records. It may be cut, and the lanes reach beyond its end: so it is
+/// copied to where line feeds follow.
+#[inline(always)]
+fn plain_ended(line: &[u8], bytes: &[u8]) -> Option<Stamped>
+    requires { NoLineFeed (line.now ++ bytes.now) }
+    ensures { IfSome result (λ stamped. LineMeans (line.now ++ bytes.now) (Some stamped)) }
+{
+    let length = line.len();
+    let end = length + bytes.len();
+    if end > LONGEST_COPIED {
+        return None;
+    }
+    let mut padded = [b'\n'; PADDED];
+    padded[..length].copy_from_slice(line);
+    padded[length..end].copy_from_slice(bytes);
+    let (fields, _) = plain_line(&padded)?;
+    let mut data = ArrayVec::new();
+    put_plain_data(fields, &mut data);
+    Some(plain_stamped(fields, plain_identifier(fields), data))
 }
 
 /// The column that is refused, if one is.

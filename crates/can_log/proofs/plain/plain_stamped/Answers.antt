@@ -10,4 +10,4 @@ from_parts-frame-requires c =
     let body = c.args.fields.body in
     let kind : c.match-fields.kind ≡ frame_kind_of (body_with body.flags (digits_of body)) = elim c.match-fields.branch [ in-None w ↦ rw w.in-None.is w.kind-is | in-Some w ↦ rw w.in-Some.is w.kind-is ] in
     plain_frame body.flags c.args.fields.identifier.now (digits_of body) _ _ c.match-fields.kind c.requires.widths.identifier c.requires.widths.body.digits
-    c.identifier_of-id.ensures kind c.requires.spelled
+    c.requires.identifier kind c.requires.spelled
