@@ -1,5 +1,7 @@
 -- How a scanner stands between two pieces of a log, and what it answers on the next piece.
-use Rattle.std.specs.Prelude.{◌≡◌, ℕ, ◌+◌, ◌<◌, List, [], ◌++◌, length, codes, Option, Some, None}
+use Rattle.std.specs.Prelude.{◌≡◌, ◌≢◌, ℕ, ◌+◌, ◌<◌, List, [], ◌++◌, length, codes, Option, Some, None}
+use Rattle.can_log.specs.declared.frame.Id.{Id}
+use Rattle.can_log.specs.declared.frame.Stamped.{Stamped}
 use Rattle.can_log.specs.declared.scanner.Scan.{Scan}
 use Rattle.can_log.specs.declared.scanner.Scan.TheVariants as scan
 use Rattle.can_log.specs.Line.{LineMeans}
@@ -39,6 +41,13 @@ ScansFrom (Some place) old piece answer new = (answer ≡ scan.Bad place.line pl
 -- what a scanner answers on a piece, and how it stands then
 abbrev pub Scans : Standing → List ℕ → Scan → Standing → Type 0
 Scans old piece answer new = ScansFrom old.refused old piece answer new
+
+-- It takes the next line, which ends after `used` bytes of the piece and records a frame that has neither identifier.
+pub record ScansForeign (first second : Id) (old : Standing) (piece : List ℕ) (used : ℕ) (new : Standing) : Type 0 where
+  pub stamped : Stamped
+  pub not_first : stamped.frame.id ≢ first
+  pub not_second : stamped.frame.id ≢ second
+  pub scans : Scans old piece (scan.Line used (old.lines + 1) (Some stamped)) new
 
 -- what it answers at the end of the log, where it refused nothing so far
 abbrev pub FinishesOn : Standing → Scan → Standing → Type 0

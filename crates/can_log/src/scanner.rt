@@ -4,12 +4,12 @@ ghost use Rattle.std.specs.Prelude.{◌≡◌, ◌≤◌, ◌+◌, ◌^◌, ◌+
 ghost use Rattle.can_log.specs.Line.{LineMeans};
 ghost use Rattle.can_log.specs.Refused.{NoLineFeed, HasCompletion, IsRefusedPlace};
 ghost use Rattle.can_log.specs.Judging.{Judged};
-ghost use Rattle.can_log.specs.Scanning.{Scans, Finishes};
+ghost use Rattle.can_log.specs.Scanning.{Scans, ScansForeign, Finishes};
 ghost use Rattle.can_log.specs.WholeLog.{at_start};
 ghost use Rattle.can_log.specs.declared.scanner.Scan.TheVariants.{Bad};
 
 use crate::field::Stop;
-use crate::frame::Stamped;
+use crate::frame::{Id, Stamped};
 use crate::line::judge;
 use crate::meaning::stamped_of;
 use crate::plain::{plain_identifier, plain_line, plain_stamped, put_plain_data};
@@ -97,6 +97,14 @@ impl Scanner {
         self.taken
     }
 
+    /// How many lines have ended so far.
+    #[inline(always)]
+    pub fn line_count(&self) -> u64
+        ensures { result ≡ self.now.lines }
+    {
+        self.lines
+    }
+
     /// Takes the next line of a piece, or the whole piece where no line ends in it. A refused byte is answered at once, also
     /// in a line whose end is still to come, and from then on by every call.
     pub fn scan(&mut self, piece: &[u8]) -> Scan
@@ -134,6 +142,47 @@ impl Scanner {
             }
         }
         self.scan_any_into(piece, answer);
+    }
+
+    /// The same for a caller that looks at the frames of two identifiers alone. A line of plain form with another identifier is
+    /// taken, and only its form is looked at: how much of the piece it takes is told, and nothing is answered.
+    #[inline(always)]
+    pub fn scan_wanted_into(
+        &mut self,
+        first: Id,
+        second: Id,
+        piece: &[u8],
+        answer: &mut Scan,
+    ) -> Option<usize>
+        requires { self.old.taken + length piece.now ≤ 2 ^ 62 }
+        ensures foreign { IfSome result (λ used. ScansForeign first second self.old piece.now used self.new) }
+        ensures answer { IfNone result (Scans self.old piece.now answer.new self.new) }
+    {
+        if let Some(refused) = self.refused {
+            *answer = bad(refused);
+            return None;
+        }
+        if self.line.is_empty() {
+            if let Some((fields, rest)) = plain_line(piece) {
+                let id = plain_identifier(fields);
+                let taken = piece.len() - rest.len();
+                self.lines += 1;
+                self.taken += taken as u64;
+                if !id.is_either(first, second) {
+                    return Some(taken);
+                }
+                let mut data = ArrayVec::new();
+                put_plain_data(fields, &mut data);
+                *answer = Scan::Line {
+                    used: taken,
+                    line: self.lines,
+                    what: Some(plain_stamped(fields, id, data)),
+                };
+                return None;
+            }
+        }
+        self.scan_any_into(piece, answer);
+        None
     }
 
     /// The same for a line of any form, and for one that is cut. It is separate, so that `scan_into` makes a frame at one place

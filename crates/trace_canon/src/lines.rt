@@ -1,5 +1,6 @@
 //! The lines of a log, read piece by piece.
-ghost use Rattle.std.specs.Prelude.{◌≡◌, ℕ, ◌+◌, ◌-◌, ◌^◌, ◌<◌, ◌≤◌, List, [], ◌∷◌, ◌++◌, length, OnOk, IfErr, Option, MatchResult};
+ghost use Rattle.std.specs.Prelude.{◌≡◌, ◌≢◌, ℕ, ◌+◌, ◌-◌, ◌^◌, ◌<◌, ◌≤◌, List, [], ◌∷◌, ◌++◌, length, OnOk, IfErr, Option, Some, MatchResult};
+ghost use Rattle.can_log.specs.declared.frame.Id.{Id as IdValue};
 ghost use Rattle.can_log.specs.declared.frame.Stamped.{Stamped as StampedValue};
 ghost use Rattle.can_log.specs.WholeLog.{StandsAfter};
 ghost use Rattle.trace_io.specs.Counted.{AreLowCounts};
@@ -7,7 +8,7 @@ ghost use Rattle.trace_io.specs.Stream.{BeginsAs};
 ghost use Rattle.trace_canon.specs.Answers.{ReadsWhile};
 ghost use Rattle.trace_canon.specs.Reading.{ReadsPiece, ReadsEnd, ReadsLog, IsOfLines, CountsRead, TakesFront, TakesSome};
 
-use can_log::{Scan, Scanner, Stamped};
+use can_log::{Id, Scan, Scanner, Stamped};
 use trace_io::{DeviceFault, Source};
 
 /// The most bytes that one read asks for.
@@ -25,6 +26,20 @@ pub(crate) trait LineTaker {
     ghost took: { Self × Self.Device → List (Option StampedValue) → Self × Self.Device → Type 0 };
 
     ghost stopped: { Self × Self.Device → List (Option StampedValue) → Option StampedValue → Self.Fault → Self × Self.Device → Type 0 };
+
+    /// Which identifiers it looks at the frames of.
+    ghost wants: { Self → IdValue → IdValue → Type 0 };
+
+    /// The two identifiers: a frame of another one is foreign to it.
+    fn wanted(&self) -> (Id, Id)
+        ensures { wants self.now result.0 result.1 };
+
+    /// Passes the next line, by its number, which records a foreign frame.
+    fn pass(&mut self, line: u64)
+        ensures { (device : Self.Device) (first second : IdValue) (stamped : StampedValue) → wants self.old first second
+            → stamped.frame.id ≢ first → stamped.frame.id ≢ second
+            → (start : Self × Self.Device) (meanings : List (Option StampedValue)) → line ≡ length meanings + 1
+            → took start meanings (self.old, device) → took start (meanings ++ Some stamped ∷ []) (self.new, device) };
 
     /// Takes the next line, by its number and what it means.
     fn take(
@@ -121,7 +136,12 @@ fn take_lines<T: LineTaker>(
     // A frame is large: each answer is made over the one before it.
     let mut answer = Scan::NeedMore;
     'lines: while !rest.is_empty() {
-        scanner.scan_into(rest, &mut answer);
+        let (first, second) = taker.wanted();
+        if let Some(used) = scanner.scan_wanted_into(first, second, rest, &mut answer) {
+            taker.pass(scanner.line_count());
+            rest = &rest[used..];
+            continue 'lines;
+        }
         match &answer {
             Scan::Line { used, line, what } => {
                 if let Err(fault) = taker.take(device, *line, what) {

@@ -11,7 +11,7 @@ ghost use Rattle.trace_canon.specs.Receiving.{CountsEvent};
 
 use crate::config::Config;
 use crate::lines::LineTaker;
-use can_log::{Dir, Frame, Stamped};
+use can_log::{Dir, Frame, Id, Stamped};
 use isotp_receive::{Event, Pair, Verdict};
 
 /// What takes the events of a log's frames one by one. An implementation says by two ghost members what it is after a trace,
@@ -157,6 +157,18 @@ impl<E: EventTaker> LineTaker for Receiver<E> {
     ghost stopped = { λ s meanings what fault t. IsStart s.0.pair s.0.lines s.0.counts
         → (stamped : StampedValue) × (d : DirValue) × (what ≡ Some stamped) × (Some d ≡ direction_of s.0.config stamped.frame.id)
         × E.stopped (s.0.taker, s.1) (trace s.0.config meanings) (entry_in meanings stamped d) fault (t.0.taker, t.1) };
+
+    ghost wants = { λ s first second. (first ≡ s.config.tester) × (second ≡ s.config.unit) };
+
+    #[inline(always)]
+    fn wanted(&self) -> (Id, Id) {
+        (self.config.tester(), self.config.unit())
+    }
+
+    #[inline(always)]
+    fn pass(&mut self, line: u64) {
+        self.lines = line;
+    }
 
     fn take(
         &mut self,

@@ -1,0 +1,18 @@
+use Rattle.std.proofs.Common.{◌≡◌, None, Some, refl, sym, subst, ◌∙◌, ap}
+use Rattle.trace_canon.specs.Settings.{direction_of}
+use Rattle.trace_canon.proofs.Directions.{foreign_direction}
+use Rattle.trace_canon.proofs.Receivings.{trace_same_foreign, receives_same}
+use Rattle.trace_canon.proofs.receiver.ReceiverLineTaker.pass.Goals as goal
+
+pub returns : goal.returns
+returns g c = λ device first second stamped wants not_first not_second start meanings number took. (
+  took.0,
+  λ fresh.
+      let received = took.1 fresh in
+      let foreign = foreign_direction c.args.self.now.config stamped.frame.id (λ same. not_first (same ∙ sym wants.0)) (λ same. not_second (same ∙ sym wants.1)) in
+      let none : None ≡ direction_of start.0.config stamped.frame.id = sym foreign ∙ ap (λ s. direction_of s stamped.frame.id) took.0 in
+      let same = trace_same_foreign start.0.config meanings (Some stamped) stamped refl none in (
+        receives_same start.0.config meanings (Some stamped) c.args.self.now.pair c.args.self.now.lines c.args.line c.args.self.now.counts same number received.0,
+        subst (λ T. g.E.EventTaker.took (start.0.taker, start.1) T (c.args.self.now.taker, device)) (sym same) received.1,
+      ),
+)
