@@ -71,6 +71,21 @@ fn decoded(digits: &[u8]) -> ArrayVec<u8, 64>
     data
 }
 
+/// Puts the bytes that pairs of digits spell. Sixteen digits, those of most classic frames, go a way of their own: their place
+/// is known, and no loop goes over them.
+#[inline(always)]
+pub(crate) fn put_spelled(digits: &[u8], data: &mut ArrayVec<u8, 64>)
+    requires text { IsDataText 128 digits.now }
+    requires empty { «data».old.items ≡ [] }
+    ensures { «data».new.items ≡ bytes_spelled digits.now }
+{
+    if digits.len() == 16 {
+        append(data, &eight_bytes(digits));
+    } else {
+        put_data(digits, data);
+    }
+}
+
 /// Puts the bytes that pairs of digits spell: sixteen digits at a time, and what is left of them by the crate `hex`. That tests
 /// each digit against three ranges, branches that the processor can't foresee in data; so it has the short rest alone.
 #[inline(always)]

@@ -10,7 +10,7 @@ ghost use Rattle.can_log.specs.declared.field.Class.TheVariants.{Visible};
 use crate::frame::{Frame, Id, Kind, Stamped};
 use crate::hexadecimal::is_hex_digit;
 use crate::lanes::{LANES, hex_front, hex_run, visible_front};
-use crate::meaning::{identifier_of, put_data};
+use crate::meaning::{identifier_of, put_spelled};
 use crate::stamp::{has_decimals, time_of};
 use arrayvec::ArrayVec;
 
@@ -71,7 +71,7 @@ pub(crate) fn put_plain_data(fields: Fields<'_>, data: &mut ArrayVec<u8, 64>)
     ensures { «data».new.items ≡ bytes_spelled (digits_of fields.entry.body) }
 {
     let body = fields.body;
-    put_data(&body.behind[..body.digits], data)
+    put_spelled(&body.behind[..body.digits], data)
 }
 
 /// The identifier of a line with these fields.
