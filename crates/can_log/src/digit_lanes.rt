@@ -25,7 +25,7 @@ pub(crate) fn hexadecimal_digits<const WIDTH: usize>(number: u32) -> [u8; WIDTH]
 
 /// The hexadecimal digits of eight bytes, two for each.
 #[inline(always)]
-pub(crate) fn digits_of_bytes(bytes: &[u8; 8]) -> [u8; 16]
+pub fn digits_of_bytes(bytes: &[u8; 8]) -> [u8; 16]
     ensures { result ≡ flat_map (hexadecimal 2) bytes.now }
 {
     let bytes = u8x8::from_slice(bytes);

@@ -7,6 +7,7 @@ ghost use Rattle.trace_canon.specs.Words.{bytes_text};
 ghost use Rattle.trace_canon.specs.Parts.{part_text, parts_text};
 
 use crate::block::{Block, gather};
+use can_log::digits_of_bytes;
 use trace_io::{DeviceFault, Target};
 use uds_message::{code_name, service_name};
 
@@ -94,8 +95,25 @@ fn put_decimal(digits: &mut [u8; MOST_DIGITS], number: u64) -> usize
     start
 }
 
-/// Gathers two digits for each byte.
+/// Gathers two digits for each byte: of eight bytes at once, as long as there are eight.
 fn gather_bytes<W: Target>(
+    writer: &mut W,
+    block: &mut Block,
+    bytes: &[u8],
+) -> Result<(), DeviceFault>
+    requires { W.failures writer.old ≤ 2 ^ 62 }
+    ensures { Gathers W.Target result writer.old block.old (bytes_text bytes.now) writer.new block.new }
+{
+    let mut rest = bytes;
+    'eights: while let Some((eight, behind)) = rest.split_first_chunk::<8>() {
+        gather(writer, block, &digits_of_bytes(eight))?;
+        rest = behind;
+    }
+    gather_few_bytes(writer, block, rest)
+}
+
+/// The same one by one.
+fn gather_few_bytes<W: Target>(
     writer: &mut W,
     block: &mut Block,
     bytes: &[u8],
