@@ -24,7 +24,7 @@ ghost use Rattle.isotp_receive.specs.declared.TheConstants.{MESSAGE_LIMIT};
 ghost use Rattle.isotp_segment.specs.CanonicalFrames.{total_count, canonical_frames};
 
 use can_log::Dir;
-use frame::{CONSECUTIVE_ROOM, SINGLE_LIMIT, canonical_frame, room_in_first};
+use frame::{CONSECUTIVE_ROOM, SINGLE_LIMIT, canonical_frame, full_frame, room_in_first};
 use isotp_receive::MESSAGE_LIMIT;
 use std::iter::FusedIterator;
 use std::marker::Model;
@@ -70,6 +70,10 @@ impl<'a> Model for Segments<'a> {
 }
 
 impl<'a> Segments<'a> {
+    ghost use Rattle.std.specs.Prelude.{◌≡◌, ◌≤◌, [], ◌∷◌, List, ℕ, length, slice_set, IfSome, IfNone};
+    ghost use Rattle.isotp_segment.specs.CanonicalFrames.{canonical_frames};
+    ghost use Rattle.isotp_receive.specs.declared.TheConstants.{MESSAGE_LIMIT};
+
     /// The frames of a message that is sent in the direction `dir`.
     pub fn new(dir: Dir, message: &'a [u8]) -> Segments<'a>
         requires some { 1 ≤ length message.now }
@@ -82,6 +86,41 @@ impl<'a> Segments<'a> {
             count: frame_count(message.len()) as usize,
             number: 0,
         }
+    }
+
+    /// The next frame, if it is a consecutive one that the message fills: who sends it, eight bytes of the message, and the byte
+    /// that stands in place of the first of them.
+    #[tactic(auto, using(crate::proofs::Frames::drop_canonical_frames), unfolding(crate::specs::CanonicalFrames::canonical_frame))]
+    #[inline(always)]
+    fn next_full(&mut self) -> Option<(Dir, &'a [u8; 8], u8)>
+        ensures some { IfSome result (λ x. self.old ≡ (x.0, slice_set x.1.now 0 x.2) ∷ self.new) }
+        ensures none { IfNone result (self.new ≡ self.old) }
+    {
+        if self.number < 2 || self.count <= self.number {
+            return None;
+        }
+        match full_frame(self.message, self.number - 1) {
+            Some((bytes, control)) => {
+                self.number += 1;
+                Some((self.dir, bytes, control))
+            }
+            None => None,
+        }
+    }
+
+    /// The next frame, of whatever kind.
+    #[tactic(auto, using(crate::proofs::Frames::drop_canonical_frames, crate::proofs::Frames::drop_at_end))]
+    #[inline(never)]
+    fn next_any(&mut self) -> Option<(Dir, [u8; 8])>
+        ensures some { IfSome result (λ frame. self.old ≡ frame ∷ self.new) }
+        ensures none { IfNone result ((self.old ≡ []) × (self.new ≡ [])) }
+    {
+        if self.number >= self.count {
+            return None;
+        }
+        let frame = canonical_frame(self.dir, self.message, self.number);
+        self.number += 1;
+        Some(frame)
     }
 }
 
@@ -96,14 +135,18 @@ impl<'a> Iterator for Segments<'a> {
 
     ghost remaining = { λ frames. at_most (length frames) };
 
-    #[tactic(auto, using(crate::proofs::Frames::drop_canonical_frames, crate::proofs::Frames::drop_at_end))]
+    // Most frames are consecutive ones that the message fills. They go a way of their own, and the others by a call: where the
+    // two were joined, the eight bytes would be taken apart and put together again.
+    #[inline(always)]
     fn next(&mut self) -> Option<(Dir, [u8; 8])> {
-        if self.number >= self.count {
-            return None;
+        match self.next_full() {
+            Some((sender, bytes, control)) => {
+                let mut frame = *bytes;
+                frame[0] = control;
+                Some((sender, frame))
+            }
+            None => self.next_any(),
         }
-        let frame = canonical_frame(self.dir, self.message, self.number);
-        self.number += 1;
-        Some(frame)
     }
 
     #[tactic(auto, using(crate::proofs::Frames::count_left))]

@@ -1,6 +1,6 @@
 use Rattle.std.proofs.Common.{arith}
 use Rattle.isotp_segment.proofs.Padding.{full_frame_at}
-use Rattle.isotp_segment.proofs.frame.consecutive_frame.Goals as goal
+use Rattle.isotp_segment.proofs.frame.full_frame.Goals as goal
 
 pub returns-in-Some : goal.returns-in-Some
 returns-in-Some c = record {
