@@ -1,6 +1,6 @@
 -- What a scanner answers on a piece, and at the end, and how it stands then.
 use Prim.Native.Char.{code}
-use Rattle.std.proofs.Common.{◌≡◌, ℕ, suc, ◌+◌, ◌<◌, true, sym, ap, subst, ◌∙◌, refl, arith}
+use Rattle.std.proofs.Common.{◌≡◌, ℕ, suc, ◌+◌, ◌-◌, ◌<◌, true, sym, ap, subst, ◌∙◌, refl, arith, inl, length-append}
 use Rattle.std.proofs.Common.{List, [], ◌∷◌, ◌++◌, length, get_or, take, drop, append_assoc, Option, Some, None}
 use Rattle.std.specs.Prelude.{◌==◌, option_map, codes}
 use Rattle.std.proofs.lemmas.List.{length-take-le}
@@ -9,11 +9,13 @@ use Rattle.can_log.specs.declared.scanner.Scan.{Scan}
 use Rattle.can_log.specs.declared.scanner.Scan.TheVariants as scan
 use Rattle.can_log.specs.declared.scanner.Judgement.{Judgement}
 use Rattle.can_log.specs.declared.scanner.Judgement.TheVariants as judgement
-use Rattle.can_log.specs.Line.{LineMeans, IsNoLine}
+use Rattle.can_log.specs.declared.plain.Fields.{Fields}
+use Rattle.can_log.specs.Line.{LineMeans, IsNoLine, IsLineSpelling, spell_line, stamped_of, parts_in}
+use Rattle.can_log.specs.Plain.{spelling_of}
 use Rattle.can_log.specs.Refused.{NoLineFeed, HasCompletion, IsRefusedPlace, IsUnfinishedAt}
 use Rattle.can_log.specs.Scanning.{Place, Standing, Scans, ScansFrom, Finishes, FinishesFrom}
 use Rattle.can_log.specs.Judging.{Judged}
-use Rattle.can_log.proofs.LineFeeds.{at_feed}
+use Rattle.can_log.proofs.LineFeeds.{at_feed, line_clean}
 use Rattle.can_log.proofs.RefusedPlaces.{place_extends, not_refused}
 
 abbrev stand : ℕ → List ℕ → ℕ → Option Place → Standing
@@ -35,6 +37,21 @@ scan_means lines taken line line2 refused piece front after used what e none par
     let stands = ap (λ (z : List ℕ). stand (lines + 1) z (taken + used) None) none in
     subst (λ (r : Option Place). Scans (stand lines line taken r) piece (scan.Line used (lines + 1) what) (stand (lines + 1) line2 (taken + used) r)) (sym e)
     (front, after, parts, clean, long, refl, means, stands)
+
+-- the same, of a line of plain form whose answer is what it records
+pub plain_scanned : (lines taken : ℕ) (line : List ℕ) (refused : Option Place) (piece rest : List ℕ) (fields : Fields) (answer : Scan)
+    → refused ≡ None → line ≡ [] → piece ≡ spell_line (spelling_of fields) ++ (codes "\n" ++ rest) → IsLineSpelling (spelling_of fields)
+    → answer ≡ scan.Line (length piece - length rest) (lines + 1) (Some (stamped_of (parts_in (spelling_of fields))))
+    → Scans (stand lines line taken refused) piece answer (stand (lines + 1) line (taken + (length piece - length rest)) refused)
+plain_scanned lines taken line refused piece rest fields answer e none parts legal is =
+    let front = spell_line (spelling_of fields) in
+    let what = Some (stamped_of (parts_in (spelling_of fields))) in
+    let told : LineMeans front what = (spelling_of fields, legal, inl refl, refl) in
+    let means : LineMeans (line ++ front) what = subst (λ (z : List ℕ). LineMeans (z ++ front) what) (sym none) told in
+    let whole = ap (λ (z : List ℕ). length z) parts ∙ length-append front (codes "\n" ++ rest) in
+    let used : length piece - length rest ≡ length front + 1 = omega (arith, whole) in
+    subst (λ (a : Scan). Scans (stand lines line taken refused) piece a (stand (lines + 1) line (taken + (length piece - length rest)) refused)) (sym is)
+    (scan_means lines taken line line refused piece front rest (length piece - length rest) what e none parts used (line_clean front what told) means)
 
 -- the same, of the first line feed at a place
 pub scan_means_at : (lines taken : ℕ) (line line2 : List ℕ) (refused : Option Place) (piece : List ℕ) (at : ℕ) (what : Option Stamped)

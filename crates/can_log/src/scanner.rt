@@ -1,18 +1,19 @@
 //! Lines out of the pieces of a log.
 
 ghost use Rattle.std.specs.Prelude.{◌≡◌, ◌≤◌, ◌+◌, ◌^◌, ◌++◌, Some, ◌<◌, IfOk, IfErr, IfNone, IfSome, codes, length, take};
-ghost use Rattle.can_log.specs.Line.{LineMeans};
+ghost use Rattle.can_log.specs.Line.{LineMeans, identifier_of, stamped_of, parts_in};
 ghost use Rattle.can_log.specs.Refused.{NoLineFeed, HasCompletion, IsRefusedPlace};
 ghost use Rattle.can_log.specs.Judging.{Judged};
 ghost use Rattle.can_log.specs.Scanning.{Scans, ScansForeign, Finishes};
 ghost use Rattle.can_log.specs.WholeLog.{at_start};
-ghost use Rattle.can_log.specs.declared.scanner.Scan.TheVariants.{Bad};
+ghost use Rattle.can_log.specs.declared.scanner.Scan.TheVariants.{Bad, Line};
+ghost use Rattle.can_log.specs.Plain.{HavePlainWidths, AreDecimals, seconds_of, micros_of, spelling_of};
 
 use crate::field::Stop;
 use crate::frame::{Id, Stamped};
 use crate::line::judge;
 use crate::meaning::stamped_of;
-use crate::plain::{plain_identifier, plain_line, plain_stamped, put_plain_data};
+use crate::plain::{Fields, plain_identifier, plain_line, plain_stamped, put_plain_data};
 use arrayvec::ArrayVec;
 use memchr::memchr;
 use std::marker::Model;
@@ -171,13 +172,7 @@ impl Scanner {
                 if !id.is_either(first, second) {
                     return Some(taken);
                 }
-                let mut data = ArrayVec::new();
-                put_plain_data(fields, &mut data);
-                *answer = Scan::Line {
-                    used: taken,
-                    line: self.lines,
-                    what: Some(plain_stamped(fields, id, data)),
-                };
+                answer_plain(answer, taken, self.lines, fields, id);
                 return None;
             }
         }
@@ -280,6 +275,24 @@ impl Default for Scanner {
     fn default() -> Self {
         Scanner::new()
     }
+}
+
+/// Answers what a line with these fields and this identifier records, which ends after `used` bytes. The frame is made here, where
+/// it is answered; and so a caller that has no frame to make clears no room for one.
+#[inline(always)]
+fn answer_plain(answer: &mut Scan, used: usize, line: u64, fields: Fields<'_>, id: Id)
+    requires widths { HavePlainWidths fields }
+    requires identifier { id ≡ identifier_of fields.identifier.now }
+    requires decimals { AreDecimals (seconds_of fields.stamp.now ++ micros_of fields.stamp.now) }
+    ensures { answer.new ≡ Line used line (Some (stamped_of (parts_in (spelling_of fields.entry)))) }
+{
+    let mut data = ArrayVec::new();
+    put_plain_data(fields, &mut data);
+    *answer = Scan::Line {
+        used,
+        line,
+        what: Some(plain_stamped(fields, id, data)),
+    };
 }
 
 /// The answer at a refused place.
