@@ -6,7 +6,7 @@ use Rattle.std.proofs.Math.Seq.{take-append_seam, drop-append_seam}
 use borrow.Rule.Slice.PartMut.{put_mid}
 
 -- after its two parts stands a line feed
-pub fed_behind : (line bytes first second : List ℕ) → first ≡ line → second ≡ bytes → length line + length bytes ≤ 176
+pub fed_behind : (line bytes first second : List ℕ) → first ≡ line → second ≡ bytes → length line + length bytes ≤ 175
     → put_mid (length line) (length line + length bytes - length line) (first ++ drop (length line) (replicate 192 10)) second
     ≡ (line ++ bytes) ++ code "\n" ∷ replicate (191 - (length line + length bytes)) 10
 fed_behind line bytes first second one two few =

@@ -10,7 +10,7 @@ ghost use Rattle.can_log.specs.Log.{LogMeans};
 
 use crate::digit_lanes::{digits_of_bytes, hexadecimal_digits};
 use crate::frame::Id;
-use crate::line_clock::LineClock;
+use crate::line_clock::{FRONT, LineClock};
 use arrayvec::ArrayVec;
 
 /// How many bytes the line of a base identifier has.
@@ -51,12 +51,12 @@ pub fn append_line<const CAP: usize>(
     }
 }
 
-/// The line at the clock's time of a base identifier, as a whole: a block takes it in one piece.
+/// The line at the clock's time of a base identifier, as a value of its own: what takes it, takes it in one piece.
 #[inline(always)]
 pub fn base_line(clock: &LineClock, number: u16, data: &[u8; 8]) -> [u8; BASE_LINE]
     ensures { result ≡ canonical_line clock.now (Std number) «data».now }
 {
-    laid(clock, &hexadecimal_digits::<3>(u32::from(number)), data)
+    line_of_digits(clock, &hexadecimal_digits::<3>(u32::from(number)), data)
 }
 
 /// The same of an extended identifier.
@@ -64,30 +64,34 @@ pub fn base_line(clock: &LineClock, number: u16, data: &[u8; 8]) -> [u8; BASE_LI
 pub fn extended_line(clock: &LineClock, number: u32, data: &[u8; 8]) -> [u8; LONGEST_LINE]
     ensures { result ≡ canonical_line clock.now (Ext number) «data».now }
 {
-    laid(clock, &hexadecimal_digits::<8>(number), data)
+    line_of_digits(clock, &hexadecimal_digits::<8>(number), data)
 }
 
-/// The line of an identifier of these digits. Its parts have places that are known when it is compiled.
+/// The line at the clock's time of an identifier with these digits. Where each part lies is known when it is compiled.
 #[inline(always)]
-fn laid<const LENGTH: usize>(clock: &LineClock, digits: &[u8], data: &[u8; 8]) -> [u8; LENGTH]
+fn line_of_digits<const LENGTH: usize>(
+    clock: &LineClock,
+    digits: &[u8],
+    data: &[u8; 8],
+) -> [u8; LENGTH]
     requires { LENGTH ≡ 43 + length digits.now }
     ensures { result ≡ canonical_front clock.now ++ digits.now ++ codes "#" ++ flat_map (hexadecimal 2) «data».now ++ codes "\n" }
 {
-    let mut line = [b'\n'; LENGTH];
-    lay(&mut line, 0, clock.front());
-    lay(&mut line, 25, digits);
-    lay(&mut line, 25 + digits.len(), b"#");
-    lay(&mut line, 26 + digits.len(), &digits_of_bytes(data));
-    lay(&mut line, 42 + digits.len(), b"\n");
+    let mut line = [0; LENGTH];
+    write_at(&mut line, 0, clock.front());
+    write_at(&mut line, FRONT, digits);
+    write_at(&mut line, FRONT + digits.len(), b"#");
+    write_at(&mut line, FRONT + digits.len() + 1, &digits_of_bytes(data));
+    write_at(&mut line, LENGTH - 1, b"\n");
     line
 }
 
 /// Writes a part of a line over the bytes from `at` on.
 #[inline(always)]
-fn lay(line: &mut [u8], at: usize, part: &[u8])
+fn write_at(line: &mut [u8], at: usize, part: &[u8])
     requires { at + length part.now ≤ length line.old }
-    ensures laid { take (at + length part.now) line.new ≡ take at line.old ++ part.now }
-    ensures long { length line.new ≡ length line.old }
+    ensures written { take (at + length part.now) line.new ≡ take at line.old ++ part.now }
+    ensures length { length line.new ≡ length line.old }
 {
     line[at..at + part.len()].copy_from_slice(part);
 }

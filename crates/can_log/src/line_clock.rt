@@ -8,7 +8,7 @@ use crate::digit_lanes::decimal_digits;
 use std::marker::Model;
 
 /// How many bytes a canonical line has before its identifier.
-const FRONT: usize = 25;
+pub(crate) const FRONT: usize = 25;
 
 /// Where the last digit of the milliseconds stands.
 const LAST_DIGIT: usize = 14;

@@ -71,10 +71,10 @@ fn decoded(digits: &[u8]) -> ArrayVec<u8, 64>
     data
 }
 
-/// Puts the bytes that pairs of digits spell. Sixteen digits, those of most classic frames, go a way of their own: their place
-/// is known, and no loop goes over them.
+/// Puts the bytes that pairs of digits spell. Sixteen digits, those of most classic frames, go a way of their own, without a
+/// loop: where each of their bytes lies is known when it is compiled.
 #[inline(always)]
-pub(crate) fn put_spelled(digits: &[u8], data: &mut ArrayVec<u8, 64>)
+pub(crate) fn put_data(digits: &[u8], data: &mut ArrayVec<u8, 64>)
     requires text { IsDataText 128 digits.now }
     requires empty { «data».old.items ≡ [] }
     ensures { «data».new.items ≡ bytes_spelled digits.now }
@@ -82,14 +82,14 @@ pub(crate) fn put_spelled(digits: &[u8], data: &mut ArrayVec<u8, 64>)
     if digits.len() == 16 {
         append(data, &eight_bytes(digits));
     } else {
-        put_data(digits, data);
+        put_data_of_any_length(digits, data);
     }
 }
 
-/// Puts the bytes that pairs of digits spell: sixteen digits at a time, and what is left of them by the crate `hex`. That tests
-/// each digit against three ranges, branches that the processor can't foresee in data; so it has the short rest alone.
+/// The same for any number of digits: sixteen at a time, and what is left of them by the crate `hex`. That tests each digit
+/// against three ranges, branches that the processor can't foresee in data; so it has the short rest alone.
 #[inline(always)]
-pub(crate) fn put_data(digits: &[u8], data: &mut ArrayVec<u8, 64>)
+fn put_data_of_any_length(digits: &[u8], data: &mut ArrayVec<u8, 64>)
     requires text { IsDataText 128 digits.now }
     requires empty { «data».old.items ≡ [] }
     ensures { «data».new.items ≡ bytes_spelled digits.now }

@@ -10,9 +10,13 @@ ghost use Rattle.can_log.specs.declared.field.Class.TheVariants.{Visible};
 use crate::frame::{Frame, Id, Kind, Stamped};
 use crate::hexadecimal::is_hex_digit;
 use crate::lanes::{LANES, hex_front, hex_run, visible_front};
-use crate::meaning::{identifier_of, put_spelled};
+use crate::meaning::{identifier_of, put_data};
 use crate::stamp::{has_decimals, time_of};
 use arrayvec::ArrayVec;
+
+/// The longest line of plain form, without its line feed: a stamp of 20 bytes, 15 of the interface, a space, 8 digits of the
+/// identifier, `##`, the digit of the flags, and 128 of the data.
+pub(crate) const LONGEST_PLAIN: usize = 175;
 
 /// The longest line of a classic frame in plain form, and what else the lanes reach: a stamp of 20 bytes, 15 of the interface,
 /// a space, 8 digits of the identifier, `#`, 16 of the data, and a line feed.
@@ -71,7 +75,7 @@ pub(crate) fn put_plain_data(fields: Fields<'_>, data: &mut ArrayVec<u8, 64>)
     ensures { «data».new.items ≡ bytes_spelled (digits_of fields.entry.body) }
 {
     let body = fields.body;
-    put_spelled(&body.behind[..body.digits], data)
+    put_data(&body.behind[..body.digits], data)
 }
 
 /// The identifier of a line with these fields.
@@ -83,7 +87,7 @@ pub(crate) fn plain_identifier(fields: Fields<'_>) -> Id
     identifier_of(fields.identifier)
 }
 
-/// What a line with these fields, this identifier and this data records.
+/// What a line with these fields records, of which the identifier and the data are decoded.
 #[inline(always)]
 pub(crate) fn plain_stamped(fields: Fields<'_>, id: Id, data: ArrayVec<u8, 64>) -> Stamped
     requires widths { HavePlainWidths fields }

@@ -11,18 +11,18 @@ ghost use Rattle.can_log.specs.Plain.{HavePlainWidths, AreDecimals, seconds_of, 
 
 use crate::field::Stop;
 use crate::frame::{Id, Stamped};
+use crate::lanes::LANES;
 use crate::line::judge;
 use crate::meaning::stamped_of;
-use crate::plain::{Fields, plain_identifier, plain_line, plain_stamped, put_plain_data};
+use crate::plain::{
+    Fields, LONGEST_PLAIN, plain_identifier, plain_line, plain_stamped, put_plain_data,
+};
 use arrayvec::ArrayVec;
 use memchr::memchr;
 use std::marker::Model;
 
-/// The longest line of plain form that is copied, where it is cut or stands at the end of a piece.
-const LONGEST_COPIED: usize = 176;
-
-/// Room for it, and for what the lanes reach beyond it.
-const PADDED: usize = 192;
+/// Room for a line of plain form, its line feed, and what the lanes reach beyond it.
+const ROOM_OF_PLAIN: usize = LONGEST_PLAIN + 1 + LANES;
 
 /// What came of a piece of the log, or of its end.
 #[derive(Debug, Drop, PartialEq, Eq)]
@@ -127,26 +127,21 @@ impl Scanner {
             return;
         }
         if self.line.is_empty() {
-            // The way of most lines: the frame is made here, where it is answered, and copied nowhere.
+            // The way of most lines.
             if let Some((fields, rest)) = plain_line(piece) {
-                let mut data = ArrayVec::new();
-                put_plain_data(fields, &mut data);
                 let used = piece.len() - rest.len();
                 self.lines += 1;
                 self.taken += used as u64;
-                *answer = Scan::Line {
-                    used,
-                    line: self.lines,
-                    what: Some(plain_stamped(fields, plain_identifier(fields), data)),
-                };
+                answer_plain(answer, used, self.lines, fields, plain_identifier(fields));
                 return;
             }
         }
         self.scan_any_into(piece, answer);
     }
 
-    /// The same for a caller that looks at the frames of two identifiers alone. A line of plain form with another identifier is
-    /// taken, and only its form is looked at: how much of the piece it takes is told, and nothing is answered.
+    /// The same for a caller that wants the frames of two identifiers alone. Where a line of plain form records another frame,
+    /// its time and its data are not decoded: it is taken, how many bytes of the piece it has is told, and `answer` stays as it
+    /// was. In any other form such a line is answered like the rest.
     #[inline(always)]
     pub fn scan_wanted_into(
         &mut self,
@@ -165,14 +160,14 @@ impl Scanner {
         }
         if self.line.is_empty() {
             if let Some((fields, rest)) = plain_line(piece) {
-                let id = plain_identifier(fields);
-                let taken = piece.len() - rest.len();
+                let length = piece.len() - rest.len();
                 self.lines += 1;
-                self.taken += taken as u64;
+                self.taken += length as u64;
+                let id = plain_identifier(fields);
                 if !id.is_either(first, second) {
-                    return Some(taken);
+                    return Some(length);
                 }
-                answer_plain(answer, taken, self.lines, fields, id);
+                answer_plain(answer, length, self.lines, fields, id);
                 return None;
             }
         }
@@ -180,8 +175,8 @@ impl Scanner {
         None
     }
 
-    /// The same for a line of any form, and for one that is cut. It is separate, so that `scan_into` makes a frame at one place
-    /// alone, and has no room for another answer, which would be cleared for each line.
+    /// The same for a line of any form, and for one that is cut. It is separate, so that the calls above make a frame at one
+    /// place alone, and have no room for another answer, which would be cleared for each line.
     #[inline(never)]
     fn scan_any_into(&mut self, piece: &[u8], answer: &mut Scan)
         requires { self.old.taken + length piece.now ≤ 2 ^ 62 }
@@ -277,8 +272,8 @@ impl Default for Scanner {
     }
 }
 
-/// Answers what a line with these fields and this identifier records, which ends after `used` bytes. The frame is made here, where
-/// it is answered; and so a caller that has no frame to make clears no room for one.
+/// Answers what a line of plain form records, which has `used` bytes of the piece. The frame is made here, where it is
+/// answered, and copied nowhere. Room for its data is cleared here, too, and so not for a line that records a foreign frame.
 #[inline(always)]
 fn answer_plain(answer: &mut Scan, used: usize, line: u64, fields: Fields<'_>, id: Id)
     requires widths { HavePlainWidths fields }
@@ -332,8 +327,8 @@ fn ended(line: &[u8], bytes: &[u8]) -> Result<Option<Stamped>, u32>
     }
 }
 
-/// What a line of plain form that ends after `bytes` records. It may be cut, and the lanes reach beyond its end: so it is
-/// copied to where line feeds follow.
+/// What a line that ends after `bytes` records, if it is of plain form. It may be cut, and the lanes reach beyond its end: so
+/// it is copied to where line feeds follow.
 #[inline(always)]
 fn plain_ended(line: &[u8], bytes: &[u8]) -> Option<Stamped>
     requires { NoLineFeed (line.now ++ bytes.now) }
@@ -341,10 +336,10 @@ fn plain_ended(line: &[u8], bytes: &[u8]) -> Option<Stamped>
 {
     let length = line.len();
     let end = length + bytes.len();
-    if end > LONGEST_COPIED {
+    if end > LONGEST_PLAIN {
         return None;
     }
-    let mut padded = [b'\n'; PADDED];
+    let mut padded = [b'\n'; ROOM_OF_PLAIN];
     padded[..length].copy_from_slice(line);
     padded[length..end].copy_from_slice(bytes);
     let (fields, _) = plain_line(&padded)?;

@@ -2,7 +2,7 @@ use Rattle.std.proofs.Common.{◌≡◌, ◌-◌, ◌*◌, ◌/◌, take, drop, 
 use Rattle.std.proofs.lemmas.List.{length-take-le}
 use Rattle.can_log.specs.Line.{bytes_spelled}
 use Rattle.can_log.proofs.SpelledBytes.{the_rest, whole_sixteens, spelled_so_far}
-use Rattle.can_log.proofs.meaning.put_data.Goals as goal
+use Rattle.can_log.proofs.meaning.put_data_of_any_length.Goals as goal
 
 pub append-requires : goal.append-requires
 append-requires c =
