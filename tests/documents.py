@@ -10,7 +10,8 @@
 - how many bodies were planted by hand, as docs/attacks.md and docs/proved.md say, is the number of the rows of docs/attacks.md;
 - each wrong body of must-fail/ and attacks/ can be applied: what it takes away stands once;
 - docs/definitions.md names each file of definitions, and each definition stands in the file that it names;
-- it has each definition that a public function's contract or a law cites.
+- it has each definition that a public function's contract or a law cites;
+- docs/architecture.md says of each crate of the kit that the program stands on where it is called, and the call stands there.
 
 Prints a line for each case and ends with `N passed, M failed`; its status is 1 where a case failed.
 """
@@ -28,6 +29,7 @@ from cases import Cases
 TOP = Path(__file__).resolve().parent.parent
 DOCS = TOP / "docs"
 PICTURE = DOCS / "crates.svg"
+ARCHITECTURE = DOCS / "architecture.md"
 DEFINITIONS = DOCS / "definitions.md"
 README = TOP / "README.md"
 PROVED = DOCS / "proved.md"
@@ -279,11 +281,39 @@ def citations(cases):
         cases.report(f"the page has the definitions that public contracts and laws of {crate} cite", sorted(wrong))
 
 
+def table_below(document, title):
+    """The rows of the table below a heading of a document, without the one that names the columns: the cells of each."""
+    section = re.search(rf"^#+ {re.escape(title)}\n(.*?)(?=^#|\Z)", document.read_text(), re.M | re.S)
+    lines = re.findall(r"^\| (.*) \|$", section[1] if section else "", re.M)
+    return [line.split(" | ") for line in lines[1:]]
+
+
+def stands_in(call, text):
+    """A call, in which `..` leaves something out, stands in a source file that imports its crate, and not in a comment."""
+    pattern = r"[^\n]*".join(re.escape(part) for part in call.split(".."))
+    return re.search(pattern, re.sub(r"//.*", "", text)) is not None
+
+
+def calls_of_the_kit(cases):
+    table = crates()
+    of_kit = {name for crate in {PROGRAM, *below(table, PROGRAM)} & set(table) for name in table[crate]} - set(table)
+    rows = [[cell.strip("`") for cell in cells[:3]] for cells in table_below(ARCHITECTURE, "Where the five crates stand")]
+    named = {name for name, _, _ in rows}
+    cases.report("the page of the architecture says where each crate of the kit stands", sorted(f"not {name}" for name in of_kit ^ named))
+    for name, call, file in rows:
+        path = TOP / "crates" / file
+        text = path.read_text() if path.exists() else ""
+        wrong = [] if stands_in(call, text) else [f"{call} is not there"]
+        wrong += [] if re.search(rf"\b{name}::", text) else [f"it imports nothing of {name}"]
+        wrong += [] if name in table.get(file.split("/")[0], []) else [f"crates.txt has no {name} below it"]
+        cases.report(f"`{call}` of {name} stands in {file}", wrong)
+
+
 def main():
     if len(sys.argv) != 1:
         sys.exit(__doc__)
     cases = Cases(None)
-    for test in [picture, links, named_files, counts, planted, wrong_bodies, definitions, citations]:
+    for test in [picture, links, named_files, counts, planted, wrong_bodies, definitions, citations, calls_of_the_kit]:
         test(cases)
     cases.end()
 
