@@ -289,8 +289,8 @@ def table_below(document, title):
 
 
 def stands_in(call, text):
-    """A call, in which `..` leaves something out, stands in a source file that imports its crate, and not in a comment."""
-    pattern = r"[^\n]*".join(re.escape(part) for part in call.split(".."))
+    """A call, in which `..` leaves out anything but a brace, stands in a source file, and not in a comment."""
+    pattern = r"[^{}]*".join(re.escape(part) for part in call.split(".."))
     return re.search(pattern, re.sub(r"//.*", "", text)) is not None
 
 
