@@ -12,7 +12,7 @@ pub fed_behind : (line bytes first second : List ℕ) → first ≡ line → sec
 fed_behind line bytes first second one two few =
     let n = length line in
     let k = length line + length bytes - length line in
-    let feeds = drop n (replicate 192 10) in
+    let feeds : List ℕ = drop n (replicate 192 10) in
     let left : 192 - n - k ≡ suc (191 - (length line + length bytes)) = omega arith in
     let behind : drop k feeds ≡ code "\n" ∷ replicate (191 - (length line + length bytes)) 10 =
     ap (drop k) (drop-replicate n 192 10) ∙ drop-replicate k (192 - n) 10 ∙ ap (λ (m : ℕ). replicate m 10) left in
