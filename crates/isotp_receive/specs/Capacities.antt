@@ -1,12 +1,14 @@
 -- How much memory a pair keeps for the bytes of messages, and how far a frame may make it grow.
-use Rattle.std.specs.Prelude.{◌≡◌, ◌≤◌, ℕ, ◌+◌, ◌*◌, List, length, min, max, nat_le, if◌then◌else◌, Option, Some, None, Result, Ok, Err}
+use Rattle.std.specs.Prelude.{◌≡◌, ◌≤◌, ℕ, ◌+◌, ◌*◌, List, [], ◌∷◌, length, min, max, nat_le, ⊤, if◌then◌else◌, Option, Some, None, Result, Ok, Err}
 use Rattle.can_log.specs.Dir.{other_direction}
 use Rattle.can_log.specs.declared.frame.Dir.{Dir}
 use Rattle.can_log.specs.declared.frame.Dir.TheVariants.{Tester, Unit}
 use Rattle.isotp_pdu.specs.Layout.{Layout}
 use Rattle.isotp_pdu.specs.Layout as layout
+use Rattle.isotp_pdu.specs.Reading.{layout_of}
 use Rattle.isotp_pdu.specs.declared.PduFault.{PduFault}
-use Rattle.isotp_receive.specs.StandingReception.{StandingReception, Receptions, of_direction}
+use Rattle.isotp_receive.specs.Trace.{Entry, same_direction}
+use Rattle.isotp_receive.specs.StandingReception.{StandingReception, Receptions, receptions_after, of_direction}
 
 -- the bytes of a message that have come, and for how many there is memory
 pub record BytesValue : Type 0 where
@@ -59,3 +61,35 @@ pub record CapacitiesGrow (limit : ℕ) (d : Dir) (read : Result Layout PduFault
   pub own : GrowsWithin (announced_with limit (of_direction old.receptions d) read) (come_with (of_direction old.receptions d) read)
       (capacity_of old d) (capacity_of new d)
   pub other : capacity_of new (other_direction d) ≡ capacity_of old (other_direction d)
+
+-- one more frame is taken by a pair that stood after some trace
+pub record TakesOne (limit : ℕ) (pair : PairValue) (e : Entry) (new : PairValue) : Type 0 where
+  pub before : List Entry
+  pub stood : pair.receptions ≡ receptions_after limit before
+  pub grew : CapacitiesGrow limit e.dir (layout_of e.frame) pair new
+
+-- a run: the frames that a pair takes one after another, each with the pair after it
+abbrev pub IsRun : ℕ → PairValue → List (Entry × PairValue) → Type 0
+IsRun limit pair [] = ⊤
+IsRun limit pair (step ∷ rest) = TakesOne limit pair step.0 step.1 × IsRun limit step.1 rest
+
+-- the pair at its end
+abbrev pub end_of : PairValue → List (Entry × PairValue) → PairValue
+end_of pair [] = pair
+end_of pair (step ∷ rest) = end_of step.1 rest
+
+-- how many bytes of a message of d had come with the frame e
+abbrev pub come_of : Dir → PairValue → Entry → ℕ
+come_of d pair e = if same_direction d e.dir then come_with (of_direction pair.receptions d) (layout_of e.frame) else 0
+
+-- the most bytes of one message of d that had come in a run
+abbrev pub most_come : Dir → PairValue → List (Entry × PairValue) → ℕ
+most_come d pair [] = 0
+most_come d pair (step ∷ rest) = max (come_of d pair step.0) (most_come d step.1 rest)
+
+-- A pair that had no memory for a direction has it, after a run, for at most twice the most bytes that had come of one message of
+-- the direction, and for no more than a message may have.
+abbrev pub CapacitiesStayWithin : Type 0
+CapacitiesStayWithin =
+    (limit : ℕ) (d : Dir) (pair : PairValue) (run : List (Entry × PairValue)) → capacity_of pair d ≡ 0 → IsRun limit pair run
+    → (capacity_of (end_of pair run) d ≤ 2 * most_come d pair run) × (capacity_of (end_of pair run) d ≤ limit)
