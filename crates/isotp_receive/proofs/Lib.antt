@@ -25,6 +25,7 @@ pub mod CarriedBytes
 pub mod BytesAtPlaces
 pub mod SameMessage
 pub mod StandingLaws
+pub mod CapacityLaws
 -- verdicts
 pub mod Heard
 pub mod HeardByRole

@@ -15,6 +15,7 @@ pub mod Laws
 pub mod RecordingLaws
 pub mod MessageLaws
 pub mod Growth
+pub mod Capacities
 pub mod EventSeen
 pub mod Taken
 pub mod Machine

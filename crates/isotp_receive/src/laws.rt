@@ -7,6 +7,7 @@ ghost use Rattle.isotp_receive.specs.Laws.{AMessageIsDelivered, TheVerdictIsTabl
 ghost use Rattle.isotp_receive.specs.MessageLaws.{MessagesGoOn, MessagesAreFew, MessagesFit, MessagesHoldBytes};
 ghost use Rattle.isotp_receive.specs.MessageLaws.{EventsGoOn, EventsAreAsMany, FirstFrameIsRead, TooLongIsAnnounced, KeptIsWithin, CleanIsCounted};
 ghost use Rattle.isotp_receive.specs.Growth.{RefusedLeavesTheOther};
+ghost use Rattle.isotp_receive.specs.Capacities.{CapacitiesStayWithin};
 
 /// What stands after a trace is the reception that is open at its end by the positions of its frames,
 /// with all that is known of it: line, length, RX_DL, bytes and the time that N_Cr runs from.
@@ -51,6 +52,12 @@ pub fn places_agree()
 /// is as it was.
 pub fn refused_leaves_the_other()
     ensures { RefusedLeavesTheOther }
+{}
+
+/// What a pair keeps, over all frames that it takes from [`Pair::new`](crate::Pair::new) on: for each direction memory for at
+/// most twice the most bytes that had come of one of its messages, and for no more than the largest message has.
+pub fn capacities_stay_within()
+    ensures { CapacitiesStayWithin }
 {}
 
 /// The limit that the contracts of [`Pair`](crate::Pair) name: messages have at most 1,048,575 bytes.

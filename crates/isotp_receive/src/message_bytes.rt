@@ -1,6 +1,7 @@
 //! The bytes of a message that is received, as far as they have come.
 
-ghost use Rattle.std.specs.Prelude.{◌≡◌, ◌≤◌, ◌+◌, ◌*◌, [], ◌++◌, length, take, OnOk, is_ok, if◌then◌else◌, max, vec_len, vec_capacity};
+ghost use Rattle.std.specs.Prelude.{◌≡◌, ◌≤◌, ◌+◌, ◌-◌, ◌*◌, [], ◌++◌, length, take, replicate, OnOk, is_ok, if◌then◌else◌, vec_len, vec_capacity};
+ghost use Rattle.isotp_receive.specs.Capacities.{GrowsWithin};
 
 use crate::MESSAGE_LIMIT;
 use std::alloc::{AllocError, Global};
@@ -17,11 +18,12 @@ pub(crate) struct MessageBytes {
 }
 
 impl Model for MessageBytes {
-    ghost use Rattle.std.specs.Prelude.{ℕ, ◌≤◌, List, take, length};
+    ghost use Rattle.std.specs.Prelude.{◌≤◌, take, length, vec_capacity};
+    ghost use Rattle.isotp_receive.specs.Capacities.{BytesValue};
 
-    ghost Value = { List ℕ };
+    ghost Value = { BytesValue };
 
-    ghost view = { λ bytes. take bytes.len bytes.buffer.items };
+    ghost view = { λ bytes. record { bytes = take bytes.len bytes.buffer.items; capacity = vec_capacity bytes.buffer } };
 
     ghost invariant = { λ bytes. bytes.len ≤ length bytes.buffer.items };
 }
@@ -29,7 +31,7 @@ impl Model for MessageBytes {
 impl MessageBytes {
     /// No bytes, and no memory yet.
     pub(crate) fn new(alloc: Global) -> MessageBytes
-        ensures { result ≡ [] }
+        ensures { result ≡ record { bytes = []; capacity = 0 } }
     {
         MessageBytes {
             buffer: Vec::new(alloc),
@@ -39,7 +41,7 @@ impl MessageBytes {
 
     /// Lets the bytes go. The memory is kept.
     pub(crate) fn clear(&mut self)
-        ensures { self.new ≡ [] }
+        ensures { self.new ≡ record { bytes = []; capacity = self.old.capacity } }
     {
         self.len = 0;
     }
@@ -47,7 +49,7 @@ impl MessageBytes {
     /// How many bytes there are.
     #[inline(always)]
     pub(crate) fn len(&self) -> usize
-        ensures { result ≡ length self.now }
+        ensures { result ≡ length self.now.bytes }
     {
         self.len
     }
@@ -55,7 +57,7 @@ impl MessageBytes {
     /// The bytes.
     #[inline(always)]
     pub(crate) fn as_slice(&self) -> &[u8]
-        ensures { result.now ≡ self.now }
+        ensures { result.now ≡ self.now.bytes }
     {
         &self.buffer.as_slice()[..self.len]
     }
@@ -65,8 +67,9 @@ impl MessageBytes {
     #[inline(never)]
     pub(crate) fn store(&mut self, len: usize, bytes: &[u8]) -> Result<(), AllocError>
         requires limit { len ≤ MESSAGE_LIMIT }
-        requires fits { length self.old + length bytes.now ≤ len }
-        ensures { self.new ≡ (if is_ok result then self.old ++ bytes.now else self.old) }
+        requires fits { length self.old.bytes + length bytes.now ≤ len }
+        ensures bytes { self.new.bytes ≡ (if is_ok result then self.old.bytes ++ bytes.now else self.old.bytes) }
+        ensures capacity { GrowsWithin len (length self.old.bytes + length bytes.now) self.old.capacity self.new.capacity }
     {
         if self.len + bytes.len() > self.buffer.len() {
             make_room(&mut self.buffer, self.len, len, bytes.len())?;
@@ -103,23 +106,22 @@ fn make_room(buffer: &mut Vec<u8>, have: usize, len: usize, more: usize) -> Resu
     ensures bytes { take have buffer.new.items ≡ take have buffer.old.items }
     ensures have { have ≤ vec_len buffer.new }
     ensures room { OnOk result (have + more ≤ vec_len buffer.new) }
+    ensures capacity { GrowsWithin len (have + more) (vec_capacity buffer.old) (vec_capacity buffer.new) }
 {
     let room = len.min(2 * (have + more));
-    reserve(buffer, len, have + more, room)?;
-    buffer.resize(room, 0)
+    buffer.reserve_exact(room - buffer.len())?;
+    fill(buffer, room);
+    Ok(())
 }
 
-/// Reserves memory for `room` bytes of a message of `len` bytes, of which `wanted` have come.
-fn reserve(buffer: &mut Vec<u8>, len: usize, wanted: usize, room: usize) -> Result<(), AllocError>
-    requires limit { len ≤ MESSAGE_LIMIT }
-    requires wanted { vec_len buffer.old ≤ wanted }
-    requires more { wanted ≤ room }
-    requires twice { room ≤ 2 * wanted }
-    requires within { room ≤ len }
-    ensures items { buffer.new.items ≡ buffer.old.items }
-    ensures room { OnOk result (room ≤ vec_capacity buffer.new) }
-    ensures announced { vec_capacity buffer.new ≤ max (vec_capacity buffer.old) len }
-    ensures come { vec_capacity buffer.new ≤ max (vec_capacity buffer.old) (2 * wanted) }
+/// Puts zeros behind the bytes until there are `room`, in memory that is there.
+fn fill(buffer: &mut Vec<u8>, room: usize)
+    requires more { vec_len buffer.old ≤ room }
+    requires memory { room ≤ vec_capacity buffer.old }
+    ensures items { buffer.new.items ≡ buffer.old.items ++ replicate (room - vec_len buffer.old) 0 }
+    ensures capacity { vec_capacity buffer.new ≡ vec_capacity buffer.old }
 {
-    buffer.reserve_exact(room - buffer.len())
+    for _ in buffer.len()..room {
+        buffer.push_reserved(0);
+    }
 }

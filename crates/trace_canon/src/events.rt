@@ -209,7 +209,7 @@ pub(crate) fn write_end<W: Target>(
     summary: &Summary,
 ) -> Result<(), DeviceFault>
     requires { W.failures writer.old ≤ 2 ^ 62 }
-    ensures { Writes W.Target result writer.old (unfinished_text pair.now ++ summary_line summary.now) writer.new }
+    ensures { Writes W.Target result writer.old (unfinished_text pair.now.receptions ++ summary_line summary.now) writer.new }
 {
     block.clear();
     gather_unfinished(writer, block, Dir::Tester, pair.open(Dir::Tester))?;

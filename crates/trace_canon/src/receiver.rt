@@ -84,13 +84,13 @@ fn receive<E: EventTaker>(
     dir: Dir,
     frame: &Frame,
 ) -> Result<(), E::Fault>
-    ensures pair { OnOk result ((T : List Entry) → pair.old ≡ receptions_after MESSAGE_LIMIT T
-        → pair.new ≡ receptions_after MESSAGE_LIMIT (T ++ record { line = line; micros = micros; dir = dir; frame = frame.now } ∷ [])) }
-    ensures counts { OnOk result ((T : List Entry) → pair.old ≡ receptions_after MESSAGE_LIMIT T
+    ensures pair { OnOk result ((T : List Entry) → pair.old.receptions ≡ receptions_after MESSAGE_LIMIT T
+        → pair.new.receptions ≡ receptions_after MESSAGE_LIMIT (T ++ record { line = line; micros = micros; dir = dir; frame = frame.now } ∷ [])) }
+    ensures counts { OnOk result ((T : List Entry) → pair.old.receptions ≡ receptions_after MESSAGE_LIMIT T
         → CountsEvent counts.old (verdict MESSAGE_LIMIT T (record { line = line; micros = micros; dir = dir; frame = frame.now })) counts.new) }
-    ensures ok { OnOk result ((start : E × E.Device) (T : List Entry) → pair.old ≡ receptions_after MESSAGE_LIMIT T → length T < 2 ^ 62
+    ensures ok { OnOk result ((start : E × E.Device) (T : List Entry) → pair.old.receptions ≡ receptions_after MESSAGE_LIMIT T → length T < 2 ^ 62
         → E.took start T (taker.old, device.old) → E.took start (T ++ record { line = line; micros = micros; dir = dir; frame = frame.now } ∷ []) (taker.new, device.new)) }
-    ensures err { IfErr result (λ fault. (start : E × E.Device) (T : List Entry) → pair.old ≡ receptions_after MESSAGE_LIMIT T → length T < 2 ^ 62
+    ensures err { IfErr result (λ fault. (start : E × E.Device) (T : List Entry) → pair.old.receptions ≡ receptions_after MESSAGE_LIMIT T → length T < 2 ^ 62
         → E.took start T (taker.old, device.old) → E.stopped start T (record { line = line; micros = micros; dir = dir; frame = frame.now }) fault (taker.new, device.new)) }
 {
     match pair.accept(line, micros, dir, frame) {
@@ -120,7 +120,7 @@ impl<E> Receiver<E> {
 
     /// Before the first line, with a pair that has received no frame.
     pub(crate) fn start(config: &Config, pair: Pair, taker: E) -> Receiver<E>
-        requires { pair ≡ receptions_after MESSAGE_LIMIT [] }
+        requires { pair.receptions ≡ receptions_after MESSAGE_LIMIT [] }
         ensures { IsReceiverStart config.now taker result.config result.pair result.lines result.counts result.taker }
     {
         Receiver {
