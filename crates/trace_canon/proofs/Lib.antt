@@ -38,6 +38,7 @@ pub mod Summaries
 pub mod Lowest
 pub mod LargerLimits
 pub mod Finished
+pub mod Needs
 pub mod Runs
 pub mod Normalised
 pub mod Explanations
