@@ -28,6 +28,7 @@ pub mod Explainings
 pub mod ReadAgain
 pub mod OneMoreFrame
 pub mod Fitting
+pub mod Limits
 pub mod Explained
 pub mod Puttings
 pub mod CanonicalSinks
