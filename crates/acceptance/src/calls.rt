@@ -42,7 +42,7 @@ const ITEM: &str = "exchange 22F190 -> 62F1905742413341354335304546313233343536\
 
 /// A call that reads a log and writes a text.
 #[derive(Clone, Copy)]
-enum Call {
+pub(crate) enum Call {
     Normalise,
     List,
     Explain,
@@ -54,7 +54,7 @@ fn sides() -> Result<Config, ConfigFault> {
 }
 
 /// What a call answers over this reader, and the writer as it left it.
-fn answer_of<R: Read + Drop, W: Write + Drop>(
+pub(crate) fn answer_of<R: Read + Drop, W: Write + Drop>(
     alloc: Global,
     call: Call,
     reader: R,
@@ -172,7 +172,7 @@ fn the_meaning_of_a_session_has_its_messages(rt: HostRuntime) -> Result<(), Fail
 }
 
 /// What comparing the logs of these readers answers, and how many reads of the right one were made.
-fn compared<A: Read + Drop, B: Read + Drop>(
+pub(crate) fn compared<A: Read + Drop, B: Read + Drop>(
     alloc: Global,
     left: A,
     right: B,

@@ -28,3 +28,5 @@ mod message_kinds;
 mod pairings;
 #[cfg(test)]
 mod rows;
+#[cfg(test)]
+mod sizes;

@@ -28,6 +28,7 @@ pub mod Explainings
 pub mod ReadAgain
 pub mod OneMoreFrame
 pub mod Fitting
+pub mod Limits
 pub mod Explained
 pub mod Puttings
 pub mod CanonicalSinks
@@ -38,6 +39,7 @@ pub mod Summaries
 pub mod Lowest
 pub mod LargerLimits
 pub mod Finished
+pub mod Needs
 pub mod Runs
 pub mod Normalised
 pub mod Explanations

@@ -18,6 +18,7 @@ pub mod Parts
 pub mod ListText
 pub mod Putting
 pub mod TextSeen
+pub mod Needing
 pub mod Ordering
 pub mod Holding
 pub mod Held

@@ -2,11 +2,11 @@
 ghost use Rattle.std.specs.Prelude.{◌≡◌, ◌^◌, ◌<◌, List, [], ◌∷◌, ◌++◌, length, OnOk, IfErr, Some};
 ghost use Rattle.can_log.specs.declared.frame.Stamped.{Stamped as StampedValue};
 ghost use Rattle.isotp_receive.specs.declared.TheConstants.{MESSAGE_LIMIT};
-ghost use Rattle.isotp_receive.specs.CleanTrace.{IsKept};
 ghost use Rattle.isotp_receive.specs.EventSeen.{seen_event};
 ghost use Rattle.isotp_receive.specs.StandingReception.{receptions_after};
 ghost use Rattle.isotp_receive.specs.Trace.{Entry};
 ghost use Rattle.isotp_receive.specs.Verdict.{verdict};
+ghost use Rattle.trace_canon.specs.Needing.{IsKeptForMessage};
 ghost use Rattle.trace_canon.specs.Receiving.{CountsEvent};
 
 use crate::config::Config;
@@ -40,10 +40,10 @@ pub(crate) trait EventTaker {
         ensures err { IfErr result (λ fault. (start : Self × Self.Device) (T : List Entry) (e : Entry) → e.line ≡ line → e.dir ≡ dir → length T < 2 ^ 62
             → seen_event event.entry ≡ verdict MESSAGE_LIMIT T e → took start T (self.old, device.old) → stopped start T e fault (self.new, device.new)) };
 
-    /// Why no more events are taken, where memory was refused for the next frame of the trace. Memory is only asked for
-    /// where the frame can be received.
+    /// Why no more events are taken, where memory was refused for the next frame of the trace. A pair asks for memory only
+    /// where the frame's bytes are kept for a message of several frames.
     fn refused(&self, device: &Self::Device) -> Self::Fault
-        ensures { (start : Self × Self.Device) (T : List Entry) (e : Entry) → IsKept (verdict MESSAGE_LIMIT T e).verdict
+        ensures { (start : Self × Self.Device) (T : List Entry) (e : Entry) → IsKeptForMessage MESSAGE_LIMIT T e
             → took start T (self.now, device.now) → stopped start T e result (self.now, device.now) };
 }
 
