@@ -27,3 +27,4 @@ pub use meaning::Meaning;
 pub use orderer::{OrderFault, Orderer};
 pub use pairing::Pairing;
 pub use sink::MessageSink;
+pub use step::{Step, step_of};

@@ -6,9 +6,9 @@ ghost use Rattle.uds_exchange.specs.Steps.{step_at};
 use can_log::Dir;
 use uds_message::{Answer, TesterKind, answers, tester_kind};
 
-/// What becomes of a message.
-#[derive(Clone, Copy)]
-pub(crate) enum Step {
+/// What becomes of a message of a session, by the request that is open.
+#[derive(Clone, Copy, Debug, PartialEq, Eq)]
+pub enum Step {
     /// A request with this first byte. It ends the part of the request before it.
     Request(u8),
     /// The answer to the open request.
@@ -21,8 +21,9 @@ pub(crate) enum Step {
     Pass,
 }
 
-/// What becomes of a message, where `open_sid` is the first byte of the request that waits for its answer.
-pub(crate) fn step_of(open_sid: Option<u8>, dir: Dir, message: &[u8]) -> Step
+/// What becomes of a message, where `open_sid` is the first byte of the request that waits for its answer. Nothing else of the
+/// messages before it has a say, so that whoever only counts replies need hold none.
+pub fn step_of(open_sid: Option<u8>, dir: Dir, message: &[u8]) -> Step
     ensures { result ≡ step_at open_sid (dir, message.now) }
 {
     let stray = if open_sid.is_some() {

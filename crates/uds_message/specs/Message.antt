@@ -12,6 +12,11 @@ abbrev pub sid : List ℕ → ℕ
 sid [] = 0
 sid (first ∷ parameters) = first
 
+-- the response code of a negative response is its third byte
+abbrev pub response_code : List ℕ → ℕ
+response_code (first ∷ refused ∷ code ∷ rest) = code
+response_code shorter = 0
+
 -- bit 6 tells the identifiers of responses from those of requests (ISO 14229-1, service identifier values)
 abbrev pub is_response_sid : ℕ → Bool
 is_response_sid identifier = bit_at identifier 6 == 1

@@ -15,5 +15,7 @@
 mod message;
 mod names;
 
-pub use message::{Answer, TesterKind, answers, suppresses, tester_kind};
+pub use message::{
+    Answer, NEGATIVE_RESPONSE, TesterKind, answers, response_code, sid, suppresses, tester_kind,
+};
 pub use names::{code_name, service_name};

@@ -2,15 +2,15 @@
 
 ghost use Rattle.std.specs.Prelude.{◌≡◌};
 ghost use Rattle.uds_message.specs.Message.{kind_of, answer_to, is_suppressing};
-ghost use Rattle.uds_message.specs.Message.{is_response_sid as has_response_bit};
+ghost use Rattle.uds_message.specs.Message.{is_response_sid as has_response_bit, sid as first_byte, response_code as third_byte};
 
 use crate::names::has_sub_function;
 
 /// The service identifier of TesterPresent.
 const TESTER_PRESENT: u8 = 0x3E;
 
-/// The service identifier of every negative response.
-const NEGATIVE_RESPONSE: u8 = 0x7F;
+/// The service identifier of every negative response (ISO 14229-1, negative response message).
+pub const NEGATIVE_RESPONSE: u8 = 0x7F;
 
 /// What a positive response adds to the identifier of its request: bit 6.
 const POSITIVE_RESPONSE: u8 = 0x40;
@@ -41,6 +41,26 @@ pub enum Answer {
     Pending,
     /// It doesn't answer the request.
     No,
+}
+
+/// The service identifier of a message: its first byte, or 0 where it has none.
+pub fn sid(message: &[u8]) -> u8
+    ensures { result ≡ first_byte message.now }
+{
+    match message {
+        [] => 0,
+        [sid, ..] => *sid,
+    }
+}
+
+/// The response code of a negative response: its third byte, or 0 where it has none.
+pub fn response_code(response: &[u8]) -> u8
+    ensures { result ≡ third_byte response.now }
+{
+    match response {
+        [_, _, code, ..] => *code,
+        _ => 0,
+    }
 }
 
 /// Tells requests from keep-alives by the bytes alone (ISO 14229-1, the table of service identifiers).
