@@ -12,6 +12,7 @@
 - docs/definitions.md names each file of definitions, and each definition stands in the file that it names;
 - it has each definition that a public function's contract or a law cites;
 - docs/architecture.md says of each crate of the kit that the program stands on where it is called, and the call stands there.
+- docs/proved.md cites each clause of each public call, and each law that the pages for callers leave out, and no other.
 
 Prints a line for each case and ends with `N passed, M failed`; its status is 1 where a case failed.
 """
@@ -24,6 +25,7 @@ from collections import Counter
 from pathlib import Path
 from xml.etree import ElementTree
 
+import clauses
 from cases import Cases
 
 TOP = Path(__file__).resolve().parent.parent
@@ -192,12 +194,13 @@ def planted(cases):
 
 
 def not_there_once(edit, crate):
-    """What a wrong body takes away and doesn't stand once in its file, as it is after what the body changed before."""
+    """What a wrong body takes away and doesn't stand once in its file, as it is after what the body changed before. A file that
+    is not there has nothing to take away."""
     texts, wrong, path, old = {}, [], None, None
     for kind, rest in re.findall(r"^(file|old|new): ?(.*)$", edit.read_text(), re.M):
         if kind == "file":
             path = crate / rest
-            texts.setdefault(path, path.read_text())
+            texts.setdefault(path, path.read_text() if path.exists() else "")
         elif kind == "old":
             old = rest
         else:
@@ -309,11 +312,16 @@ def calls_of_the_kit(cases):
         cases.report(f"`{call}` of {name} stands in {file}", wrong)
 
 
+def cited_clauses(cases):
+    for crate, wrong in clauses.compared(PROVED.read_text(), TOP / "crates"):
+        cases.report(f"{name_of(PROVED)} cites the clauses that callers of {crate} have", wrong)
+
+
 def main():
     if len(sys.argv) != 1:
         sys.exit(__doc__)
     cases = Cases(None)
-    for test in [picture, links, named_files, counts, planted, wrong_bodies, definitions, citations, calls_of_the_kit]:
+    for test in [picture, links, named_files, counts, planted, wrong_bodies, definitions, citations, calls_of_the_kit, cited_clauses]:
         test(cases)
     cases.end()
 

@@ -1,0 +1,205 @@
+"""The clauses of contracts: those that the source has, and those that docs/proved.md cites.
+
+The last column of a table of promises cites them, in parts between semicolons. Of these are the names in backticks read:
+
+    `normalise`, `list`: `taken`, `calls`, by `SomeDefinition`      these clauses of each of these calls
+    `Pair::new`, `open`: their clauses                             those that have no name; `open` is one of `Pair`, too
+    clause `again` of `normalise`, ..                              the same, the other way round
+    private `message_bytes::make_room`: `room`                     of a private function, by its module
+    laws `one_is_open`, `messages_fit` (`length`, `bytes`)         all clauses of a law, or these; `law .. of `crate`` too
+    member `coherent` of `Source`                                  a ghost member of a trait
+"""
+
+import re
+from collections import namedtuple
+
+# A function of a crate by its path, as `engine::normalise` or `scanner::Scanner::scan`, with the names of the clauses that its
+# contract ensures. That of a lone clause is empty. A law stands in a public module, and does nothing.
+Function = namedtuple("Function", "path clauses is_public is_law")
+
+# What a part of a cell says of some names: what they are, the names, their clauses, None where it names none, and their crate,
+# None where that is the crate of the section.
+Citation = namedtuple("Citation", "kind names clauses crate")
+
+CALL, PRIVATE, LAW, MEMBER = "call", "private", "law", "member"
+
+# --- The source ---------------------------------------------------------------------------------------------------------
+
+COMMENT_OR_TEXT = re.compile(r'//[^\n]*|"(?:\\.|[^"\\\n])*"|\'(?:\\.|[^\'\\\n])\'')
+ARRAY_LENGTH = re.compile(r";(?=[^;{}\[\]\n]*\])")
+BLOCK = re.compile(r"^(pub )?(trait|impl)\b(.*?)\{\n(.*?)^\}", re.M | re.S)
+FUNCTION = re.compile(r"^ *(pub )?(?:pub\(crate\) )?fn (\w+)", re.M)
+CLAUSE = re.compile(r"\b(requires|ensures)\*?\s*(\w*)\s*$")
+
+
+def bare(text):
+    """A source file without comments, texts and lengths of arrays, so that each brace and semicolon left has a meaning."""
+    return ARRAY_LENGTH.sub(" ", COMMENT_OR_TEXT.sub("", text))
+
+
+def after_braces(text, at):
+    """Where what the brace here opens is closed."""
+    depth = 0
+    for brace in re.finditer(r"[{}]", text[at:]):
+        depth += 1 if brace[0] == "{" else -1
+        if depth == 0:
+            return at + brace.end()
+    raise ValueError(f"a brace is not closed: {text[at : at + 60]!r}")
+
+
+def ensured(text, at):
+    """The names of what a function ensures whose name ends here: its clauses stand before its body, or before a semicolon."""
+    names = []
+    while True:
+        stop = re.search(r"[{;]", text[at:]).start() + at
+        clause = CLAUSE.search(text[at:stop]) if text[stop] == "{" else None
+        if clause is None:
+            return names
+        names += [clause[2]] if clause[1] == "ensures" else []
+        at = after_braces(text, stop)
+
+
+def owner(kind, head):
+    """The type or the trait that a block is about, and whether its functions are as public as that: those of a trait are, and
+    those that a type has of one."""
+    head = re.sub(r"^\s*<[^<>]*(?:<[^<>]*>[^<>]*)*>", "", head)
+    of_trait = re.search(r"\bfor\b(.*)", head)
+    return re.search(r"\w+", of_trait[1] if of_trait else head)[0], kind == "trait" or of_trait is not None
+
+
+def functions_in(text):
+    """The functions of a source file: owner or None, name, clauses, whether it is as public as its owner."""
+    text = bare(text)
+    blocks = [(block.start(), block.end(), *owner(block[2], block[3])) for block in BLOCK.finditer(text)]
+    for found in FUNCTION.finditer(text):
+        of, is_shared = next(((of, is_shared) for start, end, of, is_shared in blocks if start < found.start() < end), (None, False))
+        yield of, found[2], ensured(text, found.end()), found[1] is not None or is_shared
+
+
+def exported(root):
+    """The names that the file of a crate's root hands out, and its public modules."""
+    text = bare(root)
+    lists = re.findall(r"^pub use \w+::(?:\{([^}]*)\}|(\w+));", text, re.M)
+    names = {name for many, one in lists for name in re.findall(r"\w+", many or one)}
+    names |= set(re.findall(r"^pub (?:fn|struct|enum|trait) (\w+)", text, re.M))
+    return names, set(re.findall(r"^pub mod (\w+);", text, re.M))
+
+
+def functions(crate):
+    """The functions of a crate, by its folder. A program hands out nothing: there what is `pub` in a module is public."""
+    library = crate / "src" / "lib.rt"
+    names, modules = exported(library.read_text()) if library.exists() else (None, set())
+    found = []
+    for path in sorted((crate / "src").glob("*.rt")):
+        for of, name, clauses, is_public in functions_in(path.read_text()):
+            is_law = path.stem in modules and of is None
+            is_seen = is_public and (is_law or names is None or (of or name) in names)
+            full = "::".join(part for part in (path.stem, of, name) if part)
+            found.append(Function(full, clauses, is_seen, is_law and is_seen))
+    return found
+
+
+# --- The page -----------------------------------------------------------------------------------------------------------
+
+# How tables of promises begin; and the crate of the one that stands before the sections of the crates.
+TABLES = ("| Promise | Contract |", "| This | is carried by |")
+FIRST = "trace_canon"
+
+QUOTED = re.compile(r"`([\w:]+)`")
+
+
+def cells(page):
+    """The cells that say which contracts carry a promise, each with the crate of its section."""
+    crate, is_table = FIRST, False
+    for line in page.splitlines():
+        heading = re.match(r"## .*`(\w+)`$", line)
+        crate = heading[1] if heading else crate
+        is_table = line in TABLES or (is_table and line.startswith("|"))
+        if is_table and line not in TABLES and not line.startswith("|---"):
+            yield crate, line.strip("| ").rsplit(" | ", 1)[-1]
+
+
+def citations(cell):
+    """What a cell cites. A part without a name in it says something else."""
+    for part in (part.strip() for part in cell.split(";") if "`" in part):
+        if re.match(r"laws? ", part):
+            yield from laws_cited(part)
+        elif member := re.match(r"member `(\w+)` of `(\w+)`$", part):
+            yield Citation(MEMBER, [member[2]], [member[1]], None)
+        elif clause := re.match(r"clause `(\w+)` of `([\w:]+)`(?:, by .*)?$", part):
+            yield Citation(CALL, [clause[2]], [clause[1]], None)
+        else:
+            yield calls_cited(part)
+
+
+def laws_cited(part):
+    crate = re.search(r" of `(\w+)`$", part)
+    for name, clauses in re.findall(r"`(\w+)`(?: \(([^)]*)\))?", part[: crate.start()] if crate else part):
+        yield Citation(LAW, [name], QUOTED.findall(clauses) or None, crate and crate[1])
+
+
+def calls_cited(part):
+    names, _, clauses = re.split(r", (?:and )?(?:by|at) ", part)[0].partition(": ")
+    told = [""] if re.match(r"(its clause|their clauses)\b", clauses) else QUOTED.findall(clauses) or None
+    return Citation(PRIVATE if part.startswith("private ") else CALL, QUOTED.findall(names) or [part], told, None)
+
+
+# --- The two compared ---------------------------------------------------------------------------------------------------
+
+
+class Contracts:
+    """The contracts of a crate, and what a page cites of them: the clauses that it names, and what is wrong with that."""
+
+    def __init__(self, crate):
+        self.functions = functions(crate)
+        self.text = "\n".join(bare(path.read_text()) for path in sorted((crate / "src").glob("*.rt")))
+        self.calling = (crate / "CALLING.md").read_text()
+        self.cited = {}
+        self.wrong = []
+
+    def cite(self, citation, owner):
+        """Notes what is cited. A name without a type may be of the type before it, which is answered for the next one."""
+        for name in citation.names:
+            owner = name.split("::")[-2] if "::" in name and citation.kind == CALL else owner
+            found = self.has_member(name, citation) if citation.kind == MEMBER else self.named(citation.kind, name, owner)
+            self.wrong += [] if found else [f"there is no {citation.kind} {name}"]
+            for function in found if citation.kind != MEMBER else []:
+                self.note(function, citation)
+        return owner
+
+    def has_member(self, trait, citation):
+        block = re.search(rf"^pub trait {trait}\b.*?^\}}", self.text, re.M | re.S)
+        return block is not None and all(re.search(rf"^    ghost {name}:", block[0], re.M) for name in citation.clauses)
+
+    def named(self, kind, name, owner):
+        """The functions of this kind that a name stands for, itself or with the type."""
+        of_kind = [function for function in self.functions if function.is_law == (kind == LAW) and function.is_public == (kind != PRIVATE)]
+        for path in [name] if "::" in name or owner is None else [name, f"{owner}::{name}"]:
+            found = [function for function in of_kind if path in (function.path, function.path.partition("::")[2])]
+            if found:
+                return found
+        return []
+
+    def note(self, function, citation):
+        """A law that is named without its clauses is cited with all of them."""
+        clauses = function.clauses if citation.clauses is None and function.is_law else citation.clauses or []
+        self.cited.setdefault(function.path, set()).update(clauses)
+        self.wrong += [f"{function.path} has no clause {clause}".rstrip() for clause in clauses if clause not in function.clauses]
+
+    def uncited(self):
+        """The clauses of public functions that the page leaves out. It may leave out a law that the page for callers has."""
+        for function in (function for function in self.functions if function.is_public):
+            is_elsewhere = function.is_law and function.path not in self.cited and f"`{function.path.partition('::')[2]}`" in self.calling
+            cited = self.cited.get(function.path, set())
+            yield from (f"{function.path}: {clause or 'its clause'} is not cited" for clause in function.clauses if not is_elsewhere and clause not in cited)
+
+
+def compared(page, folder):
+    """What is wrong with a page for each crate that has contracts for callers."""
+    crates = {path.parent.name: Contracts(path.parent) for path in sorted(folder.glob("*/CALLING.md"))}
+    for crate, cell in cells(page):
+        owner = None
+        for citation in citations(cell):
+            owner = crates[citation.crate or crate].cite(citation, owner)
+    for name, contracts in crates.items():
+        yield name, [*contracts.wrong, *contracts.uncited()]
