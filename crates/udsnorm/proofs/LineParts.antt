@@ -1,5 +1,5 @@
 -- Lines with two numbers, as their parts make them.
-use Rattle.std.proofs.Common.{◌≡◌, ◌∙◌, ◌+◌, ◌≤◌, ℕ, List, ◌++◌, length, ap, sym, append_assoc, length-append, arith}
+use Rattle.std.proofs.Common.{◌≡◌, ◌∙◌, ◌+◌, ℕ, List, ◌++◌, length, ap, sym, append_assoc, length-append, arith}
 
 -- the parts, one after another, are the text of the parts before and behind
 pub is_two_numbers : (front a n b m c : List ℕ) → front ++ (a ++ (n ++ (b ++ (m ++ c)))) ≡ front ++ (a ++ n ++ b ++ m ++ c)
