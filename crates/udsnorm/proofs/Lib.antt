@@ -1,7 +1,7 @@
 pub mod Statuses
-pub mod Decimals
 pub mod Configured
 pub mod Built
 pub mod Taken
 pub mod SpelledIdentifiers
+pub mod LineParts
 mod CommandJobs

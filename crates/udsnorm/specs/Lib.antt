@@ -2,6 +2,9 @@ pub mod Identifiers
 pub mod Commands
 pub mod Words
 pub mod Status
+pub mod FaultLines
+pub mod Telling
+pub mod Parts
 pub mod Comparisons
 pub mod Run
 pub mod Ending

@@ -3,22 +3,20 @@
 ghost use Rattle.std.specs.Prelude.{◌≡◌};
 ghost use Rattle.udsnorm.specs.Comparisons.{comparison_line};
 
-use crate::text::{ComparisonLine, push_decimal, push_text};
+use crate::text::{Line, Part, line_of};
 use trace_canon::Comparison;
 
 /// The line of a comparison, in which items are counted from 1.
-pub(crate) fn comparison_line(comparison: Comparison) -> ComparisonLine
+pub(crate) fn comparison_line(comparison: Comparison) -> Line
     ensures { result.items ≡ comparison_line comparison }
 {
-    let mut line = ComparisonLine::new();
     match comparison {
-        Comparison::Same => push_text(&mut line, "same\n"),
-        Comparison::Different { item } => {
-            push_text(&mut line, "different at item ");
+        Comparison::Same => line_of(&[Part::Text("same\n")]),
+        Comparison::Different { item } => line_of(&[
+            Part::Text("different at item "),
             // One more than the largest place is no `usize`.
-            push_decimal(&mut line, item as u128 + 1);
-            push_text(&mut line, "\n");
-        }
+            Part::Number(item as u128 + 1),
+            Part::Text("\n"),
+        ]),
     }
-    line
 }

@@ -17,6 +17,7 @@ ghost use Rattle.trace_io.specs.Counted.{IsLowCount};
 
 mod command;
 mod comparison;
+mod fault_lines;
 mod identifiers;
 mod job;
 mod run;

@@ -14,7 +14,9 @@ ghost use Rattle.trace_io.specs.Counted.{AreLowCounts, IsLowCount};
 ghost use Rattle.trace_io.specs.Stream.{BeginsAs};
 ghost use Rattle.udsnorm.specs.Comparisons.{comparison_line};
 ghost use Rattle.udsnorm.specs.Ending.{EndsWith, EndsTwoWith};
+ghost use Rattle.udsnorm.specs.FaultLines.{run_text, run_two_text};
 ghost use Rattle.udsnorm.specs.Run.{EngineAnswers, EngineReads, IsStatusOf, IsStatusOfTwo, TookLine, status_of_comparison};
+ghost use Rattle.udsnorm.specs.Telling.{TookText};
 
 use crate::comparison::comparison_line;
 use crate::job::{Job, Plan};
@@ -37,10 +39,11 @@ pub fn run_one<R: Source, W: Target, E: Target>(
     requires out { IsLowCount (W.failures out.old) }
     requires err { IsLowCount (E.failures err.old) }
 
-    // The status is that of an answer of the engine, which after an `Ok` is 4 only where the output failed; and the output took
-    // what the engine wrote.
+    // The status is that of an answer of the engine, which after an `Ok` is 4 only where the output failed; the error output
+    // took the text of it; and the output took what the engine wrote.
     ensures run { (answer : Result SummaryValue FaultValue) × IsStatusOf answer result
         × OnOk answer (result ≡ 4 → W.failures out.old < W.failures out.new)
+        × (E.tells err.old → TookText (run_text answer result) (E.failures err.old) (E.failures err.new) (E.written err.old) (E.written err.new))
         × (R.tells input.old → W.tells out.old → (log : List ℕ) → BeginsAs (R.front input.old) (plan.now.config.max_bytes + 1) log
         → EngineAnswers plan.now.job MESSAGE_LIMIT plan.now.config log (R.given input.new - R.given input.old) answer (W.written out.old) (W.written out.new)) }
 
@@ -108,6 +111,7 @@ fn end_run<W: Target, E: Target>(answer: Result<Summary, Fault>, out: &mut W, er
         (λ _. W.tells out.old → W.written out.new ≡ W.written out.old) (λ _. W.written out.new ≡ W.written out.old) }
     ensures flushed { result ≡ 0 → W.is_flushed out.new ≡ true }
     ensures quiet { result ≡ 0 → err.new ≡ err.old }
+    ensures told { E.tells err.old → TookText (run_text answer result) (E.failures err.old) (E.failures err.new) (E.written err.old) (E.written err.new) }
     ensures no_empty_write { W.had_empty_write out.new ≡ W.had_empty_write out.old }
 {
     match answer {
@@ -135,10 +139,11 @@ pub fn run_two<A: Source, B: Source, W: Target, E: Target>(
     requires out { IsLowCount (W.failures out.old) }
     requires err { IsLowCount (E.failures err.old) }
 
-    // The status is that of the comparison's answer, which after an `Ok` is 4 only where the output failed; and the output took
-    // its line. After a fault of the left log nothing of the right one was read.
+    // The status is that of the comparison's answer, which after an `Ok` is 4 only where the output failed; the error output took
+    // the text of it, and the output its line. After a fault of the left log nothing of the right one was read.
     ensures run { (answer : Result ComparisonValue CompareFaultValue) × IsStatusOfTwo answer result
         × OnOk answer (result ≡ 4 → W.failures out.old < W.failures out.new)
+        × (E.tells err.old → TookText (run_two_text answer result) (E.failures err.old) (E.failures err.new) (E.written err.old) (E.written err.new))
         × (W.tells out.old → TookLine answer result (W.written out.old) (W.written out.new))
         × (A.tells left.old → B.tells right.old → (one other : List ℕ)
         → BeginsAs (A.front left.old) (plan.now.config.max_bytes + 1) one → BeginsAs (B.front right.old) (plan.now.config.max_bytes + 1) other
@@ -187,6 +192,7 @@ fn end_comparison<W: Target, E: Target>(
     ensures line { W.tells out.old → TookLine answer result (W.written out.old) (W.written out.new) }
     ensures flushed { result ≤ 1 → W.is_flushed out.new ≡ true }
     ensures quiet { result ≤ 1 → err.new ≡ err.old }
+    ensures told { E.tells err.old → TookText (run_two_text answer result) (E.failures err.old) (E.failures err.new) (E.written err.old) (E.written err.new) }
     ensures no_empty_write { W.had_empty_write out.new ≡ W.had_empty_write out.old }
 {
     match answer {

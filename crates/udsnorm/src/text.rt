@@ -1,52 +1,55 @@
-//! Lines of text, made without memory and written whole.
+//! Lines of text, made without memory.
 
-ghost use Rattle.std.specs.Prelude.{◌≡◌, ◌+◌, ◌<◌, ◌≤◌, ◌++◌, length, MatchResult};
-ghost use Rattle.std.specs.Fmt.{decimal};
+ghost use Rattle.std.specs.Prelude.{◌≡◌, ◌+◌, ◌≤◌, ◌++◌, length};
 ghost use Rattle.arrayvec.specs.ArrayVec.{array_vec_len};
-ghost use Rattle.trace_io.specs.Counted.{IsLowCount};
+ghost use Rattle.udsnorm.specs.Parts.{part_text, parts_text};
+ghost use Rattle.udsnorm.specs.declared.text.TheConstants.{LONGEST_LINE};
 
-use arrayvec::{ArrayString, ArrayVec};
-use std::fmt::{Display, Write};
-use trace_io::{DeviceFault, Target, write_all};
+use arrayvec::ArrayVec;
+use itoa::Buffer;
 
-/// Room for the longest line that tells a fault: an announcement that is too long, in the right log.
-const LONGEST_FAULT: usize = 96;
+/// The length of the longest line: an announcement that is too long, in the right log.
+pub(crate) const LONGEST_LINE: usize = 83;
 
-/// The line of a comparison as it is made.
-pub(crate) type ComparisonLine = ArrayVec<u8, 64>;
+/// A line as it is made.
+pub(crate) type Line = ArrayVec<u8, LONGEST_LINE>;
 
-/// Writes a message as a line.
-pub(crate) fn write_line<W: Target, D: Display + Drop>(
-    target: &mut W,
-    message: D,
-) -> Result<(), DeviceFault>
-    requires { IsLowCount (W.failures target.old) }
-    ensures failures { MatchResult result
-        (λ _. W.failures target.new ≡ W.failures target.old) (λ _. W.failures target.new ≡ W.failures target.old + 1) }
+/// A part of a line.
+#[derive(Clone, Copy)]
+pub(crate) enum Part {
+    /// The text as it is.
+    Text(&'static str),
+    /// The number in decimal.
+    Number(u128),
+}
+
+/// The line of these parts, one after another.
+pub(crate) fn line_of(parts: &[Part]) -> Line
+    requires { length (parts_text parts.now) ≤ LONGEST_LINE }
+    ensures { result.items ≡ parts_text parts.now }
 {
-    let mut line = ArrayString::<LONGEST_FAULT>::new();
-    // What is told always fits.
-    let _ = writeln!(line, "{message}");
-    write_all(target, line.as_str().as_bytes())
+    let mut line = Line::new();
+    'parts: for part in parts {
+        push_part(&mut line, *part);
+    }
+    line
+}
+
+/// Puts a part at the end of the line.
+fn push_part(line: &mut Line, part: Part)
+    requires { array_vec_len line.old + length (part_text part) ≤ LONGEST_LINE }
+    ensures { line.new.items ≡ line.old.items ++ part_text part }
+{
+    match part {
+        Part::Text(text) => push_text(line, text),
+        Part::Number(number) => push_text(line, Buffer::new().format(number)),
+    }
 }
 
 /// Puts a text at the end of the line.
-pub(crate) fn push_text(line: &mut ComparisonLine, text: &str)
-    requires { array_vec_len line.old + length text.now ≤ 64 }
+fn push_text(line: &mut Line, text: &str)
+    requires { array_vec_len line.old + length text.now ≤ LONGEST_LINE }
     ensures { line.new.items ≡ line.old.items ++ text.now }
 {
     line.try_extend_from_slice(text.as_bytes()).unwrap()
-}
-
-/// Puts the digits of a number at the end of the line.
-pub(crate) fn push_decimal(line: &mut ComparisonLine, number: u128)
-    requires { array_vec_len line.old + length (decimal number) ≤ 64 }
-    ensures { line.new.items ≡ line.old.items ++ decimal number }
-{
-    if number < 10 {
-        line.push(b'0' + number as u8);
-    } else {
-        push_decimal(line, number / 10);
-        line.push(b'0' + (number % 10) as u8);
-    }
 }

@@ -1,18 +1,12 @@
-use Rattle.std.proofs.Common.{◌≡◌, ◌+◌, ◌≤◌, length, arith, rules, ap, ◌∙◌, length-append}
+use Rattle.std.proofs.Common.{◌+◌, ◌≤◌, ◌++◌, length, length-append, arith}
+use Rattle.std.specs.Prelude.{codes}
 use Rattle.std.specs.Fmt.{decimal}
 use Rattle.std.proofs.lemmas.Fmt.{length-decimal-le_wide}
 use Rattle.udsnorm.proofs.comparison.comparison_line.Goals as goal
 
-pub push_decimal-requires : goal.push_decimal-requires
-push_decimal-requires c =
-    let short : length (decimal (c.in-Different.item + 1)) ≤ 39 = length-decimal-le_wide 39 (c.in-Different.item + 1) (omega arith) (omega arith) (omega arith) in
-    let before : length c.push_text-in-Different.new.line.items ≡ 18 = search rules in
-    omega arith
-
-pub push_text-requires-in-Different-2 : goal.push_text-requires-in-Different-2
-push_text-requires-in-Different-2 c =
-    let short : length (decimal (c.in-Different.item + 1)) ≤ 39 = length-decimal-le_wide 39 (c.in-Different.item + 1) (omega arith) (omega arith) (omega arith) in
-    let before : length c.push_text-in-Different.new.line.items ≡ 18 = search rules in
-    let behind : length c.push_decimal.new.line.items ≡ length c.push_text-in-Different.new.line.items + length (decimal (c.in-Different.item + 1)) =
-    ap length c.push_decimal.ensures ∙ length-append c.push_text-in-Different.new.line.items (decimal (c.in-Different.item + 1)) in
-    omega arith
+pub line_of-requires-in-Different : goal.line_of-requires-in-Different
+line_of-requires-in-Different c =
+    let short : length (decimal (c.in-Different.item + 1)) ≤ 20 = length-decimal-le_wide 20 (c.in-Different.item + 1) (omega arith) (omega arith) (omega arith) in
+    let fits : length (codes "different at item " ++ (decimal (c.in-Different.item + 1) ++ codes "\n")) ≤ 83 =
+    omega (arith, short, length-append (decimal (c.in-Different.item + 1)) (codes "\n")) in
+    fits

@@ -7,6 +7,7 @@ returns-clause-run g c = (
   status_of_end_of_two c.compare-answer.result (g.W.Target.failures c.args.out.now) (g.W.Target.failures c.end_comparison.new.out) c.end_comparison.result
       c.end_comparison.ensures.status,
   c.end_comparison.ensures.failed,
+  c.end_comparison.ensures.told,
   c.end_comparison.ensures.line,
   c.compare-answer.ensures.answer,
   c.compare-answer.ensures.unread,
