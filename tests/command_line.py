@@ -27,6 +27,9 @@ OUT_OF_RANGE = b"identifier out of range\n"
 SAME_IDENTIFIER = b"tester and unit have the same identifier\n"
 LIMIT_RANGE = b"limit out of range\n"
 
+# The most bytes of a path, with the one that ends it.
+PATH_MAX = 4096
+
 # Words that ask for help, and lines of it, of which the first one begins it.
 FAILED_DEVICE = b"4 a file can't be opened, or reading or writing failed, 5 out of memory."
 PROGRAM_HELP = [
@@ -161,6 +164,45 @@ def files_that_fail(cases):
         cases.case(f"{job} of an empty name", cases.run([job, ""]), DEVICE, b"", b"read failed\n")
 
 
+def sizes():
+    """0, 1, each power of two up to the longest path with one beside it, and more."""
+    powers = [2**k for k in range(1, 13)]
+    return sorted({0, 2 * PATH_MAX, *powers, *(power - 1 for power in powers), *(power + 1 for power in powers)})
+
+
+def path_of(size):
+    """A path of this many bytes: a name, or slashes before one."""
+    return "n" * size if size < 7 else "." + "/" * (size - 6) + "a.log"
+
+
+def paths_of_each_size(cases):
+    """A path is opened up to the longest one, and memory suffices for those beyond it."""
+    for size in sizes():
+        path = path_of(size)
+        if 0 < size < 7:
+            Path(path).write_bytes(LOG)
+        is_path = 0 < size < PATH_MAX
+        for job, text in TEXTS.items():
+            want = (DONE, text, b"") if is_path else (DEVICE, b"", b"read failed\n")
+            cases.case(f"{job} of a path of {size} bytes", cases.run([job, path]), *want)
+        for words, side in [([path, "a.log"], b"left: "), (["a.log", path], b"right: ")]:
+            want = (DONE, b"same\n", b"") if is_path else (DEVICE, b"", side + b"read failed\n")
+            cases.case(f"compare, {side.decode()}a path of {size} bytes", cases.run(["compare", *words]), *want)
+
+
+def words_of_each_size(cases):
+    """Words of any length are read, and told whole where they don't fit."""
+    for size in [*sizes(), 65536]:
+        status, output, error = cases.run(["n" * size])
+        wrong = [] if (status, output) == (WORDS, b"") else [f"status {status}, output {output[:100]!r}"]
+        wrong += [] if b"'" + b"n" * size + b"'" in error else [f"error output {error[:100]!r}"]
+        cases.report(f"a command of {size} bytes", wrong)
+        want = {3: (DONE, b"", b""), 8: (WORDS, b"", OUT_OF_RANGE)}.get(size, (WORDS, b"", NOT_DIGITS))
+        cases.case(f"an identifier of {size} digits", cases.run(["list", "--tester", "7" * size, "a.log"]), *want)
+        if size >= 2:
+            cases.case(f"a limit of {size} digits", cases.run(["list", "--limit", "46".zfill(size), "a.log"]), DONE, LIST)
+
+
 def help_texts(cases):
     """Each help begins with what the program or the command does, and fits on a screen."""
     for words, lines in HELPS:
@@ -236,7 +278,7 @@ def main():
         for name, log in files.items():
             Path(folder, name).write_bytes(log)
         os.chdir(folder)
-        for test in [jobs, options, extended_identifiers, comparisons, files_that_fail, help_texts, wrong_words, wrong_values]:
+        for test in [jobs, options, extended_identifiers, comparisons, files_that_fail, paths_of_each_size, words_of_each_size, help_texts, wrong_words, wrong_values]:
             test(cases)
         os.chdir("/")
     cases.end()
