@@ -17,11 +17,23 @@ import subprocess
 import sys
 
 from differential import EXAMPLES, limit_for, random_logs, replaced, run, words_of
-from hostile_input import FIRST, FOURTEEN_BYTES, LONGEST, ONE_BYTE, REFUSED_LOGS, REQUEST
 
 FOLDER = EXAMPLES.parent / "bench" / "rival"
 RIVAL = FOLDER / "out" / "release" / "rival"
-HOSTILE = [*REFUSED_LOGS, *(REQUEST + line * 5_000 for line in (ONE_BYTE, FOURTEEN_BYTES, FIRST, LONGEST, b"\n", b"\0" * 64 + b"\n"))]
+REQUEST = b"(0.000000) a 7E0#012C\n"
+LINES = (
+    b"(0.000000) a 7E8#0111\n",
+    b"(0.000000) a 7E8##0000E" + b"11" * 14 + b"\n",
+    b"(0.000000) a 7E8#10000000FFFF4142\n",
+    b"(0.000000) a 7E8#1000FFFFFFFF4142\n",
+    b"(0000000000.000000) a \0\0\0\00000000000000000\n",
+    b"(1.0\n",
+    b"\n",
+    b"\r\r\n",
+    b"\0" * 64 + b"\n",
+    b"\xff" * 64 + b"\n",
+)
+HOSTILE = [b"x", b"(", b"(" + b"1" * 200_000, *(REQUEST + line * 5_000 for line in LINES)]
 
 
 def build():
