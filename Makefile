@@ -12,7 +12,7 @@ BASH := $(PREFIX)/share/bash-completion/completions/udsnorm
 ZSH := $(PREFIX)/share/zsh/site-functions/_udsnorm
 FISH := $(PREFIX)/share/fish/vendor_completions.d/udsnorm.fish
 
-.PHONY: build run check attack test install install-built uninstall dist deb interop bench
+.PHONY: build run check attack test install install-built uninstall dist deb interop bench rival
 
 # Proves the program and what it stands on, and builds it. It says when it starts and when it ends on standard error; what
 # `rt` says is in a file, and shown where the build fails.
@@ -86,3 +86,7 @@ interop: build
 # How fast it is, beside other programs: a table, and no test.
 bench: build
 	@bench/run
+
+# The yardstick of bench/rival, built by cargo, writes what the program writes. No part of `test`, since it needs cargo.
+rival: build
+	@python3 tests/rival.py $(PROGRAM)
