@@ -7,7 +7,8 @@ use Rattle.uds_exchange.specs.Meaning.{ItemValue, is_tester_request, is_answer_t
 use Rattle.uds_exchange.specs.Order.{held_in, held, early}
 use Rattle.uds_exchange.specs.Orderer.{OrdererValue, stands_after, IsDue, PutsDue, IsHeld, StopsDue}
 use Rattle.uds_exchange.specs.Pairing.{waiting, waiting_sid, joined_by, joined}
-use Rattle.uds_exchange.specs.Steps.{step_at, due_for, due, next_for, next, Stops}
+use Rattle.uds_exchange.specs.OneMessage.{step_at}
+use Rattle.uds_exchange.specs.Steps.{due_for, due, next_for, next, Stops}
 use Rattle.uds_exchange.specs.Sink.{AfterOk, AfterErr, Puts}
 use Rattle.uds_exchange.specs.declared.orderer.OrderFault.{OrderFault}
 use Rattle.uds_exchange.specs.declared.orderer.OrderFault.TheVariants as fault

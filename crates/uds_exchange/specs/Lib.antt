@@ -7,4 +7,5 @@ pub mod Sink
 pub mod Orderer
 pub mod Laws
 pub mod Pairing
+pub mod OneMessage
 pub mod Steps

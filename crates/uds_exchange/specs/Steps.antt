@@ -1,27 +1,14 @@
--- Devices of proof: what becomes of one more message by the open request alone, what an orderer does with it, and messages that lie end to end.
-use Rattle.std.specs.Prelude.{ℕ, ◌+◌, not, ◌&&◌, if◌then◌else◌, List, [], ◌∷◌, ◌++◌, Option, Some, None, take, drop, ◌≡◌, true, false}
+-- Devices of proof: what an orderer does with one more message, and messages that lie end to end.
+use Rattle.std.specs.Prelude.{ℕ, ◌+◌, List, [], ◌∷◌, ◌++◌, Some, None, take, drop, ◌≡◌, true, false}
 use Rattle.can_log.specs.Dir.{Message}
-use Rattle.uds_message.specs.Message.{sid, is_final_for, is_pending_for}
 use Rattle.uds_exchange.specs.declared.held.Extent.{Extent}
 use Rattle.uds_exchange.specs.declared.step.Step.{Step}
 use Rattle.uds_exchange.specs.declared.step.Step.TheVariants as step
 use Rattle.uds_exchange.specs.declared.orderer.OrderFault.{OrderFault}
 use Rattle.uds_exchange.specs.declared.orderer.OrderFault.TheVariants as fault
-use Rattle.uds_exchange.specs.Meaning.{is_from_tester, is_tester_request}
+use Rattle.uds_exchange.specs.OneMessage.{step_at}
 use Rattle.uds_exchange.specs.Sink.{AfterOk, AfterErr, Fails}
 use Rattle.uds_exchange.specs.Orderer.{OrdererValue}
-
--- what becomes of a message that is no request, where this is the first byte of the open request
-abbrev pub step_if_open : Option ℕ → Message → Step
-step_if_open None message = step.Pass
-step_if_open (Some service) message =
-    if not (is_from_tester message.0) && is_final_for service message.1 then step.Answer
-    else if not (is_from_tester message.0) && is_pending_for service message.1 then step.Removed
-    else step.Hold
-
--- what becomes of a message, where this is the first byte of the open request
-abbrev pub step_at : Option ℕ → Message → Step
-step_at open_sid message = if is_tester_request message then step.Request (sid message.1) else step_if_open open_sid message
 
 -- the messages that have their place by this step with a message, where these are held
 abbrev pub due_for : Step → List Message → Message → List Message

@@ -1,7 +1,7 @@
 //! What becomes of a message, by the request that is open.
 
 ghost use Rattle.std.specs.Prelude.{◌≡◌};
-ghost use Rattle.uds_exchange.specs.Steps.{step_at};
+ghost use Rattle.uds_exchange.specs.OneMessage.{step_at};
 
 use can_log::Dir;
 use uds_message::{Answer, TesterKind, answers, tester_kind};
