@@ -1,5 +1,5 @@
 -- How much memory a pair keeps over a run of frames.
-use Rattle.std.proofs.Common.{◌≡◌, ℕ, ◌+◌, ◌*◌, ◌≤◌, Bool, true, false, List, [], ◌∷◌, length, min, max, nat_le, if◌then◌else◌, Option, Some, None, Result, Ok, Err, refl, sym, ◌∙◌, ap, arith}
+use Rattle.std.proofs.Common.{◌≡◌, ℕ, ◌*◌, ◌≤◌, Bool, true, false, List, [], ◌∷◌, max, nat_le, if◌then◌else◌, Option, Some, None, Result, Ok, Err, refl, sym, ◌∙◌, ap, arith}
 use Rattle.std.proofs.lemmas.Bool.{leb-true}
 use Rattle.can_log.specs.declared.frame.Dir.{Dir}
 use Rattle.can_log.specs.declared.frame.Dir.TheVariants.{Tester, Unit}
@@ -7,9 +7,9 @@ use Rattle.isotp_pdu.specs.Layout.{Layout}
 use Rattle.isotp_pdu.specs.Layout as layout
 use Rattle.isotp_pdu.specs.Reading.{layout_of}
 use Rattle.isotp_pdu.specs.declared.PduFault.{PduFault}
-use Rattle.isotp_receive.specs.Trace.{Entry, same_direction}
+use Rattle.isotp_receive.specs.Trace.{Entry}
 use Rattle.isotp_receive.specs.StandingReception.{StandingReception, stands, receptions_after, of_direction}
-use Rattle.isotp_receive.specs.Capacities.{PairValue, capacity_of, announced_with, come_with, GrowsWithin, CapacitiesGrow, TakesOne, IsRun, end_of, come_of, most_come}
+use Rattle.isotp_receive.specs.Capacities.{PairValue, capacity_of, announced_with, come_with, CapacitiesGrow, TakesOne, IsRun, end_of, come_of, most_come}
 use Rattle.isotp_receive.proofs.StandingLaws.{kept-bytes}
 
 -- ---- what is announced is within the limit
