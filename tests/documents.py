@@ -300,7 +300,7 @@ def stands_in(call, text):
 def calls_of_the_kit(cases):
     table = crates()
     of_kit = {name for crate in {PROGRAM, *below(table, PROGRAM)} & set(table) for name in table[crate]} - set(table)
-    rows = [[cell.strip("`") for cell in cells[:3]] for cells in table_below(ARCHITECTURE, "Where the five crates stand")]
+    rows = [[cell.strip("`") for cell in cells[:3]] for cells in table_below(ARCHITECTURE, "Where the crates of the kit stand")]
     named = {name for name, _, _ in rows}
     cases.report("the page of the architecture says where each crate of the kit stands", sorted(f"not {name}" for name in of_kit ^ named))
     for name, call, file in rows:
