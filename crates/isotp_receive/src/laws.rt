@@ -2,7 +2,7 @@
 
 ghost use Rattle.std.specs.Prelude.{◌≡◌};
 ghost use Rattle.isotp_receive.specs.declared.TheConstants.{MESSAGE_LIMIT};
-ghost use Rattle.isotp_receive.specs.Laws.{WhatStandsIsOpen, WhatIsOpenStands, WhatStandsIsFixed, OneIsOpen, OneReference, KeepsFewerBytes};
+ghost use Rattle.isotp_receive.specs.Laws.{WhatStandsIsOpen, WhatIsOpenStands, WhatStandsIsFixed, OneIsOpen, OneReference, OnTimeIsWithinASecond, KeepsFewerBytes};
 ghost use Rattle.isotp_receive.specs.Laws.{AMessageIsDelivered, TheVerdictIsTabled, PlacesAgreeOnBytes, PlacesAgreeOnFit};
 ghost use Rattle.isotp_receive.specs.MessageLaws.{MessagesGoOn, MessagesAreFew, MessagesFit, MessagesHoldBytes};
 ghost use Rattle.isotp_receive.specs.MessageLaws.{EventsGoOn, EventsAreAsMany, FirstFrameIsRead, TooLongIsAnnounced, KeptIsWithin, CleanIsCounted};
@@ -25,6 +25,12 @@ pub fn one_is_open()
 /// A frame has at most one reference frame, from which N_Cr runs.
 pub fn one_reference()
     ensures { OneReference }
+{}
+
+/// N_Cr is one second (ISO 15765-2, section 9.8): a consecutive frame is on time exactly where it comes at most
+/// 1,000,000 microseconds after its reference frame, and late after that.
+pub fn on_time_is_within_a_second()
+    ensures { OnTimeIsWithinASecond }
 {}
 
 /// A pair keeps fewer bytes of a message than the message has, and that is at most the limit.
