@@ -12,7 +12,7 @@ pub use Rattle.isotp_receive.proofs.MessagesOfMore.{messages_go_on}
 pub use Rattle.isotp_receive.proofs.DeliveredBytes.{messages_are_few, messages_fit, messages_hold_bytes}
 pub use Rattle.isotp_receive.proofs.EventCounts.{events_go_on, events_are_as_many, too_long_is_announced, kept_is_within, clean_is_counted}
 pub use Rattle.isotp_receive.proofs.Readings.{first_frame_is_read}
-pub use Rattle.isotp_receive.proofs.References.{same-reference as one_reference}
+pub use Rattle.isotp_receive.proofs.References.{same-reference as one_reference, within-a-second as on_time_is_within_a_second}
 pub use Rattle.isotp_receive.proofs.Growths.{stands-without as refused_leaves_the_other}
 pub use Rattle.isotp_receive.proofs.CapacityLaws.{stay-within as capacities_stay_within}
 pub use Rattle.isotp_receive.proofs.ListPositions.{get-here, get-left, get-drop}

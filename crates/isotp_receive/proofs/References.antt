@@ -7,7 +7,7 @@ use Rattle.can_log.specs.declared.frame.Dir.{Dir}
 use Rattle.isotp_receive.specs.Trace.{Entry, At, FirstFrame, FrameRole, single, first, consecutive, continue_or_wait, overflow, no_part, role}
 use Rattle.isotp_receive.specs.StandingReception.{referred, reference}
 use Rattle.isotp_receive.specs.OnTime.{n_cr, RestartsTimer, IsReference, IsOnTime}
-use Rattle.isotp_receive.specs.Laws.{OneReference}
+use Rattle.isotp_receive.specs.Laws.{OneReference, OnTimeIsWithinASecond}
 use Rattle.isotp_receive.proofs.ListPositions.{get-same, get-here}
 use Rattle.isotp_receive.proofs.Readings.{first_from}
 
@@ -112,3 +112,13 @@ on-time-to T d i n t x h on =
     let same_e : on.1 ≡ h.e = get-same T h.q on.1 h.e there h.stands in
     let time : t ≡ on.1.micros = h.time ∙ ap (λ e. e.micros) (sym same_e) in
     le-leb x.micros (t + n_cr) (let late = on.4 in omega arith)
+
+-- whatever the reference frame is called, it is the one, and so N_Cr is what the law says
+pub within-a-second : OnTimeIsWithinASecond
+within-a-second T d i n q x last ref there = (to, λ within. (q, last, ref, there, within)) where
+  to : IsOnTime T d i n x → x.micros ≤ last.micros + 1000000
+  to on =
+      let same_q : on.0 ≡ q = same-reference T d i n on.0 q on.2 ref in
+      let here : At T q on.1 = subst (λ j. At T j on.1) same_q on.3 in
+      let same_e : on.1 ≡ last = get-same T q on.1 last here there in
+      subst (λ e. x.micros ≤ e.micros + 1000000) same_e on.4

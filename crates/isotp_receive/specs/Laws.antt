@@ -1,9 +1,9 @@
 -- What the public laws of the receptions say.
 use Rattle.std.specs.Prelude.{◌≡◌, ◌<◌, ◌≤◌, ℕ, ◌+◌, ◌%◌, ◌++◌, ◌∷◌, [], ◌↔◌, List, length, Some, IsTrue}
 use Rattle.can_log.specs.declared.frame.Dir.{Dir}
-use Rattle.isotp_receive.specs.Trace.{Entry, FirstFrame, first, role}
+use Rattle.isotp_receive.specs.Trace.{Entry, At, FirstFrame, first, role}
 use Rattle.isotp_receive.specs.Places.{bytes_in_first, bytes_before, IsConsecutiveCount, FitsAs}
-use Rattle.isotp_receive.specs.OnTime.{IsReference}
+use Rattle.isotp_receive.specs.OnTime.{IsReference, IsOnTime}
 use Rattle.isotp_receive.specs.StandingReception.{StandingReception, carried_after, fits_length, stands}
 use Rattle.isotp_receive.specs.OpenReception.{IsOpenAt, IsStandingAt}
 use Rattle.isotp_receive.specs.Delivers.{Delivers}
@@ -41,6 +41,13 @@ abbrev pub OneReference : Type 0
 OneReference =
     (T : List Entry) (d : Dir) (begun position reference other : ℕ)
     → IsReference T d begun position reference → IsReference T d begun position other → reference ≡ other
+
+-- a frame is on time exactly where it comes at most 1,000,000 microseconds after its reference frame (ISO 15765-2, section 9.8)
+abbrev pub OnTimeIsWithinASecond : Type 0
+OnTimeIsWithinASecond =
+    (T : List Entry) (d : Dir) (begun position reference : ℕ) (entry last : Entry)
+    → IsReference T d begun position reference → At T reference last
+    → IsOnTime T d begun position entry ↔ (entry.micros ≤ last.micros + 1000000)
 
 -- fewer bytes are kept of a message under way than it has, and it has at most the limit
 abbrev pub KeepsFewerBytes : Type 0

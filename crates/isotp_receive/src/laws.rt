@@ -1,11 +1,17 @@
-//! Laws of the receptions, for the proofs of callers: functions that do nothing.
+//! Laws of receptions and recordings, for the proofs of callers: functions that do nothing.
+//!
+//! A *recording* of a list of messages is a trace in which each message is one single frame, or a
+//! first frame and its consecutive frames, and whatever else is there carries nothing. It says
+//! nothing of how the frames are paced within the time-out, how long they are, or what they are
+//! padded with: so these can't change what is read.
 
 ghost use Rattle.std.specs.Prelude.{◌≡◌};
 ghost use Rattle.isotp_receive.specs.declared.TheConstants.{MESSAGE_LIMIT};
-ghost use Rattle.isotp_receive.specs.Laws.{WhatStandsIsOpen, WhatIsOpenStands, WhatStandsIsFixed, OneIsOpen, OneReference, KeepsFewerBytes};
+ghost use Rattle.isotp_receive.specs.Laws.{WhatStandsIsOpen, WhatIsOpenStands, WhatStandsIsFixed, OneIsOpen, OneReference, OnTimeIsWithinASecond, KeepsFewerBytes};
 ghost use Rattle.isotp_receive.specs.Laws.{AMessageIsDelivered, TheVerdictIsTabled, PlacesAgreeOnBytes, PlacesAgreeOnFit};
 ghost use Rattle.isotp_receive.specs.MessageLaws.{MessagesGoOn, MessagesAreFew, MessagesFit, MessagesHoldBytes};
 ghost use Rattle.isotp_receive.specs.MessageLaws.{EventsGoOn, EventsAreAsMany, FirstFrameIsRead, TooLongIsAnnounced, KeptIsWithin, CleanIsCounted};
+ghost use Rattle.isotp_receive.specs.RecordingLaws.{RecordingDelivers, RecordingDeliversBehind, RecordingDeliversAtLastPosition, RecordingDeliversByFrames, CleanTraceIsARecording};
 ghost use Rattle.isotp_receive.specs.Growth.{RefusedLeavesTheOther};
 ghost use Rattle.isotp_receive.specs.Capacities.{CapacitiesStayWithin};
 
@@ -25,6 +31,12 @@ pub fn one_is_open()
 /// A frame has at most one reference frame, from which N_Cr runs.
 pub fn one_reference()
     ensures { OneReference }
+{}
+
+/// N_Cr is one second (ISO 15765-2, section 9.8): a consecutive frame is on time exactly where it comes at most
+/// 1,000,000 microseconds after its reference frame, and late after that.
+pub fn on_time_is_within_a_second()
+    ensures { OnTimeIsWithinASecond }
 {}
 
 /// A pair keeps fewer bytes of a message than the message has, and that is at most the limit.
@@ -102,4 +114,22 @@ pub fn kept_is_within()
 /// A trace is clean exactly where nothing of it is counted as dropped, ended or unfinished.
 pub fn clean_is_counted()
     ensures { CleanIsCounted }
+{}
+
+/// A recording delivers exactly its messages, in order, each at the last of its frames; after any
+/// trace too, even where a reception stands there. Each message is given the positions of the frames
+/// that make it, and each single, first and consecutive frame belongs to exactly one message.
+pub fn recording_delivers()
+    ensures alone { RecordingDelivers }
+    ensures behind_any_trace { RecordingDeliversBehind }
+    ensures at_last_position { RecordingDeliversAtLastPosition }
+    ensures frames { RecordingDeliversByFrames }
+{}
+
+/// A trace of which nothing is dropped, ended or left over is a recording of what it delivers. Each
+/// message is given the positions of the frames that make it: of its single frame, or of its first
+/// frame and all consecutive frames since. Each single, first and consecutive frame of the trace
+/// belongs to exactly one delivered message.
+pub fn clean_trace_is_a_recording()
+    ensures certificate { CleanTraceIsARecording }
 {}
