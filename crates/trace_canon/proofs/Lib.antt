@@ -6,7 +6,6 @@ pub mod CanonicalWriting
 pub mod WrittenFronts
 pub mod Gatherings
 pub mod Results
-pub mod DecimalPlaces
 pub mod Names
 pub mod ItemLines
 pub mod EventTexts

@@ -1,5 +1,5 @@
 -- The limits, as numbers.
-use Rattle.std.proofs.Common.{◌≡◌, ℕ, ◌^◌, ◌≤◌, Bool, true, false, arith, refl, Option, Some, None, nat_le}
+use Rattle.std.proofs.Common.{◌≡◌, ◌≤◌, Bool, true, false, refl, Some, None, nat_le}
 use Rattle.std.specs.Prelude.{cond}
 use Rattle.std.proofs.lemmas.Bool.{le-leb, leb-true}
 use Rattle.trace_canon.specs.Laws.{LongestMessage, LargestLimit, ReadsByPieces, WritesByPieces}

@@ -1,6 +1,5 @@
 //! The parts of a line of text, gathered one after another.
-ghost use Rattle.std.specs.Prelude.{◌≡◌, ◌^◌, ◌<◌, ◌≤◌, ◌++◌, drop, codes};
-ghost use Rattle.std.specs.Fmt.{decimal};
+ghost use Rattle.std.specs.Prelude.{◌≡◌, ◌^◌, ◌<◌, ◌≤◌, ◌++◌, codes};
 ghost use Rattle.can_log.specs.Digits.{digit, hexadecimal};
 ghost use Rattle.trace_canon.specs.Gathering.{Gathers};
 ghost use Rattle.trace_canon.specs.Words.{bytes_text};
@@ -8,11 +7,9 @@ ghost use Rattle.trace_canon.specs.Parts.{part_text, parts_text};
 
 use crate::block::{Block, gather};
 use can_log::digits_of_bytes;
+use itoa::Buffer;
 use trace_io::{DeviceFault, Target};
 use uds_message::{code_name, service_name};
-
-/// The most decimal digits of a number.
-const MOST_DIGITS: usize = 20;
 
 /// The hexadecimal digits.
 const DIGITS: [u8; 16] = *b"0123456789ABCDEF";
@@ -60,11 +57,7 @@ fn gather_part<W: Target>(
 {
     match part {
         Part::Text(text) => gather(writer, block, text.as_bytes()),
-        Part::Number(number) => {
-            let mut digits = [0; MOST_DIGITS];
-            let start = put_decimal(&mut digits, number);
-            gather(writer, block, &digits[start..])
-        }
+        Part::Number(number) => gather(writer, block, Buffer::new().format(number).as_bytes()),
         Part::Digit(number) => gather(writer, block, &last_digit(number)),
         Part::Bytes(bytes) => gather_bytes(writer, block, bytes),
         Part::Service(sid) => match service_name(sid) {
@@ -76,23 +69,6 @@ fn gather_part<W: Target>(
             None => gather(writer, block, &numbered_code(code)),
         },
     }
-}
-
-/// The number's digits at the end of the array, and the place where they start.
-fn put_decimal(digits: &mut [u8; MOST_DIGITS], number: u64) -> usize
-    ensures start { result ≤ 20 }
-    ensures digits { drop result digits.new ≡ decimal number }
-{
-    let mut rest = number;
-    let mut start = MOST_DIGITS;
-    'places: while rest >= 10 {
-        start -= 1;
-        digits[start] = b'0' + (rest % 10) as u8;
-        rest /= 10;
-    }
-    start -= 1;
-    digits[start] = b'0' + rest as u8;
-    start
 }
 
 /// Gathers two digits for each byte: of eight bytes at once, as long as there are eight.
