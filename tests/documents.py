@@ -11,8 +11,9 @@
 - each wrong body of must-fail/ and attacks/ can be applied: what it takes away stands once;
 - docs/definitions.md names each file of definitions, and each definition stands in the file that it names;
 - it has each definition that a public function's contract or a law cites;
-- docs/architecture.md says of each crate of the kit that the program stands on where it is called, and the call stands there.
-- docs/proved.md cites each clause of each public call, and each law that the pages for callers leave out, and no other.
+- docs/architecture.md says of each crate of the kit that the program stands on where it is called, and the call stands there;
+- docs/proved.md cites each clause of each public call, and each law that the pages for callers leave out, and no other;
+- each fault displays the line that the program tells of it, as the page for callers of udsnorm says.
 
 Prints a line for each case and ends with `N passed, M failed`; its status is 1 where a case failed.
 """
@@ -26,6 +27,7 @@ from pathlib import Path
 from xml.etree import ElementTree
 
 import clauses
+import fault_lines
 from cases import Cases
 
 TOP = Path(__file__).resolve().parent.parent
@@ -317,11 +319,19 @@ def cited_clauses(cases):
         cases.report(f"{name_of(PROVED)} cites the clauses that callers of {crate} have", wrong)
 
 
+def lines_of_faults(cases):
+    for name, wrong in fault_lines.compared(TOP / "crates"):
+        cases.report(f"what {name} displays is the line that is told of it", wrong)
+
+
 def main():
     if len(sys.argv) != 1:
         sys.exit(__doc__)
     cases = Cases(None)
-    for test in [picture, links, named_files, counts, planted, wrong_bodies, definitions, citations, calls_of_the_kit, cited_clauses]:
+    for test in [
+        picture, links, named_files, counts, planted, wrong_bodies, definitions, citations, calls_of_the_kit, cited_clauses,
+        lines_of_faults,
+    ]:
         test(cases)
     cases.end()
 

@@ -11,25 +11,31 @@ import os
 import re
 import subprocess
 import sys
+import tempfile
 import time
+from collections import namedtuple
+from contextlib import suppress
 from fractions import Fraction
 from pathlib import Path
 
 import oracle
-from cases import DONE, REFUSAL, Cases
-
-# The shortest line with a frame, without its data digits and with its line feed.
-CLASSIC_LINE = len(b"(0.000000) a 7E8#\n")
-FD_LINE = len(b"(0.000000) a 7E8##0\n")
-CANONICAL_LINE = 46
+from cases import DIFFERENT, DONE, REFUSAL, Cases
 
 # The lengths that a frame may have, and those that a first frame may have.
 FRAME_LENGTHS = (*range(9), 12, 16, 20, 24, 32, 48, 64)
 RX_DLS = (8, 12, 16, 20, 24, 32, 48, 64)
 
-# The most bytes that are written for each byte of a log, by how many digits more than three the identifiers of the sender and
-# of the receiver have.
-MOST_CANONICAL = {(0, 0): Fraction(46, 13), (0, 5): Fraction(189, 52), (5, 0): Fraction(199, 57), (5, 5): Fraction(68, 19)}
+# The lengths of the messages whose canonical logs are compared with their recordings: all that two frames of 64 bytes take, to
+# which a frame more adds less than three times its line; and those where a first frame spells the length in another way.
+MESSAGE_LENGTHS = (*range(1, 127), 4095, 4096, 65_535, oracle.MESSAGE_LIMIT)
+
+# The most bytes that are written for each byte of a log, by the identifiers of the unit, which sends, and of the tester.
+MOST_CANONICAL = {
+    ("7E8", "7E0"): Fraction(46, 13),
+    ("7E8", "18DA10F1"): Fraction(189, 52),
+    ("18DAF110", "7E0"): Fraction(199, 57),
+    ("18DAF110", "18DA10F1"): Fraction(68, 19),
+}
 LONGEST_ITEM = "{} exchange DynamicallyDefineDataIdentifier 2C -> unanswered\n"
 LONGEST_ITEM_OF_ONE_FRAME = "{} exchange DynamicallyDefineDataIdentifier 2C000000000000 -> unanswered\n"
 LONGEST_DROP = "line {}: tester frame dropped: consecutive frame unexpected\n"
@@ -45,12 +51,22 @@ FOREIGN = b"(0.000000) a 000#\n"
 BLANK = b"\n"
 LONGEST = b"(0000000000.000000)" + b" " * 16 + b"abcdefghijklmno" + b" " * 16 + b"18DAF110##0" + b"00" * 64 + b" " * 16 + b"T\n"
 
+# How many bytes of the longest line stand before each place where one byte more makes it none, and that byte: in a gap, the
+# name of the device, the next gap, the data, and at the end.
+ONE_BYTE_MORE = [(35, b" "), (50, b"p"), (66, b" "), (206, b"0"), (222, b" ")]
+
+# The length of the logs whose memory is measured. With a message for 22 bytes there are more than 2^20 of them.
+MEASURED = 24_000_000
+
 # Bytes that the program has without a log, at most; those of the two receptions; and those that it holds for each byte of a
 # log.
 PROGRAM_BYTES = 2_500_000
 RECEPTION_BYTES = 2 * oracle.MESSAGE_LIMIT
 HELD = Fraction(17, 22)
 MEANT = Fraction(96, 22)
+
+# What a job took: its most kilobytes, or none, and its status.
+Peak = namedtuple("Peak", "kilobytes status")
 
 # What explain says of two of the longest messages that lack their last frames, and then counts.
 UNFINISHED = b"""\
@@ -61,54 +77,56 @@ end: unit reception from line 2 of 1048575 bytes unfinished
 REFUSED_LOGS = [b"x", b"(", b"\n" * 1000 + b"\xff" * 1000, LONGEST + b"(1.0\n" * 1000, b"(0.000000) a 7E8#1000FFFFFFFF4142\n" * 1000]
 
 
-def line_length(size):
-    """The shortest line with a frame of this many bytes."""
-    return (CLASSIC_LINE if size <= 8 else FD_LINE) + 2 * size
+def frame_line(identifier, data):
+    """The shortest line with a frame that begins with these bytes, in the shortest frame that takes them."""
+    size = next(length for length in FRAME_LENGTHS if length >= len(data))
+    return f"(0.000000) a {identifier}{'#' if size <= 8 else '##0'}{data.ljust(size, bytes(1)).hex()}\n".encode()
 
 
-def canonical_length(size, of_sender, of_receiver):
-    """The canonical lines of a message of this many bytes: those of the sender, and a flow control of the receiver."""
-    begun = 6 if size <= 4095 else 2
-    count = 1 if size <= 7 else 1 + -(-(size - begun) // 7)
-    return (CANONICAL_LINE + of_sender) * count + (0 if size <= 7 else CANONICAL_LINE + of_receiver)
+def single_frame(identifier, message):
+    """The log of a message in a single frame."""
+    control = bytes([len(message)]) if len(message) <= 7 else bytes([0, len(message)])
+    return frame_line(identifier, control + message)
 
 
-def shortest_recordings(size):
-    """The length and the number of lines of the shortest log of a message: in a single frame, and in frames of each length."""
-    if size <= 7:
-        yield line_length(size + 1), 1
-    for length in RX_DLS[1:]:
-        if size <= length - 2:
-            yield line_length(length), 1
+def segmented(identifier, message, rx_dl):
+    """The log of a message in frames of this length, of which the last is as short as it can be."""
+    size = len(message).to_bytes(4, "big")
+    control = bytes([0x10 | size[2], size[3]]) if len(message) <= 4095 else b"\x10\x00" + size
+    begun = rx_dl - len(control)
+    lines = [frame_line(identifier, control + message[:begun])]
+    for number, begin in enumerate(range(begun, len(message), rx_dl - 1), 1):
+        lines.append(frame_line(identifier, bytes([0x20 | number % 16]) + message[begin : begin + rx_dl - 1]))
+    return b"".join(lines)
+
+
+def shortest_recordings(identifier, size):
+    """The shortest logs of a message of this many bytes: in a single frame, and in frames of each length."""
+    message = bytes(size)
+    if size <= 62:
+        yield single_frame(identifier, message)
     for rx_dl in RX_DLS:
-        begun = rx_dl - (2 if size <= 4095 else 6)
         if size >= (8 if rx_dl == 8 else rx_dl - 1):
-            count = -(-(size - begun) // (rx_dl - 1))
-            missing = size - begun - (count - 1) * (rx_dl - 1)
-            last = next(length for length in FRAME_LENGTHS if length > missing)
-            yield count * line_length(rx_dl) + line_length(last), count + 1
+            yield segmented(identifier, message, rx_dl)
 
 
 def canonical_growth(cases):
-    """No message has a canonical log of more bytes for each byte of its shortest recording, and one has as many. Of the
-    lengths above 65,535 some are tried: there each byte more adds as much as any other."""
-    sizes = [*range(1, 65_536), *range(65_536, oracle.MESSAGE_LIMIT, 997), oracle.MESSAGE_LIMIT]
-    recordings = {size: [*shortest_recordings(size)] for size in sizes}
-    for (of_sender, of_receiver), expected in MOST_CANONICAL.items():
-        most, size = max(
-            (Fraction(canonical_length(size, of_sender, of_receiver), length + of_sender * lines), size)
-            for size, found in recordings.items()
-            for length, lines in found
-        )
-        name = f"identifiers of {3 + of_sender} and {3 + of_receiver} digits: a message of {size} bytes has {most} times its log"
-        cases.report(name, [] if most == expected else [f"not {expected}"])
+    """No message has a canonical log of more bytes for each byte of its shortest recording, and one has as many."""
+    for (unit, tester), expected in MOST_CANONICAL.items():
+        most, longest, wrong = Fraction(0), None, []
+        for size, log in ((size, log) for size in MESSAGE_LENGTHS for log in shortest_recordings(unit, size)):
+            status, text, _ = cases.run(["normalise", "--unit", unit, "--tester", tester], log)
+            wrong += [] if status == DONE and text else [f"status {status}, {len(text)} bytes of {size}"]
+            most, longest = max((most, longest), (Fraction(len(text), len(log)), size), key=lambda found: found[0])
+        wrong += [] if most == expected else [f"not {expected}"]
+        cases.report(f"from {unit} to {tester} a message of {longest} bytes is written as {most} times its log", wrong)
 
 
 def longest_texts(cases):
     """The logs of which most is written."""
     log = FOURTEEN_BYTES * 10_000
     status, text, _ = cases.run(["normalise"], log)
-    wrong = [] if status == DONE and len(text) == MOST_CANONICAL[0, 0] * len(log) else [f"status {status}, {len(text)} bytes"]
+    wrong = [] if status == DONE and len(text) == MOST_CANONICAL["7E8", "7E0"] * len(log) else [f"status {status}, {len(text)} bytes"]
     cases.report(f"normalise writes {len(text)} bytes of {len(log)}", wrong)
     for job, line, longest in [
         ("list", REQUEST, LONGEST_ITEM),
@@ -131,9 +149,10 @@ def drops(cases):
     wrong = []
     for before, sender, data in itertools.product(((), (("7E0", FIRST_DATA),)), ("7E0", "7E8"), frames):
         log = b"".join(f"(0.000000) a {who}#{what.hex()}\n".encode() for who, what in (*before, (sender, data)))
-        told = oracle.frames_text(oracle.trace(log.split(b"\n")))
-        length = len(re.sub(r"line \d+", "line 10000000", told))
-        wrong += [repr(log)] if Fraction(length, len(log)) > most else []
+        status, text, _ = cases.run(["explain"], log)
+        told = re.findall(r"^line .*\n", text.decode(), re.M)
+        length = len(re.sub(r"line \d+", "line 10000000", "".join(told)))
+        wrong += [repr(log)] if status != DONE or Fraction(length, len(log)) > most else []
     cases.report(f"no frame has more told of it than {most} for each byte", wrong)
 
 
@@ -142,8 +161,11 @@ FIRST_DATA = b"\x10\x00\x00\x00\xff\xff\x41\x42"
 
 def longest_lines(cases):
     """The longest line that is read, and one byte more."""
-    cases.report(f"the longest line has {len(LONGEST) - 1} bytes", [] if len(LONGEST) - 1 == 222 else ["not 222"])
     cases.case("the longest line, with a carriage return", cases.run(["explain"], LONGEST[:-1] + b"\r\n"), DONE, b"lines 1 frames 0 ..")
+    for before, more in ONE_BYTE_MORE:
+        found = cases.run(["explain"], LONGEST[:before] + more + LONGEST[before:])
+        error = f"line 1 column {before + 1}: not a log line\n".encode()
+        cases.case(f"the longest line with {more!r} more after {before} bytes", found, REFUSAL, error=error)
 
 
 def one_line_of_error(cases):
@@ -156,24 +178,32 @@ def one_line_of_error(cases):
 
 
 def peak(program, words, log):
-    """The most kilobytes that a job has, until it has read a log through a pipe."""
-    run = subprocess.Popen([program, *words], stdin=subprocess.PIPE, stdout=subprocess.DEVNULL)
-    run.stdin.write(log)
-    run.stdin.flush()
-    # A pipe holds 65,536 bytes, of which no word can tell whether they were read.
-    time.sleep(0.1)
-    told = Path(f"/proc/{run.pid}/status").read_text()
-    run.stdin.close()
-    run.wait(timeout=60)
-    return int(re.search(r"^VmHWM:\s+(\d+) kB$", told, re.M)[1])
+    """The most kilobytes that a job has, until it has read a log through a pipe, and its status. A job that ends before has
+    none."""
+    run = subprocess.Popen([program, *words], stdin=subprocess.PIPE, stdout=subprocess.DEVNULL, stderr=subprocess.DEVNULL)
+    kilobytes = None
+    with suppress(BrokenPipeError):
+        run.stdin.write(log)
+        run.stdin.flush()
+        # A pipe holds 65,536 bytes, of which no word can tell whether they were read.
+        time.sleep(0.1)
+        told = re.search(r"^VmHWM:\s+(\d+) kB$", Path(f"/proc/{run.pid}/status").read_text(), re.M)
+        kilobytes = int(told[1]) if told else None
+    with suppress(BrokenPipeError):
+        run.stdin.close()
+    return Peak(kilobytes, run.wait(timeout=60))
 
 
-def holds_at_most(cases, job, name, log, most):
-    """Beyond what it has without a log, the job holds this many bytes at most."""
-    kilobytes = peak(cases.program, [job], log)
+def holds_at_most(cases, words, name, log, most, wanted):
+    """Beyond what it has without a log, the job holds this many bytes at most, and ends with the wanted status."""
+    found = peak(cases.program, words, log)
     allowed = int(PROGRAM_BYTES + most) // 1024
-    wrong = [] if kilobytes <= allowed else [f"more than {allowed} kB"]
-    cases.report(f"{job} of {len(log)} bytes, {name}: {kilobytes} kB", wrong)
+    wrong = [] if found.status == wanted else [f"status {found.status}, not {wanted}"]
+    if found.kilobytes is None:
+        wrong.append("it ended before its log")
+    elif found.kilobytes > allowed:
+        wrong.append(f"more than {allowed} kB")
+    cases.report(f"{words[0]} of {len(log)} bytes, {name}: {found.kilobytes} kB", wrong)
 
 
 def memory(cases):
@@ -191,15 +221,27 @@ def memory(cases):
         ("list", REQUEST, ONE_BYTE, MEANT),
         ("list", b"", REQUEST, MEANT),
     ]:
-        log = begun + line * (20_000_000 // len(line))
-        holds_at_most(cases, job, f"{begun!r} and then {line[:40]!r}", log, most * len(log))
+        log = begun + line * (MEASURED // len(line))
+        holds_at_most(cases, [job], f"{begun!r} and then {line[:40]!r}", log, most * len(log), DONE)
     log = REQUEST + ONE_BYTE * 500_000
-    holds_at_most(cases, "normalise", "strays that are held, and as many after the next request", 2 * log, HELD * len(log))
+    holds_at_most(cases, ["normalise"], "strays that are held, and as many after the next request", 2 * log, HELD * len(log), DONE)
     log = two_receptions()
     cases.case("two of the longest messages lack their last frames", cases.run(["explain"], log), DONE, UNFINISHED)
     for job in ["normalise", "explain"]:
-        holds_at_most(cases, job, "no log", b"", 0)
-        holds_at_most(cases, job, "two of the longest messages without their last frames", log, RECEPTION_BYTES)
+        holds_at_most(cases, [job], "no log", b"", 0, DONE)
+        holds_at_most(cases, [job], "two of the longest messages without their last frames", log, RECEPTION_BYTES, DONE)
+    memory_of_two(cases)
+
+
+def memory_of_two(cases):
+    """What both logs of a comparison mean is held, up to their last items."""
+    log = REQUEST * (MEASURED // len(REQUEST))
+    with tempfile.NamedTemporaryFile() as left:
+        left.write(log)
+        left.flush()
+        for name, right, status in [("as many", log, DONE), ("one more", log + REQUEST, DIFFERENT)]:
+            words = ["compare", left.name, "/dev/stdin"]
+            holds_at_most(cases, words, f"{REQUEST!r} alone, with {name} on the right", right, 2 * MEANT * len(right), status)
 
 
 def two_receptions():

@@ -365,7 +365,7 @@ def is_its_own(program, length, lines):
     below = taken(program, canonical, ["--limit", str(len(canonical) - 1)])
     item = f"1 stray unit {message.hex().upper()}\n".encode()
     return [
-        *differences("bytes", len(canonical), lines * CANONICAL_LINE),
+        *differences("bytes", len(at_limit.normalised.output), lines * CANONICAL_LINE),
         *at_limit.wrong,
         *differences("normalise", at_limit.normalised, Ended(DONE, canonical, b"")),
         *differences("messages", counts_in(at_limit.explained)["messages"], 1),

@@ -1,0 +1,63 @@
+"""The two spellings of what is told of a fault: the one that it displays, by the texts that `thiserror` derives from, and the
+line that specs/FaultLines.antt has, which the program tells.
+
+In either the fields of a fault are numbered from 0, and `{0}` stands for the first. A fault in a field ends its line, and so
+does the parser's text, which brings a line feed.
+"""
+
+import re
+
+# The enumerations of faults: the crate and file of each, and the definition that has its lines.
+FAULTS = {
+    "Fault": ("trace_canon/src/fault.rt", "fault_line"),
+    "CompareFault": ("trace_canon/src/fault.rt", "side_line"),
+    "ConfigFault": ("trace_canon/src/fault.rt", "config_line"),
+    "WordsFault": ("udsnorm/src/job.rt", "words_text"),
+}
+LINES = "udsnorm/specs/FaultLines.antt"
+
+VARIANT = re.compile(r'#\[error\(\s*"([^"]*)"\s*\)\]\s*(\w+)(?: \{([^}]*)\})?')
+TERM = re.compile(r'codes "([^"]*)"|(\w+) (?:\w+\.)?(\w+)')
+LINE_FEED = r"\n"
+
+
+def compared(crates):
+    """Each enumeration of faults, with what is wrong between what its variants display and their lines."""
+    lines = (crates / LINES).read_text()
+    known = told("fault_line", lines, {})
+    for name, (path, definition) in FAULTS.items():
+        shown = displayed(name, (crates / path).read_text())
+        wanted = told(definition, lines, known)
+        both = {variant: (shown.get(variant), wanted.get(variant)) for variant in {**shown, **wanted}}
+        wrong = [f"{variant}: displayed is {one}, and told {other}" for variant, (one, other) in both.items() if one != other]
+        yield name, wrong if shown else ["it has no variants"]
+
+
+def displayed(enumeration, text):
+    """What each variant of an enumeration displays, as a line."""
+    block = re.search(rf"^pub enum {enumeration} \{{\n(.*?)^\}}", text, re.M | re.S)
+    found = {}
+    for shown, variant, fields in VARIANT.findall(block[1] if block else ""):
+        places = {name: place for place, name in enumerate(re.findall(r"(\w+):", fields))}
+        found[variant] = re.sub(r"\{(\w+)\}", lambda field: f"{{{places.get(field[1], field[1])}}}", shown) + LINE_FEED
+    return found
+
+
+def told(definition, text, known):
+    """The line of each variant by a definition. Some lines are those of faults that are known."""
+    equation = re.compile(rf"^{definition} \(?(?:\w+\.)?(\w+)((?: \w+)*)\)? = (.*)$", re.M)
+    found = {}
+    for variant, names, line in equation.findall(re.sub(r"\n +", " ", text)):
+        places = {name: f"{{{place}}}" for place, name in enumerate(names.split())}
+        found[variant] = "".join(term_text(term, places, known) for term in TERM.findall(line))
+    return found
+
+
+def term_text(term, places, known):
+    """What a term of a line stands for: letters, a number, a fault or the parser's text in a field, or a fault's known line."""
+    letters, of, name = term
+    if not of:
+        return letters
+    if name in places:
+        return places[name] + ("" if of == "decimal" else LINE_FEED)
+    return known.get(name, f"{of} {name}")
