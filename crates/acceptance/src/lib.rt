@@ -4,6 +4,8 @@
 //! what was meant is shown here, layer by layer, by worked values: `log_lines`, `device_calls`, `frame_layouts`,
 //! `frame_verdicts`, `message_frames`, `message_kinds`, `pairings`.
 //!
+//! `message_frames` also tries the lengths at which a message has a frame more, and `sizes` those at which a buffer may grow.
+//!
 //! `calls` takes a session through each call of the engine, over devices that only a test has. What whole logs become is tested
 //! over the built program, by `tests/sessions.py`.
 #![tactic(auto)]
