@@ -5,7 +5,7 @@ use crate::rows::{
     rows_of,
 };
 use can_log::{Frame, Id, Kind};
-use isotp_pdu::{Pdu, read_pdu};
+use isotp_pdu::{Pdu, layout_of};
 use std::alloc::{AllocError, Global};
 use std::process::Abort;
 use std::test::Fail;
@@ -138,7 +138,7 @@ fn each_frame_has_the_layout_or_fault_of_its_row(rt: HostRuntime) -> Result<(), 
 
 /// Tells what a frame says: its layout with its bytes, or its fault.
 fn told(alloc: Global, frame: &Frame) -> Result<String, AllocError> {
-    match read_pdu(frame) {
+    match layout_of(frame) {
         Ok(Pdu::Single(bytes)) => with_bytes(alloc, "Single", bytes),
         Ok(Pdu::First { len, rx_dl, bytes }) => {
             with_bytes(alloc, &format!(in alloc; "First {len} {rx_dl}")?, bytes)

@@ -3,7 +3,7 @@
 use crate::rows::{assert_text, bytes_of, lines_of, shown};
 use std::alloc::Global;
 use std::test::Fail;
-use uds_message::{answers, code_name, service_name, suppresses, tester_kind};
+use uds_message::{answer_to, code_name, is_suppressing, service_name, tester_kind};
 
 /// Messages of the tester with their kinds, messages of the unit with what they are to the request of a service, and messages of
 /// the tester that suppress a positive response or not.
@@ -32,14 +32,14 @@ kind# Other
 3F#7F No
 BA#FA Final
 62#A2 No
-suppresses#1083 true
-suppresses#1003 false
-suppresses#10 false
-suppresses#22F190 false
-suppresses#3E80 true
-suppresses#8480 false
-suppresses#BA80 false
-suppresses# false";
+suppressing#1083 true
+suppressing#1003 false
+suppressing#10 false
+suppressing#22F190 false
+suppressing#3E80 true
+suppressing#8480 false
+suppressing#BA80 false
+suppressing# false";
 
 #[test]
 fn messages_are_told_apart_by_their_bytes(rt: HostRuntime) -> Result<(), Fail> {
@@ -57,13 +57,13 @@ fn answered(alloc: Global, question: &str) -> Result<String, Fail> {
     let message = bytes_of(alloc, message)?;
     let answer = if question == "kind" {
         shown(alloc, &tester_kind(&message))?
-    } else if question == "suppresses" {
-        shown(alloc, &suppresses(&message))?
+    } else if question == "suppressing" {
+        shown(alloc, &is_suppressing(&message))?
     } else {
         let service = bytes_of(alloc, question)?;
         shown(
             alloc,
-            &answers(*service.first().ok_or("no service")?, &message),
+            &answer_to(*service.first().ok_or("no service")?, &message),
         )?
     };
     Ok(answer)
@@ -75,7 +75,7 @@ fn what_is_no_request_has_no_name(rt: HostRuntime) {
     for sid in 0..=255u8 {
         if sid & 0x40 != 0 {
             assert!(rt;
-                service_name(sid).is_none() && !suppresses(&[sid, 0x80]),
+                service_name(sid).is_none() && !is_suppressing(&[sid, 0x80]),
                 "{sid:02X}"
             );
         }

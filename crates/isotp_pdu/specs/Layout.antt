@@ -110,7 +110,7 @@ layout_at (pdu.First announced rx_dl bytes) = first announced rx_dl bytes.now
 layout_at (pdu.Next number can_dl bytes) = consecutive number can_dl bytes.now
 layout_at (pdu.Flow status) = flow_control status
 
--- a result of `read_pdu` without where its bytes lie
+-- a result of the code's `layout_of` without where its bytes lie
 abbrev pub layout_seen : Result Pdu PduFault → Result Layout PduFault
 layout_seen (Ok pdu) = Ok (layout_at pdu)
 layout_seen (Err fault) = Err fault

@@ -1,12 +1,12 @@
 //! What a CAN frame says under ISO 15765-2: a whole message, the beginning of one, the next part of
-//! one, or flow control. [`read_pdu`] reads it from one frame alone, whatever came before; receiving
+//! one, or flow control. [`layout_of`] tells it from one frame alone, whatever came before; receiving
 //! a message of several frames is the layer above. Nothing is copied: the bytes of a [`Pdu`] lie in
 //! the frame.
 //!
 //! ```
 //! let data = [0x10, 0x14, 0x62, 0xF1, 0x90, 0x57, 0x42, 0x41];
 //! if let Some(frame) = Frame::new(Id::Std(0x7E8), Kind::Classic, &data) {
-//!     match read_pdu(&frame) {
+//!     match layout_of(&frame) {
 //!         // a message of 20 bytes in frames of 8 bytes: six of its bytes are here
 //!         Ok(Pdu::First { len: 20, rx_dl: 8, bytes: [0x62, 0xF1, 0x90, 0x57, 0x42, 0x41] }) => ..
 //!     }
@@ -18,9 +18,8 @@ pub mod laws;
 
 ghost use Rattle.std.specs.Prelude.{◌≡◌, ◌↔◌, ◌≤◌, ◌<◌, length, IfOk};
 ghost use Rattle.isotp_pdu.specs.Layout.{Layout, HasLayout, IsSoundLayout, layout_seen};
-ghost use Rattle.isotp_pdu.specs.Reading.{layout_of};
-ghost use Rattle.isotp_pdu.specs.Layout.{is_can_dl, least_first};
-ghost use Rattle.isotp_pdu.specs.Reading.{of_bytes, single_of, first_of, short_first_of, escaped_first_of, flow_of};
+ghost use Rattle.isotp_pdu.specs.Layout as Layouts;
+ghost use Rattle.isotp_pdu.specs.Reading as Spec;
 ghost use Rattle.isotp_pdu.specs.Fault.{IsFault};
 
 use can_log::{Frame, Kind};
@@ -90,63 +89,63 @@ pub enum PduFault {
 /// What the frame says, or else the first fault that applies. It takes neither the identifier nor
 /// the frames before into account, and treats classic and FD frames of equal length the same.
 #[inline(always)]
-pub fn read_pdu(frame: &Frame) -> Result<Pdu<'_>, PduFault>
-    ensures value { layout_seen result ≡ layout_of frame.now }
+pub fn layout_of(frame: &Frame) -> Result<Pdu<'_>, PduFault>
+    ensures value { layout_seen result ≡ Spec.layout_of frame.now }
     ensures layout { (layout : Layout) → (layout_seen result ≡ Ok layout) ↔ HasLayout frame.now layout }
     ensures fault { (e : PduFault) → (layout_seen result ≡ Err e) ↔ IsFault e frame.now }
     ensures sound { IfOk (layout_seen result) IsSoundLayout }
 {
-    read_frame(frame)
+    layout_by_kind(frame)
 }
 
 /// The same by the one equation that the other clauses follow from.
 #[inline(always)]
 #[tactic(auto, unfolding(crate::specs::Reading::layout_of))]
-fn read_frame(frame: &Frame) -> Result<Pdu<'_>, PduFault>
-    ensures { layout_seen result ≡ layout_of frame.now }
+fn layout_by_kind(frame: &Frame) -> Result<Pdu<'_>, PduFault>
+    ensures { layout_seen result ≡ Spec.layout_of frame.now }
 {
     match frame.kind() {
         Kind::Remote => Err(PduFault::Remote),
-        Kind::Classic | Kind::Fd => read_bytes(frame.data()),
+        Kind::Classic | Kind::Fd => of_bytes(frame.data()),
     }
 }
 
 /// A data frame of these bytes.
 #[inline(always)]
-fn read_bytes(bytes: &[u8]) -> Result<Pdu<'_>, PduFault>
+fn of_bytes(bytes: &[u8]) -> Result<Pdu<'_>, PduFault>
     requires { length bytes.now ≤ 64 }
-    ensures { layout_seen result ≡ of_bytes bytes.now }
+    ensures { layout_seen result ≡ Spec.of_bytes bytes.now }
 {
-    if !has_frame_length(bytes) {
+    if !is_can_dl(bytes.len()) {
         return Err(PduFault::FrameLength);
     }
     if bytes.is_empty() {
         return Err(PduFault::Empty);
     }
     match bytes[0] / 16 {
-        0 => read_single(bytes),
-        1 => read_first(bytes),
+        0 => single_of(bytes),
+        1 => first_of(bytes),
         2 => Ok(Pdu::Next {
             sn: bytes[0] % 16,
             frame_len: bytes.len() as u8,
             bytes: &bytes[1..],
         }),
-        3 => read_flow(bytes),
+        3 => flow_of(bytes),
         _ => Err(PduFault::UnknownKind),
     }
 }
 
 /// Whether a CAN frame may have this many bytes (ISO 11898-1).
-fn has_frame_length(bytes: &[u8]) -> bool
-    ensures { result ≡ is_can_dl (length bytes.now) }
+fn is_can_dl(len: usize) -> bool
+    ensures { result ≡ Layouts.is_can_dl len }
 {
-    matches!(bytes.len(), 0..=8 | 12 | 16 | 20 | 24 | 32 | 48 | 64)
+    matches!(len, 0..=8 | 12 | 16 | 20 | 24 | 32 | 48 | 64)
 }
 
 /// A single frame (ISO 15765-2, section 9.6.2).
-fn read_single(bytes: &[u8]) -> Result<Pdu<'_>, PduFault>
+fn single_of(bytes: &[u8]) -> Result<Pdu<'_>, PduFault>
     requires { 0 < length bytes.now }
-    ensures { layout_seen result ≡ single_of bytes.now }
+    ensures { layout_seen result ≡ Spec.single_of bytes.now }
 {
     if bytes.len() <= 8 {
         let len = (bytes[0] % 16) as usize;
@@ -163,25 +162,25 @@ fn read_single(bytes: &[u8]) -> Result<Pdu<'_>, PduFault>
 }
 
 /// A first frame (section 9.6.3).
-fn read_first(bytes: &[u8]) -> Result<Pdu<'_>, PduFault>
+fn first_of(bytes: &[u8]) -> Result<Pdu<'_>, PduFault>
     requires { length bytes.now ≤ 64 }
-    ensures { layout_seen result ≡ first_of bytes.now }
+    ensures { layout_seen result ≡ Spec.first_of bytes.now }
 {
     if bytes.len() < 8 {
         return Err(PduFault::FirstLength);
     }
     if bytes[0] % 16 == 0 && bytes[1] == 0 {
-        read_escaped_first(bytes)
+        escaped_first_of(bytes)
     } else {
-        read_short_first(bytes)
+        short_first_of(bytes)
     }
 }
 
 /// The announced length is in 12 bits of the first two bytes.
-fn read_short_first(bytes: &[u8]) -> Result<Pdu<'_>, PduFault>
+fn short_first_of(bytes: &[u8]) -> Result<Pdu<'_>, PduFault>
     requires long { 2 ≤ length bytes.now }
     requires few { length bytes.now ≤ 64 }
-    ensures { layout_seen result ≡ short_first_of bytes.now }
+    ensures { layout_seen result ≡ Spec.short_first_of bytes.now }
 {
     let announced = u16::from_be_bytes([bytes[0] % 16, bytes[1]]) as u32;
     let rx_dl = bytes.len() as u8;
@@ -198,16 +197,16 @@ fn read_short_first(bytes: &[u8]) -> Result<Pdu<'_>, PduFault>
 /// The least length that a first frame of this many bytes announces.
 fn least_first(rx_dl: u8) -> u32
     requires { 0 < rx_dl }
-    ensures { result ≡ least_first rx_dl }
+    ensures { result ≡ Layouts.least_first rx_dl }
 {
     if rx_dl == 8 { 8 } else { rx_dl as u32 - 1 }
 }
 
 /// The announced length is in the four bytes after the first two.
-fn read_escaped_first(bytes: &[u8]) -> Result<Pdu<'_>, PduFault>
+fn escaped_first_of(bytes: &[u8]) -> Result<Pdu<'_>, PduFault>
     requires long { 6 ≤ length bytes.now }
     requires few { length bytes.now ≤ 64 }
-    ensures { layout_seen result ≡ escaped_first_of bytes.now }
+    ensures { layout_seen result ≡ Spec.escaped_first_of bytes.now }
 {
     let announced = u32::from_be_bytes([bytes[2], bytes[3], bytes[4], bytes[5]]);
     if announced <= 4095 {
@@ -221,9 +220,9 @@ fn read_escaped_first(bytes: &[u8]) -> Result<Pdu<'_>, PduFault>
 }
 
 /// Flow control (section 9.6.5).
-fn read_flow(bytes: &[u8]) -> Result<Pdu<'_>, PduFault>
+fn flow_of(bytes: &[u8]) -> Result<Pdu<'_>, PduFault>
     requires { 0 < length bytes.now }
-    ensures { layout_seen result ≡ flow_of bytes.now }
+    ensures { layout_seen result ≡ Spec.flow_of bytes.now }
 {
     if bytes.len() < 3 {
         return Err(PduFault::FlowShort);

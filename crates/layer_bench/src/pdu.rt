@@ -1,7 +1,7 @@
 //! The layouts of frames in memory.
 
 use can_log::{Frame, Id, Kind};
-use isotp_pdu::{Pdu, read_pdu};
+use isotp_pdu::{Pdu, layout_of};
 use std::alloc::{AllocError, Global};
 
 /// A request; the answer's first frame, flow control and consecutive frames; and the same in CAN FD.
@@ -61,7 +61,7 @@ fn shuffled(alloc: Global) -> Result<Vec<Frame>, AllocError> {
 
 /// The numbers of what the frame says, added up.
 fn sum_of_layout(frame: &Frame) -> u64 {
-    match read_pdu(frame) {
+    match layout_of(frame) {
         Ok(Pdu::Single(bytes)) => bytes.len() as u64,
         Ok(Pdu::First { len, bytes, .. }) => (len as u64).wrapping_add(bytes.len() as u64),
         Ok(Pdu::Next { sn, bytes, .. }) => (sn as u64).wrapping_add(bytes.len() as u64),

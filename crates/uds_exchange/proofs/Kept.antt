@@ -11,8 +11,8 @@ use Rattle.uds_exchange.specs.declared.step.Step.{Step}
 use Rattle.uds_exchange.specs.declared.step.Step.TheVariants as step
 use Rattle.uds_exchange.specs.Meaning.{ItemValue, exchange, stray_of, is_from_tester, is_tester_request, is_answer_to, is_pending_reply_to}
 use Rattle.uds_exchange.specs.ItemSeen.{item_value, item_values}
-use Rattle.uds_exchange.specs.Pairing.{waiting, waiting_sid, IsWaitingAt, joined_by, joined}
-use Rattle.uds_exchange.specs.OneMessage.{step_if_open, step_at}
+use Rattle.uds_exchange.specs.Pairing.{waiting, waiting_sid, IsWaitingAt, join_by, join}
+use Rattle.uds_exchange.specs.OneMessage.{step_if_open, step_of}
 use Rattle.uds_exchange.proofs.Waiting.{sid_of, waiting-stray, waiting-request, waiting-at, waiting-answered}
 
 pub item-at : (xs : List Item) (i : ℕ) (x : Item) → x ≡ get_or xs i x → i < length xs
@@ -42,19 +42,19 @@ after step.Removed its w x = its
 after step.Hold its w x = its ++ stray_of x ∷ []
 after step.Pass its w x = its ++ stray_of x ∷ []
 
-joined_by-step : (its : List ItemValue) (w : Option (ℕ × List ℕ)) (x : Message) → joined_by w its x ≡ after (step_if_open (sid_of w) x) its w x
+join_by-step : (its : List ItemValue) (w : Option (ℕ × List ℕ)) (x : Message) → join_by w its x ≡ after (step_if_open (sid_of w) x) its w x
 unfolding after
-joined_by-step its None x = refl
-joined_by-step its (Some w) x =
+join_by-step its None x = refl
+join_by-step its (Some w) x =
     elim (cases_Bool (is_answer_to w.1 x)) [
       | inl e ↦ rw e refl
       | inr e ↦ elim (cases_Bool (is_pending_reply_to w.1 x)) [ inl q ↦ rw (e, q) refl | inr q ↦ rw (e, q) refl ]
     ]
 
-joined-step : (its : List ItemValue) (x : Message) → joined its x ≡ after (step_at (waiting_sid its) x) its (waiting its) x
+join-step : (its : List ItemValue) (x : Message) → join its x ≡ after (step_of (waiting_sid its) x) its (waiting its) x
 unfolding after
-joined-step its x =
-    elim (cases_Bool (is_tester_request x)) [ inl e ↦ rw e refl | inr e ↦ rw e (joined_by-step its (waiting its) x) ]
+join-step its x =
+    elim (cases_Bool (is_tester_request x)) [ inl e ↦ rw e refl | inr e ↦ rw e (join_by-step its (waiting its) x) ]
 
 not-request : (s : ℕ) (o : Option ℕ) (x : Message) → step.Request s ≡ step_if_open o x → ⊥
 not-request s None x h = cc
@@ -71,7 +71,7 @@ not-longer : (its : List ItemValue) (i : ItemValue) → its ++ i ∷ [] ≢ its
 not-longer its i same = omega (arith, length-append its (i ∷ []), ap length same)
 
 -- an answer needs a request that waits
-answer-waits : (w : Option (ℕ × List ℕ)) (x : Message) → step.Answer ≡ step_at (sid_of w) x → (v : ℕ × List ℕ) × (w ≡ Some v)
+answer-waits : (w : Option (ℕ × List ℕ)) (x : Message) → step.Answer ≡ step_of (sid_of w) x → (v : ℕ × List ℕ) × (w ≡ Some v)
 answer-waits (Some v) x h = (v, refl)
 answer-waits None x h =
     elim (cases_Bool (is_tester_request x)) [
@@ -80,46 +80,46 @@ answer-waits None x h =
     ]
 
 module _ (its now : List ItemValue) (is : its ≡ now) (open_sid : Option ℕ) (last : ℕ) (kept : IsWaitingAt its open_sid last) (x : Message) where
-  joins : (r : Step) → r ≡ step_at open_sid x → joined now x ≡ after r its (waiting its) x
+  joins : (r : Step) → r ≡ step_of open_sid x → join now x ≡ after r its (waiting its) x
   joins r h =
-      ap (λ l. joined l x) (sym is)
-      ∙ joined-step its x
-      ∙ ap (λ o. after (step_at o x) its (waiting its) x) kept.first_byte
+      ap (λ l. join l x) (sym is)
+      ∙ join-step its x
+      ∙ ap (λ o. after (step_of o x) its (waiting its) x) kept.first_byte
       ∙ ap (λ r. after r its (waiting its) x) (sym h)
 
-  pub joins-request : (s : ℕ) → step.Request s ≡ step_at open_sid x → its ++ exchange x.1 None ∷ [] ≡ joined now x
+  pub joins-request : (s : ℕ) → step.Request s ≡ step_of open_sid x → its ++ exchange x.1 None ∷ [] ≡ join now x
   unfolding after
   joins-request s h = sym (joins (step.Request s) h)
 
   -- a request's first byte is what the code keeps of it
-  pub request-sid : (s : ℕ) → step.Request s ≡ step_at open_sid x → s ≡ sid x.1
+  pub request-sid : (s : ℕ) → step.Request s ≡ step_of open_sid x → s ≡ sid x.1
   request-sid s h =
       elim (cases_Bool (is_tester_request x)) [
         | inl e ↦ (let same : step.Request s ≡ step.Request (sid x.1) = rw e at h in cc)
         | inr e ↦ absurd (not-request s open_sid x (rw e at h))
       ]
 
-  pub joins-stray : (r : Step) → r ≡ step_at open_sid x → IsStray r → its ++ stray_of x ∷ [] ≡ joined now x
+  pub joins-stray : (r : Step) → r ≡ step_of open_sid x → IsStray r → its ++ stray_of x ∷ [] ≡ join now x
   unfolding after
   joins-stray r h (inl hold) = sym (joins step.Hold (sym hold ∙ h))
   joins-stray r h (inr pass) = sym (joins step.Pass (sym pass ∙ h))
 
-  pub answered-at : step.Answer ≡ step_at open_sid x → (w : ℕ × List ℕ) × (waiting its ≡ Some w)
-  answered-at h = answer-waits (waiting its) x (h ∙ ap (λ o. step_at o x) (sym kept.first_byte))
+  pub answered-at : step.Answer ≡ step_of open_sid x → (w : ℕ × List ℕ) × (waiting its ≡ Some w)
+  answered-at h = answer-waits (waiting its) x (h ∙ ap (λ o. step_of o x) (sym kept.first_byte))
 
-  pub answered-below : step.Answer ≡ step_at open_sid x → last < length its
+  pub answered-below : step.Answer ≡ step_of open_sid x → last < length its
   answered-below h =
       let w = answered-at h in
       omega (arith, kept.place w.0 w.1, slice_get_within its w.0.0 (exchange w.0.1 None) (waiting-at its w.0 w.1))
 
   -- the place holds the exchange that waits
-  pub answered-exchange : (h : step.Answer ≡ step_at open_sid x) → slice_get its last ≡ Some (exchange (answered-at h).0.1 None)
+  pub answered-exchange : (h : step.Answer ≡ step_of open_sid x) → slice_get its last ≡ Some (exchange (answered-at h).0.1 None)
   unfolding answered-at
   answered-exchange h =
       let w = answered-at h in
       ap (slice_get its) (sym (kept.place w.0 w.1)) ∙ waiting-at its w.0 w.1
 
-  pub joins-answer : (h : step.Answer ≡ step_at open_sid x) → slice_set its last (exchange (answered-at h).0.1 (Some x.1)) ≡ joined now x
+  pub joins-answer : (h : step.Answer ≡ step_of open_sid x) → slice_set its last (exchange (answered-at h).0.1 (Some x.1)) ≡ join now x
   unfolding after answered-at
   joins-answer h =
       let w = answered-at h in
@@ -127,10 +127,10 @@ module _ (its now : List ItemValue) (is : its ≡ now) (open_sid : Option ℕ) (
       ∙ sym (joins step.Answer h ∙ ap (λ o. after step.Answer its o x) w.1)
 
   -- a message with one of these steps changes the items
-  pub changes-stray : (r : Step) → r ≡ step_at open_sid x → IsStray r → joined now x ≢ now
+  pub changes-stray : (r : Step) → r ≡ step_of open_sid x → IsStray r → join now x ≢ now
   changes-stray r h stray same = not-longer its (stray_of x) (joins-stray r h stray ∙ same ∙ sym is)
 
-  pub changes-answer : step.Answer ≡ step_at open_sid x → joined now x ≢ now
+  pub changes-answer : step.Answer ≡ step_of open_sid x → join now x ≢ now
   unfolding after
   changes-answer h same =
       let w = answered-at h in

@@ -11,7 +11,7 @@ use Rattle.uds_message.specs.Message.{is_request, is_response_sid}
 use Rattle.uds_exchange.specs.Meaning.{ItemValue, exchange, stray, is_tester_request, is_answer_to, is_pending_reply_to, meaning, flattened, removed_messages}
 use Rattle.uds_exchange.specs.Roles.{IsOpenBehind}
 use Rattle.uds_exchange.specs.Order.{has_exchange, open_request_in, open_request, held_in, held, early, rejection_of}
-use Rattle.uds_exchange.specs.Pairing.{waiting, joined_by, joined}
+use Rattle.uds_exchange.specs.Pairing.{waiting, join_by, join}
 use Rattle.uds_exchange.proofs.Counts.{none-lost}
 use Rattle.uds_exchange.proofs.Waiting.{request_of, same-request, waiting-stray, waiting-answered}
 use Rattle.uds_exchange.proofs.Bools.{any-append, any-first}
@@ -52,7 +52,7 @@ abbrev NoAnswerHeld : List ItemValue → Type 0
 NoAnswerHeld its = (w : ℕ × List ℕ) → waiting its ≡ Some w → list_any (is_answer_to w.1) (held_in its) ≡ false
 
 no-answer-joins : (its : List ItemValue) (x : Message) (o : Option (ℕ × List ℕ)) → NoAnswerHeld its → waiting its ≡ o
-    → NoAnswerHeld (joined_by o its x)
+    → NoAnswerHeld (join_by o its x)
 no-answer-joins its x None s h = λ w k. absurd (none-some _ (sym h ∙ sym (waiting-stray its x.0 x.1) ∙ k))
 no-answer-joins its x (Some v) s h =
     elim (cases_Bool (is_answer_to v.1 x)) [
@@ -65,7 +65,7 @@ no-answer-joins its x (Some v) s h =
       ]
     ]
 
-no-answer-join : (its : List ItemValue) (x : Message) → NoAnswerHeld its → NoAnswerHeld (joined its x)
+no-answer-join : (its : List ItemValue) (x : Message) → NoAnswerHeld its → NoAnswerHeld (join its x)
 no-answer-join its x s =
     elim (cases_Bool (is_tester_request x)) [
       | inl e ↦ rw e (λ w k. rw (early-request its x.1).1 refl)
@@ -93,7 +93,7 @@ rejects (s ∷ bytes) h =
 -- an answer goes before what is held
 answered : (its : List ItemValue) (w : ℕ × List ℕ) → waiting its ≡ Some w
     → (x : Message) → is_tester_request x ≡ false → is_answer_to w.1 x ≡ true
-    → flattened (joined its x) ≡ early_in its ++ x ∷ held_in its
+    → flattened (join its x) ≡ early_in its ++ x ∷ held_in its
 answered its w h x r e =
     let set = early-answered its w x.1 h in
     rw (r, h, e) (

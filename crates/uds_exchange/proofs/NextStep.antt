@@ -6,9 +6,9 @@ use Rattle.uds_message.specs.Message.{sid}
 use Rattle.uds_exchange.specs.Meaning.{ItemValue, is_tester_request, is_answer_to, is_pending_reply_to, meaning, flattened}
 use Rattle.uds_exchange.specs.Order.{held_in, held, early}
 use Rattle.uds_exchange.specs.Orderer.{OrdererValue, stands_after, IsDue, PutsDue, IsHeld, StopsDue}
-use Rattle.uds_exchange.specs.Pairing.{waiting, waiting_sid, joined_by, joined}
-use Rattle.uds_exchange.specs.OneMessage.{step_at}
-use Rattle.uds_exchange.specs.Steps.{due_for, due, next_for, next, Stops}
+use Rattle.uds_exchange.specs.Pairing.{waiting, waiting_sid, join_by, join}
+use Rattle.uds_exchange.specs.OneMessage.{step_of}
+use Rattle.uds_exchange.specs.Steps.{due_for, due, advance_for, advance, Stops}
 use Rattle.uds_exchange.specs.Sink.{AfterOk, AfterErr, Puts}
 use Rattle.uds_exchange.specs.declared.orderer.OrderFault.{OrderFault}
 use Rattle.uds_exchange.specs.declared.orderer.OrderFault.TheVariants as fault
@@ -31,7 +31,7 @@ stands-is M =
     (ap (option_map sid) (open-request-waits (meaning M)) ∙ sid-of-request (waiting (meaning M)))
 
 due-by-same : (w : Option (ℕ × List ℕ)) (xs : List Message) (x : Message) → is_tester_request x ≡ false
-    → due_for (step_at (sid_of w) x) xs x ≡ due_by w xs x
+    → due_for (step_of (sid_of w) x) xs x ≡ due_by w xs x
 due-by-same None xs x r = rw r refl
 due-by-same (Some w) xs x r =
     elim (cases_Bool (is_answer_to w.1 x)) [
@@ -44,7 +44,7 @@ due-same its x =
     elim (cases_Bool (is_tester_request x)) [ inl e ↦ rw e refl | inr e ↦ (due-by-same (waiting its) (held_in its) x e ∙ rw e refl) ]
 
 next-by : (its : List ItemValue) (x : Message) (w : Option (ℕ × List ℕ)) → is_tester_request x ≡ false → waiting its ≡ w
-    → standing (joined_by w its x) ≡ next_for (step_at (sid_of w) x) (standing its) x
+    → standing (join_by w its x) ≡ advance_for (step_of (sid_of w) x) (standing its) x
 next-by its x None r h = rw (r, waiting-stray its x.0 x.1, h, (early-stray its x.0 x.1 h).1, none-held its h) refl
 next-by its x (Some w) r h =
     elim (cases_Bool (is_answer_to w.1 x)) [
@@ -55,25 +55,25 @@ next-by its x (Some w) r h =
       ]
     ]
 
-next-same : (its : List ItemValue) (x : Message) → standing (joined its x) ≡ next (standing its) x
+next-same : (its : List ItemValue) (x : Message) → standing (join its x) ≡ advance (standing its) x
 next-same its x =
     elim (cases_Bool (is_tester_request x)) [
       | inl e ↦ rw (e, waiting-request its x.1, (early-request its x.1).1) refl
-      | inr e ↦ (ap (λ l. standing l) (let j : joined its x ≡ joined_by (waiting its) its x = rw e refl in j) ∙ next-by its x (waiting its) e refl)
+      | inr e ↦ (ap (λ l. standing l) (let j : join its x ≡ join_by (waiting its) its x = rw e refl in j) ∙ next-by its x (waiting its) e refl)
     ]
 
 -- what an orderer does leads to where it stands after the longer list
-pub stands-next : (M : List Message) (x : Message) → next (stands_after M) x ≡ stands_after (M ++ x ∷ [])
+pub stands-next : (M : List Message) (x : Message) → advance (stands_after M) x ≡ stands_after (M ++ x ∷ [])
 stands-next M x =
-    ap (λ o. next o x) (stands-is M)
+    ap (λ o. advance o x) (stands-is M)
     ∙ sym (next-same (meaning M) x)
     ∙ ap standing (sym (meaning-append M x))
     ∙ sym (stands-is (M ++ x ∷ []))
 
 -- so what it holds with one more message is what is held after the longer list
-pub held-with : (M : List Message) (x : Message) (o : OrdererValue) → o ≡ stands_after M → (next o x).holds ≡ o.holds ++ x ∷ [] → IsHeld M x
+pub held-with : (M : List Message) (x : Message) (o : OrdererValue) → o ≡ stands_after M → (advance o x).holds ≡ o.holds ++ x ∷ [] → IsHeld M x
 held-with M x o is holds =
-    ap (λ (q : OrdererValue). q.holds) (sym (stands-next M x) ∙ ap (λ (q : OrdererValue). next q x) (sym is))
+    ap (λ (q : OrdererValue). q.holds) (sym (stands-next M x) ∙ ap (λ (q : OrdererValue). advance q x) (sym is))
     ∙ holds ∙ ap (λ (q : OrdererValue). q.holds ++ x ∷ []) is
 
 pub early-due : (M : List Message) (x : Message) → early (M ++ x ∷ []) ≡ early M ++ due (stands_after M) x

@@ -6,7 +6,7 @@ use Rattle.can_log.specs.declared.frame.Dir.TheVariants as dir
 use Rattle.uds_message.specs.Message.{is_request}
 use Rattle.uds_exchange.specs.Laws.{open_with, OpenRequestGoesOn, removed_with, RemovedGoOn}
 use Rattle.uds_exchange.specs.Meaning.{ItemValue, exchange, is_tester_request, is_answer_to, is_pending_reply_to, meaning, removed_messages}
-use Rattle.uds_exchange.specs.Pairing.{waiting, joined_by, joined}
+use Rattle.uds_exchange.specs.Pairing.{waiting, join_by, join}
 use Rattle.uds_exchange.specs.Roles.{as_request, those_removed}
 use Rattle.uds_exchange.proofs.MustWait.{open-request-waits}
 use Rattle.uds_exchange.proofs.OneMore.{meaning-append}
@@ -21,7 +21,7 @@ request-opens None x e = rw e refl
 request-opens (Some request) x e = rw e refl
 
 waits-by : (its : List ItemValue) (x : Message) (w : Option (ℕ × List ℕ)) → is_tester_request x ≡ false → waiting its ≡ w
-    → request_of (waiting (joined_by w its x)) ≡ open_with (request_of w) x
+    → request_of (waiting (join_by w its x)) ≡ open_with (request_of w) x
 waits-by its x None r h = rw (r, waiting-stray its x.0 x.1, h) refl
 waits-by its x (Some w) r h =
     elim (cases_Bool (is_answer_to w.1 x)) [
@@ -32,12 +32,12 @@ waits-by its x (Some w) r h =
       ]
     ]
 
-waits-with : (its : List ItemValue) (x : Message) → request_of (waiting (joined its x)) ≡ open_with (request_of (waiting its)) x
+waits-with : (its : List ItemValue) (x : Message) → request_of (waiting (join its x)) ≡ open_with (request_of (waiting its)) x
 waits-with its x =
     elim (cases_Bool (is_tester_request x)) [
-      | inl e ↦ (let begun : joined its x ≡ its ++ exchange x.1 None ∷ [] = rw e refl in
+      | inl e ↦ (let begun : join its x ≡ its ++ exchange x.1 None ∷ [] = rw e refl in
           ap (λ l. request_of (waiting l)) begun ∙ ap request_of (waiting-request its x.1) ∙ request-opens (request_of (waiting its)) x e)
-      | inr e ↦ (let by : joined its x ≡ joined_by (waiting its) its x = rw e refl in
+      | inr e ↦ (let by : join its x ≡ join_by (waiting its) its x = rw e refl in
           ap (λ l. request_of (waiting l)) by ∙ waits-by its x (waiting its) e refl)
     ]
 

@@ -15,5 +15,5 @@ step_if_open (Some service) message =
     else step.Hold
 
 -- what becomes of a message, where this is the first byte of the open request
-abbrev pub step_at : Option ℕ → Message → Step
-step_at open_sid message = if is_tester_request message then step.Request (sid message.1) else step_if_open open_sid message
+abbrev pub step_of : Option ℕ → Message → Step
+step_of open_sid message = if is_tester_request message then step.Request (sid message.1) else step_if_open open_sid message

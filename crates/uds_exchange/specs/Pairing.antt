@@ -27,14 +27,14 @@ pub record IsWaitingAt (items : List ItemValue) (open_sid : Option ℕ) (last : 
   pub place : (found : ℕ × List ℕ) → waiting items ≡ Some found → found.0 ≡ last
 
 -- the items after one more message that is no request, where this exchange waits
-abbrev pub joined_by : Option (ℕ × List ℕ) → List ItemValue → Message → List ItemValue
-joined_by None items message = items ++ stray_of message ∷ []
-joined_by (Some place) items message =
+abbrev pub join_by : Option (ℕ × List ℕ) → List ItemValue → Message → List ItemValue
+join_by None items message = items ++ stray_of message ∷ []
+join_by (Some place) items message =
     if is_answer_to place.1 message then slice_set items place.0 (exchange place.1 (Some message.1))
     else if is_pending_reply_to place.1 message then items
     else items ++ stray_of message ∷ []
 
 -- the items after one more message
-abbrev pub joined : List ItemValue → Message → List ItemValue
-joined items message =
-    if is_tester_request message then items ++ exchange message.1 None ∷ [] else joined_by (waiting items) items message
+abbrev pub join : List ItemValue → Message → List ItemValue
+join items message =
+    if is_tester_request message then items ++ exchange message.1 None ∷ [] else join_by (waiting items) items message

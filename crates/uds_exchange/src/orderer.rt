@@ -5,7 +5,8 @@ ghost use Rattle.can_log.specs.Dir.{Message};
 ghost use Rattle.uds_exchange.specs.Order.{held as held_after};
 ghost use Rattle.uds_exchange.specs.Sink.{Puts, Fails};
 ghost use Rattle.uds_exchange.specs.Orderer.{stands_after, PutsDue, IsHeld, StopsDue, Leaves, StopsAtEnd};
-ghost use Rattle.uds_exchange.specs.Steps.{due, due_for, next, Stops};
+ghost use Rattle.uds_exchange.specs.Steps as Spec;
+ghost use Rattle.uds_exchange.specs.Steps.{due, due_for, Stops};
 ghost use Rattle.uds_exchange.specs.declared.orderer.OrderFault.TheVariants.{Memory, Failed};
 
 use crate::held::Held;
@@ -112,7 +113,7 @@ impl Orderer {
         message: &[u8],
         sink: &mut S,
     ) -> Result<(), OrderFault<S::Fault>>
-        ensures ok { OnOk result ((self.old.failed ≡ false) × (self.new ≡ next self.old (dir, message.now))
+        ensures ok { OnOk result ((self.old.failed ≡ false) × (self.new ≡ Spec.advance self.old (dir, message.now))
             × Puts S.after_ok sink.old (due self.old (dir, message.now)) sink.new) }
         ensures err { IfErr result (λ fault. Stops S.after_ok S.after_err (dir, message.now)
             self.old sink.old self.new sink.new fault) }

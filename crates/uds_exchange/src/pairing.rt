@@ -4,7 +4,7 @@ ghost use Rattle.std.specs.Prelude.{◌≡◌, ◌≢◌, ◌<◌, ◌++◌, ◌
 ghost use Rattle.can_log.specs.Dir.{Message};
 ghost use Rattle.uds_exchange.specs.Meaning.{meaning, exchange};
 ghost use Rattle.uds_exchange.specs.ItemSeen.{item_value, item_values};
-ghost use Rattle.uds_exchange.specs.Pairing.{joined};
+ghost use Rattle.uds_exchange.specs.Pairing as Spec;
 
 use crate::item::Item;
 use crate::meaning::Meaning;
@@ -71,9 +71,9 @@ impl Pairing {
 
     /// Takes one more message, by the items and the open request alone.
     fn join(&mut self, dir: Dir, message: &[u8]) -> Result<(), AllocError>
-        ensures ok { OnOk result (self.new ≡ joined self.old (dir, message.now)) }
+        ensures ok { OnOk result (self.new ≡ Spec.join self.old (dir, message.now)) }
         ensures err { OnErr result (self.new ≡ self.old) }
-        ensures changes { OnErr result (joined self.old (dir, message.now) ≢ self.old) }
+        ensures changes { OnErr result (Spec.join self.old (dir, message.now) ≢ self.old) }
     {
         match step_of(self.open_sid, dir, message) {
             Step::Request(sid) => {

@@ -1,10 +1,10 @@
 //! What becomes of a message, by the request that is open.
 
 ghost use Rattle.std.specs.Prelude.{◌≡◌};
-ghost use Rattle.uds_exchange.specs.OneMessage.{step_at};
+ghost use Rattle.uds_exchange.specs.OneMessage as Spec;
 
 use can_log::Dir;
-use uds_message::{Answer, TesterKind, answers, tester_kind};
+use uds_message::{Answer, TesterKind, answer_to, tester_kind};
 
 /// What becomes of a message of a session, by the request that is open.
 #[derive(Clone, Copy, Debug, PartialEq, Eq)]
@@ -24,7 +24,7 @@ pub enum Step {
 /// What becomes of a message, where `open_sid` is the first byte of the request that waits for its answer. Nothing else of the
 /// messages before it has a say, so that whoever only counts replies need hold none.
 pub fn step_of(open_sid: Option<u8>, dir: Dir, message: &[u8]) -> Step
-    ensures { result ≡ step_at open_sid (dir, message.now) }
+    ensures { result ≡ Spec.step_of open_sid (dir, message.now) }
 {
     let stray = if open_sid.is_some() {
         Step::Hold
@@ -37,7 +37,7 @@ pub fn step_of(open_sid: Option<u8>, dir: Dir, message: &[u8]) -> Step
             TesterKind::KeepAlive | TesterKind::Other => stray,
         },
         (Dir::Unit, None) => stray,
-        (Dir::Unit, Some(sid)) => match answers(sid, message) {
+        (Dir::Unit, Some(sid)) => match answer_to(sid, message) {
             Answer::Final => Step::Answer,
             Answer::Pending => Step::Removed,
             Answer::No => stray,

@@ -56,8 +56,8 @@ abbrev pub is_pending_for : ℕ → List ℕ → Bool
 is_pending_for service message = not (is_response_sid service) && is_negative service is_response_pending message
 
 -- what a message of the tester is
-abbrev pub kind_of : List ℕ → TesterKind
-kind_of message = if is_request message then Request else if is_keep_alive message then KeepAlive else Other
+abbrev pub tester_kind : List ℕ → TesterKind
+tester_kind message = if is_request message then Request else if is_keep_alive message then KeepAlive else Other
 
 -- what a message of the unit is to a request to the service
 abbrev pub answer_to : ℕ → List ℕ → Answer

@@ -104,5 +104,5 @@ code_name_in [] code = None
 code_name_in (row ∷ rows) code = if code == row.code then Some row.name else code_name_in rows code
 
 -- its name in the table of response codes
-abbrev pub name_of_code : ℕ → Option (List ℕ)
-name_of_code code = code_name_in response_codes code
+abbrev pub code_name : ℕ → Option (List ℕ)
+code_name code = code_name_in response_codes code

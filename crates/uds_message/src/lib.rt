@@ -6,9 +6,9 @@
 //! belongs to which request.
 //!
 //! ```text
-//! tester_kind(&[0x22, 0xF1, 0x90])           Request: ReadDataByIdentifier
-//! answers(0x22, &[0x7F, 0x22, 0x78])         Pending: the unit needs more time
-//! answers(0x22, &[0x62, 0xF1, 0x90, 0x41])   Final: the positive response
+//! tester_kind(&[0x22, 0xF1, 0x90])             Request: ReadDataByIdentifier
+//! answer_to(0x22, &[0x7F, 0x22, 0x78])         Pending: the unit needs more time
+//! answer_to(0x22, &[0x62, 0xF1, 0x90, 0x41])   Final: the positive response
 //! ```
 #![tactic(auto)]
 
@@ -16,6 +16,7 @@ mod message;
 mod names;
 
 pub use message::{
-    Answer, NEGATIVE_RESPONSE, TesterKind, answers, response_code, sid, suppresses, tester_kind,
+    Answer, NEGATIVE_RESPONSE, TesterKind, answer_to, is_suppressing, response_code, sid,
+    tester_kind,
 };
 pub use names::{code_name, service_name};

@@ -1,8 +1,7 @@
 //! What a message is, by its bytes.
 
 ghost use Rattle.std.specs.Prelude.{◌≡◌};
-ghost use Rattle.uds_message.specs.Message.{kind_of, answer_to, is_suppressing};
-ghost use Rattle.uds_message.specs.Message.{is_response_sid as has_response_bit, sid as first_byte, response_code as third_byte};
+ghost use Rattle.uds_message.specs.Message as Spec;
 
 use crate::names::has_sub_function;
 
@@ -45,7 +44,7 @@ pub enum Answer {
 
 /// The service identifier of a message: its first byte, or 0 where it has none.
 pub fn sid(message: &[u8]) -> u8
-    ensures { result ≡ first_byte message.now }
+    ensures { result ≡ Spec.sid message.now }
 {
     match message {
         [] => 0,
@@ -55,7 +54,7 @@ pub fn sid(message: &[u8]) -> u8
 
 /// The response code of a negative response: its third byte, or 0 where it has none.
 pub fn response_code(response: &[u8]) -> u8
-    ensures { result ≡ third_byte response.now }
+    ensures { result ≡ Spec.response_code response.now }
 {
     match response {
         [_, _, code, ..] => *code,
@@ -65,7 +64,7 @@ pub fn response_code(response: &[u8]) -> u8
 
 /// Tells requests from keep-alives by the bytes alone (ISO 14229-1, the table of service identifiers).
 pub fn tester_kind(message: &[u8]) -> TesterKind
-    ensures { result ≡ kind_of message.now }
+    ensures { result ≡ Spec.tester_kind message.now }
 {
     match message {
         [] => TesterKind::Other,
@@ -80,8 +79,8 @@ pub fn tester_kind(message: &[u8]) -> TesterKind
 
 /// What a message of the unit is to a request whose first byte is `sid` (ISO 14229-1, positive and negative
 /// response messages). Where bit 6 of `sid` is set there is no such request, and the answer is `No`.
-pub fn answers(sid: u8, message: &[u8]) -> Answer
-    ensures { result ≡ answer_to sid message.now }
+pub fn answer_to(sid: u8, message: &[u8]) -> Answer
+    ensures { result ≡ Spec.answer_to sid message.now }
 {
     if is_response_sid(sid) {
         return Answer::No;
@@ -107,8 +106,8 @@ pub fn answers(sid: u8, message: &[u8]) -> Answer
 
 /// Whether a request asks the unit to keep a positive response to itself (ISO 14229-1, the
 /// suppressPosRspMsgIndicationBit). This changes nothing in which message answers the request.
-pub fn suppresses(message: &[u8]) -> bool
-    ensures { result ≡ is_suppressing message.now }
+pub fn is_suppressing(message: &[u8]) -> bool
+    ensures { result ≡ Spec.is_suppressing message.now }
 {
     match message {
         [sid, sub_function, ..] => has_sub_function(*sid)
@@ -119,7 +118,7 @@ pub fn suppresses(message: &[u8]) -> bool
 
 /// Whether bit 6 is set, which tells the identifiers of responses.
 fn is_response_sid(sid: u8) -> bool
-    ensures { result ≡ has_response_bit sid }
+    ensures { result ≡ Spec.is_response_sid sid }
 {
     sid & POSITIVE_RESPONSE != 0
 }

@@ -1,7 +1,7 @@
 //! The names of services and of response codes.
 
 ghost use Rattle.std.specs.Prelude.{◌≡◌, true, false, option_map};
-ghost use Rattle.uds_message.specs.Tables.{service_row, name_of_code, has_sub_function as is_with_sub_function};
+ghost use Rattle.uds_message.specs.Tables as Spec;
 
 /// A row of the table of services.
 #[derive(Clone, Copy)]
@@ -13,14 +13,14 @@ struct Row {
 /// The name of a service by its identifier, in this project's spelling, which has neither blanks nor hyphens; `None` where
 /// the table has no such service.
 pub fn service_name(sid: u8) -> Option<&'static str>
-    ensures { option_map (λ name. name.now) result ≡ option_map (λ row. row.name) (service_row sid) }
+    ensures { option_map (λ name. name.now) result ≡ option_map (λ row. row.name) (Spec.service_row sid) }
 {
     service(sid).map(|service| service.name)
 }
 
 /// Whether the service has a sub-function, and so a bit to suppress the positive response.
 pub(crate) fn has_sub_function(sid: u8) -> bool
-    ensures { result ≡ is_with_sub_function sid }
+    ensures { result ≡ Spec.has_sub_function sid }
 {
     match service(sid) {
         Some(service) => service.has_sub_function,
@@ -34,7 +34,7 @@ fn service(sid: u8) -> Option<Row>
       sid = sid;
       name = row.name.now;
       has_sub_function = row.has_sub_function;
-    }) result ≡ service_row sid }
+    }) result ≡ Spec.service_row sid }
 {
     match sid {
         0x10 => Some(with_sub_function("DiagnosticSessionControl")),
@@ -91,7 +91,7 @@ fn without_sub_function(name: &'static str) -> Row
 /// The name of a negative response code, in this project's spelling, which has neither blanks nor hyphens; `None` where the
 /// table has no such code.
 pub fn code_name(code: u8) -> Option<&'static str>
-    ensures { option_map (λ name. name.now) result ≡ name_of_code code }
+    ensures { option_map (λ name. name.now) result ≡ Spec.code_name code }
 {
     match code {
         0x10 => Some("generalReject"),

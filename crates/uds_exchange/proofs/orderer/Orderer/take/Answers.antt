@@ -1,7 +1,7 @@
 use Rattle.std.proofs.Common.{◌∙◌, ap}
 use Rattle.can_log.specs.Dir.{Message}
 use Rattle.uds_exchange.specs.Orderer.{OrdererValue}
-use Rattle.uds_exchange.specs.Steps.{next}
+use Rattle.uds_exchange.specs.Steps.{advance}
 use Rattle.uds_exchange.proofs.Variants.{on_ok_along, if_err_along}
 use Rattle.uds_exchange.proofs.NextStep.{stands-next, puts-due, held-with, stops-due}
 use Rattle.uds_exchange.proofs.orderer.Orderer.take.Goals as goal
@@ -9,7 +9,7 @@ use Rattle.uds_exchange.proofs.orderer.Orderer.take.Goals as goal
 pub returns-clause-stands : goal.returns-clause-stands
 returns-clause-stands g c =
     let x : Message = (c.args.dir, c.args.message.now) in
-    on_ok_along c.advance.result _ _ (λ h M is. h.1 ∙ ap (λ (o : OrdererValue). next o x) is ∙ stands-next M x) c.advance.ensures.ok
+    on_ok_along c.advance.result _ _ (λ h M is. h.1 ∙ ap (λ (o : OrdererValue). advance o x) is ∙ stands-next M x) c.advance.ensures.ok
 
 pub returns-clause-puts : goal.returns-clause-puts
 returns-clause-puts g c =
