@@ -5,7 +5,7 @@ use Rattle.std.proofs.lemmas.List.{append-nil}
 use Rattle.can_log.specs.Dir.{Message}
 use Rattle.can_log.specs.declared.frame.Dir.{Dir}
 use Rattle.can_log.specs.declared.frame.Id.{Id}
-use Rattle.isotp_segment.specs.CanonicalFrames.{total_count, canonical_frames}
+use Rattle.isotp_segment.specs.CanonicalFrames.{frame_count, canonical_frames}
 use Rattle.isotp_segment.specs.Timed.{timed, HasFrames, all_frames}
 use Rattle.isotp_segment.proofs.Frames.{length-canonical_frames}
 use Rattle.isotp_segment.proofs.TimedFrames.{StandFrom, frames-stand, length-timed}
@@ -21,7 +21,7 @@ pub all-of-them : (limit : ℕ) (M : List Message) → AllByRecursion (HasFrames
 all-of-them limit M sizes = record { before = []; splits = refl; place = refl; sizes = sizes }
 
 pub those-behind : (limit : ℕ) (frames : List (Dir × List ℕ)) (x : Message) (M : List Message) (begun : ℕ)
-    → AreLastFrom limit frames (x ∷ M) begun → AreLastFrom limit frames M (begun + total_count (length x.1))
+    → AreLastFrom limit frames (x ∷ M) begun → AreLastFrom limit frames M (begun + frame_count (length x.1))
 those-behind limit frames x M begun last = record {
   before = last.before ++ canonical_frames limit x.0 x.1;
   splits = last.splits ∙ sym (append_assoc last.before (canonical_frames limit x.0 x.1) (all_frames limit M));

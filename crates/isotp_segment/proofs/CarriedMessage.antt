@@ -14,7 +14,7 @@ use Rattle.isotp_receive.specs.OnTime.{RestartsTimer}
 use Rattle.isotp_receive.specs.Recording.{IsConsecutiveFrame, EachNumbered, IsSegmented, unsegmented, segmented, IsTransfer, IsIn, IsIdle}
 use Rattle.isotp_receive.specs.Places as places
 use Rattle.isotp_receive.proofs.Promises.{places_agree_on_bytes}
-use Rattle.isotp_segment.specs.CanonicalFrames.{consecutive_count, filled, first_control, consecutive_control, continue_control, room_in_first, place_of, total_count}
+use Rattle.isotp_segment.specs.CanonicalFrames.{consecutive_count, filled, first_control, consecutive_control, continue_control, room_in_first, place_of, frame_count}
 use Rattle.isotp_segment.proofs.Ranges.{rising-range, in-range}
 use Rattle.isotp_segment.proofs.Bytes.{filled-holds}
 use Rattle.isotp_segment.proofs.Layouts.{layout-continue}
@@ -63,7 +63,7 @@ module _ (identifier : Dir → Id) (line micros : ℕ) (T : List Entry) (d : Dir
       omega (arith, length-take-le in_first message (omega arith))
 
   -- the frame before consecutive frame `number` is its reference
-  reference-of : (number : ℕ) → 1 ≤ number → 1 + number < total_count len
+  reference-of : (number : ℕ) → 1 ≤ number → 1 + number < frame_count len
       → (x : Entry) × At T (begun + number) x × RestartsTimer (role d x) × (x.micros ≡ micros + (begun + number) * 1000)
   reference-of zero one below = absurd (omega arith)
   reference-of (suc zero) one below =
@@ -80,7 +80,7 @@ module _ (identifier : Dir → Id) (line micros : ℕ) (T : List Entry) (d : Dir
   part number one most =
       let all = total-long len (omega arith) in
       let few = room_in_first-few len in
-      let below : 1 + number < total_count len = omega arith in
+      let below : 1 + number < frame_count len = omega arith in
       let before = reference-of number one below in
       let bytes = drop (place_of len number) message in
       record {
@@ -169,7 +169,7 @@ module _ (identifier : Dir → Id) (line micros limit : ℕ) (bits : limit < 2 ^
   idle-continue p = rw (layout-continue (identifier (other_direction d))) tt
 
   -- each frame of a message is at one of its positions, or is the continue frame
-  pub at-own : (p : ℕ) (e : Entry) → begun ≤ p → p < begun + total_count (length message) → At T p e → IsIn p (positions_of message begun) ⊎ IsIdle (layout_of e.frame)
+  pub at-own : (p : ℕ) (e : Entry) → begun ≤ p → p < begun + frame_count (length message) → At T p e → IsIn p (positions_of message begun) ⊎ IsIdle (layout_of e.frame)
   at-own p e above below there = elim (cases_Bool (nat_le (length message) 7)) [
     | inl t ↦ (let one = total-short (length message) (leb-true (length message) 7 t) in inl (rw t (inl (omega arith))))
     | inr t ↦

@@ -12,7 +12,7 @@ use Rattle.isotp_receive.specs.Verdict.{verdict}
 use Rattle.isotp_receive.specs.FramesOf.{AreGivenTheirFrames}
 use Rattle.isotp_receive.specs.CleanTrace.{IsCleanEvent, EachClean, IsClean}
 use Rattle.isotp_receive.proofs.Promises.{recording_delivers_by_frames, get-here}
-use Rattle.isotp_segment.specs.CanonicalFrames.{total_count}
+use Rattle.isotp_segment.specs.CanonicalFrames.{frame_count}
 use Rattle.isotp_segment.specs.Timed.{timed, HasFrames, all_frames}
 use Rattle.isotp_segment.proofs.TimedFrames.{StandFrom}
 use Rattle.isotp_segment.proofs.AllFrames.{AreLastFrom, all-of-them, those-behind, those-of-first, none-left}
@@ -43,7 +43,7 @@ module _ (identifier : Dir → Id) (line micros limit : ℕ) (bits : limit < 2 ^
   }
 
   others-sent : (x : Message) (M : List Message) (begun : ℕ) (T : List Entry) → AreSent (x ∷ M) begun T
-      → AreSent M (begun + total_count (length x.1)) T
+      → AreSent M (begun + frame_count (length x.1)) T
   others-sent x M begun T sent = record {
     timed_frames = sent.timed_frames;
     last = those-behind limit frames x M begun sent.last;
@@ -60,7 +60,7 @@ module _ (identifier : Dir → Id) (line micros limit : ℕ) (bits : limit < 2 ^
   all-clean [] begun past rest e there least sent =
       absurd (omega (arith, slice_get_within (past ++ rest) (length past) e there, sent-to-end begun (past ++ rest) sent))
   all-clean (x ∷ M) begun past rest e there least sent =
-      let behind = begun + total_count (length x.1) in
+      let behind = begun + frame_count (length x.1) in
       elim (cases_lt (length past) behind) [
         | inl below ↦
             each-is-clean identifier line micros limit bits past rest e there x.0 x.1 begun
@@ -70,7 +70,7 @@ module _ (identifier : Dir → Id) (line micros limit : ℕ) (bits : limit < 2 ^
 
   all-closed : (M : List Message) (begun : ℕ) (T : List Entry) → AreSent M begun T → (heard : Dir) → IsClosedAt limit T heard (length T)
   all-closed [] begun T sent heard = subst (IsClosedAt limit T heard) (sent-to-end begun T sent) (sent.closed heard)
-  all-closed (x ∷ M) begun T sent heard = all-closed M (begun + total_count (length x.1)) T (others-sent x M begun T sent) heard
+  all-closed (x ∷ M) begun T sent heard = all-closed M (begun + frame_count (length x.1)) T (others-sent x M begun T sent) heard
 
   each-clean : (M : List Message) (past rest : List Entry) → AreSent M 0 (past ++ rest) → EachClean limit past rest
   each-clean M past [] sent = tt

@@ -11,7 +11,7 @@ use Rattle.isotp_receive.specs.OpenReception.{IsOpenAt}
 use Rattle.isotp_receive.specs.Delivers.{Completes}
 use Rattle.isotp_receive.specs.Verdict.{verdict}
 use Rattle.isotp_receive.specs.CleanTrace.{IsCleanEvent}
-use Rattle.isotp_segment.specs.CanonicalFrames.{filled, consecutive_control, place_of, total_count}
+use Rattle.isotp_segment.specs.CanonicalFrames.{filled, consecutive_control, place_of, frame_count}
 use Rattle.isotp_segment.proofs.Counts.{total-short, total-long}
 use Rattle.isotp_segment.proofs.Layouts.{layout-single, layout-first, layout-consecutive, layout-continue}
 use Rattle.isotp_segment.proofs.TimedFrames.{entry}
@@ -57,7 +57,7 @@ module _ (identifier : Dir → Id) (line micros limit : ℕ) (bits : limit < 2 ^
       (first-clean limit past rest _ (closed-here is) _ _ _ (layout-first (identifier d) message (omega arith) (omega (arith, sent.fits))) sent.fits)
 
   -- after the first one
-  module _ (long : 7 < length message) (its : IsCompleted limit T d message begun) (later : begun < here) (below : here < begun + total_count (length message)) where
+  module _ (long : 7 < length message) (its : IsCompleted limit T d message begun) (later : begun < here) (below : here < begun + frame_count (length message)) where
     abbrev completed : Completes limit T its.last d message
     completed = its.completed
 
@@ -85,7 +85,7 @@ module _ (identifier : Dir → Id) (line micros limit : ℕ) (bits : limit < 2 ^
         clean-as _ (begun + (1 + k)) at is
         (consecutive-clean limit past rest d completed.fit.begun number reception _ (k % 16) 8 _ refl (layout-consecutive (identifier d) k _) next.0 next.1)
 
-  further-clean : 7 < length message → begun < here → here < begun + total_count (length message) → IsCleanEvent (verdict limit past e)
+  further-clean : 7 < length message → begun < here → here < begun + frame_count (length message) → IsCleanEvent (verdict limit past e)
   further-clean long later below =
       let its = is-completed limit T d message begun long sent.given in
       elim (cases_lt (begun + 1) here) [
@@ -93,7 +93,7 @@ module _ (identifier : Dir → Id) (line micros limit : ℕ) (bits : limit < 2 ^
         | inl behind ↦ next-clean long its later below (here - (begun + 1)) (omega arith) (omega arith)
       ]
 
-  pub each-is-clean : begun ≤ here → here < begun + total_count (length message) → IsCleanEvent (verdict limit past e)
+  pub each-is-clean : begun ≤ here → here < begun + frame_count (length message) → IsCleanEvent (verdict limit past e)
   each-is-clean least below = elim (cases_lt 7 (length message)) [
     | inr short ↦ (let one = total-short (length message) short in alone-clean short (omega arith))
     | inl long ↦ elim (cases_lt begun here) [

@@ -7,7 +7,7 @@ use Rattle.can_log.specs.declared.frame.Id.{Id}
 use Rattle.isotp_pdu.specs.Reading.{layout_of}
 use Rattle.isotp_receive.specs.Trace.{Entry, At, role}
 use Rattle.isotp_receive.specs.OpenReception.{IsOpenAt}
-use Rattle.isotp_segment.specs.CanonicalFrames.{total_count}
+use Rattle.isotp_segment.specs.CanonicalFrames.{frame_count}
 use Rattle.isotp_segment.proofs.Counts.{total-short, total-long}
 use Rattle.isotp_segment.proofs.Layouts.{classic, layout-single, layout-consecutive, layout-continue}
 use Rattle.isotp_segment.proofs.TimedFrames.{entry}
@@ -18,7 +18,7 @@ use Rattle.isotp_segment.proofs.SentMessage.{IsSent, is-completed}
 module _ (identifier : Dir → Id) (line micros limit : ℕ) (T : List Entry) (d : Dir) (message : List ℕ) (begun : ℕ)
     (sent : IsSent identifier line micros limit T d message begun) where
   abbrev behind : ℕ
-  behind = begun + total_count (length message)
+  behind = begun + frame_count (length message)
 
   -- A reception that is open there began before the frames: of these the first one begins the reception that the last one
   -- completes, and no other begins any.
@@ -54,7 +54,7 @@ module _ (identifier : Dir → Id) (line micros limit : ℕ) (T : List Entry) (d
 
       not-consecutive : (k : ℕ) → 1 ≤ k → begun + (1 + k) ≡ from → ⊥
       not-consecutive k one is =
-          let below : 1 + k < total_count (length message) = omega (arith, reception.later) in
+          let below : 1 + k < frame_count (length message) = omega (arith, reception.later) in
           let begins = begins-at (begun + (1 + k)) _ (at-consecutive identifier line micros T d message begun sent.stand k long one below) is in
           rw (layout-consecutive (identifier d) k _) at begins.1
 

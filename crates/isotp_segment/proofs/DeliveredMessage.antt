@@ -9,7 +9,7 @@ use Rattle.isotp_receive.specs.Trace.{Entry}
 use Rattle.isotp_receive.specs.Recording.{IsRecording}
 use Rattle.isotp_receive.specs.Verdict.{messages}
 use Rattle.isotp_receive.proofs.Promises.{recording_delivers_behind, recording_delivers_at_last_position}
-use Rattle.isotp_segment.specs.CanonicalFrames.{total_count, canonical_frames}
+use Rattle.isotp_segment.specs.CanonicalFrames.{frame_count, canonical_frames}
 use Rattle.isotp_segment.specs.Timed.{timed, HasFrames, all_frames}
 use Rattle.isotp_segment.proofs.Frames.{length-canonical_frames}
 use Rattle.isotp_segment.proofs.TimedFrames.{take-timed}
@@ -44,7 +44,7 @@ module _ (limit : ℕ) (identifier : Dir → Id) (line micros : ℕ) (T : List E
       → messages limit (T ++ timed identifier line micros (take n (canonical_frames limit d message))) ≡ messages limit T
   unfolding alone recording
   front-delivers n below =
-      let inside : n < total_count (length message) = omega (arith, length-canonical_frames limit d message some fits) in
+      let inside : n < frame_count (length message) = omega (arith, length-canonical_frames limit d message some fits) in
       ap (λ l. messages limit (T ++ l)) (take-timed identifier line micros n (canonical_frames limit d message))
       ∙ ap (λ frames. messages limit (T ++ take n (timed identifier line micros frames))) (sym their-frames)
       ∙ recording_delivers_at_last_position limit T their_trace alone recording n

@@ -6,50 +6,50 @@ use Rattle.std.proofs.lemmas.Bool.{le-leb, lt-leb, ne_eqb, and_from}
 use Rattle.std.proofs.lemmas.List.FromFn.{length-map-range_with_len}
 use Rattle.can_log.specs.Dir.{other_direction}
 use Rattle.can_log.specs.declared.frame.Dir.{Dir}
-use Rattle.isotp_segment.specs.CanonicalFrames.{filled, single_control, first_control, consecutive_control, continue_control, place_of, total_count, canonical_frame, canonical_frames}
+use Rattle.isotp_segment.specs.CanonicalFrames.{filled, single_control, first_control, consecutive_control, continue_control, place_of, frame_count, canonical_frame, canonical_frames}
 use Rattle.isotp_segment.proofs.Lists.{drop-map-range, drop-map-range-end}
 
 -- a message that has frames
 pub frames_of : (limit : ℕ) (direction : Dir) (message : List ℕ) → 1 ≤ length message → length message ≤ limit
     → canonical_frames limit direction message
-    ≡ map (canonical_frame direction message) (range_with_len 0 (total_count (length message)))
+    ≡ map (canonical_frame direction message) (range_with_len 0 (frame_count (length message)))
 unfolding canonical_frames
 frames_of limit direction message some high =
     let fits : (nat_le 1 (length message) && nat_le (length message) limit) ≡ true = and_from _ _ (le-leb _ _ some) (le-leb _ _ high) in
     rw fits refl
 
 pub length-canonical_frames : (limit : ℕ) (direction : Dir) (message : List ℕ) → 1 ≤ length message → length message ≤ limit
-    → length (canonical_frames limit direction message) ≡ total_count (length message)
+    → length (canonical_frames limit direction message) ≡ frame_count (length message)
 length-canonical_frames limit direction message some high =
     ap (length {A = Dir × List ℕ}) (frames_of limit direction message some high)
-    ∙ length-map-range_with_len (canonical_frame direction message) 0 (total_count (length message))
+    ∙ length-map-range_with_len (canonical_frame direction message) 0 (frame_count (length message))
 
 pub drop_canonical_frames : (limit : ℕ) (direction : Dir) (message : List ℕ) (number : ℕ)
-    → number < total_count (length message) → 1 ≤ length message → length message ≤ limit
+    → number < frame_count (length message) → 1 ≤ length message → length message ≤ limit
     → drop number (canonical_frames limit direction message)
     ≡ canonical_frame direction message number ∷ drop (number + 1) (canonical_frames limit direction message)
 drop_canonical_frames limit direction message number below some high =
     let whole = frames_of limit direction message some high in
-    rw whole (drop-map-range (canonical_frame direction message) (total_count (length message)) number below)
+    rw whole (drop-map-range (canonical_frame direction message) (frame_count (length message)) number below)
 
 pub drop_at_end : (limit : ℕ) (direction : Dir) (message : List ℕ) (number : ℕ)
-    → total_count (length message) ≤ number → 1 ≤ length message → length message ≤ limit
+    → frame_count (length message) ≤ number → 1 ≤ length message → length message ≤ limit
     → drop number (canonical_frames limit direction message) ≡ []
 drop_at_end limit direction message number above some high =
     let whole = frames_of limit direction message some high in
-    rw whole (drop-map-range-end (canonical_frame direction message) (total_count (length message)) number above)
+    rw whole (drop-map-range-end (canonical_frame direction message) (frame_count (length message)) number above)
 
 -- how many are left
 pub count_left : (limit : ℕ) (direction : Dir) (message : List ℕ) (number : ℕ) → 1 ≤ length message → length message ≤ limit
-    → length (drop number (canonical_frames limit direction message)) ≡ total_count (length message) - number
+    → length (drop number (canonical_frames limit direction message)) ≡ frame_count (length message) - number
 count_left limit direction message number some high =
     omega (arith, length-drop number (canonical_frames limit direction message), length-canonical_frames limit direction message some high)
 
 -- as many, whatever the message of this length
-pub count_of_frames : (limit len n : ℕ) → 1 ≤ len → len ≤ limit → n ≡ total_count len
+pub count_of_frames : (limit len n : ℕ) → 1 ≤ len → len ≤ limit → n ≡ frame_count len
     → (direction : Dir) (message : List ℕ) → len ≡ length message → n ≡ length (canonical_frames limit direction message)
 count_of_frames limit len n some high is direction message same =
-    is ∙ ap total_count same ∙ sym (length-canonical_frames limit direction message (omega arith) (omega arith))
+    is ∙ ap frame_count same ∙ sym (length-canonical_frames limit direction message (omega arith) (omega arith))
 
 -- each frame by its number
 

@@ -8,7 +8,7 @@ use Rattle.can_log.specs.Frame.{AreBytes}
 use Rattle.can_log.specs.declared.frame.Dir.{Dir}
 use Rattle.isotp_pdu.specs.Layout.{single}
 use Rattle.isotp_pdu.proofs.Promises.{layout_is_read}
-use Rattle.isotp_segment.specs.CanonicalFrames.{filled, single_control, first_control, consecutive_control, continue_control, place_of, total_count, canonical_frame, canonical_frames}
+use Rattle.isotp_segment.specs.CanonicalFrames.{filled, single_control, first_control, consecutive_control, continue_control, place_of, frame_count, canonical_frame, canonical_frames}
 use Rattle.isotp_segment.specs.Laws.{IsFullFrame, CanonicalFramesAreFull, ShortMessageIsOneFrame}
 use Rattle.isotp_segment.proofs.Bytes.{byte_at, filled_by_place, length-filled}
 use Rattle.isotp_segment.proofs.Frames.{frames_of, frame-single}
@@ -57,14 +57,14 @@ pub canonical_frames_are_full : CanonicalFramesAreFull
 unfolding canonical_frames
 canonical_frames_are_full limit d m bits each = elim (cases_Bool (nat_le 1 (length m) && nat_le (length m) limit)) [
   | inl t ↦ (let fits = leb-true (length m) limit (and_parts (nat_le 1 (length m)) (nat_le (length m) limit) t).1 in
-      rw t (AllByRecursion-map-range IsFullFrame (canonical_frame d m) 0 (total_count (length m)) (λ number. full_frame d m number (omega arith) each)))
+      rw t (AllByRecursion-map-range IsFullFrame (canonical_frame d m) 0 (frame_count (length m)) (λ number. full_frame d m number (omega arith) each)))
   | inr t ↦ rw t tt
 ]
 
 pub short_message_is_one_frame : ShortMessageIsOneFrame
 short_message_is_one_frame limit d m some short fits =
     let one : nat_le (length m) 7 ≡ true = le-leb (length m) 7 short in
-    let count : total_count (length m) ≡ 1 = rw one refl in
+    let count : frame_count (length m) ≡ 1 = rw one refl in
     record {
       bytes = filled (single_control (length m)) m;
       alone = frames_of limit d m some fits

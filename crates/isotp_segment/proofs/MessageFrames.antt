@@ -5,7 +5,7 @@ use Rattle.can_log.specs.Dir.{other_direction}
 use Rattle.can_log.specs.declared.frame.Dir.{Dir}
 use Rattle.can_log.specs.declared.frame.Id.{Id}
 use Rattle.isotp_receive.specs.Trace.{Entry, At, single, first, consecutive, continue_or_wait, role}
-use Rattle.isotp_segment.specs.CanonicalFrames.{filled, single_control, first_control, consecutive_control, continue_control, room_in_first, place_of, total_count, canonical_frame}
+use Rattle.isotp_segment.specs.CanonicalFrames.{filled, single_control, first_control, consecutive_control, continue_control, room_in_first, place_of, frame_count, canonical_frame}
 use Rattle.isotp_segment.proofs.Frames.{frame-single, frame-first, frame-continue, frame-consecutive}
 use Rattle.isotp_segment.proofs.Layouts.{layout-single, layout-first, layout-consecutive, layout-continue}
 use Rattle.isotp_segment.proofs.TimedFrames.{entry, StandFrom, role-own, role-other}
@@ -13,29 +13,29 @@ use Rattle.isotp_segment.proofs.TimedFrames.{entry, StandFrom, role-own, role-ot
 -- where they are
 module _ (identifier : Dir → Id) (line micros : ℕ) (T : List Entry) (d : Dir) (message : List ℕ) (begun : ℕ)
     (stand : StandFrom identifier line micros T d message begun) where
-  at-number : (number : ℕ) (frame : Dir × List ℕ) → number < total_count (length message) → canonical_frame d message number ≡ frame
+  at-number : (number : ℕ) (frame : Dir × List ℕ) → number < frame_count (length message) → canonical_frame d message number ≡ frame
       → At T (begun + number) (entry identifier line micros (begun + number) frame)
   at-number number frame below is = subst (λ x. At T (begun + number) (entry identifier line micros (begun + number) x)) is (stand number below)
 
-  at-begin : (frame : Dir × List ℕ) → 0 < total_count (length message) → canonical_frame d message 0 ≡ frame
+  at-begin : (frame : Dir × List ℕ) → 0 < frame_count (length message) → canonical_frame d message 0 ≡ frame
       → At T begun (entry identifier line micros begun frame)
   at-begin frame below is =
       let place : begun + 0 ≡ begun = omega arith in
       subst (λ p. At T p (entry identifier line micros p frame)) place (at-number 0 frame below is)
 
-  pub at-single : length message ≤ 7 → 0 < total_count (length message)
+  pub at-single : length message ≤ 7 → 0 < frame_count (length message)
       → At T begun (entry identifier line micros begun (d, filled (single_control (length message)) message))
   at-single short below = at-begin _ below (frame-single d message 0 short)
 
-  pub at-first : 7 < length message → 0 < total_count (length message)
+  pub at-first : 7 < length message → 0 < frame_count (length message)
       → At T begun (entry identifier line micros begun (d, filled (first_control (length message)) message))
   at-first long below = at-begin _ below (frame-first d message long)
 
-  pub at-continue : 7 < length message → 1 < total_count (length message)
+  pub at-continue : 7 < length message → 1 < frame_count (length message)
       → At T (begun + 1) (entry identifier line micros (begun + 1) (other_direction d, filled continue_control []))
   at-continue long below = at-number 1 _ below (frame-continue d message long)
 
-  pub at-consecutive : (number : ℕ) → 7 < length message → 1 ≤ number → 1 + number < total_count (length message)
+  pub at-consecutive : (number : ℕ) → 7 < length message → 1 ≤ number → 1 + number < frame_count (length message)
       → At T (begun + (1 + number)) (entry identifier line micros (begun + (1 + number))
       (d, filled (consecutive_control number) (drop (place_of (length message) number) message)))
   at-consecutive number long one below = at-number (1 + number) _ below (frame-consecutive d message number long one)

@@ -4,7 +4,7 @@ use Rattle.std.specs.List.{range_with_len}
 use Rattle.std.proofs.lemmas.Bool.{leb-false, cases_Bool}
 use Rattle.isotp_receive.specs.Recording.{IsIn, last_or}
 use Rattle.isotp_receive.proofs.Promises.{last-in}
-use Rattle.isotp_segment.specs.CanonicalFrames.{consecutive_count, total_count}
+use Rattle.isotp_segment.specs.CanonicalFrames.{consecutive_count, frame_count}
 use Rattle.isotp_segment.proofs.Ranges.{range-bounds, last_or-range}
 use Rattle.isotp_segment.proofs.Counts.{room_in_first-few}
 
@@ -13,7 +13,7 @@ abbrev pub positions_of : List ℕ → ℕ → List ℕ
 positions_of message begun =
     cond (nat_le (length message) 7) (begun ∷ []) (begun ∷ range_with_len (begun + 2) (consecutive_count (length message)))
 
-pub position-bounds : (message : List ℕ) (begun p : ℕ) → IsIn p (positions_of message begun) → (begun ≤ p) × (p < begun + total_count (length message))
+pub position-bounds : (message : List ℕ) (begun p : ℕ) → IsIn p (positions_of message begun) → (begun ≤ p) × (p < begun + frame_count (length message))
 position-bounds message begun p i = elim (cases_Bool (nat_le (length message) 7)) [
   | inl t ↦ rw t (elim (rw t at i) [ inl here ↦ (omega arith, omega arith) | inr none ↦ absurd none ])
   | inr t ↦ rw t (elim (rw t at i) [
@@ -31,7 +31,7 @@ last-position message begun = elim (cases_Bool (nat_le (length message) 7)) [
 
 -- and it is that of the last frame
 pub last-position-is : (message : List ℕ) (begun : ℕ) → 1 ≤ length message
-    → last_or 0 (positions_of message begun) + 1 ≡ begun + total_count (length message)
+    → last_or 0 (positions_of message begun) + 1 ≡ begun + frame_count (length message)
 last-position-is message begun some = elim (cases_Bool (nat_le (length message) 7)) [
   | inl t ↦ rw t refl
   | inr t ↦

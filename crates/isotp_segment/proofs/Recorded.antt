@@ -10,7 +10,7 @@ use Rattle.can_log.specs.declared.frame.Id.{Id}
 use Rattle.isotp_pdu.specs.Reading.{layout_of}
 use Rattle.isotp_receive.specs.Trace.{Entry, At}
 use Rattle.isotp_receive.specs.Recording.{Transfer, IsTransfer, IsIn, last_or, AreApart, EachPair, IsGiven, IsIdle, IsRecording, ended_within}
-use Rattle.isotp_segment.specs.CanonicalFrames.{total_count}
+use Rattle.isotp_segment.specs.CanonicalFrames.{frame_count}
 use Rattle.isotp_segment.specs.Timed.{timed, HasFrames, all_frames}
 use Rattle.isotp_segment.proofs.Positions.{positions_of, position-bounds, last-position, last-position-is}
 use Rattle.isotp_segment.proofs.CarriedMessage.{transfer-of, at-own}
@@ -23,7 +23,7 @@ transfer_from begun x = record { dir = x.0; message = x.1; positions = positions
 -- the messages, each after the one before
 abbrev pub transfers_from : ℕ → List Message → List Transfer
 transfers_from begun [] = []
-transfers_from begun (x ∷ M) = transfer_from begun x ∷ transfers_from (begun + total_count (length x.1)) M
+transfers_from begun (x ∷ M) = transfer_from begun x ∷ transfers_from (begun + frame_count (length x.1)) M
 
 -- a message whose positions are below `bound`, and all that begin from there on
 later-apart : (t : Transfer) (bound : ℕ) → ((p : ℕ) → IsIn p t.positions → p < bound) → last_or 0 t.positions < bound
@@ -35,13 +35,13 @@ later-apart t bound below last (x ∷ M) begun most = (
     apart = λ _. inl (λ p q i j. let a = below p i in let b = position-bounds x.1 begun q j in omega arith);
     order = (let b = position-bounds x.1 begun (last_or 0 (positions_of x.1 begun)) (last-position x.1 begun) in omega arith);
   },
-  later-apart t bound below last M (begun + total_count (length x.1)) (omega arith),
+  later-apart t bound below last M (begun + frame_count (length x.1)) (omega arith),
 )
 
 each-pair : (M : List Message) (begun : ℕ) → EachPair AreApart (transfers_from begun M)
 each-pair [] begun = tt
 each-pair (x ∷ M) begun =
-    let behind = begun + total_count (length x.1) in (
+    let behind = begun + frame_count (length x.1) in (
       later-apart (transfer_from begun x) behind (λ p i. (position-bounds x.1 begun p i).1)
           (position-bounds x.1 begun (last_or 0 (positions_of x.1 begun)) (last-position x.1 begun)).1 M behind (omega arith),
       each-pair M behind,
@@ -49,7 +49,7 @@ each-pair (x ∷ M) begun =
 
 messages-same : (M : List Message) (begun : ℕ) → map {B = Message} (λ t. (t.dir, t.message)) (transfers_from begun M) ≡ M
 messages-same [] begun = refl
-messages-same (x ∷ M) begun = ap (λ l. x ∷ l) (messages-same M (begun + total_count (length x.1)))
+messages-same (x ∷ M) begun = ap (λ l. x ∷ l) (messages-same M (begun + frame_count (length x.1)))
 
 module _ (identifier : Dir → Id) (line micros limit : ℕ) (bits : limit < 2 ^ 32) where
   module _ (frames : List (Dir × List ℕ)) where
@@ -61,20 +61,20 @@ module _ (identifier : Dir → Id) (line micros limit : ℕ) (bits : limit < 2 ^
     each-transfer (x ∷ M) begun last = (
       transfer-of identifier line micros limit bits T x.0 x.1 begun last.sizes.0.some last.sizes.0.fits
           (those-of-first identifier line micros limit frames x M begun last),
-      each-transfer M (begun + total_count (length x.1)) (those-behind limit frames x M begun last),
+      each-transfer M (begun + frame_count (length x.1)) (those-behind limit frames x M begun last),
     )
 
     all-others : (M : List Message) (begun : ℕ) → AreLastFrom limit frames M begun
         → (p : ℕ) (e : Entry) → begun ≤ p → At T p e → IsGiven p (transfers_from begun M) ⊎ IsIdle (layout_of e.frame)
     all-others [] begun last p e above there =
         absurd (omega (arith, slice_get_within T p e there, none-left identifier line micros limit frames begun last))
-    all-others (x ∷ M) begun last p e above there = elim (cases_lt p (begun + total_count (length x.1))) [
+    all-others (x ∷ M) begun last p e above there = elim (cases_lt p (begun + frame_count (length x.1))) [
       | inl own ↦ elim (at-own identifier line micros limit bits T x.0 x.1 begun last.sizes.0.some last.sizes.0.fits
           (those-of-first identifier line micros limit frames x M begun last) p e above own there) [
             | inl given ↦ inl (inl given)
             | inr idle ↦ inr idle
           ]
-      | inr later ↦ elim (all-others M (begun + total_count (length x.1)) (those-behind limit frames x M begun last) p e later there) [
+      | inr later ↦ elim (all-others M (begun + frame_count (length x.1)) (those-behind limit frames x M begun last) p e later there) [
         | inl given ↦ inl (inr given)
         | inr idle ↦ inr idle
       ]
@@ -94,7 +94,7 @@ module _ (identifier : Dir → Id) (line micros limit : ℕ) (bits : limit < 2 ^
   their-transfers M sizes = refl
 
   -- before the last of its frames a message is not ended
-  pub frames-ended : (d : Dir) (message : List ℕ) (sizes : AllByRecursion (HasFrames limit) ((d, message) ∷ [])) (n : ℕ) → n < total_count (length message)
+  pub frames-ended : (d : Dir) (message : List ℕ) (sizes : AllByRecursion (HasFrames limit) ((d, message) ∷ [])) (n : ℕ) → n < frame_count (length message)
       → ended_within n (frames-recording ((d, message) ∷ []) sizes).transfers ≡ []
   unfolding frames-recording
   frames-ended d message sizes n below =

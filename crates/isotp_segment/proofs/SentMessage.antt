@@ -8,7 +8,7 @@ use Rattle.isotp_receive.specs.Trace.{Entry}
 use Rattle.isotp_receive.specs.Delivers.{Completes}
 use Rattle.isotp_receive.specs.Recording.{last_or}
 use Rattle.isotp_receive.specs.FramesOf.{AreFramesOf, together}
-use Rattle.isotp_segment.specs.CanonicalFrames.{consecutive_count, total_count}
+use Rattle.isotp_segment.specs.CanonicalFrames.{consecutive_count, frame_count}
 use Rattle.isotp_segment.proofs.Counts.{room_in_first-few}
 use Rattle.isotp_segment.proofs.Positions.{positions_of, last-position-is}
 use Rattle.isotp_segment.proofs.TimedFrames.{StandFrom}
@@ -24,7 +24,7 @@ pub record IsSent (identifier : Dir → Id) (line micros limit : ℕ) (T : List 
 -- The last of several frames completes the reception that the first one began.
 pub record IsCompleted (limit : ℕ) (T : List Entry) (d : Dir) (message : List ℕ) (begun : ℕ) : Type 0 where
   pub last : ℕ
-  pub ends : last + 1 ≡ begun + total_count (length message)
+  pub ends : last + 1 ≡ begun + frame_count (length message)
   pub completed : Completes limit T last d message
   pub from : completed.fit.begun ≡ begun
 

@@ -12,7 +12,7 @@ use Rattle.isotp_pdu.specs.Layout.{Layout}
 use Rattle.isotp_pdu.specs.Reading.{layout_of}
 use Rattle.isotp_receive.specs.Trace.{Entry, At, role, own_role, other_role, same_direction}
 use Rattle.isotp_receive.proofs.Promises.{get-left, same-self}
-use Rattle.isotp_segment.specs.CanonicalFrames.{total_count, canonical_frame, canonical_frames}
+use Rattle.isotp_segment.specs.CanonicalFrames.{frame_count, canonical_frame, canonical_frames}
 use Rattle.isotp_segment.specs.Timed.{timed}
 use Rattle.isotp_segment.proofs.Lists.{get-later}
 use Rattle.isotp_segment.proofs.Frames.{frames_of, length-canonical_frames}
@@ -24,13 +24,13 @@ not-other Tester = refl
 not-other Unit = refl
 
 canonical_frames-at : (limit : ℕ) (d : Dir) (message : List ℕ) (number : ℕ) → 1 ≤ length message → length message ≤ limit
-    → number < total_count (length message) → slice_get (canonical_frames limit d message) number ≡ Some (canonical_frame d message number)
+    → number < frame_count (length message) → slice_get (canonical_frames limit d message) number ≡ Some (canonical_frame d message number)
 canonical_frames-at limit d message number some fits below =
     let size = length-canonical_frames limit d message some fits in
     let frame = canonical_frame d message number in
     slice_get-get_or (canonical_frames limit d message) number frame (omega arith)
     ∙ ap Some (rw (frames_of limit d message some fits)
-    (get_or-map-range_with_len (canonical_frame d message) 0 (total_count (length message)) number number frame below (omega arith)))
+    (get_or-map-range_with_len (canonical_frame d message) 0 (frame_count (length message)) number number frame below (omega arith)))
 
 -- frame number n of a trace that begins in this line and at this time
 abbrev pub entry : (Dir → Id) → ℕ → ℕ → ℕ → Dir × List ℕ → Entry
@@ -90,7 +90,7 @@ module _ (identifier : Dir → Id) where
   -- the frames of the message are in the trace from position `begun` on
   abbrev pub StandFrom : ℕ → ℕ → List Entry → Dir → List ℕ → ℕ → Type 0
   StandFrom line micros T d message begun =
-      (number : ℕ) → number < total_count (length message)
+      (number : ℕ) → number < frame_count (length message)
       → At T (begun + number) (entry identifier line micros (begun + number) (canonical_frame d message number))
 
   -- they do where they come after the frames `before`

@@ -47,8 +47,8 @@ abbrev pub consecutive_count : ℕ → ℕ
 consecutive_count len = (len - room_in_first len + 6) / 7
 
 -- how many frames there are, the continue frame counted
-abbrev pub total_count : ℕ → ℕ
-total_count len = if nat_le len 7 then 1 else 2 + consecutive_count len
+abbrev pub frame_count : ℕ → ℕ
+frame_count len = if nat_le len 7 then 1 else 2 + consecutive_count len
 
 -- Frame `number` of a message, from 0, and who sends it: a single frame, or a first frame, the continue frame of the other
 -- side, and the consecutive frames.
@@ -63,5 +63,5 @@ canonical_frame direction message number =
 unfoldable pub canonical_frames : ℕ → Dir → List ℕ → List (Dir × List ℕ)
 canonical_frames limit direction message =
     if nat_le 1 (length message) && nat_le (length message) limit
-    then map (canonical_frame direction message) (range_with_len 0 (total_count (length message)))
+    then map (canonical_frame direction message) (range_with_len 0 (frame_count (length message)))
     else []

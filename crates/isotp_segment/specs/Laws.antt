@@ -12,12 +12,12 @@ use Rattle.isotp_receive.specs.Places.{IsConsecutiveCount}
 use Rattle.isotp_receive.specs.Verdict.{messages}
 use Rattle.isotp_receive.specs.Recording.{IsRecording}
 use Rattle.isotp_receive.specs.CleanTrace.{IsClean}
-use Rattle.isotp_segment.specs.CanonicalFrames.{room_in_first, consecutive_count, total_count, canonical_frames}
+use Rattle.isotp_segment.specs.CanonicalFrames.{room_in_first, consecutive_count, frame_count, canonical_frames}
 use Rattle.isotp_segment.specs.Timed.{timed, HasFrames, all_frames}
 
 -- how many frames a message has: one up to 7 bytes, and above that the first frame, the continue frame and the consecutive ones
-abbrev pub TotalCountByLength : Type 0
-TotalCountByLength = (len : ℕ) → (len ≤ 7 → total_count len ≡ 1) × (7 < len → total_count len ≡ 2 + consecutive_count len)
+abbrev pub FrameCountByLength : Type 0
+FrameCountByLength = (len : ℕ) → (len ≤ 7 → frame_count len ≡ 1) × (7 < len → frame_count len ≡ 2 + consecutive_count len)
 
 -- the count of a message's consecutive frames is the least that holds what the first frame leaves
 abbrev pub ConsecutiveCountIsLeast : Type 0

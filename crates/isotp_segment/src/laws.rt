@@ -1,11 +1,11 @@
 //! Laws of canonical frames, for the proofs of callers: functions that do nothing.
 
-ghost use Rattle.isotp_segment.specs.Laws.{TotalCountByLength, ConsecutiveCountIsLeast, CanonicalFramesAreFull, ShortMessageIsOneFrame};
+ghost use Rattle.isotp_segment.specs.Laws.{FrameCountByLength, ConsecutiveCountIsLeast, CanonicalFramesAreFull, ShortMessageIsOneFrame};
 ghost use Rattle.isotp_segment.specs.Laws.{CanonicalFramesAreARecording, CanonicalFramesAreClean, SegmentsDeliver, SegmentsDeliverNothingBefore};
 
 /// A message of at most 7 bytes has one canonical frame, and a longer one two more than its consecutive frames.
-pub fn total_count_by_length()
-    ensures count { TotalCountByLength }
+pub fn frame_count_by_length()
+    ensures count { FrameCountByLength }
 {}
 
 /// The consecutive frames of a message are as many as its bytes ask for, and no more.

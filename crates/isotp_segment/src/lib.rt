@@ -21,7 +21,8 @@ pub mod laws;
 ghost use Rattle.std.specs.Prelude.{◌≡◌, ◌≤◌, ℕ, List, length};
 ghost use Rattle.can_log.specs.declared.frame.Dir.{Dir};
 ghost use Rattle.isotp_receive.specs.declared.TheConstants.{MESSAGE_LIMIT};
-ghost use Rattle.isotp_segment.specs.CanonicalFrames.{total_count, canonical_frames};
+ghost use Rattle.isotp_segment.specs.CanonicalFrames as Spec;
+ghost use Rattle.isotp_segment.specs.CanonicalFrames.{canonical_frames};
 
 use can_log::Dir;
 use frame::{CONSECUTIVE_ROOM, SINGLE_LIMIT, canonical_frame, full_frame, room_in_first};
@@ -33,7 +34,7 @@ use std::marker::Model;
 pub fn frame_count(len: usize) -> u64
     requires some { 1 ≤ len }
     requires limit { len ≤ MESSAGE_LIMIT }
-    ensures value { result ≡ total_count len }
+    ensures value { result ≡ Spec.frame_count len }
     ensures frames { (direction : Dir) (message : List ℕ) → len ≡ length message →
         result ≡ length (canonical_frames MESSAGE_LIMIT direction message) }
 {
