@@ -2,7 +2,7 @@
 
 use crate::calls::meaning;
 use crate::rows::{frame_of, repeated};
-use can_log::Dir::{self, Tester, Unit};
+use direction::Dir::{self, Tester, Unit};
 use isotp_receive::{Pair, Verdict};
 use std::test::Fail;
 use uds_exchange::{MessageSink, Orderer, Pairing};

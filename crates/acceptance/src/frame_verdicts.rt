@@ -1,7 +1,7 @@
 //! What each frame does to the receptions: its verdict, and the reception that it ends. No expected value comes from the program.
 
 use crate::rows::{assert_marked, digits_of, frame_of, lines_of, number_of, rows_of, shown};
-use can_log::Dir::{self, Tester, Unit};
+use direction::Dir::{self, Tester, Unit};
 use isotp_receive::{Ended, Pair, Verdict};
 use std::alloc::{AllocError, Global};
 use std::process::Abort;

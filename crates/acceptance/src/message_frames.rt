@@ -4,7 +4,7 @@ use crate::rows::{
     assert_marked, assert_text, digits_of, line_marked, message_spelled, number_of, push_message,
     rows_of,
 };
-use can_log::Dir::Unit;
+use direction::Dir::Unit;
 use isotp_receive::MESSAGE_LIMIT;
 use isotp_segment::{Segments, frame_count};
 use std::alloc::Global;

@@ -4,7 +4,7 @@ use crate::rows::{
     assert_marked, assert_text, digits_of, line_marked, lines_of, message_spelled, number_of,
     push_message, rows_of, shown,
 };
-use can_log::Dir::{self, Tester, Unit};
+use direction::Dir::{self, Tester, Unit};
 use std::alloc::{AllocError, Global};
 use std::process::Abort;
 use std::test::Fail;

@@ -2,8 +2,8 @@
 //! mark. A text is proved far faster than an array of arrays. What a call answers is told as a text too, and compared with
 //! lines of the row.
 
-use can_log::Dir::{self, Tester, Unit};
 use can_log::{Frame, Scan, Scanner};
+use direction::Dir::{self, Tester, Unit};
 use std::alloc::{AllocError, Global};
 use std::fmt::Debug;
 use std::process::Abort;

@@ -3,8 +3,8 @@
 
 use crate::calls::{Call, answer_of, compared, meaning};
 use crate::rows::digits_of;
-use can_log::Dir::{self, Tester, Unit};
 use can_log::{Frame, Id, Kind};
+use direction::Dir::{self, Tester, Unit};
 use isotp_receive::{MESSAGE_LIMIT, Pair, Verdict};
 use isotp_segment::Segments;
 use std::alloc::{AllocError, Global};

@@ -3,30 +3,6 @@
 use arrayvec::ArrayVec;
 use std::marker::Model;
 
-/// Which of the two sides of a diagnostic session sent a frame or a message.
-#[derive(Clone, Copy, Debug, PartialEq, Eq)]
-pub enum Dir {
-    /// From the tester to the control unit.
-    Tester,
-    /// From the control unit to the tester.
-    Unit,
-}
-
-impl Dir {
-    ghost use Rattle.std.specs.Prelude.{◌≡◌};
-    ghost use Rattle.can_log.specs.Dir.{other_direction};
-
-    /// The other direction.
-    pub fn other(self) -> Dir
-        ensures { result ≡ other_direction self }
-    {
-        match self {
-            Dir::Tester => Dir::Unit,
-            Dir::Unit => Dir::Tester,
-        }
-    }
-}
-
 /// A CAN identifier (ISO 11898-1): the base format of 11 bits, or the extended format.
 #[derive(Clone, Copy, Debug, PartialEq, Eq)]
 pub enum Id {

@@ -33,6 +33,6 @@ pub use canonical::{
     BASE_LINE, LONGEST_LINE, append_line, base_line, extended_line, line_bytes, line_length,
 };
 pub use digit_lanes::digits_of_bytes;
-pub use frame::{Dir, Frame, Id, Kind, Stamped};
+pub use frame::{Frame, Id, Kind, Stamped};
 pub use line_clock::LineClock;
 pub use scanner::{Scan, Scanner};

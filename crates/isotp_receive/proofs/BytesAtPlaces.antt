@@ -4,7 +4,7 @@ use Rattle.std.proofs.Common.{inl, inr, append_assoc, length-append, get_or-take
 use Rattle.std.proofs.lemmas.List.{get_or-drop, get_or_append_left, get_or-append-add}
 use Rattle.std.proofs.lemmas.Grind.{get_or_after_one}
 use Rattle.std.proofs.lemmas.Bool.{cases_lt}
-use Rattle.can_log.specs.declared.frame.Dir.{Dir}
+use Rattle.direction.specs.declared.Dir.{Dir}
 use Rattle.isotp_receive.specs.Trace.{Entry, FirstFrame, first, consecutive, role}
 use Rattle.isotp_receive.specs.Places.{bytes_in_first, bytes_before, consecutive_by, consecutive_frames_in, between, IsConsecutive, AtPlaces}
 use Rattle.isotp_receive.specs.StandingReception.{carried, is_open}

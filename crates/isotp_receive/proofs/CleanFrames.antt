@@ -1,8 +1,8 @@
 -- What a frame with a clean verdict may be to a direction, by what stands there.
 use Rattle.std.proofs.Common.{◌≡◌, ℕ, ◌≤◌, List, nat_le, ◌==◌, Option, Some, None, Result, Ok, Err, refl, cond, inl, inr}
 use Rattle.std.proofs.lemmas.Bool.{cases_Bool, leb-true}
-use Rattle.can_log.specs.Dir.{other_direction}
-use Rattle.can_log.specs.declared.frame.Dir.{Dir}
+use Rattle.direction.specs.Dir.{other_direction}
+use Rattle.direction.specs.declared.Dir.{Dir}
 use Rattle.isotp_pdu.specs.declared.PduFault.{PduFault}
 use Rattle.isotp_pdu.specs.declared.Status.TheVariants.{Continue, Wait, Overflow}
 use Rattle.isotp_pdu.specs.Layout.{Layout}

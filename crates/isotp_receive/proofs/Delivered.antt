@@ -3,8 +3,8 @@ use Rattle.std.proofs.Common.{◌≡◌, ℕ, suc, ◌≤◌, take, nat_lt, List
 use Rattle.std.specs.Prelude.{◌⊎◌}
 use Rattle.std.specs.List.{AllByRecursion}
 use Rattle.std.proofs.lemmas.Bool.{cases_Bool}
-use Rattle.can_log.specs.Dir.{Message}
-use Rattle.can_log.specs.declared.frame.Dir.{Dir}
+use Rattle.direction.specs.Dir.{Message}
+use Rattle.direction.specs.declared.Dir.{Dir}
 use Rattle.can_log.proofs.Promises.{AllByRecursion-weaker}
 use Rattle.isotp_receive.specs.Trace.{Entry, role, same_direction, At}
 use Rattle.isotp_receive.specs.Verdict.{messages}

@@ -1,9 +1,9 @@
 -- Whether two directions are one.
 use Rattle.std.proofs.Common.{◌≡◌, true, false, refl}
 use Rattle.std.proofs.lemmas.Bool.{false≢true}
-use Rattle.can_log.specs.Dir.{other_direction}
-use Rattle.can_log.specs.declared.frame.Dir.{Dir}
-use Rattle.can_log.specs.declared.frame.Dir.TheVariants.{Tester, Unit}
+use Rattle.direction.specs.Dir.{other_direction}
+use Rattle.direction.specs.declared.Dir.{Dir}
+use Rattle.direction.specs.declared.Dir.TheVariants.{Tester, Unit}
 use Rattle.isotp_receive.specs.Trace.{same_direction}
 
 pub same : (d e : Dir) → same_direction d e ≡ true → d ≡ e

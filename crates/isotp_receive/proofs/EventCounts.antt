@@ -7,9 +7,9 @@ use Rattle.std.specs.Option.{option_len}
 use Rattle.std.proofs.lemmas.Bool.{cases_Bool, cond_both}
 use Rattle.std.proofs.lemmas.List.{append-nil}
 use Rattle.std.proofs.lemmas.List.Sums.{sum_by-append}
-use Rattle.can_log.specs.Dir.{other_direction}
-use Rattle.can_log.specs.declared.frame.Dir.{Dir}
-use Rattle.can_log.specs.declared.frame.Dir.TheVariants as dir
+use Rattle.direction.specs.Dir.{other_direction}
+use Rattle.direction.specs.declared.Dir.{Dir}
+use Rattle.direction.specs.declared.Dir.TheVariants as dir
 use Rattle.isotp_pdu.specs.Layout.{Layout}
 use Rattle.isotp_pdu.specs.Layout as layout
 use Rattle.isotp_pdu.specs.Reading.{layout_of}

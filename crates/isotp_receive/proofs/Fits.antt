@@ -2,7 +2,7 @@
 use Rattle.std.proofs.Common.{◌≡◌, ℕ, ◌+◌, ◌-◌, ◌*◌, ◌%◌, ◌<◌, ◌≤◌, true, nat_lt, nat_le, ◌==◌, ◌&&◌, cond, ◌∙◌, ap, arith, inl, inr}
 use Rattle.std.specs.Prelude.{IsTrue, ◌↔◌}
 use Rattle.std.proofs.lemmas.Bool.{and_parts, leb-true, eqb-true, lt-ltb, le-ltb, and_from, le-leb, eq-eqb, cases_lt}
-use Rattle.can_log.specs.declared.frame.Dir.{Dir}
+use Rattle.direction.specs.declared.Dir.{Dir}
 use Rattle.isotp_receive.specs.Trace.{Entry, FirstFrame, first, role}
 use Rattle.isotp_receive.specs.Places.{bytes_in_first, IsConsecutiveCount, FitsAs}
 use Rattle.isotp_receive.specs.StandingReception.{carried_after, fits_length}

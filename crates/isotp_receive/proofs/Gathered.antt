@@ -3,7 +3,7 @@ use Rattle.std.proofs.Common.{◌≡◌, ℕ, suc, ◌+◌, ◌-◌, ◌*◌, �
 use Rattle.std.proofs.Common.{arith, length-append, length-take, inl, inr, get_or-take}
 use Rattle.std.proofs.lemmas.List.{take_all, take_at, take-take, take-append-le, get_or-drop, get_or_append_left, get_or-append-add}
 use Rattle.std.proofs.lemmas.Grind.{get_or_after_one}
-use Rattle.can_log.specs.declared.frame.Dir.{Dir}
+use Rattle.direction.specs.declared.Dir.{Dir}
 use Rattle.isotp_receive.specs.Trace.{Entry, FirstFrame, first, consecutive, role, At}
 use Rattle.isotp_receive.specs.Places.{bytes_in_first, bytes_before, FitsAs}
 use Rattle.isotp_receive.specs.OnTime.{n_cr, IsReference}

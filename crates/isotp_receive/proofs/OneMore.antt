@@ -4,7 +4,7 @@ use Rattle.std.proofs.Common.{refl, sym, ◌∙◌, ap, arith, cond, length-appe
 use Rattle.std.proofs.lemmas.List.{append-nil}
 use Rattle.std.proofs.lemmas.Bool.{ltb-true, lt-ltb}
 use Rattle.std.proofs.Math.Bool.{and-true}
-use Rattle.can_log.specs.declared.frame.Dir.{Dir}
+use Rattle.direction.specs.declared.Dir.{Dir}
 use Rattle.isotp_receive.specs.Trace.{Entry, FirstFrame, FrameRole, single, first, consecutive, continue_or_wait, overflow, no_part, role}
 use Rattle.isotp_receive.specs.Places.{consecutive_by, consecutive_frames_in}
 use Rattle.isotp_receive.specs.StandingReception.{carried_by, carried, referred, reference, carried_after, is_on_time, expected, has_length, stays_incomplete, keeps_by, keep, is_open, StandingReception, standing_of, since, or_else, stands}

@@ -2,7 +2,7 @@
 use Rattle.std.proofs.Common.{◌≡◌, ℕ, false, List, Result, Ok, Err, refl, sym, inl, inr, subst}
 use Rattle.std.specs.Prelude.{⊤, ◌⊎◌}
 use Rattle.std.proofs.lemmas.Bool.{cases_Bool}
-use Rattle.can_log.specs.declared.frame.Dir.{Dir}
+use Rattle.direction.specs.declared.Dir.{Dir}
 use Rattle.isotp_pdu.specs.declared.PduFault.{PduFault}
 use Rattle.isotp_pdu.specs.declared.Status.TheVariants.{Continue, Wait, Overflow}
 use Rattle.isotp_pdu.specs.Layout.{Layout}

@@ -4,7 +4,7 @@ use Rattle.std.proofs.Common.{Err, refl, sym, ◌∙◌, ap, arith, cond, length
 use Rattle.std.specs.Prelude.{⊤, IfOk}
 use Rattle.std.proofs.lemmas.Bool.{cond_both, cases_Bool, ne_eqb}
 use Rattle.can_log.specs.Frame.{FrameValue}
-use Rattle.can_log.specs.declared.frame.Dir.{Dir}
+use Rattle.direction.specs.declared.Dir.{Dir}
 use Rattle.isotp_pdu.specs.declared.PduFault.{PduFault}
 use Rattle.isotp_pdu.specs.declared.Status.TheVariants.{Continue, Wait, Overflow}
 use Rattle.isotp_pdu.specs.Layout.{Layout, bytes_carried, least_first, SpellsFirst, Spells, IsSoundLayout}

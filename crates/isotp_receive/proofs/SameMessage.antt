@@ -5,7 +5,7 @@ use Rattle.std.specs.Prelude.{slice_get}
 use Rattle.std.proofs.lemmas.Nat.{div-add-mod'}
 use Rattle.std.proofs.Math.Nat.{mod-lt}
 use Rattle.std.proofs.lemmas.Bool.{cases_lt}
-use Rattle.can_log.specs.declared.frame.Dir.{Dir}
+use Rattle.direction.specs.declared.Dir.{Dir}
 use Rattle.isotp_receive.specs.Trace.{Entry, At, role}
 use Rattle.isotp_receive.specs.Places.{bytes_in_first, consecutive_by, consecutive_frames_in, IsConsecutive, AtPlaces}
 use Rattle.isotp_receive.proofs.ListPositions.{get-same, get-drop}

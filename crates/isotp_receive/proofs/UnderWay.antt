@@ -1,6 +1,6 @@
 -- A message of a recording that is under way in a direction, and what a frame that is none of its frames leaves of it.
 use Rattle.std.proofs.Common.{◌≡◌, ℕ, suc, ◌+◌, ◌≤◌, List, [], ◌∷◌, length, take, Option, Some, refl, arith}
-use Rattle.can_log.specs.declared.frame.Dir.{Dir}
+use Rattle.direction.specs.declared.Dir.{Dir}
 use Rattle.isotp_receive.specs.Trace.{Entry, FirstFrame, continue_or_wait, no_part, role, At}
 use Rattle.isotp_receive.specs.Places.{bytes_before, IsConsecutiveCount}
 use Rattle.isotp_receive.specs.OnTime.{IsReference}

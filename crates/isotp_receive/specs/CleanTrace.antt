@@ -1,6 +1,6 @@
 -- A trace in which nothing went wrong, by what the receptions answer.
 use Rattle.std.specs.Prelude.{None, ◌≡◌, ℕ, List, [], ◌∷◌, ◌++◌, ⊤}
-use Rattle.can_log.specs.declared.frame.Dir.{Dir}
+use Rattle.direction.specs.declared.Dir.{Dir}
 use Rattle.isotp_receive.specs.Trace.{Entry}
 use Rattle.isotp_receive.specs.StandingReception.{stands}
 use Rattle.isotp_receive.specs.Verdict.{VerdictValue, message, began, stored, flowed, dropped, EventValue, verdict}

@@ -1,6 +1,6 @@
 -- The messages that a trace delivers (ISO 15765-2, section 9.6), by looking back over the whole trace.
 use Rattle.std.specs.Prelude.{◌≡◌, ℕ, List, length}
-use Rattle.can_log.specs.declared.frame.Dir.{Dir}
+use Rattle.direction.specs.declared.Dir.{Dir}
 use Rattle.isotp_receive.specs.Trace.{Entry, SingleFrameAt}
 use Rattle.isotp_receive.specs.Places.{AtPlaces}
 use Rattle.isotp_receive.specs.Fit.{last}

@@ -1,6 +1,6 @@
 -- What the public laws of the receptions say.
 use Rattle.std.specs.Prelude.{◌≡◌, ◌<◌, ◌≤◌, ℕ, ◌+◌, ◌%◌, ◌++◌, ◌∷◌, [], ◌↔◌, List, length, Some, IsTrue}
-use Rattle.can_log.specs.declared.frame.Dir.{Dir}
+use Rattle.direction.specs.declared.Dir.{Dir}
 use Rattle.isotp_receive.specs.Trace.{Entry, At, FirstFrame, first, role}
 use Rattle.isotp_receive.specs.Places.{bytes_in_first, bytes_before, IsConsecutiveCount, FitsAs}
 use Rattle.isotp_receive.specs.OnTime.{IsReference, IsOnTime}

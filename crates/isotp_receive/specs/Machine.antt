@@ -1,8 +1,8 @@
 -- A device of proof: the receptions as the code keeps them, one step per frame. Public clauses cite what is here
 -- only through the laws that join it to what stands after a trace.
 use Rattle.std.specs.Prelude.{ℕ, ◌+◌, List, ◌++◌, nat_le, ◌==◌, if◌then◌else◌, Option, Some, None, Result}
-use Rattle.can_log.specs.declared.frame.Dir.{Dir}
-use Rattle.can_log.specs.declared.frame.Dir.TheVariants.{Tester, Unit}
+use Rattle.direction.specs.declared.Dir.{Dir}
+use Rattle.direction.specs.declared.Dir.TheVariants.{Tester, Unit}
 use Rattle.isotp_pdu.specs.Layout.{Layout}
 use Rattle.isotp_pdu.specs.declared.PduFault.{PduFault}
 use Rattle.isotp_receive.specs.Fit.{Fit, late, wrong_number, wrong_length, one_more, last}

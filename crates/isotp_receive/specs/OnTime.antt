@@ -1,6 +1,6 @@
 -- The time-out of a reception, N_Cr (ISO 15765-2, section 9.8).
 use Rattle.std.specs.Prelude.{◌≡◌, ◌<◌, ◌≤◌, ℕ, ◌+◌, List, ⊤, ◌⊎◌}
-use Rattle.can_log.specs.declared.frame.Dir.{Dir}
+use Rattle.direction.specs.declared.Dir.{Dir}
 use Rattle.isotp_receive.specs.Trace.{Entry, At, FrameRole, single, first, consecutive, continue_or_wait, overflow, no_part, role}
 
 -- N_Cr in microseconds: a consecutive frame more than this after its reference is late

@@ -1,6 +1,6 @@
 -- Where the bytes of a message are in its frames (ISO 15765-2, section 9.6).
 use Rattle.std.specs.Prelude.{◌≡◌, ◌<◌, ◌≤◌, ℕ, ◌+◌, ◌-◌, ◌*◌, ◌%◌, List, [], ◌∷◌, length, slice_index, slice_range, ◌==◌, if◌then◌else◌}
-use Rattle.can_log.specs.declared.frame.Dir.{Dir}
+use Rattle.direction.specs.declared.Dir.{Dir}
 use Rattle.isotp_receive.specs.Trace.{Entry, At, FrameRole, single, first, consecutive, continue_or_wait, overflow, no_part, role}
 
 -- how many bytes of its message a first frame of these bytes holds, with 12 bits of length or with the escape

@@ -1,8 +1,8 @@
 -- The reception of a direction that stands after a list of frames: a function that looks back over the whole list. It is
 -- the short spelling, for contracts and proofs, of `IsOpenAt` and `IsStandingAt`; public laws join them both ways.
 use Rattle.std.specs.Prelude.{ℕ, ◌+◌, ◌-◌, ◌%◌, Bool, true, false, ◌&&◌, List, [], ◌∷◌, ◌++◌, length, not, nat_lt, nat_le, ◌==◌, if◌then◌else◌, Option, Some, None}
-use Rattle.can_log.specs.declared.frame.Dir.{Dir}
-use Rattle.can_log.specs.declared.frame.Dir.TheVariants.{Tester, Unit}
+use Rattle.direction.specs.declared.Dir.{Dir}
+use Rattle.direction.specs.declared.Dir.TheVariants.{Tester, Unit}
 use Rattle.isotp_receive.specs.Trace.{Entry, FirstFrame, FrameRole, single, first, consecutive, continue_or_wait, overflow, no_part, role}
 use Rattle.isotp_receive.specs.Places.{bytes_before, consecutive_frames_in}
 use Rattle.isotp_receive.specs.OnTime.{n_cr}

@@ -1,7 +1,7 @@
 -- What each frame does, row by row (ISO 15765-2, sections 9.6 and 9.8), by looking back over the whole trace.
 use Rattle.std.specs.Prelude.{◌≡◌, ◌≢◌, ◌<◌, ◌≤◌, ℕ, ◌+◌, ◌%◌, ◌++◌, ◌∷◌, [], List, length, Option, Some, None, Ok, Err}
-use Rattle.can_log.specs.Dir.{other_direction}
-use Rattle.can_log.specs.declared.frame.Dir.{Dir}
+use Rattle.direction.specs.Dir.{other_direction}
+use Rattle.direction.specs.declared.Dir.{Dir}
 use Rattle.isotp_pdu.specs.Reading.{layout_of}
 use Rattle.isotp_pdu.specs.Layout as layout
 use Rattle.isotp_pdu.specs.declared.PduFault.{PduFault}

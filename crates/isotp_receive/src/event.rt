@@ -1,6 +1,6 @@
 //! What a frame does to the receptions.
 
-use can_log::Dir;
+use direction::Dir;
 use isotp_pdu::PduFault;
 
 /// What a frame did: the reception that it ended, if it ended one, and what became of the frame.

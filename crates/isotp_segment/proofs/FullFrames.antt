@@ -3,9 +3,9 @@ use Rattle.std.proofs.Common.{◌≡◌, ◌-◌, ◌<◌, ◌^◌, ◌==◌, �
 use Rattle.std.proofs.Common.{ℕ, zero, suc, List, length, map, drop, nat_le, true, false, refl, sym, subst, ap, arith, inl, inr}
 use Rattle.std.specs.List.{range_with_len}
 use Rattle.std.proofs.lemmas.Bool.{le-leb, lt-leb, leb-true, leb-false, cases_Bool, and_parts}
-use Rattle.can_log.specs.Dir.{other_direction}
+use Rattle.direction.specs.Dir.{other_direction}
 use Rattle.can_log.specs.Frame.{AreBytes}
-use Rattle.can_log.specs.declared.frame.Dir.{Dir}
+use Rattle.direction.specs.declared.Dir.{Dir}
 use Rattle.isotp_pdu.specs.Layout.{single}
 use Rattle.isotp_pdu.proofs.Promises.{layout_is_read}
 use Rattle.isotp_segment.specs.CanonicalFrames.{filled, single_control, first_control, consecutive_control, continue_control, place_of, frame_count, canonical_frame, canonical_frames}

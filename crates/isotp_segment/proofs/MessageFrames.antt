@@ -1,8 +1,8 @@
 -- What is at the positions of a message's canonical frames, where these begin at a position, and what each is to the
 -- reception of its direction.
 use Rattle.std.proofs.Common.{◌≡◌, ℕ, ◌+◌, ◌%◌, ◌*◌, ◌<◌, ◌≤◌, ◌^◌, List, [], length, take, drop, arith, subst}
-use Rattle.can_log.specs.Dir.{other_direction}
-use Rattle.can_log.specs.declared.frame.Dir.{Dir}
+use Rattle.direction.specs.Dir.{other_direction}
+use Rattle.direction.specs.declared.Dir.{Dir}
 use Rattle.can_log.specs.declared.frame.Id.{Id}
 use Rattle.isotp_receive.specs.Trace.{Entry, At, single, first, consecutive, continue_or_wait, role}
 use Rattle.isotp_segment.specs.CanonicalFrames.{filled, single_control, first_control, consecutive_control, continue_control, room_in_first, place_of, frame_count, canonical_frame}

@@ -1,9 +1,9 @@
 -- What the public laws of canonical frames say.
 use Rattle.std.specs.Prelude.{◌≡◌, ◌<◌, ◌≤◌, ◌^◌, ◌+◌, ℕ, List, [], ◌∷◌, ◌++◌, length, take}
 use Rattle.std.specs.List.{AllByRecursion}
-use Rattle.can_log.specs.Dir.{Message}
+use Rattle.direction.specs.Dir.{Message}
 use Rattle.can_log.specs.Frame.{AreBytes}
-use Rattle.can_log.specs.declared.frame.Dir.{Dir}
+use Rattle.direction.specs.declared.Dir.{Dir}
 use Rattle.can_log.specs.declared.frame.Id.{Id}
 use Rattle.can_log.specs.declared.frame.Kind.TheVariants.{Classic}
 use Rattle.isotp_pdu.specs.Layout.{HasLayout, single}

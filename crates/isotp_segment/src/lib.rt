@@ -19,12 +19,12 @@ mod frame;
 pub mod laws;
 
 ghost use Rattle.std.specs.Prelude.{◌≡◌, ◌≤◌, ℕ, List, length};
-ghost use Rattle.can_log.specs.declared.frame.Dir.{Dir};
+ghost use Rattle.direction.specs.declared.Dir.{Dir};
 ghost use Rattle.isotp_receive.specs.declared.TheConstants.{MESSAGE_LIMIT};
 ghost use Rattle.isotp_segment.specs.CanonicalFrames as Spec;
 ghost use Rattle.isotp_segment.specs.CanonicalFrames.{canonical_frames};
 
-use can_log::Dir;
+use direction::Dir;
 use frame::{CONSECUTIVE_ROOM, SINGLE_LIMIT, canonical_frame, full_frame, room_in_first};
 use isotp_receive::MESSAGE_LIMIT;
 use std::iter::FusedIterator;
@@ -58,7 +58,7 @@ pub struct Segments<'a> {
 // A contract sees the frames that it still gives.
 impl<'a> Model for Segments<'a> {
     ghost use Rattle.std.specs.Prelude.{ℕ, List, drop};
-    ghost use Rattle.can_log.specs.declared.frame.Dir.{Dir};
+    ghost use Rattle.direction.specs.declared.Dir.{Dir};
     ghost use Rattle.isotp_receive.specs.declared.TheConstants.{MESSAGE_LIMIT};
     ghost use Rattle.isotp_segment.specs.CanonicalFrames.{canonical_frames};
     ghost use Rattle.isotp_segment.specs.Given.{AreGiven};

@@ -1,7 +1,7 @@
 //! Messages in order: held after a request that nothing answers, or put at once.
 
 use crate::message::sum_of;
-use can_log::Dir;
+use direction::Dir;
 use std::alloc::{AllocError, Global};
 use uds_exchange::{MessageSink, Orderer};
 

@@ -1,7 +1,7 @@
 //! One request that nothing answers, and messages after it.
 
 use crate::message::sum_of;
-use can_log::Dir;
+use direction::Dir;
 use std::alloc::{AllocError, Global};
 use uds_exchange::{Item, Pairing};
 

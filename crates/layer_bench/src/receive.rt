@@ -1,7 +1,8 @@
 //! A message received again and again.
 
 use crate::message::{message_of, sum_of};
-use can_log::{Dir, Frame, Id, Kind};
+use can_log::{Frame, Id, Kind};
+use direction::Dir;
 use isotp_receive::{Pair, Verdict};
 use isotp_segment::Segments;
 use std::alloc::{AllocError, Global};

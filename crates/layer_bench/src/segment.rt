@@ -1,7 +1,7 @@
 //! A message cut into frames.
 
 use crate::message::message_of;
-use can_log::Dir;
+use direction::Dir;
 use isotp_segment::Segments;
 use std::alloc::{AllocError, Global};
 

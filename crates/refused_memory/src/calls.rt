@@ -1,7 +1,8 @@
 //! The calls, each over every session.
 
 use crate::sessions::{Message, SESSIONS, Session};
-use can_log::{Dir, Frame, Id};
+use can_log::{Frame, Id};
+use direction::Dir;
 use isotp_receive::{Pair, Verdict};
 use std::alloc::Global;
 use std::io::{Error, ErrorKind, Result as IoResult, Write};

@@ -1,7 +1,7 @@
 //! The sessions: what their logs hold, and what each call has to make of them.
 
-use can_log::Dir::{self, Tester, Unit};
 use can_log::Kind::{self, Classic, Fd};
+use direction::Dir::{self, Tester, Unit};
 
 /// A message with its sender.
 pub(crate) type Message = (Dir, &'static [u8]);

@@ -10,7 +10,7 @@ use crate::block::Block;
 use crate::items::direction_name;
 use crate::parts::{Part, gather_parts};
 use crate::summary::Summary;
-use can_log::Dir;
+use direction::Dir;
 use isotp_pdu::PduFault;
 use isotp_receive::{Cause, Ended, Event, Pair, Reason, Verdict};
 use trace_io::{DeviceFault, Target, write_all};

@@ -5,7 +5,7 @@ use crate::block::Block;
 use crate::events::write_event;
 use crate::pending::Pending;
 use crate::receiver::EventTaker;
-use can_log::Dir;
+use direction::Dir;
 use isotp_receive::Event;
 use std::marker::PhantomData;
 use trace_io::{MOST_FAILURES, Target};

@@ -3,7 +3,7 @@ ghost use Rattle.std.specs.Prelude.{◌≡◌, []};
 
 use crate::ordering::announced;
 use crate::receiver::EventTaker;
-use can_log::Dir;
+use direction::Dir;
 use isotp_receive::{Event, Verdict};
 use uds_exchange::Pairing;
 

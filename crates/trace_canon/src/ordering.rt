@@ -1,6 +1,6 @@
 //! The messages of a log, put in order.
 ghost use Rattle.std.specs.Prelude.{◌≡◌, List, [], ◌∷◌, ◌++◌, OnOk, OnErr, IfErr};
-ghost use Rattle.can_log.specs.Dir.{Message};
+ghost use Rattle.direction.specs.Dir.{Message};
 ghost use Rattle.uds_exchange.specs.Order.{early};
 ghost use Rattle.uds_exchange.specs.Meaning.{meaning, flattened};
 ghost use Rattle.uds_exchange.specs.Orderer.{stands_after};
@@ -12,7 +12,7 @@ ghost use Rattle.isotp_receive.specs.Events.{announced_by};
 use crate::config::Config;
 use crate::receiver::EventTaker;
 use crate::writer::{CanonicalWriter, Text};
-use can_log::Dir;
+use direction::Dir;
 use isotp_receive::{Event, Reason, Verdict};
 use std::alloc::Global;
 use std::marker::PhantomData;

@@ -11,7 +11,8 @@ ghost use Rattle.trace_canon.specs.Receiving.{CountsEvent};
 
 use crate::config::Config;
 use crate::lines::LineTaker;
-use can_log::{Dir, Frame, Id, Stamped};
+use can_log::{Frame, Id, Stamped};
+use direction::Dir;
 use isotp_receive::{Event, Pair, Verdict};
 
 /// What takes the events of a log's frames one by one. An implementation says by two ghost members what it is after a trace,
@@ -140,7 +141,7 @@ impl<E> Receiver<E> {
 
 impl<E: EventTaker> LineTaker for Receiver<E> {
     ghost use Rattle.std.specs.Prelude.{◌≡◌, Some};
-    ghost use Rattle.can_log.specs.declared.frame.Dir.{Dir as DirValue};
+    ghost use Rattle.direction.specs.declared.Dir.{Dir as DirValue};
     ghost use Rattle.can_log.specs.declared.frame.Stamped.{Stamped as StampedValue};
     ghost use Rattle.trace_canon.specs.Settings.{direction_of};
     ghost use Rattle.trace_canon.specs.Trace.{trace};

@@ -4,8 +4,8 @@ use Rattle.std.specs.List.{flat_map}
 use Rattle.std.proofs.lemmas.List.{append-nil}
 use Rattle.std.proofs.lemmas.Option.{same_Some, none-some}
 use Rattle.std.proofs.lemmas.Bool.{cases_Bool, false≢true}
-use Rattle.can_log.specs.Dir.{Message}
-use Rattle.can_log.specs.declared.frame.Dir.TheVariants.{Tester, Unit}
+use Rattle.direction.specs.Dir.{Message}
+use Rattle.direction.specs.declared.Dir.TheVariants.{Tester, Unit}
 use Rattle.uds_exchange.specs.Meaning.{is_answer_to, is_pending_reply_to, before_requests, Part, part, parts, answer, strays_in, items_of, meaning, flattened}
 use Rattle.uds_exchange.proofs.Parts.{Quiet, quiet-before_requests, before_requests-append, parts-append, quiet-strays_in, Good, good-parts}
 use Rattle.uds_exchange.proofs.InOrder.{kept, stays, flattened-part, flattened-meaning}

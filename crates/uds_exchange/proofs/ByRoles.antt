@@ -1,7 +1,7 @@
 -- The messages of a meaning, and what is removed, by the roles of the list's messages.
 use Rattle.std.proofs.Common.{◌≡◌, List, [], ◌∷◌, ◌++◌, refl, sym, ◌∙◌, ap, append_assoc}
 use Rattle.std.proofs.lemmas.List.{append-nil}
-use Rattle.can_log.specs.Dir.{Message}
+use Rattle.direction.specs.Dir.{Message}
 use Rattle.uds_exchange.specs.Meaning.{meaning, flattened, removed_messages}
 use Rattle.uds_exchange.specs.Roles.{MessageRole, as_request, as_answer, as_removed, as_stray, AreRoles, placed, arranged, those_removed}
 use Rattle.uds_exchange.proofs.RolesFound.{role_behind, has-role, only-role}

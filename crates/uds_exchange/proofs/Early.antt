@@ -5,9 +5,9 @@ use Rattle.std.proofs.lemmas.List.{append-nil}
 use Rattle.std.proofs.Math.Seq.{take-append_seam}
 use Rattle.std.proofs.lemmas.Bool.{cases_Bool}
 use Rattle.std.proofs.lemmas.Option.{same_Some, none-some}
-use Rattle.can_log.specs.Dir.{Message}
-use Rattle.can_log.specs.declared.frame.Dir.{Dir}
-use Rattle.can_log.specs.declared.frame.Dir.TheVariants.{Tester, Unit}
+use Rattle.direction.specs.Dir.{Message}
+use Rattle.direction.specs.declared.Dir.{Dir}
+use Rattle.direction.specs.declared.Dir.TheVariants.{Tester, Unit}
 use Rattle.uds_exchange.specs.Meaning.{ItemValue, exchange, stray, is_tester_request, is_answer_to, is_pending_reply_to, meaning, flattened}
 use Rattle.uds_exchange.specs.Pairing.{one_later, waiting, join_by, join}
 use Rattle.uds_exchange.specs.Order.{has_exchange, held_in, held, early}

@@ -2,8 +2,8 @@
 use Rattle.std.proofs.Common.{◌≡◌, ℕ, ◌+◌, ◌<◌, ◌≤◌, List, [], ◌∷◌, ◌++◌, length, take, drop, get_or, refl, ◌∙◌, ap, arith, length-drop, sum_by}
 use Rattle.std.proofs.lemmas.List.{drop_more, length-take-le, take-append-le, drop-append-le, take_all}
 use Rattle.std.proofs.lemmas.List.Sums.{sum_by-cons}
-use Rattle.can_log.specs.Dir.{Message}
-use Rattle.can_log.specs.declared.frame.Dir.{Dir}
+use Rattle.direction.specs.Dir.{Message}
+use Rattle.direction.specs.declared.Dir.{Dir}
 use Rattle.uds_exchange.specs.declared.held.Extent.{Extent}
 use Rattle.uds_exchange.specs.Steps.{total_length, cut_from}
 

@@ -3,7 +3,7 @@
 use Rattle.std.specs.Prelude.{⊤}
 use Rattle.std.proofs.Common.{◌≡◌, ℕ, true, false, List, [], ◌∷◌, ◌++◌, refl, ap}
 use Rattle.std.proofs.lemmas.Bool.{cond_both}
-use Rattle.can_log.specs.Dir.{Message}
+use Rattle.direction.specs.Dir.{Message}
 use Rattle.uds_message.specs.Message.{is_request}
 use Rattle.uds_exchange.specs.Meaning.{is_tester_request, is_answer_to, is_pending_reply_to, before_requests, Part, parts, strays_in}
 use Rattle.uds_exchange.proofs.Replies.{request-bytes}

@@ -3,7 +3,7 @@ use Rattle.std.proofs.Common.{◌≡◌, ℕ, true, false, List, [], ◌∷◌, 
 use Rattle.std.specs.List.{flat_map}
 use Rattle.std.proofs.lemmas.List.{append-nil}
 use Rattle.std.proofs.lemmas.Bool.{cases_Bool}
-use Rattle.can_log.specs.Dir.{Message}
+use Rattle.direction.specs.Dir.{Message}
 use Rattle.uds_exchange.specs.Meaning.{is_tester_request, is_answer_to, is_pending_reply_to, before_requests, Part, parts, answer, strays_in}
 use Rattle.uds_exchange.specs.Meaning.{removed, removed_of, removed_messages, ItemValue, exchange, stray_of, items_of, meaning}
 use Rattle.uds_exchange.specs.Roles.{those_removed}

@@ -1,8 +1,8 @@
 -- A message of the unit is not both final and pending for a request, and a request is no message of the unit.
 use Rattle.std.proofs.Common.{◌≡◌, ℕ, ◌+◌, Bool, true, false, not, ◌&&◌, ◌||◌, ◌==◌, List, [], ◌∷◌, refl}
 use Rattle.std.proofs.lemmas.Bool.{false≢true}
-use Rattle.can_log.specs.Dir.{Message}
-use Rattle.can_log.specs.declared.frame.Dir.TheVariants.{Tester, Unit}
+use Rattle.direction.specs.Dir.{Message}
+use Rattle.direction.specs.declared.Dir.TheVariants.{Tester, Unit}
 use Rattle.uds_message.specs.Message.{sid, is_request, is_response_sid, is_final_for, is_pending_for}
 use Rattle.uds_exchange.specs.Meaning.{is_tester_request, is_answer_to, is_pending_reply_to}
 

@@ -2,9 +2,9 @@
 -- (ISO 14229-1, requests, positive and negative responses). Messages are paired by first byte and order alone.
 use Rattle.std.specs.Prelude.{ℕ, Bool, true, false, not, ◌&&◌, List, [], ◌∷◌, ◌++◌, map, Option, Some, None, if◌then◌else◌}
 use Rattle.std.specs.List.{flat_map}
-use Rattle.can_log.specs.Dir.{Message}
-use Rattle.can_log.specs.declared.frame.Dir.{Dir}
-use Rattle.can_log.specs.declared.frame.Dir.TheVariants as dir
+use Rattle.direction.specs.Dir.{Message}
+use Rattle.direction.specs.declared.Dir.{Dir}
+use Rattle.direction.specs.declared.Dir.TheVariants as dir
 use Rattle.uds_message.specs.Message.{sid, is_request, is_final_for, is_pending_for}
 
 -- whether the tester sent it

@@ -1,7 +1,7 @@
 -- Which messages of a meaning have their place before the list of messages has ended, and which must wait.
 use Rattle.std.specs.Prelude.{ℕ, ◌-◌, Bool, true, false, List, [], ◌∷◌, length, take, Option, Some, None, if◌then◌else◌}
-use Rattle.can_log.specs.Dir.{Message}
-use Rattle.can_log.specs.declared.frame.Dir.TheVariants as dir
+use Rattle.direction.specs.Dir.{Message}
+use Rattle.direction.specs.declared.Dir.TheVariants as dir
 use Rattle.uds_message.specs.Message.{sid}
 use Rattle.uds_exchange.specs.Meaning.{ItemValue, exchange, stray, meaning, flattened}
 

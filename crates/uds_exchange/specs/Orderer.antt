@@ -1,6 +1,6 @@
 -- What an orderer is seen as, and what its calls do to it and to the sink.
 use Rattle.std.specs.Prelude.{◌≡◌, ℕ, Bool, true, false, List, [], ◌∷◌, ◌++◌, Option, option_map}
-use Rattle.can_log.specs.Dir.{Message}
+use Rattle.direction.specs.Dir.{Message}
 use Rattle.uds_message.specs.Message.{sid}
 use Rattle.uds_exchange.specs.declared.orderer.OrderFault.{OrderFault}
 use Rattle.uds_exchange.specs.declared.orderer.OrderFault.TheVariants as fault

@@ -1,7 +1,7 @@
 -- Messages put into a sink, whose implementation says which values of it may follow an Ok and an Err of `put`.
 use Rattle.std.specs.Prelude.{◌≡◌, ℕ, List, [], ◌∷◌, ◌++◌}
-use Rattle.can_log.specs.Dir.{Message}
-use Rattle.can_log.specs.declared.frame.Dir.{Dir}
+use Rattle.direction.specs.Dir.{Message}
+use Rattle.direction.specs.declared.Dir.{Dir}
 
 -- which values of a sink may follow an Ok of a `put` of a message: the value before, the message, the value after
 abbrev pub AfterOk : Type 0 → Type 1

@@ -5,7 +5,7 @@ ghost use Rattle.uds_exchange.specs.Sink.{Puts, Fails};
 ghost use Rattle.uds_exchange.specs.Steps.{total_length, cut_from};
 
 use crate::sink::MessageSink;
-use can_log::Dir;
+use direction::Dir;
 use std::alloc::{AllocError, Global};
 use std::marker::Model;
 
@@ -25,7 +25,7 @@ pub(crate) struct Held {
 
 impl Model for Held {
     ghost use Rattle.std.specs.Prelude.{List, ◌≡◌, length};
-    ghost use Rattle.can_log.specs.Dir.{Message};
+    ghost use Rattle.direction.specs.Dir.{Message};
     ghost use Rattle.uds_exchange.specs.Steps.{total_length, cut_from};
 
     ghost Value = { List Message };

@@ -1,6 +1,6 @@
 //! The items of a meaning.
 
-use can_log::Dir;
+use direction::Dir;
 
 /// A request with its answer, or a message that belongs to no exchange.
 #[derive(Debug, Drop, PartialEq, Eq)]

@@ -1,7 +1,7 @@
 //! What holds of meanings, whatever computes them. Each law is its contract; a call does nothing.
 
 ghost use Rattle.std.specs.Prelude.{List, [], ◌∷◌, ◌++◌};
-ghost use Rattle.can_log.specs.Dir.{Message};
+ghost use Rattle.direction.specs.Dir.{Message};
 ghost use Rattle.uds_exchange.specs.Meaning.{meaning, flattened};
 ghost use Rattle.uds_exchange.specs.Order.{early, held};
 ghost use Rattle.uds_exchange.specs.Sink.{Puts};

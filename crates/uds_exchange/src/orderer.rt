@@ -1,7 +1,7 @@
 //! Messages put into their order as soon as it is known.
 
 ghost use Rattle.std.specs.Prelude.{◌≡◌, ◌≢◌, ◌++◌, ◌∷◌, [], List, Option, true, false, length, OnOk, IfErr, sum_by};
-ghost use Rattle.can_log.specs.Dir.{Message};
+ghost use Rattle.direction.specs.Dir.{Message};
 ghost use Rattle.uds_exchange.specs.Order.{held as held_after};
 ghost use Rattle.uds_exchange.specs.Sink.{Puts, Fails};
 ghost use Rattle.uds_exchange.specs.Orderer.{stands_after, PutsDue, IsHeld, StopsDue, Leaves, StopsAtEnd};
@@ -12,7 +12,7 @@ ghost use Rattle.uds_exchange.specs.declared.orderer.OrderFault.TheVariants.{Mem
 use crate::held::Held;
 use crate::sink::MessageSink;
 use crate::step::{Step, step_of};
-use can_log::Dir;
+use direction::Dir;
 use std::alloc::Global;
 use std::marker::Model;
 

@@ -1,7 +1,7 @@
 //! Requests with their answers, as the messages come.
 
 ghost use Rattle.std.specs.Prelude.{◌≡◌, ◌≢◌, ◌<◌, ◌++◌, ◌∷◌, [], List, ℕ, length, Some, None, OnOk, OnErr, IfOk, slice_get, slice_set};
-ghost use Rattle.can_log.specs.Dir.{Message};
+ghost use Rattle.direction.specs.Dir.{Message};
 ghost use Rattle.uds_exchange.specs.Meaning.{meaning, exchange};
 ghost use Rattle.uds_exchange.specs.ItemSeen.{item_value, item_values};
 ghost use Rattle.uds_exchange.specs.Pairing as Spec;
@@ -9,7 +9,7 @@ ghost use Rattle.uds_exchange.specs.Pairing as Spec;
 use crate::item::Item;
 use crate::meaning::Meaning;
 use crate::step::{Step, step_of};
-use can_log::Dir;
+use direction::Dir;
 use std::alloc::{AllocError, Global};
 use std::marker::Model;
 

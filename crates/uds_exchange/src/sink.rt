@@ -1,9 +1,9 @@
 //! What takes messages in order.
 
 ghost use Rattle.std.specs.Prelude.{ℕ, List, OnOk, IfErr};
-ghost use Rattle.can_log.specs.declared.frame.Dir.{Dir};
+ghost use Rattle.direction.specs.declared.Dir.{Dir};
 
-use can_log::Dir;
+use direction::Dir;
 
 /// What takes messages in order. An implementation says by two ghost members which values of the sink may follow an
 /// `Ok` of [`put`](MessageSink::put), and which an `Err`.

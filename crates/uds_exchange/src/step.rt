@@ -3,7 +3,7 @@
 ghost use Rattle.std.specs.Prelude.{◌≡◌};
 ghost use Rattle.uds_exchange.specs.OneMessage as Spec;
 
-use can_log::Dir;
+use direction::Dir;
 use uds_message::{Answer, TesterKind, answer_to, tester_kind};
 
 /// What becomes of a message of a session, by the request that is open.

@@ -1,5 +1,5 @@
 use Rattle.std.proofs.Common.{length, get_or, ap, arith, length-drop}
-use Rattle.can_log.specs.declared.frame.Dir.TheVariants.{Tester}
+use Rattle.direction.specs.declared.Dir.TheVariants.{Tester}
 use Rattle.uds_exchange.specs.declared.held.Extent.{Extent}
 use Rattle.uds_exchange.proofs.Putting.{onto-next, onto-fault, onto-along}
 use Rattle.uds_exchange.proofs.Variants.{handed_on}

@@ -1,5 +1,5 @@
 use Rattle.std.proofs.Common.{◌≡◌, length, sym, ◌∙◌, ap, arith, sum_by}
-use Rattle.can_log.specs.Dir.{Message}
+use Rattle.direction.specs.Dir.{Message}
 use Rattle.uds_exchange.proofs.Extents.{sum-cut_from}
 use Rattle.uds_exchange.proofs.held.Held.total_len.Goals as goal
 

@@ -1,5 +1,5 @@
 use Rattle.std.proofs.Common.{◌∙◌, ap}
-use Rattle.can_log.specs.Dir.{Message}
+use Rattle.direction.specs.Dir.{Message}
 use Rattle.uds_exchange.specs.Orderer.{OrdererValue}
 use Rattle.uds_exchange.specs.Steps.{advance}
 use Rattle.uds_exchange.proofs.Variants.{on_ok_along, if_err_along}

@@ -1,6 +1,6 @@
 use Rattle.std.proofs.Common.{◌≡◌, ◌++◌, ◌∷◌, [], sym, ◌∙◌, ap, subst, arith, Some, None, ℕ, List}
 use Rattle.std.specs.Prelude.{slice_set}
-use Rattle.can_log.specs.Dir.{Message}
+use Rattle.direction.specs.Dir.{Message}
 use Rattle.uds_message.specs.Message.{sid}
 use Rattle.uds_exchange.specs.declared.item.Item.TheVariants as item
 use Rattle.uds_exchange.specs.Meaning.{ItemValue, exchange, stray}

@@ -1,5 +1,5 @@
 use Rattle.std.proofs.Common.{sym, ◌∙◌, ap}
-use Rattle.can_log.specs.Dir.{Message}
+use Rattle.direction.specs.Dir.{Message}
 use Rattle.uds_exchange.specs.Pairing.{join}
 use Rattle.uds_exchange.proofs.OneMore.{meaning-append}
 use Rattle.uds_exchange.proofs.Variants.{on_ok_along, on_err_along}

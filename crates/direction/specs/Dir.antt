@@ -1,7 +1,7 @@
 -- The two directions of a diagnostic session, and a message of one of them.
 use Rattle.std.specs.Prelude.{ℕ, List}
-use Rattle.can_log.specs.declared.frame.Dir.{Dir}
-use Rattle.can_log.specs.declared.frame.Dir.TheVariants as dir
+use Rattle.direction.specs.declared.Dir.{Dir}
+use Rattle.direction.specs.declared.Dir.TheVariants as dir
 
 -- the other of the two
 abbrev pub other_direction : Dir → Dir
