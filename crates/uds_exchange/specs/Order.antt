@@ -2,7 +2,7 @@
 use Rattle.std.specs.Prelude.{ℕ, ◌-◌, Bool, true, false, List, [], ◌∷◌, length, take, Option, Some, None, if◌then◌else◌}
 use Rattle.direction.specs.Dir.{Message}
 use Rattle.direction.specs.declared.Dir.TheVariants as dir
-use Rattle.uds_message.specs.Message.{sid}
+use Rattle.uds_message.specs.Message.{sid, negative_response}
 use Rattle.uds_exchange.specs.Meaning.{ItemValue, exchange, stray, meaning, flattened}
 
 -- whether one of the items is an exchange
@@ -39,4 +39,4 @@ early M = take (length (flattened (meaning M)) - length (held M)) (flattened (me
 
 -- the negative response of the unit with the code generalReject
 abbrev pub rejection_of : List ℕ → Message
-rejection_of request = (dir.Unit, 0x7F ∷ sid request ∷ 0x10 ∷ [])
+rejection_of request = (dir.Unit, negative_response ∷ sid request ∷ 0x10 ∷ [])

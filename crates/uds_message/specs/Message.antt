@@ -12,6 +12,14 @@ abbrev pub sid : List ℕ → ℕ
 sid [] = 0
 sid (first ∷ parameters) = first
 
+-- the service identifier of a negative response (ISO 14229-1, negative response message)
+abbrev pub negative_response : ℕ
+negative_response = 0x7F
+
+-- a response is negative by its first byte
+abbrev pub is_negative_response : List ℕ → Bool
+is_negative_response response = sid response == negative_response
+
 -- the response code of a negative response is its third byte
 abbrev pub response_code : List ℕ → ℕ
 response_code (first ∷ refused ∷ code ∷ rest) = code
@@ -34,11 +42,11 @@ is_request (first ∷ parameters) = not (is_response_sid first) && not (is_keep_
 -- a positive response to the service: the identifier is the service's + 40 hexadecimal (and not 7F, a negative response's)
 abbrev pub is_positive : ℕ → List ℕ → Bool
 is_positive service [] = false
-is_positive service (first ∷ parameters) = first == service + 0x40 && not (first == 0x7F)
+is_positive service (first ∷ parameters) = first == service + 0x40 && not (first == negative_response)
 
 -- a negative response to the service, with a code that passes the test: 7F, the service, the code and no more
 abbrev pub is_negative : ℕ → (ℕ → Bool) → List ℕ → Bool
-is_negative service passes (first ∷ refused ∷ code ∷ []) = first == 0x7F && (refused == service && passes code)
+is_negative service passes (first ∷ refused ∷ code ∷ []) = first == negative_response && (refused == service && passes code)
 is_negative service passes message = false
 
 -- the code requestCorrectlyReceived-ResponsePending (ISO 14229-1, Annex A.1)

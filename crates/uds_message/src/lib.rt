@@ -16,7 +16,7 @@ mod message;
 mod names;
 
 pub use message::{
-    Answer, NEGATIVE_RESPONSE, TesterKind, answer_to, is_suppressing, response_code, sid,
+    Answer, TesterKind, answer_to, is_negative_response, is_suppressing, response_code, sid,
     tester_kind,
 };
 pub use names::{code_name, service_name};

@@ -9,7 +9,7 @@ use crate::names::has_sub_function;
 const TESTER_PRESENT: u8 = 0x3E;
 
 /// The service identifier of every negative response (ISO 14229-1, negative response message).
-pub const NEGATIVE_RESPONSE: u8 = 0x7F;
+const NEGATIVE_RESPONSE: u8 = 0x7F;
 
 /// What a positive response adds to the identifier of its request: bit 6.
 const POSITIVE_RESPONSE: u8 = 0x40;
@@ -50,6 +50,13 @@ pub fn sid(message: &[u8]) -> u8
         [] => 0,
         [sid, ..] => *sid,
     }
+}
+
+/// Whether a message of the unit is a negative response, by its first byte.
+pub fn is_negative_response(response: &[u8]) -> bool
+    ensures { result ≡ Spec.is_negative_response response.now }
+{
+    sid(response) == NEGATIVE_RESPONSE
 }
 
 /// The response code of a negative response: its third byte, or 0 where it has none.

@@ -5,7 +5,7 @@ ghost use Rattle.uds_message.specs.Tables as Spec;
 
 /// A row of the table of services.
 #[derive(Clone, Copy)]
-struct Row {
+struct Service {
     name: &'static str,
     has_sub_function: bool,
 }
@@ -15,21 +15,21 @@ struct Row {
 pub fn service_name(sid: u8) -> Option<&'static str>
     ensures { option_map (λ name. name.now) result ≡ option_map (λ row. row.name) (Spec.service_row sid) }
 {
-    service(sid).map(|service| service.name)
+    service_row(sid).map(|service| service.name)
 }
 
 /// Whether the service has a sub-function, and so a bit to suppress the positive response.
 pub(crate) fn has_sub_function(sid: u8) -> bool
     ensures { result ≡ Spec.has_sub_function sid }
 {
-    match service(sid) {
+    match service_row(sid) {
         Some(service) => service.has_sub_function,
         None => false,
     }
 }
 
 /// The table of services.
-fn service(sid: u8) -> Option<Row>
+fn service_row(sid: u8) -> Option<Service>
     ensures { option_map (λ row. record {
       sid = sid;
       name = row.name.now;
@@ -68,21 +68,21 @@ fn service(sid: u8) -> Option<Row>
     }
 }
 
-fn with_sub_function(name: &'static str) -> Row
+fn with_sub_function(name: &'static str) -> Service
     ensures name { result.name.now ≡ name.now }
     ensures sub_function { result.has_sub_function ≡ true }
 {
-    Row {
+    Service {
         name,
         has_sub_function: true,
     }
 }
 
-fn without_sub_function(name: &'static str) -> Row
+fn without_sub_function(name: &'static str) -> Service
     ensures name { result.name.now ≡ name.now }
     ensures sub_function { result.has_sub_function ≡ false }
 {
-    Row {
+    Service {
         name,
         has_sub_function: false,
     }
