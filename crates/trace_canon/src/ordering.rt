@@ -116,7 +116,7 @@ pub(crate) fn announced(reason: Reason) -> Option<u32>
     }
 }
 
-/// Takes one more message. The orderer has not failed before, since a run ends with its first fault.
+/// Takes one more message.
 fn order<W: Target>(
     orderer: &mut Orderer,
     text: &mut Text,
@@ -145,13 +145,13 @@ fn order<W: Target>(
     }
 }
 
-/// Why a run ends with a fault of the orderer, which has not failed before.
+/// Why a run ends with a fault of the orderer.
 fn stopped_by(fault: OrderFault<DeviceFault>) -> OrderingFault
     ensures { result ≡ stopped_by fault }
 {
     match fault {
         OrderFault::Sink(_) => OrderingFault::Write,
-        OrderFault::Memory | OrderFault::Failed => OrderingFault::Memory,
+        OrderFault::Memory => OrderingFault::Memory,
     }
 }
 

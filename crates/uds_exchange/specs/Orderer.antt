@@ -1,5 +1,5 @@
 -- What an orderer is seen as, and what its calls do to it and to the sink.
-use Rattle.std.specs.Prelude.{◌≡◌, ℕ, Bool, true, false, List, [], ◌∷◌, ◌++◌, Option, option_map}
+use Rattle.std.specs.Prelude.{◌≡◌, ℕ, List, [], ◌∷◌, ◌++◌, Option, option_map}
 use Rattle.direction.specs.Dir.{Message}
 use Rattle.uds_message.specs.Message.{sid}
 use Rattle.uds_exchange.specs.declared.orderer.OrderFault.{OrderFault}
@@ -7,15 +7,14 @@ use Rattle.uds_exchange.specs.declared.orderer.OrderFault.TheVariants as fault
 use Rattle.uds_exchange.specs.Order.{open_request, held, early}
 use Rattle.uds_exchange.specs.Sink.{AfterOk, AfterErr, Puts, Fails}
 
--- whether the sink has failed, the first byte of the open request, and the messages that are held
+-- the first byte of the open request, and the messages that are held
 pub record OrdererValue : Type 0 where
-  pub failed : Bool
   pub open_sid : Option ℕ
   pub holds : List Message
 
 -- an orderer that stands after the messages M
 abbrev pub stands_after : List Message → OrdererValue
-stands_after M = record { failed = false; open_sid = option_map sid (open_request M); holds = held M }
+stands_after M = record { open_sid = option_map sid (open_request M); holds = held M }
 
 -- these are the messages that one more message brings to their place
 abbrev pub IsDue : List Message → Message → List Message → Type 0
@@ -35,17 +34,8 @@ abbrev pub StopsDue : {Sink Fault : Type 0} → AfterOk Sink → AfterErr Sink F
 StopsDue after_ok after_err M message before after fault.Memory = after ≡ before
 StopsDue after_ok after_err M message before after (fault.Sink why) =
     (due : List Message) × IsDue M message due × Fails after_ok after_err before due why after
-StopsDue after_ok after_err M message before after fault.Failed = ⊥
 
--- what a fault leaves of the orderer: where memory was refused it is unchanged; after a fault of the sink it has
--- failed, and is otherwise as before
-abbrev pub Leaves : {Fault : Type 0} → OrdererValue → OrdererValue → OrderFault Fault → Type 0
-Leaves old new fault.Memory = (old.failed ≡ false) × (new ≡ old)
-Leaves old new (fault.Sink why) = (old.failed ≡ false) × (new ≡ record old { failed = true })
-Leaves old new fault.Failed = (old.failed ≡ true) × (new ≡ old)
-
--- the only fault of an orderer that has not failed is the sink's, after a proper prefix of these messages
-abbrev pub StopsAtEnd : {Sink Fault : Type 0} → AfterOk Sink → AfterErr Sink Fault → List Message → Sink → Sink → OrderFault Fault → Type 0
-StopsAtEnd after_ok after_err messages before after fault.Memory = ⊥
-StopsAtEnd after_ok after_err messages before after (fault.Sink why) = Fails after_ok after_err before messages why after
-StopsAtEnd after_ok after_err messages before after fault.Failed = ⊥
+-- what a fault of the sink leaves of it at the end, where these are held: a proper prefix of them was put
+abbrev pub StopsHeld : {Sink Fault : Type 0} → AfterOk Sink → AfterErr Sink Fault → List Message → Sink → Sink → OrderFault Fault → Type 0
+StopsHeld after_ok after_err holds before after fault.Memory = ⊥
+StopsHeld after_ok after_err holds before after (fault.Sink why) = Fails after_ok after_err before holds why after

@@ -1,13 +1,13 @@
 //! Messages put into their order as soon as it is known.
 
-ghost use Rattle.std.specs.Prelude.{◌≡◌, ◌≢◌, ◌++◌, ◌∷◌, [], List, Option, true, false, length, OnOk, IfErr, sum_by};
+ghost use Rattle.std.specs.Prelude.{◌≡◌, ◌≢◌, ◌++◌, ◌∷◌, [], List, Option, length, OnOk, OnErr, IfErr, sum_by};
 ghost use Rattle.direction.specs.Dir.{Message};
 ghost use Rattle.uds_exchange.specs.Order.{held as held_after};
 ghost use Rattle.uds_exchange.specs.Sink.{Puts, Fails};
-ghost use Rattle.uds_exchange.specs.Orderer.{stands_after, PutsDue, IsHeld, StopsDue, Leaves, StopsAtEnd};
+ghost use Rattle.uds_exchange.specs.Orderer.{stands_after, PutsDue, IsHeld, StopsDue, StopsHeld};
 ghost use Rattle.uds_exchange.specs.Steps as Spec;
 ghost use Rattle.uds_exchange.specs.Steps.{due, due_for, Stops};
-ghost use Rattle.uds_exchange.specs.declared.orderer.OrderFault.TheVariants.{Memory, Failed};
+ghost use Rattle.uds_exchange.specs.declared.orderer.OrderFault.TheVariants.{Memory};
 
 use crate::held::Held;
 use crate::sink::MessageSink;
@@ -19,19 +19,16 @@ use std::marker::Model;
 /// Why an orderer did not take a message.
 #[derive(Debug, Drop, PartialEq, Eq)]
 pub enum OrderFault<E> {
-    /// Memory was refused. Nothing was put, and the orderer is unchanged: the call may be made again.
+    /// Memory was refused. Nothing was put: the call may be made again.
     Memory,
-    /// The sink refused a message.
+    /// The sink refused a message. Those that were due before it were put, and a second call would put them again.
     Sink(E),
-    /// The sink refused a message in an earlier call. Nothing was put.
-    Failed,
 }
 
 /// Puts the messages of a meaning in order into a sink, each as soon as its place is known. After a request without
 /// answer that is when the answer comes, the next request, or the end: until then other messages are held.
 #[derive(Debug, Drop)]
 pub struct Orderer {
-    failed: bool,
     /// The first byte of the last request, where that waits for its answer.
     open_sid: Option<u8>,
     /// What follows that request.
@@ -43,7 +40,7 @@ impl Model for Orderer {
 
     ghost Value = { OrdererValue };
 
-    ghost view = { λ o. record { failed = o.failed; open_sid = o.open_sid; holds = o.held } };
+    ghost view = { λ o. record { open_sid = o.open_sid; holds = o.held } };
 }
 
 impl Orderer {
@@ -52,7 +49,6 @@ impl Orderer {
         ensures { result ≡ stands_after [] }
     {
         Orderer {
-            failed: false,
             open_sid: None,
             held: Held::new(alloc),
         }
@@ -66,7 +62,7 @@ impl Orderer {
     }
 
     /// Takes one more message, and puts all whose place is now known. No memory is taken for a message that is put
-    /// or left out.
+    /// or left out. After an `Err` the orderer is unchanged.
     pub fn take<S: MessageSink>(
         &mut self,
         dir: Dir,
@@ -78,14 +74,12 @@ impl Orderer {
         ensures puts { OnOk result ((M : List Message) → self.old ≡ stands_after M
             → PutsDue S.after_ok M (dir, message.now) sink.old sink.new) }
 
-        ensures memory { result ≡ Err Memory → (self.new ≡ self.old) × (sink.new ≡ sink.old) }
+        ensures err { OnErr result (self.new ≡ self.old) }
+        ensures memory { result ≡ Err Memory → (sink.new ≡ sink.old) }
         ensures held_only { result ≡ Err Memory → (M : List Message) → self.old ≡ stands_after M
             → IsHeld M (dir, message.now) }
         ensures stops { IfErr result (λ fault. (M : List Message) → self.old ≡ stands_after M
             → StopsDue S.after_ok S.after_err M (dir, message.now) sink.old sink.new fault) }
-        ensures leaves { IfErr result (λ fault. Leaves self.old self.new fault) }
-        ensures failed { self.old.failed ≡ true
-            → (result ≡ Err Failed) × (self.new ≡ self.old) × (sink.new ≡ sink.old) }
     {
         self.advance(dir, message, sink)
     }
@@ -95,14 +89,9 @@ impl Orderer {
         ensures puts { OnOk result ((M : List Message) → self ≡ stands_after M
             → Puts S.after_ok sink.old (held_after M) sink.new) }
         ensures stops { IfErr result (λ fault. (M : List Message) → self ≡ stands_after M
-            → StopsAtEnd S.after_ok S.after_err (held_after M) sink.old sink.new fault) }
-        ensures failed { self.failed ≡ true → (result ≡ Err Failed) × (sink.new ≡ sink.old) }
-        ensures failed_only { result ≡ Err Failed → self.failed ≡ true }
+            → StopsHeld S.after_ok S.after_err (held_after M) sink.old sink.new fault) }
         ensures never_memory { result ≢ Err Memory }
     {
-        if self.failed {
-            return Err(OrderFault::Failed);
-        }
         self.held.put_all(sink).map_err(OrderFault::Sink)
     }
 
@@ -113,22 +102,16 @@ impl Orderer {
         message: &[u8],
         sink: &mut S,
     ) -> Result<(), OrderFault<S::Fault>>
-        ensures ok { OnOk result ((self.old.failed ≡ false) × (self.new ≡ Spec.advance self.old (dir, message.now))
+        ensures ok { OnOk result ((self.new ≡ Spec.advance self.old (dir, message.now))
             × Puts S.after_ok sink.old (due self.old (dir, message.now)) sink.new) }
         ensures err { IfErr result (λ fault. Stops S.after_ok S.after_err (dir, message.now)
             self.old sink.old self.new sink.new fault) }
     {
-        if self.failed {
-            return Err(OrderFault::Failed);
-        }
         let step = step_of(self.open_sid, dir, message);
         if let Step::Hold = step {
             return self.held.push(dir, message).map_err(|_| OrderFault::Memory);
         }
-        if let Err(fault) = put_due(step, &self.held, dir, message, sink) {
-            self.failed = true;
-            return Err(OrderFault::Sink(fault));
-        }
+        put_due(step, &self.held, dir, message, sink).map_err(OrderFault::Sink)?;
         match step {
             Step::Request(sid) => {
                 self.held.clear();
