@@ -1,5 +1,6 @@
 -- A device of proof: the receptions as the code keeps them, one step per frame. Public clauses cite what is here
--- only through the laws that join it to what stands after a trace.
+-- only through the laws that join it to what stands after a trace. It stays since each function of the code takes one step,
+-- and what a step does to a whole list is proved once (`proofs/OneMore.antt`), and not by each of them.
 use Rattle.std.specs.Prelude.{ℕ, ◌+◌, List, ◌++◌, nat_le, ◌==◌, if◌then◌else◌, Option, Some, None, Result}
 use Rattle.direction.specs.declared.Dir.{Dir}
 use Rattle.direction.specs.declared.Dir.TheVariants.{Tester, Unit}

@@ -1,4 +1,5 @@
--- Receptions that are open (ISO 15765-2, sections 9.6 and 9.8), by looking back over the whole trace.
+-- Receptions that are open (ISO 15765-2, sections 9.6 and 9.8), by looking back over the whole trace. This is what is to be
+-- judged: it speaks of positions, as the standard does, and has no state that goes from frame to frame.
 use Rattle.std.specs.Prelude.{◌≡◌, ◌<◌, ◌≤◌, ℕ, ◌+◌, List, length, ⊤}
 use Rattle.direction.specs.declared.Dir.{Dir}
 use Rattle.isotp_receive.specs.Trace.{Entry, At, FirstFrame, FirstFrameAt, ConsecutiveFrameAt, FrameRole, single, first, consecutive, continue_or_wait, overflow, no_part, role}

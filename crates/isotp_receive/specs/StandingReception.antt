@@ -1,5 +1,6 @@
 -- The reception of a direction that stands after a list of frames: a function that looks back over the whole list. It is
--- the short spelling, for contracts and proofs, of `IsOpenAt` and `IsStandingAt`; public laws join them both ways.
+-- the short spelling, for contracts and proofs, of `IsOpenAt` and `IsStandingAt`; public laws join them both ways. It stays
+-- beside them since a caller in a loop needs an equation, and a relation gives none.
 use Rattle.std.specs.Prelude.{ℕ, ◌+◌, ◌-◌, ◌%◌, Bool, true, false, ◌&&◌, List, [], ◌∷◌, ◌++◌, length, not, nat_lt, nat_le, ◌==◌, if◌then◌else◌, Option, Some, None}
 use Rattle.direction.specs.declared.Dir.{Dir}
 use Rattle.direction.specs.declared.Dir.TheVariants.{Tester, Unit}
