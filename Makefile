@@ -37,13 +37,13 @@ run: build
 check:
 	@scripts/check $(CRATE)
 
-# Tries the wrong bodies of attacks/, those of CRATE alone where it is given: the prover has to refuse each. Some 70 minutes
+# Tries the wrong bodies of attacks/, those of CRATE alone where it is given: the prover has to refuse each. Some 95 minutes
 # of one processor in all, and no part of `test`, which tries those of must-fail/.
 attack:
 	@scripts/attack $(CRATE)
 
-# The tests of the built program and of the documents, random and hostile logs through it, each growth of memory refused in
-# turn, and then the gate: every proof from nothing, every test, every wrong body refused.
+# The tests of the built program and of the documents, random and hostile logs through it, memory that is ample and each growth
+# of it refused in turn, and then the gate: every proof from nothing, every test, every wrong body refused.
 test: build
 	@python3 tests/command_line.py $(PROGRAM)
 	@python3 tests/program.py $(PROGRAM)
@@ -54,6 +54,7 @@ test: build
 	@python3 tests/release.py $(PROGRAM)
 	@python3 tests/differential.py $(PROGRAM)
 	@python3 tests/hostile_input.py $(PROGRAM)
+	@python3 tests/ample_memory.py $(PROGRAM)
 	@python3 tests/refused_memory.py $(PROGRAM)
 	@rt ci
 

@@ -9,6 +9,7 @@
 - the table of wrong bodies in docs/proved.md is the one that scripts/must-fail-counts prints, and README says the same;
 - how many bodies were planted by hand, as docs/attacks.md and docs/proved.md say, is the number of the rows of docs/attacks.md;
 - each wrong body of must-fail/ and attacks/ can be applied: what it takes away stands once;
+- those that the first table of docs/proved.md names are tried by the gate, one or more for each part of its first sentence;
 - docs/definitions.md names each file of definitions, and each definition stands in the file that it names;
 - it has each definition that a public function's contract or a law cites;
 - docs/architecture.md says of each crate of the kit that the program stands on where it is called, and the call stands there;
@@ -222,6 +223,15 @@ def wrong_bodies(cases):
             cases.report(f"the wrong bodies of {crate} can be applied", wrong)
 
 
+def tried_by_the_gate(cases):
+    """Each row of the first table of docs/proved.md names wrong bodies of trace_canon in its last cell."""
+    folder = TOP / "crates" / "trace_canon" / "must-fail"
+    for part, _, bodies in table_below(PROVED, "What is proved, and what is not"):
+        names = re.findall(r"`(\w+)`", bodies)
+        wrong = [f"{name} is not there" for name in names if not (folder / f"{name}.edit").exists()]
+        cases.report(f"the gate tries wrong bodies for: {part}", wrong if names else ["none is named"])
+
+
 def definition_rows(page):
     """The rows of docs/definitions.md: crate, names of definitions, names of files."""
     crate = None
@@ -329,8 +339,8 @@ def main():
         sys.exit(__doc__)
     cases = Cases(None)
     for test in [
-        picture, links, named_files, counts, planted, wrong_bodies, definitions, citations, calls_of_the_kit, cited_clauses,
-        lines_of_faults,
+        picture, links, named_files, counts, planted, wrong_bodies, tried_by_the_gate, definitions, citations, calls_of_the_kit,
+        cited_clauses, lines_of_faults,
     ]:
         test(cases)
     cases.end()

@@ -1,22 +1,17 @@
-//! Calls that take memory, with ample supply, at each size at which a buffer may have to grow: none of them gives up. The
-//! sizes are the powers of two up to 2^20, with one byte less and one more. One byte less than 2^20 is the longest message.
+//! Calls that keep messages, with ample memory, at each size at which a buffer may have to grow: none of them gives up. The
+//! sizes are the powers of two up to 2^20, with one byte less and one more. One byte less than 2^20 is the longest message that
+//! a log can have. What a log can have, `tests/ample_memory.py` takes through the built program, which is faster by far.
 
-use crate::calls::{Call, answer_of, compared, meaning};
-use crate::rows::digits_of;
-use can_log::{Frame, Id, Kind};
 use direction::Dir::{self, Tester, Unit};
-use isotp_receive::{MESSAGE_LIMIT, Pair, Verdict};
-use isotp_segment::Segments;
 use std::alloc::{AllocError, Global};
 use std::test::Fail;
-use trace_canon::{Comparison, Summary};
 use uds_exchange::{Item, Meaning, MessageSink, Orderer, Pairing};
 
 /// The exponent of the largest power of two.
 const LARGEST: u32 = 20;
 
-/// More strays than that power, each of which is an item.
-const MANY: usize = 1_048_577;
+/// As many pieces of 4,096 bytes have more bytes than that power.
+const PIECES: usize = 257;
 
 const REQUEST: u8 = 0x22;
 
@@ -38,13 +33,19 @@ fn sizes(alloc: Global) -> Result<Vec<usize>, AllocError> {
     Ok(sizes)
 }
 
-/// A message of so many bytes, all alike.
-fn message_of(alloc: Global, byte: u8, size: usize) -> Result<Vec<u8>, AllocError> {
-    let mut message = Vec::new(alloc);
-    for _ in 0..size {
-        message.push(byte)?;
+/// More bytes than the largest size, all alike.
+fn whole_of(alloc: Global, byte: u8) -> Result<Vec<u8>, AllocError> {
+    let piece = [byte; 4096];
+    let mut whole = Vec::new(alloc);
+    for _ in 0..PIECES {
+        whole.extend_from_slice(&piece)?;
     }
-    Ok(message)
+    Ok(whole)
+}
+
+/// Its first bytes, as many as the size.
+fn front_of(whole: &[u8], size: usize) -> &[u8] {
+    whole.get(..size).unwrap_or(whole)
 }
 
 /// How many bytes the items of a meaning have in all.
@@ -69,23 +70,18 @@ fn bytes_in(meaning: &Meaning) -> usize {
 #[test]
 fn messages_of_each_size_are_paired(rt: HostRuntime) -> Result<(), Fail> {
     let alloc = rt.alloc();
+    let (request, answer, stray) = (
+        whole_of(alloc, REQUEST)?,
+        whole_of(alloc, ANSWER)?,
+        whole_of(alloc, STRAY)?,
+    );
     for size in sizes(alloc)? {
         let mut pairing = Pairing::new(alloc);
-        pairing.take(Tester, &message_of(alloc, REQUEST, size)?)?;
-        pairing.take(Unit, &message_of(alloc, ANSWER, size)?)?;
-        pairing.take(Unit, &message_of(alloc, STRAY, size)?)?;
+        pairing.take(Tester, front_of(&request, size))?;
+        pairing.take(Unit, front_of(&answer, size))?;
+        pairing.take(Unit, front_of(&stray, size))?;
         assert!(rt; bytes_in(&pairing.finish()) == size.saturating_mul(3));
     }
-    Ok(())
-}
-
-#[test]
-fn more_strays_than_the_longest_message_has_bytes_are_paired(rt: HostRuntime) -> Result<(), Fail> {
-    let mut pairing = Pairing::new(rt.alloc());
-    for _ in 0..MANY {
-        pairing.take(Unit, &[STRAY])?;
-    }
-    assert!(rt; pairing.finish().len() == MANY);
     Ok(())
 }
 
@@ -113,98 +109,17 @@ impl MessageSink for Bytes {
 #[test]
 fn strays_of_each_size_are_held_together(rt: HostRuntime) -> Result<(), Fail> {
     let alloc = rt.alloc();
+    let stray = whole_of(alloc, STRAY)?;
     let mut bytes = Bytes { put: 0 };
     let mut orderer = Orderer::new(alloc);
     orderer.take(Tester, &[REQUEST], &mut bytes)?;
     let mut held = 0usize;
     for size in sizes(alloc)? {
-        orderer.take(Unit, &message_of(alloc, STRAY, size)?, &mut bytes)?;
+        orderer.take(Unit, front_of(&stray, size), &mut bytes)?;
         held = held.saturating_add(size);
     }
     assert!(rt; orderer.held() == held as u64 && bytes.put == 1);
     orderer.take(Unit, &[ANSWER], &mut bytes)?;
     assert!(rt; bytes.put == held.saturating_add(2));
-    Ok(())
-}
-
-#[test]
-fn more_strays_than_the_longest_message_has_bytes_are_held(rt: HostRuntime) -> Result<(), Fail> {
-    let mut bytes = Bytes { put: 0 };
-    let mut orderer = Orderer::new(rt.alloc());
-    orderer.take(Tester, &[REQUEST], &mut bytes)?;
-    for _ in 0..MANY {
-        orderer.take(Unit, &[STRAY], &mut bytes)?;
-    }
-    assert!(rt; orderer.held() == MANY as u64);
-    orderer.take(Unit, &[ANSWER], &mut bytes)?;
-    assert!(rt; bytes.put == MANY.saturating_add(2));
-    Ok(())
-}
-
-#[test]
-fn a_message_of_each_size_is_received(rt: HostRuntime) -> Result<(), Fail> {
-    let alloc = rt.alloc();
-    for size in sizes(alloc)? {
-        let message = message_of(alloc, STRAY, size)?;
-        if message.is_empty() || message.len() > MESSAGE_LIMIT as usize {
-            continue;
-        }
-        let mut pair = Pair::new(alloc);
-        let mut received = 0usize;
-        for (dir, data) in Segments::new(Unit, &message) {
-            let frame = Frame::new(Id::Std(0x7E8), Kind::Classic, &data).ok_or("no frame")?;
-            if let Verdict::Message(message) = pair.accept(1, 0, dir, &frame)?.verdict {
-                received = message.len();
-            }
-        }
-        assert!(rt; received == size);
-    }
-    Ok(())
-}
-
-/// The lines of a message's frames.
-fn push_lines(alloc: Global, log: &mut String, dir: Dir, message: &[u8]) -> Result<(), Fail> {
-    if message.is_empty() || message.len() > MESSAGE_LIMIT as usize {
-        return Ok(());
-    }
-    for (dir, data) in Segments::new(dir, message) {
-        log.push_str(match dir {
-            Tester => "(0.000000) can0 7E0#",
-            Unit => "(0.000000) can0 7E8#",
-        })?;
-        log.push_str(&digits_of(alloc, &data)?)?;
-        log.push_str("\n")?;
-    }
-    Ok(())
-}
-
-#[test]
-fn a_log_with_messages_of_each_size_is_taken_by_each_call(rt: HostRuntime) -> Result<(), Fail> {
-    let alloc = rt.alloc();
-    let mut log = String::new(alloc);
-    push_lines(alloc, &mut log, Tester, &[REQUEST])?;
-    for size in sizes(alloc)? {
-        push_lines(alloc, &mut log, Unit, &message_of(alloc, STRAY, size)?)?;
-    }
-    push_lines(alloc, &mut log, Unit, &[ANSWER])?;
-    for call in [Call::Normalise, Call::List, Call::Explain] {
-        let (answer, _writer) = answer_of(alloc, call, log.as_bytes(), Vec::new(alloc))?;
-        assert!(rt;
-            matches!(
-                answer,
-                Ok(Summary {
-                    messages: 62,
-                    dropped: 0,
-                    ended: 0,
-                    unfinished: 0,
-                    pending: 0,
-                    ..
-                })
-            )
-        );
-    }
-    assert!(rt; meaning(alloc, log.as_bytes())??.len() == 61);
-    let (found, _reads) = compared(alloc, log.as_bytes(), log.as_bytes())?;
-    assert!(rt; found == Ok(Comparison::Same));
     Ok(())
 }
