@@ -12,11 +12,12 @@ import tempfile
 from pathlib import Path
 
 from cases import DEVICE, DIFFERENT, DONE, REFUSAL, WORDS, Cases
+from counts import counts_line
 
 LOG = b"(1700000000.000000) can0 7E0#0322F190\n"
 CANONICAL = b"(0000000000.000000) can0 7E0#0322F190CCCCCCCC\n"
 LIST = b"1 exchange ReadDataByIdentifier 22F190 -> unanswered\n"
-EXPLANATION = b"lines 1 frames 1 messages 1 dropped 0 ended 0 unfinished 0 pending 0\n"
+EXPLANATION = counts_line(LOG, CANONICAL)
 TEXTS = {"normalise": CANONICAL, "list": LIST, "explain": EXPLANATION}
 
 NO_LOG_LINE = b"(1.000000) can0 7E0#0\n"

@@ -6,6 +6,7 @@ import subprocess
 from functools import partial
 
 from cases import DEVICE, DONE, REFUSAL
+from counts import counts_line
 from refuser import READ, TAKES_NOTHING, WRITE
 from runs import LONG_LOG, READ_FAILED, WRITE_FAILED, Ended, differences, files, how, pipe
 from tables import CANONICAL_LINE, VIN, VIN_CANONICAL
@@ -27,9 +28,7 @@ LISTED = b"""\
 EXPLAINED = b"""\
 line 1: unit frame dropped: unknown kind
 line 2: unit frame dropped: consecutive frame unexpected
-lines 5 frames 5 messages 3 dropped 2 ended 0 unfinished 0 pending 0
-"""
-
+""" + counts_line(SESSION, messages=3, dropped=2)
 
 KEEP_ALIVE = b"(1.000000) can0 7E0#023E80\n"
 KEEP_ALIVE_LISTED = b"1 stray tester 3E80\n"
@@ -38,8 +37,7 @@ NO_FRAMES = 2 * b"(1.000000) can0 7E8#40\n"
 NO_FRAMES_EXPLAINED = b"""\
 line 1: unit frame dropped: unknown kind
 line 2: unit frame dropped: unknown kind
-lines 2 frames 2 messages 0 dropped 2 ended 0 unfinished 0 pending 0
-"""
+""" + counts_line(NO_FRAMES, dropped=2)
 
 
 def devices(program):

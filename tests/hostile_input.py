@@ -20,6 +20,7 @@ from pathlib import Path
 
 import oracle
 from cases import DIFFERENT, DONE, REFUSAL, Cases
+from counts import counts_line
 
 # The lengths that a frame may have, and those that a first frame may have.
 FRAME_LENGTHS = (*range(9), 12, 16, 20, 24, 32, 48, 64)
@@ -68,11 +69,11 @@ MEANT = Fraction(96, 22)
 # What a job took: its most kilobytes, or none, and its status.
 Peak = namedtuple("Peak", "kilobytes status")
 
-# What explain says of two of the longest messages that lack their last frames, and then counts.
+# What explain says of two of the longest messages that lack their last frames, before it counts.
 UNFINISHED = b"""\
 end: tester reception from line 1 of 1048575 bytes unfinished
 end: unit reception from line 2 of 1048575 bytes unfinished
-.."""
+"""
 
 REFUSED_LOGS = [b"x", b"(", b"\n" * 1000 + b"\xff" * 1000, LONGEST + b"(1.0\n" * 1000, b"(0.000000) a 7E8#1000FFFFFFFF4142\n" * 1000]
 
@@ -161,7 +162,7 @@ FIRST_DATA = b"\x10\x00\x00\x00\xff\xff\x41\x42"
 
 def longest_lines(cases):
     """The longest line that is read, and one byte more."""
-    cases.case("the longest line, with a carriage return", cases.run(["explain"], LONGEST[:-1] + b"\r\n"), DONE, b"lines 1 frames 0 ..")
+    cases.case("the longest line, with a carriage return", cases.run(["explain"], LONGEST[:-1] + b"\r\n"), DONE, counts_line(LONGEST, frames=0))
     for before, more in ONE_BYTE_MORE:
         found = cases.run(["explain"], LONGEST[:before] + more + LONGEST[before:])
         error = f"line 1 column {before + 1}: not a log line\n".encode()
@@ -226,7 +227,8 @@ def memory(cases):
     log = REQUEST + ONE_BYTE * 500_000
     holds_at_most(cases, ["normalise"], "strays that are held, and as many after the next request", 2 * log, HELD * len(log), DONE)
     log = two_receptions()
-    cases.case("two of the longest messages lack their last frames", cases.run(["explain"], log), DONE, UNFINISHED)
+    told = UNFINISHED + counts_line(log, unfinished=2)
+    cases.case("two of the longest messages lack their last frames", cases.run(["explain"], log), DONE, told)
     for job in ["normalise", "explain"]:
         holds_at_most(cases, [job], "no log", b"", 0, DONE)
         holds_at_most(cases, [job], "two of the longest messages without their last frames", log, RECEPTION_BYTES, DONE)

@@ -18,6 +18,7 @@ from pathlib import Path
 
 import oracle
 from cases import DEVICE, DIFFERENT, DONE, REFUSAL, WORDS, Cases
+from counts import counts_line
 from refuser import READ, WRITE, Refuser
 
 FIRST_LOG = b"(1700000000.000000) can0 7E0#0322F190"
@@ -72,8 +73,7 @@ def logs(cases):
         "the same, explained",
         cases.run(["explain"], OVERSIZE),
         DONE,
-        b"line 1: unit frame dropped: 1048576 bytes announced\n"
-        b"lines 1 frames 1 messages 0 dropped 1 ended 0 unfinished 0 pending 0\n",
+        b"line 1: unit frame dropped: 1048576 bytes announced\n" + counts_line(OVERSIZE, dropped=1),
     )
     log, canonical = long_log(10_000_000)
     cases.case("a log of 10 MB", cases.run(log=log), DONE, canonical)
@@ -107,7 +107,7 @@ def the_longest_message(cases):
     cases.report("the length of the longest message's canonical log", [] if is_long else [f"{len(found[1])} bytes, {lines} lines"])
     front = canonical[: 46 * 149_798]
     told = b"end: unit reception from line 1 of 1048575 bytes unfinished\n"
-    told += b"lines 149798 frames 149798 messages 0 dropped 0 ended 0 unfinished 1 pending 0\n"
+    told += counts_line(front, unfinished=1)
     cases.case("the longest message without its last frame", cases.run(["explain"], front), DONE, told)
     limit = ["normalise", "--limit", str(length - 1)]
     cases.case("the same below its length", cases.run(limit, canonical), REFUSAL, error=b"log longer than the limit\n")
