@@ -115,15 +115,17 @@ def install_is_undone():
 
 
 def make_run_tells_what_the_program_says():
-    """`make run` without its build: the canonical log and nothing else, and where it ends early the program's own words and status."""
+    """`make run` without its build: the canonical log and nothing else, and where it ends early the program's own words and status,
+    with the status that make has for each failure."""
     canonical = (EXAMPLES / "first.canonical").read_text()
-    for log, want in [
-        ("examples/first.log", (0, canonical, "")),
-        ("examples/refused.log", (0, canonical, "line 2 column 37: not a log line\nudsnorm: exit status 3\n")),
-        ("examples/none.log", (0, "", "read failed\nudsnorm: exit status 4\n")),
+    for log, status, text, told in [
+        ("examples/first.log", 0, canonical, ""),
+        ("examples/refused.log", 2, canonical, r"line 2 column 37: not a log line\nudsnorm: exit status 3\nmake: .* Error 3\n"),
+        ("examples/none.log", 2, "", r"read failed\nudsnorm: exit status 4\nmake: .* Error 4\n"),
     ]:
         found = make("-o", "build", "run", f"LOG={log}")
-        case(f"make run of {log}", [] if found == want else [str(found)])
+        is_told = found[:2] == (status, text) and re.fullmatch(told, found[2])
+        case(f"make run of {log}", [] if is_told else [str(found)])
 
 
 def make_build_tells_its_begin_and_end():
