@@ -145,33 +145,51 @@ def make_build_tells_its_begin_and_end():
         case(f"make build {name}", [] if (found[0] == 0) == (status == 0) and found[1] == "" and is_told else [str(found)])
 
 
-# Stands for `rt` where `make check` is tried: it fails in this crate and with these words.
-FAILING_STUB = """#!/bin/sh
+# Stand for `rt` and `python3` where `make check` is tried: `rt` fails in this crate and with these words, and of the tests none
+# is run.
+FAILING_RT = """#!/bin/sh
 [ "${PWD##*/} $*" != "%s" ] && exit
-echo 'a goal is not proved that the answer depends on'
-echo 'error: no proof'
+echo 'a goal is not proved that the answer depends on' >&2
+echo 'error: no proof' >&2
 exit 1
 """
+IDLE_PYTHON = f"""#!/bin/sh
+case "$1" in tests/*) exit;; esac
+exec '{sys.executable}' "$@"
+"""
+
+# What `make check` does with the program.
+OF_PROGRAM = ["udsnorm: make build"]
+OF_PROGRAM += [f"tests/{test}.py" for test in ["command_line", "program", "sessions", "documents", "shipped", "recipes", "release"]]
 
 
 def make_check_goes_upwards():
-    """`make check` with another `rt`, up to the step that fails: each crate comes after those that it stands on."""
+    """`make check` with another `rt`, up to the step that fails: each crate comes after those that it stands on, and the program
+    before those that it doesn't stand on."""
     for crate, failing, steps in [
         ("uds_message", "uds_message check", ["uds_message: rt fmt", "uds_message: rt check"]),
+        (
+            "uds_message",
+            "udsnorm run",
+            ["uds_message: rt fmt", "uds_message: rt check", "uds_exchange: rt check", "trace_canon: rt check", OF_PROGRAM[0]],
+        ),
+        ("udsnorm", "udsnorm run", ["udsnorm: rt fmt", "udsnorm: rt check", OF_PROGRAM[0]]),
         ("acceptance", "acceptance test", ["acceptance: rt fmt", "acceptance: rt check", "acceptance: rt test"]),
         (
             "isotp_segment",
             "acceptance test",
-            ["isotp_segment: rt fmt", "isotp_segment: rt check"]
-            + [f"{user}: rt check" for user in ["trace_canon", "layer_bench", "acceptance", "refused_memory"]]
+            ["isotp_segment: rt fmt", "isotp_segment: rt check", "trace_canon: rt check", *OF_PROGRAM]
+            + [f"{user}: rt check" for user in ["layer_bench", "refused_memory", "acceptance"]]
             + ["acceptance: rt test"],
         ),
     ]:
         with tempfile.TemporaryDirectory() as folder:
-            stub = Path(folder, "rt")
-            stub.write_text(FAILING_STUB % failing)
-            stub.chmod(0o755)
-            status, output, error = make("check", f"CRATE={crate}", PATH=f"{folder}:{os.environ['PATH']}")
+            for name, text in [("rt", FAILING_RT % failing), ("python3", IDLE_PYTHON)]:
+                stub = Path(folder, name)
+                stub.write_text(text)
+                stub.chmod(0o755)
+            path = f"{folder}:{os.environ['PATH']}"
+            status, output, error = make("check", f"CRATE={crate}", f"PROGRAM_CRATE={folder}/udsnorm", PATH=path)
         lines = re.sub(r" +(failed after )?\d+\.\d s$", r" \1", output, flags=re.M).splitlines()
         want = [f"{step} " for step in steps[:-1]] + [f"{steps[-1]} failed after ", "  error: no proof", "The whole output is in out/check.txt"]
         case(f"make check of {crate} where {failing} fails", [] if status and lines == want else [str(lines), error])
