@@ -2,14 +2,14 @@
 
 import errno
 import itertools
-import subprocess
 from functools import partial
 
 from cases import DEVICE, DONE, REFUSAL
 from counts import counts_line
 from refuser import READ, TAKES_NOTHING, WRITE
-from runs import LONG_LOG, READ_FAILED, WRITE_FAILED, Ended, differences, files, how, pipe
+from runs import Ended, differences, files, how, pipe, start
 from tables import CANONICAL_LINE, VIN, VIN_CANONICAL
+from told import LONG_LOG, READ_FAILED, WRITE_FAILED
 
 # A session after two frames that mean nothing.
 SESSION = b"""\
@@ -122,7 +122,7 @@ def fails_in_the_middle(program):
     """Little more of the log is read than fills the output's buffer: of 36 sessions, in two pieces of 4,096 bytes."""
     log = 100 * VIN
     with pipe(log) as reader, open("/dev/full", "wb") as full:
-        found = program.run_over(["normalise"], reader, full)
+        found = program.run(["normalise"], stdin=reader, stdout=full)
         read = len(log) - len(reader.read())
     wrong = differences("normalise", how(found), (DEVICE, WRITE_FAILED))
     return wrong + ([] if read <= 8192 else [f"{read} bytes were read"])
@@ -131,12 +131,12 @@ def fails_in_the_middle(program):
 def never_ends(program):
     """Of line feeds without end one more is read than the limit, and byte by byte no further read is made."""
     words, log, want = ["normalise", "--limit", "100"], 4096 * b"\n", Ended(REFUSAL, b"", LONG_LOG)
-    endless = subprocess.Popen(["yes", ""], stdout=subprocess.PIPE)
-    found = program.run_over(words, endless.stdout)
+    endless = start("yes", [""], stdin=None, stderr=None)
+    found = program.run(words, stdin=endless.stdout)
     endless.stdout.close()
     endless.wait(timeout=60)
     with pipe(log) as reader:
-        again = program.run_over(words, reader)
+        again = program.run(words, stdin=reader)
         read = len(log) - len(reader.read())
     last = program.run_failing(words, READ, 101, log, most=1)
     further = program.run_failing(words, READ, 102, log, most=1)

@@ -16,11 +16,12 @@ import time
 from collections import namedtuple
 from contextlib import suppress
 from fractions import Fraction
-from pathlib import Path
 
 import oracle
 from cases import DIFFERENT, DONE, REFUSAL, Cases
 from counts import counts_line
+from runs import peak_kilobytes, start
+from told import place
 
 # The lengths that a frame may have, and those that a first frame may have.
 FRAME_LENGTHS = (*range(9), 12, 16, 20, 24, 32, 48, 64)
@@ -165,8 +166,8 @@ def longest_lines(cases):
     cases.case("the longest line, with a carriage return", cases.run(["explain"], LONGEST[:-1] + b"\r\n"), DONE, counts_line(LONGEST, frames=0))
     for before, more in ONE_BYTE_MORE:
         found = cases.run(["explain"], LONGEST[:before] + more + LONGEST[before:])
-        error = f"line 1 column {before + 1}: not a log line\n".encode()
-        cases.case(f"the longest line with {more!r} more after {before} bytes", found, REFUSAL, error=error)
+        name = f"the longest line with {more!r} more after {before} bytes"
+        cases.case(name, found, REFUSAL, error=place(1, before + 1))
 
 
 def one_line_of_error(cases):
@@ -181,18 +182,17 @@ def one_line_of_error(cases):
 def peak(program, words, log):
     """The most kilobytes that a job has, until it has read a log through a pipe, and its status. A job that ends before has
     none."""
-    run = subprocess.Popen([program, *words], stdin=subprocess.PIPE, stdout=subprocess.DEVNULL, stderr=subprocess.DEVNULL)
+    running = start(program, words, stdout=subprocess.DEVNULL, stderr=subprocess.DEVNULL)
     kilobytes = None
     with suppress(BrokenPipeError):
-        run.stdin.write(log)
-        run.stdin.flush()
+        running.stdin.write(log)
+        running.stdin.flush()
         # A pipe holds 65,536 bytes, of which no word can tell whether they were read.
         time.sleep(0.1)
-        told = re.search(r"^VmHWM:\s+(\d+) kB$", Path(f"/proc/{run.pid}/status").read_text(), re.M)
-        kilobytes = int(told[1]) if told else None
+        kilobytes = peak_kilobytes(running)
     with suppress(BrokenPipeError):
-        run.stdin.close()
-    return Peak(kilobytes, run.wait(timeout=60))
+        running.stdin.close()
+    return Peak(kilobytes, running.wait(timeout=60))
 
 
 def holds_at_most(cases, words, name, log, most, wanted):

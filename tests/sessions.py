@@ -20,13 +20,14 @@ from counts import counts_in, counts_line
 from devices import devices
 from recordings import CANONICAL, SIZES, Style, message_of, recorded
 from refuser import Refuser
-from runs import LONG_LOG, Ended, Program, differences, files, how, pipe, place
+from runs import Ended, Program, differences, files, how, pipe
 from tables import CANONICAL_LINE, VIN, Row
+from told import LONG_CANONICAL, LONG_LOG, OVERSIZE, place
 
 JOBS = ["normalise", "list", "explain"]
 
 # Why a log is refused that can be explained all the same.
-ONLY_NORMALISED = (b" bytes announced, the limit is 1048575\n", b"canonical log longer than the limit\n")
+ONLY_NORMALISED = (OVERSIZE, LONG_CANONICAL)
 
 # How the jobs ended over one log, and what is wrong with that.
 Taken = namedtuple("Taken", "normalised listed explained wrong")
@@ -313,7 +314,7 @@ def compared(program, row):
 def left_alone(program):
     line = b"(1.000000) can0 7E0#0\n"
     with files(line, b"") as (left, _), pipe(line) as right:
-        found = program.run_over(["compare", left, "/dev/stdin"], right)
+        found = program.run(["compare", left, "/dev/stdin"], stdin=right)
         rest = right.read()
     want = Ended(REFUSAL, b"", b"left: " + place(1, 22))
     return differences("compare", (found, rest), (want, line))

@@ -15,29 +15,16 @@ import sys
 import tempfile
 from pathlib import Path
 
+from cases import Cases
+from tables import EXAMPLES
+
 TOP = Path(__file__).resolve().parent.parent
-EXAMPLES = TOP / "examples"
 MANUAL = TOP / "share" / "man" / "man1" / "udsnorm.1"
 COMPLETIONS = sorted((TOP / "share" / "completions").iterdir())
 
-passed = 0
-failed = 0
 
-
-def case(name, wrong):
-    """A case passed where nothing is wrong."""
-    global passed, failed
-    if wrong:
-        failed += 1
-        print(f"FAILED {name}: {'; '.join(wrong)}")
-    else:
-        passed += 1
-        print(f"ok {name}")
-
-
-def help_of(program, *words):
-    done = subprocess.run([program, *words, "--help"], capture_output=True, text=True, timeout=60)
-    return done.stdout
+def help_of(cases, *words):
+    return cases.run([*words, "--help"]).output.decode()
 
 
 def named_in(text, heading):
@@ -55,9 +42,9 @@ def missing_in(text, words):
     return [word for word in words if not re.search(rf"(?<![\w-]){re.escape(word)}(?![\w-])", text)]
 
 
-def names_are_complete(program):
-    commands = named_in(help_of(program), "Commands")
-    case("the help names four commands", [] if len(commands) == 4 else [str(commands)])
+def names_are_complete(cases):
+    commands = named_in(help_of(cases), "Commands")
+    cases.report("the help names four commands", [] if len(commands) == 4 else [str(commands)])
     texts = {"the manual page": MANUAL.read_text().replace("\\-", "-")}
     for completion in COMPLETIONS:
         # A long option of fish is written without its dashes.
@@ -65,20 +52,20 @@ def names_are_complete(program):
     for name, text in texts.items():
         wrong = [f"no {word}" for word in missing_in(text, commands)]
         for command in commands:
-            options = named_in(help_of(program, command), "Options")
+            options = named_in(help_of(cases, command), "Options")
             wrong += ["no options in the help"] if len(options) < 4 else []
             wrong += [f"no {option} of {command}" for option in missing_in(text, options)]
-        case(f"{name} names every command and option", wrong)
-    wrong = missing_in(texts["the manual page"], defaults_in(help_of(program, "list")))
-    case("the manual page has the defaults of the help", wrong)
+        cases.report(f"{name} names every command and option", wrong)
+    wrong = missing_in(texts["the manual page"], defaults_in(help_of(cases, "list")))
+    cases.report("the manual page has the defaults of the help", wrong)
 
 
-def manual_is_well_formed():
+def manual_is_well_formed(cases):
     done = subprocess.run(["groff", "-man", "-Tutf8", "-ww", MANUAL], capture_output=True, text=True, timeout=60)
-    case("the manual page as groff sees it", [done.stderr] if done.stderr or done.returncode else [])
+    cases.report("the manual page as groff sees it", [done.stderr] if done.stderr or done.returncode else [])
 
 
-def bash_completes():
+def bash_completes(cases):
     """What bash offers, by the function of its completion."""
     script = next(path for path in COMPLETIONS if path.suffix == ".bash")
     for words, want in [
@@ -91,7 +78,7 @@ def bash_completes():
         ask = f"source {script}; COMP_WORDS=({line}); COMP_CWORD={len(words) - 1}; _udsnorm; printf '%s\\n' \"${{COMPREPLY[@]}}\""
         done = subprocess.run(["bash", "-c", ask], capture_output=True, text=True, timeout=60)
         found = done.stdout.split()
-        case(f"bash completes {' '.join(words)!r}", [] if found == want and not done.stderr else [str(found), done.stderr])
+        cases.report(f"bash completes {' '.join(words)!r}", [] if found == want and not done.stderr else [str(found), done.stderr])
 
 
 # Also where `make test` runs this, the `make` below is the first one: it takes no words of the other, and its messages have no level.
@@ -103,7 +90,7 @@ def make(*words, **environment):
     return done.returncode, done.stdout, done.stderr
 
 
-def install_is_undone():
+def install_is_undone(cases):
     """Each file that `make install` puts somewhere is one that `make uninstall` removes."""
     plan = {}
     for goal in ["install", "uninstall"]:
@@ -111,10 +98,10 @@ def install_is_undone():
         plan[goal] = set(re.findall(r"/stage/\S+", told))
     wrong = [] if len(plan["install"]) == 5 else [f"{len(plan['install'])} files"]
     wrong += sorted(plan["install"] ^ plan["uninstall"])
-    case("uninstall removes what install puts somewhere", wrong)
+    cases.report("uninstall removes what install puts somewhere", wrong)
 
 
-def make_run_tells_what_the_program_says():
+def make_run_tells_what_the_program_says(cases):
     """`make run` without its build: the canonical log and nothing else, and where it ends early the program's own words and status,
     with the status that make has for each failure."""
     canonical = (EXAMPLES / "first.canonical").read_text()
@@ -125,10 +112,10 @@ def make_run_tells_what_the_program_says():
     ]:
         found = make("-o", "build", "run", f"LOG={log}")
         is_told = found[:2] == (status, text) and re.fullmatch(told, found[2])
-        case(f"make run of {log}", [] if is_told else [str(found)])
+        cases.report(f"make run of {log}", [] if is_told else [str(found)])
 
 
-def make_build_tells_its_begin_and_end():
+def make_build_tells_its_begin_and_end(cases):
     """`make build` in a folder of its own, with another `rt`: its own lines, and what `rt` said where that failed."""
     begin = r"udsnorm: proving and building, .* goes to \S+/out/build.txt\n"
     for name, status, end in [
@@ -142,7 +129,7 @@ def make_build_tells_its_begin_and_end():
             path = f"{folder}:{os.environ['PATH']}"
             found = make("build", f"PROGRAM_CRATE={folder}", PATH=path)
         is_told = re.fullmatch(begin + end, found[2])
-        case(f"make build {name}", [] if (found[0] == 0) == (status == 0) and found[1] == "" and is_told else [str(found)])
+        cases.report(f"make build {name}", [] if (found[0] == 0) == (status == 0) and found[1] == "" and is_told else [str(found)])
 
 
 # Stand for `rt` and `python3` where `make check` is tried: `rt` fails in this crate and with these words, and of the tests none
@@ -163,7 +150,7 @@ OF_PROGRAM = ["udsnorm: make build"]
 OF_PROGRAM += [f"tests/{test}.py" for test in ["command_line", "program", "sessions", "documents", "shipped", "recipes", "release"]]
 
 
-def make_check_goes_upwards():
+def make_check_goes_upwards(cases):
     """`make check` with another `rt`, up to the step that fails: each crate comes after those that it stands on, and the program
     before those that it doesn't stand on."""
     for crate, failing, steps in [
@@ -192,21 +179,19 @@ def make_check_goes_upwards():
             status, output, error = make("check", f"CRATE={crate}", f"PROGRAM_CRATE={folder}/udsnorm", PATH=path)
         lines = re.sub(r" +(failed after )?\d+\.\d s$", r" \1", output, flags=re.M).splitlines()
         want = [f"{step} " for step in steps[:-1]] + [f"{steps[-1]} failed after ", "  error: no proof", "The whole output is in out/check.txt"]
-        case(f"make check of {crate} where {failing} fails", [] if status and lines == want else [str(lines), error])
+        cases.report(f"make check of {crate} where {failing} fails", [] if status and lines == want else [str(lines), error])
 
 
 def main():
     if len(sys.argv) != 2:
         sys.exit(__doc__)
-    names_are_complete(os.path.abspath(sys.argv[1]))
-    manual_is_well_formed()
-    bash_completes()
-    install_is_undone()
-    make_run_tells_what_the_program_says()
-    make_build_tells_its_begin_and_end()
-    make_check_goes_upwards()
-    print(f"{passed} passed, {failed} failed")
-    sys.exit(1 if failed else 0)
+    cases = Cases(os.path.abspath(sys.argv[1]))
+    for test in [
+        names_are_complete, manual_is_well_formed, bash_completes, install_is_undone, make_run_tells_what_the_program_says,
+        make_build_tells_its_begin_and_end, make_check_goes_upwards,
+    ]:
+        test(cases)
+    cases.end()
 
 
 main()
