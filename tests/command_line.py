@@ -213,7 +213,7 @@ def help_texts(cases):
         wrong = [] if status == DONE and not error else [f"status {status}, error output {error!r}"]
         wrong += [f"no line {line!r}" for line in lines if line not in told]
         wrong += [] if told[0] == lines[0] else [f"begins with {told[0]!r}"]
-        wrong += [] if told[-1] == b"" and told[-2] else ["no line feed at the end"]
+        wrong += [] if output.endswith(b"\n") and not output.endswith(b"\n\n") else ["no line feed at the end"]
         wrong += [] if len(told) <= 26 and max(map(len, told)) <= 100 else ["more than a screen"]
         cases.report(f"help by {words}", wrong)
     with open("/dev/full", "wb") as full:

@@ -82,12 +82,12 @@ def listing_fails(program):
 
 
 def explaining_fails(program):
-    """A front of what is told of the log is written."""
-    wrong = []
+    """What is told of the frames of the lines before is written: a line each of the first two."""
+    wrong, told = [], EXPLAINED.splitlines(keepends=True)[:2]
     for given in range(len(SESSION) + 1):
-        found, is_refused = program.run_failing(["explain"], READ, given + 1, SESSION, most=1)
-        want = Ended(DEVICE, EXPLAINED[: len(found.output)], READ_FAILED), True
-        wrong += differences(f"{given} bytes", (found, is_refused), want)
+        found = program.run_failing(["explain"], READ, given + 1, SESSION, most=1)
+        written = b"".join(told[: SESSION[:given].count(b"\n")])
+        wrong += differences(f"{given} bytes", found, (Ended(DEVICE, written, READ_FAILED), True))
     return wrong
 
 

@@ -209,10 +209,7 @@ def difference_of_two(program, folder, pair, limit):
 
 def unlike(words, log, found, came):
     """What is told where a run is not as it should be."""
-    status, written, told = found
-    # The explanation of a refused log has told of some of the frames before.
-    is_written = came.written.startswith(written) if came.fault and words[0] == "explain" else came.written == written
-    if is_written and (status, told) == (came.status, f"{came.fault}\n".encode() if came.fault else b""):
+    if found == (came.status, came.written, f"{came.fault}\n".encode() if came.fault else b""):
         return None
     return f"{words} {log!r}\n  {found}\n  {came}"
 

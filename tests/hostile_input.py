@@ -148,13 +148,14 @@ def drops(cases):
     most = Fraction(len(LONGEST_DROP.format(10**7)), len(CONSECUTIVE))
     beginnings = (bytes(begun) for size in range(3) for begun in itertools.product((0x00, 0x10, 0x21, 0x22, 0x30, 0x32, 0x33, 0x40), repeat=size))
     frames = [*beginnings, b"\x30\x00\x00", b"\x32\x00\x00", b"\x33\x00\x00", FIRST_DATA, b"\x10\x00" + b"\xff" * 6]
-    wrong = []
+    wrong, found = [], []
     for before, sender, data in itertools.product(((), (("7E0", FIRST_DATA),)), ("7E0", "7E8"), frames):
         log = b"".join(f"(0.000000) a {who}#{what.hex()}\n".encode() for who, what in (*before, (sender, data)))
         status, text, _ = cases.run(["explain"], log)
         told = re.findall(r"^line .*\n", text.decode(), re.M)
-        length = len(re.sub(r"line \d+", "line 10000000", "".join(told)))
-        wrong += [repr(log)] if status != DONE or Fraction(length, len(log)) > most else []
+        found.append(Fraction(len(re.sub(r"line \d+", "line 10000000", "".join(told))), len(log)))
+        wrong += [repr(log)] if status != DONE or found[-1] > most else []
+    wrong += [] if max(found) == most else [f"{max(found)} at most"]
     cases.report(f"no frame has more told of it than {most} for each byte", wrong)
 
 
@@ -255,15 +256,27 @@ def two_receptions():
 
 
 def work(cases):
-    """The jobs reach the end of logs of one kind of line. The time for each byte is printed, and nothing fails by it."""
+    """The jobs reach the end of logs of one kind of line, and write a number of lines for each, and one for the request before
+    them or for the counts. The time for each byte is printed, and nothing fails by it."""
     size = 4_000_000
-    for line in [ONE_BYTE, FOURTEEN_BYTES, REQUEST, CONSECUTIVE, FIRST, FOREIGN, BLANK, LONGEST]:
-        log = REQUEST + line * (size // len(line))
-        for job in ["normalise", "list", "explain"]:
+    for line, *written in [
+        (ONE_BYTE, 1, 1, 0),
+        (FOURTEEN_BYTES, 4, 1, 0),
+        (REQUEST, 1, 1, 0),
+        (CONSECUTIVE, 0, 0, 1),
+        (FIRST, 0, 0, 1),
+        (FOREIGN, 0, 0, 0),
+        (BLANK, 0, 0, 0),
+        (LONGEST, 0, 0, 0),
+    ]:
+        lines = size // len(line)
+        log = REQUEST + line * lines
+        for job, number in zip(["normalise", "list", "explain"], written):
             begun = time.monotonic()
-            status, _, _ = cases.run([job], log)
+            status, text, _ = cases.run([job], log)
             nanoseconds = (time.monotonic() - begun) * 1e9 / len(log)
             wrong = [] if status == DONE else [f"status {status}"]
+            wrong += [] if text.count(BLANK) == number * lines + 1 else [f"{text.count(BLANK)} lines"]
             cases.report(f"{job} of {line[:40]!r}: {nanoseconds:.0f} ns for each byte", wrong)
 
 

@@ -341,7 +341,7 @@ def sent_in_each_style(program, length, size):
     for style in itertools.starmap(partial(Style, size), itertools.product([b"\x00", b"\xff"], [False, True])):
         log = recorded(style, message)
         wrong += differences(f"{style}", program.run(["normalise"], log), Ended(DONE, canonical, b""))
-        wrong += differences(f"messages of {style}", counts_in(program.run(["explain"], log).output)["messages"], 1)
+        wrong += differences(f"explain {style}", program.run(["explain"], log), Ended(DONE, counts_line(log, canonical), b""))
     return wrong
 
 
@@ -357,7 +357,7 @@ def is_its_own(program, length, lines):
         *differences("bytes", len(at_limit.normalised.output), lines * CANONICAL_LINE),
         *at_limit.wrong,
         *differences("normalise", at_limit.normalised, Ended(DONE, canonical, b"")),
-        *differences("messages", counts_in(at_limit.explained.output)["messages"], 1),
+        *differences("explain", at_limit.explained, Ended(DONE, counts_line(canonical, messages=1), b"")),
         *differences("list", at_limit.listed, Ended(DONE, item, b"")),
         *below.wrong,
         *differences("a byte below", how(below.normalised), (REFUSAL, LONG_LOG)),
@@ -398,7 +398,6 @@ def thousands_of_strays(program):
     strays = 2000 * b"(1.000000) can0 7E8#0759595959595959\n"
     log = b"(1.000000) can0 7E0#0322F190\n" + strays + b"(1.000000) can0 7E8#0462F19041\n"
     found = taken(program, log)
-    counts = counts_in(found.explained.output)
     with files(log, found.normalised.output) as names:
         same = program.run(["compare", *names])
     return [
@@ -406,7 +405,7 @@ def thousands_of_strays(program):
         *differences("how normalise ends", how(found.normalised), (DONE, b"")),
         *differences("bytes", len(found.normalised.output), 92_092),
         *differences("the second line", found.normalised.output[46:92], b"(0000000000.001000) can0 7E8#0462F19041CCCCCC\n"),
-        *differences("counts", (counts["frames"], counts["messages"], counts["dropped"]), (2002, 2002, 0)),
+        *differences("explain", found.explained, Ended(DONE, counts_line(log, messages=2002), b"")),
         *differences("items", found.listed.output.count(b"\n"), 2001),
         *differences("compare", same, Ended(DONE, b"same\n", b"")),
     ]
@@ -415,8 +414,7 @@ def thousands_of_strays(program):
 def thousands_of_exchanges(program):
     frames = ["7E0#0322F190", "7E8#100862F190414243", "7E0#300000", "7E8#214445"]
     log = b"".join(tables.stamped(number, frame) for number, frame in enumerate(500 * frames))
-    counts = counts_in(program.run(["explain"], log).output)
-    return differences("counts", (counts["frames"], counts["messages"]), (2000, 1000))
+    return differences("explain", program.run(["explain"], log), Ended(DONE, counts_line(log, messages=1000), b""))
 
 
 # ----------------------------------------------------------------------------------------------------------------------------

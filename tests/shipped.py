@@ -15,7 +15,7 @@ import sys
 import tempfile
 from pathlib import Path
 
-from cases import Cases
+from cases import DONE, Cases
 from tables import EXAMPLES
 
 TOP = Path(__file__).resolve().parent.parent
@@ -24,7 +24,9 @@ COMPLETIONS = sorted((TOP / "share" / "completions").iterdir())
 
 
 def help_of(cases, *words):
-    return cases.run([*words, "--help"]).output.decode()
+    """A help text; nothing where the program doesn't end well."""
+    found = cases.run([*words, "--help"])
+    return found.output.decode() if (found.status, found.error) == (DONE, b"") else ""
 
 
 def named_in(text, heading):
@@ -50,13 +52,14 @@ def names_are_complete(cases):
         # A long option of fish is written without its dashes.
         texts[completion.name] = re.sub(r" -l (\w)", r" --\1", completion.read_text())
     for name, text in texts.items():
-        wrong = [f"no {word}" for word in missing_in(text, commands)]
+        wrong = [f"no {word}" for word in missing_in(text, commands)] if commands else ["no commands in the help"]
         for command in commands:
             options = named_in(help_of(cases, command), "Options")
             wrong += ["no options in the help"] if len(options) < 4 else []
             wrong += [f"no {option} of {command}" for option in missing_in(text, options)]
         cases.report(f"{name} names every command and option", wrong)
-    wrong = missing_in(texts["the manual page"], defaults_in(help_of(cases, "list")))
+    defaults = defaults_in(help_of(cases, "list"))
+    wrong = missing_in(texts["the manual page"], defaults) if len(defaults) == 3 else [f"{len(defaults)} defaults in the help"]
     cases.report("the manual page has the defaults of the help", wrong)
 
 
@@ -92,11 +95,12 @@ def make(*words, **environment):
 
 def install_is_undone(cases):
     """Each file that `make install` puts somewhere is one that `make uninstall` removes."""
-    plan = {}
+    plan, wrong = {}, []
     for goal in ["install", "uninstall"]:
-        _, told, _ = make("-n", goal, "DESTDIR=/stage", "PREFIX=/usr")
+        status, told, _ = make("-n", goal, "DESTDIR=/stage", "PREFIX=/usr")
+        wrong += [] if status == 0 else [f"{goal} ends with {status}"]
         plan[goal] = set(re.findall(r"/stage/\S+", told))
-    wrong = [] if len(plan["install"]) == 5 else [f"{len(plan['install'])} files"]
+    wrong += [] if len(plan["install"]) == 5 else [f"{len(plan['install'])} files"]
     wrong += sorted(plan["install"] ^ plan["uninstall"])
     cases.report("uninstall removes what install puts somewhere", wrong)
 
@@ -110,7 +114,7 @@ def make_run_tells_what_the_program_says(cases):
         ("examples/refused.log", 2, canonical, r"line 2 column 37: not a log line\nudsnorm: exit status 3\nmake: .* Error 3\n"),
         ("examples/none.log", 2, "", r"read failed\nudsnorm: exit status 4\nmake: .* Error 4\n"),
     ]:
-        found = make("-o", "build", "run", f"LOG={log}")
+        found = make("-o", "build", "run", f"PROGRAM={cases.program}", f"LOG={log}")
         is_told = found[:2] == (status, text) and re.fullmatch(told, found[2])
         cases.report(f"make run of {log}", [] if is_told else [str(found)])
 
