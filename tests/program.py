@@ -19,7 +19,7 @@ import oracle
 from cases import DEVICE, DIFFERENT, DONE, REFUSAL, WORDS, Cases
 from counts import counts_line
 from refuser import READ, WRITE, Refuser
-from runs import Ended, end, peak_kilobytes, start
+from runs import Ended, end, give, peak_kilobytes, start
 from tables import EXAMPLES
 from told import LONG_LOG, READ_FAILED, WRITE_FAILED, oversize, place
 
@@ -82,8 +82,7 @@ def default_limit(cases):
         ("a log of one byte more", b"\n", REFUSAL, LONG_LOG),
     ]:
         program = start(cases.program)
-        for _ in range(2**10):
-            program.stdin.write(line * 2**13)
+        give(program, line * 2**13, 2**10)
         cases.case(name, end(program, last), status, error=error)
 
 
@@ -213,8 +212,7 @@ def slow_pipe(cases):
     log = FIRST_LOG + b"\n(1.000000) can0 7E8#0362F19041\n"
     program = start(cases.program)
     for at in range(0, len(log), 5):
-        program.stdin.write(log[at : at + 5])
-        program.stdin.flush()
+        give(program, log[at : at + 5])
     want = FIRST_CANONICAL + b"(0000000000.001000) can0 7E8#0362F190CCCCCCCC\n"
     cases.case("a log in small pieces", end(program), DONE, want)
 
@@ -267,13 +265,10 @@ def memory(cases):
     log, _ = long_log(1_000_000)
     for job in ("normalise", "explain"):
         program = start(cases.program, [job], stdout=subprocess.DEVNULL, stderr=None)
-        for _ in range(100):
-            program.stdin.write(log)
-        program.stdin.flush()
+        give(program, log, 100)
         peak = peak_kilobytes(program)
-        program.stdin.close()
-        status = program.wait(timeout=60)
-        flat = status == DONE and peak < 4_000
+        status = end(program).status
+        flat = status == DONE and peak is not None and peak < 4_000
         cases.report(f"{job} of 100 MB through a pipe", [] if flat else [f"status {status}, {peak} kB"])
 
 

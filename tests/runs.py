@@ -27,6 +27,17 @@ def start(program, words=(), **options):
     return subprocess.Popen([program, *words], **({"stdin": subprocess.PIPE} | PIPES | options))
 
 
+def give(running, log, times=1):
+    """Writes a log this often to its standard input. Whether it reads until the end of that."""
+    try:
+        for _ in range(times):
+            running.stdin.write(log)
+        running.stdin.flush()
+    except BrokenPipeError:
+        return False
+    return True
+
+
 def end(running, rest=b""):
     """How it ends over the rest of its log."""
     output, error = running.communicate(rest, timeout=60)
