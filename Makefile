@@ -29,11 +29,11 @@ build:
 	fi
 
 # Prints the canonical log of LOG, and nothing else, on standard output. Where the log has none, the program says why, and
-# its own exit status is told, which make would hide behind an error of its own.
+# then its exit status is told: make itself ends with 2 whatever it is, since it has no other status for a failure.
 run: build
-	@$(PROGRAM) normalise '$(LOG)' || echo "udsnorm: exit status $$?" >&2
+	@$(PROGRAM) normalise '$(LOG)' || { status=$$?; echo "udsnorm: exit status $$status" >&2; exit $$status; }
 
-# What a change of CRATE touches, the quickest first: a line for each step, up to the first that fails.
+# What a change of CRATE touches, the program first: a line for each step, up to the first that fails.
 check:
 	@scripts/check $(CRATE)
 

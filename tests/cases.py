@@ -1,7 +1,8 @@
 """Runs of the built program, each compared with what is expected of it."""
 
-import subprocess
 import sys
+
+import runs
 
 DONE, DIFFERENT, WORDS, REFUSAL, DEVICE, MEMORY = range(6)
 
@@ -15,12 +16,8 @@ class Cases:
         self.failed = 0
 
     def run(self, words=(), log=b"", **options):
-        """Runs the program with these words over a log on standard input: its status, output and error output."""
-        options.setdefault("stdout", subprocess.PIPE)
-        if "stdin" not in options:
-            options["input"] = log
-        done = subprocess.run([self.program, *words], stderr=subprocess.PIPE, timeout=60, **options)
-        return done.returncode, done.stdout, done.stderr
+        """How the program ends with these words over a log on standard input."""
+        return runs.run(self.program, words, log, **options)
 
     def report(self, name, wrong):
         """A case passed where nothing is wrong."""
@@ -32,19 +29,15 @@ class Cases:
             print(f"ok {name}", flush=True)
 
     def case(self, name, found, status, output=b"", error=b""):
-        """Compares a run with its status and texts. A text that is None may be any; one that ends in `..` goes on."""
+        """Compares a run with its status and texts. A text that is None may be any."""
         wrong = []
-        if found[0] != status:
-            wrong.append(f"status {found[0]}, not {status}")
-        for kind, came, want in [("output", found[1], output), ("error output", found[2], error)]:
-            if want is not None and not is_as_wanted(came or b"", want):
+        if found.status != status:
+            wrong.append(f"status {found.status}, not {status}")
+        for kind, came, want in [("output", found.output, output), ("error output", found.error, error)]:
+            if want is not None and (came or b"") != want:
                 wrong.append(f"{kind} {came[:100]!r}, not {want[:100]!r}")
         self.report(name, wrong)
 
     def end(self):
         print(f"{self.passed} passed, {self.failed} failed")
         sys.exit(1 if self.failed else 0)
-
-
-def is_as_wanted(came, want):
-    return came.startswith(want[:-2]) if want.endswith(b"..") else came == want

@@ -12,16 +12,18 @@ import tempfile
 from pathlib import Path
 
 from cases import DEVICE, DIFFERENT, DONE, REFUSAL, WORDS, Cases
+from counts import counts_line
+from told import LONG_CANONICAL, LONG_LOG, READ_FAILED, oversize, place
 
 LOG = b"(1700000000.000000) can0 7E0#0322F190\n"
 CANONICAL = b"(0000000000.000000) can0 7E0#0322F190CCCCCCCC\n"
 LIST = b"1 exchange ReadDataByIdentifier 22F190 -> unanswered\n"
-EXPLANATION = b"lines 1 frames 1 messages 1 dropped 0 ended 0 unfinished 0 pending 0\n"
+EXPLANATION = counts_line(LOG, CANONICAL)
 TEXTS = {"normalise": CANONICAL, "list": LIST, "explain": EXPLANATION}
 
 NO_LOG_LINE = b"(1.000000) can0 7E0#0\n"
 OVERSIZE = b"(1.000000) can0 7E8#1000001000004142\n"
-BAD_PLACE = b"line 1 column 22: not a log line\n"
+BAD_PLACE = place(1, 22)
 NOT_DIGITS = b"identifier is not three or eight hexadecimal digits\n"
 OUT_OF_RANGE = b"identifier out of range\n"
 SAME_IDENTIFIER = b"tester and unit have the same identifier\n"
@@ -109,8 +111,8 @@ def options(cases):
     cases.case("--unit of the tester of the log", cases.run(["list", "--unit", "7E2"], other), DONE, b"1 stray unit 22F190\n")
     cases.case("--tester and --unit exchanged", cases.run(["list", "--tester=7E8", "--unit=7E0"], LOG), DONE, b"1 stray unit 22F190\n")
     cases.case("--limit of the canonical log", cases.run(["normalise", "--limit=46"], LOG), DONE, CANONICAL)
-    cases.case("--limit below the canonical log", cases.run(["list", "--limit", "45"], LOG), REFUSAL, b"", b"canonical log longer than the limit\n")
-    cases.case("--limit below the log", cases.run(["explain", "--limit=37"], LOG), REFUSAL, b"", b"log longer than the limit\n")
+    cases.case("--limit below the canonical log", cases.run(["list", "--limit", "45"], LOG), REFUSAL, b"", LONG_CANONICAL)
+    cases.case("--limit below the log", cases.run(["explain", "--limit=37"], LOG), REFUSAL, b"", LONG_LOG)
     cases.case("the largest limit", cases.run(["list", "--limit=1099511627776"], LOG), DONE, LIST)
 
 
@@ -133,25 +135,25 @@ def comparisons(cases):
         ("a refused left log", "refused.log", "a.log", REFUSAL, b"left: " + BAD_PLACE),
         ("a refused right log", "a.log", "refused.log", REFUSAL, b"right: " + BAD_PLACE),
         ("two refused logs", "refused.log", "refused.log", REFUSAL, b"left: " + BAD_PLACE),
-        ("a left log that is not there", "missing", "refused.log", DEVICE, b"left: read failed\n"),
-        ("a right log that is not there, after a refused one", "refused.log", "missing", DEVICE, b"right: read failed\n"),
-        ("no log of the two is there", "missing", "missing", DEVICE, b"left: read failed\n"),
+        ("a left log that is not there", "missing", "refused.log", DEVICE, b"left: " + READ_FAILED),
+        ("a right log that is not there, after a refused one", "refused.log", "missing", DEVICE, b"right: " + READ_FAILED),
+        ("no log of the two is there", "missing", "missing", DEVICE, b"left: " + READ_FAILED),
         ("a directory for the right log, after a refused one", "refused.log", ".", REFUSAL, b"left: " + BAD_PLACE),
-        ("a directory for the right log", "a.log", ".", DEVICE, b"right: read failed\n"),
-        ("a directory for the left log", ".", "a.log", DEVICE, b"left: read failed\n"),
-        ("two empty names", "", "", DEVICE, b"left: read failed\n"),
-        ("a right log with a message above the limit", "a.log", "oversize.log", REFUSAL, b"right: line 1: 1048576 bytes announced, the limit is 1048575\n"),
+        ("a directory for the right log", "a.log", ".", DEVICE, b"right: " + READ_FAILED),
+        ("a directory for the left log", ".", "a.log", DEVICE, b"left: " + READ_FAILED),
+        ("two empty names", "", "", DEVICE, b"left: " + READ_FAILED),
+        ("a right log with a message above the limit", "a.log", "oversize.log", REFUSAL, b"right: " + oversize(1, 1_048_576)),
     ]:
         cases.case(name, cases.run(["compare", left, right]), status, b"", error)
     for limit, left, right, error in [
-        ("37", "empty.log", "a.log", b"right: log longer than the limit\n"),
-        ("45", "a.log", "a.log", b"left: canonical log longer than the limit\n"),
+        ("37", "empty.log", "a.log", b"right: " + LONG_LOG),
+        ("45", "a.log", "a.log", b"left: " + LONG_CANONICAL),
     ]:
         cases.case(f"compare --limit {limit}", cases.run(["compare", "--limit", limit, left, right]), REFUSAL, b"", error)
     for words, status, output, error in [
         (["compare", "--limit=92", "a.log", "--unit", "7e2", "--", "-b"], DIFFERENT, b"different at item 2\n", b""),
-        (["compare", "--limit=91", "a.log", "--unit", "7e2", "--", "-b"], REFUSAL, b"", b"right: canonical log longer than the limit\n"),
-        (["compare", "--limit=91", "--unit", "7e2", "--", "-b", "a.log"], REFUSAL, b"", b"left: canonical log longer than the limit\n"),
+        (["compare", "--limit=91", "a.log", "--unit", "7e2", "--", "-b"], REFUSAL, b"", b"right: " + LONG_CANONICAL),
+        (["compare", "--limit=91", "--unit", "7e2", "--", "-b", "a.log"], REFUSAL, b"", b"left: " + LONG_CANONICAL),
         (["compare", "a.log", "--", "-b"], DONE, b"same\n", b""),
     ]:
         cases.case(" ".join(words), cases.run(words), status, output, error)
@@ -159,9 +161,9 @@ def comparisons(cases):
 
 def files_that_fail(cases):
     for job in TEXTS:
-        cases.case(f"{job} of a file that is not there", cases.run([job, "missing"]), DEVICE, b"", b"read failed\n")
-        cases.case(f"{job} of a directory", cases.run([job, "."]), DEVICE, b"", b"read failed\n")
-        cases.case(f"{job} of an empty name", cases.run([job, ""]), DEVICE, b"", b"read failed\n")
+        cases.case(f"{job} of a file that is not there", cases.run([job, "missing"]), DEVICE, b"", READ_FAILED)
+        cases.case(f"{job} of a directory", cases.run([job, "."]), DEVICE, b"", READ_FAILED)
+        cases.case(f"{job} of an empty name", cases.run([job, ""]), DEVICE, b"", READ_FAILED)
 
 
 def sizes():
@@ -183,10 +185,10 @@ def paths_of_each_size(cases):
             Path(path).write_bytes(LOG)
         is_path = 0 < size < PATH_MAX
         for job, text in TEXTS.items():
-            want = (DONE, text, b"") if is_path else (DEVICE, b"", b"read failed\n")
+            want = (DONE, text, b"") if is_path else (DEVICE, b"", READ_FAILED)
             cases.case(f"{job} of a path of {size} bytes", cases.run([job, path]), *want)
         for words, side in [([path, "a.log"], b"left: "), (["a.log", path], b"right: ")]:
-            want = (DONE, b"same\n", b"") if is_path else (DEVICE, b"", side + b"read failed\n")
+            want = (DONE, b"same\n", b"") if is_path else (DEVICE, b"", side + READ_FAILED)
             cases.case(f"compare, {side.decode()}a path of {size} bytes", cases.run(["compare", *words]), *want)
 
 
@@ -211,7 +213,7 @@ def help_texts(cases):
         wrong = [] if status == DONE and not error else [f"status {status}, error output {error!r}"]
         wrong += [f"no line {line!r}" for line in lines if line not in told]
         wrong += [] if told[0] == lines[0] else [f"begins with {told[0]!r}"]
-        wrong += [] if told[-1] == b"" and told[-2] else ["no line feed at the end"]
+        wrong += [] if output.endswith(b"\n") and not output.endswith(b"\n\n") else ["no line feed at the end"]
         wrong += [] if len(told) <= 26 and max(map(len, told)) <= 100 else ["more than a screen"]
         cases.report(f"help by {words}", wrong)
     with open("/dev/full", "wb") as full:

@@ -2,13 +2,14 @@
 
 import errno
 import itertools
-import subprocess
 from functools import partial
 
 from cases import DEVICE, DONE, REFUSAL
+from counts import counts_line
 from refuser import READ, TAKES_NOTHING, WRITE
-from runs import LONG_LOG, READ_FAILED, WRITE_FAILED, Ended, differences, files, how, pipe
+from runs import Ended, differences, files, how, pipe, start
 from tables import CANONICAL_LINE, VIN, VIN_CANONICAL
+from told import LONG_LOG, READ_FAILED, WRITE_FAILED
 
 # A session after two frames that mean nothing.
 SESSION = b"""\
@@ -27,9 +28,7 @@ LISTED = b"""\
 EXPLAINED = b"""\
 line 1: unit frame dropped: unknown kind
 line 2: unit frame dropped: consecutive frame unexpected
-lines 5 frames 5 messages 3 dropped 2 ended 0 unfinished 0 pending 0
-"""
-
+""" + counts_line(SESSION, messages=3, dropped=2)
 
 KEEP_ALIVE = b"(1.000000) can0 7E0#023E80\n"
 KEEP_ALIVE_LISTED = b"1 stray tester 3E80\n"
@@ -38,8 +37,7 @@ NO_FRAMES = 2 * b"(1.000000) can0 7E8#40\n"
 NO_FRAMES_EXPLAINED = b"""\
 line 1: unit frame dropped: unknown kind
 line 2: unit frame dropped: unknown kind
-lines 2 frames 2 messages 0 dropped 2 ended 0 unfinished 0 pending 0
-"""
+""" + counts_line(NO_FRAMES, dropped=2)
 
 
 def devices(program):
@@ -84,12 +82,12 @@ def listing_fails(program):
 
 
 def explaining_fails(program):
-    """A front of what is told of the log is written."""
-    wrong = []
+    """What is told of the frames of the lines before is written: a line each of the first two."""
+    wrong, told = [], EXPLAINED.splitlines(keepends=True)[:2]
     for given in range(len(SESSION) + 1):
-        found, is_refused = program.run_failing(["explain"], READ, given + 1, SESSION, most=1)
-        want = Ended(DEVICE, EXPLAINED[: len(found.output)], READ_FAILED), True
-        wrong += differences(f"{given} bytes", (found, is_refused), want)
+        found = program.run_failing(["explain"], READ, given + 1, SESSION, most=1)
+        written = b"".join(told[: SESSION[:given].count(b"\n")])
+        wrong += differences(f"{given} bytes", found, (Ended(DEVICE, written, READ_FAILED), True))
     return wrong
 
 
@@ -124,7 +122,7 @@ def fails_in_the_middle(program):
     """Little more of the log is read than fills the output's buffer: of 36 sessions, in two pieces of 4,096 bytes."""
     log = 100 * VIN
     with pipe(log) as reader, open("/dev/full", "wb") as full:
-        found = program.run_over(["normalise"], reader, full)
+        found = program.run(["normalise"], stdin=reader, stdout=full)
         read = len(log) - len(reader.read())
     wrong = differences("normalise", how(found), (DEVICE, WRITE_FAILED))
     return wrong + ([] if read <= 8192 else [f"{read} bytes were read"])
@@ -133,12 +131,12 @@ def fails_in_the_middle(program):
 def never_ends(program):
     """Of line feeds without end one more is read than the limit, and byte by byte no further read is made."""
     words, log, want = ["normalise", "--limit", "100"], 4096 * b"\n", Ended(REFUSAL, b"", LONG_LOG)
-    endless = subprocess.Popen(["yes", ""], stdout=subprocess.PIPE)
-    found = program.run_over(words, endless.stdout)
+    endless = start("yes", [""], stdin=None, stderr=None)
+    found = program.run(words, stdin=endless.stdout)
     endless.stdout.close()
     endless.wait(timeout=60)
     with pipe(log) as reader:
-        again = program.run_over(words, reader)
+        again = program.run(words, stdin=reader)
         read = len(log) - len(reader.read())
     last = program.run_failing(words, READ, 101, log, most=1)
     further = program.run_failing(words, READ, 102, log, most=1)

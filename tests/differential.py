@@ -16,15 +16,14 @@ import argparse
 import itertools
 import os
 import random
-import subprocess
 import sys
 import tempfile
 import time
 from pathlib import Path
 
 import oracle
-
-EXAMPLES = Path(__file__).resolve().parent.parent / "examples"
+from runs import run
+from tables import EXAMPLES
 
 FRAME_LENGTHS = (8, 8, 8, 12, 16, 20, 24, 32, 48, 64)
 MICROS = (0, 1, 1000, 999_999, 1_000_000, 1_000_001, -1, -1_000_000, 241, 97_000)
@@ -181,12 +180,6 @@ def limit_for(rng, log):
     return max(1, rng.choice(lengths) + rng.choice((-1, 0, 0, 1)))
 
 
-def run(program, words, log):
-    """Exit status, standard output and standard error of the program with these words and this standard input."""
-    done = subprocess.run([program, *words], input=log, capture_output=True, timeout=60)
-    return done.returncode, done.stdout, done.stderr
-
-
 def in_time(logs, seconds):
     """These logs, until the seconds are over: they begin with the first one."""
     end = time.monotonic() + seconds
@@ -211,15 +204,12 @@ def difference_of_two(program, folder, pair, limit):
     words, names = words_of("compare", limit), [folder / "left.log", folder / "right.log"]
     for name, log in zip(names, pair):
         name.write_bytes(log)
-    return unlike(words, pair, run(program, [*words, *names], b""), oracle.compared(*pair, limit))
+    return unlike(words, pair, run(program, [*words, *names]), oracle.compared(*pair, limit))
 
 
 def unlike(words, log, found, came):
     """What is told where a run is not as it should be."""
-    status, written, told = found
-    # The explanation of a refused log has told of some of the frames before.
-    is_written = came.written.startswith(written) if came.fault and words[0] == "explain" else came.written == written
-    if is_written and (status, told) == (came.status, f"{came.fault}\n".encode() if came.fault else b""):
+    if found == (came.status, came.written, f"{came.fault}\n".encode() if came.fault else b""):
         return None
     return f"{words} {log!r}\n  {found}\n  {came}"
 

@@ -14,12 +14,13 @@ import sys
 import tempfile
 import time
 from collections import namedtuple
-from contextlib import suppress
 from fractions import Fraction
-from pathlib import Path
 
 import oracle
 from cases import DIFFERENT, DONE, REFUSAL, Cases
+from counts import counts_line
+from runs import end, give, peak_kilobytes, start
+from told import place
 
 # The lengths that a frame may have, and those that a first frame may have.
 FRAME_LENGTHS = (*range(9), 12, 16, 20, 24, 32, 48, 64)
@@ -68,11 +69,11 @@ MEANT = Fraction(96, 22)
 # What a job took: its most kilobytes, or none, and its status.
 Peak = namedtuple("Peak", "kilobytes status")
 
-# What explain says of two of the longest messages that lack their last frames, and then counts.
+# What explain says of two of the longest messages that lack their last frames, before it counts.
 UNFINISHED = b"""\
 end: tester reception from line 1 of 1048575 bytes unfinished
 end: unit reception from line 2 of 1048575 bytes unfinished
-.."""
+"""
 
 REFUSED_LOGS = [b"x", b"(", b"\n" * 1000 + b"\xff" * 1000, LONGEST + b"(1.0\n" * 1000, b"(0.000000) a 7E8#1000FFFFFFFF4142\n" * 1000]
 
@@ -146,13 +147,14 @@ def drops(cases):
     most = Fraction(len(LONGEST_DROP.format(10**7)), len(CONSECUTIVE))
     beginnings = (bytes(begun) for size in range(3) for begun in itertools.product((0x00, 0x10, 0x21, 0x22, 0x30, 0x32, 0x33, 0x40), repeat=size))
     frames = [*beginnings, b"\x30\x00\x00", b"\x32\x00\x00", b"\x33\x00\x00", FIRST_DATA, b"\x10\x00" + b"\xff" * 6]
-    wrong = []
+    wrong, found = [], []
     for before, sender, data in itertools.product(((), (("7E0", FIRST_DATA),)), ("7E0", "7E8"), frames):
         log = b"".join(f"(0.000000) a {who}#{what.hex()}\n".encode() for who, what in (*before, (sender, data)))
         status, text, _ = cases.run(["explain"], log)
         told = re.findall(r"^line .*\n", text.decode(), re.M)
-        length = len(re.sub(r"line \d+", "line 10000000", "".join(told)))
-        wrong += [repr(log)] if status != DONE or Fraction(length, len(log)) > most else []
+        found.append(Fraction(len(re.sub(r"line \d+", "line 10000000", "".join(told))), len(log)))
+        wrong += [repr(log)] if status != DONE or found[-1] > most else []
+    wrong += [] if max(found) == most else [f"{max(found)} at most"]
     cases.report(f"no frame has more told of it than {most} for each byte", wrong)
 
 
@@ -161,18 +163,18 @@ FIRST_DATA = b"\x10\x00\x00\x00\xff\xff\x41\x42"
 
 def longest_lines(cases):
     """The longest line that is read, and one byte more."""
-    cases.case("the longest line, with a carriage return", cases.run(["explain"], LONGEST[:-1] + b"\r\n"), DONE, b"lines 1 frames 0 ..")
+    cases.case("the longest line, with a carriage return", cases.run(["explain"], LONGEST[:-1] + b"\r\n"), DONE, counts_line(LONGEST, frames=0))
     for before, more in ONE_BYTE_MORE:
         found = cases.run(["explain"], LONGEST[:before] + more + LONGEST[before:])
-        error = f"line 1 column {before + 1}: not a log line\n".encode()
-        cases.case(f"the longest line with {more!r} more after {before} bytes", found, REFUSAL, error=error)
+        name = f"the longest line with {more!r} more after {before} bytes"
+        cases.case(name, found, REFUSAL, error=place(1, before + 1))
 
 
 def one_line_of_error(cases):
     for job in ["normalise", "list", "explain"]:
         for number, log in enumerate(REFUSED_LOGS):
-            status, _, error = cases.run([job], log)
-            is_told = job == "explain" and number == 4 and (status, error) == (DONE, b"")
+            status, text, error = cases.run([job], log)
+            is_told = job == "explain" and number == 4 and (status, error) == (DONE, b"") and text.endswith(counts_line(log, dropped=1000))
             is_line = status == REFUSAL and error.count(b"\n") == 1 and error.endswith(b"\n") and len(error) < 80
             cases.report(f"{job} of refused log {number}: {error!r}", [] if is_told or is_line else [f"status {status}"])
 
@@ -180,18 +182,12 @@ def one_line_of_error(cases):
 def peak(program, words, log):
     """The most kilobytes that a job has, until it has read a log through a pipe, and its status. A job that ends before has
     none."""
-    run = subprocess.Popen([program, *words], stdin=subprocess.PIPE, stdout=subprocess.DEVNULL, stderr=subprocess.DEVNULL)
-    kilobytes = None
-    with suppress(BrokenPipeError):
-        run.stdin.write(log)
-        run.stdin.flush()
-        # A pipe holds 65,536 bytes, of which no word can tell whether they were read.
-        time.sleep(0.1)
-        told = re.search(r"^VmHWM:\s+(\d+) kB$", Path(f"/proc/{run.pid}/status").read_text(), re.M)
-        kilobytes = int(told[1]) if told else None
-    with suppress(BrokenPipeError):
-        run.stdin.close()
-    return Peak(kilobytes, run.wait(timeout=60))
+    running = start(program, words, stdout=subprocess.DEVNULL, stderr=subprocess.DEVNULL)
+    is_read = give(running, log)
+    # A pipe holds 65,536 bytes, of which no word can tell whether they were read.
+    time.sleep(0.1)
+    kilobytes = peak_kilobytes(running) if is_read else None
+    return Peak(kilobytes, end(running).status)
 
 
 def holds_at_most(cases, words, name, log, most, wanted):
@@ -226,7 +222,8 @@ def memory(cases):
     log = REQUEST + ONE_BYTE * 500_000
     holds_at_most(cases, ["normalise"], "strays that are held, and as many after the next request", 2 * log, HELD * len(log), DONE)
     log = two_receptions()
-    cases.case("two of the longest messages lack their last frames", cases.run(["explain"], log), DONE, UNFINISHED)
+    told = UNFINISHED + counts_line(log, unfinished=2)
+    cases.case("two of the longest messages lack their last frames", cases.run(["explain"], log), DONE, told)
     for job in ["normalise", "explain"]:
         holds_at_most(cases, [job], "no log", b"", 0, DONE)
         holds_at_most(cases, [job], "two of the longest messages without their last frames", log, RECEPTION_BYTES, DONE)
@@ -253,15 +250,27 @@ def two_receptions():
 
 
 def work(cases):
-    """The jobs reach the end of logs of one kind of line. The time for each byte is printed, and nothing fails by it."""
+    """The jobs reach the end of logs of one kind of line, and write a number of lines for each, and one for the request before
+    them or for the counts. The time for each byte is printed, and nothing fails by it."""
     size = 4_000_000
-    for line in [ONE_BYTE, FOURTEEN_BYTES, REQUEST, CONSECUTIVE, FIRST, FOREIGN, BLANK, LONGEST]:
-        log = REQUEST + line * (size // len(line))
-        for job in ["normalise", "list", "explain"]:
+    for line, *written in [
+        (ONE_BYTE, 1, 1, 0),
+        (FOURTEEN_BYTES, 4, 1, 0),
+        (REQUEST, 1, 1, 0),
+        (CONSECUTIVE, 0, 0, 1),
+        (FIRST, 0, 0, 1),
+        (FOREIGN, 0, 0, 0),
+        (BLANK, 0, 0, 0),
+        (LONGEST, 0, 0, 0),
+    ]:
+        lines = size // len(line)
+        log = REQUEST + line * lines
+        for job, number in zip(["normalise", "list", "explain"], written):
             begun = time.monotonic()
-            status, _, _ = cases.run([job], log)
+            status, text, _ = cases.run([job], log)
             nanoseconds = (time.monotonic() - begun) * 1e9 / len(log)
             wrong = [] if status == DONE else [f"status {status}"]
+            wrong += [] if text.count(BLANK) == number * lines + 1 else [f"{text.count(BLANK)} lines"]
             cases.report(f"{job} of {line[:40]!r}: {nanoseconds:.0f} ns for each byte", wrong)
 
 

@@ -19,7 +19,8 @@ import sys
 import tempfile
 from pathlib import Path
 
-from cases import REFUSAL, Cases
+from cases import DONE, REFUSAL, Cases
+from told import place
 
 TOP = Path(__file__).resolve().parent.parent
 PAGE = TOP / "docs" / "interop.md"
@@ -139,7 +140,7 @@ def messages_of_tshark(log):
 def messages_of_list(cases, log):
     """The messages that `list` tells of a log, in the order of the canonical log."""
     messages = []
-    for line in cases.run(["list", *sides_of(log), log])[1].decode().split("\n")[:-1]:
+    for line in cases.run(["list", *sides_of(log), log]).output.decode().split("\n")[:-1]:
         words = line.split(" ")
         if words[1] == "stray":
             messages.append((words[2], words[3]))
@@ -171,7 +172,7 @@ def canonical_logs(cases, folder):
     for length in (7, 8, 4095, 4096, LONGEST_OF_TSHARK, LONGEST_OF_TSHARK + 1, 65535):
         log = folder / f"{length}-bytes.canonical"
         log.write_text(recorded(length))
-        cases.case(f"a log of a message of {length} bytes is canonical", cases.run(["normalise", *sides_of(log), log]), 0, log.read_bytes())
+        cases.case(f"a log of a message of {length} bytes is canonical", cases.run(["normalise", *sides_of(log), log]), DONE, log.read_bytes())
         logs.append(log)
     return logs
 
@@ -224,8 +225,8 @@ def asc_and_back(cases, logs, folder):
         asc, again = folder / "log.asc", folder / "asc.log"
         run("log2asc", "-I", log, "-O", asc, *INTERFACES)
         run("asc2log", "-I", asc, "-O", again)
-        cases.case(f"{log.name} by log2asc and asc2log", cases.run(["compare", *sides_of(log), log, again]), 0, b"same\n")
-    refused(cases, "an ASC file", asc, b"line 1 column 1")
+        cases.case(f"{log.name} by log2asc and asc2log", cases.run(["compare", *sides_of(log), log, again]), DONE, b"same\n")
+    refused(cases, "an ASC file", asc, place(1, 1))
 
 
 def python_can_writes(cases, logs, folder):
@@ -236,7 +237,7 @@ def python_can_writes(cases, logs, folder):
         again = folder / "python-can.log"
         again.unlink(missing_ok=True)
         run(python_with_can(), "-c", WRITER, log, again)
-        cases.case(f"{log.name} written by python-can", cases.run(["compare", *sides_of(log), log, again]), 0, b"same\n")
+        cases.case(f"{log.name} written by python-can", cases.run(["compare", *sides_of(log), log, again]), DONE, b"same\n")
     for name in ("vin", "candump-fd"):
         for kind in ("asc", "csv", "blf"):
             converted(cases, TOP / "examples" / f"{name}.log", kind, folder)
@@ -247,27 +248,27 @@ def converted(cases, log, kind, folder):
     file, again = folder / f"python-can.{kind}", folder / "converted.log"
     again.unlink(missing_ok=True)
     run(python_with_can(), "-c", WRITER, log, file)
-    refused(cases, f"{log.name} as a file {kind} of python-can", file, b"line 1 column 1")
+    refused(cases, f"{log.name} as a file {kind} of python-can", file, place(1, 1))
     run(python_with_can(), "-c", WRITER, file, again)
     if kind == "csv" and "##" in log.read_text():
-        refused(cases, f"that of {log.name} converted", again, b"line 4 column 47")
+        refused(cases, f"that of {log.name} converted", again, place(4, 47))
     else:
-        cases.case(f"that of {log.name} converted", cases.run(["compare", *sides_of(log), log, again]), 0, b"same\n")
+        cases.case(f"that of {log.name} converted", cases.run(["compare", *sides_of(log), log, again]), DONE, b"same\n")
 
 
 def tshark_writes(cases, log, folder):
-    for kind, place in [("pcap", b"line 1 column 1"), ("pcapng", b"line 2 column 2")]:
+    for kind, told in [("pcap", place(1, 1)), ("pcapng", place(2, 2))]:
         file = folder / f"log.{kind}"
         run("tshark", "-r", log, "-F", kind, "-w", file)
-        refused(cases, f"a file {kind} of tshark", file, place)
+        refused(cases, f"a file {kind} of tshark", file, told)
 
 
-def refused(cases, name, file, place):
+def refused(cases, name, file, told):
     there = file.exists() and file.stat().st_size > 0
     if not there:
         cases.report(name, ["the tool has not written it"])
         return
-    cases.case(name, cases.run(["list", file]), REFUSAL, b"", place + b": not a log line\n")
+    cases.case(name, cases.run(["list", file]), REFUSAL, b"", told)
 
 
 def versions_of_page():
@@ -316,13 +317,13 @@ def between(line, folder):
     return log
 
 
-def place_of(program, line, folder):
+def place_of(cases, line, folder):
     """The column at which `udsnorm` refuses a line between two good ones."""
-    done = run(program, "explain", between(line, folder))
-    told = re.match(r"line 2 column (\d+): not a log line\n$", done.stderr)
+    found = cases.run(["explain", between(line, folder)])
+    told = re.match(rb"line 2 column (\d+): not a log line\n$", found.error)
     if told:
-        return f"column {told[1]}"
-    return "accepted" if done.returncode == 0 else done.stderr
+        return f"column {told[1].decode()}"
+    return "accepted" if found.status == DONE else f"{found}"
 
 
 def table(cases, tools, folder):
@@ -332,7 +333,7 @@ def table(cases, tools, folder):
         if tools[tool] != versions[tool]:
             print(f"skipped the table for {tool}: it is of {versions[tool]}, and {tools[tool]} is installed", flush=True)
     for line, cells in rows():
-        found = {"udsnorm": place_of(cases.program, line, folder)}
+        found = {"udsnorm": place_of(cases, line, folder)}
         found |= {tool: what_it_does(tool, line, folder) for tool in tools if tools[tool] == versions[tool]}
         said = dict(zip(["udsnorm", *PACKAGES], cells))
         wrong = [f"{tool}: {found[tool]}, not {said[tool]}" for tool in found if found[tool] != said[tool]]

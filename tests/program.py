@@ -8,7 +8,6 @@ Prints a line for each case and ends with `N passed, M failed`; its status is 1 
 
 import errno
 import os
-import re
 import resource
 import signal
 import subprocess
@@ -18,21 +17,19 @@ from pathlib import Path
 
 import oracle
 from cases import DEVICE, DIFFERENT, DONE, REFUSAL, WORDS, Cases
+from counts import counts_line
 from refuser import READ, WRITE, Refuser
+from runs import Ended, end, give, peak_kilobytes, start
+from tables import EXAMPLES
+from told import LONG_LOG, READ_FAILED, WRITE_FAILED, oversize, place
 
 FIRST_LOG = b"(1700000000.000000) can0 7E0#0322F190"
 FIRST_CANONICAL = b"(0000000000.000000) can0 7E0#0322F190CCCCCCCC\n"
 REFUSED = FIRST_LOG + b"\n(1700000000.100000) can0 7E8#0462F1\nx\n"
 OVERSIZE = b"(1.000000) can0 7E8#1000001000004142\n"
 
-TOP = Path(__file__).resolve().parent.parent
-EXAMPLES = TOP / "examples"
-
 # The identifiers of the examples that are not of 7E0 and 7E8.
 SIDES = {"extended-identifiers.log": {oracle.TESTER: "18DA10F1", oracle.UNIT: "18DAF110"}}
-
-READ_FAILED = b"read failed\n"
-WRITE_FAILED = b"write failed\n"
 
 # Words with which the program tells something on standard error, and its exit status.
 TOLD = [
@@ -47,10 +44,6 @@ TOLD = [
 ]
 
 
-def bad_line(line, column):
-    return f"line {line} column {column}: not a log line\n".encode()
-
-
 def logs(cases):
     cases.case("an empty log", cases.run(), DONE)
     cases.case("a log that ends in a line feed", cases.run(log=FIRST_LOG + b"\n"), DONE, FIRST_CANONICAL)
@@ -60,26 +53,25 @@ def logs(cases):
         DONE,
         FIRST_CANONICAL + b"(0000000000.001000) can0 7E8#037F2231CCCCCCCC\n",
     )
-    cases.case("a refused line after good ones", cases.run(log=REFUSED), REFUSAL, FIRST_CANONICAL, bad_line(3, 1))
-    cases.case("an unfinished last line", cases.run(log=FIRST_LOG + b"\n(1.0"), REFUSAL, FIRST_CANONICAL, bad_line(2, 5))
+    cases.case("a refused line after good ones", cases.run(log=REFUSED), REFUSAL, FIRST_CANONICAL, place(3, 1))
+    cases.case("an unfinished last line", cases.run(log=FIRST_LOG + b"\n(1.0"), REFUSAL, FIRST_CANONICAL, place(2, 5))
     cases.case(
         "a message that is announced above the limit",
         cases.run(log=OVERSIZE),
         REFUSAL,
-        error=b"line 1: 1048576 bytes announced, the limit is 1048575\n",
+        error=oversize(1, 1_048_576),
     )
     cases.case(
         "the same, explained",
         cases.run(["explain"], OVERSIZE),
         DONE,
-        b"line 1: unit frame dropped: 1048576 bytes announced\n"
-        b"lines 1 frames 1 messages 0 dropped 1 ended 0 unfinished 0 pending 0\n",
+        b"line 1: unit frame dropped: 1048576 bytes announced\n" + counts_line(OVERSIZE, dropped=1),
     )
     log, canonical = long_log(10_000_000)
     cases.case("a log of 10 MB", cases.run(log=log), DONE, canonical)
     cases.case("its canonical log again", cases.run(log=canonical), DONE, canonical)
     lines = log.count(b"\n")
-    cases.case("a log of 10 MB that is refused at its end", cases.run(log=log + b"("), REFUSAL, canonical, bad_line(lines + 1, 2))
+    cases.case("a log of 10 MB that is refused at its end", cases.run(log=log + b"("), REFUSAL, canonical, place(lines + 1, 2))
 
 
 def default_limit(cases):
@@ -87,13 +79,11 @@ def default_limit(cases):
     line = b"(0000000001.000000) can0 123##0" + b"00" * 48 + b"\n"
     for name, last, status, error in [
         ("a log of 2^30 bytes", b"", DONE, b""),
-        ("a log of one byte more", b"\n", REFUSAL, b"log longer than the limit\n"),
+        ("a log of one byte more", b"\n", REFUSAL, LONG_LOG),
     ]:
-        program = subprocess.Popen([cases.program], stdin=subprocess.PIPE, stdout=subprocess.PIPE, stderr=subprocess.PIPE)
-        for _ in range(2**10):
-            program.stdin.write(line * 2**13)
-        output, told = program.communicate(last, timeout=60)
-        cases.case(name, (program.returncode, output, told), status, error=error)
+        program = start(cases.program)
+        give(program, line * 2**13, 2**10)
+        cases.case(name, end(program, last), status, error=error)
 
 
 def the_longest_message(cases):
@@ -102,15 +92,15 @@ def the_longest_message(cases):
     length = 6_890_754
     found = cases.run(["normalise", "--limit", str(length)], canonical)
     cases.case("the canonical log of the longest message", found, DONE, canonical)
-    lines = found[1].count(b"\n")
-    is_long = len(found[1]) == length and lines == 149_799
-    cases.report("the length of the longest message's canonical log", [] if is_long else [f"{len(found[1])} bytes, {lines} lines"])
+    lines = found.output.count(b"\n")
+    is_long = len(found.output) == length and lines == 149_799
+    cases.report("the length of the longest message's canonical log", [] if is_long else [f"{len(found.output)} bytes, {lines} lines"])
     front = canonical[: 46 * 149_798]
     told = b"end: unit reception from line 1 of 1048575 bytes unfinished\n"
-    told += b"lines 149798 frames 149798 messages 0 dropped 0 ended 0 unfinished 1 pending 0\n"
+    told += counts_line(front, unfinished=1)
     cases.case("the longest message without its last frame", cases.run(["explain"], front), DONE, told)
     limit = ["normalise", "--limit", str(length - 1)]
-    cases.case("the same below its length", cases.run(limit, canonical), REFUSAL, error=b"log longer than the limit\n")
+    cases.case("the same below its length", cases.run(limit, canonical), REFUSAL, error=LONG_LOG)
 
 
 def canonical_of_unit(message):
@@ -136,11 +126,10 @@ def examples(cases):
         came = oracle.outcome(log.read_bytes(), sides=sides)
         if canonical.exists():
             cases.case(f"examples/{log.name}", found, DONE, canonical.read_bytes())
-            is_same = came.written == canonical.read_bytes()
-            cases.report(f"examples/{canonical.name} by the oracle", [] if is_same else ["another text"])
+            cases.case(f"examples/{log.name} by the oracle", found, came.status, came.written)
             cases.case(f"examples/{log.name} compared with its canonical log", cases.run(["compare", *options, log, canonical]), DONE, b"same\n")
         else:
-            cases.case(f"examples/{log.name}, refused", found, came.status, came.written, None)
+            cases.case(f"examples/{log.name}, refused", found, came.status, came.written, f"{came.fault}\n".encode())
     vin = EXAMPLES / "vin.log"
     cases.case("two recordings of a session", cases.run(["compare", vin, EXAMPLES / "vin-fd-crlf.log"]), DONE, b"same\n")
     stray = vin.read_bytes() + b"(1700000100.000000) can0 7E8#037F2278\n"
@@ -169,7 +158,7 @@ def long_log(size):
 def devices(cases):
     with open("/dev/full", "wb") as full:
         cases.case("a full disk", cases.run(log=FIRST_LOG, stdout=full), DEVICE, None, WRITE_FAILED)
-        cases.case("a full disk, and a refused log", cases.run(log=REFUSED, stdout=full), REFUSAL, None, bad_line(3, 1))
+        cases.case("a full disk, and a refused log", cases.run(log=REFUSED, stdout=full), REFUSAL, None, place(3, 1))
         cases.case("a full disk, and nothing to write", cases.run(stdout=full), DONE, None)
         cases.case("a full disk for a comparison", cases.run(["compare", "/dev/null", "/dev/null"], stdout=full), DEVICE, None, WRITE_FAILED)
     cases.case("standard output closed", cases.run(log=FIRST_LOG, preexec_fn=lambda: os.close(1)), DEVICE, error=WRITE_FAILED)
@@ -209,25 +198,23 @@ def broken_pipe(cases):
     with tempfile.TemporaryFile() as file:
         file.write(log)
         file.seek(0)
-        program = subprocess.Popen([cases.program], stdin=file, stdout=subprocess.PIPE, stderr=subprocess.PIPE)
+        program = start(cases.program, stdin=file)
         front = program.stdout.read(1000)
         program.stdout.close()
         error = program.stderr.read()
         program.stderr.close()
-        found = program.wait(timeout=60), front, error
+        found = Ended(program.wait(timeout=60), front, error)
         cases.case("a pipe whose reader goes away", found, DEVICE, canonical[:1000], WRITE_FAILED)
 
 
 def slow_pipe(cases):
     """The log comes through a pipe, a few bytes at a time."""
     log = FIRST_LOG + b"\n(1.000000) can0 7E8#0362F19041\n"
-    program = subprocess.Popen([cases.program], stdin=subprocess.PIPE, stdout=subprocess.PIPE, stderr=subprocess.PIPE)
+    program = start(cases.program)
     for at in range(0, len(log), 5):
-        program.stdin.write(log[at : at + 5])
-        program.stdin.flush()
-    output, error = program.communicate(timeout=60)
+        give(program, log[at : at + 5])
     want = FIRST_CANONICAL + b"(0000000000.001000) can0 7E8#0362F190CCCCCCCC\n"
-    cases.case("a log in small pieces", (program.returncode, output, error), DONE, want)
+    cases.case("a log in small pieces", end(program), DONE, want)
 
 
 def device_calls(cases):
@@ -257,7 +244,7 @@ def device_calls(cases):
         for words, status in TOLD:
             name = " ".join(os.path.basename(word) for word in words)
             found = refuser.run(cases.program, words, WRITE, 1)
-            cases.report(f"what can't be told: {name}", [] if found == (status, b"", b"", True) else [f"{found}"])
+            cases.report(f"what can't be told: {name}", [] if found == (Ended(status, b"", b""), True) else [f"{found}"])
 
 
 def each_fails(cases, refuser, name, words, kind, told, error=errno.EIO):
@@ -265,10 +252,10 @@ def each_fails(cases, refuser, name, words, kind, told, error=errno.EIO):
     ample = cases.run(words)
     wrong = []
     for call, fault in enumerate(told, 1):
-        status, text, came, is_refused = refuser.run(cases.program, words, kind, call, error)
-        if (status, came, is_refused) != (DEVICE, fault, True) or not ample[1].startswith(text):
-            wrong.append(f"call {call}: status {status}, output {text[:100]!r}, error output {came!r}")
-    if refuser.run(cases.program, words, kind, len(told) + 1, error) != (*ample, False):
+        found, is_refused = refuser.run(cases.program, words, kind, call, error)
+        if (found.status, found.error, is_refused) != (DEVICE, fault, True) or not ample.output.startswith(found.output):
+            wrong.append(f"call {call}: status {found.status}, output {found.output[:100]!r}, error output {found.error!r}")
+    if refuser.run(cases.program, words, kind, len(told) + 1, error) != (ample, False):
         wrong.append(f"there is a call {len(told) + 1}")
     cases.report(name, wrong)
 
@@ -277,21 +264,12 @@ def memory(cases):
     """A log of 100 MB through a pipe takes no more memory than a short one."""
     log, _ = long_log(1_000_000)
     for job in ("normalise", "explain"):
-        program = subprocess.Popen([cases.program, job], stdin=subprocess.PIPE, stdout=subprocess.DEVNULL)
-        for _ in range(100):
-            program.stdin.write(log)
-        program.stdin.flush()
-        peak = peak_kilobytes(program.pid)
-        program.stdin.close()
-        status = program.wait(timeout=60)
-        flat = status == DONE and peak < 4_000
+        program = start(cases.program, [job], stdout=subprocess.DEVNULL, stderr=None)
+        give(program, log, 100)
+        peak = peak_kilobytes(program)
+        status = end(program).status
+        flat = status == DONE and peak is not None and peak < 4_000
         cases.report(f"{job} of 100 MB through a pipe", [] if flat else [f"status {status}, {peak} kB"])
-
-
-def peak_kilobytes(process):
-    """The most memory that a running process had so far."""
-    told = Path(f"/proc/{process}/status").read_text()
-    return int(re.search(r"^VmHWM:\s+(\d+) kB$", told, re.M)[1])
 
 
 def main():

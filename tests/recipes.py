@@ -14,7 +14,6 @@ Prints a line for each case and ends with `N passed, M failed`; its status is 1 
 """
 
 import os
-import re
 import shutil
 import subprocess
 import sys

@@ -24,17 +24,14 @@ from collections import Counter
 from itertools import groupby
 from pathlib import Path
 
+from cases import DONE, MEMORY, Cases
 from refuser import GROWTH, Refuser
+from runs import run
+from tables import EXAMPLES
+from told import OUT_OF_MEMORY
 
-TESTS = Path(__file__).resolve().parent
-EXAMPLES = TESTS.parent / "examples"
-CALLS = TESTS.parent / "crates" / "refused_memory"
+CALLS = EXAMPLES.parent / "crates" / "refused_memory"
 
-MEMORY = 5
-# What the program says of a growth that is refused: in its words or over one log, and over each of two.
-TOLD = b"out of memory\n"
-TOLD_LEFT = b"left: " + TOLD
-TOLD_RIGHT = b"right: " + TOLD
 MOST_GROWTHS = 1000
 
 # How many growths each call of the libraries has over each session of the crate.
@@ -95,20 +92,6 @@ list --tester 7E                                                69          1
 list --tester 800                                               69          1
 """
 
-passed = 0
-failed = 0
-
-
-def case(name, holds, seen):
-    global passed, failed
-    if holds:
-        passed += 1
-        print(f"ok {name}", flush=True)
-    else:
-        failed += 1
-        print(f"FAILED {name}: {seen}", flush=True)
-
-
 def table(text):
     """The rows of a table, each with its numbers by column. What comes before the numbers is the row's name."""
     columns, *rows = (line.split() for line in text.strip().splitlines())
@@ -140,49 +123,47 @@ LOGS = {
 def told_of_each(program, refuser, words):
     """What the program says where each growth in turn is refused: that it was, after a front of what it writes with ample
     memory, or nothing (None) where its answer is that of ample memory. Any other answer stands there as it is."""
-    done = subprocess.run([program, *words], capture_output=True, timeout=60)
-    ample = done.returncode, done.stdout, done.stderr
+    ample = run(program, words)
     told = []
     for growth in range(1, MOST_GROWTHS):
-        status, output, fault, is_refused = refuser.run(program, words, GROWTH, growth)
-        answer = status, output[:100], fault
-        is_ample = (status, output, fault) == ample
+        found, is_refused = refuser.run(program, words, GROWTH, growth)
+        answer = found._replace(output=found.output[:100])
         if not is_refused:
-            return told if is_ample else [*told, answer]
-        is_front = status == MEMORY and done.stdout.startswith(output)
-        told.append(None if is_ample else fault if is_front else answer)
+            return told if found == ample else [*told, answer]
+        is_front = found.status == MEMORY and ample.output.startswith(found.output)
+        told.append(None if found == ample else found.error if is_front else answer)
     return told
 
 
-def words_refused(program, refuser, name, words, begun, later=()):
+def words_refused(cases, refuser, name, words, begun, later=()):
     """The growths of the words come first, of which the parser swallows some; then those of the job, with what is told of
     each."""
     growths, swallowed = begun["growths"], begun["swallowed"]
-    told = told_of_each(program, refuser, words)
-    of_words = Counter({TOLD: growths - swallowed, None: swallowed})
+    told = told_of_each(cases.program, refuser, words)
+    of_words = Counter({OUT_OF_MEMORY: growths - swallowed, None: swallowed})
     holds = Counter(told[:growths]) == of_words and told[growths:] == [*later]
     seen = [(what, len([*same])) for what, same in groupby(told)]
-    case(f"{name}, each of {growths + len(later)} growths refused", holds, seen)
+    cases.report(f"{name}, each of {growths + len(later)} growths refused", [] if holds else [f"{seen}"])
 
 
 def told_of_job(job, growths):
-    """What is told of each growth of a job, by its row of the table."""
+    """What is told of each growth of a job, by its row of the table. Of a comparison it is also told which log was read."""
     if job != "compare":
-        return [TOLD] * growths[job]
+        return [OUT_OF_MEMORY] * growths[job]
     left = growths["list"]
-    return [TOLD_LEFT] * left + [TOLD_RIGHT] * (growths[job] - left)
+    return [b"left: " + OUT_OF_MEMORY] * left + [b"right: " + OUT_OF_MEMORY] * (growths[job] - left)
 
 
-def the_program(program, refuser, folder):
+def the_program(cases, refuser, folder):
     logs = {path.stem: path for path in sorted(EXAMPLES.glob("*.log"))}
     for name, log in LOGS.items():
         logs[name] = folder / f"{name}.log"
         logs[name].write_bytes(log)
     of_words, of_jobs = table(WORD_GROWTHS), table(JOB_GROWTHS)
     for words, begun in of_words.items():
-        words_refused(program, refuser, f"the words {words!r}", words.split(), begun)
+        words_refused(cases, refuser, f"the words {words!r}", words.split(), begun)
     named = {row.split()[0] for row in of_jobs}
-    case("the table has each log", named == set(logs), sorted(named ^ set(logs)))
+    cases.report("the table has each log", sorted(named ^ set(logs)))
     for row, growths in of_jobs.items():
         name, *options = row.split()
         left = logs[name]
@@ -191,14 +172,15 @@ def the_program(program, refuser, folder):
             files = [left, right] if job == "compare" else [left]
             begun = of_words[" ".join([job, *options, *["missing"] * len(files)])]
             words = [job, *options, *map(str, files)]
-            words_refused(program, refuser, f"{job} of {row}", words, begun, told_of_job(job, growths))
+            words_refused(cases, refuser, f"{job} of {row}", words, begun, told_of_job(job, growths))
 
 
-def build_calls():
+def build_calls(cases):
     """The tests of the calls of the libraries, proved and built."""
     words = ["rt", "test"]
     done = subprocess.run(words, cwd=CALLS, stdin=subprocess.DEVNULL, capture_output=True, text=True, timeout=3600)
-    case("the tests of the libraries are proved, and pass with ample memory", done.returncode == 0, done.stdout[-1000:])
+    wrong = [] if done.returncode == 0 else [done.stdout[-1000:]]
+    cases.report("the tests of the libraries are proved, and pass with ample memory", wrong)
     return CALLS / "out" / f"{CALLS.name}_tests"
 
 
@@ -207,37 +189,38 @@ def call_growths(tests, refuser, test):
     None where it ends in another way."""
     growths = Counter()
     for growth in range(1, MOST_GROWTHS):
-        status, output, error, is_refused = refuser.run(tests, [test], GROWTH, growth)
+        found, is_refused = refuser.run(tests, [test], GROWTH, growth)
         if not is_refused:
-            return growths if status == 0 else None
-        session = re.match(rb'error: "(\w+)"\n', error)
-        if status == 0 or not session:
+            return growths if found.status == DONE else None
+        session = re.match(rb'error: "(\w+)"\n', found.error)
+        if found.status == DONE or not session:
             return None
         growths[session[1].decode()] += 1
     return None
 
 
-def the_libraries(refuser):
-    tests = build_calls()
-    found = subprocess.run([tests, "--list"], capture_output=True, text=True, timeout=60).stdout
+def the_libraries(cases, refuser):
+    tests = build_calls(cases)
+    found = run(tests, ["--list"]).output.decode()
     rows, names = table(CALL_GROWTHS), re.findall(r"^calls::(\w+): test$", found, re.M)
-    case("the table has each call", set(rows) == set(names), sorted(set(rows) ^ set(names)))
+    cases.report("the table has each call", sorted(set(rows) ^ set(names)))
     for call, expected in rows.items():
         found = call_growths(tests, refuser, f"calls::{call}")
         holds = found is not None and {session: found[session] for session in expected} == expected
         numbers = ", ".join(f"{number} over {session}" for session, number in expected.items())
-        case(f"{call}, each growth refused: {numbers}", holds and found.total() == sum(expected.values()), found)
+        is_all = holds and found.total() == sum(expected.values())
+        cases.report(f"{call}, each growth refused: {numbers}", [] if is_all else [f"{found}"])
 
 
 def main():
     if len(sys.argv) != 2:
         sys.exit(__doc__)
+    cases = Cases(os.path.abspath(sys.argv[1]))
     with tempfile.TemporaryDirectory() as folder:
         refuser = Refuser(folder)
-        the_program(os.path.abspath(sys.argv[1]), refuser, Path(folder))
-        the_libraries(refuser)
-    print(f"{passed} passed, {failed} failed")
-    sys.exit(1 if failed else 0)
+        the_program(cases, refuser, Path(folder))
+        the_libraries(cases, refuser)
+    cases.end()
 
 
 main()

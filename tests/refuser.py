@@ -5,6 +5,8 @@ import os
 import subprocess
 from pathlib import Path
 
+import runs
+
 TESTS = Path(__file__).resolve().parent
 
 # The kinds of calls, by the variable that has the number of the one that is refused.
@@ -29,16 +31,15 @@ class Refuser:
         subprocess.run(words, check=True)
 
     def run(self, program, words, kind, call, error=errno.EIO, for_good=False, **options):
-        """Status, output and error output of a program to which this call of its kind is refused, and whether it was. For good:
-        so is each later write to the same file."""
+        """How a program ends to which this call of its kind is refused, and whether it was. For good: so is each later write to
+        the same file."""
         refusing = {kind: str(call), "REFUSED_AS": str(error), **({"REFUSED_FOR_GOOD": "1"} if for_good else {})}
-        status, output, told = self.start(program, words, refusing, **options)
-        return status, output, told.removeprefix(REFUSED), told.startswith(REFUSED)
+        ended = self.start(program, words, refusing, **options)
+        return ended._replace(error=ended.error.removeprefix(REFUSED)), ended.error.startswith(REFUSED)
 
     def start(self, program, words, variables=(), log=b"", most=None):
-        """Status, output and error output of a program that takes a log from standard input. No read or write takes more
-        bytes than `most`, where that is given."""
+        """How a program ends that takes a log from standard input. No read or write takes more bytes than `most`, where that
+        is given."""
         shortening = {} if most is None else {"MOST_BYTES": str(most)}
         environment = {**os.environ, "LD_PRELOAD": str(self.library), **dict(variables), **shortening}
-        done = subprocess.run([program, *words], input=log, capture_output=True, timeout=60, env=environment)
-        return done.returncode, done.stdout, done.stderr
+        return runs.run(program, words, log, env=environment)

@@ -15,7 +15,8 @@ import sys
 import tempfile
 from pathlib import Path
 
-from cases import Cases
+from cases import DONE, Cases
+from runs import run
 
 TOP = Path(__file__).resolve().parent.parent
 VERSION = (TOP / "VERSION").read_text().rstrip("\n")
@@ -54,8 +55,7 @@ def difference(found, want):
 
 def runs(cases, name, program):
     """The program is there and answers a sample log."""
-    done = subprocess.run([program, "normalise", LOG], capture_output=True, timeout=60)
-    cases.case(name, (done.returncode, done.stdout, done.stderr), 0, CANONICAL.read_bytes())
+    cases.case(name, run(program, ["normalise", LOG]), DONE, CANONICAL.read_bytes())
 
 
 def version_is_one(cases):

@@ -16,7 +16,9 @@ import shutil
 import subprocess
 import sys
 
-from differential import EXAMPLES, limit_for, random_logs, replaced, run, words_of
+from differential import limit_for, random_logs, replaced, words_of
+from runs import run
+from tables import EXAMPLES
 
 FOLDER = EXAMPLES.parent / "bench" / "rival"
 RIVAL = FOLDER / "out" / "release" / "rival"

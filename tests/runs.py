@@ -1,44 +1,73 @@
-"""Runs of the built program over logs on standard input, each with its status and its texts."""
+"""The one way in which the tests run the built program: over a log on standard input, with short or failing reads and writes, or
+step by step."""
 
 import os
+import re
 import subprocess
 import tempfile
 from collections import namedtuple
 from contextlib import contextmanager
 from pathlib import Path
 
-READ_FAILED = b"read failed\n"
-WRITE_FAILED = b"write failed\n"
-LONG_LOG = b"log longer than the limit\n"
-
 Ended = namedtuple("Ended", "status output error")
+
+PIPES = {"stdout": subprocess.PIPE, "stderr": subprocess.PIPE}
+
+
+def run(program, words=(), log=b"", **options):
+    """How a program ends with these words over a log on standard input. Options are those of a process, as other ends of its
+    pipes; what it writes to such an end is None."""
+    given = {} if "stdin" in options else {"input": log}
+    done = subprocess.run([program, *words], timeout=60, **(PIPES | given | options))
+    return Ended(done.returncode, done.stdout, done.stderr)
+
+
+def start(program, words=(), **options):
+    """A program that runs, with a pipe for each of its ends where nothing else is said."""
+    return subprocess.Popen([program, *words], **({"stdin": subprocess.PIPE} | PIPES | options))
+
+
+def give(running, log, times=1):
+    """Writes a log this often to its standard input. Whether it reads until the end of that."""
+    try:
+        for _ in range(times):
+            running.stdin.write(log)
+        running.stdin.flush()
+    except BrokenPipeError:
+        return False
+    return True
+
+
+def end(running, rest=b""):
+    """How it ends over the rest of its log."""
+    output, error = running.communicate(rest, timeout=60)
+    return Ended(running.returncode, output, error)
+
+
+def peak_kilobytes(running):
+    """The most memory that it had so far; None where it has ended."""
+    told = re.search(r"^VmHWM:\s+(\d+) kB$", Path(f"/proc/{running.pid}/status").read_text(), re.M)
+    return int(told[1]) if told else None
 
 
 class Program:
-    """The built program over a log on standard input."""
+    """The built program, and what refuses calls to it."""
 
     def __init__(self, path, refuser):
         self.path = path
         self.refuser = refuser
 
-    def run(self, words, log=b""):
-        done = subprocess.run([self.path, *words], input=log, capture_output=True, timeout=60)
-        return Ended(done.returncode, done.stdout, done.stderr)
-
-    def run_over(self, words, reader, output=subprocess.PIPE):
-        """The same over a pipe, which is left as the program leaves it."""
-        done = subprocess.run([self.path, *words], stdin=reader, stdout=output, stderr=subprocess.PIPE, timeout=60)
-        return Ended(done.returncode, done.stdout, done.stderr)
+    def run(self, words, log=b"", **options):
+        return run(self.path, words, log, **options)
 
     def run_short(self, words, log=b""):
         """The same where each read gives a byte, and each write takes one."""
-        return Ended(*self.refuser.start(self.path, words, log=log, most=1))
+        return self.refuser.start(self.path, words, log=log, most=1)
 
     def run_failing(self, words, kind, call, log=b"", **options):
         """The same where this read or write fails, and each write after it. The second answer is whether there is such a
         call."""
-        *ended, is_refused = self.refuser.run(self.path, words, kind, call, log=log, for_good=True, **options)
-        return Ended(*ended), is_refused
+        return self.refuser.run(self.path, words, kind, call, log=log, for_good=True, **options)
 
 
 def differences(what, came, want):
@@ -52,10 +81,6 @@ def shown(value):
 
 def how(ended):
     return ended.status, ended.error
-
-
-def place(line, column):
-    return f"line {line} column {column}: not a log line\n".encode()
 
 
 @contextmanager

@@ -16,19 +16,18 @@ from functools import partial
 
 import tables
 from cases import DIFFERENT, DONE, REFUSAL, WORDS, Cases
+from counts import counts_in, counts_line
 from devices import devices
 from recordings import CANONICAL, SIZES, Style, message_of, recorded
 from refuser import Refuser
-from runs import LONG_LOG, Ended, Program, differences, files, how, pipe, place
+from runs import Ended, Program, differences, files, how, pipe
 from tables import CANONICAL_LINE, VIN, Row
+from told import LONG_CANONICAL, LONG_LOG, OVERSIZE, place
 
 JOBS = ["normalise", "list", "explain"]
 
-# The counts of a canonical log, of which nothing is lost.
-CLEAN = "lines {lines} frames {lines} messages {messages} dropped 0 ended 0 unfinished 0 pending 0\n"
-
 # Why a log is refused that can be explained all the same.
-ONLY_NORMALISED = (b" bytes announced, the limit is 1048575\n", b"canonical log longer than the limit\n")
+ONLY_NORMALISED = (OVERSIZE, LONG_CANONICAL)
 
 # How the jobs ended over one log, and what is wrong with that.
 Taken = namedtuple("Taken", "normalised listed explained wrong")
@@ -53,24 +52,18 @@ def taken(program, log, options=()):
     return Taken(normalised, listed, explained, wrong)
 
 
-def counts_in(explained):
-    """The last line of an explanation, as numbers by their names."""
-    words = explained.output.decode().splitlines()[-1].split(" ")
-    return {name: int(number) for name, number in zip(words[::2], words[1::2])}
-
-
-def again(program, canonical, found, options):
-    """A canonical log is its own and lists the same, with the messages that were kept, and without a frame lost."""
-    counts = counts_in(found.explained)
-    clean = CLEAN.format(lines=canonical.count(b"\n"), messages=counts["messages"] - counts["pending"]).encode()
+def again(program, row, found):
+    """A canonical log is its own and lists the same, with each message in it, and without a frame lost."""
+    canonical = row.canonical()
+    clean = counts_line(canonical, canonical, row.sides())
     wants = [Ended(DONE, canonical, b""), found.listed, Ended(DONE, clean, b"")]
-    ended = [program.run([job, *options], canonical) for job in JOBS]
+    ended = [program.run([job, *sides(row)], canonical) for job in JOBS]
     return differences("the canonical log again", ended, wants)
 
 
 def sides(row):
-    """The options for the tester and the unit of a row."""
-    return [word for both in row.texts("between") for side in zip(["--tester", "--unit"], both.split(" ")) for word in side]
+    """The options for the tester and the unit of a row, where it says them."""
+    return [word for side in zip(["--tester", "--unit"], row.sides()) for word in side] if row.has("between") else []
 
 
 # --- Tables of logs ---------------------------------------------------------------------------------------------------------
@@ -82,24 +75,24 @@ SESSIONS = [
 
 
 def sessions(program):
-    """A table in which a row has items, or what is told, has those of each log."""
+    """A table in which a row has items has those of each log."""
     for name in SESSIONS:
         rows = tables.table(name)
-        texts = [mark for mark in ("told", "item") if any(row.has(mark) for row in rows)]
+        has_items = any(row.has("item") for row in rows)
         for row in rows:
-            yield f"{name}: {row.name}", partial(session, program, row, texts)
+            yield f"{name}: {row.name}", partial(session, program, row, has_items)
 
 
-def session(program, row, texts):
+def session(program, row, has_items=False):
     """A log has the canonical log of its row, or is refused as that says and has so much written."""
-    options = sides(row)
-    found = taken(program, row.log(), options)
+    found = taken(program, row.log(), sides(row))
     refused, canonical = row.text("refused"), row.canonical()
     wrong = found.wrong + differences("normalise", found.normalised, Ended(REFUSAL if refused else DONE, canonical, refused))
-    for mark, ended in [("told", found.explained), ("item", found.listed)]:
-        if mark in texts:
-            wrong += differences(mark, ended, Ended(DONE, row.text(mark), b""))
-    return wrong if refused else wrong + again(program, canonical, found, options)
+    if row.has("counts"):
+        wrong += differences("told", found.explained, Ended(DONE, row.text("told") + row.counts(), b""))
+    if has_items:
+        wrong += differences("item", found.listed, Ended(DONE, row.text("item"), b""))
+    return wrong if refused else wrong + again(program, row, found)
 
 
 def logs_without_message(program):
@@ -110,14 +103,10 @@ def logs_without_message(program):
 def without_message(program, row):
     """All frames of a log are dropped; nothing else is counted, written or listed."""
     found = taken(program, row.log())
-    counts = counts_in(found.explained)
-    told = "{lines} lines, {frames} frames\n".format(**counts).encode()
-    others = {name: number for name, number in counts.items() if name not in ("lines", "frames")}
     nothing = Ended(DONE, b"", b"")
     return [
         *found.wrong,
-        *differences("lines and frames", told, row.text("counts")),
-        *differences("other counts", others, dict(messages=0, dropped=counts["frames"], ended=0, unfinished=0, pending=0)),
+        *differences("counts", found.explained.output.splitlines(keepends=True)[-1], row.counts()),
         *differences("normalise and list", (found.normalised, found.listed), (nothing, nothing)),
     ]
 
@@ -170,7 +159,7 @@ def breaks_off(program):
 
 FIRST = "line (0.000000) can0 7E8#101462F190574241"
 NEXT = "line (1.00000{late}) can0 7E8#2133413543353045"
-COUNTS = "told lines 3 frames 3 messages {messages} dropped {dropped} ended {late} unfinished {open} pending 0"
+COUNTS = "counts dropped={dropped} ended={late} unfinished={open}"
 IS_OPEN = ["told end: unit reception from line 1 of 20 bytes unfinished"]
 IS_LATE = [
     "told line 3: unit reception from line 1 of 20 bytes ended: late",
@@ -182,11 +171,11 @@ def frames_without_part(program):
     """After such a frame a reception goes on a second after its first frame, and is late a microsecond later."""
     for row in tables.table("frames_without_part"):
         for late, end in enumerate([IS_OPEN, IS_LATE]):
-            counts = dict(messages=len(row.texts("canonical")), dropped=len(row.texts("told")) + late, late=late, open=1 - late)
+            counts = dict(dropped=len(row.texts("told")) + late, late=late, open=1 - late)
             lines = [f"{mark} {text}" for mark, text in row.lines]
             whole = Row(row.name, [FIRST, *lines, NEXT.format(late=late), *end, COUNTS.format(**counts)])
             name = f"frames_without_part: {row.name}, {['on time', 'late'][late]}"
-            yield name, partial(session, program, whole, ["told"])
+            yield name, partial(session, program, whole)
 
 
 # --- Names ------------------------------------------------------------------------------------------------------------------
@@ -257,7 +246,7 @@ def under_limits(program, row):
 
 def accepted(found):
     """What a row tells of an accepted log."""
-    counts = counts_in(found.explained) if found.normalised.status == DONE else None
+    counts = counts_in(found.explained.output) if found.normalised.status == DONE else None
     return "accepted, {messages} messages, {dropped} dropped".format(**counts) if counts else ""
 
 
@@ -325,7 +314,7 @@ def compared(program, row):
 def left_alone(program):
     line = b"(1.000000) can0 7E0#0\n"
     with files(line, b"") as (left, _), pipe(line) as right:
-        found = program.run_over(["compare", left, "/dev/stdin"], right)
+        found = program.run(["compare", left, "/dev/stdin"], stdin=right)
         rest = right.read()
     want = Ended(REFUSAL, b"", b"left: " + place(1, 22))
     return differences("compare", (found, rest), (want, line))
@@ -352,7 +341,7 @@ def sent_in_each_style(program, length, size):
     for style in itertools.starmap(partial(Style, size), itertools.product([b"\x00", b"\xff"], [False, True])):
         log = recorded(style, message)
         wrong += differences(f"{style}", program.run(["normalise"], log), Ended(DONE, canonical, b""))
-        wrong += differences(f"messages of {style}", counts_in(program.run(["explain"], log))["messages"], 1)
+        wrong += differences(f"explain {style}", program.run(["explain"], log), Ended(DONE, counts_line(log, canonical), b""))
     return wrong
 
 
@@ -368,7 +357,7 @@ def is_its_own(program, length, lines):
         *differences("bytes", len(at_limit.normalised.output), lines * CANONICAL_LINE),
         *at_limit.wrong,
         *differences("normalise", at_limit.normalised, Ended(DONE, canonical, b"")),
-        *differences("messages", counts_in(at_limit.explained)["messages"], 1),
+        *differences("explain", at_limit.explained, Ended(DONE, counts_line(canonical, messages=1), b"")),
         *differences("list", at_limit.listed, Ended(DONE, item, b"")),
         *below.wrong,
         *differences("a byte below", how(below.normalised), (REFUSAL, LONG_LOG)),
@@ -382,7 +371,7 @@ def long_logs(program):
     byte_rows = Row("frames of one byte are all dropped", frames_of_one_byte())
     start_rows = Row("each first frame ends the one before", first_frames())
     for row in [byte_rows, start_rows]:
-        yield row.name, partial(session, program, row, ["told"])
+        yield row.name, partial(session, program, row)
     yield "thousands of frames that wait for an answer", partial(thousands_of_strays, program)
     yield "thousands of frames of exchanges", partial(thousands_of_exchanges, program)
 
@@ -392,7 +381,7 @@ def frames_of_one_byte():
     for byte in range(256):
         yield f"line (1.000000) can0 7E8#{byte:02X}"
         yield f"told line {byte + 1}: unit frame dropped: {kinds[byte // 16] if byte < 64 else 'unknown kind'}"
-    yield "told lines 256 frames 256 messages 0 dropped 256 ended 0 unfinished 0 pending 0"
+    yield "counts dropped=256"
 
 
 def first_frames():
@@ -400,7 +389,7 @@ def first_frames():
         yield "line (1.000000) can0 7E8#1FFF414243444546"
         reception = f"unit reception from line {begun} of 4095 bytes"
         yield f"told line {begun + 1}: {reception} ended: new start" if begun < 1000 else f"told end: {reception} unfinished"
-    yield "told lines 1000 frames 1000 messages 0 dropped 0 ended 999 unfinished 1 pending 0"
+    yield "counts ended=999 unfinished=1"
 
 
 def thousands_of_strays(program):
@@ -409,7 +398,6 @@ def thousands_of_strays(program):
     strays = 2000 * b"(1.000000) can0 7E8#0759595959595959\n"
     log = b"(1.000000) can0 7E0#0322F190\n" + strays + b"(1.000000) can0 7E8#0462F19041\n"
     found = taken(program, log)
-    counts = counts_in(found.explained)
     with files(log, found.normalised.output) as names:
         same = program.run(["compare", *names])
     return [
@@ -417,7 +405,7 @@ def thousands_of_strays(program):
         *differences("how normalise ends", how(found.normalised), (DONE, b"")),
         *differences("bytes", len(found.normalised.output), 92_092),
         *differences("the second line", found.normalised.output[46:92], b"(0000000000.001000) can0 7E8#0462F19041CCCCCC\n"),
-        *differences("counts", (counts["frames"], counts["messages"], counts["dropped"]), (2002, 2002, 0)),
+        *differences("explain", found.explained, Ended(DONE, counts_line(log, messages=2002), b"")),
         *differences("items", found.listed.output.count(b"\n"), 2001),
         *differences("compare", same, Ended(DONE, b"same\n", b"")),
     ]
@@ -426,8 +414,7 @@ def thousands_of_strays(program):
 def thousands_of_exchanges(program):
     frames = ["7E0#0322F190", "7E8#100862F190414243", "7E0#300000", "7E8#214445"]
     log = b"".join(tables.stamped(number, frame) for number, frame in enumerate(500 * frames))
-    counts = counts_in(program.run(["explain"], log))
-    return differences("counts", (counts["frames"], counts["messages"]), (2000, 1000))
+    return differences("explain", program.run(["explain"], log), Ended(DONE, counts_line(log, messages=1000), b""))
 
 
 # ----------------------------------------------------------------------------------------------------------------------------

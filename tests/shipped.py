@@ -15,29 +15,18 @@ import sys
 import tempfile
 from pathlib import Path
 
+from cases import DONE, Cases
+from tables import EXAMPLES
+
 TOP = Path(__file__).resolve().parent.parent
-EXAMPLES = TOP / "examples"
 MANUAL = TOP / "share" / "man" / "man1" / "udsnorm.1"
 COMPLETIONS = sorted((TOP / "share" / "completions").iterdir())
 
-passed = 0
-failed = 0
 
-
-def case(name, wrong):
-    """A case passed where nothing is wrong."""
-    global passed, failed
-    if wrong:
-        failed += 1
-        print(f"FAILED {name}: {'; '.join(wrong)}")
-    else:
-        passed += 1
-        print(f"ok {name}")
-
-
-def help_of(program, *words):
-    done = subprocess.run([program, *words, "--help"], capture_output=True, text=True, timeout=60)
-    return done.stdout
+def help_of(cases, *words):
+    """A help text; nothing where the program doesn't end well."""
+    found = cases.run([*words, "--help"])
+    return found.output.decode() if (found.status, found.error) == (DONE, b"") else ""
 
 
 def named_in(text, heading):
@@ -55,30 +44,31 @@ def missing_in(text, words):
     return [word for word in words if not re.search(rf"(?<![\w-]){re.escape(word)}(?![\w-])", text)]
 
 
-def names_are_complete(program):
-    commands = named_in(help_of(program), "Commands")
-    case("the help names four commands", [] if len(commands) == 4 else [str(commands)])
+def names_are_complete(cases):
+    commands = named_in(help_of(cases), "Commands")
+    cases.report("the help names four commands", [] if len(commands) == 4 else [str(commands)])
     texts = {"the manual page": MANUAL.read_text().replace("\\-", "-")}
     for completion in COMPLETIONS:
         # A long option of fish is written without its dashes.
         texts[completion.name] = re.sub(r" -l (\w)", r" --\1", completion.read_text())
     for name, text in texts.items():
-        wrong = [f"no {word}" for word in missing_in(text, commands)]
+        wrong = [f"no {word}" for word in missing_in(text, commands)] if commands else ["no commands in the help"]
         for command in commands:
-            options = named_in(help_of(program, command), "Options")
+            options = named_in(help_of(cases, command), "Options")
             wrong += ["no options in the help"] if len(options) < 4 else []
             wrong += [f"no {option} of {command}" for option in missing_in(text, options)]
-        case(f"{name} names every command and option", wrong)
-    wrong = missing_in(texts["the manual page"], defaults_in(help_of(program, "list")))
-    case("the manual page has the defaults of the help", wrong)
+        cases.report(f"{name} names every command and option", wrong)
+    defaults = defaults_in(help_of(cases, "list"))
+    wrong = missing_in(texts["the manual page"], defaults) if len(defaults) == 3 else [f"{len(defaults)} defaults in the help"]
+    cases.report("the manual page has the defaults of the help", wrong)
 
 
-def manual_is_well_formed():
+def manual_is_well_formed(cases):
     done = subprocess.run(["groff", "-man", "-Tutf8", "-ww", MANUAL], capture_output=True, text=True, timeout=60)
-    case("the manual page as groff sees it", [done.stderr] if done.stderr or done.returncode else [])
+    cases.report("the manual page as groff sees it", [done.stderr] if done.stderr or done.returncode else [])
 
 
-def bash_completes():
+def bash_completes(cases):
     """What bash offers, by the function of its completion."""
     script = next(path for path in COMPLETIONS if path.suffix == ".bash")
     for words, want in [
@@ -91,7 +81,7 @@ def bash_completes():
         ask = f"source {script}; COMP_WORDS=({line}); COMP_CWORD={len(words) - 1}; _udsnorm; printf '%s\\n' \"${{COMPREPLY[@]}}\""
         done = subprocess.run(["bash", "-c", ask], capture_output=True, text=True, timeout=60)
         found = done.stdout.split()
-        case(f"bash completes {' '.join(words)!r}", [] if found == want and not done.stderr else [str(found), done.stderr])
+        cases.report(f"bash completes {' '.join(words)!r}", [] if found == want and not done.stderr else [str(found), done.stderr])
 
 
 # Also where `make test` runs this, the `make` below is the first one: it takes no words of the other, and its messages have no level.
@@ -103,30 +93,33 @@ def make(*words, **environment):
     return done.returncode, done.stdout, done.stderr
 
 
-def install_is_undone():
+def install_is_undone(cases):
     """Each file that `make install` puts somewhere is one that `make uninstall` removes."""
-    plan = {}
+    plan, wrong = {}, []
     for goal in ["install", "uninstall"]:
-        _, told, _ = make("-n", goal, "DESTDIR=/stage", "PREFIX=/usr")
+        status, told, _ = make("-n", goal, "DESTDIR=/stage", "PREFIX=/usr")
+        wrong += [] if status == 0 else [f"{goal} ends with {status}"]
         plan[goal] = set(re.findall(r"/stage/\S+", told))
-    wrong = [] if len(plan["install"]) == 5 else [f"{len(plan['install'])} files"]
+    wrong += [] if len(plan["install"]) == 5 else [f"{len(plan['install'])} files"]
     wrong += sorted(plan["install"] ^ plan["uninstall"])
-    case("uninstall removes what install puts somewhere", wrong)
+    cases.report("uninstall removes what install puts somewhere", wrong)
 
 
-def make_run_tells_what_the_program_says():
-    """`make run` without its build: the canonical log and nothing else, and where it ends early the program's own words and status."""
+def make_run_tells_what_the_program_says(cases):
+    """`make run` without its build: the canonical log and nothing else, and where it ends early the program's own words and status,
+    with the status that make has for each failure."""
     canonical = (EXAMPLES / "first.canonical").read_text()
-    for log, want in [
-        ("examples/first.log", (0, canonical, "")),
-        ("examples/refused.log", (0, canonical, "line 2 column 37: not a log line\nudsnorm: exit status 3\n")),
-        ("examples/none.log", (0, "", "read failed\nudsnorm: exit status 4\n")),
+    for log, status, text, told in [
+        ("examples/first.log", 0, canonical, ""),
+        ("examples/refused.log", 2, canonical, r"line 2 column 37: not a log line\nudsnorm: exit status 3\nmake: .* Error 3\n"),
+        ("examples/none.log", 2, "", r"read failed\nudsnorm: exit status 4\nmake: .* Error 4\n"),
     ]:
-        found = make("-o", "build", "run", f"LOG={log}")
-        case(f"make run of {log}", [] if found == want else [str(found)])
+        found = make("-o", "build", "run", f"PROGRAM={cases.program}", f"LOG={log}")
+        is_told = found[:2] == (status, text) and re.fullmatch(told, found[2])
+        cases.report(f"make run of {log}", [] if is_told else [str(found)])
 
 
-def make_build_tells_its_begin_and_end():
+def make_build_tells_its_begin_and_end(cases):
     """`make build` in a folder of its own, with another `rt`: its own lines, and what `rt` said where that failed."""
     begin = r"udsnorm: proving and building, .* goes to \S+/out/build.txt\n"
     for name, status, end in [
@@ -140,53 +133,69 @@ def make_build_tells_its_begin_and_end():
             path = f"{folder}:{os.environ['PATH']}"
             found = make("build", f"PROGRAM_CRATE={folder}", PATH=path)
         is_told = re.fullmatch(begin + end, found[2])
-        case(f"make build {name}", [] if (found[0] == 0) == (status == 0) and found[1] == "" and is_told else [str(found)])
+        cases.report(f"make build {name}", [] if (found[0] == 0) == (status == 0) and found[1] == "" and is_told else [str(found)])
 
 
-# Stands for `rt` where `make check` is tried: it fails in this crate and with these words.
-FAILING_STUB = """#!/bin/sh
+# Stand for `rt` and `python3` where `make check` is tried: `rt` fails in this crate and with these words, and of the tests none
+# is run.
+FAILING_RT = """#!/bin/sh
 [ "${PWD##*/} $*" != "%s" ] && exit
-echo 'a goal is not proved that the answer depends on'
-echo 'error: no proof'
+echo 'a goal is not proved that the answer depends on' >&2
+echo 'error: no proof' >&2
 exit 1
 """
+IDLE_PYTHON = f"""#!/bin/sh
+case "$1" in tests/*) exit;; esac
+exec '{sys.executable}' "$@"
+"""
+
+# What `make check` does with the program.
+OF_PROGRAM = ["udsnorm: make build"]
+OF_PROGRAM += [f"tests/{test}.py" for test in ["command_line", "program", "sessions", "documents", "shipped", "recipes", "release"]]
 
 
-def make_check_goes_upwards():
-    """`make check` with another `rt`, up to the step that fails: each crate comes after those that it stands on."""
+def make_check_goes_upwards(cases):
+    """`make check` with another `rt`, up to the step that fails: each crate comes after those that it stands on, and the program
+    before those that it doesn't stand on."""
     for crate, failing, steps in [
         ("uds_message", "uds_message check", ["uds_message: rt fmt", "uds_message: rt check"]),
+        (
+            "uds_message",
+            "udsnorm run",
+            ["uds_message: rt fmt", "uds_message: rt check", "uds_exchange: rt check", "trace_canon: rt check", OF_PROGRAM[0]],
+        ),
+        ("udsnorm", "udsnorm run", ["udsnorm: rt fmt", "udsnorm: rt check", OF_PROGRAM[0]]),
         ("acceptance", "acceptance test", ["acceptance: rt fmt", "acceptance: rt check", "acceptance: rt test"]),
         (
             "isotp_segment",
             "acceptance test",
-            ["isotp_segment: rt fmt", "isotp_segment: rt check"]
-            + [f"{user}: rt check" for user in ["trace_canon", "layer_bench", "acceptance", "refused_memory"]]
+            ["isotp_segment: rt fmt", "isotp_segment: rt check", "trace_canon: rt check", *OF_PROGRAM]
+            + [f"{user}: rt check" for user in ["layer_bench", "refused_memory", "acceptance"]]
             + ["acceptance: rt test"],
         ),
     ]:
         with tempfile.TemporaryDirectory() as folder:
-            stub = Path(folder, "rt")
-            stub.write_text(FAILING_STUB % failing)
-            stub.chmod(0o755)
-            status, output, error = make("check", f"CRATE={crate}", PATH=f"{folder}:{os.environ['PATH']}")
+            for name, text in [("rt", FAILING_RT % failing), ("python3", IDLE_PYTHON)]:
+                stub = Path(folder, name)
+                stub.write_text(text)
+                stub.chmod(0o755)
+            path = f"{folder}:{os.environ['PATH']}"
+            status, output, error = make("check", f"CRATE={crate}", f"PROGRAM_CRATE={folder}/udsnorm", PATH=path)
         lines = re.sub(r" +(failed after )?\d+\.\d s$", r" \1", output, flags=re.M).splitlines()
         want = [f"{step} " for step in steps[:-1]] + [f"{steps[-1]} failed after ", "  error: no proof", "The whole output is in out/check.txt"]
-        case(f"make check of {crate} where {failing} fails", [] if status and lines == want else [str(lines), error])
+        cases.report(f"make check of {crate} where {failing} fails", [] if status and lines == want else [str(lines), error])
 
 
 def main():
     if len(sys.argv) != 2:
         sys.exit(__doc__)
-    names_are_complete(os.path.abspath(sys.argv[1]))
-    manual_is_well_formed()
-    bash_completes()
-    install_is_undone()
-    make_run_tells_what_the_program_says()
-    make_build_tells_its_begin_and_end()
-    make_check_goes_upwards()
-    print(f"{passed} passed, {failed} failed")
-    sys.exit(1 if failed else 0)
+    cases = Cases(os.path.abspath(sys.argv[1]))
+    for test in [
+        names_are_complete, manual_is_well_formed, bash_completes, install_is_undone, make_run_tells_what_the_program_says,
+        make_build_tells_its_begin_and_end, make_check_goes_upwards,
+    ]:
+        test(cases)
+    cases.end()
 
 
 main()

@@ -13,9 +13,19 @@ and lines with these a canonical log:
 
     canonical FRAME   a line with this frame, a millisecond after the frame before
     gives NAME        the lines of this file of examples/
+
+What is told of the log is the lines with the mark `told`, and last its counts:
+
+    told TEXT            a line
+    counts NAME=NUMBER   counts that the row is about; there may be several such lines, and none of them need say anything.
+                         The others are those of its log and its canonical log, or zero: counts.py says which
+
+    between TESTER UNIT  the identifiers, where they are not 7E0 and 7E8
 """
 
 from pathlib import Path
+
+from counts import SIDES, counts_line
 
 TESTS = Path(__file__).resolve().parent
 ROWS = TESTS / "rows"
@@ -56,6 +66,15 @@ class Row:
     def canonical(self):
         kinds = {"canonical": "frame", "gives": "log"}
         return log_of([(kinds[mark], text) for mark, text in self.lines if mark in kinds])
+
+    def sides(self):
+        """The identifiers of the tester and the unit."""
+        return tuple((self.texts("between") or [" ".join(SIDES)])[0].split(" "))
+
+    def counts(self):
+        """The line with the counts of the log."""
+        said = dict(word.split("=") for text in self.texts("counts") for word in text.split())
+        return counts_line(self.log(), self.canonical(), self.sides(), **{name: int(number) for name, number in said.items()})
 
     def side(self, mark):
         """The log of one side of a comparison: after the mark of the side stands a frame, or a line with its own mark."""
