@@ -274,8 +274,8 @@ impl Default for Scanner {
     }
 }
 
-/// Answers what a line of plain form records, which has `used` bytes of the piece. The frame is made where it is answered, and
-/// copied nowhere. Where the frame of the answer before has as many bytes of data, they are laid over those.
+/// Answers what a line of plain form records, which has `used` bytes of the piece. Where the frame of the answer before has as
+/// many bytes of data, it is changed where it lies: nothing is cleared, and nothing copied.
 #[inline(always)]
 fn answer_plain(answer: &mut Scan, used: usize, line: u64, fields: Fields<'_>, id: Id)
     requires widths { HavePlainWidths fields }
@@ -297,7 +297,7 @@ fn answer_plain(answer: &mut Scan, used: usize, line: u64, fields: Fields<'_>, i
     answer_anew(answer, used, line, fields, id);
 }
 
-/// The same, whatever was answered before.
+/// The same with a frame made anew, whatever was answered before.
 #[inline(never)]
 fn answer_anew(answer: &mut Scan, used: usize, line: u64, fields: Fields<'_>, id: Id)
     requires widths { HavePlainWidths fields }
