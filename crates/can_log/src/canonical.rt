@@ -88,7 +88,7 @@ fn line_of_digits<const LENGTH: usize>(
 
 /// Writes a part of a line over the bytes from `at` on.
 #[inline(always)]
-fn write_at(line: &mut [u8], at: usize, part: &[u8])
+pub(crate) fn write_at(line: &mut [u8], at: usize, part: &[u8])
     requires { at + length part.now ≤ length line.old }
     ensures written { take (at + length part.now) line.new ≡ take at line.old ++ part.now }
     ensures length { length line.new ≡ length line.old }

@@ -1,5 +1,6 @@
 //! A frame of a CAN log: its identifier, its kind and its data, and when it was recorded.
 
+use crate::meaning::lay_data;
 use arrayvec::ArrayVec;
 use std::marker::Model;
 
@@ -82,8 +83,9 @@ impl Model for Frame {
 }
 
 impl Frame {
-    ghost use Rattle.std.specs.Prelude.{◌≡◌, ◌↔◌, IsSome, IfSome};
+    ghost use Rattle.std.specs.Prelude.{◌≡◌, ◌↔◌, ◌*◌, IsSome, IfSome, length};
     ghost use Rattle.can_log.specs.Frame.{IsFrame};
+    ghost use Rattle.can_log.specs.Line.{IsDataText, bytes_spelled};
 
     /// The frame with these parts, or `None` where there is none: the identifier is no identifier,
     /// or the kind carries fewer bytes.
@@ -109,6 +111,19 @@ impl Frame {
         ensures { result ≡ record { id = id; kind = kind; bytes = «data».items } }
     {
         Frame { id, kind, data }
+    }
+
+    /// Becomes the frame with these parts, whose data has as many bytes as its own: they are laid over those.
+    #[inline(always)]
+    pub(crate) fn change(&mut self, id: Id, kind: Kind, digits: &[u8])
+        requires text { IsDataText 128 digits.now }
+        requires size { length digits.now ≡ 2 * length self.old.bytes }
+        requires frame { IsFrame id kind (bytes_spelled digits.now) }
+        ensures { self.new ≡ record { id = id; kind = kind; bytes = bytes_spelled digits.now } }
+    {
+        self.id = id;
+        self.kind = kind;
+        lay_data(digits, self.data.as_mut_slice());
     }
 
     /// The identifier.

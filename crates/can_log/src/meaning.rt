@@ -8,7 +8,7 @@ ghost use Rattle.can_log.specs.Line.{IsRunOf, IsDataText, IsIdentifierText, iden
 ghost use Rattle.can_log.specs.LineReader.{AreParts};
 ghost use Rattle.can_log.specs.Views.{parts_of};
 
-use crate::canonical::append;
+use crate::canonical::{append, write_at};
 use crate::frame::{Frame, Id, Kind, Stamped};
 use crate::hexadecimal::hex_digit_value;
 use crate::line::{Body, Parts};
@@ -62,57 +62,60 @@ fn hex_number(digits: &[u8]) -> u32
 
 /// The data that digits spell.
 #[inline(always)]
-fn decoded(digits: &[u8]) -> ArrayVec<u8, 64>
+pub(crate) fn decoded(digits: &[u8]) -> ArrayVec<u8, 64>
     requires { IsDataText 128 digits.now }
     ensures { result.items ≡ bytes_spelled digits.now }
 {
+    let mut bytes = [0; 64];
+    let length = digits.len() / 2;
+    lay_data(digits, &mut bytes[..length]);
     let mut data = ArrayVec::new();
-    put_data(digits, &mut data);
+    append(&mut data, &bytes[..length]);
     data
 }
 
-/// Puts the bytes that pairs of digits spell. Sixteen digits, those of most classic frames, go a way of their own, without a
-/// loop: where each of their bytes lies is known when it is compiled.
+/// Lays the bytes that pairs of digits spell over as many others. Sixteen digits, those of most classic frames, go a way of
+/// their own, without a loop. All others are left to a call, so that what judges a line keeps its registers.
 #[inline(always)]
-pub(crate) fn put_data(digits: &[u8], data: &mut ArrayVec<u8, 64>)
+pub(crate) fn lay_data(digits: &[u8], bytes: &mut [u8])
     requires text { IsDataText 128 digits.now }
-    requires empty { «data».old.items ≡ [] }
-    ensures { «data».new.items ≡ bytes_spelled digits.now }
+    requires size { length digits.now ≡ 2 * length bytes.old }
+    ensures { bytes.new ≡ bytes_spelled digits.now }
 {
     if digits.len() == 16 {
-        append(data, &eight_bytes(digits));
+        bytes.copy_from_slice(&eight_bytes(digits));
     } else {
-        put_data_of_any_length(digits, data);
+        lay_data_of_any_length(digits, bytes);
     }
 }
 
 /// The same for any number of digits: sixteen at a time, and what is left of them by the crate `hex`. That tests each digit
 /// against three ranges, branches that the processor can't foresee in data; so it has the short rest alone.
-#[inline(always)]
-fn put_data_of_any_length(digits: &[u8], data: &mut ArrayVec<u8, 64>)
+#[inline(never)]
+fn lay_data_of_any_length(digits: &[u8], bytes: &mut [u8])
     requires text { IsDataText 128 digits.now }
-    requires empty { «data».old.items ≡ [] }
-    ensures { «data».new.items ≡ bytes_spelled digits.now }
+    requires size { length digits.now ≡ 2 * length bytes.old }
+    ensures { bytes.new ≡ bytes_spelled digits.now }
 {
     let sixteens = digits.len() / 16;
-    put_sixteens(sixteens, digits, data);
+    lay_sixteens(sixteens, digits, bytes);
     if digits.len() % 16 != 0 {
         let last = &digits[16 * sixteens..];
-        append(data, &few_bytes(last)[..last.len() / 2]);
+        write_at(bytes, 8 * sixteens, &few_bytes(last)[..last.len() / 2]);
     }
 }
 
-/// Puts the bytes that a multiple of sixteen digits spells, whatever follows them.
+/// Lays the bytes that a multiple of sixteen digits spells at the front of others, whatever follows the digits.
 #[inline(always)]
-fn put_sixteens(sixteens: usize, digits: &[u8], data: &mut ArrayVec<u8, 64>)
-    requires few { sixteens ≤ 8 }
+fn lay_sixteens(sixteens: usize, digits: &[u8], bytes: &mut [u8])
     requires room { 16 * sixteens ≤ length digits.now }
+    requires size { length digits.now ≡ 2 * length bytes.old }
     requires text { IsDataText 128 (take (16 * sixteens) digits.now) }
-    requires empty { «data».old.items ≡ [] }
-    ensures { «data».new.items ≡ bytes_spelled (take (16 * sixteens) digits.now) }
+    ensures laid { take (8 * sixteens) bytes.new ≡ bytes_spelled (take (16 * sixteens) digits.now) }
+    ensures length { length bytes.new ≡ length bytes.old }
 {
     for i in 0..sixteens {
-        append(data, &eight_bytes(&digits[16 * i..16 * i + 16]));
+        write_at(bytes, 8 * i, &eight_bytes(&digits[16 * i..16 * i + 16]));
     }
 }
 

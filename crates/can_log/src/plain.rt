@@ -1,18 +1,17 @@
 //! Lines of plain form. In most lines of a log the fields have one width, or end where a byte of another kind follows: such a
 //! line is judged as a whole, sixteen bytes at a time, and its end is found from that of its data.
 
-ghost use Rattle.std.specs.Prelude.{◌≡◌, ◌≤◌, ◌+◌, ◌++◌, [], IfSome, None, codes, length, take};
-ghost use Rattle.can_log.specs.Line.{parts_in, identifier_of, stamped_of, bytes_spelled, spell_line, IsLineSpelling, IsRunOf, IsIdentifierText, IsDataText};
+ghost use Rattle.std.specs.Prelude.{◌≡◌, ◌≤◌, ◌+◌, ◌*◌, ◌++◌, IfSome, None, codes, length, take};
+ghost use Rattle.can_log.specs.Line.{parts_in, identifier_of, stamped_of, frame_kind_of, spell_line, IsLineSpelling, IsRunOf, IsIdentifierText, IsDataText};
 ghost use Rattle.can_log.specs.FieldReader.{is_in};
-ghost use Rattle.can_log.specs.Plain.{HavePlainWidths, AreDecimals, seconds_of, micros_of, IsPlainBody, AreFlags, digits_of, flags_spelled, most_digits, body_text, plain_text, spelling_of};
+ghost use Rattle.can_log.specs.Plain.{HavePlainWidths, AreDecimals, seconds_of, micros_of, IsPlainBody, AreFlags, digits_of, body_with, flags_spelled, most_digits, body_text, plain_text, spelling_of};
 ghost use Rattle.can_log.specs.declared.field.Class.TheVariants.{Visible};
 
 use crate::frame::{Frame, Id, Kind, Stamped};
 use crate::hexadecimal::is_hex_digit;
 use crate::lanes::{LANES, hex_front, hex_run, visible_front};
-use crate::meaning::{identifier_of, put_data};
+use crate::meaning::{decoded, identifier_of};
 use crate::stamp::{has_decimals, time_of};
-use arrayvec::ArrayVec;
 
 /// The longest line of plain form, without its line feed: a stamp of 20 bytes, 15 of the interface, a space, 8 digits of the
 /// identifier, `##`, the digit of the flags, and 128 of the data.
@@ -67,15 +66,15 @@ pub(crate) fn plain_line(piece: &[u8]) -> Option<(Fields<'_>, &[u8])>
     Some((fields, rest))
 }
 
-/// The data of a line with these fields, put where the frame takes it from: a copy more would cost as much as all the rest.
+/// The digits of the data of a line with these fields.
 #[inline(always)]
-pub(crate) fn put_plain_data(fields: Fields<'_>, data: &mut ArrayVec<u8, 64>)
+pub(crate) fn plain_digits(fields: Fields<'_>) -> &[u8]
     requires widths { HavePlainWidths fields }
-    requires empty { «data».old.items ≡ [] }
-    ensures { «data».new.items ≡ bytes_spelled (digits_of fields.entry.body) }
+    ensures digits { result.now ≡ digits_of fields.entry.body }
+    ensures text { IsDataText 128 result.now }
 {
     let body = fields.body;
-    put_data(&body.behind[..body.digits], data)
+    &body.behind[..body.digits]
 }
 
 /// The identifier of a line with these fields.
@@ -87,23 +86,45 @@ pub(crate) fn plain_identifier(fields: Fields<'_>) -> Id
     identifier_of(fields.identifier)
 }
 
-/// What a line with these fields records, of which the identifier and the data are decoded.
+/// What a line with these fields records, of which the identifier is decoded.
 #[inline(always)]
-pub(crate) fn plain_stamped(fields: Fields<'_>, id: Id, data: ArrayVec<u8, 64>) -> Stamped
+pub(crate) fn plain_stamped(fields: Fields<'_>, id: Id) -> Stamped
     requires widths { HavePlainWidths fields }
     requires identifier { id ≡ identifier_of fields.identifier.now }
     requires decimals { AreDecimals (seconds_of fields.stamp.now ++ micros_of fields.stamp.now) }
-    requires spelled { «data».items ≡ bytes_spelled (digits_of fields.body) }
     ensures { result ≡ stamped_of (parts_in (spelling_of fields.entry)) }
 {
-    let kind = match fields.body.flags {
-        None => Kind::Classic,
-        Some(_) => Kind::Fd,
-    };
-    let frame = Frame::from_parts(id, kind, data);
+    let data = decoded(plain_digits(fields));
+    let frame = Frame::from_parts(id, plain_kind(fields), data);
     Stamped {
         micros: time_of(fields.stamp),
         frame,
+    }
+}
+
+/// The same, put over an earlier frame with as many bytes of data, and so with nothing cleared and nothing copied.
+#[inline(always)]
+pub(crate) fn put_plain_stamped(fields: Fields<'_>, id: Id, stamped: &mut Stamped)
+    requires widths { HavePlainWidths fields }
+    requires identifier { id ≡ identifier_of fields.identifier.now }
+    requires decimals { AreDecimals (seconds_of fields.stamp.now ++ micros_of fields.stamp.now) }
+    requires size { length (digits_of fields.body) ≡ 2 * length stamped.old.frame.bytes }
+    ensures { stamped.new ≡ stamped_of (parts_in (spelling_of fields.entry)) }
+{
+    stamped.micros = time_of(fields.stamp);
+    stamped
+        .frame
+        .change(id, plain_kind(fields), plain_digits(fields));
+}
+
+/// The kind of the frame: an FD frame has flags.
+#[inline(always)]
+fn plain_kind(fields: Fields<'_>) -> Kind
+    ensures { result ≡ frame_kind_of (body_with fields.entry.body.flags (digits_of fields.entry.body)) }
+{
+    match fields.body.flags {
+        None => Kind::Classic,
+        Some(_) => Kind::Fd,
     }
 }
 

@@ -1,12 +1,13 @@
 //! Lines out of the pieces of a log.
 
-ghost use Rattle.std.specs.Prelude.{◌≡◌, ◌≤◌, ◌+◌, ◌^◌, ◌++◌, Some, ◌<◌, IfOk, IfErr, IfNone, IfSome, codes, length, take};
+ghost use Rattle.std.specs.Prelude.{◌≡◌, ℕ, ◌≤◌, ◌+◌, ◌^◌, ◌++◌, Option, Some, ◌<◌, IfOk, IfErr, IfNone, IfSome, codes, length, take};
 ghost use Rattle.can_log.specs.Line.{LineMeans, identifier_of, stamped_of, parts_in};
 ghost use Rattle.can_log.specs.Refused.{NoLineFeed, HasCompletion, IsRefusedPlace};
 ghost use Rattle.can_log.specs.Judging.{Judged};
 ghost use Rattle.can_log.specs.Scanning.{Scans, ScansForeign, Finishes};
 ghost use Rattle.can_log.specs.WholeLog.{at_start};
 ghost use Rattle.can_log.specs.declared.scanner.Scan.TheVariants.{Bad, Line};
+ghost use Rattle.can_log.specs.declared.frame.Stamped.{Stamped as StampedValue};
 ghost use Rattle.can_log.specs.Plain.{HavePlainWidths, AreDecimals, seconds_of, micros_of, spelling_of};
 
 use crate::field::Stop;
@@ -15,7 +16,8 @@ use crate::lanes::LANES;
 use crate::line::judge;
 use crate::meaning::stamped_of;
 use crate::plain::{
-    Fields, LONGEST_PLAIN, plain_identifier, plain_line, plain_stamped, put_plain_data,
+    Fields, LONGEST_PLAIN, plain_digits, plain_identifier, plain_line, plain_stamped,
+    put_plain_stamped,
 };
 use arrayvec::ArrayVec;
 use memchr::memchr;
@@ -272,8 +274,8 @@ impl Default for Scanner {
     }
 }
 
-/// Answers what a line of plain form records, which has `used` bytes of the piece. The frame is made here, where it is
-/// answered, and copied nowhere. Room for its data is cleared here, too, and so not for a line that records a foreign frame.
+/// Answers what a line of plain form records, which has `used` bytes of the piece. Where the frame of the answer before has as
+/// many bytes of data, it is changed where it lies: nothing is cleared, and nothing copied.
 #[inline(always)]
 fn answer_plain(answer: &mut Scan, used: usize, line: u64, fields: Fields<'_>, id: Id)
     requires widths { HavePlainWidths fields }
@@ -281,13 +283,46 @@ fn answer_plain(answer: &mut Scan, used: usize, line: u64, fields: Fields<'_>, i
     requires decimals { AreDecimals (seconds_of fields.stamp.now ++ micros_of fields.stamp.now) }
     ensures { answer.new ≡ Line used line (Some (stamped_of (parts_in (spelling_of fields.entry)))) }
 {
-    let mut data = ArrayVec::new();
-    put_plain_data(fields, &mut data);
+    if let Scan::Line {
+        what: Some(stamped),
+        ..
+    } = answer
+    {
+        if 2 * stamped.frame.data().len() == plain_digits(fields).len() {
+            put_plain_stamped(fields, id, stamped);
+            number_answer(answer, used, line);
+            return;
+        }
+    }
+    answer_anew(answer, used, line, fields, id);
+}
+
+/// The same with a frame made anew, whatever was answered before.
+#[inline(never)]
+fn answer_anew(answer: &mut Scan, used: usize, line: u64, fields: Fields<'_>, id: Id)
+    requires widths { HavePlainWidths fields }
+    requires identifier { id ≡ identifier_of fields.identifier.now }
+    requires decimals { AreDecimals (seconds_of fields.stamp.now ++ micros_of fields.stamp.now) }
+    ensures { answer.new ≡ Line used line (Some (stamped_of (parts_in (spelling_of fields.entry)))) }
+{
     *answer = Scan::Line {
         used,
         line,
-        what: Some(plain_stamped(fields, id, data)),
+        what: Some(plain_stamped(fields, id)),
     };
+}
+
+/// Tells of an answered line how many bytes of the piece it has, and its number.
+#[inline(always)]
+fn number_answer(answer: &mut Scan, used: usize, line: u64)
+    ensures { (earlier_used earlier_line : ℕ) (what : Option StampedValue) → answer.old ≡ Line earlier_used earlier_line what → answer.new ≡ Line used line what }
+{
+    if let Scan::Line { used: earlier, .. } = answer {
+        *earlier = used;
+    }
+    if let Scan::Line { line: earlier, .. } = answer {
+        *earlier = line;
+    }
 }
 
 /// The answer at a refused place.
@@ -343,9 +378,7 @@ fn plain_ended(line: &[u8], bytes: &[u8]) -> Option<Stamped>
     padded[..length].copy_from_slice(line);
     padded[length..end].copy_from_slice(bytes);
     let (fields, _) = plain_line(&padded)?;
-    let mut data = ArrayVec::new();
-    put_plain_data(fields, &mut data);
-    Some(plain_stamped(fields, plain_identifier(fields), data))
+    Some(plain_stamped(fields, plain_identifier(fields)))
 }
 
 /// The column that is refused, if one is.

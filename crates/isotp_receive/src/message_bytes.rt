@@ -63,9 +63,26 @@ impl MessageBytes {
     }
 
     /// Stores more bytes of a message of `len` bytes, or leaves them as they were. It is called, so that what calls it stays
-    /// short: only then its caller goes from a frame's layout straight to what is done with it.
+    /// short: only then its caller goes from a frame's layout straight to what is done with it. The bytes of a full frame that
+    /// there is room for go a way of their own: it calls nothing, and so saves no registers.
     #[inline(never)]
     pub(crate) fn store(&mut self, len: usize, bytes: &[u8]) -> Result<(), AllocError>
+        requires limit { len ≤ MESSAGE_LIMIT }
+        requires fits { length self.old.bytes + length bytes.now ≤ len }
+        ensures bytes { self.new.bytes ≡ (if is_ok result then self.old.bytes ++ bytes.now else self.old.bytes) }
+        ensures capacity { GrowsWithin len (length self.old.bytes + length bytes.now) self.old.capacity self.new.capacity }
+    {
+        if bytes.len() == FULL && self.len + FULL <= self.buffer.len() {
+            lay(self.buffer.as_mut_slice(), self.len, &bytes[..FULL]);
+            self.len += FULL;
+            return Ok(());
+        }
+        self.store_any(len, bytes)
+    }
+
+    /// The same for any number of bytes, and where room is still to be made.
+    #[inline(never)]
+    fn store_any(&mut self, len: usize, bytes: &[u8]) -> Result<(), AllocError>
         requires limit { len ≤ MESSAGE_LIMIT }
         requires fits { length self.old.bytes + length bytes.now ≤ len }
         ensures bytes { self.new.bytes ≡ (if is_ok result then self.old.bytes ++ bytes.now else self.old.bytes) }
@@ -80,18 +97,14 @@ impl MessageBytes {
     }
 }
 
-/// Writes bytes over those from `at` on. The bytes of a full frame are copied as so many, and not by a call.
+/// Writes bytes over those from `at` on.
 #[inline(always)]
 fn lay(buffer: &mut [u8], at: usize, bytes: &[u8])
     requires { at + length bytes.now ≤ length buffer.old }
     ensures laid { take (at + length bytes.now) buffer.new ≡ take at buffer.old ++ bytes.now }
     ensures long { length buffer.new ≡ length buffer.old }
 {
-    if bytes.len() == FULL {
-        buffer[at..at + FULL].copy_from_slice(&bytes[..FULL]);
-    } else {
-        buffer[at..at + bytes.len()].copy_from_slice(bytes);
-    }
+    buffer[at..at + bytes.len()].copy_from_slice(bytes);
 }
 
 /// Makes room behind the first `have` bytes for more of a message of `len` bytes, where there is too little. A buffer without
