@@ -2,18 +2,18 @@
 
 The last column of a table of promises cites them, in parts between semicolons. Of these are the names in backticks read:
 
-    `normalise`, `list`: `taken`, `calls`, by `SomeDefinition`      these clauses of each of these calls
+    `normalise`, `list`: `read`, `wrote`, by `SomeDefinition`       these clauses of each of these calls
     `Pair::new`, `open`: their clauses                             those that have no name; `open` is one of `Pair`, too
     clause `again` of `normalise`, ..                              the same, the other way round
     private `message_bytes::make_room`: `room`                     of a private function, by its module
     laws `one_is_open`, `messages_fit` (`length`, `bytes`)         all clauses of a law, or these; `law .. of `crate`` too
-    member `coherent` of `Source`                                  a ghost member of a trait
+    member `nothing` of `TextSink`                                 a ghost member of a trait
 """
 
 import re
 from collections import namedtuple
 
-# A function of a crate by its path, as `engine::normalise` or `scanner::Scanner::scan`, with the names of the clauses that its
+# A function of a crate by its path, as `normaliser::normalise` or `scanner::Scanner::scan`, with the names of the clauses that its
 # contract ensures. That of a lone clause is empty. A law stands in a public module, and does nothing.
 Function = namedtuple("Function", "path clauses is_public is_law")
 

@@ -217,7 +217,7 @@ def help_texts(cases):
         wrong += [] if len(told) <= 26 and max(map(len, told)) <= 100 else ["more than a screen"]
         cases.report(f"help by {words}", wrong)
     with open("/dev/full", "wb") as full:
-        cases.case("help on a full disk", cases.run(["--help"], stdout=full), DONE, None)
+        cases.case("help on a full disk", cases.run(["--help"], stdout=full), DEVICE, None, b"write failed\n")
 
 
 def wrong_words(cases):

@@ -114,18 +114,20 @@ def writes_fail(program, job, log, text, error):
 
 
 def hundred_bytes(program):
+    """It takes what the first hundred bytes of the log decide, one line, and then fails."""
     found = program.run_failing(["normalise"], WRITE, 2, VIN, most=100)
-    return differences("normalise", found, (Ended(DEVICE, VIN_CANONICAL[:100], WRITE_FAILED), True))
+    first = VIN_CANONICAL.splitlines(keepends=True)[0]
+    return differences("normalise", found, (Ended(DEVICE, first, WRITE_FAILED), True))
 
 
 def fails_in_the_middle(program):
-    """Little more of the log is read than fills the output's buffer: of 36 sessions, in two pieces of 4,096 bytes."""
+    """No more of the log is read than the piece of 4,096 bytes of which something can't be written."""
     log = 100 * VIN
     with pipe(log) as reader, open("/dev/full", "wb") as full:
         found = program.run(["normalise"], stdin=reader, stdout=full)
         read = len(log) - len(reader.read())
     wrong = differences("normalise", how(found), (DEVICE, WRITE_FAILED))
-    return wrong + ([] if read <= 8192 else [f"{read} bytes were read"])
+    return wrong + ([] if read <= 4096 else [f"{read} bytes were read"])
 
 
 def never_ends(program):

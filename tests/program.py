@@ -9,10 +9,12 @@ Prints a line for each case and ends with `N passed, M failed`; its status is 1 
 import errno
 import os
 import resource
+import select
 import signal
 import subprocess
 import sys
 import tempfile
+import tty
 from pathlib import Path
 
 import oracle
@@ -30,6 +32,12 @@ OVERSIZE = b"(1.000000) can0 7E8#1000001000004142\n"
 
 # The identifiers of the examples that are not of 7E0 and 7E8.
 SIDES = {"extended-identifiers.log": {oracle.TESTER: "18DA10F1", oracle.UNIT: "18DAF110"}}
+
+# What a job tells of the front of a log, while more of it may come.
+PROMPT = [
+    ("normalise", FIRST_LOG + b"\n(1700000000.100000) can0 7E8#0462F19041\n", FIRST_CANONICAL + b"(0000000000.001000) can0 7E8#0462F19041CCCCCC\n"),
+    ("explain", b"(1.000000) can0 7E8#2141\n", b"line 1: unit frame dropped: consecutive frame unexpected\n"),
+]
 
 # Words with which the program tells something on standard error, and its exit status.
 TOLD = [
@@ -158,7 +166,8 @@ def long_log(size):
 def devices(cases):
     with open("/dev/full", "wb") as full:
         cases.case("a full disk", cases.run(log=FIRST_LOG, stdout=full), DEVICE, None, WRITE_FAILED)
-        cases.case("a full disk, and a refused log", cases.run(log=REFUSED, stdout=full), REFUSAL, None, place(3, 1))
+        cases.case("a full disk, and a log that is refused later", cases.run(log=REFUSED, stdout=full), DEVICE, None, WRITE_FAILED)
+        cases.case("a full disk, and a log that is refused at once", cases.run(log=b"x", stdout=full), REFUSAL, None, place(1, 1))
         cases.case("a full disk, and nothing to write", cases.run(stdout=full), DONE, None)
         cases.case("a full disk for a comparison", cases.run(["compare", "/dev/null", "/dev/null"], stdout=full), DEVICE, None, WRITE_FAILED)
     cases.case("standard output closed", cases.run(log=FIRST_LOG, preexec_fn=lambda: os.close(1)), DEVICE, error=WRITE_FAILED)
@@ -217,11 +226,32 @@ def slow_pipe(cases):
     cases.case("a log in small pieces", end(program), DONE, want)
 
 
+def prompt(cases):
+    """What a frame decides can be read before the program waits for the next bytes, through pipes and on a terminal; and an
+    interrupt then ends the program, with that text told."""
+    for job, log, text in PROMPT:
+        for name, (ours, theirs) in [("a pipe", os.pipe()), ("a terminal", os.openpty())]:
+            if name == "a terminal":
+                tty.setraw(theirs)
+            program = subprocess.Popen([cases.program, job], stdin=subprocess.PIPE, stdout=theirs, stderr=subprocess.DEVNULL)
+            os.close(theirs)
+            program.stdin.write(log)
+            program.stdin.flush()
+            came = os.read(ours, 4096) if select.select([ours], [], [], 30)[0] else b""
+            waits = program.poll() is None
+            program.send_signal(signal.SIGINT)
+            status = program.wait(timeout=60)
+            program.stdin.close()
+            os.close(ours)
+            found = status, came, waits
+            cases.report(f"{job} tells at once, through {name}", [] if found == (-signal.SIGINT, text, True) else [f"{found}"])
+
+
 def device_calls(cases):
     """Whichever read or write fails, the program says so, and has written a front of its text. A log is read in pieces of
-    4,096 bytes, and once more at its end; 178 canonical lines fit into the buffer of the output."""
-    log, canonical = long_log(20_000)
-    pieces, lines = -(-len(log) // 4096), canonical.count(b"\n")
+    4,096 bytes, and once more at its end; what a piece decides is written at once, before the next is read."""
+    log, _ = long_log(20_000)
+    pieces = -(-len(log) // 4096)
     with tempfile.TemporaryDirectory() as folder:
         refuser = Refuser(folder)
         blank, long, vin = Path(folder, "blank.log"), Path(folder, "long.log"), EXAMPLES / "vin.log"
@@ -230,7 +260,7 @@ def device_calls(cases):
         for words, reads, writes in [
             (["normalise", blank], [2], 0),
             (["normalise", vin], [2], 1),
-            (["normalise", long], [pieces + 1], -(-lines // 178)),
+            (["normalise", long], [pieces + 1], pieces),
             (["list", vin], [2], 1),
             (["explain", vin], [2], 1),
             (["compare", vin, long], [2, pieces + 1], 1),
@@ -276,7 +306,7 @@ def main():
     if len(sys.argv) != 2:
         sys.exit(__doc__)
     cases = Cases(os.path.abspath(sys.argv[1]))
-    for test in [logs, default_limit, the_longest_message, examples, devices, device_calls, memory]:
+    for test in [logs, default_limit, the_longest_message, examples, devices, prompt, device_calls, memory]:
         test(cases)
     cases.end()
 

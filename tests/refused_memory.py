@@ -74,22 +74,22 @@ long                                                           0     -        0 
 # same. Most where it looks for words to suggest. A file that is missing is told before a job begins.
 WORD_GROWTHS = """
                                                            growths  swallowed
-normalise missing                                               72          1
-list missing                                                    72          1
-explain missing                                                 72          1
-compare missing missing                                         83          1
-normalise --tester 18DA10F1 --unit 18DAF110 missing             86          1
-list --tester 18DA10F1 --unit 18DAF110 missing                  86          1
-explain --tester 18DA10F1 --unit 18DAF110 missing               86          1
-compare --tester 18DA10F1 --unit 18DAF110 missing missing       97          1
---help                                                          79          1
-list --help                                                    114          1
-lis                                                             79         13
-list --limi 1                                                   93         11
-list --limit x                                                  64          1
-compare a                                                      103          1
-list --tester 7E                                                69          1
-list --tester 800                                               69          1
+normalise missing                                               71          1
+list missing                                                    71          1
+explain missing                                                 71          1
+compare missing missing                                         82          1
+normalise --tester 18DA10F1 --unit 18DAF110 missing             85          1
+list --tester 18DA10F1 --unit 18DAF110 missing                  85          1
+explain --tester 18DA10F1 --unit 18DAF110 missing               85          1
+compare --tester 18DA10F1 --unit 18DAF110 missing missing       96          1
+--help                                                          78          1
+list --help                                                    113          1
+lis                                                             78         13
+list --limi 1                                                   92         11
+list --limit x                                                  63          1
+compare a                                                      102          1
+list --tester 7E                                                68          1
+list --tester 800                                               68          1
 """
 
 def table(text):

@@ -22,42 +22,57 @@
 //! (0000000000.004000) can0 7E8#2246313233343536
 //! ```
 //!
-//! One way runs through the crate. `lines` reads pieces and hands on what each line means; `receiver` knows the two
-//! directions, receives their frames, counts, and hands on what each frame did; `ordering` puts the messages in order,
-//! and `writer` writes their canonical lines. The other calls read a log on the same way as far as the receiver:
-//! [`meaning_of`] and [`list`] tell what it means, [`explain`] which frames were dropped and which receptions ended, and
-//! [`compare`] whether two logs mean the same.
+//! One way runs through the crate, with a driver above it: [`run`].
+//!
+//! ```text
+//! bytes -> Source -> feed -> lines -> receiver -> machine -> page -> Target
+//! ```
+//!
+//! `feed` reads pieces of the log, and `lines` hands on what each line means. `receiver` knows the two directions, receives
+//! their frames, counts, and hands on what each frame did. A [`Machine`] is handed that, and says text. The text goes onto
+//! a `page`, which is written where it is full and before more is read. The machine sees no device: `driver` joins the two
+//! ends, and makes each fault of theirs one of [`Fault`].
+//!
+//! Each command is a machine: [`normalise`] (`normaliser`, and `canonical_sink` for its lines), [`list`] (`lister`,
+//! `item_lines`), [`explain`] (`explainer`) and [`meaning_of`] (`holder`), on which [`compare`] stands.
 #![tactic(auto)]
 
 mod block;
+mod canonical_sink;
 mod comparing;
 mod config;
-mod engine;
-mod events;
-mod explaining;
-mod explanation;
+mod driver;
+mod explainer;
 mod fault;
-mod holding;
-mod items;
+mod feed;
+mod holder;
+mod item_lines;
 pub mod laws;
 mod length;
 mod lines;
-mod listing;
-mod meaning;
-mod ordering;
+mod lister;
+mod machine;
+mod names;
+mod normaliser;
+mod nowhere;
+mod page;
 mod parts;
 mod pending;
 mod place;
 mod receiver;
+mod say;
 mod summary;
 mod summing;
-mod writer;
+mod text_sink;
 
 pub use comparing::{Comparison, compare};
 pub use config::{Config, LARGEST_LIMIT};
-pub use engine::normalise;
-pub use explanation::explain;
+pub use driver::run;
+pub use explainer::explain;
 pub use fault::{CompareFault, ConfigFault, Fault};
-pub use listing::list;
-pub use meaning::meaning_of;
+pub use holder::meaning_of;
+pub use lister::list;
+pub use machine::{Machine, Stop};
+pub use normaliser::normalise;
 pub use summary::Summary;
+pub use text_sink::TextSink;

@@ -1,5 +1,5 @@
 //! The frames of a log received: what each does, and what is counted.
-ghost use Rattle.std.specs.Prelude.{◌≡◌, ◌^◌, ◌<◌, List, [], ◌∷◌, ◌++◌, length, OnOk, IfErr, Some};
+ghost use Rattle.std.specs.Prelude.{◌≡◌, ◌^◌, ◌<◌, List, [], ◌∷◌, ◌++◌, length, OnOk, IfErr, Some, true, false};
 ghost use Rattle.can_log.specs.declared.frame.Stamped.{Stamped as StampedValue};
 ghost use Rattle.isotp_receive.specs.declared.TheConstants.{MESSAGE_LIMIT};
 ghost use Rattle.isotp_receive.specs.EventSeen.{seen_event};
@@ -28,6 +28,25 @@ pub(crate) trait EventTaker {
 
     ghost stopped: { Self × Self.Device → List Entry → Entry → Self.Fault → Self × Self.Device → Type 0 };
 
+    /// The text of this first trace was written since, whatever became of the rest.
+    ghost sure: { Self × Self.Device → List Entry → Self × Self.Device → Type 0 };
+
+    /// What it is after a trace, where it may wait for more of it.
+    ghost rested: { Self × Self.Device → List Entry → Self × Self.Device → Type 0 };
+
+    /// What it is after a trace, where it could not write what was due.
+    ghost broke: { Self × Self.Device → List Entry → Self × Self.Device → Type 0 };
+
+    /// Writes what is due, before more is read. Answers whether it could.
+    fn rest(&mut self, device: &mut Self::Device) -> bool
+        ensures well { result ≡ true → (start : Self × Self.Device) (T : List Entry)
+            → took start T (self.old, device.old) → rested start T (self.new, device.new) × took start T (self.new, device.new) }
+        ensures wrong { result ≡ false → (start : Self × Self.Device) (T : List Entry)
+            → took start T (self.old, device.old) → broke start T (self.new, device.new) }
+        ensures sure { result ≡ true → (start : Self × Self.Device) (T : List Entry)
+            → took start T (self.old, device.old) → sure start T (self.new, device.new) }
+        ensures kept { (start : Self × Self.Device) (first : List Entry) → sure start first (self.old, device.old) → sure start first (self.new, device.new) };
+
     /// Takes what the next frame of the trace did: one of this line and direction.
     fn take(
         &mut self,
@@ -39,7 +58,10 @@ pub(crate) trait EventTaker {
         ensures ok { OnOk result ((start : Self × Self.Device) (T : List Entry) (e : Entry) → e.line ≡ line → e.dir ≡ dir → length T < 2 ^ 62
             → seen_event event.entry ≡ verdict MESSAGE_LIMIT T e → took start T (self.old, device.old) → took start (T ++ e ∷ []) (self.new, device.new)) }
         ensures err { IfErr result (λ fault. (start : Self × Self.Device) (T : List Entry) (e : Entry) → e.line ≡ line → e.dir ≡ dir → length T < 2 ^ 62
-            → seen_event event.entry ≡ verdict MESSAGE_LIMIT T e → took start T (self.old, device.old) → stopped start T e fault (self.new, device.new)) };
+            → seen_event event.entry ≡ verdict MESSAGE_LIMIT T e → took start T (self.old, device.old) → stopped start T e fault (self.new, device.new)) }
+        ensures kept { (start : Self × Self.Device) (T first : List Entry) (e : Entry) → e.line ≡ line → e.dir ≡ dir → length T < 2 ^ 62
+            → seen_event event.entry ≡ verdict MESSAGE_LIMIT T e → took start T (self.old, device.old)
+            → sure start first (self.old, device.old) → sure start first (self.new, device.new) };
 
     /// Why no more events are taken, where memory was refused for the next frame of the trace. A pair asks for memory only
     /// where the frame's bytes are kept for a message of several frames.
@@ -93,6 +115,8 @@ fn receive<E: EventTaker>(
         → E.took start T (taker.old, device.old) → E.took start (T ++ record { line = line; micros = micros; dir = dir; frame = frame.now } ∷ []) (taker.new, device.new)) }
     ensures err { IfErr result (λ fault. (start : E × E.Device) (T : List Entry) → pair.old.receptions ≡ receptions_after MESSAGE_LIMIT T → length T < 2 ^ 62
         → E.took start T (taker.old, device.old) → E.stopped start T (record { line = line; micros = micros; dir = dir; frame = frame.now }) fault (taker.new, device.new)) }
+    ensures kept { (start : E × E.Device) (T first : List Entry) → pair.old.receptions ≡ receptions_after MESSAGE_LIMIT T → length T < 2 ^ 62
+        → E.took start T (taker.old, device.old) → E.sure start first (taker.old, device.old) → E.sure start first (taker.new, device.new) }
 {
     match pair.accept(line, micros, dir, frame) {
         Ok(event) => {
@@ -155,9 +179,19 @@ impl<E: EventTaker> LineTaker for Receiver<E> {
         × (IsStart s.0.pair s.0.lines s.0.counts
         → Receives s.0.config meanings t.0.pair t.0.lines t.0.counts × E.took (s.0.taker, s.1) (trace s.0.config meanings) (t.0.taker, t.1)) };
 
+    ghost rested = { λ s meanings t. (t.0.config ≡ s.0.config)
+        × (IsStart s.0.pair s.0.lines s.0.counts
+        → Receives s.0.config meanings t.0.pair t.0.lines t.0.counts × E.rested (s.0.taker, s.1) (trace s.0.config meanings) (t.0.taker, t.1)) };
+
+    ghost broke = { λ s meanings t. (t.0.config ≡ s.0.config)
+        × (IsStart s.0.pair s.0.lines s.0.counts
+        → Receives s.0.config meanings t.0.pair t.0.lines t.0.counts × E.broke (s.0.taker, s.1) (trace s.0.config meanings) (t.0.taker, t.1)) };
+
     ghost stopped = { λ s meanings what fault t. IsStart s.0.pair s.0.lines s.0.counts
         → (stamped : StampedValue) × (d : DirValue) × (what ≡ Some stamped) × (Some d ≡ direction_of s.0.config stamped.frame.id)
         × E.stopped (s.0.taker, s.1) (trace s.0.config meanings) (entry_in meanings stamped d) fault (t.0.taker, t.1) };
+
+    ghost sure = { λ s first t. IsStart s.0.pair s.0.lines s.0.counts → E.sure (s.0.taker, s.1) (trace s.0.config first) (t.0.taker, t.1) };
 
     ghost wants = { λ s first second. (first ≡ s.config.tester) × (second ≡ s.config.unit) };
 
@@ -169,6 +203,10 @@ impl<E: EventTaker> LineTaker for Receiver<E> {
     #[inline(always)]
     fn pass(&mut self, line: u64) {
         self.lines = line;
+    }
+
+    fn rest(&mut self, device: &mut E::Device) -> bool {
+        self.taker.rest(device)
     }
 
     fn take(

@@ -1,20 +1,22 @@
 -- What a contract sees of a reader or a writer that counts.
-use Rattle.std.specs.Prelude.{ℕ, Bool, ◌≤◌, ◌^◌}
+use Rattle.std.specs.Prelude.{ℕ, Bool, List, ◌≤◌, ◌^◌}
 
--- a reader, with its calls, the bytes that they gave, and those that failed
+-- a reader, with its calls, those that failed, whether the last one told the end, and the bytes that they gave
 pub record CountedReader (R : Type 0) : Type 0 where
   pub inner : R
   pub reads : ℕ
-  pub given : ℕ
   pub failures : ℕ
+  pub is_over : Bool
+  pub given : List ℕ
 
--- a writer, with its calls that failed, whether a write took nothing and did not fail, and whether it was flushed and took no
--- write since
+-- a writer, with its calls that failed, whether a write took nothing and did not fail, whether it was flushed and took no
+-- write since, and the bytes that its writes took
 pub record CountedWriter (W : Type 0) : Type 0 where
   pub inner : W
   pub failures : ℕ
   pub had_empty_write : Bool
   pub is_flushed : Bool
+  pub taken : List ℕ
 
 -- a byte without end, with the reads and the bytes that they gave
 pub record EndlessBytes : Type 0 where
@@ -31,3 +33,8 @@ pub record AreLowCounts (reads given failures : ℕ) : Type 0 where
   pub few_reads : IsLowCount reads
   pub few_given : IsLowCount given
   pub few_failures : IsLowCount failures
+
+-- a writer, with the bytes that its writes took
+pub record RecordedWriter (W : Type 0) : Type 0 where
+  pub inner : W
+  pub taken : List ℕ

@@ -1,31 +1,28 @@
--- Streams of bytes that may never end, each told by its fronts: from a number k to the first k of the bytes still to
--- come, fewer where the stream ends before.
-use Rattle.std.specs.Prelude.{◌≡◌, ℕ, ◌+◌, List, [], ◌++◌, length, take, unwrap_or, Option}
+-- What was read of a log, by the history of its source; and what was written, by that of its target.
+use Rattle.std.specs.Prelude.{◌≡◌, ℕ, Bool, true, List, [], ◌++◌, Option, Some}
+use Rattle.std.specs.Io.KnownBytes.{Appends, Consumes, IsAtEnd}
 
--- the fronts of a stream that ends: those of the list of its bytes
-abbrev pub front_of : List ℕ → ℕ → List ℕ
-front_of bytes k = take k bytes
+-- What a source gave, from the history `old` on up to `new`, agrees with this log: it is all of it where the source was over,
+-- and else a front of it.
+pub record Agrees (old new : List ℕ) (is_over : Bool) (log : List ℕ) : Type 0 where
+  pub rest : List ℕ
+  pub parts : old ++ log ≡ new ++ rest
+  pub whole : is_over ≡ true → rest ≡ []
 
--- the fronts are those of one stream: a shorter one begins each longer one
-abbrev pub IsCoherent : (ℕ → List ℕ) → Type 0
-IsCoherent front = (j k : ℕ) → front j ≡ take j (front (j + k))
+-- From the history `old` on up to `new` a source gave some bytes. Where it told which bytes were to come, it gave the first
+-- of them.
+pub record Gave (old new : List ℕ) (remaining remaining_now : Option (List ℕ)) : Type 0 where
+  pub bytes : List ℕ
+  pub grown : new ≡ old ++ bytes
+  pub told : Consumes remaining remaining_now bytes
 
--- the stream `old` is these bytes, and then the stream `new`
-abbrev pub Continues : (ℕ → List ℕ) → List ℕ → (ℕ → List ℕ) → Type 0
-Continues old bytes new = (k : ℕ) → old (length bytes + k) ≡ bytes ++ new k
+-- From the history `old` on up to `new` a target took some bytes. Where it tells which bytes it holds, these came behind them.
+pub record Took (old new : List ℕ) (contents contents_now : Option (List ℕ)) : Type 0 where
+  pub bytes : List ℕ
+  pub grown : new ≡ old ++ bytes
+  pub held : Appends contents contents_now bytes
 
--- no byte is left
-abbrev pub IsOver : (ℕ → List ℕ) → Type 0
-IsOver front = (k : ℕ) → front k ≡ []
-
--- two streams have the same bytes
-abbrev pub SameFronts : (ℕ → List ℕ) → (ℕ → List ℕ) → Type 0
-SameFronts old new = (k : ℕ) → new k ≡ old k
-
--- the stream begins as these bytes do, as far as the first `count` of them
-abbrev pub BeginsAs : (ℕ → List ℕ) → ℕ → List ℕ → Type 0
-BeginsAs front count bytes = front count ≡ take count bytes
-
--- the bytes that a reader or writer of std tells, or none where it tells nothing
-abbrev pub told : Option (List ℕ) → List ℕ
-told bytes = unwrap_or bytes []
+-- where a source told which bytes were to come, what it gave agrees with these
+abbrev pub AgreesWithTold : Type 0
+AgreesWithTold = (old new log : List ℕ) (is_over : Bool) (remaining : Option (List ℕ)) → Gave old new (Some log) remaining → (is_over ≡ true → IsAtEnd remaining)
+    → Agrees old new is_over log

@@ -1,4 +1,4 @@
--- Texts written to a target, by what it holds before and after.
+-- Texts written to a target, by what it has taken before and after.
 use Rattle.std.specs.Prelude.{◌≡◌, ℕ, List, ◌++◌, Result, Ok, Err}
 
 -- new is old, followed by a front of the text

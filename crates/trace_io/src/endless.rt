@@ -1,16 +1,12 @@
 //! A source that never ends, for tests of what reads from it.
-ghost use Rattle.std.specs.Prelude.{◌≡◌, ◌+◌, ⊤, replicate};
-ghost use Rattle.std.proofs.Common.{sym};
-ghost use Rattle.std.proofs.lemmas.List.{take-replicate};
-ghost use Rattle.std.proofs.Math.Nat.{le-add_right};
+ghost use Rattle.std.specs.Prelude.{◌≡◌, None, replicate, false};
 
 use crate::device::{DeviceFault, Source};
 use std::marker::Model;
 
 /// Gives one byte at each read, the same again and again, and never ends.
 ///
-/// It is a source by itself, since std's readers can't tell bytes without end. Where a reader of std is needed,
-/// a [`Short`](crate::Short) around [`repeat`](std::io::repeat) gives the same bytes and tells none.
+/// Where a reader of std is needed, a [`Short`](crate::Short) around [`repeat`](std::io::repeat) gives the same bytes.
 #[derive(Drop)]
 pub struct Endless {
     byte: u8,
@@ -40,17 +36,15 @@ impl Endless {
 }
 
 impl Source for Endless {
-    ghost tells = { λ _. ⊤ };
+    ghost given = { λ e. replicate e.given e.byte };
 
-    ghost front = { λ e k. replicate k e.byte };
+    ghost is_over = { λ _. false };
+
+    ghost remaining = { λ _. None };
 
     ghost reads = { λ e. e.reads };
 
-    ghost given = { λ e. e.given };
-
     ghost failures = { λ _. 0 };
-
-    ghost coherent = { λ e _ j k. sym (take-replicate j (j + k) e.byte (le-add_right j k)) };
 
     fn read(&mut self, buf: &mut [u8]) -> Result<usize, DeviceFault> {
         self.reads += 1;

@@ -1,7 +1,7 @@
-//! What the devices of std tell. The functions do nothing; their contracts are the laws.
+//! What is known of the histories of devices. The functions do nothing; their contracts are the laws.
 
-ghost use Rattle.std.specs.Prelude.{◌≡◌, ℕ, IsSome, replicate};
-ghost use Rattle.trace_io.specs.Stream.{front_of, told};
+ghost use Rattle.std.specs.Prelude.{◌≡◌, replicate};
+ghost use Rattle.trace_io.specs.Stream.{AgreesWithTold};
 
 use crate::device::{Source, Target};
 use crate::endless::Endless;
@@ -9,20 +9,24 @@ use crate::reader::Reading;
 use crate::writer::Writing;
 use std::io::{Read, Write};
 
-/// Where a reader of std tells its bytes, the source around it tells them too: those still to come.
+/// A source around a reader of std tells the bytes still to come where that one tells them.
 pub fn reading_tells<R: Read>(reader: &Reading<R>)
-    ensures tells { IsSome (R.remaining reader.now.inner) → ⟦<Reading<R> as Source>⟧.tells reader.now }
-    ensures front { ⟦<Reading<R> as Source>⟧.front reader.now ≡ front_of (told (R.remaining reader.now.inner)) }
+    ensures given { ⟦<Reading<R> as Source>⟧.given reader.now ≡ reader.now.given }
+    ensures remaining { ⟦<Reading<R> as Source>⟧.remaining reader.now ≡ R.remaining reader.now.inner }
 {}
 
-/// Where a writer of std tells its bytes, the target around it tells them too: those that it holds.
+/// A target around a writer of std has the history of its writes, and holds the bytes that the writer tells.
 pub fn writing_tells<W: Write>(writer: &Writing<W>)
-    ensures tells { IsSome (W.contents writer.now.inner) → ⟦<Writing<W> as Target>⟧.tells writer.now }
-    ensures written { ⟦<Writing<W> as Target>⟧.written writer.now ≡ told (W.contents writer.now.inner) }
+    ensures taken { ⟦<Writing<W> as Target>⟧.taken writer.now ≡ writer.now.taken }
+    ensures contents { ⟦<Writing<W> as Target>⟧.contents writer.now ≡ W.contents writer.now.inner }
 {}
 
-/// A byte without end is told.
+/// A byte without end gives that byte alone.
 pub fn endless_tells(source: &Endless)
-    ensures tells { ⟦<Endless as Source>⟧.tells source.now }
-    ensures front { (k : ℕ) → ⟦<Endless as Source>⟧.front source.now k ≡ replicate k source.now.byte }
+    ensures given { ⟦<Endless as Source>⟧.given source.now ≡ replicate source.now.given source.now.byte }
+{}
+
+/// What a source gave agrees with the bytes that it told, as those of a slice.
+pub fn told_agrees()
+    ensures { AgreesWithTold }
 {}

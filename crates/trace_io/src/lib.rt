@@ -16,6 +16,7 @@
 mod device;
 mod endless;
 mod faulty;
+mod history;
 pub mod laws;
 mod reader;
 mod whole;

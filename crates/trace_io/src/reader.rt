@@ -1,15 +1,12 @@
 //! A reader of std as a source.
-ghost use Rattle.std.specs.Prelude.{◌≡◌, ◌+◌, IsSome};
-ghost use Rattle.std.proofs.Common.{sym};
-ghost use Rattle.std.proofs.lemmas.List.{take-take};
-ghost use Rattle.std.proofs.Math.Nat.{le-add_right};
-ghost use Rattle.trace_io.specs.Stream.{front_of, told};
+ghost use Rattle.std.specs.Prelude.{◌≡◌, [], false};
 
 use crate::device::{DeviceFault, Source};
+use crate::history::History;
 use std::io::Read;
 use std::marker::Model;
 
-/// A reader of std that counts. Its bytes are those of the reader inside, where that one tells them.
+/// A reader of std that counts, with the history of what its reads gave.
 ///
 /// Any error of the reader inside is a failure, [`ErrorKind::Interrupted`](std::io::ErrorKind) too: nothing is read again.
 #[derive(Drop)]
@@ -18,6 +15,9 @@ pub struct Reading<R> {
     reads: u64,
     given: u64,
     failures: u64,
+    // Only contracts look at these two.
+    is_over: bool,
+    history: History,
 }
 
 impl<R> Model for Reading<R> {
@@ -25,19 +25,25 @@ impl<R> Model for Reading<R> {
 
     ghost Value = { CountedReader R };
 
-    ghost view = { λ r. record { inner = r.inner; reads = r.reads; given = r.given; failures = r.failures } };
+    ghost view = { λ r. record { inner = r.inner; reads = r.reads; failures = r.failures; is_over = r.is_over; given = r.history.bytes } };
+
+    ghost use Rattle.std.specs.Prelude.{◌≡◌, length};
+
+    ghost invariant = { λ r. r.given ≡ length r.history.bytes };
 }
 
 impl<R> Reading<R> {
     /// A reader that was not yet read through this device: the counts begin at 0.
     pub fn new(inner: R) -> Self
-        ensures { result ≡ record { inner = inner; reads = 0; given = 0; failures = 0 } }
+        ensures { result ≡ record { inner = inner; reads = 0; failures = 0; is_over = false; given = [] } }
     {
         Reading {
             inner,
             reads: 0,
             given: 0,
             failures: 0,
+            is_over: false,
+            history: History::new(),
         }
     }
 
@@ -51,26 +57,27 @@ impl<R> Reading<R> {
 }
 
 impl<R: Read> Source for Reading<R> {
-    ghost tells = { λ r. IsSome (R.remaining r.inner) };
+    ghost given = { λ r. r.given };
 
-    ghost front = { λ r. front_of (told (R.remaining r.inner)) };
+    ghost is_over = { λ r. r.is_over };
+
+    ghost remaining = { λ r. R.remaining r.inner };
 
     ghost reads = { λ r. r.reads };
 
-    ghost given = { λ r. r.given };
-
     ghost failures = { λ r. r.failures };
-
-    ghost coherent = { λ r _ j k. sym (take-take j (j + k) (told (R.remaining r.inner)) (le-add_right j k)) };
 
     fn read(&mut self, buf: &mut [u8]) -> Result<usize, DeviceFault> {
         self.reads += 1;
         match self.inner.read(buf) {
             Ok(n) => {
                 self.given += n as u64;
+                self.is_over = n == 0 && !buf.is_empty();
+                self.history.note(&buf[..n]);
                 Ok(n)
             }
             Err(_) => {
+                self.is_over = false;
                 self.failures += 1;
                 Err(DeviceFault)
             }

@@ -1,6 +1,7 @@
 //! The whole of a text written.
 ghost use Rattle.std.specs.Prelude.{◌≡◌, ℕ, ◌+◌, ◌^◌, ◌<◌, ◌≤◌, List, ◌++◌, length, MatchResult};
 ghost use Rattle.trace_io.specs.Counted.{IsLowCount};
+ghost use Rattle.trace_io.specs.Stream.{Took};
 ghost use Rattle.trace_io.specs.Written.{HasWritten};
 
 use crate::device::{DeviceFault, Target};
@@ -12,8 +13,8 @@ pub const MOST_FAILURES: u64 = 1 << 62;
 /// Writes all of the text, and nothing where that is empty. A target that fails has taken a part of it.
 pub fn write_all<W: Target>(target: &mut W, text: &[u8]) -> Result<(), DeviceFault>
     requires { IsLowCount (W.failures target.old) }
-    ensures written { W.tells target.old → HasWritten result (W.written target.old) text.now (W.written target.new) }
-    ensures tells { W.tells target.old → W.tells target.new }
+    ensures taken { HasWritten result (W.taken target.old) text.now (W.taken target.new) }
+    ensures took { Took (W.taken target.old) (W.taken target.new) (W.contents target.old) (W.contents target.new) }
     ensures failures { MatchResult result
         (λ _. W.failures target.new ≡ W.failures target.old) (λ _. W.failures target.new ≡ W.failures target.old + 1) }
     ensures no_empty_write { W.had_empty_write target.new ≡ W.had_empty_write target.old }

@@ -1,21 +1,23 @@
 //! A writer of std as a target.
-ghost use Rattle.std.specs.Prelude.{◌≡◌, IsSome, false};
-ghost use Rattle.trace_io.specs.Stream.{told};
+ghost use Rattle.std.specs.Prelude.{◌≡◌, false, []};
 
 use crate::device::{DeviceFault, Target};
+use crate::history::History;
 use std::io::Write;
 use std::marker::Model;
 
-/// A writer of std that counts. Its bytes are those of the writer inside, where that one tells them.
+/// A writer of std that counts, with the history of what its writes took. It holds the bytes that the writer inside tells.
 ///
 /// Any error of the writer inside is a failure, and so is a write that takes nothing of a piece with bytes.
 #[derive(Drop)]
 pub struct Writing<W> {
     inner: W,
     failures: u64,
-    // Only contracts look at these two.
+    has_taken: bool,
+    // Only contracts look at these three.
     had_empty_write: bool,
     is_flushed: bool,
+    history: History,
 }
 
 impl<W> Model for Writing<W> {
@@ -23,19 +25,25 @@ impl<W> Model for Writing<W> {
 
     ghost Value = { CountedWriter W };
 
-    ghost view = { λ w. record { inner = w.inner; failures = w.failures; had_empty_write = w.had_empty_write; is_flushed = w.is_flushed } };
+    ghost view = { λ w. record { inner = w.inner; failures = w.failures; had_empty_write = w.had_empty_write; is_flushed = w.is_flushed; taken = w.history.bytes } };
+
+    ghost use Rattle.std.specs.Prelude.{◌≡◌, length, nat_lt};
+
+    ghost invariant = { λ w. w.has_taken ≡ nat_lt 0 (length w.history.bytes) };
 }
 
 impl<W> Writing<W> {
     /// A writer that was not yet written to through this device: the count begins at 0.
     pub fn new(inner: W) -> Self
-        ensures { result ≡ record { inner = inner; failures = 0; had_empty_write = false; is_flushed = false } }
+        ensures { result ≡ record { inner = inner; failures = 0; had_empty_write = false; is_flushed = false; taken = [] } }
     {
         Writing {
             inner,
             failures: 0,
+            has_taken: false,
             had_empty_write: false,
             is_flushed: false,
+            history: History::new(),
         }
     }
 
@@ -49,9 +57,9 @@ impl<W> Writing<W> {
 }
 
 impl<W: Write> Target for Writing<W> {
-    ghost tells = { λ w. IsSome (W.contents w.inner) };
+    ghost taken = { λ w. w.taken };
 
-    ghost written = { λ w. told (W.contents w.inner) };
+    ghost contents = { λ w. W.contents w.inner };
 
     ghost failures = { λ w. w.failures };
 
@@ -62,7 +70,11 @@ impl<W: Write> Target for Writing<W> {
     fn write(&mut self, piece: &[u8]) -> Result<usize, DeviceFault> {
         self.is_flushed = false;
         match self.inner.write(piece) {
-            Ok(n) if n > 0 => Ok(n),
+            Ok(n) if n > 0 => {
+                self.has_taken = true;
+                self.history.note(&piece[..n]);
+                Ok(n)
+            }
             Ok(_) if piece.is_empty() => {
                 self.had_empty_write = true;
                 Ok(0)
@@ -85,6 +97,10 @@ impl<W: Write> Target for Writing<W> {
                 Err(DeviceFault)
             }
         }
+    }
+
+    fn has_taken(&self) -> bool {
+        self.has_taken
     }
 
     fn failures(&self) -> u64 {

@@ -89,7 +89,7 @@ of_fault None unit limit fault by =
     subst IsOfValues (sym is) tt
 
 -- why there is no configuration is why there is no plan
-pub refused_for : (job : Job) (rows : List Row) (fault : WordsFault) → IsConfiguredIn rows (Err fault) → IsRefusedFor job rows fault
+pub refused_for : (job : Option Job) (rows : List Row) (fault : WordsFault) → IsConfiguredIn rows (Err fault) → IsRefusedFor job rows fault
 refused_for job rows (Help text) by = of_fault (identifier_in rows (codes "tester")) (identifier_in rows (codes "unit")) (limit_in rows) (Help text) by
 refused_for job rows (Words text) by = absurd (of_fault (identifier_in rows (codes "tester")) (identifier_in rows (codes "unit")) (limit_in rows) (Words text) by)
 refused_for job rows Identifier by = by
@@ -97,7 +97,7 @@ refused_for job rows (Config fault) by = by
 refused_for job rows Memory by = tt
 
 -- the same, as a `?` hands it on
-pub refused_when : (job : Job) (rows : List Row) (result : Result Plan WordsFault) (fault : WordsFault) (config : Result Settings WordsFault)
+pub refused_when : (job : Option Job) (rows : List Row) (result : Result Plan WordsFault) (fault : WordsFault) (config : Result Settings WordsFault)
     → IsErrAnd result (λ f. f ≡ fault) → config ≡ Err fault → IsConfiguredIn rows config → IfErr result (IsRefusedFor job rows)
 refused_when job rows (Ok plan) fault config is failed by = tt
 refused_when job rows (Err other) fault config is failed by =

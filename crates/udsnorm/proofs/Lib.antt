@@ -1,4 +1,5 @@
 pub mod Statuses
+pub mod Done
 pub mod Configured
 pub mod Built
 pub mod Taken

@@ -1,32 +1,127 @@
--- Exit statuses, by what an engine answered and which devices failed.
-use Rattle.std.proofs.Common.{◌≡◌, ◌<◌, ℕ, inl, inr, List, Result, Ok, Err, arith}
-use Rattle.std.specs.Prelude.{OnOk, MatchResult}
+-- What a run comes to, by what an engine answered and which devices failed.
+use Rattle.std.proofs.Common.{◌≡◌, ◌≢◌, ◌<◌, ◌+◌, ◌-◌, ℕ, inl, inr, Bool, true, false, true≢false, List, [], ◌++◌, length, length-append, append-nil, Option, Some, None, Result, Ok, Err, arith, refl, ap, sym, subst, ◌∙◌}
+use Rattle.std.specs.Io.KnownBytes.{Appends, Keeps}
+use Rattle.trace_canon.specs.Failing.{FailedIf}
 use Rattle.trace_canon.specs.declared.comparing.Comparison.{Comparison}
 use Rattle.trace_canon.specs.declared.fault.CompareFault.{CompareFault}
 use Rattle.trace_canon.specs.declared.fault.Fault.{Fault}
+use Rattle.trace_canon.specs.declared.fault.Fault.TheVariants as fault
+use Rattle.trace_canon.specs.Settings.{Settings}
 use Rattle.trace_canon.specs.declared.summary.Summary.{Summary}
-use Rattle.udsnorm.specs.Ending.{EndsWith, EndsTwoWith}
-use Rattle.udsnorm.specs.Run.{IsStatusOf, IsStatusOfTwo}
+use Rattle.trace_io.specs.Stream.{Agrees, Took}
+use Rattle.udsnorm.specs.Ending.{ComesTo, EndsAs, EndsTwoWith, flushes, status_of_run}
+use Rattle.udsnorm.specs.Run.{EngineAnswers, IsStatusOfTwo}
+use Rattle.udsnorm.specs.Status.{status_of}
+use Rattle.udsnorm.specs.declared.job.Job.{Job}
 
--- what the failures of the output say besides
-pub status_of_end : (answer : Result Summary Fault) (old new status : ℕ) → EndsWith answer old new status → IsStatusOf answer status
-status_of_end (Ok summary) old new status (inl done) = inl done.0
-status_of_end (Ok summary) old new status (inr failed) = inr failed.0
-status_of_end (Err fault) old new status ends = ends.0
+-- ---- after the flush
+
+-- the same, without the devices
+pub comes_to : (due : Bool) (answer outcome : Result Summary Fault) (old new : ℕ) (is_flushed : Bool) → EndsAs due answer old new is_flushed outcome → ComesTo due answer outcome
+comes_to false answer outcome old new is_flushed ends = inl ends.0
+comes_to true answer outcome old new is_flushed (inl same) = inl same.0
+comes_to true answer outcome old new is_flushed (inr failed) = inr (refl, failed.0)
+
+-- where a flush was due and did not fail, the output is flushed
+pub is_flushed_then : (due : Bool) (answer outcome : Result Summary Fault) (old new : ℕ) (is_flushed : Bool) → EndsAs due answer old new is_flushed outcome
+    → due ≡ true → outcome ≢ Err fault.Write → is_flushed ≡ true
+is_flushed_then false answer outcome old new is_flushed ends is well = absurd (true≢false (sym is))
+is_flushed_then true answer outcome old new is_flushed (inl same) is well = same.2
+is_flushed_then true answer outcome old new is_flushed (inr failed) is well = absurd (well failed.0)
+
+-- no flush is due after a failed write
+never_due : (answer : Result Summary Fault) (taken : List ℕ) → flushes answer taken ≡ true → answer ≡ Err fault.Write → ⊥
+never_due (Ok summary) taken due is = cc
+never_due (Err why) taken due is = absurd (true≢false (sym due ∙ ap (λ a. flushes a taken) is))
+
+-- a failed write, of the engine or of the flush, is counted once
+pub failed_once : (answer outcome : Result Summary Fault) (taken : List ℕ) (first old new : ℕ) (is_flushed : Bool) → FailedIf fault.Write answer first old
+    → EndsAs (flushes answer taken) answer old new is_flushed outcome → FailedIf fault.Write outcome first new
+failed_once answer outcome taken first old new is_flushed wrote = by (flushes answer taken) refl
+  where
+    by : (due : Bool) → flushes answer taken ≡ due → EndsAs due answer old new is_flushed outcome → FailedIf fault.Write outcome first new
+    by false is ends = record {
+      risen = λ failed. ends.1 ∙ wrote.risen (sym ends.0 ∙ failed);
+      same = λ well. ends.1 ∙ wrote.same (λ failed. well (ends.0 ∙ failed));
+    }
+    by true is (inl same) = record {
+      risen = λ failed. same.1 ∙ wrote.risen (sym same.0 ∙ failed);
+      same = λ well. same.1 ∙ wrote.same (λ failed. well (same.0 ∙ failed));
+    }
+    by true is (inr failed) = record {
+      risen = λ again. failed.1 ∙ ap (λ n. n + 1) (wrote.same (never_due answer taken is));
+      same = λ well. absurd (well failed.0);
+    }
+
+held_still : (bytes : List ℕ) (first old new : Option (List ℕ)) → Appends first old bytes → Keeps old new → Appends first new bytes
+held_still bytes None old new held kept = tt
+held_still bytes (Some a) None new held kept = absurd held
+held_still bytes (Some a) (Some b) None held kept = absurd kept
+held_still bytes (Some a) (Some b) (Some d) held kept = kept ∙ held
+
+-- a flush changes nothing of what a target took and holds
+pub took_still : (first old new : List ℕ) (held held_then held_now : Option (List ℕ)) → Took first old held held_then → new ≡ old → Keeps held_then held_now
+    → Took first new held held_now
+took_still first old new held held_then held_now took same kept = record {
+  bytes = took.bytes;
+  grown = same ∙ took.grown;
+  held = held_still took.bytes held held_then held_now took.held kept;
+}
+
+-- ---- over two logs
 
 pub status_of_end_of_two : (answer : Result Comparison CompareFault) (old new status : ℕ) → EndsTwoWith answer old new status → IsStatusOfTwo answer status
 status_of_end_of_two (Ok comparison) old new status (inl done) = inl done.0
 status_of_end_of_two (Ok comparison) old new status (inr failed) = inr failed.0
-status_of_end_of_two (Err fault) old new status ends = ends.0
+status_of_end_of_two (Err why) old new status ends = ends.0
 
--- where the output failed in the end, it failed since it stood as before
-pub failed_since : (answer : Result Summary Fault) (first old new status : ℕ) → OnOk answer (old ≡ first)
-    → OnOk answer (status ≡ 4 → old < new) → OnOk answer (status ≡ 4 → first < new)
-failed_since (Ok summary) first old new status same failed = λ is. omega (arith, same, failed is)
-failed_since (Err fault) first old new status same failed = same
+-- ---- what a source that was read from its start gave
 
--- the text that the engine wrote stays as it was
-pub kept_at_end : (Tells : Type 0) (old new : List ℕ) (answer : Result Summary Fault) → OnOk answer Tells
-    → MatchResult answer (λ _. Tells → new ≡ old) (λ _. new ≡ old) → new ≡ old
-kept_at_end Tells old new (Ok summary) tells kept = kept tells
-kept_at_end Tells old new (Err fault) tells kept = kept
+-- it agrees with this log
+pub agrees_with_more : (old new log : List ℕ) (is_over : Bool) → new ≡ old ++ log → Agrees old new is_over log
+agrees_with_more old new log is_over grown = record { rest = []; parts = sym grown ∙ sym (append-nil _); whole = λ over. refl }
+
+-- and from the start with all that it gave
+pub agrees_from_start : (old new : List ℕ) (is_over : Bool) → old ≡ [] → Agrees old new is_over new
+agrees_from_start old new is_over none = agrees_with_more old new new is_over (ap (λ o. o ++ new) (sym none))
+
+pub count_of_more : (old new log : List ℕ) → new ≡ old ++ log → length new - length old ≡ length log
+count_of_more old new log grown =
+    let long = ap length grown ∙ length-append old log in
+    omega (arith, long)
+
+-- what the engine answers on that
+pub answers_on_more : (job : Job) (limit : ℕ) (settings : Settings) (old new log : List ℕ) (is_over : Bool) (answer : Result Summary Fault) (before after : List ℕ) → new ≡ old ++ log
+    → ((l : List ℕ) → Agrees old new is_over l → EngineAnswers job limit settings l (length new - length old) answer before after)
+    → EngineAnswers job limit settings log (length log) answer before after
+answers_on_more job limit settings old new log is_over answer before after grown engine =
+    subst (λ n. EngineAnswers job limit settings log n answer before after) (count_of_more old new log grown)
+    (engine log (agrees_with_more old new log is_over grown))
+
+pub answers_from_start : (job : Job) (limit : ℕ) (settings : Settings) (old new : List ℕ) (is_over : Bool) (answer : Result Summary Fault) (before after : List ℕ) → old ≡ []
+    → ((l : List ℕ) → Agrees old new is_over l → EngineAnswers job limit settings l (length new - length old) answer before after)
+    → EngineAnswers job limit settings new (length new) answer before after
+answers_from_start job limit settings old new is_over answer before after none engine =
+    answers_on_more job limit settings old new new is_over answer before after (ap (λ o. o ++ new) (sym none)) engine
+
+-- ---- where it is done
+
+-- a fault has a status of its own
+pub faults_are_told : (why : Fault) → status_of why ≡ 0 → ⊥
+faults_are_told (fault.BadLine line column) none = absurd (omega (arith, none))
+faults_are_told (fault.Oversize line announced) none = absurd (omega (arith, none))
+faults_are_told fault.LogLimit none = absurd (omega (arith, none))
+faults_are_told fault.OutputLimit none = absurd (omega (arith, none))
+faults_are_told fault.Read none = absurd (omega (arith, none))
+faults_are_told fault.Write none = absurd (omega (arith, none))
+faults_are_told fault.Memory none = absurd (omega (arith, none))
+
+never_ok : (summary : Summary) → Ok summary ≡ Err fault.Write → ⊥
+never_ok summary is = cc
+
+-- where it is done, the log was accepted
+pub summary_of_done : (due : Bool) (answer outcome : Result Summary Fault) (status : ℕ) → ComesTo due answer outcome → status ≡ status_of_run outcome → status ≡ 0
+    → (summary : Summary) × (answer ≡ Ok summary)
+summary_of_done due answer (Ok summary) status (inl same) is zero = (summary, sym same)
+summary_of_done due answer (Ok summary) status (inr failed) is zero = absurd (never_ok summary failed.1)
+summary_of_done due answer (Err why) status comes is zero = absurd (faults_are_told why (sym is ∙ zero))

@@ -1,5 +1,5 @@
 -- What is told of each fault, as bytes.
-use Rattle.std.specs.Prelude.{ℕ, Bool, ◌==◌, List, [], ◌++◌, codes, Result, Ok, Err, string_bytes, if◌then◌else◌}
+use Rattle.std.specs.Prelude.{ℕ, ◌==◌, List, [], ◌++◌, codes, Result, Ok, Err, string_bytes, if◌then◌else◌}
 use Rattle.std.specs.Fmt.{decimal}
 use Rattle.trace_canon.specs.declared.comparing.Comparison.{Comparison}
 use Rattle.trace_canon.specs.declared.fault.CompareFault.{CompareFault}
@@ -9,8 +9,6 @@ use Rattle.trace_canon.specs.declared.fault.ConfigFault.TheVariants as config
 use Rattle.trace_canon.specs.declared.fault.Fault.{Fault}
 use Rattle.trace_canon.specs.declared.fault.Fault.TheVariants as fault
 use Rattle.trace_canon.specs.declared.summary.Summary.{Summary}
-use Rattle.udsnorm.specs.declared.job.Job.{Job}
-use Rattle.udsnorm.specs.declared.job.Job.TheVariants as job
 use Rattle.udsnorm.specs.declared.job.WordsFault.{WordsFault}
 use Rattle.udsnorm.specs.declared.job.WordsFault.TheVariants as words
 
@@ -44,36 +42,13 @@ words_text words.Identifier = codes "identifier is not three or eight hexadecima
 words_text (words.Config reason) = config_line reason
 words_text words.Memory = fault_line fault.Memory
 
--- what the output takes of it: help
-abbrev pub output_text : WordsFault → List ℕ
-output_text (words.Help text) = words_text (words.Help text)
-output_text (words.Words text) = []
-output_text words.Identifier = []
-output_text (words.Config reason) = []
-output_text words.Memory = []
+-- what the error output takes of a run over one log that comes to this: the line of the fault, and else nothing
+abbrev pub run_text : Result Summary Fault → List ℕ
+run_text (Ok summary) = []
+run_text (Err fault) = fault_line fault
 
--- what the error output takes of it: all but help
-abbrev pub error_text : WordsFault → List ℕ
-error_text (words.Help text) = []
-error_text (words.Words text) = words_text (words.Words text)
-error_text words.Identifier = words_text words.Identifier
-error_text (words.Config reason) = words_text (words.Config reason)
-error_text words.Memory = words_text words.Memory
-
--- the line of a file that can't be opened: of a comparison, of which the right one may be meant, with the log
-abbrev pub unopened_line : Job → Bool → List ℕ
-unopened_line job.Normalise right = fault_line fault.Read
-unopened_line job.List right = fault_line fault.Read
-unopened_line job.Explain right = fault_line fault.Read
-unopened_line job.Compare right = side_line (if right then Right fault.Read else Left fault.Read)
-
--- What the error output takes of a run over one log that ends with this status: the line of the fault; after an answer
--- that of the output where the status says that it failed, and else nothing.
-abbrev pub run_text : Result Summary Fault → ℕ → List ℕ
-run_text (Ok summary) status = if status == 4 then fault_line fault.Write else []
-run_text (Err fault) status = fault_line fault
-
--- the same of a run over two logs
+-- What it takes of a run over two logs that ends with this status: the line of the fault; after an answer that of the output,
+-- where the status says that it failed, and else nothing.
 abbrev pub run_two_text : Result Comparison CompareFault → ℕ → List ℕ
 run_two_text (Ok comparison) status = if status == 4 then fault_line fault.Write else []
 run_two_text (Err fault) status = side_line fault

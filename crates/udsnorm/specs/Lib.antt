@@ -6,5 +6,6 @@ pub mod FaultLines
 pub mod Telling
 pub mod Parts
 pub mod Comparisons
-pub mod Run
 pub mod Ending
+pub mod Run
+pub mod Asked

@@ -1,18 +1,27 @@
--- How a run ends.
-use Rattle.std.specs.Prelude.{◌≡◌, ◌≢◌, ℕ, ◌⊎◌, List, ◌++◌, Result, Ok, Err}
+-- What a run over logs answers, what it takes from its input, and what its output takes.
+use Rattle.std.specs.Prelude.{◌≡◌, ◌≢◌, ℕ, ◌-◌, ◌⊎◌, List, ◌++◌, length, true, Result, Ok, Err}
 use Rattle.trace_canon.specs.Settings.{Settings}
 use Rattle.trace_canon.specs.Answers.{Answers, ReadsWhile}
+use Rattle.trace_canon.specs.Devices.{ReadFrom}
+use Rattle.trace_canon.specs.Failing.{FailedIf}
 use Rattle.trace_canon.specs.Listed.{Lists}
 use Rattle.trace_canon.specs.ExplainAnswers.{AnswersExplain}
 use Rattle.trace_canon.specs.Compared.{fault_in}
 use Rattle.trace_canon.specs.Refusal.{HasNoBadPlaceWithin, IsNotRefusedWithin}
 use Rattle.trace_canon.specs.declared.comparing.Comparison.{Comparison}
-use Rattle.trace_canon.specs.declared.comparing.Comparison.TheVariants.{Same, Different}
 use Rattle.trace_canon.specs.declared.fault.CompareFault.{CompareFault}
 use Rattle.trace_canon.specs.declared.fault.Fault.{Fault}
+use Rattle.trace_canon.specs.declared.fault.Fault.TheVariants.{Read, Write}
 use Rattle.trace_canon.specs.declared.summary.Summary.{Summary}
+use Rattle.trace_io.specs.Stream.{Agrees, Took}
+use Rattle.trace_io.specs.Written.{HasFront}
+use Rattle.trace_io.specs.declared.device.Source.{Ghosts as SourceGhosts}
+use Rattle.trace_io.specs.declared.device.Target.{Ghosts as TargetGhosts}
 use Rattle.udsnorm.specs.Comparisons.{comparison_line}
+use Rattle.udsnorm.specs.Ending.{ComesTo, flushes, status_of_comparison, status_of_run}
+use Rattle.udsnorm.specs.FaultLines.{run_text}
 use Rattle.udsnorm.specs.Status.{status_of}
+use Rattle.udsnorm.specs.Telling.{TookText}
 use Rattle.udsnorm.specs.declared.job.Job.{Job}
 use Rattle.udsnorm.specs.declared.job.Job.TheVariants as job
 
@@ -21,25 +30,36 @@ abbrev pub EngineAnswers : Job → ℕ → Settings → List ℕ → ℕ → Res
 EngineAnswers job.Normalise limit settings log given answer old new = Answers limit settings log given answer old new
 EngineAnswers job.List limit settings log given answer old new = Lists limit settings log answer old new
 EngineAnswers job.Explain limit settings log given answer old new = AnswersExplain limit settings log given answer old new
-EngineAnswers job.Compare limit settings log given answer old new = ⊥
 
 -- how near to what refuses the log the engine that does this job stops reading
 abbrev pub EngineReads : Job → ℕ → Settings → List ℕ → ℕ → ℕ → ℕ → Type 0
 EngineReads job.Normalise limit settings log given failures failures_now = ReadsWhile (IsNotRefusedWithin limit settings log) given failures failures_now
 EngineReads job.List limit settings log given failures failures_now = ReadsWhile (IsNotRefusedWithin limit settings log) given failures failures_now
 EngineReads job.Explain limit settings log given failures failures_now = ReadsWhile (HasNoBadPlaceWithin log) given failures failures_now
-EngineReads job.Compare limit settings log given failures failures_now = ⊥
 
--- the exit status of a run over one log whose engine answered this: its fault's; and else 0, or 4 where the flush at the
--- end failed
-abbrev pub IsStatusOf : Result Summary Fault → ℕ → Type 0
-IsStatusOf (Ok summary) status = (status ≡ 0) ⊎ (status ≡ 4)
-IsStatusOf (Err fault) status = status ≡ status_of fault
-
--- 0 for logs that mean the same, and 1 for others
-abbrev pub status_of_comparison : Comparison → ℕ
-status_of_comparison Same = 0
-status_of_comparison (Different item) = 1
+-- What a run over one log did, from its input to its output and its error output, and its exit status.
+pub record RanOne {R W E : Type 0} (source : SourceGhosts R) (output : TargetGhosts W) (errors : TargetGhosts E) (job : Job) (limit : ℕ) (settings : Settings)
+    (before : R) (old : W) (unsaid : E) (status : ℕ) (after : R) (new : W) (said : E) : Type 0 where
+  -- what the engine answered, and what the output took, for each log with which the bytes that were read agree
+  pub answer : Result Summary Fault
+  pub engine : (log : List ℕ) → Agrees (source.given before) (source.given after) (source.is_over after) log
+      → EngineAnswers job limit settings log (length (source.given after) - length (source.given before)) answer (output.taken old) (output.taken new)
+  -- reading stopped within one piece of what refuses the log
+  pub near : (log : List ℕ) → Agrees (source.given before) (source.given after) (source.is_over after) log
+      → EngineReads job limit settings log (length (source.given after) - length (source.given before)) (source.failures before) (source.failures after)
+  pub read : ReadFrom source Read settings.max_bytes answer before after
+  -- what the run came to: the answer, or a failed write where a flush was due and failed
+  pub outcome : Result Summary Fault
+  pub comes : ComesTo (flushes answer (output.taken new)) answer outcome
+  pub status_is : status ≡ status_of_run outcome
+  -- where a flush was due and did not fail, the output is flushed
+  pub flushed : flushes answer (output.taken new) ≡ true → outcome ≢ Err Write → output.is_flushed new ≡ true
+  -- a failed write is told exactly where a write or the flush failed
+  pub failed : FailedIf Write outcome (output.failures old) (output.failures new)
+  pub took : Took (output.taken old) (output.taken new) (output.contents old) (output.contents new)
+  pub no_empty_write : output.had_empty_write new ≡ output.had_empty_write old
+  -- the error output took the text of what it came to
+  pub told : TookText (run_text outcome) (errors.failures unsaid) (errors.failures said) (errors.taken unsaid) (errors.taken said)
 
 -- the exit status of a run over two logs of which this was answered: the fault's; and else the comparison's, or 4 where the
 -- output failed
@@ -47,7 +67,7 @@ abbrev pub IsStatusOfTwo : Result Comparison CompareFault → ℕ → Type 0
 IsStatusOfTwo (Ok comparison) status = (status ≡ status_of_comparison comparison) ⊎ (status ≡ 4)
 IsStatusOfTwo (Err fault) status = status ≡ status_of (fault_in fault)
 
--- what the output took of it: the line of the comparison, but where the output failed; and nothing of a fault
+-- what the output took of it: the line of the comparison, of which a front where the output failed; and nothing of a fault
 abbrev pub TookLine : Result Comparison CompareFault → ℕ → List ℕ → List ℕ → Type 0
-TookLine (Ok comparison) status old new = status ≢ 4 → new ≡ old ++ comparison_line comparison
+TookLine (Ok comparison) status old new = HasFront old (comparison_line comparison) new × (status ≢ 4 → new ≡ old ++ comparison_line comparison)
 TookLine (Err fault) status old new = new ≡ old

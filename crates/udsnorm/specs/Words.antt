@@ -1,5 +1,5 @@
 -- What the commands and the texts of their options ask for.
-use Rattle.std.specs.Prelude.{◌≡◌, ◌≢◌, ◌⊎◌, ℕ, List, [], codes, Option, Some, None, option_map, unwrap_or, Result, Ok, Err, ⊤, string_bytes, bytes_eq, IsSome, IsErrAnd, if◌then◌else◌}
+use Rattle.std.specs.Prelude.{◌≡◌, ◌≢◌, ◌⊎◌, ℕ, List, [], codes, Option, Some, None, option_map, unwrap_or, Result, Ok, Err, ⊤, string_bytes, bytes_eq, IsErrAnd, if◌then◌else◌}
 use Rattle.std.specs.Str.Parse.{digits_value, without_leading_plus}
 use Rattle.clap.specs.Kinds.{IsAmong, Kinds}
 use Rattle.clap.specs.ValueTests.{is_unsigned_in}
@@ -13,6 +13,7 @@ use Rattle.udsnorm.specs.Identifiers.{identifier_of}
 use Rattle.udsnorm.specs.declared.job.Job.{Job}
 use Rattle.udsnorm.specs.declared.job.Job.TheVariants as job
 use Rattle.udsnorm.specs.declared.job.Plan.{Plan}
+use Rattle.udsnorm.specs.declared.job.Plan.TheVariants.{One, Two}
 use Rattle.udsnorm.specs.declared.job.WordsFault.{WordsFault}
 use Rattle.udsnorm.specs.declared.job.WordsFault.TheVariants.{Help, Words, Identifier, Config, Memory}
 
@@ -31,13 +32,13 @@ IsConfiguredBy (Some tester) (Some unit) limit result = IsConfiguredAs tester un
 IsConfiguredBy (Some tester) None limit result = result ≡ Err Identifier
 IsConfiguredBy None unit limit result = result ≡ Err Identifier
 
--- the job of a command; what is none of the others is `normalise`
-abbrev pub job_named : List ℕ → Job
+-- the job of a command over one log; what is none of the others is `normalise`. `compare` has none: it is over two
+abbrev pub job_named : List ℕ → Option Job
 job_named name =
-    if bytes_eq name (codes "list") then job.List
-    else if bytes_eq name (codes "explain") then job.Explain
-    else if bytes_eq name (codes "compare") then job.Compare
-    else job.Normalise
+    if bytes_eq name (codes "list") then Some job.List
+    else if bytes_eq name (codes "explain") then Some job.Explain
+    else if bytes_eq name (codes "compare") then None
+    else Some job.Normalise
 
 -- the identifier that the value of this option spells
 abbrev pub identifier_in : List Row → Text → Option Id
@@ -57,29 +58,23 @@ limit_in rows = number_of (one_of (codes "limit") rows)
 abbrev pub IsConfiguredIn : List Row → Result Settings WordsFault → Type 0
 IsConfiguredIn rows result = IsConfiguredBy (identifier_in rows (codes "tester")) (identifier_in rows (codes "unit")) (limit_in rows) result
 
--- the files of a job: LOG, if it is there, or A and B
-abbrev pub AreFilesOf : Job → List Row → Option Text → Option Text → Type 0
-AreFilesOf job.Normalise rows one other = (one ≡ first_of (codes "LOG") rows) × (other ≡ None)
-AreFilesOf job.List rows one other = (one ≡ first_of (codes "LOG") rows) × (other ≡ None)
-AreFilesOf job.Explain rows one other = (one ≡ first_of (codes "LOG") rows) × (other ≡ None)
-AreFilesOf job.Compare rows one other =
-    (one ≡ first_of (codes "A") rows) × (other ≡ first_of (codes "B") rows) × IsSome one × IsSome other
-
--- The plan for this job that the options and files of the command ask for.
-pub record IsPlanOf (job : Job) (rows : List Row) (plan : Plan) : Type 0 where
-  pub job_is : plan.job ≡ job
-  pub config_is : IsConfiguredIn rows (Ok plan.config)
-  pub files_are : AreFilesOf job rows (option_map string_bytes plan.first) (option_map string_bytes plan.second)
+-- the plan that the options and files of a command ask for: of this job over LOG, if it is there; or, where there is none, of
+-- a comparison of A and B
+abbrev pub IsPlanOf : Option Job → List Row → Plan → Type 0
+IsPlanOf (Some named) rows (One job config log) =
+    (job ≡ named) × IsConfiguredIn rows (Ok config) × (option_map string_bytes log ≡ first_of (codes "LOG") rows)
+IsPlanOf None rows (Two config left right) =
+    IsConfiguredIn rows (Ok config) × (Some (string_bytes left) ≡ first_of (codes "A") rows) × (Some (string_bytes right) ≡ first_of (codes "B") rows)
+IsPlanOf (Some named) rows (Two config left right) = ⊥
+IsPlanOf None rows (One job config log) = ⊥
 
 -- a comparison of which a file is not named
-abbrev pub LacksFile : Job → List Row → Type 0
-LacksFile job.Compare rows = (first_of (codes "A") rows ≡ None) ⊎ (first_of (codes "B") rows ≡ None)
-LacksFile job.Normalise rows = ⊥
-LacksFile job.List rows = ⊥
-LacksFile job.Explain rows = ⊥
+abbrev pub LacksFile : Option Job → List Row → Type 0
+LacksFile None rows = (first_of (codes "A") rows ≡ None) ⊎ (first_of (codes "B") rows ≡ None)
+LacksFile (Some job) rows = ⊥
 
 -- why there is no such plan: the identifiers, the configuration, a file that is not named, or that memory is refused
-abbrev pub IsRefusedFor : Job → List Row → WordsFault → Type 0
+abbrev pub IsRefusedFor : Option Job → List Row → WordsFault → Type 0
 IsRefusedFor job rows Identifier = IsConfiguredIn rows (Err Identifier)
 IsRefusedFor job rows (Config fault) = IsConfiguredIn rows (Err (Config fault))
 IsRefusedFor job rows (Help text) = ⊥

@@ -7,7 +7,7 @@ use std::alloc::AllocError;
 use thiserror::Error;
 use trace_canon::{Config, ConfigFault};
 
-/// What the program does with a log, or with two.
+/// What the program does with one log.
 #[derive(Clone, Copy, PartialEq, Eq)]
 pub enum Job {
     /// Writes the canonical log.
@@ -16,19 +16,23 @@ pub enum Job {
     List,
     /// Writes which frames were dropped, and which receptions ended early, and why.
     Explain,
-    /// Says whether two logs have the same meaning.
-    Compare,
 }
 
 /// What a command line asks for.
 #[derive(Drop)]
-pub struct Plan {
-    pub job: Job,
-    pub config: Config,
-    /// The file of the log, the left one for [`Job::Compare`]. Without a file standard input is read.
-    pub first: Option<String>,
-    /// The file of the right log, for [`Job::Compare`] alone.
-    pub second: Option<String>,
+pub enum Plan {
+    /// Does a job over one log: that of this file, or else of standard input.
+    One {
+        job: Job,
+        config: Config,
+        log: Option<String>,
+    },
+    /// Says whether the logs of two files have the same meaning.
+    Two {
+        config: Config,
+        left: String,
+        right: String,
+    },
 }
 
 /// Why a command line asks for nothing that the program does.

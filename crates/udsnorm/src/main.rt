@@ -12,8 +12,12 @@
 //! refused.
 #![tactic(auto)]
 
-ghost use Rattle.std.specs.Prelude.{◌≡◌};
-ghost use Rattle.trace_io.specs.Counted.{IsLowCount};
+ghost use Rattle.std.specs.Prelude.{◌≡◌, ◌⊎◌, ℕ, List, ◌++◌, length, true, map, string_bytes};
+ghost use Rattle.trace_io.specs.Counted.{AreLowCounts, IsLowCount};
+ghost use Rattle.udsnorm.specs.Asked.{Did, DidWords, IsDone, RanFile, RanFiles, Unopened};
+ghost use Rattle.isotp_receive.specs.declared.TheConstants.{MESSAGE_LIMIT};
+ghost use Rattle.udsnorm.specs.FaultLines.{fault_line, side_line};
+ghost use Rattle.udsnorm.specs.Commands.{words_or_normalise};
 
 mod command;
 mod comparison;
@@ -27,103 +31,139 @@ mod words;
 
 use crate::job::{Job, Plan, WordsFault};
 use crate::run::{run_one, run_two};
-use crate::tell::{tell, unopened};
+use crate::tell::{tell, tell_fault, tell_side};
 use crate::words::plan;
 use std::env::Env;
-use std::io::{BufWriter, ErrorKind, Input, Print, Write};
+use std::io::{ErrorKind, Input, Print};
 use std::process::ExitCode;
 use std::rt::Files;
 use std::{env, fs, io};
-use trace_io::{Reading, Target, Writing};
+use trace_canon::{CompareFault, Config, Fault};
+use trace_io::{Reading, Source, Target, Writing};
 
 /// What is told of a command line that is no text.
 const NO_TEXT: &str = "error: the command line is not UTF-8\n";
 
 fn main(rt: HostRuntime) -> ExitCode {
     let stderr = rt.stderr();
+    let mut input = Reading::new(rt.reader());
+    let mut out = Writing::new(io::writer(&rt));
     let mut err = Writing::new(io::writer(&stderr));
-    ExitCode::from(run_program(&rt, &mut err))
+    let status = match given_words(&rt) {
+        Ok(words) => run_words(&rt, words.as_slice(), &mut input, &mut out, &mut err),
+        Err(fault) => tell(&fault, &mut out, &mut err),
+    };
+    ExitCode::from(status)
 }
 
-/// Does what the command line asks for, and answers the exit status.
-fn run_program<R: AllocGlobal + Env + Files + Input + Print, E: Target>(rt: &R, err: &mut E) -> u8
-    requires { IsLowCount (E.failures err.old) }
-{
-    let Ok(buffered) = BufWriter::new(rt.alloc(), io::writer(rt)) else {
-        return tell(&WordsFault::Memory, &mut Writing::new(io::writer(rt)), err);
-    };
-    let mut out = Writing::new(buffered);
-    let status = match asked(rt) {
-        Ok(plan) => carry_out(rt, &plan, &mut out, err),
-        Err(fault) => tell(&fault, &mut out, err),
-    };
-    // What was written leaves the program on every way out. Where that matters to the status it was flushed before.
-    let _ = out.into_inner().flush();
-    status
-}
-
-/// What the command line asks for.
-fn asked<R: AllocGlobal + Env>(rt: &R) -> Result<Plan, WordsFault> {
+/// The words after the program's name.
+fn given_words<R: AllocGlobal + Env>(rt: &R) -> Result<Vec<String>, WordsFault> {
     let alloc = rt.alloc();
     match env::args(rt) {
-        Ok(args) => {
-            let words: Vec<String> = args.collect(alloc)?;
-            // The first word is the program's name.
-            plan(alloc, words.get(1..).unwrap_or(&[]))
-        }
+        Ok(args) => Ok(args.skip(1).collect(alloc)?),
         Err(error) if error.kind() == ErrorKind::OutOfMemory => Err(WordsFault::Memory),
         Err(_) => Err(WordsFault::Words(String::from_str(alloc, NO_TEXT)?)),
     }
 }
 
-/// Does the job, over the files that are named or standard input. Answers the exit status.
-fn carry_out<R: AllocGlobal + Files + Input, W: Target, E: Target>(
+/// Does what the words ask for, over the input where they name no file. Answers the exit status.
+fn run_words<R: AllocGlobal + Files, I: Source, W: Target, E: Target>(
     rt: &R,
-    plan: &Plan,
+    words: &[String],
+    input: &mut I,
     out: &mut W,
     err: &mut E,
 ) -> u8
+    requires input { AreLowCounts (I.reads input.old) (length (I.given input.old)) (I.failures input.old) }
     requires out { IsLowCount (W.failures out.old) }
     requires err { IsLowCount (E.failures err.old) }
+
+    // For each status: what the words ask for, and what was done of it, from the input's reads to the output's writes and the
+    // error output's.
+    ensures run { DidWords I.Source W.Target E.Target (words_or_normalise (map string_bytes words.now)) input.old out.old err.old result input.new out.new err.new }
+
+    // With status 0 it is done: the output's writes took what is asked for, of the bytes that the input's reads gave.
+    ensures done { result ≡ 0 → (log : List ℕ) → I.given input.new ≡ I.given input.old ++ log
+        → IsDone (words_or_normalise (map string_bytes words.now)) log (W.taken out.old) (W.taken out.new) }
+    ensures flushed { result ≡ 0 → W.is_flushed out.new ≡ true }
 {
-    if plan.job == Job::Compare {
-        return compare_files(rt, plan, out, err);
-    }
-    if plan.first.is_none() {
-        return run_one(rt.alloc(), plan, &mut Reading::new(rt.reader()), out, err);
-    }
-    match opened(rt, &plan.first) {
-        Some(log) => run_one(rt.alloc(), plan, &mut Reading::new(log), out, err),
-        None => unopened(plan, false, err),
+    match plan(rt.alloc(), words) {
+        Ok(plan) => carry_out(rt, &plan, input, out, err),
+        Err(fault) => tell(&fault, out, err),
     }
 }
 
-/// Compares the two files that are named. Both are opened before either is read.
-fn compare_files<R: AllocGlobal + Files, W: Target, E: Target>(
+/// Does what is planned, over the files that are named or the input. Answers the exit status.
+fn carry_out<R: AllocGlobal + Files, I: Source, W: Target, E: Target>(
     rt: &R,
     plan: &Plan,
+    input: &mut I,
     out: &mut W,
     err: &mut E,
 ) -> u8
-    requires job { plan.now.job ≡ Job.Compare }
+    requires input { AreLowCounts (I.reads input.old) (length (I.given input.old)) (I.failures input.old) }
     requires out { IsLowCount (W.failures out.old) }
     requires err { IsLowCount (E.failures err.old) }
+    ensures did { Did I.Source W.Target E.Target plan.now input.old out.old err.old result input.new out.new err.new }
+    ensures flushed { result ≡ 0 → W.is_flushed out.new ≡ true }
 {
-    let Some(left) = opened(rt, &plan.first) else {
-        return unopened(plan, false, err);
+    match plan {
+        Plan::One { job, config, log } => match log {
+            None => run_one(rt.alloc(), *job, config, input, out, err),
+            Some(name) => run_file(rt, *job, config, name, out, err),
+        },
+        Plan::Two {
+            config,
+            left,
+            right,
+        } => run_files(rt, config, left, right, out, err),
+    }
+}
+
+/// Does a job over the log of a file.
+fn run_file<R: AllocGlobal + Files, W: Target, E: Target>(
+    rt: &R,
+    job: Job,
+    config: &Config,
+    name: &String,
+    out: &mut W,
+    err: &mut E,
+) -> u8
+    requires out { IsLowCount (W.failures out.old) }
+    requires err { IsLowCount (E.failures err.old) }
+    ensures ran { RanFile W.Target E.Target job MESSAGE_LIMIT config.now out.old err.old result out.new err.new
+        ⊎ Unopened E.Target (fault_line Fault.Read) out.old err.old result out.new err.new }
+    ensures flushed { result ≡ 0 → W.is_flushed out.new ≡ true }
+{
+    match fs::open(rt, name.as_str()) {
+        Ok(file) => run_one(rt.alloc(), job, config, &mut Reading::new(file), out, err),
+        Err(_) => tell_fault(Fault::Read, err),
+    }
+}
+
+/// Compares the logs of two files. Both are opened before either is read.
+fn run_files<R: AllocGlobal + Files, W: Target, E: Target>(
+    rt: &R,
+    config: &Config,
+    left: &String,
+    right: &String,
+    out: &mut W,
+    err: &mut E,
+) -> u8
+    requires out { IsLowCount (W.failures out.old) }
+    requires err { IsLowCount (E.failures err.old) }
+    ensures ran { RanFiles W.Target E.Target MESSAGE_LIMIT config.now out.old err.old result out.new err.new
+        ⊎ (Unopened E.Target (side_line (CompareFault.Left Fault.Read)) out.old err.old result out.new err.new
+        ⊎ Unopened E.Target (side_line (CompareFault.Right Fault.Read)) out.old err.old result out.new err.new) }
+    ensures flushed { result ≡ 0 → W.is_flushed out.new ≡ true }
+{
+    let Ok(left) = fs::open(rt, left.as_str()) else {
+        return tell_side(CompareFault::Left(Fault::Read), err);
     };
-    let Some(right) = opened(rt, &plan.second) else {
-        return unopened(plan, true, err);
+    let Ok(right) = fs::open(rt, right.as_str()) else {
+        return tell_side(CompareFault::Right(Fault::Read), err);
     };
     let mut left = Reading::new(left);
     let mut right = Reading::new(right);
-    run_two(rt.alloc(), plan, &mut left, &mut right, out, err)
-}
-
-/// The file of this name, if there is a name and the file can be opened.
-fn opened<R: Files>(rt: &R, name: &Option<String>) -> Option<R::File> {
-    match name {
-        Some(name) => fs::open(rt, name.as_str()).ok(),
-        None => None,
-    }
+    run_two(rt.alloc(), config, &mut left, &mut right, out, err)
 }

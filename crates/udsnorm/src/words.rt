@@ -1,10 +1,10 @@
 //! What the words of a command line ask for.
 
-ghost use Rattle.std.specs.Prelude.{◌≡◌, ◌≢◌, None, IfOk, IfErr, IsSome, map, option_map, string_bytes};
+ghost use Rattle.std.specs.Prelude.{◌≡◌, Some, None, IfOk, IfErr, IsSome, map, option_map, string_bytes};
 ghost use Rattle.clap.specs.Words.{FailsBy, first_of, found_of, kind_of, rows_of, subcommand_rows_of};
 ghost use Rattle.udsnorm.specs.Commands.{command_in, refusals, words_or_normalise};
 ghost use Rattle.udsnorm.specs.Identifiers.{identifier_of};
-ghost use Rattle.udsnorm.specs.Words.{AreFilesOf, IsCalled, IsConfiguredBy, IsConfiguredIn, IsPlanOf, IsPlanned, IsPlannedFrom, IsRefusedFor, job_named};
+ghost use Rattle.udsnorm.specs.Words.{IsCalled, IsConfiguredBy, IsConfiguredIn, IsPlanOf, IsPlanned, IsPlannedFrom, IsRefusedFor, job_named};
 
 use crate::command::{LEFT, LIMIT, LOG, RIGHT, TESTER, UNIT, command};
 use crate::identifiers::identifier;
@@ -21,10 +21,6 @@ static NO_WORDS: [&str; 1] = ["normalise"];
 pub fn plan(alloc: Global, words: &[String]) -> Result<Plan, WordsFault>
     // It is the plan of the command that the parser finds in the words, or says why there is none.
     ensures words { IsPlanned (words_or_normalise (map string_bytes words.now)) result }
-
-    // A plan to compare has both files, and no other has a second.
-    ensures both { IfOk result (λ plan. plan.job ≡ Job.Compare → IsSome plan.first × IsSome plan.second) }
-    ensures one { IfOk result (λ plan. plan.job ≢ Job.Compare → plan.second ≡ None) }
 {
     match found(alloc, words) {
         Ok(matches) => planned(alloc, &matches),
@@ -60,61 +56,55 @@ fn refusal(alloc: Global, error: &Error) -> Result<WordsFault, AllocError>
 fn planned(alloc: Global, matches: &ArgMatches<'_>) -> Result<Plan, WordsFault>
     requires { IsSome (subcommand_rows_of matches.now) }
     ensures from { IsPlannedFrom (subcommand_rows_of matches.now) result }
-    ensures both { IfOk result (λ plan. plan.job ≡ Job.Compare → IsSome plan.first × IsSome plan.second) }
-    ensures one { IfOk result (λ plan. plan.job ≢ Job.Compare → plan.second ≡ None) }
 {
     match matches.subcommand() {
-        Some((name, found)) => plan_of(alloc, job_named(name), found),
+        Some((name, found)) => match job_named(name) {
+            Some(job) => plan_of_one(alloc, job, found),
+            None => plan_of_two(alloc, found),
+        },
         None => unreachable!(),
     }
 }
 
-/// The job of a command.
-fn job_named(name: &str) -> Job
+/// The job of a command over one log. The one over two has none.
+fn job_named(name: &str) -> Option<Job>
     ensures { result ≡ job_named name.now }
 {
     match name {
-        "list" => Job::List,
-        "explain" => Job::Explain,
-        "compare" => Job::Compare,
-        _ => Job::Normalise,
+        "list" => Some(Job::List),
+        "explain" => Some(Job::Explain),
+        "compare" => None,
+        _ => Some(Job::Normalise),
     }
 }
 
-/// The plan of a job, by the options and files of its command.
-fn plan_of(alloc: Global, job: Job, found: &ArgMatches<'_>) -> Result<Plan, WordsFault>
-    ensures plan { IfOk result (IsPlanOf job (rows_of (found_of found.now))) }
-    ensures fault { IfErr result (IsRefusedFor job (rows_of (found_of found.now))) }
+/// The plan of a job over one log, by the options and the file of its command.
+fn plan_of_one(alloc: Global, job: Job, found: &ArgMatches<'_>) -> Result<Plan, WordsFault>
+    ensures plan { IfOk result (IsPlanOf (Some job) (rows_of (found_of found.now))) }
+    ensures fault { IfErr result (IsRefusedFor (Some job) (rows_of (found_of found.now))) }
 {
     let config = configuration(found)?;
-    let (first, second) = files_of(alloc, job, found)?;
-    Ok(Plan {
-        job,
-        config,
-        first,
-        second,
-    })
+    let log = copied(alloc, text_of(found, LOG))?;
+    Ok(Plan::One { job, config, log })
 }
 
-/// The files of a job: the log, if it is named, and no other; or the two to compare.
-fn files_of(
-    alloc: Global,
-    job: Job,
-    found: &ArgMatches<'_>,
-) -> Result<(Option<String>, Option<String>), WordsFault>
-    ensures files { IfOk result (λ files. AreFilesOf job (rows_of (found_of found.now)) (option_map string_bytes files.0) (option_map string_bytes files.1)) }
-    ensures fault { IfErr result (IsRefusedFor job (rows_of (found_of found.now))) }
+/// The plan of a comparison, by the options and the files of its command.
+fn plan_of_two(alloc: Global, found: &ArgMatches<'_>) -> Result<Plan, WordsFault>
+    ensures plan { IfOk result (IsPlanOf None (rows_of (found_of found.now))) }
+    ensures fault { IfErr result (IsRefusedFor None (rows_of (found_of found.now))) }
 {
-    if job != Job::Compare {
-        return Ok((copied(alloc, text_of(found, LOG))?, None));
-    }
+    let config = configuration(found)?;
     let (Some(left), Some(right)) = (text_of(found, LEFT), text_of(found, RIGHT)) else {
         // The parser asks for both.
         return Err(WordsFault::Words(String::new(alloc)));
     };
-    let first = String::from_str(alloc, left)?;
-    let second = String::from_str(alloc, right)?;
-    Ok((Some(first), Some(second)))
+    let left = String::from_str(alloc, left)?;
+    let right = String::from_str(alloc, right)?;
+    Ok(Plan::Two {
+        config,
+        left,
+        right,
+    })
 }
 
 /// The configuration that the options ask for. Each of them has a default.

@@ -11,4 +11,6 @@ returns-clause-run g c = (
   c.end_comparison.ensures.line,
   c.compare-answer.ensures.answer,
   c.compare-answer.ensures.unread,
+  c.compare-answer.ensures.left_read,
+  c.compare-answer.ensures.right_read,
 )

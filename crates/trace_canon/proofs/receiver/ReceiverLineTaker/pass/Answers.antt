@@ -4,8 +4,8 @@ use Rattle.trace_canon.proofs.Directions.{foreign_direction}
 use Rattle.trace_canon.proofs.Receivings.{trace_same_foreign, receives_same}
 use Rattle.trace_canon.proofs.receiver.ReceiverLineTaker.pass.Goals as goal
 
-pub returns : goal.returns
-returns g c = λ device first second stamped wants not_first not_second start meanings number took. (
+pub returns-clause-takes : goal.returns-clause-takes
+returns-clause-takes g c = λ device first second stamped wants not_first not_second start meanings number took. (
   took.0,
   λ fresh.
       let received = took.1 fresh in

@@ -1,0 +1,73 @@
+-- The canonical log said one more frame at a time.
+use Rattle.std.proofs.Common.{◌≡◌, ℕ, List, [], ◌∷◌, ◌++◌, length, drop, ap, sym, subst, ◌∙◌, append-nil}
+use Rattle.std.proofs.Math.Seq.{drop-append_seam}
+use Rattle.direction.specs.Dir.{Message}
+use Rattle.direction.specs.declared.Dir.{Dir}
+use Rattle.isotp_receive.specs.declared.TheConstants.{MESSAGE_LIMIT}
+use Rattle.isotp_receive.specs.Trace.{Entry}
+use Rattle.isotp_receive.specs.Verdict.{EventValue, message as message_of, messages, told_message, verdict}
+use Rattle.isotp_segment.specs.Timed.{all_frames}
+use Rattle.uds_exchange.specs.Order.{early}
+use Rattle.uds_exchange.specs.Orderer.{IsHeld, OrdererValue, stands_after}
+use Rattle.trace_canon.specs.Needing.{CompletesHeld}
+use Rattle.trace_canon.specs.CanonicalScript.{place_of, lines_due, StandsCanonical}
+use Rattle.trace_canon.specs.Saying.{SaysDue}
+use Rattle.trace_canon.specs.Settings.{Settings}
+use Rattle.trace_canon.specs.Writing.{Place, start_of, text_from, place_after}
+use Rattle.trace_canon.proofs.CanonicalWriting.{text_none, place_append}
+use Rattle.trace_canon.proofs.OneMoreFrame.{messages_more}
+use Rattle.trace_canon.proofs.Texts.{all_frames-append}
+
+-- the messages of a trace with one more frame, by what it did
+pub messages_next : (T : List Entry) (e : Entry) (d : Dir) (event : EventValue) → e.dir ≡ d → event ≡ verdict MESSAGE_LIMIT T e
+    → messages MESSAGE_LIMIT (T ++ e ∷ []) ≡ messages MESSAGE_LIMIT T ++ told_message d event.verdict
+messages_next T e d event dir_is is =
+    sym (ap (λ v. messages MESSAGE_LIMIT T ++ told_message d v) (ap (λ (x : EventValue). x.verdict) is)
+    ∙ ap (λ x. messages MESSAGE_LIMIT T ++ told_message x (verdict MESSAGE_LIMIT T e).verdict) (sym dir_is) ∙ sym (messages_more MESSAGE_LIMIT T e))
+
+-- a frame that completes a message which is held
+pub completes_held : (T : List Entry) (e : Entry) (d : Dir) (event : EventValue) (bytes : List ℕ) → e.dir ≡ d → event ≡ verdict MESSAGE_LIMIT T e → event.verdict ≡ message_of bytes
+    → IsHeld (messages MESSAGE_LIMIT T) (d, bytes) → CompletesHeld MESSAGE_LIMIT T e
+completes_held T e d event bytes dir_is is told held =
+    (bytes, sym (ap (λ (x : EventValue). x.verdict) is) ∙ told, subst (λ x. IsHeld (messages MESSAGE_LIMIT T) (x, bytes)) (sym dir_is) held)
+
+-- a message: what is due with it was said
+pub says_next : {S : Type 0} (says : S → List ℕ → S → Type 0) (settings config : Settings) (T : List Entry) (e : Entry) (message : Message)
+    (orderer orderer_now : OrdererValue) (place place_now : Place) (out out_now : S) → messages MESSAGE_LIMIT (T ++ e ∷ []) ≡ messages MESSAGE_LIMIT T ++ message ∷ []
+    → StandsCanonical settings T orderer config place → orderer_now ≡ stands_after (messages MESSAGE_LIMIT T ++ message ∷ [])
+    → SaysDue says config (messages MESSAGE_LIMIT T) message place out place_now out_now
+    → StandsCanonical settings (T ++ e ∷ []) orderer_now config place_now
+    × says out (lines_due settings (messages MESSAGE_LIMIT T) (messages MESSAGE_LIMIT (T ++ e ∷ []))) out_now
+says_next says settings config T e message orderer orderer_now place place_now out out_now next stood ordered (due, is_due, at, said) =
+    let M = messages MESSAGE_LIMIT T in
+    let longer : early (messages MESSAGE_LIMIT (T ++ e ∷ [])) ≡ early M ++ due = ap early next ∙ is_due in
+    let left : drop (length (early M)) (early (messages MESSAGE_LIMIT (T ++ e ∷ []))) ≡ due = ap (drop (length (early M))) longer ∙ drop-append_seam (early M) due in
+    let same = stood.same in
+    let stood_at = stood.at in (
+      record {
+        ordered = ordered ∙ ap stands_after (sym next);
+        same = same;
+        at = at ∙ ap (λ c. place_after c place (all_frames MESSAGE_LIMIT due)) same ∙ ap (λ p. place_after settings p (all_frames MESSAGE_LIMIT due)) stood_at
+            ∙ sym (place_append settings (start_of settings.max_bytes) (all_frames MESSAGE_LIMIT (early M)) (all_frames MESSAGE_LIMIT due))
+            ∙ ap (place_after settings (start_of settings.max_bytes)) (sym (all_frames-append MESSAGE_LIMIT (early M) due)) ∙ ap (place_of settings) (sym longer);
+      },
+      subst (λ text. says out text out_now)
+          (ap (λ c. text_from c place (all_frames MESSAGE_LIMIT due)) same ∙ ap (λ p. text_from settings p (all_frames MESSAGE_LIMIT due)) stood_at
+          ∙ ap (λ x. text_from settings (place_of settings (early M)) (all_frames MESSAGE_LIMIT x)) (sym left)) said,
+    )
+
+-- no message: nothing is
+pub says_nothing_more : {S : Type 0} (says : S → List ℕ → S → Type 0) (nothing : (s : S) → says s [] s) (settings config : Settings) (T : List Entry) (e : Entry)
+    (orderer : OrdererValue) (place : Place) (out : S) → messages MESSAGE_LIMIT (T ++ e ∷ []) ≡ messages MESSAGE_LIMIT T ++ []
+    → StandsCanonical settings T orderer config place
+    → StandsCanonical settings (T ++ e ∷ []) orderer config place
+    × says out (lines_due settings (messages MESSAGE_LIMIT T) (messages MESSAGE_LIMIT (T ++ e ∷ []))) out
+says_nothing_more says nothing settings config T e orderer place out next stood =
+    let M = messages MESSAGE_LIMIT T in
+    let same : messages MESSAGE_LIMIT (T ++ e ∷ []) ≡ M = next ∙ append-nil M in
+    let none : drop (length (early M)) (early (messages MESSAGE_LIMIT (T ++ e ∷ []))) ≡ [] =
+    ap (λ x. drop (length (early M)) (early x)) same ∙ ap (drop (length (early M))) (sym (append-nil (early M))) ∙ drop-append_seam (early M) [] in (
+      record { ordered = stood.ordered ∙ ap stands_after (sym same); same = stood.same; at = stood.at ∙ ap (λ x. place_of settings (early x)) (sym same) },
+      subst (λ text. says out text out)
+          (sym (ap (λ x. text_from settings (place_of settings (early M)) (all_frames MESSAGE_LIMIT x)) none ∙ text_none settings (place_of settings (early M)))) (nothing out),
+    )

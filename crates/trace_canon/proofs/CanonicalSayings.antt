@@ -1,0 +1,69 @@
+-- Messages put one after another into a sink that says their canonical lines.
+use Rattle.std.proofs.Common.{◌≡◌, ℕ, List, [], ◌∷◌, ◌++◌, refl, ap, sym, subst, ◌∙◌}
+use Rattle.direction.specs.Dir.{Message}
+use Rattle.direction.specs.declared.Dir.{Dir}
+use Rattle.isotp_receive.specs.declared.TheConstants.{MESSAGE_LIMIT}
+use Rattle.isotp_segment.specs.CanonicalFrames.{canonical_frames}
+use Rattle.isotp_segment.specs.Timed.{all_frames}
+use Rattle.uds_exchange.specs.Orderer.{StopsHeld, StopsDue}
+use Rattle.uds_exchange.specs.Sink.{AfterOk, Puts}
+use Rattle.uds_exchange.specs.declared.orderer.OrderFault.{OrderFault}
+use Rattle.uds_exchange.specs.declared.orderer.OrderFault.TheVariants as order_fault
+use Rattle.trace_canon.specs.Writing.{text_from, place_after}
+use Rattle.trace_canon.specs.declared.canonical_sink.CanonicalSink.{CanonicalSink}
+use Rattle.trace_canon.proofs.CanonicalWriting.{text_none, place_none, text_append, place_append}
+
+module _ {S : Type 0} (says : S → List ℕ → S → Type 0) (nothing : (s : S) → says s [] s)
+    (onward : (s m t : S) (a b : List ℕ) → says s a m → says m b t → says s (a ++ b) t) where
+  -- the lines of a message were said
+  abbrev pub SaysOne : CanonicalSink S → Dir → List ℕ → CanonicalSink S → Type 0
+  SaysOne s d m t =
+      (t.out.ghost_name ≡ s.out.ghost_name) × (t.place.ghost_name ≡ s.place.ghost_name) × (t.config ≡ s.config)
+      × (t.place.now ≡ place_after s.config s.place.now (canonical_frames MESSAGE_LIMIT d m))
+      × says s.out.now (text_from s.config s.place.now (canonical_frames MESSAGE_LIMIT d m)) t.out.now
+
+  -- the lines of messages were said
+  pub record SaidAll (s : CanonicalSink S) (put : List Message) (t : CanonicalSink S) : Type 0 where
+    pub same_out : t.out.ghost_name ≡ s.out.ghost_name
+    pub same_place : t.place.ghost_name ≡ s.place.ghost_name
+    pub settings : t.config ≡ s.config
+    pub place : t.place.now ≡ place_after s.config s.place.now (all_frames MESSAGE_LIMIT put)
+    pub said : says s.out.now (text_from s.config s.place.now (all_frames MESSAGE_LIMIT put)) t.out.now
+
+  pub said_all : (put : List Message) (s t : CanonicalSink S) → Puts SaysOne s put t → SaidAll s put t
+  said_all [] s t is = subst (SaidAll s []) (sym is) (record {
+    same_out = refl;
+    same_place = refl;
+    settings = refl;
+    place = sym (place_none s.config s.place.now);
+    said = subst (λ x. says s.out.now x s.out.now) (sym (text_none s.config s.place.now)) (nothing s.out.now);
+  })
+  said_all (message ∷ later) s t (between, one, rest) =
+      let after = said_all later between t rest in
+      let first = canonical_frames MESSAGE_LIMIT message.0 message.1 in
+      let more = all_frames MESSAGE_LIMIT later in
+      let same = one.2 in
+      let at = one.3 in
+      let here : text_from between.config between.place.now more ≡ text_from s.config (place_after s.config s.place.now first) more =
+      ap (λ c. text_from c between.place.now more) same ∙ ap (λ p. text_from s.config p more) at in
+      record {
+        same_out = after.same_out ∙ one.0;
+        same_place = after.same_place ∙ one.1;
+        settings = after.settings ∙ same;
+        place = after.place ∙ ap (λ c. place_after c between.place.now more) same ∙ ap (λ p. place_after s.config p more) at
+            ∙ sym (place_append s.config s.place.now first more);
+        said = subst (λ x. says s.out.now x t.out.now) (sym (text_append s.config s.place.now first more))
+            (onward s.out.now between.out.now t.out.now (text_from s.config s.place.now first) (text_from s.config (place_after s.config s.place.now first) more) one.4
+            (subst (λ x. says between.out.now x t.out.now) here after.said));
+      }
+
+-- a sink that never fails is no reason to stop
+pub never_stops : {K E Goal : Type 0} (after_ok : AfterOk K) (put : List Message) (s t : K) (why : OrderFault E) → StopsHeld after_ok (λ s d m e t. ⊥) put s t why → Goal
+never_stops after_ok put s t order_fault.Memory stops = absurd stops
+never_stops after_ok put s t (order_fault.Sink why) (front, next, rest, between, parts, puts, err) = absurd err
+
+-- so where an orderer stops, memory was refused
+pub stops_for_memory : {K E Goal : Type 0} (after_ok : AfterOk K) (M : List Message) (message : Message) (s t : K) (why : OrderFault E)
+    → StopsDue after_ok (λ s d m e t. ⊥) M message s t why → (why ≡ order_fault.Memory → Goal) → Goal
+stops_for_memory after_ok M message s t order_fault.Memory stops by = by refl
+stops_for_memory after_ok M message s t (order_fault.Sink why) (due, is, (front, next, rest, between, parts, puts, err)) by = absurd err

@@ -1,0 +1,204 @@
+-- What is told of a log by its canonical lines is the text of the messages that are early.
+use Rattle.std.specs.Prelude.{OnOk, IfOk, if◌then◌else◌}
+use Rattle.direction.specs.Dir.{Message}
+use Rattle.trace_canon.specs.CanonicalLog.{canonical_log, log_of_frames, canonical_log_of_lines, early_text, fitting}
+use Rattle.trace_canon.specs.Laws.{IsCanonicalFor, Records, Certifies}
+use Rattle.trace_canon.specs.Settings.{AreSettings, Settings}
+use Rattle.trace_canon.proofs.ReadAgain.{written_is_canonical, written_of_recording, answer_certifies}
+use Rattle.std.proofs.Common.{arith, ◌≡◌, Bool, true, false, refl, subst, Option, Ok, Err, ◌≤◌, ◌<◌, ℕ, List, [], ◌∷◌, ◌++◌, length, drop, ap, sym, ◌∙◌, append-nil, append_assoc, Result}
+use Rattle.std.proofs.Math.Seq.{drop-append_seam}
+use Rattle.can_log.specs.declared.frame.Stamped.{Stamped}
+use Rattle.isotp_receive.specs.declared.TheConstants.{MESSAGE_LIMIT}
+use Rattle.isotp_receive.specs.Trace.{Entry}
+use Rattle.isotp_receive.specs.Verdict.{messages, told_message, verdict}
+use Rattle.isotp_segment.specs.Timed.{all_frames}
+use Rattle.uds_exchange.specs.Order.{early, held}
+use Rattle.uds_exchange.specs.Orderer.{OrdererValue}
+use Rattle.uds_exchange.specs.Meaning.{meaning, flattened}
+use Rattle.uds_exchange.proofs.Promises.{early_grows, early_then_held}
+use Rattle.trace_canon.specs.CanonicalScript.{StandsCanonical, is_too_long, answers_canonical, CanonicalTellsTheSame, canonical_script, place_of, lines_due, text_of_early, CanonicalTellsEarly}
+use Rattle.trace_canon.specs.Told.{told_after, told, told_of_lines, whole_of_lines, EndsWith, WritesTold, WritesFrontOfTold, TellsEagerly}
+use Rattle.trace_canon.specs.Writing.{Place, start_of, text_from, place_after}
+use Rattle.trace_canon.proofs.CanonicalWriting.{text_none, text_append, place_append}
+use Rattle.trace_canon.proofs.OneMoreFrame.{messages_more}
+use Rattle.trace_canon.proofs.Texts.{all_frames-append, fitting_frames, fitting_log_begins}
+use Rattle.trace_canon.proofs.Answered.{answers_accepted, answers_output_limit}
+use Rattle.trace_canon.proofs.FittingLines.{over_when, within_when}
+use Rattle.trace_canon.proofs.Tellings.{front_of_whole}
+use Rattle.trace_canon.specs.declared.fault.Fault.{Fault}
+use Rattle.trace_canon.specs.declared.fault.Fault.TheVariants.{BadLine, Oversize, LogLimit, OutputLimit, Read, Write, Memory}
+use Rattle.trace_canon.specs.declared.machine.Stop.TheVariants as end_stop
+use Rattle.trace_canon.specs.declared.summary.Summary.{Summary}
+use Rattle.trace_canon.specs.Answers.{Answers, WritesFront, WritesEagerly}
+use Rattle.trace_canon.specs.LinesRead.{WritesTextOfRead}
+use Rattle.trace_canon.specs.Refusal.{announces_within}
+use Rattle.trace_canon.specs.Summing.{summary_of}
+use Rattle.trace_canon.specs.Trace.{trace}
+
+module _ (settings : Settings) where
+  one_more : (T : List Entry) (e : Entry)
+      → text_of_early settings T ++ lines_due settings (messages MESSAGE_LIMIT T) (messages MESSAGE_LIMIT (T ++ e ∷ [])) ≡ text_of_early settings (T ++ e ∷ [])
+  one_more T e =
+      let M = messages MESSAGE_LIMIT T in
+      let grows = early_grows M (told_message e.dir (verdict MESSAGE_LIMIT T e).verdict) in
+      let longer : early (messages MESSAGE_LIMIT (T ++ e ∷ [])) ≡ early M ++ grows.0 = ap early (messages_more MESSAGE_LIMIT T e) ∙ grows.1 in
+      let left : drop (length (early M)) (early (messages MESSAGE_LIMIT (T ++ e ∷ []))) ≡ grows.0 = ap (drop (length (early M))) longer ∙ drop-append_seam (early M) grows.0 in
+      let begin = start_of settings.max_bytes in
+      ap (λ due. text_of_early settings T ++ text_from settings (place_of settings (early M)) (all_frames MESSAGE_LIMIT due)) left
+      ∙ sym (text_append settings begin (all_frames MESSAGE_LIMIT (early M)) (all_frames MESSAGE_LIMIT grows.0))
+      ∙ ap (text_from settings begin) (sym (all_frames-append MESSAGE_LIMIT (early M) grows.0))
+      ∙ ap (λ x. text_from settings begin (all_frames MESSAGE_LIMIT x)) (sym longer)
+
+  from_there : (past xs : List Entry) → text_of_early settings past ++ told_after ((canonical_script settings).word) past xs ≡ text_of_early settings (past ++ xs)
+  from_there past [] = append-nil (text_of_early settings past) ∙ ap (text_of_early settings) (sym (append-nil past))
+  from_there past (e ∷ rest) =
+      let word = lines_due settings (messages MESSAGE_LIMIT past) (messages MESSAGE_LIMIT (past ++ e ∷ [])) in
+      let later = told_after ((canonical_script settings).word) (past ++ e ∷ []) rest in
+      sym (append_assoc (text_of_early settings past) word later) ∙ ap (λ x. x ++ later) (one_more past e) ∙ from_there (past ++ e ∷ []) rest
+      ∙ ap (text_of_early settings) (append_assoc past (e ∷ []) rest)
+
+pub canonical_tells_early : CanonicalTellsEarly
+canonical_tells_early settings T =
+    ap (λ x. x ++ told ((canonical_script settings).word) T) (sym (text_none settings (start_of settings.max_bytes))) ∙ from_there settings [] T
+
+-- where the text stands at the end
+pub place_at_end : (settings : Settings) (M : List Message)
+    → place_after settings (place_of settings (early M)) (all_frames MESSAGE_LIMIT (held M)) ≡ place_of settings (flattened (meaning M))
+place_at_end settings M =
+    let begin = start_of settings.max_bytes in
+    sym (place_append settings begin (all_frames MESSAGE_LIMIT (early M)) (all_frames MESSAGE_LIMIT (held M)))
+    ∙ ap (place_after settings begin) (sym (all_frames-append MESSAGE_LIMIT (early M) (held M))) ∙ ap (place_of settings) (early_then_held M)
+
+-- a line did not fit
+pub over_at_end : (settings config : Settings) (T : List Entry) (orderer : OrdererValue) (place after : Place) → StandsCanonical settings T orderer config place
+    → after ≡ place_after config place (all_frames MESSAGE_LIMIT (held (messages MESSAGE_LIMIT T))) → after.is_over ≡ is_too_long settings T
+over_at_end settings config T orderer place after stands at =
+    let frames = all_frames MESSAGE_LIMIT (held (messages MESSAGE_LIMIT T)) in
+    ap (λ (p : Place). p.is_over)
+    (at ∙ ap (λ s. place_after s place frames) stands.same ∙ ap (λ p. place_after settings p frames) stands.at ∙ place_at_end settings (messages MESSAGE_LIMIT T))
+
+-- what was said of messages is what fits of their canonical log
+said_fits : (settings : Settings) (put : List Message) → text_from settings (start_of settings.max_bytes) (all_frames MESSAGE_LIMIT put) ≡ fitting settings (canonical_log MESSAGE_LIMIT settings put)
+unfolding text_from canonical_log
+said_fits settings put = sym (fitting_frames settings (all_frames MESSAGE_LIMIT put))
+
+-- it is too long where a line did not fit
+long_when : (settings : Settings) (put : List Message) → (place_of settings put).is_over ≡ true → settings.max_bytes < length (canonical_log MESSAGE_LIMIT settings put)
+unfolding canonical_log log_of_frames
+long_when settings put over = over_when settings (start_of settings.max_bytes) (all_frames MESSAGE_LIMIT put) refl over
+
+whole_when : (settings : Settings) (put : List Message) → (place_of settings put).is_over ≡ false
+    → (length (canonical_log MESSAGE_LIMIT settings put) ≤ settings.max_bytes)
+    × (text_from settings (start_of settings.max_bytes) (all_frames MESSAGE_LIMIT put) ≡ canonical_log MESSAGE_LIMIT settings put)
+unfolding canonical_log log_of_frames
+whole_when settings put within = within_when settings (start_of settings.max_bytes) (all_frames MESSAGE_LIMIT put) refl within
+
+module _ (settings : Settings) where
+  early_is : (meanings : List (Option Stamped)) → told_of_lines (canonical_script settings) settings meanings ≡ early_text MESSAGE_LIMIT settings meanings
+  early_is meanings = canonical_tells_early settings (trace settings meanings) ∙ said_fits settings (early (messages MESSAGE_LIMIT (trace settings meanings)))
+
+  whole_said : (meanings : List (Option Stamped)) → whole_of_lines (canonical_script settings) MESSAGE_LIMIT settings meanings
+      ≡ text_from settings (start_of settings.max_bytes) (all_frames MESSAGE_LIMIT (flattened (meaning (messages MESSAGE_LIMIT (trace settings meanings)))))
+  whole_said meanings =
+      let M = messages MESSAGE_LIMIT (trace settings meanings) in
+      let begin = start_of settings.max_bytes in
+      ap (λ x. x ++ text_from settings (place_of settings (early M)) (all_frames MESSAGE_LIMIT (held M))) (canonical_tells_early settings (trace settings meanings))
+      ∙ sym (text_append settings begin (all_frames MESSAGE_LIMIT (early M)) (all_frames MESSAGE_LIMIT (held M)))
+      ∙ ap (text_from settings begin) (sym (all_frames-append MESSAGE_LIMIT (early M) (held M)))
+      ∙ ap (λ x. text_from settings begin (all_frames MESSAGE_LIMIT x)) (early_then_held M)
+
+  whole_is : (meanings : List (Option Stamped)) → whole_of_lines (canonical_script settings) MESSAGE_LIMIT settings meanings ≡ fitting settings (canonical_log_of_lines MESSAGE_LIMIT settings meanings)
+  whole_is meanings = whole_said meanings ∙ said_fits settings (flattened (meaning (messages MESSAGE_LIMIT (trace settings meanings))))
+
+  texts : told_of_lines (canonical_script settings) settings ≡ early_text MESSAGE_LIMIT settings
+  texts = λ i meanings. early_is meanings i
+
+  module _ (log : List ℕ) (given : ℕ) (old new : List ℕ) where
+    writes_early : (why : Fault) → WritesTold (canonical_script settings) MESSAGE_LIMIT settings log given why old new
+        → WritesTextOfRead (announces_within MESSAGE_LIMIT settings) (early_text MESSAGE_LIMIT settings) settings log given why old new
+    writes_early why wrote = subst (λ text. WritesTextOfRead (announces_within MESSAGE_LIMIT settings) text settings log given why old new) texts wrote
+
+    writes_front : (why : Fault) → WritesFrontOfTold (canonical_script settings) MESSAGE_LIMIT settings log given why old new → WritesFront MESSAGE_LIMIT settings log given why old new
+    writes_front why wrote =
+        let begins = fitting_log_begins MESSAGE_LIMIT settings (flattened (meaning (messages MESSAGE_LIMIT (trace settings wrote.meanings)))) in
+        record {
+          meanings = wrote.meanings;
+          read = wrote.read;
+          written = wrote.written;
+          missing = wrote.missing ++ begins.0;
+          wrote = wrote.wrote;
+          front = begins.1 ∙ ap (λ x. x ++ begins.0) (sym (whole_is wrote.meanings) ∙ wrote.front) ∙ append_assoc wrote.written wrote.missing begins.0;
+        }
+
+    writes_eagerly_told : TellsEagerly (canonical_script settings) MESSAGE_LIMIT settings log given old new → WritesEagerly MESSAGE_LIMIT settings log given old new
+    writes_eagerly_told eager =
+        record { meanings = eager.meanings; read = eager.read; more = eager.more; wrote = eager.wrote ∙ ap (λ text. old ++ (text ++ eager.more)) (early_is eager.meanings) }
+
+    ends_well : (summary : Summary) → EndsWith (canonical_script settings) (answers_canonical settings) MESSAGE_LIMIT settings log given (Ok summary) old new
+        → Answers MESSAGE_LIMIT settings log given (Ok summary) old new
+    ends_well summary (all, meanings, read, answer, wrote) = by (is_too_long settings (trace settings meanings)) refl
+      where
+        by : (b : Bool) → is_too_long settings (trace settings meanings) ≡ b → Answers MESSAGE_LIMIT settings log given (Ok summary) old new
+        by true is =
+            let same : Ok summary ≡ Err end_stop.OutputLimit =
+            answer ∙ ap (λ (b : Bool). if b then Err end_stop.OutputLimit else Ok (summary_of MESSAGE_LIMIT settings meanings)) is in
+            absurd (cc same)
+        by false is =
+            let same : Ok summary ≡ Ok (summary_of MESSAGE_LIMIT settings meanings) =
+            answer ∙ ap (λ (b : Bool). if b then Err end_stop.OutputLimit else Ok (summary_of MESSAGE_LIMIT settings meanings)) is in
+            let counted : summary ≡ summary_of MESSAGE_LIMIT settings meanings = cc same in
+            let fits = whole_when settings (flattened (meaning (messages MESSAGE_LIMIT (trace settings meanings)))) is in
+            subst (λ s. Answers MESSAGE_LIMIT settings log given (Ok s) old new) (sym counted)
+            (answers_accepted MESSAGE_LIMIT settings log given meanings old new read fits.0 (wrote ∙ ap (λ x. old ++ x) (whole_said meanings ∙ fits.1)))
+
+    ends_over : EndsWith (canonical_script settings) (answers_canonical settings) MESSAGE_LIMIT settings log given (Err end_stop.OutputLimit) old new
+        → Answers MESSAGE_LIMIT settings log given (Err OutputLimit) old new
+    ends_over (all, meanings, read, answer, wrote) = by (is_too_long settings (trace settings meanings)) refl
+      where
+        by : (b : Bool) → is_too_long settings (trace settings meanings) ≡ b → Answers MESSAGE_LIMIT settings log given (Err OutputLimit) old new
+        by false is =
+            let same : Err end_stop.OutputLimit ≡ Ok (summary_of MESSAGE_LIMIT settings meanings) =
+            answer ∙ ap (λ (b : Bool). if b then Err end_stop.OutputLimit else Ok (summary_of MESSAGE_LIMIT settings meanings)) is in
+            absurd (cc same)
+        by true is =
+            answers_output_limit MESSAGE_LIMIT settings log given meanings old new read all (long_when settings (flattened (meaning (messages MESSAGE_LIMIT (trace settings meanings)))) is)
+            (wrote ∙ ap (λ x. old ++ x) (whole_is meanings))
+
+pub canonical_tells_the_same : CanonicalTellsTheSame
+canonical_tells_the_same settings log given (Ok summary) old new ends eager = ends_well settings log given old new summary ends
+canonical_tells_the_same settings log given (Err OutputLimit) old new ends eager = ends_over settings log given old new ends
+canonical_tells_the_same settings log given (Err (BadLine line column)) old new (why, wrote) eager = (why, writes_early settings log given old new (BadLine line column) wrote)
+canonical_tells_the_same settings log given (Err (Oversize line announced)) old new (why, wrote) eager = (why, writes_early settings log given old new (Oversize line announced) wrote)
+canonical_tells_the_same settings log given (Err LogLimit) old new (why, wrote) eager = (why, writes_early settings log given old new LogLimit wrote)
+canonical_tells_the_same settings log given (Err Read) old new wrote eager = (tt, writes_early settings log given old new Read wrote)
+canonical_tells_the_same settings log given (Err Write) old new (wrote, why) eager = (tt, (writes_front settings log given old new Write wrote, writes_eagerly_told settings log given old new eager))
+canonical_tells_the_same settings log given (Err Memory) old new wrote eager = (
+  tt,
+  (
+    writes_front settings log given old new Memory (front_of_whole (canonical_script settings) MESSAGE_LIMIT settings log given Memory old new wrote),
+    writes_eagerly_told settings log given old new eager,
+  ),
+)
+
+-- ---- the canonical log again
+
+pub canonical_again : (settings : Settings) (log : List ℕ) (given : ℕ) (result : Result Summary Fault) (old new : List ℕ) → AreSettings settings
+    → Answers MESSAGE_LIMIT settings log given result old new → OnOk result ((text : List ℕ) → new ≡ old ++ text → IsCanonicalFor MESSAGE_LIMIT settings log text)
+canonical_again settings log given (Ok summary) old new are answers = λ text wrote.
+    written_is_canonical MESSAGE_LIMIT settings log given old new text summary (record { least = omega arith; most = omega arith }) are answers wrote
+canonical_again settings log given (Err why) old new are answers = tt
+
+-- for a recording of messages the canonical log of their meaning was written
+pub recording_again : (settings : Settings) (log : List ℕ) (given : ℕ) (result : Result Summary Fault) (old new : List ℕ)
+    → Answers MESSAGE_LIMIT settings log given result old new
+    → OnOk result ((M : List Message) → Records MESSAGE_LIMIT settings log M → new ≡ old ++ canonical_log MESSAGE_LIMIT settings (flattened (meaning M)))
+recording_again settings log given (Ok summary) old new answers = λ M records.
+    written_of_recording MESSAGE_LIMIT settings log given old new summary M answers records
+recording_again settings log given (Err why) old new answers = tt
+
+-- the summary certifies
+pub answer_is_certificate : (settings : Settings) (log : List ℕ) (given : ℕ) (result : Result Summary Fault) (old new : List ℕ)
+    → Answers MESSAGE_LIMIT settings log given result old new → IfOk result (λ summary. Certifies MESSAGE_LIMIT settings log summary)
+answer_is_certificate settings log given (Ok summary) old new answers =
+    answer_certifies MESSAGE_LIMIT settings log given old new summary (omega arith) answers
+answer_is_certificate settings log given (Err why) old new answers = tt

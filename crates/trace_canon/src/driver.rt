@@ -1,0 +1,284 @@
+//! A log told by a machine: the one place where a command reads, writes and fails.
+ghost use Rattle.std.specs.Prelude.{◌≡◌, ℕ, ◌^◌, ◌<◌, ◌≤◌, List, [], ◌∷◌, ◌++◌, length, OnOk, OnErr, Option, false};
+ghost use Rattle.can_log.specs.declared.frame.Stamped.{Stamped as StampedValue};
+ghost use Rattle.isotp_receive.specs.declared.TheConstants.{MESSAGE_LIMIT};
+ghost use Rattle.isotp_receive.specs.EventSeen.{seen_event, seen_verdict};
+ghost use Rattle.isotp_receive.specs.StandingReception.{receptions_after};
+ghost use Rattle.isotp_receive.specs.Events.{announced_by};
+ghost use Rattle.isotp_receive.specs.Trace.{Entry};
+ghost use Rattle.isotp_receive.specs.Verdict.{verdict};
+ghost use Rattle.trace_io.specs.Counted.{IsLowCount, AreLowCounts};
+ghost use Rattle.trace_canon.specs.Carrying.{Begins, Carries, Speaks, Tells, EndsTelling, GivesUp, stops_for};
+ghost use Rattle.trace_canon.specs.LeftOut.{CountsRemoved};
+ghost use Rattle.trace_canon.specs.Receiving.{Receives};
+ghost use Rattle.trace_canon.specs.Settings.{Settings};
+ghost use Rattle.trace_canon.specs.Told.{Ran};
+ghost use Rattle.trace_canon.specs.Trace.{trace};
+
+use crate::config::Config;
+use crate::fault::Fault;
+use crate::feed::{FeedFault, feed_lines};
+use crate::lines::LineFault;
+use crate::machine::{Machine, Stop};
+use crate::page::{Drain, Page, settle};
+use crate::pending::Pending;
+use crate::receiver::{EventTaker, Receiver};
+use crate::summary::Summary;
+use crate::summing::sum_up;
+use direction::Dir;
+use isotp_receive::{Event, Pair, Reason, Verdict};
+use std::alloc::{AllocError, Global};
+use std::marker::PhantomData;
+use trace_io::{Source, Target};
+
+/// Reads a log, hands a machine what each frame did and the end, and writes what it says, as it comes.
+///
+/// The target is not flushed.
+pub fn run<M: Machine + Drop, R: Source, W: Target>(
+    alloc: Global,
+    config: &Config,
+    machine: M,
+    reader: &mut R,
+    writer: &mut W,
+) -> Result<M::Answer, Fault>
+    requires machine { M.stands machine [] machine }
+    requires reader { AreLowCounts (R.reads reader.old) (length (R.given reader.old)) (R.failures reader.old) }
+    requires writer { IsLowCount (W.failures writer.old) }
+    ensures ran { Ran R.Source W.Target (M.script machine) (M.answers machine) (M.needs machine) MESSAGE_LIMIT config.now reader.old writer.old result reader.new writer.new }
+{
+    let pair = Pair::new(alloc);
+    let mut receiver = Receiver::start(config, pair, Telling::start(machine));
+    match feed_lines(config.max_bytes(), reader, &mut receiver, writer) {
+        Ok(()) => finish(receiver, writer),
+        Err(fault) => Err(give_up(fault, writer, &mut receiver.taker.page)),
+    }
+}
+
+/// Why a frame was not told.
+#[derive(Clone, Copy, Debug)]
+pub(crate) enum TellingFault {
+    /// A first frame in this line announces this many bytes, more than a message may have.
+    Oversize { line: u64, announced: u32 },
+    /// Memory was refused.
+    Memory,
+}
+
+/// Writes what was said before a fault of the lines, and answers what that is called.
+fn give_up<W: Target>(fault: FeedFault<TellingFault>, target: &mut W, page: &mut Page) -> Fault
+    ensures { GivesUp W.Target fault page.old.failed page.old.block target.old result target.new }
+{
+    match fault {
+        FeedFault::Rest => Fault::Write,
+        FeedFault::Lines(LineFault::Read) => Fault::Read,
+        FeedFault::Lines(LineFault::LogLimit) => Fault::LogLimit,
+        FeedFault::Lines(LineFault::BadLine { line, column }) => {
+            if settle(target, page) {
+                Fault::BadLine { line, column }
+            } else {
+                Fault::Write
+            }
+        }
+        FeedFault::Lines(LineFault::Taker(TellingFault::Oversize { line, announced })) => {
+            if settle(target, page) {
+                Fault::Oversize { line, announced }
+            } else {
+                Fault::Write
+            }
+        }
+        FeedFault::Lines(LineFault::Taker(TellingFault::Memory)) => {
+            if settle(target, page) {
+                Fault::Memory
+            } else {
+                Fault::Write
+            }
+        }
+    }
+}
+
+/// A machine, the page that it writes on, and the count of the replies that a canonical log leaves out.
+#[derive(Drop)]
+pub(crate) struct Telling<M, W> {
+    pub machine: M,
+    pub pending: Pending,
+    pub page: Page,
+    pub target: PhantomData<W>,
+}
+
+impl<M, W> Telling<M, W> {
+    ghost use Rattle.std.specs.Prelude.{◌≡◌, [], false};
+    ghost use Rattle.trace_canon.specs.LeftOut.{CountsRemoved};
+
+    /// Before the first event.
+    fn start(machine: M) -> Telling<M, W>
+        ensures machine { result.machine ≡ machine }
+        ensures removed { CountsRemoved [] result.pending }
+        ensures well { result.page.failed ≡ false }
+        ensures blank { result.page.block ≡ [] }
+    {
+        Telling {
+            machine,
+            pending: Pending::start(),
+            page: Page::new(),
+            target: PhantomData,
+        }
+    }
+}
+
+impl<M: Machine, W: Target> EventTaker for Telling<M, W> {
+    ghost use Rattle.std.specs.Prelude.{◌≡◌, ◌≤◌, ◌^◌, [], true, false};
+    ghost use Rattle.trace_canon.specs.Carrying.{IsTellingStart, Tells, StopsTelling, WroteTold};
+
+    type Fault = TellingFault;
+
+    type Device = W;
+
+    ghost took = { λ s T t. IsTellingStart (M.stands s.0.machine [] s.0.machine) s.0.pending s.0.page.failed s.0.page.block → W.failures s.1 ≤ 2 ^ 62
+        → Tells (M.stands s.0.machine) W.Target (M.script s.0.machine) s.1 T t.0.machine t.0.pending t.0.page.failed t.0.page.block t.1 };
+
+    ghost sure = { λ s T t. IsTellingStart (M.stands s.0.machine [] s.0.machine) s.0.pending s.0.page.failed s.0.page.block → W.failures s.1 ≤ 2 ^ 62
+        → WroteTold W.Target (M.script s.0.machine) s.1 T t.0.page.failed t.0.page.block t.1 };
+
+    ghost rested = { λ s T t. IsTellingStart (M.stands s.0.machine [] s.0.machine) s.0.pending s.0.page.failed s.0.page.block → W.failures s.1 ≤ 2 ^ 62
+        → Tells (M.stands s.0.machine) W.Target (M.script s.0.machine) s.1 T t.0.machine t.0.pending false [] t.1 };
+
+    ghost broke = { λ s T t. IsTellingStart (M.stands s.0.machine [] s.0.machine) s.0.pending s.0.page.failed s.0.page.block → W.failures s.1 ≤ 2 ^ 62
+        → Tells (M.stands s.0.machine) W.Target (M.script s.0.machine) s.1 T t.0.machine t.0.pending true [] t.1 };
+
+    ghost stopped = { λ s T e fault t. IsTellingStart (M.stands s.0.machine [] s.0.machine) s.0.pending s.0.page.failed s.0.page.block → W.failures s.1 ≤ 2 ^ 62
+        → StopsTelling W.Target (M.script s.0.machine) (M.needs s.0.machine) s.1 T e fault t.0.page.failed t.0.page.block t.1 };
+
+    fn rest(&mut self, device: &mut W) -> bool {
+        settle(device, &mut self.page)
+    }
+
+    #[inline(always)]
+    fn take(
+        &mut self,
+        device: &mut W,
+        line: u64,
+        dir: Dir,
+        event: Event<'_>,
+    ) -> Result<(), TellingFault> {
+        self.pending.take(dir, event.verdict);
+        match refusal(self.machine.is_strict(), event.verdict) {
+            Some(announced) => Err(TellingFault::Oversize { line, announced }),
+            None => match tell(&mut self.machine, device, &mut self.page, line, dir, event) {
+                Ok(()) => Ok(()),
+                Err(_refused) => Err(TellingFault::Memory),
+            },
+        }
+    }
+
+    fn refused(&self, _device: &W) -> TellingFault {
+        TellingFault::Memory
+    }
+}
+
+/// The length that a frame announced, where a run stops for that.
+#[inline(always)]
+fn refusal(strict: bool, verdict: Verdict<'_>) -> Option<u32>
+    ensures { result ≡ stops_for strict (seen_verdict verdict.entry) }
+{
+    if !strict {
+        return None;
+    }
+    match verdict {
+        Verdict::Dropped(reason) => announced(reason),
+        Verdict::Message(_) | Verdict::Began | Verdict::Stored | Verdict::Flow => None,
+    }
+}
+
+/// The length that a dropped frame announced, where it was dropped for that.
+fn announced(reason: Reason) -> Option<u32>
+    ensures { result ≡ announced_by reason }
+{
+    match reason {
+        Reason::TooLong { announced } => Some(announced),
+        Reason::Pdu(_)
+        | Reason::FlowUnexpected
+        | Reason::NextUnexpected
+        | Reason::NextLate
+        | Reason::NextSequence { .. }
+        | Reason::NextLength => None,
+    }
+}
+
+/// Has the machine say what it says of an event.
+#[inline(always)]
+fn tell<M: Machine, W: Target>(
+    machine: &mut M,
+    target: &mut W,
+    page: &mut Page,
+    line: u64,
+    dir: Dir,
+    event: Event<'_>,
+) -> Result<(), AllocError>
+    ensures ok { OnOk result ((start : M) (T : List Entry) (e : Entry) → e.line ≡ line → e.dir ≡ dir → length T < 2 ^ 62
+        → seen_event event.entry ≡ verdict MESSAGE_LIMIT T e → M.stands start T machine.old
+        → M.stands start (T ++ e ∷ []) machine.new
+        × Speaks W.Target page.old.failed page.old.block target.old ((M.script start).word T e) page.new.failed page.new.block target.new) }
+    ensures err { OnErr result ((start : M) (T : List Entry) → M.stands start T machine.old
+        → Speaks W.Target page.old.failed page.old.block target.old [] page.new.failed page.new.block target.new) }
+    ensures needs { OnErr result ((start : M) (T : List Entry) (e : Entry) → e.dir ≡ dir → seen_event event.entry ≡ verdict MESSAGE_LIMIT T e
+        → M.stands start T machine.old → M.needs start T e) }
+{
+    let mut out = Drain { target, page };
+    match machine.event(line, dir, event, &mut out) {
+        Ok(()) => Ok(()),
+        Err(refused) => Err(refused),
+    }
+}
+
+/// Has the machine say what it says at the end, and answer.
+fn tell_end<M: Machine, W: Target>(
+    machine: M,
+    target: &mut W,
+    page: &mut Page,
+    pair: &Pair,
+    summary: &Summary,
+) -> Result<M::Answer, Stop>
+    ensures says { (start : M) (T : List Entry) → M.stands start T machine → pair.now.receptions ≡ receptions_after MESSAGE_LIMIT T
+        → Speaks W.Target page.old.failed page.old.block target.old ((M.script start).last T summary.now) page.new.failed page.new.block target.new }
+    ensures answered { (start : M) (T : List Entry) → M.stands start T machine → M.answers start T summary.now result }
+{
+    let mut out = Drain { target, page };
+    machine.end(pair, summary, &mut out)
+}
+
+/// Writes what is said at the end, and answers.
+fn finish<M: Machine, W: Target>(
+    receiver: Receiver<Telling<M, W>>,
+    target: &mut W,
+) -> Result<M::Answer, Fault>
+    ensures ends { (start : W) (first : M) (settings : Settings) (meanings : List (Option StampedValue))
+        → Receives settings meanings receiver.pair receiver.lines receiver.counts
+        → Tells (M.stands first) W.Target (M.script first) start (trace settings meanings) receiver.taker.machine receiver.taker.pending
+        receiver.taker.page.failed receiver.taker.page.block target.old
+        → EndsTelling W.Target (M.script first) (M.answers first) start settings meanings result target.new }
+    ensures more { (mid : W) (said : List ℕ) (first : M) (settings : Settings) (meanings : List (Option StampedValue))
+        → Receives settings meanings receiver.pair receiver.lines receiver.counts → M.stands first (trace settings meanings) receiver.taker.machine
+        → Carries W.Target mid said receiver.taker.page.failed receiver.taker.page.block target.old → Begins (W.taken mid) (W.taken target.new) }
+{
+    let Receiver {
+        pair,
+        lines,
+        counts,
+        taker,
+        ..
+    } = receiver;
+    let Telling {
+        machine,
+        pending,
+        mut page,
+        ..
+    } = taker;
+    let summary = sum_up(&pair, lines, counts, pending.count);
+    let answer = tell_end(machine, target, &mut page, &pair, &summary);
+    if !settle(target, &mut page) {
+        return Err(Fault::Write);
+    }
+    match answer {
+        Ok(value) => Ok(value),
+        Err(Stop::OutputLimit) => Err(Fault::OutputLimit),
+    }
+}

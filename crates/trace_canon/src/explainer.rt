@@ -1,0 +1,264 @@
+//! `explain`: a machine that says what became of each frame.
+ghost use Rattle.std.specs.Prelude.{◌≡◌, ◌≢◌, ◌-◌, ◌++◌, ℕ, List, [], Some, length, IfOk, IfErr, Err};
+ghost use Rattle.isotp_receive.specs.EventSeen.{seen_event, seen_verdict};
+ghost use Rattle.isotp_receive.specs.Verdict.{dropped};
+ghost use Rattle.isotp_receive.specs.declared.TheConstants.{MESSAGE_LIMIT};
+ghost use Rattle.trace_canon.specs.ExplainText.{reason_line, dropped_line, ended_line, event_text, unfinished_line, unfinished_text, summary_line};
+ghost use Rattle.trace_canon.specs.Answers.{ReadsWhile};
+ghost use Rattle.trace_canon.specs.Devices.{ReadFrom, WroteTo};
+ghost use Rattle.trace_canon.specs.ExplainAnswers.{AnswersExplain};
+ghost use Rattle.trace_canon.specs.Needing.{NeedsMemoryToReceive};
+ghost use Rattle.trace_canon.specs.declared.fault.Fault.TheVariants.{Memory};
+ghost use Rattle.trace_canon.specs.Laws.{Certifies};
+ghost use Rattle.trace_canon.specs.Refusal.{HasNoBadPlaceWithin};
+ghost use Rattle.trace_io.specs.Stream.{Agrees};
+ghost use Rattle.trace_io.specs.Counted.{IsLowCount, AreLowCounts};
+
+use crate::config::Config;
+use crate::driver::run;
+use crate::fault::Fault;
+use crate::machine::{Machine, Stop};
+use crate::names::{cause_name, direction_name, layout_fault_name};
+use crate::parts::Part;
+use crate::say::say_parts;
+use crate::summary::Summary;
+use crate::text_sink::TextSink;
+use direction::Dir;
+use isotp_receive::{Ended, Event, Pair, Reason, Verdict};
+use std::alloc::{AllocError, Global};
+use trace_io::{Source, Target};
+
+/// Reads a log and writes a line for each reception that ended without its message and for each frame that was dropped, as
+/// they come; then the receptions that stand at the end, and the counts.
+///
+/// The target is not flushed.
+pub fn explain<R: Source, W: Target>(
+    alloc: Global,
+    config: &Config,
+    reader: &mut R,
+    writer: &mut W,
+) -> Result<Summary, Fault>
+    requires reader { AreLowCounts (R.reads reader.old) (length (R.given reader.old)) (R.failures reader.old) }
+    requires writer { IsLowCount (W.failures writer.old) }
+
+    // What is answered and written, for each log with which the bytes that were read agree.
+    ensures answer { (log : List ℕ) → Agrees (R.given reader.old) (R.given reader.new) (R.is_over reader.new) log
+        → AnswersExplain MESSAGE_LIMIT config.now log (length (R.given reader.new) - length (R.given reader.old)) result (W.taken writer.old) (W.taken writer.new) }
+
+    // Where nothing was dropped, ended or left unfinished, the log is a recording.
+    ensures certificate { (log : List ℕ) → Agrees (R.given reader.old) (R.given reader.new) (R.is_over reader.new) log → IfOk result (Certifies MESSAGE_LIMIT config.now log) }
+
+    // Reading stops within one piece: there is no refused place among all bytes given but the last 4,096, and none among all
+    // where a read failed.
+    ensures near { (log : List ℕ) → Agrees (R.given reader.old) (R.given reader.new) (R.is_over reader.new) log
+        → ReadsWhile (HasNoBadPlaceWithin log) (length (R.given reader.new) - length (R.given reader.old)) (R.failures reader.old) (R.failures reader.new) }
+
+    // No announced length and no canonical log refuses it.
+    ensures never_oversize { IfErr result (λ fault. (line announced : ℕ) → fault ≢ Fault.Oversize line announced) }
+    ensures never_output_limit { IfErr result (λ fault. fault ≢ Fault.OutputLimit) }
+
+    // Memory is refused only for a log that needs it: for a message of several frames.
+    ensures memory { (log : List ℕ) → Agrees (R.given reader.old) (R.given reader.new) (R.is_over reader.new) log
+        → result ≡ Err Memory → NeedsMemoryToReceive MESSAGE_LIMIT config.now log }
+
+    // What it did with the devices.
+    ensures read { ReadFrom R.Source Fault.Read config.now.max_bytes result reader.old reader.new }
+    ensures wrote { WroteTo W.Target Fault.Write result writer.old writer.new }
+{
+    run(alloc, config, Explainer, reader, writer)
+}
+
+/// Says the lines of each frame.
+#[derive(Drop)]
+struct Explainer;
+
+impl Machine for Explainer {
+    ghost use Rattle.std.specs.Prelude.{⊤};
+    ghost use Rattle.isotp_receive.specs.declared.TheConstants.{MESSAGE_LIMIT};
+    ghost use Rattle.trace_canon.specs.Told.{answers_counts};
+    ghost use Rattle.trace_canon.specs.ExplainScript.{explain_script};
+
+    type Answer = Summary;
+
+    ghost stands = { λ start T now. ⊤ };
+
+    ghost script = { λ start. explain_script MESSAGE_LIMIT };
+
+    ghost answers = { λ start. answers_counts };
+
+    ghost needs = { λ start T e. ⊥ };
+
+    #[inline(always)]
+    fn is_strict(&self) -> bool {
+        false
+    }
+
+    #[inline(always)]
+    fn event<S: TextSink>(
+        &mut self,
+        line: u64,
+        dir: Dir,
+        event: Event<'_>,
+        out: &mut S,
+    ) -> Result<(), AllocError> {
+        say_event(line, dir, event, out);
+        Ok(())
+    }
+
+    fn end<S: TextSink>(
+        self,
+        pair: &Pair,
+        summary: &Summary,
+        out: &mut S,
+    ) -> Result<Summary, Stop> {
+        say_end(pair, summary, out);
+        Ok(*summary)
+    }
+}
+
+/// Says the lines of a frame, which is in this line and was sent by this side.
+fn say_event<S: TextSink>(line: u64, dir: Dir, event: Event<'_>, out: &mut S)
+    ensures { S.says out.old (event_text line dir (seen_event event.entry)) out.new }
+{
+    say_ended(line, event.ended, out);
+    say_dropped(line, dir, event.verdict, out);
+}
+
+/// Says the line of the reception that a frame ended, if it ended one.
+fn say_ended<S: TextSink>(line: u64, ended: Option<Ended>, out: &mut S)
+    ensures { S.says out.old (ended_line line ended) out.new }
+{
+    if let Some(ended) = ended {
+        say_parts(
+            out,
+            &[
+                Part::Text("line "),
+                Part::Number(line),
+                Part::Text(": "),
+                Part::Text(direction_name(ended.dir)),
+                Part::Text(" reception from line "),
+                Part::Number(ended.begun_line),
+                Part::Text(" of "),
+                Part::Number(u64::from(ended.len)),
+                Part::Text(" bytes ended: "),
+                Part::Text(cause_name(ended.cause)),
+                Part::Text("\n"),
+            ],
+        );
+    }
+}
+
+/// Says the line of a frame, if it was dropped.
+fn say_dropped<S: TextSink>(line: u64, dir: Dir, verdict: Verdict<'_>, out: &mut S)
+    ensures { S.says out.old (dropped_line line dir (seen_verdict verdict.entry)) out.new }
+{
+    match verdict {
+        Verdict::Dropped(reason) => say_dropped_line(line, dir, reason, out),
+        Verdict::Message(_) | Verdict::Began | Verdict::Stored | Verdict::Flow => {}
+    }
+}
+
+/// Says the line of a dropped frame.
+fn say_dropped_line<S: TextSink>(line: u64, dir: Dir, reason: Reason, out: &mut S)
+    ensures { S.says out.old (dropped_line line dir (dropped reason)) out.new }
+{
+    say_parts(
+        out,
+        &[
+            Part::Text("line "),
+            Part::Number(line),
+            Part::Text(": "),
+            Part::Text(direction_name(dir)),
+            Part::Text(" frame dropped: "),
+        ],
+    );
+    say_reason(reason, out);
+}
+
+/// Says why a frame was dropped, to the end of its line.
+fn say_reason<S: TextSink>(reason: Reason, out: &mut S)
+    ensures { S.says out.old (reason_line reason) out.new }
+{
+    match reason {
+        Reason::Pdu(fault) => say_parts(
+            out,
+            &[Part::Text(layout_fault_name(fault)), Part::Text("\n")],
+        ),
+        Reason::FlowUnexpected => say_parts(out, &[Part::Text("flow control unexpected\n")]),
+        Reason::NextUnexpected => say_parts(out, &[Part::Text("consecutive frame unexpected\n")]),
+        Reason::NextLate => say_parts(out, &[Part::Text("consecutive frame late\n")]),
+        Reason::NextSequence { expected, found } => say_parts(
+            out,
+            &[
+                Part::Text("sequence number "),
+                Part::Digit(expected),
+                Part::Text(" expected, "),
+                Part::Digit(found),
+                Part::Text(" found\n"),
+            ],
+        ),
+        Reason::NextLength => say_parts(out, &[Part::Text("consecutive frame length\n")]),
+        Reason::TooLong { announced } => say_parts(
+            out,
+            &[
+                Part::Number(u64::from(announced)),
+                Part::Text(" bytes announced\n"),
+            ],
+        ),
+    }
+}
+
+/// Says what follows the lines of all frames: the receptions that stand, the tester's first, and the counts.
+fn say_end<S: TextSink>(pair: &Pair, summary: &Summary, out: &mut S)
+    ensures { S.says out.old (unfinished_text pair.now.receptions ++ summary_line summary.now) out.new }
+{
+    say_unfinished(Dir::Tester, pair.open(Dir::Tester), out);
+    say_unfinished(Dir::Unit, pair.open(Dir::Unit), out);
+    say_summary(summary, out);
+}
+
+/// Says the line of a reception that stands, if one does.
+fn say_unfinished<S: TextSink>(dir: Dir, begun: Option<(u64, u32)>, out: &mut S)
+    ensures { S.says out.old (unfinished_line dir begun) out.new }
+{
+    if let Some((line, len)) = begun {
+        say_parts(
+            out,
+            &[
+                Part::Text("end: "),
+                Part::Text(direction_name(dir)),
+                Part::Text(" reception from line "),
+                Part::Number(line),
+                Part::Text(" of "),
+                Part::Number(u64::from(len)),
+                Part::Text(" bytes unfinished\n"),
+            ],
+        );
+    }
+}
+
+/// Says the line of the counts.
+fn say_summary<S: TextSink>(summary: &Summary, out: &mut S)
+    ensures { S.says out.old (summary_line summary.now) out.new }
+{
+    say_parts(
+        out,
+        &[
+            Part::Text("lines "),
+            Part::Number(summary.lines),
+            Part::Text(" frames "),
+            Part::Number(summary.frames),
+            Part::Text(" messages "),
+            Part::Number(summary.messages),
+            Part::Text(" dropped "),
+            Part::Number(summary.dropped),
+            Part::Text(" ended "),
+            Part::Number(summary.ended),
+            Part::Text(" unfinished "),
+            Part::Number(summary.unfinished),
+            Part::Text(" pending "),
+            Part::Number(summary.pending),
+            Part::Text("\n"),
+        ],
+    );
+}

@@ -1,0 +1,156 @@
+//! `normalise`: a machine that says the canonical log.
+ghost use Rattle.std.specs.Prelude.{◌≡◌, ◌-◌, ◌++◌, ℕ, List, [], length, OnOk, IfOk, Err};
+ghost use Rattle.direction.specs.Dir.{Message};
+ghost use Rattle.isotp_receive.specs.declared.TheConstants.{MESSAGE_LIMIT};
+ghost use Rattle.uds_exchange.specs.Meaning.{meaning, flattened};
+ghost use Rattle.trace_canon.specs.Answers.{Answers, ReadsWhile};
+ghost use Rattle.trace_canon.specs.CanonicalLog.{canonical_log};
+ghost use Rattle.trace_canon.specs.CanonicalScript.{StandsCanonical};
+ghost use Rattle.trace_canon.specs.Devices.{ReadFrom, WroteTo};
+ghost use Rattle.trace_canon.specs.Needing.{NeedsMemoryToOrder};
+ghost use Rattle.trace_canon.specs.declared.fault.Fault.TheVariants.{Memory};
+ghost use Rattle.trace_canon.specs.Laws.{IsCanonicalFor, Records, Certifies};
+ghost use Rattle.trace_canon.specs.Refusal.{IsNotRefusedWithin};
+ghost use Rattle.trace_canon.specs.Settings.{AreSettings};
+ghost use Rattle.trace_io.specs.Stream.{Agrees};
+ghost use Rattle.trace_io.specs.Counted.{IsLowCount, AreLowCounts};
+
+use crate::canonical_sink::{finish_to, order_to};
+use crate::config::Config;
+use crate::driver::run;
+use crate::fault::Fault;
+use crate::machine::{Machine, Stop};
+use crate::place::Place;
+use crate::summary::Summary;
+use crate::text_sink::TextSink;
+use direction::Dir;
+use isotp_receive::{Event, Pair, Verdict};
+use std::alloc::{AllocError, Global};
+use trace_io::{Source, Target};
+use uds_exchange::Orderer;
+
+/// Reads a log and writes the canonical lines of its messages, each as soon as its place is known.
+///
+/// The target is not flushed.
+pub fn normalise<R: Source, W: Target>(
+    alloc: Global,
+    config: &Config,
+    reader: &mut R,
+    writer: &mut W,
+) -> Result<Summary, Fault>
+    requires reader { AreLowCounts (R.reads reader.old) (length (R.given reader.old)) (R.failures reader.old) }
+    requires writer { IsLowCount (W.failures writer.old) }
+
+    // What is answered and written, for each log with which the bytes that were read agree.
+    ensures answer { (log : List ℕ) → Agrees (R.given reader.old) (R.given reader.new) (R.is_over reader.new) log
+        → Answers MESSAGE_LIMIT config.now log (length (R.given reader.new) - length (R.given reader.old)) result (W.taken writer.old) (W.taken writer.new) }
+
+    // What is written is accepted, is its own canonical log, and has the meaning of the log.
+    ensures again { (log : List ℕ) → Agrees (R.given reader.old) (R.given reader.new) (R.is_over reader.new) log
+        → OnOk result ((text : List ℕ) → W.taken writer.new ≡ W.taken writer.old ++ text → IsCanonicalFor MESSAGE_LIMIT config.now log text) }
+
+    // For a recording of messages their meaning's canonical log is written; and a summary that counts nothing dropped,
+    // ended or unfinished certifies that the log is one.
+    ensures recording { (log : List ℕ) → Agrees (R.given reader.old) (R.given reader.new) (R.is_over reader.new) log → OnOk result ((M : List Message) → Records MESSAGE_LIMIT config.now log M
+        → W.taken writer.new ≡ W.taken writer.old ++ canonical_log MESSAGE_LIMIT config.now (flattened (meaning M))) }
+    ensures certificate { (log : List ℕ) → Agrees (R.given reader.old) (R.given reader.new) (R.is_over reader.new) log → IfOk result (λ summary. Certifies MESSAGE_LIMIT config.now log summary) }
+
+    // Reading stops within one piece: of all bytes given but the last 4,096 none refuses the log, and of all where a read
+    // failed.
+    ensures near { (log : List ℕ) → Agrees (R.given reader.old) (R.given reader.new) (R.is_over reader.new) log
+        → ReadsWhile (IsNotRefusedWithin MESSAGE_LIMIT config.now log) (length (R.given reader.new) - length (R.given reader.old)) (R.failures reader.old) (R.failures reader.new) }
+
+    // Memory is refused only for a log that needs it: for a message of several frames, or for one that is held.
+    ensures memory { (log : List ℕ) → Agrees (R.given reader.old) (R.given reader.new) (R.is_over reader.new) log
+        → result ≡ Err Memory → NeedsMemoryToOrder MESSAGE_LIMIT config.now log }
+
+    // What it did with the devices.
+    ensures read { ReadFrom R.Source Fault.Read config.now.max_bytes result reader.old reader.new }
+    ensures wrote { WroteTo W.Target Fault.Write result writer.old writer.new }
+{
+    run(alloc, config, start(alloc, config), reader, writer)
+}
+
+/// A machine before the first message.
+fn start(alloc: Global, config: &Config) -> Canonical
+    ensures settings { result.config ≡ config.now }
+    ensures stands { StandsCanonical config.now [] result.orderer result.config result.place }
+    ensures limits { AreSettings config.now }
+{
+    Canonical {
+        orderer: Orderer::new(alloc),
+        place: Place::start(config),
+        config: *config,
+    }
+}
+
+/// Says the canonical lines of the messages, each as soon as its place is known.
+#[derive(Drop)]
+pub(crate) struct Canonical {
+    pub orderer: Orderer,
+    pub place: Place,
+    pub config: Config,
+}
+
+impl Machine for Canonical {
+    ghost use Rattle.isotp_receive.specs.declared.TheConstants.{MESSAGE_LIMIT};
+    ghost use Rattle.trace_canon.specs.Needing.{CompletesHeld};
+    ghost use Rattle.trace_canon.specs.CanonicalScript.{StandsCanonical, answers_canonical, canonical_script};
+
+    type Answer = Summary;
+
+    ghost stands = { λ start T now. StandsCanonical start.config T now.orderer now.config now.place };
+
+    ghost script = { λ start. canonical_script start.config };
+
+    ghost answers = { λ start. answers_canonical start.config };
+
+    ghost needs = { λ start. CompletesHeld MESSAGE_LIMIT };
+
+    #[inline(always)]
+    fn is_strict(&self) -> bool {
+        true
+    }
+
+    #[inline(always)]
+    fn event<S: TextSink>(
+        &mut self,
+        _line: u64,
+        dir: Dir,
+        event: Event<'_>,
+        out: &mut S,
+    ) -> Result<(), AllocError> {
+        match event.verdict {
+            Verdict::Message(message) => match order_to(
+                &mut self.orderer,
+                &self.config,
+                &mut self.place,
+                out,
+                dir,
+                message,
+            ) {
+                Ok(()) => Ok(()),
+                Err(refused) => Err(refused),
+            },
+            Verdict::Began | Verdict::Stored | Verdict::Flow | Verdict::Dropped(_) => Ok(()),
+        }
+    }
+
+    fn end<S: TextSink>(
+        self,
+        _pair: &Pair,
+        summary: &Summary,
+        out: &mut S,
+    ) -> Result<Summary, Stop> {
+        let Canonical {
+            orderer,
+            mut place,
+            config,
+        } = self;
+        finish_to(orderer, &config, &mut place, out);
+        if place.is_over() {
+            return Err(Stop::OutputLimit);
+        }
+        Ok(*summary)
+    }
+}

@@ -1,0 +1,50 @@
+//! A target for machines that say nothing.
+ghost use Rattle.std.specs.Prelude.{None, [], false, true};
+
+use trace_io::{DeviceFault, Target};
+
+/// Takes nothing: each write fails, and is counted.
+#[derive(Drop)]
+pub(crate) struct Nowhere {
+    failures: u64,
+}
+
+impl Nowhere {
+    ghost use Rattle.std.specs.Prelude.{◌≡◌};
+
+    /// Before the first write.
+    pub(crate) fn new() -> Nowhere
+        ensures { result.failures ≡ 0 }
+    {
+        Nowhere { failures: 0 }
+    }
+}
+
+impl Target for Nowhere {
+    ghost taken = { λ n. [] };
+
+    ghost contents = { λ n. None };
+
+    ghost failures = { λ n. n.failures };
+
+    ghost had_empty_write = { λ n. false };
+
+    ghost is_flushed = { λ n. true };
+
+    fn write(&mut self, _piece: &[u8]) -> Result<usize, DeviceFault> {
+        self.failures += 1;
+        Err(DeviceFault)
+    }
+
+    fn flush(&mut self) -> Result<(), DeviceFault> {
+        Ok(())
+    }
+
+    fn has_taken(&self) -> bool {
+        false
+    }
+
+    fn failures(&self) -> u64 {
+        self.failures
+    }
+}

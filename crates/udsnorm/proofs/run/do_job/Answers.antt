@@ -1,0 +1,10 @@
+use Rattle.udsnorm.proofs.run.do_job.Goals as goal
+
+pub returns-in-Normalise-clause-near : goal.returns-in-Normalise-clause-near
+returns-in-Normalise-clause-near g c = λ log agrees. rw c.in-Normalise.is (c.normalise.ensures.near log agrees)
+
+pub returns-in-List-clause-near : goal.returns-in-List-clause-near
+returns-in-List-clause-near g c = λ log agrees. rw c.in-List.is (c.list.ensures.near log agrees)
+
+pub returns-in-Explain-clause-near : goal.returns-in-Explain-clause-near
+returns-in-Explain-clause-near g c = λ log agrees. rw c.in-Explain.is (c.explain.ensures.near log agrees)
