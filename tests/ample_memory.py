@@ -9,13 +9,12 @@ messages of each such size. Prints a line for each case and ends with `N passed,
 """
 
 import os
-import subprocess
 import sys
 import tempfile
 from pathlib import Path
 
 import oracle
-from cases import DONE, Cases
+from cases import DEVICE, DONE, WORDS, Cases
 
 TESTER, UNIT = "7E0", "7E8"
 REQUEST, ANSWER, STRAY = 0x22, 0x62, 0x59
@@ -71,8 +70,9 @@ def taken_by_each_job(cases, name, log, messages, text):
     counts = f"lines {lines} frames {lines} messages {messages} dropped 0 ended 0 unfinished 0 pending 0\n".encode()
     cases.case(f"explain: {name}", cases.run(["explain"], log), DONE, counts)
     cases.case(f"list: {name}", cases.run(["list"], log), DONE, text)
-    status, canonical, error = cases.run(["normalise"], log)
-    cases.case(f"normalise: {name}", (status, b"", error), DONE)
+    normalised = cases.run(["normalise"], log)
+    canonical = normalised.output
+    cases.case(f"normalise: {name}", normalised, DONE, None)
     cases.case(f"list of the canonical log: {name}", cases.run(["list"], canonical), DONE, text)
     Path("left.log").write_bytes(canonical)
     Path("right.log").write_bytes(log)
@@ -112,18 +112,17 @@ def longest_strays(cases):
     # The first frame, the one that lets it go on, and the others.
     lines = 1 + LONGEST_STRAYS * (2 - (IN_FIRST - size) // IN_LATER)
     with tempfile.TemporaryFile() as written:
-        status, _, error = cases.run(["normalise"], log, stdout=written)
+        found = cases.run(["normalise"], log, stdout=written)
         length = os.fstat(written.fileno()).st_size
-    cases.case(f"normalise: {LONGEST_STRAYS} of the longest messages held", (status, b"%d" % length, error), DONE, b"%d" % (lines * CANONICAL_LINE))
+    name = f"normalise: {LONGEST_STRAYS} of the longest messages held"
+    cases.case(name, found._replace(output=b"%d" % length), DONE, b"%d" % (lines * CANONICAL_LINE))
 
 
 def many_words(cases):
     """However many words there are, they are read."""
     for power in range(13):
         words = ["list", *["n"] * 2**power]
-        found = subprocess.run([cases.program, *words], stdin=subprocess.DEVNULL, capture_output=True, timeout=60)
-        wanted = 4 if power == 0 else 2
-        cases.report(f"{2**power} words after the command", [] if found.returncode == wanted else [f"status {found.returncode}"])
+        cases.case(f"{2**power} words after the command", cases.run(words), DEVICE if power == 0 else WORDS, error=None)
 
 
 def main():
