@@ -92,8 +92,9 @@ def functions(crate):
     found = []
     for path in sorted((crate / "src").glob("*.rt")):
         for of, name, clauses, is_public in functions_in(path.read_text()):
-            is_law = path.stem in modules and of is None
-            is_seen = is_public and (is_law or names is None or (of or name) in names)
+            is_in_module = path.stem in modules and of is None
+            is_seen = is_public and (is_in_module or names is None or (of or name) in names)
+            is_law = is_in_module and path.stem == "laws"
             full = "::".join(part for part in (path.stem, of, name) if part)
             found.append(Function(full, clauses, is_seen, is_law and is_seen))
     return found

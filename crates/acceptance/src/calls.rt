@@ -9,7 +9,7 @@ use std::io::{ErrorKind, Read, Write};
 use std::process::Abort;
 use std::test::Fail;
 use trace_canon::{
-    CompareFault, Comparison, Config, ConfigFault, Fault, Summary, compare, explain, list,
+    CompareFault, Comparison, Config, ConfigFault, Fault, Summary, compare, explain, in_memory, list,
     meaning_of, normalise,
 };
 use trace_io::{FailsAfter, FailsAt, Reading, Short, Source, Target, Writing};
@@ -191,6 +191,25 @@ fn a_session_is_compared(rt: HostRuntime) -> Result<(), Fail> {
     assert!(rt; found == (Err(CompareFault::Left(Fault::Read)), 0));
     let found = compared(alloc, byte_by_byte(), failing())?;
     assert!(rt; found == (Err(CompareFault::Right(Fault::Read)), 101));
+    Ok(())
+}
+
+#[test]
+fn a_session_in_memory_goes_through_each_call(rt: HostRuntime) -> Result<(), Fail> {
+    let (alloc, config) = (rt.alloc(), sides()?);
+    let log = LOG.as_bytes();
+    let text = in_memory::canonical_log(alloc, &config, log)?;
+    assert!(rt; text.as_slice() == CANONICAL.as_bytes());
+    let text = in_memory::item_list(alloc, &config, log)?;
+    assert!(rt; text.as_slice() == LISTED.as_bytes());
+    let text = in_memory::explanation(alloc, &config, log)?;
+    assert!(rt; text.as_slice() == EXPLAINED.as_bytes());
+    let items = items_text(alloc, &in_memory::meaning(alloc, &config, log)?)?;
+    assert_text(&rt, "session", &items, ITEM);
+    let found = in_memory::comparison(alloc, &config, log, CANONICAL.as_bytes());
+    assert!(rt; found == Ok(Comparison::Same));
+    let cut = in_memory::canonical_log(alloc, &config, &log[..9]).err();
+    assert!(rt; cut == Some(Fault::BadLine { line: 1, column: 10 }));
     Ok(())
 }
 

@@ -45,3 +45,4 @@ pub mod CanonicalScripts
 pub mod ListScripts
 pub mod ExplainScripts
 pub mod MeaningScripts
+pub mod InMemories

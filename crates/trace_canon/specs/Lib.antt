@@ -15,6 +15,7 @@ pub mod Answers
 pub mod Listed
 pub mod ExplainAnswers
 pub mod Compared
+pub mod InMemory
 pub mod Failing
 pub mod Devices
 pub mod Told

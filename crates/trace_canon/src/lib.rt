@@ -46,6 +46,7 @@ mod explainer;
 mod fault;
 mod feed;
 mod holder;
+pub mod in_memory;
 mod item_lines;
 pub mod laws;
 mod length;

@@ -18,6 +18,13 @@ pub record CountedWriter (W : Type 0) : Type 0 where
   pub is_flushed : Bool
   pub taken : List ℕ
 
+-- bytes in memory: those still to come, the reads, whether the last one told the end, and the bytes that they gave
+pub record BytesInMemory : Type 0 where
+  pub rest : List ℕ
+  pub reads : ℕ
+  pub is_over : Bool
+  pub given : List ℕ
+
 -- a byte without end, with the reads and the bytes that they gave
 pub record EndlessBytes : Type 0 where
   pub byte : ℕ

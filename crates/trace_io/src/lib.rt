@@ -2,7 +2,7 @@
 //!
 //! An engine reads from a [`Source`] and writes to a [`Target`]. Both say in their contracts which bytes they gave or took,
 //! and count what an engine promises about: calls, bytes and failures. [`write_all`] writes a whole text. [`Reading`] and
-//! [`Writing`] make devices of std's readers and writers; [`Short`], [`FailsAt`], [`FailsAfter`], [`FullAfter`] and
+//! [`Writing`] make devices of std's readers and writers, [`Bytes`] gives what lies in memory; [`Short`], [`FailsAt`], [`FailsAfter`], [`FullAfter`] and
 //! [`Endless`] are for tests of an engine.
 //!
 //! ```
@@ -13,6 +13,7 @@
 //! ```
 #![tactic(auto)]
 
+mod bytes;
 mod device;
 mod endless;
 mod faulty;
@@ -22,6 +23,7 @@ mod reader;
 mod whole;
 mod writer;
 
+pub use bytes::Bytes;
 pub use device::{DeviceFault, Source, Target};
 pub use endless::Endless;
 pub use faulty::{FailsAfter, FailsAt, FullAfter, Short};

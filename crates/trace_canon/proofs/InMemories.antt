@@ -1,0 +1,124 @@
+-- What calls over devices answer, where the log lies in memory and the text is gathered there.
+use Rattle.std.proofs.Common.{◌≡◌, ◌≢◌, ℕ, ◌+◌, true, false, List, [], ◌++◌, Some, Result, Ok, Err, arith, refl, ap, sym, subst, ◌∙◌}
+use Rattle.std.specs.Io.KnownBytes.{IsAtEnd}
+use Rattle.std.specs.Prelude.{MatchResult, IfErr}
+use Rattle.uds_exchange.specs.Meaning.{ItemValue}
+use Rattle.trace_canon.specs.declared.comparing.Comparison.{Comparison}
+use Rattle.trace_canon.specs.declared.fault.CompareFault.{CompareFault}
+use Rattle.trace_canon.specs.declared.fault.CompareFault.TheVariants.{Left, Right}
+use Rattle.trace_canon.specs.Compared.{Compares, fault_in}
+use Rattle.trace_io.specs.Counted.{BytesInMemory}
+use Rattle.trace_io.specs.Stream.{Agrees, Gave, Took}
+use Rattle.trace_io.proofs.Promises.{agrees_with_told}
+use Rattle.trace_canon.specs.declared.fault.Fault.{Fault}
+use Rattle.trace_canon.specs.declared.fault.Fault.TheVariants.{BadLine, Oversize, LogLimit, OutputLimit, Read, Write, Memory}
+use Rattle.trace_canon.specs.declared.summary.Summary.{Summary}
+use Rattle.trace_canon.specs.Answers.{Answers, TellsOutcome, GivesMeaning}
+use Rattle.trace_canon.specs.ExplainAnswers.{AnswersExplain}
+use Rattle.trace_canon.specs.Failing.{FailedIf}
+use Rattle.trace_canon.specs.InMemory.{IsOfMemory, IsRefused, IsUnread, IsCanonicalLogOf, IsListOf, IsExplanationOf, MeansInMemory, ComparesInMemory, fault_in_memory}
+use Rattle.trace_canon.specs.ExplainText.{explain_text_of_lines}
+use Rattle.trace_canon.specs.Listed.{Lists}
+use Rattle.trace_canon.specs.ListText.{list_text}
+use Rattle.trace_canon.specs.Settings.{Settings}
+use Rattle.trace_canon.specs.Told.{IsUnreadFor}
+
+-- bytes of which none was read
+abbrev pub unread : List ℕ → BytesInMemory
+unread log = record { rest = log; reads = 0; is_over = false; given = [] }
+
+-- what was read of them agrees with them
+pub agrees_in_memory : (log : List ℕ) (before after : BytesInMemory) → before ≡ unread log → Gave before.given after.given (Some before.rest) (Some after.rest)
+    → ((before.is_over ≡ true → IsAtEnd (Some before.rest)) → after.is_over ≡ true → IsAtEnd (Some after.rest))
+    → Agrees before.given after.given after.is_over log
+agrees_in_memory log before after is =
+    subst (λ (b : BytesInMemory). Gave b.given after.given (Some b.rest) (Some after.rest)
+    → ((b.is_over ≡ true → IsAtEnd (Some b.rest)) → after.is_over ≡ true → IsAtEnd (Some after.rest)) → Agrees b.given after.given after.is_over log) (sym is)
+    (λ gave ended. agrees_with_told [] after.given log after.is_over (Some after.rest) gave (ended (λ wrong. absurd (cc wrong))))
+
+-- where nothing was gathered before, what is held is what was taken
+pub taken_is_held : {taken held old before : List ℕ} → old ≡ [] → before ≡ [] → Took old taken (Some before) (Some held) → taken ≡ held
+taken_is_held {held = held} {old = old} {before = before} old_is before_is took =
+    took.grown ∙ ap (λ xs. xs ++ took.bytes) (old_is ∙ sym before_is) ∙ sym took.held
+
+-- no read of memory fails
+pub reads_well : {A E : Type 0} {read : E} {answer : Result A E} → FailedIf read answer 0 0 → answer ≢ Err read
+reads_well failed is = let rose : 0 ≡ 0 + 1 = failed.risen is in absurd (omega (arith, rose))
+
+of_memory : (fault : Fault) → fault ≢ Read → IsOfMemory (fault_in_memory fault)
+of_memory Write not = record { no_read = λ wrong. absurd (cc wrong); no_write = λ wrong. absurd (cc wrong) }
+of_memory (BadLine line column) not = record { no_read = λ wrong. absurd (cc wrong); no_write = λ wrong. absurd (cc wrong) }
+of_memory (Oversize line announced) not = record { no_read = λ wrong. absurd (cc wrong); no_write = λ wrong. absurd (cc wrong) }
+of_memory LogLimit not = record { no_read = λ wrong. absurd (cc wrong); no_write = λ wrong. absurd (cc wrong) }
+of_memory OutputLimit not = record { no_read = λ wrong. absurd (cc wrong); no_write = λ wrong. absurd (cc wrong) }
+of_memory Read not = absurd (not refl)
+of_memory Memory not = record { no_read = λ wrong. absurd (cc wrong); no_write = λ wrong. absurd (cc wrong) }
+
+refused : (limit : ℕ) (settings : Settings) (log : List ℕ) (fault : Fault) → TellsOutcome limit settings log fault → fault ≢ Read
+    → IsRefused limit settings log (fault_in_memory fault)
+refused limit settings log Write is not = (is, of_memory Write not)
+refused limit settings log (BadLine line column) is not = (is, of_memory (BadLine line column) not)
+refused limit settings log (Oversize line announced) is not = (is, of_memory (Oversize line announced) not)
+refused limit settings log LogLimit is not = (is, of_memory LogLimit not)
+refused limit settings log OutputLimit is not = (is, of_memory OutputLimit not)
+refused limit settings log Read is not = (is, of_memory Read not)
+refused limit settings log Memory is not = (is, of_memory Memory not)
+
+-- So an answer over devices is one over memory: what it says of the text and of a fault is said of what was gathered.
+pub gathered : {V : Type 0} (text_in : V → List ℕ) (IsText : List ℕ → Type 0) (IsFault : Fault → Type 0) (answer : Result Summary Fault) (text : V) (result : Result V Fault)
+    → MatchResult answer (λ _. IsText (text_in text)) (λ fault. IsFault (fault_in_memory fault))
+    → MatchResult answer (λ _. result ≡ Ok text) (λ fault. result ≡ Err (fault_in_memory fault))
+    → MatchResult result (λ v. IsText (text_in v)) IsFault
+gathered {V = V} text_in IsText IsFault (Ok summary) text result is gives =
+    subst (λ (r : Result V Fault). MatchResult r (λ v. IsText (text_in v)) IsFault) (sym gives) is
+gathered {V = V} text_in IsText IsFault (Err fault) text result is gives =
+    subst (λ (r : Result V Fault). MatchResult r (λ v. IsText (text_in v)) IsFault) (sym gives) is
+
+pub canonical_in_memory : (limit : ℕ) (settings : Settings) (log : List ℕ) (given : ℕ) (answer : Result Summary Fault) (old taken held : List ℕ)
+    → old ≡ [] → taken ≡ held → FailedIf Read answer 0 0 → Answers limit settings log given answer old taken
+    → MatchResult answer (λ _. IsCanonicalLogOf limit settings log held) (λ fault. IsRefused limit settings log (fault_in_memory fault))
+canonical_in_memory limit settings log given (Ok summary) old taken held old_is held_is failed (accepted, outcome, counted, wrote) =
+    (accepted, outcome, sym held_is ∙ wrote ∙ ap (λ xs. xs ++ accepted.text) old_is)
+canonical_in_memory limit settings log given (Err fault) old taken held old_is held_is failed (is, left) =
+    refused limit settings log fault is (λ read. reads_well failed (ap Err read))
+
+pub list_in_memory : (limit : ℕ) (settings : Settings) (log : List ℕ) (answer : Result Summary Fault) (old taken held : List ℕ)
+    → old ≡ [] → taken ≡ held → FailedIf Read answer 0 0 → Lists limit settings log answer old taken
+    → MatchResult answer (λ _. IsListOf limit settings log held) (λ fault. IsRefused limit settings log (fault_in_memory fault))
+list_in_memory limit settings log (Ok summary) old taken held old_is held_is failed (items, is, wrote) =
+    (items, summary, is, sym held_is ∙ wrote ∙ ap (λ xs. xs ++ list_text items) old_is)
+list_in_memory limit settings log (Err fault) old taken held old_is held_is failed (is, left) =
+    refused limit settings log fault is (λ read. reads_well failed (ap Err read))
+
+unread_for : (limit : ℕ) (settings : Settings) (log : List ℕ) (given : ℕ) (fault : Fault) (old taken : List ℕ)
+    → AnswersExplain limit settings log given (Err fault) old taken → IsUnreadFor false limit settings log (fault_in_memory fault)
+unread_for limit settings log given (BadLine line column) old taken (is, wrote) = is
+unread_for limit settings log given LogLimit old taken (is, wrote) = is
+unread_for limit settings log given Read old taken is = search
+unread_for limit settings log given Write old taken is = search
+unread_for limit settings log given Memory old taken is = search
+unread_for limit settings log given (Oversize line announced) old taken is = is
+unread_for limit settings log given OutputLimit old taken is = is
+
+pub explanation_in_memory : (limit : ℕ) (settings : Settings) (log : List ℕ) (given : ℕ) (answer : Result Summary Fault) (old taken held : List ℕ)
+    → old ≡ [] → taken ≡ held → FailedIf Read answer 0 0 → AnswersExplain limit settings log given answer old taken
+    → MatchResult answer (λ _. IsExplanationOf limit settings log held) (λ fault. IsUnread limit settings log (fault_in_memory fault))
+explanation_in_memory limit settings log given (Ok summary) old taken held old_is held_is failed (meanings, is, counted, wrote) =
+    (meanings, is, sym held_is ∙ wrote ∙ ap (λ xs. xs ++ explain_text_of_lines limit settings meanings) old_is)
+explanation_in_memory limit settings log given (Err fault) old taken held old_is held_is failed is =
+    (unread_for limit settings log given fault old taken is, of_memory fault (λ read. reads_well failed (ap Err read)))
+
+pub meaning_in_memory : (limit : ℕ) (settings : Settings) (log : List ℕ) (answer : Result (List ItemValue) Fault) → FailedIf Read answer 0 0
+    → IfErr answer (λ fault. fault ≢ Write) → GivesMeaning limit settings log answer → MeansInMemory limit settings log answer
+meaning_in_memory limit settings log (Ok items) failed written is = is
+meaning_in_memory limit settings log (Err fault) failed written is =
+    (is, record { no_read = λ read. reads_well failed (ap Err read); no_write = written })
+
+pub comparison_in_memory : (limit : ℕ) (settings : Settings) (one other : List ℕ) (answer : Result Comparison CompareFault)
+    → FailedIf (Left Read) answer 0 0 → FailedIf (Right Read) answer 0 0 → IfErr answer (λ fault. fault_in fault ≢ Write)
+    → Compares limit settings one other answer → ComparesInMemory limit settings one other answer
+comparison_in_memory limit settings one other (Ok comparison) left right written is = is
+comparison_in_memory limit settings one other (Err (Left fault)) left right written is =
+    (is, record { no_read = λ read. reads_well left (ap (λ f. Err (Left f)) read); no_write = written })
+comparison_in_memory limit settings one other (Err (Right fault)) left right written is =
+    (is, record { no_read = λ read. reads_well right (ap (λ f. Err (Right f)) read); no_write = written })

@@ -1,0 +1,11 @@
+use Rattle.trace_canon.proofs.InMemories.{agrees_in_memory, comparison_in_memory}
+use Rattle.trace_canon.proofs.in_memory.comparison.Goals as goal
+use Rattle.isotp_receive.specs.declared.TheConstants.{MESSAGE_LIMIT}
+
+pub returns : goal.returns
+returns c =
+    let ran = c.compare.ensures in
+    let left = agrees_in_memory c.args.left.now c.new.result c.compare.new.left c.new.ensures ran.left_read.gave ran.left_read.ended in
+    let right = agrees_in_memory c.args.right.now c.new-2.result c.compare.new.right c.new-2.ensures ran.right_read.gave ran.right_read.ended in
+    comparison_in_memory MESSAGE_LIMIT c.args.config.now c.args.left.now c.args.right.now c.compare.result ran.left_read.failed ran.right_read.failed ran.never_write
+    (ran.answer c.args.left.now c.args.right.now left right)
