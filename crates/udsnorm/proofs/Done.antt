@@ -1,5 +1,5 @@
 -- What was done where the exit status is 0.
-use Rattle.std.proofs.Common.{◌≡◌, ℕ, inl, inr, List, ◌++◌, Option, Some, None, Result, Ok, Err, arith, refl, sym, subst, ◌∙◌}
+use Rattle.std.proofs.Common.{◌≡◌, ℕ, inl, inr, List, ◌++◌, Some, None, Result, Ok, Err, arith, sym, subst, ◌∙◌}
 use Rattle.isotp_receive.specs.declared.TheConstants.{MESSAGE_LIMIT}
 use Rattle.clap.specs.Walk.{Text}
 use Rattle.trace_canon.specs.Compared.{Compares, fault_in}
@@ -11,7 +11,7 @@ use Rattle.trace_canon.specs.declared.fault.Fault.{Fault}
 use Rattle.trace_canon.specs.declared.summary.Summary.{Summary}
 use Rattle.trace_io.specs.declared.device.Source.{Ghosts as SourceGhosts}
 use Rattle.trace_io.specs.declared.device.Target.{Ghosts as TargetGhosts}
-use Rattle.udsnorm.specs.Asked.{DidAsked, DidWords, IsDone, IsDoneBy}
+use Rattle.udsnorm.specs.Asked.{Did, DidAsked, DidWords, IsDone, IsDoneBy}
 use Rattle.udsnorm.specs.Comparisons.{comparison_line}
 use Rattle.udsnorm.specs.Ending.{flushes}
 use Rattle.udsnorm.specs.Run.{EngineAnswers, IsStatusOfTwo, TookLine}
@@ -20,7 +20,7 @@ use Rattle.udsnorm.specs.declared.job.Plan.{Plan}
 use Rattle.udsnorm.specs.declared.job.Plan.TheVariants.{One, Two}
 use Rattle.udsnorm.specs.declared.job.WordsFault.{WordsFault}
 use Rattle.udsnorm.specs.declared.job.WordsFault.TheVariants as words
-use Rattle.udsnorm.proofs.Statuses.{answers_on_more, faults_are_told, summary_of_done}
+use Rattle.udsnorm.proofs.Statuses.{agrees_from_start, answers_from_start, answers_on_more, faults_are_told, summary_of_done}
 
 is_not_four : (status : ℕ) → status ≡ 0 → status ≡ 4 → ⊥
 is_not_four status zero four = absurd (omega (arith, zero, four))
@@ -38,40 +38,55 @@ accepted : (job : Job) (settings : Settings) (log : List ℕ) (n : ℕ) (answer 
     → (summary : Summary) × (answer ≡ Ok summary) → (summary : Summary) × EngineAnswers job MESSAGE_LIMIT settings log n (Ok summary) old new
 accepted job settings log n answer old new engine is = (is.0, subst (λ a. EngineAnswers job MESSAGE_LIMIT settings log n a old new) is.1 engine)
 
-done_by : {R W E : Type 0} (source : SourceGhosts R) (output : TargetGhosts W) (errors : TargetGhosts E) (asked : Result Plan WordsFault)
-    (before : R) (old : W) (unsaid : E) (status : ℕ) (after : R) (new : W) (said : E) (log : List ℕ) → DidAsked source output errors asked before old unsaid status after new said
+done_by : {F R W E : Type 0} (file : SourceGhosts F) (source : SourceGhosts R) (output : TargetGhosts W) (errors : TargetGhosts E) (asked : Result Plan WordsFault)
+    (before : R) (old : W) (unsaid : E) (status : ℕ) (after : R) (new : W) (said : E) (log : List ℕ) → DidAsked file source output errors asked before old unsaid status after new said
     → status ≡ 0 → source.given after ≡ source.given before ++ log → IsDoneBy asked log (output.taken old) (output.taken new)
-done_by source output errors (Ok (One job settings None)) before old unsaid status after new said log ran zero grown =
+done_by file source output errors (Ok (One job settings None)) before old unsaid status after new said log ran zero grown =
     let is = summary_of_done (flushes ran.answer (output.taken new)) ran.answer ran.outcome status ran.comes ran.status_is zero in
     accepted job settings log _ ran.answer (output.taken old) (output.taken new)
     (answers_on_more job MESSAGE_LIMIT settings (source.given before) (source.given after) log (source.is_over after) ran.answer (output.taken old) (output.taken new) grown ran.engine) is
-done_by source output errors (Ok (One job settings (Some name))) before old unsaid status after new said log (same, inl ran) zero grown =
+done_by file source output errors (Ok (One job settings (Some name))) before old unsaid status after new said log (same, inl found) zero grown =
+    let ran = found.ran in
+    let log = file.given found.left in
     let is = summary_of_done (flushes ran.answer (output.taken new)) ran.answer ran.outcome status ran.comes ran.status_is zero in
-    let done = accepted job settings ran.log _ ran.answer (output.taken old) (output.taken new) ran.engine is in
-    (ran.log, done.0, done.1)
-done_by source output errors (Ok (One job settings (Some name))) before old unsaid status after new said log (same, inr unopened) zero grown =
+    let done = accepted job settings log _ ran.answer (output.taken old) (output.taken new)
+    (answers_from_start job MESSAGE_LIMIT settings (file.given found.opened) log (file.is_over found.left) ran.answer (output.taken old) (output.taken new) found.from_start ran.engine) is in
+    (log, done.0, done.1)
+done_by file source output errors (Ok (One job settings (Some name))) before old unsaid status after new said log (same, inr unopened) zero grown =
     absurd (is_not_four status zero unopened.0)
-done_by source output errors (Ok (Two settings left right)) before old unsaid status after new said log (same, inl ran) zero grown =
-    let done = same_of_done settings ran.one ran.other ran.answer status (output.taken old) (output.taken new) ran.compares ran.status_is ran.line zero in
-    (ran.one, ran.other, done.0, done.1)
-done_by source output errors (Ok (Two settings left right)) before old unsaid status after new said log (same, inr (inl unopened)) zero grown =
+done_by file source output errors (Ok (Two settings left right)) before old unsaid status after new said log (same, inl found) zero grown =
+    let ran = found.ran in
+    let one = file.given found.one_left in
+    let other = file.given found.other_left in
+    let compares = ran.compares one other (agrees_from_start (file.given found.one) one (file.is_over found.one_left) found.from_start)
+    (agrees_from_start (file.given found.other) other (file.is_over found.other_left) found.from_start_too) in
+    let done = same_of_done settings one other ran.answer status (output.taken old) (output.taken new) compares ran.status_is ran.line zero in
+    (one, other, done.0, done.1)
+done_by file source output errors (Ok (Two settings left right)) before old unsaid status after new said log (same, inr (inl unopened)) zero grown =
     absurd (is_not_four status zero unopened.0)
-done_by source output errors (Ok (Two settings left right)) before old unsaid status after new said log (same, inr (inr unopened)) zero grown =
+done_by file source output errors (Ok (Two settings left right)) before old unsaid status after new said log (same, inr (inr unopened)) zero grown =
     absurd (is_not_four status zero unopened.0)
-done_by source output errors (Err (words.Help text)) before old unsaid status after new said log (same, inl told) zero grown = told.1
-done_by source output errors (Err (words.Help text)) before old unsaid status after new said log (same, inr failed) zero grown =
+done_by file source output errors (Err (words.Help text)) before old unsaid status after new said log (same, inl told) zero grown = told.1
+done_by file source output errors (Err (words.Help text)) before old unsaid status after new said log (same, inr failed) zero grown =
     absurd (is_not_four status zero failed.0)
-done_by source output errors (Err (words.Words text)) before old unsaid status after new said log did zero grown = absurd (omega (arith, did.1, zero))
-done_by source output errors (Err words.Identifier) before old unsaid status after new said log did zero grown = absurd (omega (arith, did.1, zero))
-done_by source output errors (Err (words.Config reason)) before old unsaid status after new said log did zero grown = absurd (omega (arith, did.1, zero))
-done_by source output errors (Err words.Memory) before old unsaid status after new said log did zero grown = absurd (omega (arith, did.1, zero))
+done_by file source output errors (Err (words.Words text)) before old unsaid status after new said log did zero grown = absurd (omega (arith, did.1, zero))
+done_by file source output errors (Err words.Identifier) before old unsaid status after new said log did zero grown = absurd (omega (arith, did.1, zero))
+done_by file source output errors (Err (words.Config reason)) before old unsaid status after new said log did zero grown = absurd (omega (arith, did.1, zero))
+done_by file source output errors (Err words.Memory) before old unsaid status after new said log did zero grown = absurd (omega (arith, did.1, zero))
+
+-- what was done of a plan was done of its equal
+pub did_of_equal : {F R W E : Type 0} (file : SourceGhosts F) (source : SourceGhosts R) (output : TargetGhosts W) (errors : TargetGhosts E) (plan other : Plan)
+    (before : R) (old : W) (unsaid : E) (status : ℕ) (after : R) (new : W) (said : E) → plan ≡ other → Did file source output errors other before old unsaid status after new said
+    → Did file source output errors plan before old unsaid status after new said
+did_of_equal file source output errors plan other before old unsaid status after new said same did =
+    subst (λ (p : Plan). Did file source output errors p before old unsaid status after new said) (sym same) did
 
 -- what was done of the words
-pub is_done : {R W E : Type 0} (source : SourceGhosts R) (output : TargetGhosts W) (errors : TargetGhosts E) (given : List Text)
-    (before : R) (old : W) (unsaid : E) (status : ℕ) (after : R) (new : W) (said : E) → DidWords source output errors given before old unsaid status after new said
+pub is_done : {F R W E : Type 0} (file : SourceGhosts F) (source : SourceGhosts R) (output : TargetGhosts W) (errors : TargetGhosts E) (given : List Text)
+    (before : R) (old : W) (unsaid : E) (status : ℕ) (after : R) (new : W) (said : E) → DidWords file source output errors given before old unsaid status after new said
     → status ≡ 0 → (log : List ℕ) → source.given after ≡ source.given before ++ log → IsDone given log (output.taken old) (output.taken new)
-is_done source output errors given before old unsaid status after new said did zero log grown = record {
+is_done file source output errors given before old unsaid status after new said did zero log grown = record {
   asked = did.asked;
   planned = did.planned;
-  done = done_by source output errors did.asked before old unsaid status after new said log did.did zero grown;
+  done = done_by file source output errors did.asked before old unsaid status after new said log did.did zero grown;
 }

@@ -1,23 +1,19 @@
 -- What the program did of what the words ask for.
-use Rattle.std.specs.Prelude.{◌≡◌, ℕ, ◌+◌, ◌⊎◌, List, ◌++◌, length, true, Option, Some, None, Result, Ok, Err, string_bytes}
+use Rattle.std.specs.Prelude.{◌≡◌, ℕ, ◌+◌, ◌⊎◌, List, [], ◌++◌, length, true, Some, None, Result, Ok, Err, string_bytes}
 use Rattle.isotp_receive.specs.declared.TheConstants.{MESSAGE_LIMIT}
 use Rattle.clap.specs.Walk.{Text}
 use Rattle.trace_canon.specs.Compared.{Compares}
 use Rattle.trace_canon.specs.Settings.{Settings}
-use Rattle.trace_canon.specs.declared.comparing.Comparison.{Comparison}
 use Rattle.trace_canon.specs.declared.comparing.Comparison.TheVariants.{Same}
-use Rattle.trace_canon.specs.declared.fault.CompareFault.{CompareFault}
 use Rattle.trace_canon.specs.declared.fault.CompareFault.TheVariants.{Left, Right}
-use Rattle.trace_canon.specs.declared.fault.Fault.{Fault}
 use Rattle.trace_canon.specs.declared.fault.Fault.TheVariants.{Read, Write}
 use Rattle.trace_canon.specs.declared.summary.Summary.{Summary}
 use Rattle.trace_io.specs.Written.{HasFront}
 use Rattle.trace_io.specs.declared.device.Source.{Ghosts as SourceGhosts}
 use Rattle.trace_io.specs.declared.device.Target.{Ghosts as TargetGhosts}
 use Rattle.udsnorm.specs.Comparisons.{comparison_line}
-use Rattle.udsnorm.specs.Ending.{ComesTo, flushes, status_of_run}
-use Rattle.udsnorm.specs.FaultLines.{fault_line, run_text, run_two_text, side_line, words_text}
-use Rattle.udsnorm.specs.Run.{EngineAnswers, IsStatusOfTwo, RanOne, TookLine}
+use Rattle.udsnorm.specs.FaultLines.{fault_line, side_line, words_text}
+use Rattle.udsnorm.specs.Run.{EngineAnswers, RanOne, RanTwo}
 use Rattle.udsnorm.specs.Telling.{TookText}
 use Rattle.udsnorm.specs.Words.{IsPlanned}
 use Rattle.udsnorm.specs.declared.job.Job.{Job}
@@ -46,55 +42,51 @@ ToldWords output errors words.Identifier old unsaid status new said = (status �
 ToldWords output errors (words.Config reason) old unsaid status new said = (status ≡ 2) × (new ≡ old) × Took errors (words_text (words.Config reason)) unsaid said
 ToldWords output errors words.Memory old unsaid status new said = (status ≡ 5) × (new ≡ old) × Took errors (words_text words.Memory) unsaid said
 
--- A run over the log of a file: its reads gave the first of these bytes, as many as are counted.
-pub record RanFile {W E : Type 0} (output : TargetGhosts W) (errors : TargetGhosts E) (job : Job) (limit : ℕ) (settings : Settings)
+-- A run over the log of a file, from its first byte: all that a run over an input did.
+pub record RanFile {F W E : Type 0} (file : SourceGhosts F) (output : TargetGhosts W) (errors : TargetGhosts E) (job : Job) (limit : ℕ) (settings : Settings)
     (old : W) (unsaid : E) (status : ℕ) (new : W) (said : E) : Type 0 where
-  pub log : List ℕ
-  pub answer : Result Summary Fault
-  pub engine : EngineAnswers job limit settings log (length log) answer (output.taken old) (output.taken new)
-  pub outcome : Result Summary Fault
-  pub comes : ComesTo (flushes answer (output.taken new)) answer outcome
-  pub status_is : status ≡ status_of_run outcome
-  pub flushed : status ≡ 0 → output.is_flushed new ≡ true
-  pub told : Took errors (run_text outcome) unsaid said
+  pub opened : F
+  pub left : F
+  pub from_start : file.given opened ≡ []
+  pub ran : RanOne file output errors job limit settings opened old unsaid status left new said
 
 -- a file can't be opened: that is told, and the output is left alone
 abbrev pub Unopened : {W E : Type 0} → TargetGhosts E → List ℕ → W → E → ℕ → W → E → Type 0
 Unopened errors line old unsaid status new said = (status ≡ 4) × (new ≡ old) × Took errors line unsaid said
 
--- A run over the logs of two files, whose reads gave these bytes.
-pub record RanFiles {W E : Type 0} (output : TargetGhosts W) (errors : TargetGhosts E) (limit : ℕ) (settings : Settings)
+-- A run over the logs of two files, each from its first byte.
+pub record RanFiles {F W E : Type 0} (file : SourceGhosts F) (output : TargetGhosts W) (errors : TargetGhosts E) (limit : ℕ) (settings : Settings)
     (old : W) (unsaid : E) (status : ℕ) (new : W) (said : E) : Type 0 where
-  pub one : List ℕ
-  pub other : List ℕ
-  pub answer : Result Comparison CompareFault
-  pub compares : Compares limit settings one other answer
-  pub status_is : IsStatusOfTwo answer status
-  pub line : TookLine answer status (output.taken old) (output.taken new)
-  pub told : Took errors (run_two_text answer status) unsaid said
+  pub one : F
+  pub other : F
+  pub one_left : F
+  pub other_left : F
+  pub from_start : file.given one ≡ []
+  pub from_start_too : file.given other ≡ []
+  pub ran : RanTwo file file output errors limit settings one other old unsaid status one_left other_left new said
 
 -- What was done of a plan: over the input where it names no file, and the input was left alone where it names one.
-abbrev pub Did : {R W E : Type 0} → SourceGhosts R → TargetGhosts W → TargetGhosts E → Plan → R → W → E → ℕ → R → W → E → Type 0
-Did source output errors (One job settings None) before old unsaid status after new said =
+abbrev pub Did : {F R W E : Type 0} → SourceGhosts F → SourceGhosts R → TargetGhosts W → TargetGhosts E → Plan → R → W → E → ℕ → R → W → E → Type 0
+Did file source output errors (One job settings None) before old unsaid status after new said =
     RanOne source output errors job MESSAGE_LIMIT settings before old unsaid status after new said
-Did source output errors (One job settings (Some name)) before old unsaid status after new said =
-    (after ≡ before) × (RanFile output errors job MESSAGE_LIMIT settings old unsaid status new said ⊎ Unopened errors (fault_line Read) old unsaid status new said)
-Did source output errors (Two settings left right) before old unsaid status after new said =
-    (after ≡ before) × (RanFiles output errors MESSAGE_LIMIT settings old unsaid status new said
+Did file source output errors (One job settings (Some name)) before old unsaid status after new said =
+    (after ≡ before) × (RanFile file output errors job MESSAGE_LIMIT settings old unsaid status new said ⊎ Unopened errors (fault_line Read) old unsaid status new said)
+Did file source output errors (Two settings left right) before old unsaid status after new said =
+    (after ≡ before) × (RanFiles file output errors MESSAGE_LIMIT settings old unsaid status new said
     ⊎ (Unopened errors (side_line (Left Read)) old unsaid status new said ⊎ Unopened errors (side_line (Right Read)) old unsaid status new said))
 
 -- what was done of what was asked for
-abbrev pub DidAsked : {R W E : Type 0} → SourceGhosts R → TargetGhosts W → TargetGhosts E → Result Plan WordsFault → R → W → E → ℕ → R → W → E → Type 0
-DidAsked source output errors (Ok plan) before old unsaid status after new said = Did source output errors plan before old unsaid status after new said
-DidAsked source output errors (Err fault) before old unsaid status after new said =
+abbrev pub DidAsked : {F R W E : Type 0} → SourceGhosts F → SourceGhosts R → TargetGhosts W → TargetGhosts E → Result Plan WordsFault → R → W → E → ℕ → R → W → E → Type 0
+DidAsked file source output errors (Ok plan) before old unsaid status after new said = Did file source output errors plan before old unsaid status after new said
+DidAsked file source output errors (Err fault) before old unsaid status after new said =
     (after ≡ before) × ToldWords output errors fault old unsaid status new said
 
 -- What was done of what the words ask for.
-pub record DidWords {R W E : Type 0} (source : SourceGhosts R) (output : TargetGhosts W) (errors : TargetGhosts E) (given : List Text)
+pub record DidWords {F R W E : Type 0} (file : SourceGhosts F) (source : SourceGhosts R) (output : TargetGhosts W) (errors : TargetGhosts E) (given : List Text)
     (before : R) (old : W) (unsaid : E) (status : ℕ) (after : R) (new : W) (said : E) : Type 0 where
   pub asked : Result Plan WordsFault
   pub planned : IsPlanned given asked
-  pub did : DidAsked source output errors asked before old unsaid status after new said
+  pub did : DidAsked file source output errors asked before old unsaid status after new said
 
 -- where the plan is for one log and names no file, the output took all that the job writes of this log
 abbrev pub IsDoneBy : Result Plan WordsFault → List ℕ → List ℕ → List ℕ → Type 0

@@ -1,15 +1,16 @@
 -- What a run over logs answers, what it takes from its input, and what its output takes.
-use Rattle.std.specs.Prelude.{◌≡◌, ◌≢◌, ℕ, ◌-◌, ◌⊎◌, List, ◌++◌, length, true, Result, Ok, Err}
+use Rattle.std.specs.Prelude.{◌≡◌, ◌≢◌, ℕ, ◌-◌, ◌<◌, ◌⊎◌, List, ◌++◌, length, true, Result, Ok, Err, OnOk}
 use Rattle.trace_canon.specs.Settings.{Settings}
 use Rattle.trace_canon.specs.Answers.{Answers, ReadsWhile}
 use Rattle.trace_canon.specs.Devices.{ReadFrom}
 use Rattle.trace_canon.specs.Failing.{FailedIf}
 use Rattle.trace_canon.specs.Listed.{Lists}
 use Rattle.trace_canon.specs.ExplainAnswers.{AnswersExplain}
-use Rattle.trace_canon.specs.Compared.{fault_in}
+use Rattle.trace_canon.specs.Compared.{Compares, fault_in}
 use Rattle.trace_canon.specs.Refusal.{HasNoBadPlaceWithin, IsNotRefusedWithin}
 use Rattle.trace_canon.specs.declared.comparing.Comparison.{Comparison}
 use Rattle.trace_canon.specs.declared.fault.CompareFault.{CompareFault}
+use Rattle.trace_canon.specs.declared.fault.CompareFault.TheVariants.{Left, Right}
 use Rattle.trace_canon.specs.declared.fault.Fault.{Fault}
 use Rattle.trace_canon.specs.declared.fault.Fault.TheVariants.{Read, Write}
 use Rattle.trace_canon.specs.declared.summary.Summary.{Summary}
@@ -19,7 +20,7 @@ use Rattle.trace_io.specs.declared.device.Source.{Ghosts as SourceGhosts}
 use Rattle.trace_io.specs.declared.device.Target.{Ghosts as TargetGhosts}
 use Rattle.udsnorm.specs.Comparisons.{comparison_line}
 use Rattle.udsnorm.specs.Ending.{ComesTo, flushes, status_of_comparison, status_of_run}
-use Rattle.udsnorm.specs.FaultLines.{run_text}
+use Rattle.udsnorm.specs.FaultLines.{run_text, run_two_text}
 use Rattle.udsnorm.specs.Status.{status_of}
 use Rattle.udsnorm.specs.Telling.{TookText}
 use Rattle.udsnorm.specs.declared.job.Job.{Job}
@@ -71,3 +72,26 @@ IsStatusOfTwo (Err fault) status = status ≡ status_of (fault_in fault)
 abbrev pub TookLine : Result Comparison CompareFault → ℕ → List ℕ → List ℕ → Type 0
 TookLine (Ok comparison) status old new = HasFront old (comparison_line comparison) new × (status ≢ 4 → new ≡ old ++ comparison_line comparison)
 TookLine (Err fault) status old new = new ≡ old
+
+-- What a run over two logs did, from its inputs to its output and its error output, and its exit status.
+pub record RanTwo {A B W E : Type 0} (left : SourceGhosts A) (right : SourceGhosts B) (output : TargetGhosts W) (errors : TargetGhosts E) (limit : ℕ) (settings : Settings)
+    (one : A) (other : B) (old : W) (unsaid : E) (status : ℕ) (one_now : A) (other_now : B) (new : W) (said : E) : Type 0 where
+  -- how the logs compare with which the bytes that were read agree
+  pub answer : Result Comparison CompareFault
+  pub compares : (a b : List ℕ) → Agrees (left.given one) (left.given one_now) (left.is_over one_now) a → Agrees (right.given other) (right.given other_now) (right.is_over other_now) b
+      → Compares limit settings a b answer
+  -- after a fault of the left log nothing of the right one was read
+  pub unread : (fault : Fault) → answer ≡ Err (Left fault) → other_now ≡ other
+  -- reading stopped within one piece of what refuses a log
+  pub left_near : (a : List ℕ) → Agrees (left.given one) (left.given one_now) (left.is_over one_now) a
+      → ReadsWhile (IsNotRefusedWithin limit settings a) (length (left.given one_now) - length (left.given one)) (left.failures one) (left.failures one_now)
+  pub right_near : (b : List ℕ) → Agrees (right.given other) (right.given other_now) (right.is_over other_now) b
+      → ReadsWhile (IsNotRefusedWithin limit settings b) (length (right.given other_now) - length (right.given other)) (right.failures other) (right.failures other_now)
+  pub left_read : ReadFrom left (Left Read) settings.max_bytes answer one one_now
+  pub right_read : ReadFrom right (Right Read) settings.max_bytes answer other other_now
+  -- the status is the answer's, and after an `Ok` 4 only where the output failed
+  pub status_is : IsStatusOfTwo answer status
+  pub failed : OnOk answer (status ≡ 4 → output.failures old < output.failures new)
+  -- the output took the line of the answer, and the error output the text of a fault
+  pub line : TookLine answer status (output.taken old) (output.taken new)
+  pub told : TookText (run_two_text answer status) (errors.failures unsaid) (errors.failures said) (errors.taken unsaid) (errors.taken said)

@@ -80,7 +80,7 @@ fn run_words<R: AllocGlobal + Files, I: Source, W: Target, E: Target>(
 
     // For each status: what the words ask for, and what was done of it, from the input's reads to the output's writes and the
     // error output's.
-    ensures run { DidWords I.Source W.Target E.Target (words_or_normalise (map string_bytes words.now)) input.old out.old err.old result input.new out.new err.new }
+    ensures run { DidWords ⟦<Reading<R::File> as Source>⟧ I.Source W.Target E.Target (words_or_normalise (map string_bytes words.now)) input.old out.old err.old result input.new out.new err.new }
 
     // With status 0 it is done: the output's writes took what is asked for, of the bytes that the input's reads gave.
     ensures done { result ≡ 0 → (log : List ℕ) → I.given input.new ≡ I.given input.old ++ log
@@ -104,7 +104,7 @@ fn carry_out<R: AllocGlobal + Files, I: Source, W: Target, E: Target>(
     requires input { AreLowCounts (I.reads input.old) (length (I.given input.old)) (I.failures input.old) }
     requires out { IsLowCount (W.failures out.old) }
     requires err { IsLowCount (E.failures err.old) }
-    ensures did { Did I.Source W.Target E.Target plan.now input.old out.old err.old result input.new out.new err.new }
+    ensures did { Did ⟦<Reading<R::File> as Source>⟧ I.Source W.Target E.Target plan.now input.old out.old err.old result input.new out.new err.new }
     ensures flushed { result ≡ 0 → W.is_flushed out.new ≡ true }
 {
     match plan {
@@ -131,7 +131,7 @@ fn run_file<R: AllocGlobal + Files, W: Target, E: Target>(
 ) -> u8
     requires out { IsLowCount (W.failures out.old) }
     requires err { IsLowCount (E.failures err.old) }
-    ensures ran { RanFile W.Target E.Target job MESSAGE_LIMIT config.now out.old err.old result out.new err.new
+    ensures ran { RanFile ⟦<Reading<R::File> as Source>⟧ W.Target E.Target job MESSAGE_LIMIT config.now out.old err.old result out.new err.new
         ⊎ Unopened E.Target (fault_line Fault.Read) out.old err.old result out.new err.new }
     ensures flushed { result ≡ 0 → W.is_flushed out.new ≡ true }
 {
@@ -152,7 +152,7 @@ fn run_files<R: AllocGlobal + Files, W: Target, E: Target>(
 ) -> u8
     requires out { IsLowCount (W.failures out.old) }
     requires err { IsLowCount (E.failures err.old) }
-    ensures ran { RanFiles W.Target E.Target MESSAGE_LIMIT config.now out.old err.old result out.new err.new
+    ensures ran { RanFiles ⟦<Reading<R::File> as Source>⟧ W.Target E.Target MESSAGE_LIMIT config.now out.old err.old result out.new err.new
         ⊎ (Unopened E.Target (side_line (CompareFault.Left Fault.Read)) out.old err.old result out.new err.new
         ⊎ Unopened E.Target (side_line (CompareFault.Right Fault.Read)) out.old err.old result out.new err.new) }
     ensures flushed { result ≡ 0 → W.is_flushed out.new ≡ true }

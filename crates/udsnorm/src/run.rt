@@ -1,22 +1,16 @@
 //! Runs of the program over devices that are open.
 
-ghost use Rattle.std.specs.Prelude.{◌≡◌, ℕ, ◌+◌, ◌-◌, ◌^◌, ◌<◌, ◌≤◌, ◌⊎◌, ◌↔◌, List, ◌++◌, Result, Err, true, OnOk, IfErr, MatchResult, length};
+ghost use Rattle.std.specs.Prelude.{◌≡◌, ℕ, ◌+◌, ◌-◌, ◌^◌, ◌<◌, ◌≤◌, ◌⊎◌, ◌↔◌, List, ◌++◌, true, OnOk, IfErr, MatchResult, length};
 ghost use Rattle.std.specs.Io.KnownBytes.{Keeps};
 ghost use Rattle.isotp_receive.specs.declared.TheConstants.{MESSAGE_LIMIT};
-ghost use Rattle.trace_canon.specs.Answers.{ReadsWhile};
-ghost use Rattle.trace_canon.specs.Compared.{Compares};
 ghost use Rattle.trace_canon.specs.Devices.{ReadFrom, WroteTo};
-ghost use Rattle.trace_canon.specs.Refusal.{IsNotRefusedWithin};
-ghost use Rattle.trace_canon.specs.declared.comparing.Comparison.{Comparison as ComparisonValue};
-ghost use Rattle.trace_canon.specs.declared.fault.CompareFault.{CompareFault as CompareFaultValue};
-ghost use Rattle.trace_canon.specs.declared.fault.Fault.{Fault as FaultValue};
 ghost use Rattle.trace_io.specs.Counted.{AreLowCounts, IsLowCount};
 ghost use Rattle.trace_io.specs.Stream.{Agrees};
 ghost use Rattle.trace_io.specs.Written.{HasFront};
 ghost use Rattle.udsnorm.specs.Comparisons.{comparison_line};
 ghost use Rattle.udsnorm.specs.Ending.{EndsAs, EndsTwoWith, flushes, status_of_comparison, status_of_run};
 ghost use Rattle.udsnorm.specs.FaultLines.{run_text, run_two_text};
-ghost use Rattle.udsnorm.specs.Run.{EngineAnswers, EngineReads, IsStatusOfTwo, RanOne, TookLine};
+ghost use Rattle.udsnorm.specs.Run.{EngineAnswers, EngineReads, RanOne, RanTwo, TookLine};
 ghost use Rattle.udsnorm.specs.Telling.{TookText};
 
 use crate::comparison::comparison_line;
@@ -138,25 +132,8 @@ pub fn run_two<A: Source, B: Source, W: Target, E: Target>(
     requires out { IsLowCount (W.failures out.old) }
     requires err { IsLowCount (E.failures err.old) }
 
-    // The status is that of the comparison's answer, which after an `Ok` is 4 only where the output failed; the error output took
-    // the text of it, and the output its line. After a fault of the left log nothing of the right one was read. How much of each
-    // was read is said by the same answer.
-    ensures run { (answer : Result ComparisonValue CompareFaultValue) × IsStatusOfTwo answer result
-        × OnOk answer (result ≡ 4 → W.failures out.old < W.failures out.new)
-        × TookText (run_two_text answer result) (E.failures err.old) (E.failures err.new) (E.taken err.old) (E.taken err.new)
-        × TookLine answer result (W.taken out.old) (W.taken out.new)
-        × ((one other : List ℕ)
-        → Agrees (A.given left.old) (A.given left.new) (A.is_over left.new) one → Agrees (B.given right.old) (B.given right.new) (B.is_over right.new) other
-        → Compares MESSAGE_LIMIT config.now one other answer)
-        × ((fault : FaultValue) → answer ≡ Err (CompareFault.Left fault) → right.new ≡ right.old)
-        × ReadFrom A.Source (CompareFault.Left Fault.Read) config.now.max_bytes answer left.old left.new
-        × ReadFrom B.Source (CompareFault.Right Fault.Read) config.now.max_bytes answer right.old right.new }
-
-    // Reading stops within one piece of what refuses a log.
-    ensures left_near { (one : List ℕ) → Agrees (A.given left.old) (A.given left.new) (A.is_over left.new) one
-        → ReadsWhile (IsNotRefusedWithin MESSAGE_LIMIT config.now one) (length (A.given left.new) - length (A.given left.old)) (A.failures left.old) (A.failures left.new) }
-    ensures right_near { (other : List ℕ) → Agrees (B.given right.old) (B.given right.new) (B.is_over right.new) other
-        → ReadsWhile (IsNotRefusedWithin MESSAGE_LIMIT config.now other) (length (B.given right.new) - length (B.given right.old)) (B.failures right.old) (B.failures right.new) }
+    // How the logs compare, what was read and written, and what the run came to: its status and what is told of it.
+    ensures ran { RanTwo A.Source B.Source W.Target E.Target MESSAGE_LIMIT config.now left.old right.old out.old err.old result left.new right.new out.new err.new }
 
     // Where the logs were compared, the output was flushed last, and nothing was told.
     ensures flushed { result ≤ 1 → W.is_flushed out.new ≡ true }

@@ -9,7 +9,7 @@ pub returns-in-Err-clause-run : goal.returns-in-Err-clause-run
 returns-in-Err-clause-run g c = search rules
 
 pub returns-in-Ok-clause-done : goal.returns-in-Ok-clause-done
-returns-in-Ok-clause-done g c = is_done _ _ _ _ _ _ _ _ _ _ _ (returns-in-Ok-clause-run g c)
+returns-in-Ok-clause-done g c = is_done _ _ _ _ _ _ _ _ _ _ _ _ (returns-in-Ok-clause-run g c)
 
 pub returns-in-Err-clause-done : goal.returns-in-Err-clause-done
-returns-in-Err-clause-done g c = is_done _ _ _ _ _ _ _ _ _ _ _ (returns-in-Err-clause-run g c)
+returns-in-Err-clause-done g c = is_done _ _ _ _ _ _ _ _ _ _ _ _ (returns-in-Err-clause-run g c)

@@ -1,0 +1,8 @@
+use Rattle.std.proofs.Common.{ap, refl, ◌∙◌}
+use Rattle.udsnorm.specs.declared.job.Plan.TheVariants.{One}
+use Rattle.udsnorm.proofs.Done.{did_of_equal}
+use Rattle.udsnorm.proofs.carry_out.Goals as goal
+
+pub returns-in-Some-clause-did : goal.returns-in-Some-clause-did
+returns-in-Some-clause-did g c =
+    did_of_equal _ _ _ _ _ _ _ _ _ _ _ _ _ (c.in-One.is ∙ ap (λ log. One c.in-One.job c.in-One.config log) c.in-Some.is) (refl, c.run_file.ensures.ran)
