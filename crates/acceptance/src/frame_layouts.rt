@@ -146,10 +146,10 @@ fn told(alloc: Global, frame: &Frame) -> Result<String, AllocError> {
         Ok(
             Pdu::Next {
                 sn,
-                frame_len,
+                can_dl,
                 bytes,
             },
-        ) => with_bytes(alloc, &format!(in alloc; "Next {sn} {frame_len}")?, bytes),
+        ) => with_bytes(alloc, &format!(in alloc; "Next {sn} {can_dl}")?, bytes),
         Ok(Pdu::Flow(status)) => format!(in alloc; "Flow {status:?}\n"),
         Err(fault) => format!(in alloc; "{fault:?}\n"),
     }

@@ -55,7 +55,7 @@ pub enum Pdu<'a> {
         /// The sequence number, 0 to 15.
         sn: u8,
         /// CAN_DL, the number of bytes of this frame, 1 to 64.
-        frame_len: u8,
+        can_dl: u8,
         /// The bytes to the end of the frame. Where the message ends before, the others are padding.
         bytes: &'a [u8],
     },
@@ -127,7 +127,7 @@ fn of_bytes(bytes: &[u8]) -> Result<Pdu<'_>, PduFault>
         1 => first_of(bytes),
         2 => Ok(Pdu::Next {
             sn: bytes[0] % 16,
-            frame_len: bytes.len() as u8,
+            can_dl: bytes.len() as u8,
             bytes: &bytes[1..],
         }),
         3 => flow_of(bytes),

@@ -1,6 +1,7 @@
 -- How much memory a pair keeps over a run of frames.
-use Rattle.std.proofs.Common.{◌≡◌, ℕ, ◌*◌, ◌≤◌, Bool, true, false, List, [], ◌∷◌, max, nat_le, if◌then◌else◌, Option, Some, None, Result, Ok, Err, refl, sym, ◌∙◌, ap, arith}
+use Rattle.std.proofs.Common.{◌≡◌, ℕ, ◌*◌, ◌≤◌, Bool, true, false, List, [], ◌∷◌, ◌++◌, max, nat_le, if◌then◌else◌, Option, Some, None, Result, Ok, Err, refl, sym, ◌∙◌, ap, subst, arith}
 use Rattle.std.proofs.lemmas.Bool.{leb-true}
+use Rattle.std.proofs.lemmas.List.{append-nil, append_assoc}
 use Rattle.direction.specs.declared.Dir.{Dir}
 use Rattle.direction.specs.declared.Dir.TheVariants.{Tester, Unit}
 use Rattle.isotp_pdu.specs.Layout.{Layout}
@@ -9,7 +10,7 @@ use Rattle.isotp_pdu.specs.Reading.{layout_of}
 use Rattle.isotp_pdu.specs.declared.PduFault.{PduFault}
 use Rattle.isotp_receive.specs.Trace.{Entry}
 use Rattle.isotp_receive.specs.StandingReception.{StandingReception, stands, receptions_after, of_direction}
-use Rattle.isotp_receive.specs.Capacities.{PairValue, capacity_of, announced_with, come_with, CapacitiesGrow, TakesOne, IsRun, end_of, come_of, most_come}
+use Rattle.isotp_receive.specs.Capacities.{PairValue, capacity_of, announced_with, come_with, CapacitiesGrow, TakesOne, IsRun, end_of, come_of, most_come, new_pair, most_come_after, IsWithin, KeepsWithin}
 use Rattle.isotp_receive.proofs.StandingLaws.{kept-bytes}
 
 -- ---- what is announced is within the limit
@@ -35,7 +36,7 @@ stands-there limit T Unit = refl
 
 -- the capacity of a direction grows by a frame within these
 record Step (limit : ℕ) (d : Dir) (pair : PairValue) (e : Entry) (new : PairValue) : Type 0 where
-  come : capacity_of new d ≤ max (capacity_of pair d) (2 * come_of d pair e)
+  come : capacity_of new d ≤ max (capacity_of pair d) (2 * come_of d pair.receptions e)
   fits : capacity_of new d ≤ max (capacity_of pair d) limit
 
 module _ (limit : ℕ) (pair new : PairValue) (line micros : ℕ) (T : List Entry) (stood : pair.receptions ≡ receptions_after limit T) where
@@ -81,3 +82,46 @@ stay-within limit d pair run none taken =
     let come = grown.0 in
     let fits = grown.1 in
     (omega arith, omega arith)
+
+-- ---- a trace
+
+-- with one more frame
+most-more : (limit : ℕ) (d : Dir) (past T : List Entry) (e : Entry)
+    → (most_come_after limit d past T ≤ most_come_after limit d past (T ++ e ∷ []))
+    × (come_of d (receptions_after limit (past ++ T)) e ≤ most_come_after limit d past (T ++ e ∷ []))
+most-more limit d past [] e =
+    let same = ap (λ (before : List Entry). come_of d (receptions_after limit before) e) (append-nil past) in
+    (omega arith, omega arith)
+most-more limit d past (x ∷ rest) e =
+    let others = most-more limit d (past ++ x ∷ []) rest e in
+    let most = others.0 in
+    let last = others.1 in
+    let same = ap (λ (before : List Entry). come_of d (receptions_after limit before) e) (append_assoc past (x ∷ []) rest) in
+    (omega arith, omega arith)
+
+pub new-within : (limit : ℕ) → KeepsWithin limit [] (new_pair limit)
+new-within limit = record {
+  tester = record { twice_come = omega arith; largest = omega arith };
+  unit = record { twice_come = omega arith; largest = omega arith };
+}
+
+module _ (limit : ℕ) (T : List Entry) (e : Entry) (old new : PairValue) (stood : old.receptions ≡ receptions_after limit T)
+    (grew : CapacitiesGrow limit e.dir (layout_of e.frame) old new) where
+  within-more : (d : Dir) → IsWithin limit T d (capacity_of old d) → IsWithin limit (T ++ e ∷ []) d (capacity_of new d)
+  within-more d within =
+      let taken = step limit d e.dir old new e refl (record { before = T; stood = stood; grew = grew }) in
+      let come = subst (λ r. capacity_of new d ≤ max (capacity_of old d) (2 * come_of d r e)) stood taken.come in
+      let fits = taken.fits in
+      let more = most-more limit d [] T e in
+      let most = more.0 in
+      let last = more.1 in
+      let twice = within.twice_come in
+      let largest = within.largest in
+      record { twice_come = omega arith; largest = omega arith }
+
+pub one-more-within : (limit : ℕ) (T : List Entry) (e : Entry) (old new : PairValue) → old.receptions ≡ receptions_after limit T → KeepsWithin limit T old
+    → CapacitiesGrow limit e.dir (layout_of e.frame) old new → KeepsWithin limit (T ++ e ∷ []) new
+one-more-within limit T e old new stood within grew = record {
+  tester = within-more limit T e old new stood grew Tester within.tester;
+  unit = within-more limit T e old new stood grew Unit within.unit;
+}

@@ -14,7 +14,7 @@ pub use Rattle.isotp_receive.proofs.EventCounts.{events_go_on, events_are_as_man
 pub use Rattle.isotp_receive.proofs.Readings.{first_frame_is_read}
 pub use Rattle.isotp_receive.proofs.References.{same-reference as one_reference, within-a-second as on_time_is_within_a_second}
 pub use Rattle.isotp_receive.proofs.Growths.{stands-without as refused_leaves_the_other}
-pub use Rattle.isotp_receive.proofs.CapacityLaws.{stay-within as capacities_stay_within}
+pub use Rattle.isotp_receive.proofs.CapacityLaws.{stay-within as capacities_stay_within, new-within as new_pair_keeps_within, one-more-within as one_more_keeps_within}
 pub use Rattle.isotp_receive.proofs.ListPositions.{get-here, get-left, get-drop}
 pub use Rattle.isotp_receive.proofs.Fronts.{take_over}
 pub use Rattle.isotp_receive.proofs.PositionLists.{last-in}

@@ -1,5 +1,5 @@
 -- How much memory a pair keeps for the bytes of messages, and how far a frame may make it grow.
-use Rattle.std.specs.Prelude.{◌≡◌, ◌≤◌, ℕ, ◌+◌, ◌*◌, List, [], ◌∷◌, length, min, max, nat_le, ⊤, if◌then◌else◌, Option, Some, None, Result, Ok, Err}
+use Rattle.std.specs.Prelude.{◌≡◌, ◌≤◌, ℕ, ◌+◌, ◌*◌, List, [], ◌∷◌, ◌++◌, length, min, max, nat_le, ⊤, if◌then◌else◌, Option, Some, None, Result, Ok, Err}
 use Rattle.direction.specs.Dir.{other_direction}
 use Rattle.direction.specs.declared.Dir.{Dir}
 use Rattle.direction.specs.declared.Dir.TheVariants.{Tester, Unit}
@@ -25,6 +25,10 @@ pub record PairValue : Type 0 where
   pub receptions : Receptions
   pub tester_capacity : ℕ
   pub unit_capacity : ℕ
+
+-- a pair that has taken no frame: it has no memory yet
+abbrev pub new_pair : ℕ → PairValue
+new_pair limit = record { receptions = receptions_after limit []; tester_capacity = 0; unit_capacity = 0 }
 
 -- the one of the direction
 abbrev pub capacity_of : PairValue → Dir → ℕ
@@ -78,14 +82,14 @@ abbrev pub end_of : PairValue → List (Entry × PairValue) → PairValue
 end_of pair [] = pair
 end_of pair (step ∷ rest) = end_of step.1 rest
 
--- how many bytes of a message of d had come with the frame e
-abbrev pub come_of : Dir → PairValue → Entry → ℕ
-come_of d pair e = if same_direction d e.dir then come_with (of_direction pair.receptions d) (layout_of e.frame) else 0
+-- how many bytes of a message of d had come with the frame e, where these receptions stood before it
+abbrev pub come_of : Dir → Receptions → Entry → ℕ
+come_of d receptions e = if same_direction d e.dir then come_with (of_direction receptions d) (layout_of e.frame) else 0
 
 -- the most bytes of one message of d that had come in a run
 abbrev pub most_come : Dir → PairValue → List (Entry × PairValue) → ℕ
 most_come d pair [] = 0
-most_come d pair (step ∷ rest) = max (come_of d pair step.0) (most_come d step.1 rest)
+most_come d pair (step ∷ rest) = max (come_of d pair.receptions step.0) (most_come d step.1 rest)
 
 -- A pair that had no memory for a direction has it, after a run, for at most twice the most bytes that had come of one message of
 -- the direction, and for no more than a message may have.
@@ -93,3 +97,28 @@ abbrev pub CapacitiesStayWithin : Type 0
 CapacitiesStayWithin =
     (limit : ℕ) (d : Dir) (pair : PairValue) (run : List (Entry × PairValue)) → capacity_of pair d ≡ 0 → IsRun limit pair run
     → (capacity_of (end_of pair run) d ≤ 2 * most_come d pair run) × (capacity_of (end_of pair run) d ≤ limit)
+
+-- the most bytes of one message of d that had come in a trace, where `past` stands before it
+abbrev pub most_come_after : ℕ → Dir → List Entry → List Entry → ℕ
+most_come_after limit d past [] = 0
+most_come_after limit d past (e ∷ rest) = max (come_of d (receptions_after limit past) e) (most_come_after limit d (past ++ e ∷ []) rest)
+
+-- so much memory for d, after a trace: for at most twice the most bytes that had come of one message of d, and for no more than
+-- a message may have
+pub record IsWithin (limit : ℕ) (T : List Entry) (d : Dir) (capacity : ℕ) : Type 0 where
+  pub twice_come : capacity ≤ 2 * most_come_after limit d [] T
+  pub largest : capacity ≤ limit
+
+-- what a pair keeps after a trace is within these, for both directions
+pub record KeepsWithin (limit : ℕ) (T : List Entry) (pair : PairValue) : Type 0 where
+  pub tester : IsWithin limit T Tester pair.tester_capacity
+  pub unit : IsWithin limit T Unit pair.unit_capacity
+
+-- a new pair does, and with one more frame it does again
+abbrev pub NewPairKeepsWithin : Type 0
+NewPairKeepsWithin = (limit : ℕ) → KeepsWithin limit [] (new_pair limit)
+
+abbrev pub OneMoreKeepsWithin : Type 0
+OneMoreKeepsWithin =
+    (limit : ℕ) (T : List Entry) (e : Entry) (old new : PairValue) → old.receptions ≡ receptions_after limit T → KeepsWithin limit T old
+    → CapacitiesGrow limit e.dir (layout_of e.frame) old new → KeepsWithin limit (T ++ e ∷ []) new

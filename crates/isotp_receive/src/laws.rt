@@ -13,7 +13,7 @@ ghost use Rattle.isotp_receive.specs.MessageLaws.{MessagesGoOn, MessagesAreFew, 
 ghost use Rattle.isotp_receive.specs.MessageLaws.{EventsGoOn, EventsAreAsMany, FirstFrameIsRead, TooLongIsAnnounced, KeptIsWithin, CleanIsCounted};
 ghost use Rattle.isotp_receive.specs.RecordingLaws.{RecordingDelivers, RecordingDeliversBehind, RecordingDeliversAtLastPosition, RecordingDeliversByFrames, CleanTraceIsARecording};
 ghost use Rattle.isotp_receive.specs.Growth.{RefusedLeavesTheOther};
-ghost use Rattle.isotp_receive.specs.Capacities.{CapacitiesStayWithin};
+ghost use Rattle.isotp_receive.specs.Capacities.{CapacitiesStayWithin, NewPairKeepsWithin, OneMoreKeepsWithin};
 
 /// What stands after a trace is the reception that is open at its end by the positions of its frames,
 /// with all that is known of it: line, length, RX_DL, bytes and the time that N_Cr runs from.
@@ -68,8 +68,12 @@ pub fn refused_leaves_the_other()
 
 /// What a pair keeps, over all frames that it takes from [`Pair::new`](crate::Pair::new) on: for each direction memory for at
 /// most twice the most bytes that had come of one of its messages, and for no more than the largest message has.
+///
+/// After a trace that it took whole the bound is named by the trace: a new pair keeps within it, and with each frame again.
 pub fn capacities_stay_within()
-    ensures { CapacitiesStayWithin }
+    ensures run { CapacitiesStayWithin }
+    ensures new { NewPairKeepsWithin }
+    ensures more { OneMoreKeepsWithin }
 {}
 
 /// The limit that the contracts of [`Pair`](crate::Pair) name: messages have at most 1,048,575 bytes.

@@ -2,6 +2,7 @@
 ghost use Rattle.std.specs.Prelude.{◌≡◌, ℕ, ◌^◌, ◌<◌, ◌≤◌, List, [], ◌∷◌, ◌++◌, length, OnOk, OnErr, Option, false};
 ghost use Rattle.can_log.specs.declared.frame.Stamped.{Stamped as StampedValue};
 ghost use Rattle.isotp_receive.specs.declared.TheConstants.{MESSAGE_LIMIT};
+ghost use Rattle.isotp_receive.specs.Capacities.{KeepsWithin};
 ghost use Rattle.isotp_receive.specs.EventSeen.{seen_event, seen_verdict};
 ghost use Rattle.isotp_receive.specs.StandingReception.{receptions_after};
 ghost use Rattle.isotp_receive.specs.Events.{announced_by};
@@ -238,6 +239,7 @@ fn tell_end<M: Machine, W: Target>(
     summary: &Summary,
 ) -> Result<M::Answer, Stop>
     ensures says { (start : M) (T : List Entry) → M.stands start T machine → pair.now.receptions ≡ receptions_after MESSAGE_LIMIT T
+        → KeepsWithin MESSAGE_LIMIT T pair.now
         → Speaks W.Target page.old.failed page.old.block target.old ((M.script start).last T summary.now) page.new.failed page.new.block target.new }
     ensures answered { (start : M) (T : List Entry) → M.stands start T machine → M.answers start T summary.now result }
 {

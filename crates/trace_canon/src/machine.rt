@@ -1,6 +1,7 @@
 //! A command as a machine: what it says of each frame of a log, and at the end.
 ghost use Rattle.std.specs.Prelude.{◌≡◌, ℕ, ◌^◌, ◌<◌, List, [], ◌∷◌, ◌++◌, length, OnOk, OnErr, Result};
 ghost use Rattle.isotp_receive.specs.declared.TheConstants.{MESSAGE_LIMIT};
+ghost use Rattle.isotp_receive.specs.Capacities.{KeepsWithin};
 ghost use Rattle.isotp_receive.specs.EventSeen.{seen_event};
 ghost use Rattle.isotp_receive.specs.StandingReception.{receptions_after};
 ghost use Rattle.isotp_receive.specs.Trace.{Entry};
@@ -59,7 +60,7 @@ pub trait Machine {
         ensures needs { OnErr result ((start : Self) (T : List Entry) (e : Entry) → e.dir ≡ dir → seen_event event.entry ≡ verdict MESSAGE_LIMIT T e
             → stands start T self.old → needs start T e) };
 
-    /// Takes the end of the log: the receptions that stand, and the counts.
+    /// Takes the end of the log: the receptions that stand, in no more memory than they may keep, and the counts.
     fn end<S: TextSink>(
         self,
         pair: &Pair,
@@ -67,6 +68,7 @@ pub trait Machine {
         out: &mut S,
     ) -> Result<Self::Answer, Stop>
         ensures says { (start : Self) (T : List Entry) → stands start T self → pair.now.receptions ≡ receptions_after MESSAGE_LIMIT T
+            → KeepsWithin MESSAGE_LIMIT T pair.now
             → S.says out.old ((script start).last T summary.now) out.new }
         ensures answered { (start : Self) (T : List Entry) → stands start T self → answers start T summary.now result };
 }

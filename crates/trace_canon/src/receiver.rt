@@ -2,6 +2,8 @@
 ghost use Rattle.std.specs.Prelude.{◌≡◌, ◌^◌, ◌<◌, List, [], ◌∷◌, ◌++◌, length, OnOk, IfErr, Some, true, false};
 ghost use Rattle.can_log.specs.declared.frame.Stamped.{Stamped as StampedValue};
 ghost use Rattle.isotp_receive.specs.declared.TheConstants.{MESSAGE_LIMIT};
+ghost use Rattle.isotp_pdu.specs.Reading.{layout_of};
+ghost use Rattle.isotp_receive.specs.Capacities.{CapacitiesGrow};
 ghost use Rattle.isotp_receive.specs.EventSeen.{seen_event};
 ghost use Rattle.isotp_receive.specs.StandingReception.{receptions_after};
 ghost use Rattle.isotp_receive.specs.Trace.{Entry};
@@ -109,6 +111,7 @@ fn receive<E: EventTaker>(
 ) -> Result<(), E::Fault>
     ensures pair { OnOk result ((T : List Entry) → pair.old.receptions ≡ receptions_after MESSAGE_LIMIT T
         → pair.new.receptions ≡ receptions_after MESSAGE_LIMIT (T ++ record { line = line; micros = micros; dir = dir; frame = frame.now } ∷ [])) }
+    ensures grew { OnOk result (CapacitiesGrow MESSAGE_LIMIT dir (layout_of frame.now) pair.old pair.new) }
     ensures counts { OnOk result ((T : List Entry) → pair.old.receptions ≡ receptions_after MESSAGE_LIMIT T
         → CountsEvent counts.old (verdict MESSAGE_LIMIT T (record { line = line; micros = micros; dir = dir; frame = frame.now })) counts.new) }
     ensures ok { OnOk result ((start : E × E.Device) (T : List Entry) → pair.old.receptions ≡ receptions_after MESSAGE_LIMIT T → length T < 2 ^ 62
@@ -138,14 +141,14 @@ pub(crate) struct Receiver<E> {
 }
 
 impl<E> Receiver<E> {
-    ghost use Rattle.std.specs.Prelude.{◌≡◌, []};
-    ghost use Rattle.isotp_receive.specs.StandingReception.{receptions_after};
+    ghost use Rattle.std.specs.Prelude.{◌≡◌};
+    ghost use Rattle.isotp_receive.specs.Capacities.{new_pair};
     ghost use Rattle.isotp_receive.specs.declared.TheConstants.{MESSAGE_LIMIT};
     ghost use Rattle.trace_canon.specs.Receiving.{IsReceiverStart};
 
-    /// Before the first line, with a pair that has received no frame.
+    /// Before the first line, with a pair that has received no frame and keeps no memory.
     pub(crate) fn start(config: &Config, pair: Pair, taker: E) -> Receiver<E>
-        requires { pair.receptions ≡ receptions_after MESSAGE_LIMIT [] }
+        requires { pair ≡ new_pair MESSAGE_LIMIT }
         ensures { IsReceiverStart config.now taker result.config result.pair result.lines result.counts result.taker }
     {
         Receiver {

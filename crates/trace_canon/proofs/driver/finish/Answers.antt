@@ -14,7 +14,7 @@ returns-then-not-settle-clause-ends g c = λ start first settings meanings recei
     let counted = c.sum_up-summary.ensures settings meanings received tells.removed.counted in
     subst (λ b. Carries W start (whole_of_lines script MESSAGE_LIMIT settings meanings) (not b) [] c.settle.new.target) c.if-not-settle.true
     (carried_at_the_end (g.M.Machine.stands first) W script start settings meanings _ _ _ _ _ _ _ _ _ c.settle.result c.sum_up-summary.result tells counted
-    (c.tell_end-answer.ensures.says first (trace settings meanings) tells.machine_stands received.pair_is) c.settle.ensures.settled)
+    (c.tell_end-answer.ensures.says first (trace settings meanings) tells.machine_stands received.pair_is received.keeps) c.settle.ensures.settled)
 
 pub returns-in-Ok-clause-ends : goal.returns-in-Ok-clause-ends
 returns-in-Ok-clause-ends g c = λ start first settings meanings received tells.
@@ -26,7 +26,7 @@ returns-in-Ok-clause-ends g c = λ start first settings meanings received tells.
           (subst (λ r. M.answers first (trace settings meanings) c.sum_up-summary.result r) c.in-Ok.is (c.tell_end-answer.ensures.answered first (trace settings meanings) tells.machine_stands)),
       subst (λ b. Carries W start (whole_of_lines script MESSAGE_LIMIT settings meanings) (not b) [] c.settle.new.target) c.if-not-settle.false
           (carried_at_the_end (M.stands first) W script start settings meanings _ _ _ _ _ _ _ _ _ c.settle.result c.sum_up-summary.result tells counted
-          (c.tell_end-answer.ensures.says first (trace settings meanings) tells.machine_stands received.pair_is) c.settle.ensures.settled),
+          (c.tell_end-answer.ensures.says first (trace settings meanings) tells.machine_stands received.pair_is received.keeps) c.settle.ensures.settled),
     )
 
 pub returns-clause-ends : goal.returns-clause-ends
@@ -39,20 +39,20 @@ returns-clause-ends g c = λ start first settings meanings received tells.
           (subst (λ r. M.answers first (trace settings meanings) c.sum_up-summary.result r) (c.in-Err-OutputLimit.is ∙ ap Err (only_stop c.in-Err-OutputLimit.field-0)) (c.tell_end-answer.ensures.answered first (trace settings meanings) tells.machine_stands)),
       subst (λ b. Carries W start (whole_of_lines script MESSAGE_LIMIT settings meanings) (not b) [] c.settle.new.target) c.if-not-settle.false
           (carried_at_the_end (M.stands first) W script start settings meanings _ _ _ _ _ _ _ _ _ c.settle.result c.sum_up-summary.result tells counted
-          (c.tell_end-answer.ensures.says first (trace settings meanings) tells.machine_stands received.pair_is) c.settle.ensures.settled),
+          (c.tell_end-answer.ensures.says first (trace settings meanings) tells.machine_stands received.pair_is received.keeps) c.settle.ensures.settled),
     )
 
 pub returns-then-not-settle-clause-more : goal.returns-then-not-settle-clause-more
 returns-then-not-settle-clause-more g c = λ mid said first settings meanings received stands carried.
-    let told = c.tell_end-answer.ensures.says first (trace settings meanings) stands received.pair_is in
+    let told = c.tell_end-answer.ensures.says first (trace settings meanings) stands received.pair_is received.keeps in
     only_more (c.settle.ensures.settled mid _ (told mid said carried))
 
 pub returns-in-Ok-clause-more : goal.returns-in-Ok-clause-more
 returns-in-Ok-clause-more g c = λ mid said first settings meanings received stands carried.
-    let told = c.tell_end-answer.ensures.says first (trace settings meanings) stands received.pair_is in
+    let told = c.tell_end-answer.ensures.says first (trace settings meanings) stands received.pair_is received.keeps in
     only_more (c.settle.ensures.settled mid _ (told mid said carried))
 
 pub returns-clause-more : goal.returns-clause-more
 returns-clause-more g c = λ mid said first settings meanings received stands carried.
-    let told = c.tell_end-answer.ensures.says first (trace settings meanings) stands received.pair_is in
+    let told = c.tell_end-answer.ensures.says first (trace settings meanings) stands received.pair_is received.keeps in
     only_more (c.settle.ensures.settled mid _ (told mid said carried))
