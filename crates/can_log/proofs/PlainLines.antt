@@ -10,7 +10,7 @@ use Rattle.can_log.specs.declared.frame.Id.{Id}
 use Rattle.can_log.specs.declared.frame.Kind.{Kind}
 use Rattle.can_log.specs.Frame.{IsFrame, IsIdentifier}
 use Rattle.can_log.proofs.SpelledBytes.{bytes_len}
-use Rattle.can_log.specs.Line.{spell_body, spell_line, identifier_of, frame_kind_of, bytes_spelled, IsRunOf, IsIdentifierText, IsDataText, IsBody, IsLineSpelling}
+use Rattle.can_log.specs.Line.{spell_body, spell_line, identifier_of, frame_kind_of, data_of, bytes_spelled, IsRunOf, IsIdentifierText, IsDataText, IsBody, IsLineSpelling}
 use Rattle.can_log.specs.Plain.{HavePlainWidths, IsStamp, AreDecimals, AreFlags, seconds_of, micros_of, most_digits, flags_spelled, digits_of, body_text, body_with, plain_text, spelling_of}
 use Rattle.can_log.proofs.EachElement.{AllByRecursion-front, AllByRecursion-back}
 use Rattle.can_log.proofs.Spelling.{id_to}
@@ -74,6 +74,11 @@ plain_frame (Some flags) identifier digits bytes id kind text data_text is_id is
   identifier = rw is_id (identifier_is identifier text);
   data_length = rw (is_kind, spelled) (omega (arith, bytes_len digits data_text.1, data_text.0.few));
 }
+
+-- its data is what the digits spell, with flags or without
+pub plain_bytes : (flags : Option (Bor (List ℕ))) (digits : List ℕ) → bytes_spelled digits ≡ data_of (body_with flags digits)
+plain_bytes None digits = refl
+plain_bytes (Some flags) digits = refl
 
 -- a line of plain form has no more digits of data than any may have
 pub plain_data : (flags : Option (Bor (List ℕ))) (digits : List ℕ) → IsDataText (most_digits flags) digits → IsDataText 128 digits

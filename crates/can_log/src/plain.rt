@@ -2,6 +2,7 @@
 //! line is judged as a whole, sixteen bytes at a time, and its end is found from that of its data.
 
 ghost use Rattle.std.specs.Prelude.{◌≡◌, ◌≤◌, ◌+◌, ◌*◌, ◌++◌, IfSome, None, codes, length, take};
+ghost use Rattle.std.specs.Str.Parse.{digits_value};
 ghost use Rattle.can_log.specs.Line.{parts_in, identifier_of, stamped_of, frame_kind_of, spell_line, IsLineSpelling, IsRunOf, IsIdentifierText, IsDataText};
 ghost use Rattle.can_log.specs.FieldReader.{is_in};
 ghost use Rattle.can_log.specs.Plain.{HavePlainWidths, AreDecimals, seconds_of, micros_of, IsPlainBody, AreFlags, digits_of, body_with, flags_spelled, most_digits, body_text, plain_text, spelling_of};
@@ -97,7 +98,7 @@ pub(crate) fn plain_stamped(fields: Fields<'_>, id: Id) -> Stamped
     let data = decoded(plain_digits(fields));
     let frame = Frame::from_parts(id, plain_kind(fields), data);
     Stamped {
-        micros: time_of(fields.stamp),
+        micros: plain_time(fields),
         frame,
     }
 }
@@ -111,15 +112,25 @@ pub(crate) fn put_plain_stamped(fields: Fields<'_>, id: Id, stamped: &mut Stampe
     requires size { length (digits_of fields.body) ≡ 2 * length stamped.old.frame.bytes }
     ensures { stamped.new ≡ stamped_of (parts_in (spelling_of fields.entry)) }
 {
-    stamped.micros = time_of(fields.stamp);
+    stamped.micros = plain_time(fields);
     stamped
         .frame
         .change(id, plain_kind(fields), plain_digits(fields));
 }
 
+/// The time of a line with these fields, in microseconds.
+#[inline(always)]
+pub(crate) fn plain_time(fields: Fields<'_>) -> u64
+    requires widths { HavePlainWidths fields }
+    requires decimals { AreDecimals (seconds_of fields.stamp.now ++ micros_of fields.stamp.now) }
+    ensures { result ≡ digits_value 10 (seconds_of fields.entry.stamp.now) * 1000000 + digits_value 10 (micros_of fields.entry.stamp.now) }
+{
+    time_of(fields.stamp)
+}
+
 /// The kind of the frame: an FD frame has flags.
 #[inline(always)]
-fn plain_kind(fields: Fields<'_>) -> Kind
+pub(crate) fn plain_kind(fields: Fields<'_>) -> Kind
     ensures { result ≡ frame_kind_of (body_with fields.entry.body.flags (digits_of fields.entry.body)) }
 {
     match fields.body.flags {

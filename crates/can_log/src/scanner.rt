@@ -1,7 +1,8 @@
 //! Lines out of the pieces of a log.
 
 ghost use Rattle.std.specs.Prelude.{◌≡◌, ℕ, ◌≤◌, ◌+◌, ◌^◌, ◌++◌, Option, Some, ◌<◌, IfOk, IfErr, IfNone, IfSome, codes, length, take};
-ghost use Rattle.can_log.specs.Line.{LineMeans, identifier_of, stamped_of, parts_in};
+ghost use Rattle.can_log.specs.Frame.{IsFrame};
+ghost use Rattle.can_log.specs.Line.{LineMeans, IsDataText, bytes_spelled, identifier_of, stamped_of, parts_in};
 ghost use Rattle.can_log.specs.Refused.{NoLineFeed, HasCompletion, IsRefusedPlace};
 ghost use Rattle.can_log.specs.Judging.{Judged};
 ghost use Rattle.can_log.specs.Scanning.{Scans, ScansForeign, Finishes};
@@ -11,13 +12,13 @@ ghost use Rattle.can_log.specs.declared.frame.Stamped.{Stamped as StampedValue};
 ghost use Rattle.can_log.specs.Plain.{HavePlainWidths, AreDecimals, seconds_of, micros_of, spelling_of};
 
 use crate::field::Stop;
-use crate::frame::{Id, Stamped};
+use crate::frame::{Frame, Id, Kind, Stamped};
 use crate::lanes::LANES;
 use crate::line::judge;
-use crate::meaning::stamped_of;
+use crate::meaning::{decoded, stamped_of};
 use crate::plain::{
-    Fields, LONGEST_PLAIN, plain_digits, plain_identifier, plain_line, plain_stamped,
-    put_plain_stamped,
+    Fields, LONGEST_PLAIN, plain_digits, plain_identifier, plain_kind, plain_line, plain_stamped,
+    plain_time, put_plain_stamped,
 };
 use arrayvec::ArrayVec;
 use memchr::memchr;
@@ -294,21 +295,40 @@ fn answer_plain(answer: &mut Scan, used: usize, line: u64, fields: Fields<'_>, i
             return;
         }
     }
-    answer_anew(answer, used, line, fields, id);
+    answer_anew(
+        answer,
+        used,
+        line,
+        plain_time(fields),
+        id,
+        plain_kind(fields),
+        plain_digits(fields),
+    );
 }
 
-/// The same with a frame made anew, whatever was answered before.
+/// Answers with a frame made anew, whatever was answered before. It is handed the parts of the frame, and not the fields of
+/// the line: for those the caller would clear room with each line.
 #[inline(never)]
-fn answer_anew(answer: &mut Scan, used: usize, line: u64, fields: Fields<'_>, id: Id)
-    requires widths { HavePlainWidths fields }
-    requires identifier { id ≡ identifier_of fields.identifier.now }
-    requires decimals { AreDecimals (seconds_of fields.stamp.now ++ micros_of fields.stamp.now) }
-    ensures { answer.new ≡ Line used line (Some (stamped_of (parts_in (spelling_of fields.entry)))) }
+fn answer_anew(
+    answer: &mut Scan,
+    used: usize,
+    line: u64,
+    micros: u64,
+    id: Id,
+    kind: Kind,
+    digits: &[u8],
+)
+    requires text { IsDataText 128 digits.now }
+    requires frame { IsFrame id kind (bytes_spelled digits.now) }
+    ensures { answer.new ≡ Line used line (Some (record { micros = micros; frame = record { id = id; kind = kind; bytes = bytes_spelled digits.now } })) }
 {
     *answer = Scan::Line {
         used,
         line,
-        what: Some(plain_stamped(fields, id)),
+        what: Some(Stamped {
+            micros,
+            frame: Frame::from_parts(id, kind, decoded(digits)),
+        }),
     };
 }
 
