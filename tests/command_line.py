@@ -13,8 +13,9 @@ from pathlib import Path
 
 from cases import DEVICE, DIFFERENT, DONE, REFUSAL, WORDS, Cases
 from counts import counts_line
-from told import LONG_CANONICAL, LONG_LOG, READ_FAILED, oversize, place
+from told import LONG_CANONICAL, LONG_LOG, READ_FAILED, WRITE_FAILED, oversize, place
 
+VERSION = b"udsnorm " + Path(__file__).resolve().parent.parent.joinpath("VERSION").read_bytes()
 LOG = b"(1700000000.000000) can0 7E0#0322F190\n"
 CANONICAL = b"(0000000000.000000) can0 7E0#0322F190CCCCCCCC\n"
 LIST = b"1 exchange ReadDataByIdentifier 22F190 -> unanswered\n"
@@ -37,6 +38,7 @@ FAILED_DEVICE = b"4 a file can't be opened, or reading or writing failed, 5 out 
 PROGRAM_HELP = [
     b"Gives recorded vehicle diagnostic sessions one canonical spelling",
     b"Usage: udsnorm <COMMAND>",
+    b"  -V, --version  Print version",
     b"  0  done, even if a log holds neither identifier; compare: the logs mean the same",
     b"  4  a file can't be opened, or reading or writing failed",
     b"Example: udsnorm compare yesterday.log today.log",
@@ -217,12 +219,20 @@ def help_texts(cases):
         wrong += [] if len(told) <= 26 and max(map(len, told)) <= 100 else ["more than a screen"]
         cases.report(f"help by {words}", wrong)
     with open("/dev/full", "wb") as full:
-        cases.case("help on a full disk", cases.run(["--help"], stdout=full), DEVICE, None, b"write failed\n")
+        cases.case("help on a full disk", cases.run(["--help"], stdout=full), DEVICE, None, WRITE_FAILED)
+
+
+def version(cases):
+    """The number of the version is that of the file, and no log is read for it."""
+    for words in [["--version"], ["-V"]]:
+        cases.case(f"the version by {words}", cases.run(words, LOG), DONE, VERSION)
+    with open("/dev/full", "wb") as full:
+        cases.case("the version on a full disk", cases.run(["--version"], stdout=full), DEVICE, None, WRITE_FAILED)
 
 
 def wrong_words(cases):
     for words in [
-        ["lis"], ["Normalise"], [""], ["help"], ["--version"], ["-V"], ["list", "--version"], ["--tester", "7E0"],
+        ["lis"], ["Normalise"], [""], ["help"], ["--version=1"], ["-v"], ["list", "--version"], ["list", "-V"], ["--tester", "7E0"],
         ["--limit", "5", "list"], ["a.log"], ["compare"], ["compare", "a"], ["compare", "--", "a"], ["compare", "--limit", "5", "a"], ["compare", "a", "b", "c"], ["list", "a", "b"],
         ["list", "--limit"], ["list", "--limit", "1", "--limit", "2"], ["list", "--tester=7E0", "--tester=7E0"],
         ["list", "--limi", "1"], ["list", "--limit=x"], ["list", "--limit=-1"], ["list", "--limit=1.5"], ["list", "--limit="],
@@ -280,7 +290,7 @@ def main():
         for name, log in files.items():
             Path(folder, name).write_bytes(log)
         os.chdir(folder)
-        for test in [jobs, options, extended_identifiers, comparisons, files_that_fail, paths_of_each_size, words_of_each_size, help_texts, wrong_words, wrong_values]:
+        for test in [jobs, options, extended_identifiers, comparisons, files_that_fail, paths_of_each_size, words_of_each_size, help_texts, version, wrong_words, wrong_values]:
             test(cases)
         os.chdir("/")
     cases.end()

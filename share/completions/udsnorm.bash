@@ -10,7 +10,7 @@ _udsnorm()
         --tester | --unit | --limit) return ;;
     esac
     if [[ $COMP_CWORD -eq 1 ]]; then
-        mapfile -t COMPREPLY < <(compgen -W "$commands -h --help" -- "$word")
+        mapfile -t COMPREPLY < <(compgen -W "$commands -h --help -V --version" -- "$word")
     elif [[ $word == -* ]]; then
         mapfile -t COMPREPLY < <(compgen -W "-h $options" -- "$word")
     else

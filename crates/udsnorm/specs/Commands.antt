@@ -32,12 +32,14 @@ required name = record (new_rule name) { required = true }
 abbrev pub two_logs : List Rule
 two_logs = required (codes "A") ∷ required (codes "B") ∷ []
 
--- the program before its commands: it has no options itself, and one command has to be named
+-- the program before its commands: it has no options but those that ask for help and for its version, and one command has to
+-- be named
 abbrev pub program : Shape
 program = record (new_shape (codes "udsnorm")) {
   no_binary_name = true;
   disable_help_subcommand = true;
   subcommand_required = true;
+  has_version = true;
 }
 
 -- the program

@@ -5,7 +5,7 @@ use Rattle.clap.specs.Kinds.{IsAmong, Kinds}
 use Rattle.clap.specs.ValueTests.{is_unsigned_in}
 use Rattle.clap.specs.Walk.{Row, Text, first_of, one_of}
 use Rattle.clap.specs.declared.error.kind.ErrorKind.{ErrorKind}
-use Rattle.clap.specs.declared.error.kind.ErrorKind.TheVariants.{DisplayHelp, OutOfMemory}
+use Rattle.clap.specs.declared.error.kind.ErrorKind.TheVariants.{DisplayHelp, DisplayVersion, OutOfMemory}
 use Rattle.can_log.specs.declared.frame.Id.{Id}
 use Rattle.trace_canon.specs.Settings.{Settings, Configures}
 use Rattle.udsnorm.specs.Commands.{command_in, refusals}
@@ -89,17 +89,17 @@ IsPlannedFrom (Some found) (Err fault) = IsRefusedFor (job_named found.0) found.
 
 -- what an error of the parser of this kind is called
 abbrev pub IsCalled : ErrorKind → WordsFault → Type 0
-IsCalled kind (Help text) = kind ≡ DisplayHelp
-IsCalled kind (Words text) = (kind ≢ DisplayHelp) × (kind ≢ OutOfMemory)
+IsCalled kind (Help text) = (kind ≡ DisplayHelp) ⊎ (kind ≡ DisplayVersion)
+IsCalled kind (Words text) = (kind ≢ DisplayHelp) × (kind ≢ DisplayVersion) × (kind ≢ OutOfMemory)
 IsCalled kind Memory = kind ≡ OutOfMemory
 IsCalled kind Identifier = ⊥
 IsCalled kind (Config fault) = ⊥
 
--- what is said of words that the parser does not take: help, where that was asked for, or what is wrong with them; or that
--- memory is refused
+-- what is said of words that the parser does not take: help or the version, where one of them was asked for, or what is wrong
+-- with them; or that memory is refused
 abbrev pub IsRefusedBy : Kinds → WordsFault → Type 0
-IsRefusedBy kinds (Help text) = IsAmong DisplayHelp kinds
-IsRefusedBy kinds (Words text) = (kind : ErrorKind) × (kind ≢ DisplayHelp) × IsAmong kind kinds
+IsRefusedBy kinds (Help text) = IsAmong DisplayHelp kinds ⊎ IsAmong DisplayVersion kinds
+IsRefusedBy kinds (Words text) = (kind : ErrorKind) × (kind ≢ DisplayHelp) × (kind ≢ DisplayVersion) × IsAmong kind kinds
 IsRefusedBy kinds Memory = ⊤
 IsRefusedBy kinds Identifier = ⊥
 IsRefusedBy kinds (Config fault) = ⊥

@@ -20,6 +20,9 @@ pub(crate) const LEFT: &str = "A";
 
 pub(crate) const RIGHT: &str = "B";
 
+/// The number of this version, as the file `VERSION` has it.
+const VERSION: &str = "0.1.0";
+
 /// What follows the list of commands in the program's help.
 const OF_THE_PROGRAM: &str = "\
 A LOG is what `candump -l` or `candump -L` writes; without LOG standard input is read.
@@ -32,7 +35,6 @@ Exit status:
   3  a log is refused
   4  a file can't be opened, or reading or writing failed
   5  out of memory
-
 Example: udsnorm compare yesterday.log today.log";
 
 const OF_NORMALISE: &str = "\
@@ -110,6 +112,7 @@ fn program<'a>(alloc: Global) -> Result<Command<'a>, AllocError>
         .no_binary_name(true)
         .disable_help_subcommand(true)
         .subcommand_required(true)
+        .version(VERSION)
         .about("Gives recorded vehicle diagnostic sessions one canonical spelling")
         .after_help(OF_THE_PROGRAM)
         .bin_name("udsnorm")

@@ -38,7 +38,7 @@ pub enum Plan {
 /// Why a command line asks for nothing that the program does.
 #[derive(Debug, Drop, Error)]
 pub enum WordsFault {
-    /// Help was asked for. This is its text.
+    /// Help or the version was asked for. This is its text.
     #[error("{0}")]
     Help(String),
     /// The words don't fit the commands and their options. This is the parser's text.

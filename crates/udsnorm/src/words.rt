@@ -47,7 +47,9 @@ fn refusal(alloc: Global, error: &Error) -> Result<WordsFault, AllocError>
 {
     match error.kind() {
         ErrorKind::OutOfMemory => Ok(WordsFault::Memory),
-        ErrorKind::DisplayHelp => Ok(WordsFault::Help(format!(in alloc; "{error}")?)),
+        ErrorKind::DisplayHelp | ErrorKind::DisplayVersion => {
+            Ok(WordsFault::Help(format!(in alloc; "{error}")?))
+        }
         _ => Ok(WordsFault::Words(format!(in alloc; "{error}")?)),
     }
 }
