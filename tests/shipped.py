@@ -75,7 +75,8 @@ def bash_completes(cases):
     for words, want in [
         (["udsnorm", ""], ["normalise", "list", "explain", "compare", "-h", "--help", "-V", "--version"]),
         (["udsnorm", "co"], ["compare"]),
-        (["udsnorm", "list", "--"], ["--tester", "--unit", "--limit", "--help"]),
+        (["udsnorm", "list", "--"], ["--tester", "--unit", "--limit", "--help", "--no-numbers"]),
+        (["udsnorm", "explain", "--"], ["--tester", "--unit", "--limit", "--help"]),
         (["udsnorm", "list", "--tester", "7"], []),
     ]:
         line = " ".join(f"'{word}'" for word in words)

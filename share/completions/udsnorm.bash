@@ -12,6 +12,7 @@ _udsnorm()
     if [[ $COMP_CWORD -eq 1 ]]; then
         mapfile -t COMPREPLY < <(compgen -W "$commands -h --help -V --version" -- "$word")
     elif [[ $word == -* ]]; then
+        [[ ${COMP_WORDS[1]} == list ]] && options+=" --no-numbers"
         mapfile -t COMPREPLY < <(compgen -W "-h $options" -- "$word")
     else
         compopt -o filenames

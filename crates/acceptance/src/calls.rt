@@ -9,7 +9,7 @@ use std::io::{ErrorKind, Read, Write};
 use std::process::Abort;
 use std::test::Fail;
 use trace_canon::{
-    CompareFault, Comparison, Config, ConfigFault, Fault, Summary, compare, explain, list,
+    CompareFault, Comparison, Config, ConfigFault, Fault, Numbering, Summary, compare, explain, list,
     meaning_of, normalise,
 };
 use trace_io::{FailsAfter, FailsAt, Reading, Short, Source, Target, Writing};
@@ -64,7 +64,7 @@ pub(crate) fn answer_of<R: Read + Drop, W: Write + Drop>(
     let (mut reader, mut writer) = (Reading::new(reader), Writing::new(writer));
     let answer = match call {
         Call::Normalise => normalise(alloc, &config, &mut reader, &mut writer),
-        Call::List => list(alloc, &config, &mut reader, &mut writer),
+        Call::List => list(alloc, &config, Numbering::Shown, &mut reader, &mut writer),
         Call::Explain => explain(alloc, &config, &mut reader, &mut writer),
     };
     Ok((answer, writer))

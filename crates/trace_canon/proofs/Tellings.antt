@@ -1,7 +1,6 @@
 -- What a run that tells a log answers, from what its parts have promised.
 use Rattle.std.proofs.Common.{◌-◌, Some, None, ◌≡◌, ◌≢◌, ◌⊎◌, ℕ, ◌+◌, ◌<◌, ◌≤◌, ◌^◌, Bool, true, false, List, [], ◌∷◌, ◌++◌, length, take, drop, arith, refl, ap, sym, subst, ◌∙◌, Option, Result, Ok, Err, inl, inr, append-nil, append_assoc, length-append}
 use Rattle.std.specs.Prelude.{min, not}
-use Rattle.std.specs.Result.{IfOk, OnOk}
 use Rattle.std.proofs.Math.Nat.{le-min, min-le_left}
 use Rattle.std.proofs.lemmas.List.{take-append-drop, length-take-le}
 use Rattle.can_log.specs.Log.{LogMeans}
@@ -12,7 +11,6 @@ use Rattle.isotp_receive.specs.Verdict.{EventValue, messages, told_message, verd
 use Rattle.isotp_receive.specs.declared.TheConstants.{MESSAGE_LIMIT}
 use Rattle.trace_io.proofs.Takings.{took_no_byte}
 use Rattle.trace_io.specs.Written.{HasFront}
-use Rattle.trace_io.specs.declared.device.Source.{Ghosts as SourceGhosts}
 use Rattle.trace_io.specs.declared.device.Target.{Ghosts}
 use Rattle.trace_canon.specs.declared.driver.Telling.{Telling}
 use Rattle.trace_canon.specs.declared.driver.TellingFault.{TellingFault}

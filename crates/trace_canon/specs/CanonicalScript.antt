@@ -9,9 +9,8 @@ use Rattle.uds_exchange.specs.Order.{early, held}
 use Rattle.uds_exchange.specs.Orderer.{OrdererValue, stands_after}
 use Rattle.trace_canon.specs.Settings.{Settings}
 use Rattle.trace_canon.specs.Told.{Script, Answering, AnswersTold, told, TellsEagerly}
-use Rattle.trace_canon.specs.Answers.{Answers, WritesFront}
+use Rattle.trace_canon.specs.Answers.{Answers}
 use Rattle.trace_canon.specs.declared.fault.Fault.{Fault}
-use Rattle.trace_canon.specs.declared.fault.Fault.TheVariants.{BadLine, Oversize, LogLimit, OutputLimit, Read, Write, Memory}
 use Rattle.trace_canon.specs.declared.machine.Stop.TheVariants as stop
 use Rattle.trace_canon.specs.declared.summary.Summary.{Summary}
 use Rattle.uds_exchange.specs.Meaning.{meaning, flattened}

@@ -1,10 +1,9 @@
 -- What is answered and written by a run that tells something of each frame of a log as it comes, and something at the end:
 -- one statement over any script. A command says which script is its own.
-use Rattle.std.specs.Prelude.{◌≡◌, ℕ, ◌+◌, ◌-◌, ◌^◌, ◌≤◌, List, [], ◌∷◌, ◌++◌, Option, Result, Ok, Err, OnOk, IfOk, length, true, ◌⊎◌, ◌<◌, Bool, false, ⊤}
-use Rattle.std.specs.Io.KnownBytes.{IsAtEnd}
+use Rattle.std.specs.Prelude.{◌≡◌, ℕ, ◌-◌, ◌≤◌, List, [], ◌∷◌, ◌++◌, Option, Result, Ok, Err, length, true, ◌⊎◌, ◌<◌, Bool, false, ⊤}
 use Rattle.can_log.specs.declared.frame.Stamped.{Stamped}
 use Rattle.isotp_receive.specs.Trace.{Entry}
-use Rattle.trace_io.specs.Stream.{Agrees, Gave, Took}
+use Rattle.trace_io.specs.Stream.{Agrees}
 use Rattle.trace_io.specs.Written.{HasFront}
 use Rattle.trace_io.specs.declared.device.Source.{Ghosts as SourceGhosts}
 use Rattle.trace_io.specs.declared.device.Target.{Ghosts as TargetGhosts}

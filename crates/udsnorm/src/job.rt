@@ -5,15 +5,15 @@ ghost use Rattle.udsnorm.specs.declared.job.WordsFault.TheVariants as words_faul
 
 use std::alloc::AllocError;
 use thiserror::Error;
-use trace_canon::{Config, ConfigFault};
+use trace_canon::{Config, ConfigFault, Numbering};
 
 /// What the program does with one log.
 #[derive(Clone, Copy, PartialEq, Eq)]
 pub enum Job {
     /// Writes the canonical log.
     Normalise,
-    /// Writes the exchanges and stray messages.
-    List,
+    /// Writes the exchanges and stray messages, with their numbers or without.
+    List(Numbering),
     /// Writes which frames were dropped, and which receptions ended early, and why.
     Explain,
 }

@@ -1,4 +1,4 @@
-use Rattle.std.proofs.Common.{◌⊎◌, ◌≡◌, ◌-◌, ◌≤◌, ◌^◌, [], List, length, arith, ap, sym, subst, ◌∙◌, Option, Err, Ok, ℕ, true}
+use Rattle.std.proofs.Common.{◌⊎◌, ◌≡◌, ◌-◌, List, length, arith, ap, subst, ◌∙◌, Option, Err, ℕ, true}
 use Rattle.can_log.specs.declared.frame.Stamped.{Stamped}
 use Rattle.std.specs.List.{AllByRecursion}
 use Rattle.trace_canon.specs.Announcing.{AnnouncesWithin}
@@ -7,7 +7,6 @@ use Rattle.trace_canon.specs.Needing.{HasFrame, IsKeptForMessage}
 use Rattle.isotp_receive.specs.declared.TheConstants.{MESSAGE_LIMIT}
 use Rattle.trace_canon.specs.declared.driver.Telling.{Telling}
 use Rattle.trace_canon.specs.declared.receiver.Receiver.{Receiver}
-use Rattle.trace_io.specs.Stream.{Took}
 use Rattle.trace_canon.specs.Carrying.{EndsTelling}
 use Rattle.trace_canon.specs.Told.{Script, StopsNothingWithin, AnswersTold, TellsEagerly}
 use Rattle.trace_canon.specs.Answers.{ReadsWhile}

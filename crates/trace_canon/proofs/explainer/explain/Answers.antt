@@ -1,4 +1,3 @@
-use Rattle.std.proofs.Common.{List, ℕ, ◌-◌, length, refl, sym, append-nil, ◌∙◌}
 use Rattle.isotp_receive.specs.declared.TheConstants.{MESSAGE_LIMIT}
 use Rattle.trace_canon.proofs.ExplainScripts.{explain_tells_the_same, certifies, never_oversize, never_output_limit, needs_to_receive}
 use Rattle.trace_canon.proofs.Streams.{given_agrees}

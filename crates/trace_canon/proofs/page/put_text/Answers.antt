@@ -1,4 +1,4 @@
-use Rattle.std.proofs.Common.{arith, length-append, refl, ◌≡◌, ◌+◌, ◌++◌, true, false, Ok, Err, ap, sym, subst, ◌∙◌}
+use Rattle.std.proofs.Common.{arith, length-append, refl, ◌+◌, ◌++◌, true, false, ap, sym, subst, ◌∙◌}
 use Rattle.can_log.proofs.Lists.{nonempty}
 use Rattle.trace_io.proofs.Takings.{took_more}
 use Rattle.trace_canon.specs.Carrying.{Carries}

@@ -1,4 +1,4 @@
-use Rattle.std.proofs.Common.{arith, refl, ◌≡◌, ◌+◌, ◌++◌, append-nil, false, [], Err, ap, sym, subst, ◌∙◌}
+use Rattle.std.proofs.Common.{arith, refl, ◌+◌, ◌++◌, append-nil, false, [], Err, ap, sym, subst, ◌∙◌}
 use Rattle.trace_io.proofs.Takings.{took_more}
 use Rattle.trace_io.specs.Written.{HasFront}
 use Rattle.trace_canon.specs.Carrying.{Carries}
