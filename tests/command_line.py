@@ -6,6 +6,7 @@
 Prints a line for each case and ends with `N passed, M failed`; its status is 1 where a case failed.
 """
 
+import difflib
 import os
 import sys
 import tempfile
@@ -13,8 +14,9 @@ from pathlib import Path
 
 from cases import DEVICE, DIFFERENT, DONE, REFUSAL, WORDS, Cases
 from counts import counts_line
-from told import LONG_CANONICAL, LONG_LOG, READ_FAILED, oversize, place
+from told import LONG_CANONICAL, LONG_LOG, READ_FAILED, WRITE_FAILED, oversize, place
 
+VERSION = b"udsnorm " + Path(__file__).resolve().parent.parent.joinpath("VERSION").read_bytes()
 LOG = b"(1700000000.000000) can0 7E0#0322F190\n"
 CANONICAL = b"(0000000000.000000) can0 7E0#0322F190CCCCCCCC\n"
 LIST = b"1 exchange ReadDataByIdentifier 22F190 -> unanswered\n"
@@ -37,6 +39,7 @@ FAILED_DEVICE = b"4 a file can't be opened, or reading or writing failed, 5 out 
 PROGRAM_HELP = [
     b"Gives recorded vehicle diagnostic sessions one canonical spelling",
     b"Usage: udsnorm <COMMAND>",
+    b"  -V, --version  Print version",
     b"  0  done, even if a log holds neither identifier; compare: the logs mean the same",
     b"  4  a file can't be opened, or reading or writing failed",
     b"Example: udsnorm compare yesterday.log today.log",
@@ -114,6 +117,19 @@ def options(cases):
     cases.case("--limit below the canonical log", cases.run(["list", "--limit", "45"], LOG), REFUSAL, b"", LONG_CANONICAL)
     cases.case("--limit below the log", cases.run(["explain", "--limit=37"], LOG), REFUSAL, b"", LONG_LOG)
     cases.case("the largest limit", cases.run(["list", "--limit=1099511627776"], LOG), DONE, LIST)
+
+
+def lists_without_numbers(cases):
+    """An exchange more in the middle of 600 is a line more, and changes no other; with numbers it changes each behind it."""
+    cases.case("--no-numbers", cases.run(["list", "--no-numbers"], LOG), DONE, LIST.removeprefix(b"1 "))
+    cases.case("--no-numbers after the file", cases.run(["list", "a.log", "--no-numbers"]), DONE, LIST.removeprefix(b"1 "))
+    requests = [f"(1700000000.{at:06}) can0 7E0#0322{at:04X}\n".encode() for at in range(601)]
+    one, other = b"".join(requests[:300] + requests[301:]), b"".join(requests)
+    for words, changed in [(["list", "--no-numbers"], ["+"]), (["list"], ["+"] * 301 + ["-"] * 300)]:
+        texts = [cases.run(words, log).output.decode().splitlines() for log in (one, other)]
+        marks = [line[0] for line in list(difflib.unified_diff(*texts, n=0, lineterm=""))[2:] if line[0] in "+-"]
+        wrong = [] if [*map(len, texts)] == [600, 601] and sorted(marks) == changed else [f"{len(marks)} lines changed"]
+        cases.report(f"an exchange more by {words}", wrong)
 
 
 def extended_identifiers(cases):
@@ -217,15 +233,24 @@ def help_texts(cases):
         wrong += [] if len(told) <= 26 and max(map(len, told)) <= 100 else ["more than a screen"]
         cases.report(f"help by {words}", wrong)
     with open("/dev/full", "wb") as full:
-        cases.case("help on a full disk", cases.run(["--help"], stdout=full), DEVICE, None, b"write failed\n")
+        cases.case("help on a full disk", cases.run(["--help"], stdout=full), DEVICE, None, WRITE_FAILED)
+
+
+def version(cases):
+    """The number of the version is that of the file, and no log is read for it."""
+    for words in [["--version"], ["-V"]]:
+        cases.case(f"the version by {words}", cases.run(words, LOG), DONE, VERSION)
+    with open("/dev/full", "wb") as full:
+        cases.case("the version on a full disk", cases.run(["--version"], stdout=full), DEVICE, None, WRITE_FAILED)
 
 
 def wrong_words(cases):
     for words in [
-        ["lis"], ["Normalise"], [""], ["help"], ["--version"], ["-V"], ["list", "--version"], ["--tester", "7E0"],
+        ["lis"], ["Normalise"], [""], ["help"], ["--version=1"], ["-v"], ["list", "--version"], ["list", "-V"], ["--tester", "7E0"],
         ["--limit", "5", "list"], ["a.log"], ["compare"], ["compare", "a"], ["compare", "--", "a"], ["compare", "--limit", "5", "a"], ["compare", "a", "b", "c"], ["list", "a", "b"],
         ["list", "--limit"], ["list", "--limit", "1", "--limit", "2"], ["list", "--tester=7E0", "--tester=7E0"],
-        ["list", "--limi", "1"], ["list", "--limit=x"], ["list", "--limit=-1"], ["list", "--limit=1.5"], ["list", "--limit="],
+        ["list", "--limi", "1"], ["list", "--limit=x"], ["list", "--no-numbers=1"], ["list", "--no-numbers", "--no-numbers"], ["normalise", "--no-numbers"], ["explain", "--no-numbers"],
+        ["compare", "--no-numbers", "a", "b"], ["--no-numbers"], ["list", "--limit=-1"], ["list", "--limit=1.5"], ["list", "--limit="],
         ["list", "--limit=18446744073709551616"], ["list", "--tester", "7E", "--limit", "x"], ["list", "-x"],
     ]:
         status, output, error = cases.run(words, LOG)
@@ -280,7 +305,7 @@ def main():
         for name, log in files.items():
             Path(folder, name).write_bytes(log)
         os.chdir(folder)
-        for test in [jobs, options, extended_identifiers, comparisons, files_that_fail, paths_of_each_size, words_of_each_size, help_texts, wrong_words, wrong_values]:
+        for test in [jobs, options, lists_without_numbers, extended_identifiers, comparisons, files_that_fail, paths_of_each_size, words_of_each_size, help_texts, version, wrong_words, wrong_values]:
             test(cases)
         os.chdir("/")
     cases.end()

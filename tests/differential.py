@@ -19,6 +19,7 @@ import random
 import sys
 import tempfile
 import time
+from functools import partial
 from pathlib import Path
 
 import oracle
@@ -30,7 +31,13 @@ MICROS = (0, 1, 1000, 999_999, 1_000_000, 1_000_001, -1, -1_000_000, 241, 97_000
 BYTES = b"\n\r (#_)RT0123456789ABCDEFabcdf.7E\xff\x00\x21\x7e"
 REPLACEMENTS = b"\0\n\r (F\xff"
 
-ORACLES = {"normalise": oracle.outcome, "list": oracle.listed, "explain": oracle.explained}
+NO_NUMBERS = "list --no-numbers"
+ORACLES = {
+    "normalise": oracle.outcome,
+    "list": oracle.listed,
+    NO_NUMBERS: partial(oracle.listed, has_numbers=False),
+    "explain": oracle.explained,
+}
 
 
 def frames_of(rng, sender, message):
@@ -190,7 +197,7 @@ def in_time(logs, seconds):
 
 
 def words_of(job, limit):
-    return [job] if limit == oracle.GIBIBYTE else [job, "--limit", str(limit)]
+    return job.split() if limit == oracle.GIBIBYTE else [*job.split(), "--limit", str(limit)]
 
 
 def difference(program, job, log, limit=oracle.GIBIBYTE):
@@ -222,7 +229,7 @@ def differences(program, logs):
 def random_difference(program, rng, folder, log):
     """What is found of a log by one of the four jobs."""
     limit = limit_for(rng, log)
-    job = rng.choice(("normalise", "normalise", "list", "explain", "explain", "compare"))
+    job = rng.choice(("normalise", "normalise", "list", NO_NUMBERS, "explain", "explain", "compare"))
     if job != "compare":
         return difference(program, job, log, limit)
     other = rng.choice((oracle.outcome(log).written, mutated(rng, oracle.outcome(log).written), mutated(rng, log)))

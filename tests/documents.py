@@ -14,7 +14,8 @@
 - it has each definition that a public function's contract or a law cites;
 - docs/architecture.md says of each crate of the kit that the program stands on where it is called, and the call stands there;
 - docs/proved.md cites each clause of each public call, and each law that the pages for callers leave out, and no other;
-- each fault displays the line that the program tells of it, as the page for callers of udsnorm says.
+- each fault displays the line that the program tells of it, as the page for callers of udsnorm says;
+- the number of the version stands in the program's source once, and is that of the file VERSION.
 
 Prints a line for each case and ends with `N passed, M failed`; its status is 1 where a case failed.
 """
@@ -334,13 +335,20 @@ def lines_of_faults(cases):
         cases.report(f"what {name} displays is the line that is told of it", wrong)
 
 
+def version_of_the_source(cases):
+    version = (TOP / "VERSION").read_text().rstrip("\n")
+    texts = [path.read_text() for path in (TOP / "crates" / PROGRAM / "src").glob("*.rt")]
+    told = [number for text in texts for number in re.findall(r'"(\d+\.\d+\.\d+)"', text)]
+    cases.report("the program's source has the number of the version, once", [] if told == [version] else [f"it has {told}, not {version}"])
+
+
 def main():
     if len(sys.argv) != 1:
         sys.exit(__doc__)
     cases = Cases(None)
     for test in [
         picture, links, named_files, counts, planted, wrong_bodies, tried_by_the_gate, definitions, citations, calls_of_the_kit,
-        cited_clauses, lines_of_faults,
+        cited_clauses, lines_of_faults, version_of_the_source,
     ]:
         test(cases)
     cases.end()

@@ -381,9 +381,9 @@ def digits(message):
     return message.hex().upper()
 
 
-def list_text(items):
-    """The list of items, a line each."""
-    return "".join(f"{number} {item_text(item)}\n" for number, item in enumerate(items, 1))
+def list_text(items, has_numbers=True):
+    """The list of items, a line each, with their numbers or without."""
+    return "".join(f"{number} {item_text(item)}\n" if has_numbers else f"{item_text(item)}\n" for number, item in enumerate(items, 1))
 
 
 def item_text(item):
@@ -527,10 +527,10 @@ def outcome(log, limit=GIBIBYTE, sides=SIDES):
     return Outcome(DONE, None, "".join(text).encode())
 
 
-def listed(log, limit=GIBIBYTE):
+def listed(log, limit=GIBIBYTE, has_numbers=True):
     """The list of a log, which is accepted and refused as its canonical log is. Nothing is written of a refused log."""
     came = outcome(log, limit)
-    return Outcome(came.status, came.fault, list_text(items_of(cut(log))).encode() if came.status == DONE else b"")
+    return Outcome(came.status, came.fault, list_text(items_of(cut(log)), has_numbers).encode() if came.status == DONE else b"")
 
 
 def explained(log, limit=GIBIBYTE):

@@ -8,6 +8,7 @@ Prints a line for each case and ends with `N passed, M failed`; its status is 1 
 
 import itertools
 import os
+import re
 import sys
 import tempfile
 from collections import namedtuple
@@ -47,9 +48,15 @@ def taken(program, log, options=()):
     normalised, listed, explained = ended
     wrong += differences("how list ends", how(listed), how(normalised))
     wrong += differences("what is listed of a refused log", listed.output if listed.status else b"", b"")
+    wrong += differences("list --no-numbers", program.run(["list", "--no-numbers", *options], log), without_numbers(listed))
     if not normalised.error.endswith(ONLY_NORMALISED):
         wrong += differences("how explain ends", how(explained), how(normalised))
     return Taken(normalised, listed, explained, wrong)
+
+
+def without_numbers(listed):
+    """How a list ends whose lines have no numbers."""
+    return listed._replace(output=re.sub(rb"^\d+ ", b"", listed.output, flags=re.M))
 
 
 def again(program, row, found):

@@ -53,6 +53,7 @@ def names_are_complete(cases):
         texts[completion.name] = re.sub(r" -l (\w)", r" --\1", completion.read_text())
     for name, text in texts.items():
         wrong = [f"no {word}" for word in missing_in(text, commands)] if commands else ["no commands in the help"]
+        wrong += [f"no {option}" for option in missing_in(text, named_in(help_of(cases), "Options"))]
         for command in commands:
             options = named_in(help_of(cases, command), "Options")
             wrong += ["no options in the help"] if len(options) < 4 else []
@@ -72,9 +73,10 @@ def bash_completes(cases):
     """What bash offers, by the function of its completion."""
     script = next(path for path in COMPLETIONS if path.suffix == ".bash")
     for words, want in [
-        (["udsnorm", ""], ["normalise", "list", "explain", "compare", "-h", "--help"]),
+        (["udsnorm", ""], ["normalise", "list", "explain", "compare", "-h", "--help", "-V", "--version"]),
         (["udsnorm", "co"], ["compare"]),
-        (["udsnorm", "list", "--"], ["--tester", "--unit", "--limit", "--help"]),
+        (["udsnorm", "list", "--"], ["--tester", "--unit", "--limit", "--help", "--no-numbers"]),
+        (["udsnorm", "explain", "--"], ["--tester", "--unit", "--limit", "--help"]),
         (["udsnorm", "list", "--tester", "7"], []),
     ]:
         line = " ".join(f"'{word}'" for word in words)

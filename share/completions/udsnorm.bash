@@ -10,8 +10,9 @@ _udsnorm()
         --tester | --unit | --limit) return ;;
     esac
     if [[ $COMP_CWORD -eq 1 ]]; then
-        mapfile -t COMPREPLY < <(compgen -W "$commands -h --help" -- "$word")
+        mapfile -t COMPREPLY < <(compgen -W "$commands -h --help -V --version" -- "$word")
     elif [[ $word == -* ]]; then
+        [[ ${COMP_WORDS[1]} == list ]] && options+=" --no-numbers"
         mapfile -t COMPREPLY < <(compgen -W "-h $options" -- "$word")
     else
         compopt -o filenames

@@ -9,8 +9,8 @@ use std::io::{ErrorKind, Read, Write};
 use std::process::Abort;
 use std::test::Fail;
 use trace_canon::{
-    CompareFault, Comparison, Config, ConfigFault, Fault, Summary, compare, explain, in_memory, list,
-    meaning_of, normalise,
+    CompareFault, Comparison, Config, ConfigFault, Fault, Numbering, Summary, compare, explain, in_memory,
+    list, meaning_of, normalise,
 };
 use trace_io::{FailsAfter, FailsAt, Reading, Short, Source, Target, Writing};
 use uds_exchange::Meaning;
@@ -64,7 +64,7 @@ pub(crate) fn answer_of<R: Read + Drop, W: Write + Drop>(
     let (mut reader, mut writer) = (Reading::new(reader), Writing::new(writer));
     let answer = match call {
         Call::Normalise => normalise(alloc, &config, &mut reader, &mut writer),
-        Call::List => list(alloc, &config, &mut reader, &mut writer),
+        Call::List => list(alloc, &config, Numbering::Shown, &mut reader, &mut writer),
         Call::Explain => explain(alloc, &config, &mut reader, &mut writer),
     };
     Ok((answer, writer))
@@ -200,7 +200,7 @@ fn a_session_in_memory_goes_through_each_call(rt: HostRuntime) -> Result<(), Fai
     let log = LOG.as_bytes();
     let text = in_memory::canonical_log(alloc, &config, log)?;
     assert!(rt; text.as_slice() == CANONICAL.as_bytes());
-    let text = in_memory::item_list(alloc, &config, log)?;
+    let text = in_memory::item_list(alloc, &config, Numbering::Shown, log)?;
     assert!(rt; text.as_slice() == LISTED.as_bytes());
     let text = in_memory::explanation(alloc, &config, log)?;
     assert!(rt; text.as_slice() == EXPLAINED.as_bytes());

@@ -7,7 +7,7 @@ use isotp_receive::{Pair, Verdict};
 use std::alloc::Global;
 use std::io::{Error, ErrorKind, Result as IoResult, Write};
 use std::test::Fail;
-use trace_canon::{CompareFault, Comparison, Config, Fault};
+use trace_canon::{CompareFault, Comparison, Config, Fault, Numbering};
 use trace_io::{Reading, Writing};
 use uds_exchange::{Item, Meaning, MessageSink, OrderFault, Orderer, Pairing};
 
@@ -138,10 +138,10 @@ fn meant(alloc: Global, session: Session) -> Result<Made, Fail> {
 
 /// A call that writes a text about a log, made over a session.
 macro_rules! written {
-    ($call:path, $alloc:expr, $log:expr, $text:expr) => {{
+    ($call:path, $alloc:expr, [$($setting:expr),*], $log:expr, $text:expr) => {{
         for made in TRIES {
             let mut writer = Writing::new(Rest { of: $text });
-            match $call($alloc, &config()?, &mut Reading::new($log), &mut writer) {
+            match $call($alloc, &config()?, $($setting,)* &mut Reading::new($log), &mut writer) {
                 Err(Fault::Memory) => {}
                 answer => {
                     answer?;
@@ -166,6 +166,7 @@ fn normalised(alloc: Global, session: Session) -> Result<Made, Fail> {
     written!(
         trace_canon::normalise,
         alloc,
+        [],
         session.log,
         session.canonical
     )
@@ -180,7 +181,7 @@ fn list(rt: HostRuntime) -> Result<(), Fail> {
 }
 
 fn listed(alloc: Global, session: Session) -> Result<Made, Fail> {
-    written!(trace_canon::list, alloc, session.log, session.listed)
+    written!(trace_canon::list, alloc, [Numbering::Shown], session.log, session.listed)
 }
 
 #[test]
@@ -192,7 +193,7 @@ fn explain(rt: HostRuntime) -> Result<(), Fail> {
 }
 
 fn explained(alloc: Global, session: Session) -> Result<Made, Fail> {
-    written!(trace_canon::explain, alloc, session.log, session.explained)
+    written!(trace_canon::explain, alloc, [], session.log, session.explained)
 }
 
 #[test]

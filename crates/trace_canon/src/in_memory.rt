@@ -8,6 +8,7 @@ use crate::config::Config;
 use crate::explainer::explain;
 use crate::fault::{CompareFault, Fault};
 use crate::holder::meaning_of;
+use crate::item_lines::Numbering;
 use crate::lister::list;
 use crate::normaliser::normalise;
 use crate::summary::Summary;
@@ -25,11 +26,22 @@ pub fn canonical_log(alloc: Global, config: &Config, log: &[u8]) -> Result<Vec<u
 }
 
 /// The list of a log's items, as [`list`](crate::list) writes it.
-pub fn item_list(alloc: Global, config: &Config, log: &[u8]) -> Result<Vec<u8>, Fault>
-    ensures { MatchResult result (λ text. IsListOf MESSAGE_LIMIT config.now log.now text.items) (IsRefused MESSAGE_LIMIT config.now log.now) }
+pub fn item_list(
+    alloc: Global,
+    config: &Config,
+    numbering: Numbering,
+    log: &[u8],
+) -> Result<Vec<u8>, Fault>
+    ensures { MatchResult result (λ text. IsListOf numbering MESSAGE_LIMIT config.now log.now text.items) (IsRefused MESSAGE_LIMIT config.now log.now) }
 {
     let mut writer = Writing::new(Vec::new(alloc));
-    let answer = list(alloc, config, &mut Bytes::new(log), &mut writer);
+    let answer = list(
+        alloc,
+        config,
+        numbering,
+        &mut Bytes::new(log),
+        &mut writer,
+    );
     text_of(answer, writer.into_inner())
 }
 

@@ -1,7 +1,7 @@
 //! The text of a meaning, said item by item.
-ghost use Rattle.std.specs.Prelude.{option_map};
+ghost use Rattle.std.specs.Prelude.{◌++◌, codes, option_map};
 ghost use Rattle.uds_exchange.specs.ItemSeen.{item_value};
-ghost use Rattle.trace_canon.specs.ListText.{item_line, list_text, outcome_line};
+ghost use Rattle.trace_canon.specs.ListText.{item_line, item_text, list_text, number_text, outcome_line};
 
 use crate::names::direction_name;
 use crate::parts::Part;
@@ -10,28 +10,54 @@ use crate::text_sink::TextSink;
 use uds_exchange::{Item, Meaning};
 use uds_message::{is_negative_response, is_suppressing, response_code, sid};
 
+/// Whether the lines of items have numbers.
+#[derive(Clone, Copy, Debug, PartialEq, Eq)]
+pub enum Numbering {
+    /// Each begins with the number of its item, counted from 1.
+    Shown,
+    /// None does, so that a line is the same wherever its item stands.
+    Hidden,
+}
+
 /// Says the line of each item, in order.
-pub(crate) fn say_items<S: TextSink>(meaning: &Meaning, out: &mut S)
-    ensures { S.says out.old (list_text meaning.now) out.new }
+pub(crate) fn say_items<S: TextSink>(meaning: &Meaning, numbering: Numbering, out: &mut S)
+    ensures { S.says out.old (list_text numbering meaning.now) out.new }
 {
     'items: for i in 0..meaning.len() {
         if let Some(item) = meaning.item(i) {
-            say_item(i as u64 + 1, item, out);
+            say_item(i as u64 + 1, numbering, item, out);
         }
     }
 }
 
 /// Says the line of an item, which has this number.
-fn say_item<S: TextSink>(number: u64, item: &Item, out: &mut S)
-    ensures { S.says out.old (item_line number (item_value item.now)) out.new }
+fn say_item<S: TextSink>(number: u64, numbering: Numbering, item: &Item, out: &mut S)
+    ensures { S.says out.old (item_line numbering number (item_value item.now)) out.new }
+{
+    say_number(number, numbering, out);
+    say_unnumbered(item, out);
+}
+
+/// Says the number of an item, where it is shown.
+fn say_number<S: TextSink>(number: u64, numbering: Numbering, out: &mut S)
+    ensures { S.says out.old (number_text numbering number) out.new }
+{
+    match numbering {
+        Numbering::Shown => say_parts(out, &[Part::Number(number), Part::Text(" ")]),
+        Numbering::Hidden => {}
+    }
+}
+
+/// Says what an item is, to the end of its line.
+fn say_unnumbered<S: TextSink>(item: &Item, out: &mut S)
+    ensures { S.says out.old (item_text (item_value item.now) ++ codes "\n") out.new }
 {
     match item {
         Item::Exchange { request, answer } => {
             say_parts(
                 out,
                 &[
-                    Part::Number(number),
-                    Part::Text(" exchange "),
+                    Part::Text("exchange "),
                     Part::Service(sid(request)),
                     Part::Text(" "),
                     Part::Bytes(request),
@@ -43,8 +69,7 @@ fn say_item<S: TextSink>(number: u64, item: &Item, out: &mut S)
         Item::Stray { dir, bytes } => say_parts(
             out,
             &[
-                Part::Number(number),
-                Part::Text(" stray "),
+                Part::Text("stray "),
                 Part::Text(direction_name(*dir)),
                 Part::Text(" "),
                 Part::Bytes(bytes),

@@ -72,6 +72,7 @@ pub use driver::run;
 pub use explainer::explain;
 pub use fault::{CompareFault, ConfigFault, Fault};
 pub use holder::meaning_of;
+pub use item_lines::Numbering;
 pub use lister::list;
 pub use machine::{Machine, Stop};
 pub use normaliser::normalise;

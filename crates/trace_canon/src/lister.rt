@@ -12,7 +12,7 @@ ghost use Rattle.trace_io.specs.Counted.{IsLowCount, AreLowCounts};
 use crate::config::Config;
 use crate::driver::run;
 use crate::fault::Fault;
-use crate::item_lines::say_items;
+use crate::item_lines::{Numbering, say_items};
 use crate::length::fits;
 use crate::machine::{Machine, Stop};
 use crate::summary::Summary;
@@ -23,12 +23,13 @@ use std::alloc::{AllocError, Global};
 use trace_io::{Source, Target};
 use uds_exchange::Pairing;
 
-/// Reads a log, and then writes a line for each item of its meaning.
+/// Reads a log, and then writes a line for each item of its meaning, with its number or without.
 ///
 /// The target is not flushed.
 pub fn list<R: Source, W: Target>(
     alloc: Global,
     config: &Config,
+    numbering: Numbering,
     reader: &mut R,
     writer: &mut W,
 ) -> Result<Summary, Fault>
@@ -37,7 +38,7 @@ pub fn list<R: Source, W: Target>(
 
     // What is answered and written, for each log with which the bytes that were read agree.
     ensures answer { (log : List ℕ) → Agrees (R.given reader.old) (R.given reader.new) (R.is_over reader.new) log
-        → Lists MESSAGE_LIMIT config.now log result (W.taken writer.old) (W.taken writer.new) }
+        → Lists numbering MESSAGE_LIMIT config.now log result (W.taken writer.old) (W.taken writer.new) }
 
     // Where there is no such list, the target is left alone.
     ensures unwritten { IfErr result (λ fault. fault ≢ Fault.Write → writer.new ≡ writer.old) }
@@ -51,17 +52,20 @@ pub fn list<R: Source, W: Target>(
     ensures read { ReadFrom R.Source Fault.Read config.now.max_bytes result reader.old reader.new }
     ensures wrote { WroteTo W.Target Fault.Write result writer.old writer.new }
 {
-    run(alloc, config, start(alloc, config), reader, writer)
+    let machine = start(alloc, config, numbering);
+    run(alloc, config, machine, reader, writer)
 }
 
 /// A machine before the first message.
-fn start(alloc: Global, config: &Config) -> Lister
+fn start(alloc: Global, config: &Config, numbering: Numbering) -> Lister
     ensures settings { result.config ≡ config.now }
+    ensures numbering { result.numbering ≡ numbering }
     ensures holds { HoldsItems config.now [] result.pairing result.config }
 {
     Lister {
         pairing: Pairing::new(alloc),
         config: *config,
+        numbering,
     }
 }
 
@@ -70,17 +74,18 @@ fn start(alloc: Global, config: &Config) -> Lister
 pub(crate) struct Lister {
     pub pairing: Pairing,
     pub config: Config,
+    pub numbering: Numbering,
 }
 
 impl Machine for Lister {
-    ghost use Rattle.std.specs.Prelude.{⊤};
+    ghost use Rattle.std.specs.Prelude.{◌≡◌, ⊤};
     ghost use Rattle.trace_canon.specs.ListScript.{HoldsItems, answers_list, list_script};
 
     type Answer = Summary;
 
-    ghost stands = { λ start T now. HoldsItems start.config T now.pairing now.config };
+    ghost stands = { λ start T now. HoldsItems start.config T now.pairing now.config × (now.numbering ≡ start.numbering) };
 
-    ghost script = { λ start. list_script start.config };
+    ghost script = { λ start. list_script start.numbering start.config };
 
     ghost answers = { λ start. answers_list start.config };
 
@@ -114,12 +119,16 @@ impl Machine for Lister {
         summary: &Summary,
         out: &mut S,
     ) -> Result<Summary, Stop> {
-        let Lister { pairing, config } = self;
+        let Lister {
+            pairing,
+            config,
+            numbering,
+        } = self;
         let meaning = pairing.finish();
         if !fits(&config, &meaning) {
             return Err(Stop::OutputLimit);
         }
-        say_items(&meaning, out);
+        say_items(&meaning, numbering, out);
         Ok(*summary)
     }
 }

@@ -8,7 +8,7 @@ use Rattle.clap.specs.Simple.{App, HasMatchesOf, Shape, argument_words, built, i
 use Rattle.clap.specs.Values.{kind_of}
 use Rattle.clap.specs.Walk.{Held, Names, Row, Text, finished, nothing_held, settled, walk, walk_from}
 use Rattle.clap.specs.declared.error.Error.{Error}
-use Rattle.clap.specs.declared.error.kind.ErrorKind.TheVariants.{DisplayHelp, OutOfMemory}
+use Rattle.clap.specs.declared.error.kind.ErrorKind.TheVariants.{DisplayHelp, DisplayVersion, OutOfMemory}
 use Rattle.clap.specs.declared.parser.matches.ArgMatches.{ArgMatches}
 use Rattle.udsnorm.specs.Commands.{command_in, commands, refusals, words_or_normalise}
 use Rattle.udsnorm.specs.declared.job.WordsFault.{WordsFault}
@@ -74,11 +74,16 @@ some_are text (word ∷ words) some = refl
 memory_is_not_help : OutOfMemory ≡ DisplayHelp → ⊥
 memory_is_not_help is = cc
 
+memory_is_not_version : OutOfMemory ≡ DisplayVersion → ⊥
+memory_is_not_version is = cc
+
 pub refused_by : (kinds : Kinds) (error : Error) (fault : WordsFault) → HasKind kinds error → IsCalled (kind_of error) fault → IsRefusedBy kinds fault
-refused_by kinds error (Help text) (inl memory) called = absurd (memory_is_not_help (sym memory ∙ called))
-refused_by kinds error (Help text) (inr among) called = subst (λ k. IsAmong k kinds) called among
-refused_by kinds error (Words text) (inl memory) called = absurd (called.1 memory)
-refused_by kinds error (Words text) (inr among) called = (kind_of error, called.0, among)
+refused_by kinds error (Help text) (inl memory) (inl help) = absurd (memory_is_not_help (sym memory ∙ help))
+refused_by kinds error (Help text) (inl memory) (inr version) = absurd (memory_is_not_version (sym memory ∙ version))
+refused_by kinds error (Help text) (inr among) (inl help) = inl (subst (λ k. IsAmong k kinds) help among)
+refused_by kinds error (Help text) (inr among) (inr version) = inr (subst (λ k. IsAmong k kinds) version among)
+refused_by kinds error (Words text) (inl memory) called = absurd (called.2 memory)
+refused_by kinds error (Words text) (inr among) called = (kind_of error, called.0, called.1, among)
 refused_by kinds error Memory has called = tt
 refused_by kinds error Identifier has called = called
 refused_by kinds error (Config reason) has called = called

@@ -4,6 +4,7 @@ use Rattle.clap.specs.Faults.{fault_of}
 use Rattle.clap.specs.Kinds.{Kinds}
 use Rattle.clap.specs.Simple.{App, Shape, new_rule, new_shape, subcommand_of}
 use Rattle.clap.specs.Walk.{Row, Rule, Text}
+use Rattle.clap.specs.declared.builder.action.ArgAction.TheVariants.{SetTrue}
 use Rattle.clap.specs.declared.builder.value_parser.ValueParser.TheVariants.{Unsigned}
 
 -- an option of one value, with the value that it has where it is not given
@@ -13,6 +14,10 @@ option name default = record (new_rule name) { long = Some name; value_names = 1
 -- the option of the limit, a number of 64 bits
 abbrev pub limit : Rule
 limit = record (option (codes "limit") (codes "1073741824")) { parser = Some (Unsigned 0 18446744073709551615) }
+
+-- an option without a value
+abbrev pub flag : Text → Rule
+flag name = record (new_rule name) { long = Some name; action = Some SetTrue }
 
 -- the options that every command takes
 abbrev pub options : List Rule
@@ -32,12 +37,14 @@ required name = record (new_rule name) { required = true }
 abbrev pub two_logs : List Rule
 two_logs = required (codes "A") ∷ required (codes "B") ∷ []
 
--- the program before its commands: it has no options itself, and one command has to be named
+-- the program before its commands: it has no options but those that ask for help and for its version, and one command has to
+-- be named
 abbrev pub program : Shape
 program = record (new_shape (codes "udsnorm")) {
   no_binary_name = true;
   disable_help_subcommand = true;
   subcommand_required = true;
+  has_version = true;
 }
 
 -- the program
@@ -45,7 +52,7 @@ abbrev pub commands : App
 commands = record {
   top = record program { is_leaf = false };
   subs = with_files (codes "normalise") one_log
-      ∷ with_files (codes "list") one_log
+      ∷ with_files (codes "list") (one_log ++ flag (codes "no-numbers") ∷ [])
       ∷ with_files (codes "explain") one_log
       ∷ with_files (codes "compare") two_logs
       ∷ [];

@@ -29,13 +29,13 @@ use Rattle.udsnorm.specs.declared.job.Job.TheVariants as job
 -- what the engine that does this job over one log answers, and what it writes
 abbrev pub EngineAnswers : Job → ℕ → Settings → List ℕ → ℕ → Result Summary Fault → List ℕ → List ℕ → Type 0
 EngineAnswers job.Normalise limit settings log given answer old new = Answers limit settings log given answer old new
-EngineAnswers job.List limit settings log given answer old new = Lists limit settings log answer old new
+EngineAnswers (job.List numbering) limit settings log given answer old new = Lists numbering limit settings log answer old new
 EngineAnswers job.Explain limit settings log given answer old new = AnswersExplain limit settings log given answer old new
 
 -- how near to what refuses the log the engine that does this job stops reading
 abbrev pub EngineReads : Job → ℕ → Settings → List ℕ → ℕ → ℕ → ℕ → Type 0
 EngineReads job.Normalise limit settings log given failures failures_now = ReadsWhile (IsNotRefusedWithin limit settings log) given failures failures_now
-EngineReads job.List limit settings log given failures failures_now = ReadsWhile (IsNotRefusedWithin limit settings log) given failures failures_now
+EngineReads (job.List numbering) limit settings log given failures failures_now = ReadsWhile (IsNotRefusedWithin limit settings log) given failures failures_now
 EngineReads job.Explain limit settings log given failures failures_now = ReadsWhile (HasNoBadPlaceWithin log) given failures failures_now
 
 -- What a run over one log did, from its input to its output and its error output, and its exit status.

@@ -1,13 +1,15 @@
 -- What the commands and the texts of their options ask for.
-use Rattle.std.specs.Prelude.{◌≡◌, ◌≢◌, ◌⊎◌, ℕ, List, [], codes, Option, Some, None, option_map, unwrap_or, Result, Ok, Err, ⊤, string_bytes, bytes_eq, IsErrAnd, if◌then◌else◌}
+use Rattle.std.specs.Prelude.{◌≡◌, ◌≢◌, ◌⊎◌, ℕ, Bool, List, [], codes, Option, Some, None, option_map, unwrap_or, Result, Ok, Err, ⊤, string_bytes, bytes_eq, IsErrAnd, if◌then◌else◌}
 use Rattle.std.specs.Str.Parse.{digits_value, without_leading_plus}
 use Rattle.clap.specs.Kinds.{IsAmong, Kinds}
 use Rattle.clap.specs.ValueTests.{is_unsigned_in}
 use Rattle.clap.specs.Walk.{Row, Text, first_of, one_of}
 use Rattle.clap.specs.declared.error.kind.ErrorKind.{ErrorKind}
-use Rattle.clap.specs.declared.error.kind.ErrorKind.TheVariants.{DisplayHelp, OutOfMemory}
+use Rattle.clap.specs.declared.error.kind.ErrorKind.TheVariants.{DisplayHelp, DisplayVersion, OutOfMemory}
 use Rattle.can_log.specs.declared.frame.Id.{Id}
 use Rattle.trace_canon.specs.Settings.{Settings, Configures}
+use Rattle.trace_canon.specs.declared.item_lines.Numbering.{Numbering}
+use Rattle.trace_canon.specs.declared.item_lines.Numbering.TheVariants.{Shown, Hidden}
 use Rattle.udsnorm.specs.Commands.{command_in, refusals}
 use Rattle.udsnorm.specs.Identifiers.{identifier_of}
 use Rattle.udsnorm.specs.declared.job.Job.{Job}
@@ -32,10 +34,19 @@ IsConfiguredBy (Some tester) (Some unit) limit result = IsConfiguredAs tester un
 IsConfiguredBy (Some tester) None limit result = result ≡ Err Identifier
 IsConfiguredBy None unit limit result = result ≡ Err Identifier
 
--- the job of a command over one log; what is none of the others is `normalise`. `compare` has none: it is over two
-abbrev pub job_named : List ℕ → Option Job
-job_named name =
-    if bytes_eq name (codes "list") then Some job.List
+-- whether an option without a value is given: the parser has the text `true` for it then, and else `false`
+abbrev pub is_given : Text → List Row → Bool
+is_given option rows = bytes_eq (unwrap_or (first_of option rows) []) (codes "true")
+
+-- whether a list has numbers, by `--no-numbers`
+abbrev pub numbering_in : List Row → Numbering
+numbering_in rows = if is_given (codes "no-numbers") rows then Hidden else Shown
+
+-- the job of a command over one log, with its own options; what is none of the others is `normalise`. `compare` has none: it
+-- is over two
+abbrev pub job_named : List ℕ → List Row → Option Job
+job_named name rows =
+    if bytes_eq name (codes "list") then Some (job.List (numbering_in rows))
     else if bytes_eq name (codes "explain") then Some job.Explain
     else if bytes_eq name (codes "compare") then None
     else Some job.Normalise
@@ -84,22 +95,22 @@ IsRefusedFor job rows Memory = ⊤
 -- a plan for the command that was found, or why there is none
 abbrev pub IsPlannedFrom : Option (Text × List Row) → Result Plan WordsFault → Type 0
 IsPlannedFrom None result = ⊥
-IsPlannedFrom (Some found) (Ok plan) = IsPlanOf (job_named found.0) found.1 plan
-IsPlannedFrom (Some found) (Err fault) = IsRefusedFor (job_named found.0) found.1 fault
+IsPlannedFrom (Some found) (Ok plan) = IsPlanOf (job_named found.0 found.1) found.1 plan
+IsPlannedFrom (Some found) (Err fault) = IsRefusedFor (job_named found.0 found.1) found.1 fault
 
 -- what an error of the parser of this kind is called
 abbrev pub IsCalled : ErrorKind → WordsFault → Type 0
-IsCalled kind (Help text) = kind ≡ DisplayHelp
-IsCalled kind (Words text) = (kind ≢ DisplayHelp) × (kind ≢ OutOfMemory)
+IsCalled kind (Help text) = (kind ≡ DisplayHelp) ⊎ (kind ≡ DisplayVersion)
+IsCalled kind (Words text) = (kind ≢ DisplayHelp) × (kind ≢ DisplayVersion) × (kind ≢ OutOfMemory)
 IsCalled kind Memory = kind ≡ OutOfMemory
 IsCalled kind Identifier = ⊥
 IsCalled kind (Config fault) = ⊥
 
--- what is said of words that the parser does not take: help, where that was asked for, or what is wrong with them; or that
--- memory is refused
+-- what is said of words that the parser does not take: help or the version, where one of them was asked for, or what is wrong
+-- with them; or that memory is refused
 abbrev pub IsRefusedBy : Kinds → WordsFault → Type 0
-IsRefusedBy kinds (Help text) = IsAmong DisplayHelp kinds
-IsRefusedBy kinds (Words text) = (kind : ErrorKind) × (kind ≢ DisplayHelp) × IsAmong kind kinds
+IsRefusedBy kinds (Help text) = IsAmong DisplayHelp kinds ⊎ IsAmong DisplayVersion kinds
+IsRefusedBy kinds (Words text) = (kind : ErrorKind) × (kind ≢ DisplayHelp) × (kind ≢ DisplayVersion) × IsAmong kind kinds
 IsRefusedBy kinds Memory = ⊤
 IsRefusedBy kinds Identifier = ⊥
 IsRefusedBy kinds (Config fault) = ⊥

@@ -1,24 +1,29 @@
 //! The commands and their options, for the parser, with their help.
 
-ghost use Rattle.std.specs.Prelude.{◌≡◌, [], codes, false, IfOk};
+ghost use Rattle.std.specs.Prelude.{◌≡◌, [], ◌∷◌, ◌++◌, codes, false, IfOk};
 ghost use Rattle.clap.specs.Words.{app_of, new_rule, rule_of};
-ghost use Rattle.udsnorm.specs.Commands.{commands, limit, one_log, option, program, required, two_logs, with_files};
+ghost use Rattle.udsnorm.specs.Commands.{commands, flag, limit, one_log, option, program, required, two_logs, with_files};
 
-use clap::{Arg, Command, value_parser};
+use clap::{Arg, ArgAction, Command, value_parser};
 use std::alloc::{AllocError, Global};
 
-/// The options of every command, and the files of logs, by their names in the parser's matches.
+/// The options of every command, that of `list`, and the files of logs, by their names in the parser's matches.
 pub(crate) const TESTER: &str = "tester";
 
 pub(crate) const UNIT: &str = "unit";
 
 pub(crate) const LIMIT: &str = "limit";
 
+pub(crate) const NO_NUMBERS: &str = "no-numbers";
+
 pub(crate) const LOG: &str = "LOG";
 
 pub(crate) const LEFT: &str = "A";
 
 pub(crate) const RIGHT: &str = "B";
+
+/// The number of this version, as the file `VERSION` has it.
+const VERSION: &str = "0.1.0";
 
 /// What follows the list of commands in the program's help.
 const OF_THE_PROGRAM: &str = "\
@@ -32,7 +37,6 @@ Exit status:
   3  a log is refused
   4  a file can't be opened, or reading or writing failed
   5  out of memory
-
 Example: udsnorm compare yesterday.log today.log";
 
 const OF_NORMALISE: &str = "\
@@ -49,7 +53,8 @@ Example: udsnorm normalise recorded.log > canonical.log";
 
 const OF_LIST: &str = "\
 A line is an exchange (a request of the tester, and the unit's answer if there is one) or a
-stray message outside of any exchange.
+stray message outside of any exchange. It begins with its number; with `--no-numbers` it is the
+same wherever it stands, so that `diff` and `git diff` of two lists show what is new alone.
 
 A log that holds neither identifier has no such line, and the status is 0. The last line of
 `udsnorm explain` then says `frames 0`.
@@ -87,12 +92,7 @@ pub(crate) fn command<'a>(alloc: Global) -> Result<Command<'a>, AllocError>
 {
     program(alloc)?
         .subcommand(over_one_log(alloc, "normalise", "Writes the canonical log", OF_NORMALISE)?)?
-        .subcommand(over_one_log(
-            alloc,
-            "list",
-            "Writes the exchanges and stray messages",
-            OF_LIST,
-        )?)?
+        .subcommand(list(alloc)?)?
         .subcommand(over_one_log(
             alloc,
             "explain",
@@ -110,6 +110,7 @@ fn program<'a>(alloc: Global) -> Result<Command<'a>, AllocError>
         .no_binary_name(true)
         .disable_help_subcommand(true)
         .subcommand_required(true)
+        .version(VERSION)
         .about("Gives recorded vehicle diagnostic sessions one canonical spelling")
         .after_help(OF_THE_PROGRAM)
         .bin_name("udsnorm")
@@ -125,6 +126,19 @@ fn over_one_log<'a>(
     ensures { IfOk result (λ c. app_of c ≡ record { top = with_files name.entry.now one_log; subs = [] }) }
 {
     with_options(alloc, name, about, after_help)?.arg(log(alloc))
+}
+
+/// The command that lists items.
+fn list<'a>(alloc: Global) -> Result<Command<'a>, AllocError>
+    ensures { IfOk result (λ c. app_of c ≡ record { top = with_files (codes "list") (one_log ++ flag (codes "no-numbers") ∷ []); subs = [] }) }
+{
+    over_one_log(
+        alloc,
+        "list",
+        "Writes the exchanges and stray messages",
+        OF_LIST,
+    )?
+    .arg(flag(alloc, NO_NUMBERS, "Leaves out the number of each line"))
 }
 
 /// The command over two logs.
@@ -191,6 +205,17 @@ fn limit<'a>(alloc: Global) -> Arg<'a>
         .help("Most bytes of a log and its canonical log, up to 2^40")
         .value_parser(value_parser!(u64))
         .default_value("1073741824")
+}
+
+/// An option without a value.
+fn flag<'a>(alloc: Global, name: &'a str, help: &'a str) -> Arg<'a>
+    ensures rule { rule_of result ≡ flag name.entry.now }
+    ensures local { result.global ≡ false }
+{
+    Arg::new(alloc, name)
+        .long(name)
+        .action(ArgAction::SetTrue)
+        .help(help)
 }
 
 /// The log to read.

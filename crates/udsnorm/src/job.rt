@@ -5,15 +5,15 @@ ghost use Rattle.udsnorm.specs.declared.job.WordsFault.TheVariants as words_faul
 
 use std::alloc::AllocError;
 use thiserror::Error;
-use trace_canon::{Config, ConfigFault};
+use trace_canon::{Config, ConfigFault, Numbering};
 
 /// What the program does with one log.
 #[derive(Clone, Copy, PartialEq, Eq)]
 pub enum Job {
     /// Writes the canonical log.
     Normalise,
-    /// Writes the exchanges and stray messages.
-    List,
+    /// Writes the exchanges and stray messages, with their numbers or without.
+    List(Numbering),
     /// Writes which frames were dropped, and which receptions ended early, and why.
     Explain,
 }
@@ -38,7 +38,7 @@ pub enum Plan {
 /// Why a command line asks for nothing that the program does.
 #[derive(Debug, Drop, Error)]
 pub enum WordsFault {
-    /// Help was asked for. This is its text.
+    /// Help or the version was asked for. This is its text.
     #[error("{0}")]
     Help(String),
     /// The words don't fit the commands and their options. This is the parser's text.

@@ -71,7 +71,7 @@ fn do_job<R: Source, W: Target>(
 {
     match job {
         Job::Normalise => normalise(alloc, config, input, out),
-        Job::List => list(alloc, config, input, out),
+        Job::List(numbering) => list(alloc, config, numbering, input, out),
         Job::Explain => explain(alloc, config, input, out),
     }
 }

@@ -14,8 +14,8 @@ use crate::run::write_flushed;
 use trace_canon::{CompareFault, Fault};
 use trace_io::{Target, write_all};
 
-/// Tells why the words ask for nothing that the program does: help on the output, which is flushed, anything else on the
-/// error output. Answers the exit status.
+/// Tells why the words ask for nothing that the program does: help or the version on the output, which is flushed, anything
+/// else on the error output. Answers the exit status.
 pub fn tell<W: Target, E: Target>(fault: &WordsFault, out: &mut W, err: &mut E) -> u8
     requires out { IsLowCount (W.failures out.old) }
     requires err { IsLowCount (E.failures err.old) }

@@ -4,15 +4,15 @@ ghost use Rattle.std.specs.Prelude.{◌≡◌, Some, None, IfOk, IfErr, IsSome, 
 ghost use Rattle.clap.specs.Words.{FailsBy, first_of, found_of, kind_of, rows_of, subcommand_rows_of};
 ghost use Rattle.udsnorm.specs.Commands.{command_in, refusals, words_or_normalise};
 ghost use Rattle.udsnorm.specs.Identifiers.{identifier_of};
-ghost use Rattle.udsnorm.specs.Words.{IsCalled, IsConfiguredBy, IsConfiguredIn, IsPlanOf, IsPlanned, IsPlannedFrom, IsRefusedFor, job_named};
+ghost use Rattle.udsnorm.specs.Words.{IsCalled, IsConfiguredBy, IsConfiguredIn, IsPlanOf, IsPlanned, IsPlannedFrom, IsRefusedFor, is_given, job_named, numbering_in};
 
-use crate::command::{LEFT, LIMIT, LOG, RIGHT, TESTER, UNIT, command};
+use crate::command::{LEFT, LIMIT, LOG, NO_NUMBERS, RIGHT, TESTER, UNIT, command};
 use crate::identifiers::identifier;
 use crate::job::{Job, Plan, WordsFault};
 use clap::error::ErrorKind;
 use clap::{ArgMatches, Error};
 use std::alloc::{AllocError, Global};
-use trace_canon::Config;
+use trace_canon::{Config, Numbering};
 
 /// What is meant where there are no words.
 static NO_WORDS: [&str; 1] = ["normalise"];
@@ -47,7 +47,9 @@ fn refusal(alloc: Global, error: &Error) -> Result<WordsFault, AllocError>
 {
     match error.kind() {
         ErrorKind::OutOfMemory => Ok(WordsFault::Memory),
-        ErrorKind::DisplayHelp => Ok(WordsFault::Help(format!(in alloc; "{error}")?)),
+        ErrorKind::DisplayHelp | ErrorKind::DisplayVersion => {
+            Ok(WordsFault::Help(format!(in alloc; "{error}")?))
+        }
         _ => Ok(WordsFault::Words(format!(in alloc; "{error}")?)),
     }
 }
@@ -58,7 +60,7 @@ fn planned(alloc: Global, matches: &ArgMatches<'_>) -> Result<Plan, WordsFault>
     ensures from { IsPlannedFrom (subcommand_rows_of matches.now) result }
 {
     match matches.subcommand() {
-        Some((name, found)) => match job_named(name) {
+        Some((name, found)) => match job_named(name, found) {
             Some(job) => plan_of_one(alloc, job, found),
             None => plan_of_two(alloc, found),
         },
@@ -66,16 +68,34 @@ fn planned(alloc: Global, matches: &ArgMatches<'_>) -> Result<Plan, WordsFault>
     }
 }
 
-/// The job of a command over one log. The one over two has none.
-fn job_named(name: &str) -> Option<Job>
-    ensures { result ≡ job_named name.now }
+/// The job of a command over one log, with its own options. The one over two has none.
+fn job_named(name: &str, found: &ArgMatches<'_>) -> Option<Job>
+    ensures { result ≡ job_named name.now (rows_of (found_of found.now)) }
 {
     match name {
-        "list" => Some(Job::List),
+        "list" => Some(Job::List(numbering(found))),
         "explain" => Some(Job::Explain),
         "compare" => None,
         _ => Some(Job::Normalise),
     }
+}
+
+/// Whether a list has numbers.
+fn numbering(found: &ArgMatches<'_>) -> Numbering
+    ensures { result ≡ numbering_in (rows_of (found_of found.now)) }
+{
+    if is_given(found, NO_NUMBERS) {
+        Numbering::Hidden
+    } else {
+        Numbering::Shown
+    }
+}
+
+/// Whether an option without a value is given.
+fn is_given(found: &ArgMatches<'_>, name: &str) -> bool
+    ensures { result ≡ is_given name.now (rows_of (found_of found.now)) }
+{
+    text_of(found, name).unwrap_or("") == "true"
 }
 
 /// The plan of a job over one log, by the options and the file of its command.

@@ -10,7 +10,7 @@ pub returns-in-Ok-clause-ok : goal.returns-in-Ok-clause-ok
 returns-in-Ok-clause-ok g c = λ start T e line dir few seen stood.
     let M = messages MESSAGE_LIMIT T in
     let next = messages_next T e c.args.dir (seen_event c.args.event) dir seen ∙ ap (λ v. M ++ told_message c.args.dir (seen_verdict v)) c.in-Message.is in
-    (record { holds = c.in-Ok.ensures.ok M stood.holds ∙ ap meaning (sym next); same = stood.same }, g.met.S.TextSink.nothing c.args._out.now)
+    ((record { holds = c.in-Ok.ensures.ok M stood.0.holds ∙ ap meaning (sym next); same = stood.0.same }, stood.1), g.met.S.TextSink.nothing c.args._out.now)
 
 pub returns-in-Began : goal.returns-in-Began
 returns-in-Began g c =
@@ -20,7 +20,7 @@ returns-in-Began g c =
       ok = λ start T e line dir few seen stood.
           let M = messages MESSAGE_LIMIT T in
           let next = messages_next T e c.args.dir (seen_event c.args.event) dir seen ∙ ap (λ x. M ++ x) quiet ∙ append-nil M in
-          (record { holds = stood.holds ∙ ap meaning (sym next); same = stood.same }, g.met.S.TextSink.nothing c.args._out.now);
+          ((record { holds = stood.0.holds ∙ ap meaning (sym next); same = stood.0.same }, stood.1), g.met.S.TextSink.nothing c.args._out.now);
       err = tt;
       needs = tt;
     }
