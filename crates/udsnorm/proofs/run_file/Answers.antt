@@ -1,4 +1,4 @@
-use Rattle.std.proofs.Common.{inl, ap, List, ℕ, [], ◌≡◌}
+use Rattle.std.proofs.Common.{inl, ap, List, ℕ}
 use Rattle.isotp_receive.specs.declared.TheConstants.{MESSAGE_LIMIT}
 use Rattle.trace_io.specs.Counted.{CountedReader}
 use Rattle.udsnorm.proofs.Statuses.{answers_from_start}

@@ -1,4 +1,4 @@
-use Rattle.std.proofs.Common.{inl, ap, List, ℕ, []}
+use Rattle.std.proofs.Common.{inl, ap, List, ℕ}
 use Rattle.trace_io.specs.Counted.{CountedReader}
 use Rattle.udsnorm.proofs.Statuses.{agrees_from_start}
 use Rattle.udsnorm.proofs.run_files.Goals as goal
