@@ -9,8 +9,8 @@ use std::io::{ErrorKind, Read, Write};
 use std::process::Abort;
 use std::test::Fail;
 use trace_canon::{
-    CompareFault, Comparison, Config, ConfigFault, Fault, Numbering, Summary, compare, explain, in_memory,
-    list, meaning_of, normalise,
+    CompareFault, Comparison, Config, ConfigFault, Fault, Numbering, Summary, compare, explain,
+    in_memory, list, meaning_of, normalise,
 };
 use trace_io::{FailsAfter, FailsAt, Reading, Short, Source, Target, Writing};
 use uds_exchange::Meaning;

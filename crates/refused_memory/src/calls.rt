@@ -181,7 +181,13 @@ fn list(rt: HostRuntime) -> Result<(), Fail> {
 }
 
 fn listed(alloc: Global, session: Session) -> Result<Made, Fail> {
-    written!(trace_canon::list, alloc, [Numbering::Shown], session.log, session.listed)
+    written!(
+        trace_canon::list,
+        alloc,
+        [Numbering::Shown],
+        session.log,
+        session.listed
+    )
 }
 
 #[test]
@@ -193,7 +199,13 @@ fn explain(rt: HostRuntime) -> Result<(), Fail> {
 }
 
 fn explained(alloc: Global, session: Session) -> Result<Made, Fail> {
-    written!(trace_canon::explain, alloc, [], session.log, session.explained)
+    written!(
+        trace_canon::explain,
+        alloc,
+        [],
+        session.log,
+        session.explained
+    )
 }
 
 #[test]
