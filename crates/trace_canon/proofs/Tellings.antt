@@ -317,6 +317,7 @@ blank_page target start low = record {
   still = λ none. refl;
   failures = refl;
   no_empty_write = refl;
+  flushes = refl;
   took = took_no_byte (target.taken start) (target.contents start);
   written = record { front = []; parts = refl; wrote = sym (append-nil (target.taken start)) };
 }

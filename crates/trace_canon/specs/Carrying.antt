@@ -48,6 +48,7 @@ pub record Carries {W : Type 0} (target : Ghosts W) (start : W) (said : List ℕ
   pub still : length said ≡ 0 → now ≡ start
   pub failures : target.failures now ≡ failures_with failed (target.failures start)
   pub no_empty_write : target.had_empty_write now ≡ target.had_empty_write start
+  pub flushes : target.flushes now ≡ target.flushes start
   pub took : Took (target.taken start) (target.taken now) (target.contents start) (target.contents now)
   pub written : HasCarried failed (target.taken start) said held (target.taken now)
 

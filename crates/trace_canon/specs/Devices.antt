@@ -26,6 +26,8 @@ pub record WroteTo {W A E : Type 0} (target : TargetGhosts W) (fault : E) (resul
   pub took : Took (target.taken old) (target.taken new) (target.contents old) (target.contents new)
   -- no write was empty: each took a byte, or was the last
   pub no_empty_write : target.had_empty_write new ≡ target.had_empty_write old
+  -- and it was not flushed
+  pub flushes : target.flushes new ≡ target.flushes old
   -- where it took nothing, and no write failed, it was left alone
   pub left_alone : result ≢ Err fault → target.taken new ≡ target.taken old → new ≡ old
   -- the fault comes exactly where a write failed

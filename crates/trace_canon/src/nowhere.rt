@@ -1,9 +1,9 @@
 //! A target for machines that say nothing.
-ghost use Rattle.std.specs.Prelude.{None, [], false, true};
+ghost use Rattle.std.specs.Prelude.{None, [], false};
 
 use trace_io::{DeviceFault, Target};
 
-/// Takes nothing: each write fails, and is counted.
+/// Takes nothing: each write and each flush fails, and is counted.
 #[derive(Drop)]
 pub(crate) struct Nowhere {
     failures: u64,
@@ -29,7 +29,9 @@ impl Target for Nowhere {
 
     ghost had_empty_write = { λ n. false };
 
-    ghost is_flushed = { λ n. true };
+    ghost is_flushed = { λ n. false };
+
+    ghost flushes = { λ n. 0 };
 
     fn write(&mut self, _piece: &[u8]) -> Result<usize, DeviceFault> {
         self.failures += 1;
@@ -37,7 +39,8 @@ impl Target for Nowhere {
     }
 
     fn flush(&mut self) -> Result<(), DeviceFault> {
-        Ok(())
+        self.failures += 1;
+        Err(DeviceFault)
     }
 
     fn has_taken(&self) -> bool {

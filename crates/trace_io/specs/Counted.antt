@@ -10,12 +10,13 @@ pub record CountedReader (R : Type 0) : Type 0 where
   pub given : List ℕ
 
 -- a writer, with its calls that failed, whether a write took nothing and did not fail, whether it was flushed and took no
--- write since, and the bytes that its writes took
+-- write since, the flushes that did not fail, and the bytes that its writes took
 pub record CountedWriter (W : Type 0) : Type 0 where
   pub inner : W
   pub failures : ℕ
   pub had_empty_write : Bool
   pub is_flushed : Bool
+  pub flushes : ℕ
   pub taken : List ℕ
 
 -- bytes in memory: those still to come, the reads, whether the last one told the end, and the bytes that they gave
@@ -40,8 +41,3 @@ pub record AreLowCounts (reads given failures : ℕ) : Type 0 where
   pub few_reads : IsLowCount reads
   pub few_given : IsLowCount given
   pub few_failures : IsLowCount failures
-
--- a writer, with the bytes that its writes took
-pub record RecordedWriter (W : Type 0) : Type 0 where
-  pub inner : W
-  pub taken : List ℕ

@@ -65,7 +65,7 @@ pub trait Source {
 /// Takes bytes, and counts the failures.
 ///
 /// A contract over any target names its history: the bytes that its writes have `taken`, in order; its `failures`, a `u64` that
-/// whoever writes keeps below 2^63; whether it `had_empty_write`; and whether it `is_flushed`.
+/// whoever writes keeps below 2^63; whether it `had_empty_write`; whether it `is_flushed`; and its `flushes`.
 pub trait Target {
     /// The bytes that its writes took, in order.
     ghost taken: { Self → List ℕ };
@@ -82,6 +82,9 @@ pub trait Target {
     /// Whether it was flushed, and took no write since.
     ghost is_flushed: { Self → Bool };
 
+    /// How many flushes did not fail.
+    ghost flushes: { Self → ℕ };
+
     /// Takes bytes from the front of the piece, and answers how many: one at least, where there is one. A write that fails took
     /// none, and may be made again.
     fn write(&mut self, piece: &[u8]) -> Result<usize, DeviceFault>
@@ -94,6 +97,7 @@ pub trait Target {
         ensures had_empty_write { MatchResult result
             (λ n. had_empty_write self.new ≡ (had_empty_write self.old || n == 0)) (λ _. had_empty_write self.new ≡ had_empty_write self.old) }
         ensures unflushed { OnOk result (is_flushed self.new ≡ false) }
+        ensures flushes { flushes self.new ≡ flushes self.old }
 
         // which bytes it took
         ensures taken { MatchResult result
@@ -109,6 +113,8 @@ pub trait Target {
             (λ _. failures self.new ≡ failures self.old) (λ _. failures self.new ≡ failures self.old + 1) }
         ensures had_empty_write { had_empty_write self.new ≡ had_empty_write self.old }
         ensures flushed { OnOk result (is_flushed self.new ≡ true) }
+        ensures flushes { MatchResult result
+            (λ _. flushes self.new ≡ flushes self.old + 1) (λ _. flushes self.new ≡ flushes self.old) }
         ensures taken { taken self.new ≡ taken self.old }
         ensures told { Keeps (contents self.old) (contents self.new) };
 

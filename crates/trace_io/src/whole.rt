@@ -18,6 +18,7 @@ pub fn write_all<W: Target>(target: &mut W, text: &[u8]) -> Result<(), DeviceFau
     ensures failures { MatchResult result
         (λ _. W.failures target.new ≡ W.failures target.old) (λ _. W.failures target.new ≡ W.failures target.old + 1) }
     ensures no_empty_write { W.had_empty_write target.new ≡ W.had_empty_write target.old }
+    ensures flushes { W.flushes target.new ≡ W.flushes target.old }
 {
     let mut rest = text;
     'writing: while !rest.is_empty() {

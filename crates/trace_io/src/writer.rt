@@ -14,20 +14,20 @@ pub struct Writing<W> {
     inner: W,
     failures: u64,
     has_taken: bool,
-    // Only contracts look at these three.
+    // Only contracts look at these four. For each flush that did not fail one byte is noted.
     had_empty_write: bool,
     is_flushed: bool,
+    flushes: History,
     history: History,
 }
 
 impl<W> Model for Writing<W> {
+    ghost use Rattle.std.specs.Prelude.{◌≡◌, length, nat_lt};
     ghost use Rattle.trace_io.specs.Counted.{CountedWriter};
 
     ghost Value = { CountedWriter W };
 
-    ghost view = { λ w. record { inner = w.inner; failures = w.failures; had_empty_write = w.had_empty_write; is_flushed = w.is_flushed; taken = w.history.bytes } };
-
-    ghost use Rattle.std.specs.Prelude.{◌≡◌, length, nat_lt};
+    ghost view = { λ w. record { inner = w.inner; failures = w.failures; had_empty_write = w.had_empty_write; is_flushed = w.is_flushed; flushes = length w.flushes.bytes; taken = w.history.bytes } };
 
     ghost invariant = { λ w. w.has_taken ≡ nat_lt 0 (length w.history.bytes) };
 }
@@ -35,7 +35,7 @@ impl<W> Model for Writing<W> {
 impl<W> Writing<W> {
     /// A writer that was not yet written to through this device: the count begins at 0.
     pub fn new(inner: W) -> Self
-        ensures { result ≡ record { inner = inner; failures = 0; had_empty_write = false; is_flushed = false; taken = [] } }
+        ensures { result ≡ record { inner = inner; failures = 0; had_empty_write = false; is_flushed = false; flushes = 0; taken = [] } }
     {
         Writing {
             inner,
@@ -43,6 +43,7 @@ impl<W> Writing<W> {
             has_taken: false,
             had_empty_write: false,
             is_flushed: false,
+            flushes: History::new(),
             history: History::new(),
         }
     }
@@ -67,6 +68,8 @@ impl<W: Write> Target for Writing<W> {
 
     ghost is_flushed = { λ w. w.is_flushed };
 
+    ghost flushes = { λ w. w.flushes };
+
     fn write(&mut self, piece: &[u8]) -> Result<usize, DeviceFault> {
         self.is_flushed = false;
         match self.inner.write(piece) {
@@ -90,6 +93,7 @@ impl<W: Write> Target for Writing<W> {
         match self.inner.flush() {
             Ok(()) => {
                 self.is_flushed = true;
+                self.flushes.note(b"\n");
                 Ok(())
             }
             Err(_) => {

@@ -1,5 +1,5 @@
 -- What was done where the exit status is 0.
-use Rattle.std.proofs.Common.{◌≡◌, ℕ, inl, inr, List, ◌++◌, Some, None, Result, Ok, Err, arith, sym, subst, ◌∙◌}
+use Rattle.std.proofs.Common.{◌≡◌, ◌≤◌, ◌+◌, ℕ, inl, inr, List, ◌++◌, Option, Some, None, Result, Ok, Err, arith, refl, ap, sym, subst, ◌∙◌}
 use Rattle.isotp_receive.specs.declared.TheConstants.{MESSAGE_LIMIT}
 use Rattle.clap.specs.Walk.{Text}
 use Rattle.trace_canon.specs.Compared.{Compares, fault_in}
@@ -11,7 +11,7 @@ use Rattle.trace_canon.specs.declared.fault.Fault.{Fault}
 use Rattle.trace_canon.specs.declared.summary.Summary.{Summary}
 use Rattle.trace_io.specs.declared.device.Source.{Ghosts as SourceGhosts}
 use Rattle.trace_io.specs.declared.device.Target.{Ghosts as TargetGhosts}
-use Rattle.udsnorm.specs.Asked.{Did, DidAsked, DidWords, IsDone, IsDoneBy}
+use Rattle.udsnorm.specs.Asked.{Did, DidAsked, DidWords, IsDone, IsDoneBy, ToldWords}
 use Rattle.udsnorm.specs.Comparisons.{comparison_line}
 use Rattle.udsnorm.specs.Ending.{flushes}
 use Rattle.udsnorm.specs.Run.{EngineAnswers, IsStatusOfTwo, TookLine}
@@ -90,3 +90,28 @@ is_done file source output errors given before old unsaid status after new said 
   planned = did.planned;
   done = done_by file source output errors did.asked before old unsaid status after new said log did.did zero grown;
 }
+
+-- ---- of words that ask for nothing
+
+module _ {W E : Type 0} (output : TargetGhosts W) (errors : TargetGhosts E) where
+  -- only help ends with 0, and that is flushed once
+  pub told_once : (fault : WordsFault) (old : W) (unsaid : E) (status : ℕ) (new : W) (said : E) → ToldWords output errors fault old unsaid status new said
+      → status ≡ 0 → output.flushes new ≡ output.flushes old + 1
+  told_once (words.Help text) old unsaid status new said (inl told) zero = told.5
+  told_once (words.Help text) old unsaid status new said (inr failed) zero = absurd (is_not_four status zero failed.0)
+  told_once (words.Words text) old unsaid status new said told zero = absurd (omega (arith, told.0, zero))
+  told_once words.Identifier old unsaid status new said told zero = absurd (omega (arith, told.0, zero))
+  told_once (words.Config reason) old unsaid status new said told zero = absurd (omega (arith, told.0, zero))
+  told_once words.Memory old unsaid status new said told zero = absurd (omega (arith, told.0, zero))
+
+  same_times : (old new : W) → new ≡ old → output.flushes new ≤ output.flushes old + 1
+  same_times old new same = let times = ap output.flushes same in omega arith
+
+  pub told_at_most_once : (fault : WordsFault) (old : W) (unsaid : E) (status : ℕ) (new : W) (said : E) → ToldWords output errors fault old unsaid status new said
+      → output.flushes new ≤ output.flushes old + 1
+  told_at_most_once (words.Help text) old unsaid status new said (inl told) = omega (arith, told.5)
+  told_at_most_once (words.Help text) old unsaid status new said (inr failed) = omega (arith, failed.4)
+  told_at_most_once (words.Words text) old unsaid status new said told = same_times old new told.1
+  told_at_most_once words.Identifier old unsaid status new said told = same_times old new told.1
+  told_at_most_once (words.Config reason) old unsaid status new said told = same_times old new told.1
+  told_at_most_once words.Memory old unsaid status new said told = same_times old new told.1

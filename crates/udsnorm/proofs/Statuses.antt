@@ -1,5 +1,5 @@
 -- What a run comes to, by what an engine answered and which devices failed.
-use Rattle.std.proofs.Common.{◌≡◌, ◌≢◌, ◌+◌, ◌-◌, ℕ, inl, inr, Bool, true, false, true≢false, List, [], ◌++◌, length, length-append, append-nil, Option, Some, None, Result, Ok, Err, arith, refl, ap, sym, subst, ◌∙◌}
+use Rattle.std.proofs.Common.{◌≡◌, ◌≢◌, ◌<◌, ◌≤◌, ◌⊎◌, ◌+◌, ◌-◌, ℕ, inl, inr, Bool, true, false, true≢false, List, [], ◌++◌, length, length-append, append-nil, Option, Some, None, Result, Ok, Err, arith, refl, ap, sym, subst, ◌∙◌}
 use Rattle.std.specs.Io.KnownBytes.{Appends, Keeps}
 use Rattle.trace_canon.specs.Failing.{FailedIf}
 use Rattle.trace_canon.specs.declared.comparing.Comparison.{Comparison}
@@ -17,17 +17,17 @@ use Rattle.udsnorm.specs.declared.job.Job.{Job}
 -- ---- after the flush
 
 -- the same, without the devices
-pub comes_to : (due : Bool) (answer outcome : Result Summary Fault) (old new : ℕ) (is_flushed : Bool) → EndsAs due answer old new is_flushed outcome → ComesTo due answer outcome
-comes_to false answer outcome old new is_flushed ends = inl ends.0
-comes_to true answer outcome old new is_flushed (inl same) = inl same.0
-comes_to true answer outcome old new is_flushed (inr failed) = inr (refl, failed.0)
+pub comes_to : (due : Bool) (answer outcome : Result Summary Fault) (old new times times_now : ℕ) (is_flushed : Bool) → EndsAs due answer old new times times_now is_flushed outcome → ComesTo due answer outcome
+comes_to false answer outcome old new times times_now is_flushed ends = inl ends.0
+comes_to true answer outcome old new times times_now is_flushed (inl same) = inl same.0
+comes_to true answer outcome old new times times_now is_flushed (inr failed) = inr (refl, failed.0)
 
 -- where a flush was due and did not fail, the output is flushed
-pub is_flushed_then : (due : Bool) (answer outcome : Result Summary Fault) (old new : ℕ) (is_flushed : Bool) → EndsAs due answer old new is_flushed outcome
+pub is_flushed_then : (due : Bool) (answer outcome : Result Summary Fault) (old new times times_now : ℕ) (is_flushed : Bool) → EndsAs due answer old new times times_now is_flushed outcome
     → due ≡ true → outcome ≢ Err fault.Write → is_flushed ≡ true
-is_flushed_then false answer outcome old new is_flushed ends is well = absurd (true≢false (sym is))
-is_flushed_then true answer outcome old new is_flushed (inl same) is well = same.2
-is_flushed_then true answer outcome old new is_flushed (inr failed) is well = absurd (well failed.0)
+is_flushed_then false answer outcome old new times times_now is_flushed ends is well = absurd (true≢false (sym is))
+is_flushed_then true answer outcome old new times times_now is_flushed (inl same) is well = same.2
+is_flushed_then true answer outcome old new times times_now is_flushed (inr failed) is well = absurd (well failed.0)
 
 -- no flush is due after a failed write
 never_due : (answer : Result Summary Fault) (taken : List ℕ) → flushes answer taken ≡ true → answer ≡ Err fault.Write → ⊥
@@ -35,11 +35,11 @@ never_due (Ok summary) taken due is = cc
 never_due (Err why) taken due is = absurd (true≢false (sym due ∙ ap (λ a. flushes a taken) is))
 
 -- a failed write, of the engine or of the flush, is counted once
-pub failed_once : (answer outcome : Result Summary Fault) (taken : List ℕ) (first old new : ℕ) (is_flushed : Bool) → FailedIf fault.Write answer first old
-    → EndsAs (flushes answer taken) answer old new is_flushed outcome → FailedIf fault.Write outcome first new
-failed_once answer outcome taken first old new is_flushed wrote = by (flushes answer taken) refl
+pub failed_once : (answer outcome : Result Summary Fault) (taken : List ℕ) (first old new times times_now : ℕ) (is_flushed : Bool) → FailedIf fault.Write answer first old
+    → EndsAs (flushes answer taken) answer old new times times_now is_flushed outcome → FailedIf fault.Write outcome first new
+failed_once answer outcome taken first old new times times_now is_flushed wrote = by (flushes answer taken) refl
   where
-    by : (due : Bool) → flushes answer taken ≡ due → EndsAs due answer old new is_flushed outcome → FailedIf fault.Write outcome first new
+    by : (due : Bool) → flushes answer taken ≡ due → EndsAs due answer old new times times_now is_flushed outcome → FailedIf fault.Write outcome first new
     by false is ends = record {
       risen = λ failed. ends.1 ∙ wrote.risen (sym ends.0 ∙ failed);
       same = λ well. ends.1 ∙ wrote.same (λ failed. well (ends.0 ∙ failed));
@@ -52,6 +52,31 @@ failed_once answer outcome taken first old new is_flushed wrote = by (flushes an
       risen = λ again. failed.1 ∙ ap (λ n. n + 1) (wrote.same (never_due answer taken is));
       same = λ well. absurd (well failed.0);
     }
+
+-- where a flush was due and did not fail, there was one
+pub flushed_once_then : (due : Bool) (answer outcome : Result Summary Fault) (old new times times_now : ℕ) (is_flushed : Bool)
+    → EndsAs due answer old new times times_now is_flushed outcome → due ≡ true → outcome ≢ Err fault.Write → times_now ≡ times + 1
+flushed_once_then false answer outcome old new times times_now is_flushed ends is well = absurd (true≢false (sym is))
+flushed_once_then true answer outcome old new times times_now is_flushed (inl same) is well = same.3
+flushed_once_then true answer outcome old new times times_now is_flushed (inr failed) is well = absurd (well failed.0)
+
+-- and else there was none
+pub not_flushed_then : (answer outcome : Result Summary Fault) (taken : List ℕ) (old new times times_now : ℕ) (is_flushed : Bool)
+    → EndsAs (flushes answer taken) answer old new times times_now is_flushed outcome → (flushes answer taken ≡ false) ⊎ (outcome ≡ Err fault.Write) → times_now ≡ times
+not_flushed_then answer outcome taken old new times times_now is_flushed = by (flushes answer taken) refl
+  where
+    by : (due : Bool) → flushes answer taken ≡ due → EndsAs due answer old new times times_now is_flushed outcome → (due ≡ false) ⊎ (outcome ≡ Err fault.Write) → times_now ≡ times
+    by false is ends none = ends.2
+    by true is (inl same) (inl undue) = absurd (true≢false undue)
+    by true is (inl same) (inr failed) = absurd (never_due answer taken is (sym same.0 ∙ failed))
+    by true is (inr failed) none = failed.2
+
+-- there was at most one
+pub flushed_at_most_once : (due : Bool) (answer outcome : Result Summary Fault) (old new times times_now : ℕ) (is_flushed : Bool)
+    → EndsAs due answer old new times times_now is_flushed outcome → times_now ≤ times + 1
+flushed_at_most_once false answer outcome old new times times_now is_flushed ends = omega (arith, ends.2)
+flushed_at_most_once true answer outcome old new times times_now is_flushed (inl same) = omega (arith, same.3)
+flushed_at_most_once true answer outcome old new times times_now is_flushed (inr failed) = omega (arith, failed.2)
 
 held_still : (bytes : List ℕ) (first old new : Option (List ℕ)) → Appends first old bytes → Keeps old new → Appends first new bytes
 held_still bytes None old new held kept = tt
@@ -125,3 +150,12 @@ pub summary_of_done : (due : Bool) (answer outcome : Result Summary Fault) (stat
 summary_of_done due answer (Ok summary) status (inl same) is zero = (summary, sym same)
 summary_of_done due answer (Ok summary) status (inr failed) is zero = absurd (never_ok summary failed.1)
 summary_of_done due answer (Err why) status comes is zero = absurd (faults_are_told why (sym is ∙ zero))
+
+-- and the output was flushed once
+pub done_once : (answer outcome : Result Summary Fault) (taken : List ℕ) (old new times times_now : ℕ) (is_flushed : Bool) (status : ℕ)
+    → EndsAs (flushes answer taken) answer old new times times_now is_flushed outcome → status ≡ status_of_run outcome → status ≡ 0 → times_now ≡ times + 1
+done_once answer outcome taken old new times times_now is_flushed status ends is zero =
+    let accepted = summary_of_done (flushes answer taken) answer outcome status (comes_to (flushes answer taken) answer outcome old new times times_now is_flushed ends) is zero in
+    let due : flushes answer taken ≡ true = ap (λ (a : Result Summary Fault). flushes a taken) accepted.1 in
+    flushed_once_then (flushes answer taken) answer outcome old new times times_now is_flushed ends due
+    (λ failed. faults_are_told fault.Write (ap status_of_run (sym failed) ∙ sym is ∙ zero))

@@ -26,12 +26,14 @@ use Rattle.udsnorm.specs.declared.job.WordsFault.TheVariants as words
 abbrev pub Took : {W : Type 0} → TargetGhosts W → List ℕ → W → W → Type 0
 Took target text old new = TookText text (target.failures old) (target.failures new) (target.taken old) (target.taken new)
 
--- Help or the version was told: the output took all of it and is flushed, and the error output is left alone; or the output failed, and the
--- error output took the line of that.
+-- Help or the version was told: the output took all of it and is flushed, by one flush, and the error output is left alone; or
+-- the output failed, and the error output took the line of that.
 abbrev pub ToldHelp : {W E : Type 0} → TargetGhosts W → TargetGhosts E → List ℕ → W → E → ℕ → W → E → Type 0
 ToldHelp output errors text old unsaid status new said =
-    ((status ≡ 0) × (output.taken new ≡ output.taken old ++ text) × (output.is_flushed new ≡ true) × (output.failures new ≡ output.failures old) × (said ≡ unsaid))
-    ⊎ ((status ≡ 4) × HasFront (output.taken old) text (output.taken new) × (output.failures new ≡ output.failures old + 1) × Took errors (fault_line Write) unsaid said)
+    ((status ≡ 0) × (output.taken new ≡ output.taken old ++ text) × (output.is_flushed new ≡ true) × (output.failures new ≡ output.failures old) × (said ≡ unsaid)
+    × (output.flushes new ≡ output.flushes old + 1))
+    ⊎ ((status ≡ 4) × HasFront (output.taken old) text (output.taken new) × (output.failures new ≡ output.failures old + 1) × Took errors (fault_line Write) unsaid said
+    × (output.flushes new ≡ output.flushes old))
 
 -- What is told of words that ask for nothing: help or the version on the output, anything else on the error output, which
 -- leaves the output alone.

@@ -1,5 +1,5 @@
 -- How a run ends: what was written is flushed, and only then a fault is told.
-use Rattle.std.specs.Prelude.{◌≡◌, ℕ, ◌+◌, ◌==◌, ◌&&◌, nat_lt, ◌⊎◌, Bool, true, false, List, length, Result, Ok, Err}
+use Rattle.std.specs.Prelude.{◌≡◌, ℕ, ◌+◌, ◌&&◌, nat_lt, ◌⊎◌, Bool, true, false, List, length, Result, Ok, Err}
 use Rattle.trace_canon.specs.Compared.{fault_in}
 use Rattle.trace_canon.specs.declared.comparing.Comparison.{Comparison}
 use Rattle.trace_canon.specs.declared.comparing.Comparison.TheVariants.{Same, Different}
@@ -7,20 +7,21 @@ use Rattle.trace_canon.specs.declared.fault.CompareFault.{CompareFault}
 use Rattle.trace_canon.specs.declared.fault.Fault.{Fault}
 use Rattle.trace_canon.specs.declared.fault.Fault.TheVariants.{Write}
 use Rattle.trace_canon.specs.declared.summary.Summary.{Summary}
-use Rattle.udsnorm.specs.Status.{status_of}
+use Rattle.udsnorm.specs.Status.{is_refusal, status_of}
 
 -- Whether the output is flushed after this answer, where it took these bytes: after an `Ok`, and after a refused log where it
 -- took any. After a failed device or refused memory it is not.
 abbrev pub flushes : {A : Type 0} → Result A Fault → List ℕ → Bool
 flushes (Ok value) taken = true
-flushes (Err fault) taken = (status_of fault == 3) && nat_lt 0 (length taken)
+flushes (Err fault) taken = is_refusal fault && nat_lt 0 (length taken)
 
--- What a run comes to that is flushed after this answer or is not, by the failures of its output and whether that is flushed:
--- the answer, or a failed write where the flush failed.
-abbrev pub EndsAs : {A : Type 0} → Bool → Result A Fault → ℕ → ℕ → Bool → Result A Fault → Type 0
-EndsAs false answer failures failures_now is_flushed outcome = (outcome ≡ answer) × (failures_now ≡ failures)
-EndsAs true answer failures failures_now is_flushed outcome =
-    ((outcome ≡ answer) × (failures_now ≡ failures) × (is_flushed ≡ true)) ⊎ ((outcome ≡ Err Write) × (failures_now ≡ failures + 1))
+-- What a run comes to that is flushed after this answer or is not, by the failures and the flushes of its output and whether
+-- that is flushed: the answer, with one flush more or none, or a failed write where the flush failed.
+abbrev pub EndsAs : {A : Type 0} → Bool → Result A Fault → ℕ → ℕ → ℕ → ℕ → Bool → Result A Fault → Type 0
+EndsAs false answer failures failures_now times times_now is_flushed outcome = (outcome ≡ answer) × (failures_now ≡ failures) × (times_now ≡ times)
+EndsAs true answer failures failures_now times times_now is_flushed outcome =
+    ((outcome ≡ answer) × (failures_now ≡ failures) × (is_flushed ≡ true) × (times_now ≡ times + 1))
+    ⊎ ((outcome ≡ Err Write) × (failures_now ≡ failures + 1) × (times_now ≡ times))
 
 -- the same, without the devices
 abbrev pub ComesTo : {A : Type 0} → Bool → Result A Fault → Result A Fault → Type 0

@@ -1,5 +1,5 @@
 -- What a run over logs answers, what it takes from its input, and what its output takes.
-use Rattle.std.specs.Prelude.{◌≡◌, ◌≢◌, ℕ, ◌-◌, ◌<◌, ◌⊎◌, List, ◌++◌, length, true, Result, Ok, Err, OnOk}
+use Rattle.std.specs.Prelude.{◌≡◌, ◌≢◌, ℕ, ◌+◌, ◌-◌, ◌<◌, ◌⊎◌, List, ◌++◌, length, true, false, Result, Ok, Err, OnOk}
 use Rattle.trace_canon.specs.Settings.{Settings}
 use Rattle.trace_canon.specs.Answers.{Answers, ReadsWhile}
 use Rattle.trace_canon.specs.Devices.{ReadFrom}
@@ -53,8 +53,10 @@ pub record RanOne {R W E : Type 0} (source : SourceGhosts R) (output : TargetGho
   pub outcome : Result Summary Fault
   pub comes : ComesTo (flushes answer (output.taken new)) answer outcome
   pub status_is : status ≡ status_of_run outcome
-  -- where a flush was due and did not fail, the output is flushed
+  -- where a flush was due and did not fail, the output is flushed, by one flush; else there was none
   pub flushed : flushes answer (output.taken new) ≡ true → outcome ≢ Err Write → output.is_flushed new ≡ true
+  pub flushed_once : flushes answer (output.taken new) ≡ true → outcome ≢ Err Write → output.flushes new ≡ output.flushes old + 1
+  pub not_flushed : (flushes answer (output.taken new) ≡ false) ⊎ (outcome ≡ Err Write) → output.flushes new ≡ output.flushes old
   -- a failed write is told exactly where a write or the flush failed
   pub failed : FailedIf Write outcome (output.failures old) (output.failures new)
   pub took : Took (output.taken old) (output.taken new) (output.contents old) (output.contents new)

@@ -1,5 +1,5 @@
 -- Exit statuses.
-use Rattle.std.specs.Prelude.{ℕ}
+use Rattle.std.specs.Prelude.{ℕ, Bool, ◌==◌}
 use Rattle.trace_canon.specs.declared.fault.Fault.{Fault}
 use Rattle.trace_canon.specs.declared.fault.Fault.TheVariants as fault
 
@@ -12,3 +12,7 @@ status_of fault.OutputLimit = 3
 status_of fault.Read = 4
 status_of fault.Write = 4
 status_of fault.Memory = 5
+
+-- the log is refused, by what it says or by how long it is
+abbrev pub is_refusal : Fault → Bool
+is_refusal fault = status_of fault == 3

@@ -12,7 +12,7 @@
 //! refused.
 #![tactic(auto)]
 
-ghost use Rattle.std.specs.Prelude.{◌≡◌, ◌⊎◌, ℕ, List, ◌++◌, length, true, map, string_bytes};
+ghost use Rattle.std.specs.Prelude.{◌≡◌, ◌+◌, ◌≤◌, ◌⊎◌, ℕ, List, ◌++◌, length, true, map, string_bytes};
 ghost use Rattle.trace_io.specs.Counted.{AreLowCounts, IsLowCount};
 ghost use Rattle.udsnorm.specs.Asked.{Did, DidWords, IsDone, RanFile, RanFiles, Unopened};
 ghost use Rattle.isotp_receive.specs.declared.TheConstants.{MESSAGE_LIMIT};
@@ -86,6 +86,8 @@ fn run_words<R: AllocGlobal + Files, I: Source, W: Target, E: Target>(
     ensures done { result ≡ 0 → (log : List ℕ) → I.given input.new ≡ I.given input.old ++ log
         → IsDone (words_or_normalise (map string_bytes words.now)) log (W.taken out.old) (W.taken out.new) }
     ensures flushed { result ≡ 0 → W.is_flushed out.new ≡ true }
+    ensures once { result ≡ 0 → W.flushes out.new ≡ W.flushes out.old + 1 }
+    ensures flushes { W.flushes out.new ≤ W.flushes out.old + 1 }
 {
     match plan(rt.alloc(), words) {
         Ok(plan) => carry_out(rt, &plan, input, out, err),
@@ -106,6 +108,8 @@ fn carry_out<R: AllocGlobal + Files, I: Source, W: Target, E: Target>(
     requires err { IsLowCount (E.failures err.old) }
     ensures did { Did ⟦<Reading<R::File> as Source>⟧ I.Source W.Target E.Target plan.now input.old out.old err.old result input.new out.new err.new }
     ensures flushed { result ≡ 0 → W.is_flushed out.new ≡ true }
+    ensures once { result ≡ 0 → W.flushes out.new ≡ W.flushes out.old + 1 }
+    ensures flushes { W.flushes out.new ≤ W.flushes out.old + 1 }
 {
     match plan {
         Plan::One { job, config, log } => match log {
@@ -134,6 +138,8 @@ fn run_file<R: AllocGlobal + Files, W: Target, E: Target>(
     ensures ran { RanFile ⟦<Reading<R::File> as Source>⟧ W.Target E.Target job MESSAGE_LIMIT config.now out.old err.old result out.new err.new
         ⊎ Unopened E.Target (fault_line Fault.Read) out.old err.old result out.new err.new }
     ensures flushed { result ≡ 0 → W.is_flushed out.new ≡ true }
+    ensures once { result ≡ 0 → W.flushes out.new ≡ W.flushes out.old + 1 }
+    ensures flushes { W.flushes out.new ≤ W.flushes out.old + 1 }
 {
     match fs::open(rt, name.as_str()) {
         Ok(file) => run_one(rt.alloc(), job, config, &mut Reading::new(file), out, err),
@@ -156,6 +162,8 @@ fn run_files<R: AllocGlobal + Files, W: Target, E: Target>(
         ⊎ (Unopened E.Target (side_line (CompareFault.Left Fault.Read)) out.old err.old result out.new err.new
         ⊎ Unopened E.Target (side_line (CompareFault.Right Fault.Read)) out.old err.old result out.new err.new) }
     ensures flushed { result ≡ 0 → W.is_flushed out.new ≡ true }
+    ensures once { result ≡ 0 → W.flushes out.new ≡ W.flushes out.old + 1 }
+    ensures flushes { W.flushes out.new ≤ W.flushes out.old + 1 }
 {
     let Ok(left) = fs::open(rt, left.as_str()) else {
         return tell_side(CompareFault::Left(Fault::Read), err);

@@ -15,7 +15,7 @@ ghost use Rattle.udsnorm.specs.Telling.{TookText};
 
 use crate::comparison::comparison_line;
 use crate::job::Job;
-use crate::tell::{status, tell_fault, tell_side};
+use crate::tell::{is_refusal, tell_fault, tell_side};
 use std::alloc::Global;
 use trace_canon::{
     CompareFault, Comparison, Config, Fault, Summary, compare, explain, list, normalise,
@@ -39,9 +39,11 @@ pub fn run_one<R: Source, W: Target, E: Target>(
     // What the engine answered, what was read and written, and what the run came to: its status and what is told of it.
     ensures ran { RanOne R.Source W.Target E.Target job MESSAGE_LIMIT config.now input.old out.old err.old result input.new out.new err.new }
 
-    // Where it is done, the input was read to its end, the output was flushed last, and nothing was told.
+    // Where it is done, the input was read to its end, the output was flushed last and once, and nothing was told.
     ensures over { result ≡ 0 → R.is_over input.new ≡ true }
     ensures flushed { result ≡ 0 → W.is_flushed out.new ≡ true }
+    ensures once { result ≡ 0 → W.flushes out.new ≡ W.flushes out.old + 1 }
+    ensures flushes { W.flushes out.new ≤ W.flushes out.old + 1 }
     ensures quiet { result ≡ 0 → err.new ≡ err.old }
 
     // The status is 4 exactly where a device failed.
@@ -79,7 +81,7 @@ fn do_job<R: Source, W: Target>(
 /// What a run comes to, once what it wrote is flushed: its answer, or a failed write.
 fn flushed_one<W: Target>(answer: Result<Summary, Fault>, out: &mut W) -> Result<Summary, Fault>
     requires { W.failures out.old ≤ 2 ^ 62 + 1 }
-    ensures ends { EndsAs (flushes answer (W.taken out.old)) answer (W.failures out.old) (W.failures out.new) (W.is_flushed out.new) result }
+    ensures ends { EndsAs (flushes answer (W.taken out.old)) answer (W.failures out.old) (W.failures out.new) (W.flushes out.old) (W.flushes out.new) (W.is_flushed out.new) result }
     ensures taken { W.taken out.new ≡ W.taken out.old }
     ensures told { Keeps (W.contents out.old) (W.contents out.new) }
     ensures no_empty_write { W.had_empty_write out.new ≡ W.had_empty_write out.old }
@@ -100,7 +102,7 @@ fn is_flushed_after<W: Target>(answer: Result<Summary, Fault>, out: &W) -> bool
 {
     match answer {
         Ok(_) => true,
-        Err(fault) => status(fault) == 3 && out.has_taken(),
+        Err(fault) => is_refusal(fault) && out.has_taken(),
     }
 }
 
@@ -135,8 +137,10 @@ pub fn run_two<A: Source, B: Source, W: Target, E: Target>(
     // How the logs compare, what was read and written, and what the run came to: its status and what is told of it.
     ensures ran { RanTwo A.Source B.Source W.Target E.Target MESSAGE_LIMIT config.now left.old right.old out.old err.old result left.new right.new out.new err.new }
 
-    // Where the logs were compared, the output was flushed last, and nothing was told.
+    // Where the logs were compared, the output was flushed last and once, and nothing was told.
     ensures flushed { result ≤ 1 → W.is_flushed out.new ≡ true }
+    ensures once { result ≤ 1 → W.flushes out.new ≡ W.flushes out.old + 1 }
+    ensures flushes { W.flushes out.new ≤ W.flushes out.old + 1 }
     ensures quiet { result ≤ 1 → err.new ≡ err.old }
 
     // No write to the output is empty.
@@ -162,6 +166,8 @@ fn end_comparison<W: Target, E: Target>(
     ensures failed { OnOk answer (result ≡ 4 → W.failures out.old < W.failures out.new) }
     ensures line { TookLine answer result (W.taken out.old) (W.taken out.new) }
     ensures flushed { result ≤ 1 → W.is_flushed out.new ≡ true }
+    ensures once { result ≤ 1 → W.flushes out.new ≡ W.flushes out.old + 1 }
+    ensures flushes { W.flushes out.new ≤ W.flushes out.old + 1 }
     ensures quiet { result ≤ 1 → err.new ≡ err.old }
     ensures told { TookText (run_two_text answer result) (E.failures err.old) (E.failures err.new) (E.taken err.old) (E.taken err.new) }
     ensures no_empty_write { W.had_empty_write out.new ≡ W.had_empty_write out.old }
@@ -182,6 +188,8 @@ pub(crate) fn write_flushed<W: Target>(text: &[u8], out: &mut W) -> Result<(), F
     ensures whole { OnOk result (W.taken out.new ≡ W.taken out.old ++ text.now) }
     ensures fault { IfErr result (λ fault. fault ≡ Fault.Write) }
     ensures flushed { OnOk result (W.is_flushed out.new ≡ true) }
+    ensures flushes { MatchResult result
+        (λ _. W.flushes out.new ≡ W.flushes out.old + 1) (λ _. W.flushes out.new ≡ W.flushes out.old) }
     ensures failures { MatchResult result
         (λ _. W.failures out.new ≡ W.failures out.old) (λ _. W.failures out.new ≡ W.failures out.old + 1) }
     ensures no_empty_write { W.had_empty_write out.new ≡ W.had_empty_write out.old }

@@ -5,7 +5,7 @@ ghost use Rattle.trace_canon.specs.Compared.{fault_in};
 ghost use Rattle.trace_io.specs.Counted.{IsLowCount};
 ghost use Rattle.udsnorm.specs.Asked.{ToldHelp, ToldWords};
 ghost use Rattle.udsnorm.specs.FaultLines.{fault_line, side_line};
-ghost use Rattle.udsnorm.specs.Status.{status_of};
+ghost use Rattle.udsnorm.specs.Status.{is_refusal as refuses, status_of};
 ghost use Rattle.udsnorm.specs.Telling.{TookText};
 
 use crate::fault_lines::{fault_line, side_line, words_text};
@@ -90,4 +90,11 @@ pub(crate) fn status(fault: Fault) -> u8
         Fault::Read | Fault::Write => 4,
         Fault::Memory => 5,
     }
+}
+
+/// Whether a fault is that the log is refused.
+pub(crate) fn is_refusal(fault: Fault) -> bool
+    ensures { result ≡ refuses fault }
+{
+    status(fault) == 3
 }

@@ -86,6 +86,7 @@ returns-in-Err g c =
         wrote = record {
           took = known_of.2.took;
           no_empty_write = known_of.2.no_empty_write;
+          flushes = known_of.2.flushes;
           left_alone = left_alone_so W c.args.writer.now c.give_up.new.target (Err c.give_up.result) known_of.0 known_of.1 known_of.2
               (fails_so W c.args.writer.now c.give_up.new.target c.give_up.result known_of.0 known_of.1 known_of.2 known_of.3);
           failed = fails_so W c.args.writer.now c.give_up.new.target c.give_up.result known_of.0 known_of.1 known_of.2 known_of.3;
@@ -159,6 +160,7 @@ returns-in-Ok g c =
         wrote = record {
           took = known_of.2.took;
           no_empty_write = known_of.2.no_empty_write;
+          flushes = known_of.2.flushes;
           left_alone = left_alone_so W c.args.writer.now c.finish.new.target c.finish.result known_of.0 known_of.1 known_of.2 known_of.3;
           failed = known_of.3;
         };

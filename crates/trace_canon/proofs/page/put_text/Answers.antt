@@ -19,6 +19,7 @@ returns-in-Err g c = λ start said carries.
       still = λ none. absurd (omega (arith, none, nonempty c.args.text.now c.is_empty.result c.is_empty.ensures c.if-is_empty.false, length-append said c.args.text.now));
       failures = failed.failures ∙ ap (λ n. n + 1) so_far.failures;
       no_empty_write = failed.no_empty_write ∙ so_far.no_empty_write;
+      flushes = failed.flushes ∙ so_far.flushes;
       took = took_more so_far.took failed.took;
       written = front_behind (W.taken start) said c.args.text.now (W.taken c.args.target.now) page.block (W.taken c.gather.new.writer) so_far.written failed.taken;
     }
@@ -37,6 +38,7 @@ returns-in_default g c = λ start said carries.
       still = λ none. absurd (omega (arith, none, nonempty c.args.text.now c.is_empty.result c.is_empty.ensures c.if-is_empty.false, length-append said c.args.text.now));
       failures = put.failures ∙ so_far.failures;
       no_empty_write = put.no_empty_write ∙ so_far.no_empty_write;
+      flushes = put.flushes ∙ so_far.flushes;
       took = took_more so_far.took put.took;
       written = written_behind (W.taken start) said c.args.text.now (W.taken c.args.target.now) page.block (W.taken c.gather.new.writer) c.gather.new.block so_far.written put.taken;
     })
@@ -54,6 +56,7 @@ returns-then-page g c = λ start said carries.
       still = λ none. so_far.still (omega (arith, none, length-append said c.args.text.now));
       failures = so_far.failures;
       no_empty_write = so_far.no_empty_write;
+      flushes = so_far.flushes;
       took = so_far.took;
       written = front_longer (W.taken start) said c.args.text.now (W.taken c.args.target.now) so_far.written;
     })

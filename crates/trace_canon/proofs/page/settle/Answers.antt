@@ -19,6 +19,7 @@ returns-in-Err-clause-settled g c = λ start said carries.
       still = λ none. absurd (omega (arith, none, so_far.held_some (c.is_empty.ensures.some c.if-is_empty.false)));
       failures = failed.failures ∙ ap (λ n. n + 1) so_far.failures;
       no_empty_write = failed.no_empty_write ∙ so_far.no_empty_write;
+      flushes = failed.flushes ∙ so_far.flushes;
       took = took_more so_far.took failed.took;
       written = gathered_written {A = Unit {0}} (Err c.in-Err._fault) (W.taken start) said (W.taken c.args.target.now) page.block (W.taken c.write_all.new.target) so_far.written
           (subst (λ t. HasFront (W.taken c.args.target.now) t (W.taken c.write_all.new.target)) c.as_slice.ensures.value failed.taken);
@@ -38,6 +39,7 @@ returns-clause-settled g c = λ start said carries.
       still = λ none. absurd (omega (arith, none, so_far.held_some (c.is_empty.ensures.some c.if-is_empty.false)));
       failures = wrote.failures ∙ so_far.failures;
       no_empty_write = wrote.no_empty_write ∙ so_far.no_empty_write;
+      flushes = wrote.flushes ∙ so_far.flushes;
       took = took_more so_far.took wrote.took;
       written = block_written (W.taken start) said (W.taken c.args.target.now) page.block [] (W.taken c.write_all.new.target)
           (rest_along (W.taken start) said (W.taken c.args.target.now) page.block (page.block ++ []) so_far.written (sym (append-nil page.block)))
@@ -56,6 +58,7 @@ returns-in-Err-clause-no_more g c = λ start said carries.
       still = done.still;
       failures = done.failures;
       no_empty_write = done.no_empty_write;
+      flushes = done.flushes;
       took = done.took;
       written = done.written;
     }

@@ -12,4 +12,5 @@ writing-preserved g c =
       taken = written_more c.args.text.now c.writing.rest.now n inv.taken wrote.taken;
       failures = wrote.failures ∙ inv.failures;
       no_empty_write = search rules;
+      flushes = wrote.flushes ∙ inv.flushes;
     }

@@ -9,6 +9,7 @@ invariant-writing g l = record {
   taken : IsWritten (g.W.Target.taken l.initial.target) l.text (g.W.Target.taken l.target) l.rest;
   failures : g.W.Target.failures l.target ≡ g.W.Target.failures l.initial.target;
   no_empty_write : g.W.Target.had_empty_write l.target ≡ g.W.Target.had_empty_write l.initial.target;
+  flushes : g.W.Target.flushes l.target ≡ g.W.Target.flushes l.initial.target;
 }
 
 abbrev pub decreases-writing : goal.decreases-writing

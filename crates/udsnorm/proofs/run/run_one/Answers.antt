@@ -1,6 +1,6 @@
-use Rattle.std.proofs.Common.{◌∙◌, sym, subst}
+use Rattle.std.proofs.Common.{◌≡◌, ◌≤◌, ◌+◌, ap, ◌∙◌, sym, subst}
 use Rattle.udsnorm.specs.Ending.{EndsAs, flushes}
-use Rattle.udsnorm.proofs.Statuses.{comes_to, failed_once, is_flushed_then, took_still}
+use Rattle.udsnorm.proofs.Statuses.{comes_to, done_once, failed_once, flushed_at_most_once, flushed_once_then, is_flushed_then, not_flushed_then, took_still}
 use Rattle.udsnorm.proofs.run.run_one.Goals as goal
 
 pub returns-clause-ran : goal.returns-clause-ran
@@ -14,18 +14,39 @@ returns-clause-ran g c =
     let new = g.W.Target.failures c.flushed_one-outcome.new.out in
     let is_flushed = g.W.Target.is_flushed c.flushed_one-outcome.new.out in
     let wrote = c.do_job-answer.ensures.wrote in
-    let ends = subst (λ t. EndsAs (flushes answer t) answer old new is_flushed outcome) (sym kept) c.flushed_one-outcome.ensures.ends in
+    let times = g.W.Target.flushes c.do_job-answer.new.out in
+    let times_now = g.W.Target.flushes c.flushed_one-outcome.new.out in
+    let ends = subst (λ t. EndsAs (flushes answer t) answer old new times times_now is_flushed outcome) (sym kept) c.flushed_one-outcome.ensures.ends in
     record {
       answer = answer;
       engine = λ log agrees. rw kept (c.do_job-answer.ensures.engine log agrees);
       near = c.do_job-answer.ensures.near;
       read = c.do_job-answer.ensures.read;
       outcome = outcome;
-      comes = comes_to (flushes answer taken) answer outcome old new is_flushed ends;
+      comes = comes_to (flushes answer taken) answer outcome old new times times_now is_flushed ends;
       status_is = c.tell_outcome.ensures.status;
-      flushed = is_flushed_then (flushes answer taken) answer outcome old new is_flushed ends;
-      failed = failed_once answer outcome taken first old new is_flushed wrote.failed ends;
+      flushed = is_flushed_then (flushes answer taken) answer outcome old new times times_now is_flushed ends;
+      flushed_once = λ due well. flushed_once_then (flushes answer taken) answer outcome old new times times_now is_flushed ends due well ∙ ap (λ n. n + 1) wrote.flushes;
+      not_flushed = λ none. not_flushed_then answer outcome taken old new times times_now is_flushed ends none ∙ wrote.flushes;
+      failed = failed_once answer outcome taken first old new times times_now is_flushed wrote.failed ends;
       took = took_still _ _ _ _ _ _ wrote.took kept c.flushed_one-outcome.ensures.told;
       no_empty_write = c.flushed_one-outcome.ensures.no_empty_write ∙ wrote.no_empty_write;
       told = c.tell_outcome.ensures.told;
     }
+
+pub returns-clause-once : goal.returns-clause-once
+returns-clause-once g c = λ zero.
+    let W = g.W.Target in
+    let out = c.do_job-answer.new.out in
+    let now = c.flushed_one-outcome.new.out in
+    done_once c.do_job-answer.result c.flushed_one-outcome.result (W.taken out) (W.failures out) (W.failures now) (W.flushes out) (W.flushes now) (W.is_flushed now) c.tell_outcome.result
+    c.flushed_one-outcome.ensures.ends c.tell_outcome.ensures.status zero ∙ ap (λ n. n + 1) c.do_job-answer.ensures.wrote.flushes
+
+pub returns-clause-flushes : goal.returns-clause-flushes
+returns-clause-flushes g c =
+    let W = g.W.Target in
+    let out = c.do_job-answer.new.out in
+    let now = c.flushed_one-outcome.new.out in
+    subst (λ n. W.flushes now ≤ n + 1) c.do_job-answer.ensures.wrote.flushes
+    (flushed_at_most_once (flushes c.do_job-answer.result (W.taken out)) c.do_job-answer.result c.flushed_one-outcome.result (W.failures out) (W.failures now) (W.flushes out) (W.flushes now) (W.is_flushed now)
+    c.flushed_one-outcome.ensures.ends)
