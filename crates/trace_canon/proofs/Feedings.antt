@@ -1,52 +1,87 @@
 -- A log that is read where what is due is written before each read.
-use Rattle.std.proofs.Common.{◌≡◌, ℕ, ◌+◌, ◌^◌, ◌≤◌, List, ◌++◌, length, arith, ap, ◌∙◌, append_assoc, Result, Ok, Err}
+use Rattle.std.proofs.Common.{◌≡◌, ℕ, ◌+◌, ◌^◌, ◌≤◌, List, ◌++◌, length, take, drop, arith, ap, sym, ◌∙◌, inl, inr, Option, append_assoc, length-append, Result, Ok, Err}
+use Rattle.std.proofs.lemmas.List.{take-append-drop}
 use Rattle.can_log.specs.Scanning.{Standing}
+use Rattle.can_log.specs.WholeLog.{StandsAfter}
+use Rattle.can_log.specs.declared.frame.Stamped.{Stamped}
 use Rattle.trace_canon.specs.Answers.{piece_length}
-use Rattle.trace_canon.specs.Feeding.{FeedsLog, FeedsSome, FeedsEnd, WroteBefore}
-use Rattle.trace_canon.specs.Reading.{Took, Stopped, IsOfLines, ReadsLog, TakesSome}
-use Rattle.trace_canon.specs.declared.feed.FeedFault.{FeedFault}
-use Rattle.trace_canon.specs.declared.feed.FeedFault.TheVariants as feed
-use Rattle.trace_canon.specs.declared.lines.LineFault.{LineFault}
-use Rattle.trace_canon.specs.declared.lines.LineFault.TheVariants as fault
-use Rattle.trace_canon.proofs.Streams.{HasTaken, log_ends, takes_at_end}
+use Rattle.trace_canon.specs.Feeding.{StopsLog, FeedsLog, FeedsSome, WroteBefore}
+use Rattle.trace_canon.specs.Reading.{Took, Stopped, RefusesIn, StopsIn, StopsPiece, ReadsPiece, ReadsEnd}
+use Rattle.trace_canon.specs.declared.fault.Fault.{Fault}
+use Rattle.trace_canon.specs.declared.fault.Fault.TheVariants as fault
+use Rattle.trace_canon.proofs.Streams.{HasTaken, at_count, few_in_log}
 
-module _ {T E : Type 0} (took rested broke : Took T) (stopped : Stopped T E) (start : T) where
-  -- a fault of the lines themselves
-  pub feeds_lines : (A : Type 0) (why : LineFault E) (m given : ℕ) (log : List ℕ) (now : T) → IsOfLines why → ReadsLog took stopped start {A = A} m log given (Err why) now
-      → FeedsLog took rested broke stopped start {A = A} m log given (Err (feed.Lines why)) now
-  feeds_lines A (fault.BadLine line column) m given log now by reads = reads
-  feeds_lines A (fault.Taker why) m given log now by reads = reads
-  feeds_lines A fault.LogLimit m given log now by reads = absurd by
-  feeds_lines A fault.Read m given log now by reads = absurd by
+module _ {T : Type 0} (took rested broke : Took T) (stopped : Stopped T) (start : T) where
+  -- a piece of the log was not read to its end
+  pub feeds_piece : (A : Type 0) (why : Fault) (m given : ℕ) (log : List ℕ) (first : List (Option Stamped)) (bytes piece : List ℕ) (stood standing : Standing) (now : T)
+      → StandsAfter bytes first stood → bytes ++ piece ≡ take (length (bytes ++ piece)) log → given ≡ length (bytes ++ piece) → given ≤ m → length piece ≤ piece_length
+      → ReadsPiece took stopped start {A = A} first bytes piece (Err why) standing now → FeedsLog took rested broke stopped start {A = A} m log given (Err why) now
+  feeds_piece A why m given log first bytes piece stood standing now stands front count within small = by why
+    where
+      stops : (why : Fault) → StopsPiece took stopped start first (bytes ++ piece) why now → StopsLog stopped start m log given why now
+      stops why (meanings, what, found, halted) =
+          let sum = length-append bytes piece in
+          let k = length (bytes ++ piece) in (
+            meanings,
+            what,
+            halted,
+            inl (
+              within,
+              record {
+                first = first;
+                before = bytes;
+                behind = piece ++ drop k log;
+                stood = stood;
+                starts = sym (take-append-drop k log) ∙ ap (λ x. x ++ drop k log) (sym front) ∙ append_assoc bytes piece (drop k log);
+                stands_before = stands;
+                near = omega arith;
+                stops = at_count (λ b. StopsIn first b meanings what) (bytes ++ piece) log given front count found;
+              },
+            ),
+          )
 
-  pub feeds_some_lines : (A : Type 0) (why : LineFault E) (now : T) → IsOfLines why → TakesSome took stopped start {A = A} (Err why) now
-      → FeedsSome took rested broke stopped start {A = A} (Err (feed.Lines why)) now
-  feeds_some_lines A (fault.BadLine line column) now by takes = takes
-  feeds_some_lines A (fault.Taker why) now by takes = takes
-  feeds_some_lines A fault.LogLimit now by takes = absurd by
-  feeds_some_lines A fault.Read now by takes = absurd by
+      by : (why : Fault) → ReadsPiece took stopped start {A = A} first bytes piece (Err why) standing now → FeedsLog took rested broke stopped start {A = A} m log given (Err why) now
+      by (fault.BadLine line column) (meanings, place, taken) =
+          (meanings, taken, inl (within, at_count (λ b. RefusesIn b meanings line column) (bytes ++ piece) log given front count place))
+      by (fault.Oversize line announced) reads = stops (fault.Oversize line announced) reads
+      by fault.Memory reads = stops fault.Memory reads
+      by fault.LogLimit reads = absurd reads
+      by fault.OutputLimit reads = absurd reads
+      by fault.Read reads = absurd reads
+      by fault.Write reads = absurd reads
+
+  pub feeds_some_in_piece : (A : Type 0) (why : Fault) (first : List (Option Stamped)) (bytes piece : List ℕ) (standing : Standing) (now : T)
+      → ReadsPiece took stopped start {A = A} first bytes piece (Err why) standing now → FeedsSome took rested broke stopped start {A = A} (Err why) now
+  feeds_some_in_piece A (fault.BadLine line column) first bytes piece standing now (meanings, place, taken) = (meanings, taken)
+  feeds_some_in_piece A (fault.Oversize line announced) first bytes piece standing now (meanings, what, stops, halted) = (meanings, what, halted)
+  feeds_some_in_piece A fault.Memory first bytes piece standing now (meanings, what, stops, halted) = (meanings, what, halted)
+  feeds_some_in_piece A fault.LogLimit first bytes piece standing now reads = absurd reads
+  feeds_some_in_piece A fault.OutputLimit first bytes piece standing now reads = absurd reads
+  feeds_some_in_piece A fault.Read first bytes piece standing now reads = absurd reads
+  feeds_some_in_piece A fault.Write first bytes piece standing now reads = absurd reads
 
   -- the log was read to its end
-  pub feeds_to_end : {A : Type 0} (result : Result A (FeedFault E)) (m given : ℕ) (log : List ℕ) (now : T) → length log ≤ m → given ≡ length log
-      → FeedsEnd took stopped start log result now → FeedsLog took rested broke stopped start m log given result now
-  feeds_to_end (Ok value) m given log now short all ends = log_ends took stopped start (Ok value) m given log now short all ends
-  feeds_to_end {A = A} (Err (feed.Lines (fault.BadLine line column))) m given log now short all ends =
-      log_ends took stopped start {A = A} (Err (fault.BadLine line column)) m given log now short all ends
-  feeds_to_end {A = A} (Err (feed.Lines (fault.Taker why))) m given log now short all ends =
-      log_ends took stopped start {A = A} (Err (fault.Taker why)) m given log now short all ends
-  feeds_to_end (Err (feed.Lines fault.LogLimit)) m given log now short all ends = absurd ends
-  feeds_to_end (Err (feed.Lines fault.Read)) m given log now short all ends = absurd ends
-  feeds_to_end (Err feed.Rest) m given log now short all ends = absurd ends
+  pub feeds_to_end : {A : Type 0} (result : Result A Fault) (m given : ℕ) (log : List ℕ) (now : T) → length log ≤ m → given ≡ length log
+      → ReadsEnd took stopped start log result now → FeedsLog took rested broke stopped start m log given result now
+  feeds_to_end (Ok value) m given log now short all (meanings, means, ended, taken) = (meanings, short, all, means, ended, taken)
+  feeds_to_end (Err (fault.BadLine line column)) m given log now short all (meanings, place, taken) = (meanings, taken, inr (short, all, place))
+  feeds_to_end (Err (fault.Oversize line announced)) m given log now short all (meanings, what, stops, halted) = (meanings, what, halted, inr (short, all, stops))
+  feeds_to_end (Err fault.Memory) m given log now short all (meanings, what, stops, halted) = (meanings, what, halted, inr (short, all, stops))
+  feeds_to_end (Err fault.LogLimit) m given log now short all ends = absurd ends
+  feeds_to_end (Err fault.OutputLimit) m given log now short all ends = absurd ends
+  feeds_to_end (Err fault.Read) m given log now short all ends = absurd ends
+  feeds_to_end (Err fault.Write) m given log now short all ends = absurd ends
 
-  pub feeds_some_at_end : {A : Type 0} (result : Result A (FeedFault E)) (log : List ℕ) (now : T) → length log ≤ 2 ^ 61
-      → FeedsEnd took stopped start log result now → FeedsSome took rested broke stopped start result now
-  feeds_some_at_end (Ok value) log now short ends = takes_at_end took stopped start (Ok value) log now short ends
-  feeds_some_at_end {A = A} (Err (feed.Lines (fault.BadLine line column))) log now short ends =
-      takes_at_end took stopped start {A = A} (Err (fault.BadLine line column)) log now short ends
-  feeds_some_at_end {A = A} (Err (feed.Lines (fault.Taker why))) log now short ends = takes_at_end took stopped start {A = A} (Err (fault.Taker why)) log now short ends
-  feeds_some_at_end (Err (feed.Lines fault.LogLimit)) log now short ends = absurd ends
-  feeds_some_at_end (Err (feed.Lines fault.Read)) log now short ends = absurd ends
-  feeds_some_at_end (Err feed.Rest) log now short ends = absurd ends
+  pub feeds_some_at_end : {A : Type 0} (result : Result A Fault) (log : List ℕ) (now : T) → length log ≤ 2 ^ 61
+      → ReadsEnd took stopped start log result now → FeedsSome took rested broke stopped start result now
+  feeds_some_at_end (Ok value) log now short (meanings, means, ended, taken) = (let few = few_in_log log meanings means in (meanings, omega arith, taken))
+  feeds_some_at_end (Err (fault.BadLine line column)) log now short (meanings, place, taken) = (meanings, taken)
+  feeds_some_at_end (Err (fault.Oversize line announced)) log now short (meanings, what, stops, halted) = (meanings, what, halted)
+  feeds_some_at_end (Err fault.Memory) log now short (meanings, what, stops, halted) = (meanings, what, halted)
+  feeds_some_at_end (Err fault.LogLimit) log now short ends = absurd ends
+  feeds_some_at_end (Err fault.OutputLimit) log now short ends = absurd ends
+  feeds_some_at_end (Err fault.Read) log now short ends = absurd ends
+  feeds_some_at_end (Err fault.Write) log now short ends = absurd ends
 
 -- ---- what was due was written before each read
 

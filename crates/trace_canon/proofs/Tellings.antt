@@ -13,20 +13,15 @@ use Rattle.trace_io.proofs.Takings.{took_no_byte}
 use Rattle.trace_io.specs.Written.{HasFront}
 use Rattle.trace_io.specs.declared.device.Target.{Ghosts}
 use Rattle.trace_canon.specs.declared.driver.Telling.{Telling}
-use Rattle.trace_canon.specs.declared.driver.TellingFault.{TellingFault}
-use Rattle.trace_canon.specs.declared.driver.TellingFault.TheVariants as stop
 use Rattle.trace_canon.specs.declared.fault.Fault.{Fault}
 use Rattle.trace_canon.specs.declared.fault.Fault.TheVariants as fault
-use Rattle.trace_canon.specs.declared.feed.FeedFault.{FeedFault}
-use Rattle.trace_canon.specs.declared.feed.FeedFault.TheVariants as feed
-use Rattle.trace_canon.specs.declared.lines.LineFault.TheVariants as line_fault
 use Rattle.trace_canon.specs.declared.pending.Pending.{Pending}
 use Rattle.trace_canon.specs.declared.receiver.Receiver.{Receiver}
 use Rattle.trace_canon.specs.declared.machine.Stop.{Stop}
 use Rattle.trace_canon.specs.declared.machine.Stop.TheVariants as end_stop
 use Rattle.trace_canon.specs.declared.summary.Summary.{Summary}
-use Rattle.trace_canon.specs.Carrying.{StopsFor, stops_for, Carries, Speaks, Settles, IsTellingStart, Tells, StopsTelling, EndsSaying, EndsTelling, SettlesAs, GivesUp, WroteTold}
-use Rattle.trace_canon.specs.Feeding.{FeedsLog, FeedsSome, CountsFed, WroteBefore}
+use Rattle.trace_canon.specs.Carrying.{StopsFor, stops_for, Carries, Speaks, Settles, IsTellingStart, Tells, StopsTelling, EndsSaying, EndsTelling, SettlesAs, is_of_device, EndsOn, GivesUp, WroteTold}
+use Rattle.trace_canon.specs.Feeding.{FeedsLog, FeedsSome, CountsRead, WroteBefore}
 use Rattle.trace_canon.specs.LeftOut.{CountsRemoved}
 use Rattle.trace_canon.specs.Failing.{FailedIf}
 use Rattle.trace_canon.specs.LinesRead.{counts_last, AreGiven, AreLinesRead, WritesTextOfRead}
@@ -149,14 +144,14 @@ module _ {M W : Type 0} (stands : List Entry → M → Type 0) (target : Ghosts 
   -- nothing of it was said, and the run stopped
   pub stops_at : (machine : M) (pending : Pending) (failed failed_now : Bool) (held held_now : List ℕ) (old new : W)
       → Tells stands target script start T machine pending failed held old → (script.strict ≡ true → AnnouncesWithin e) → needs T e → Speaks target failed held old [] failed_now held_now new
-      → StopsTelling target script needs start T e stop.Memory failed_now held_now new
+      → StopsTelling target script needs start T e fault.Memory failed_now held_now new
   stops_at machine pending failed failed_now held held_now old new so_far one needed speaks = record {
     within = so_far.within;
     reason = (one, inr needed);
     carried = subst (λ text. Carries target start text failed_now held_now new) (append-nil (told script.word T)) (speaks start (told script.word T) so_far.carried);
   }
 
-  pub stops_before : (machine : M) (pending : Pending) (failed : Bool) (held : List ℕ) (now : W) (why : TellingFault) → Tells stands target script start T machine pending failed held now
+  pub stops_before : (machine : M) (pending : Pending) (failed : Bool) (held : List ℕ) (now : W) (why : Fault) → Tells stands target script start T machine pending failed held now
       → StopsFor script.strict needs T e why → StopsTelling target script needs start T e why failed held now
   stops_before machine pending failed held now why so_far reason = record { within = so_far.within; reason = reason; carried = so_far.carried }
 
@@ -249,12 +244,14 @@ IsOutcomeOf false answer = answer ≢ fault.Write
 IsOutcomeOf true answer = answer ≡ fault.Write
 
 -- only where the source failed, that is the fault
-abbrev pub IsReadOnly : FeedFault TellingFault → Fault → Type 0
-IsReadOnly (feed.Lines line_fault.Read) answer = answer ≡ fault.Read
-IsReadOnly (feed.Lines line_fault.LogLimit) answer = answer ≢ fault.Read
-IsReadOnly (feed.Lines (line_fault.BadLine line column)) answer = answer ≢ fault.Read
-IsReadOnly (feed.Lines (line_fault.Taker why)) answer = answer ≢ fault.Read
-IsReadOnly feed.Rest answer = answer ≢ fault.Read
+abbrev pub IsReadOnly : Fault → Fault → Type 0
+IsReadOnly fault.Read answer = answer ≡ fault.Read
+IsReadOnly fault.LogLimit answer = answer ≢ fault.Read
+IsReadOnly fault.OutputLimit answer = answer ≢ fault.Read
+IsReadOnly (fault.BadLine line column) answer = answer ≢ fault.Read
+IsReadOnly (fault.Oversize line announced) answer = answer ≢ fault.Read
+IsReadOnly fault.Memory answer = answer ≢ fault.Read
+IsReadOnly fault.Write answer = answer ≢ fault.Read
 
 -- ---- only more is written
 
@@ -264,26 +261,16 @@ pub only_more : {W : Type 0} {target : Ghosts W} {start now : W} {said held : Li
 only_more carries = (carries.took.bytes, carries.took.grown)
 
 -- also where a run gives up
-pub more_given_up : {W : Type 0} {target : Ghosts W} (why : FeedFault TellingFault) (failed : Bool) (held : List ℕ) (old new : W) (answer : Fault) → GivesUp target why failed held old answer new
+pub more_given_up : {W : Type 0} {target : Ghosts W} (why : Fault) (failed : Bool) (held : List ℕ) (old new : W) (answer : Fault) → GivesUp target why failed held old answer new
     → (mid : W) (said : List ℕ) → Carries target mid said failed held old → Begins (target.taken mid) (target.taken new)
-more_given_up {target = target} why failed held old new answer up mid said carries = by why up
+more_given_up {target = target} why failed held old new answer up mid said carries = by (is_of_device why) up
   where
-    same : new ≡ old → Begins (target.taken mid) (target.taken new)
-    same is = subst (λ w. Begins (target.taken mid) (target.taken w)) (sym is) (only_more carries)
-
-    settles : (name : Fault) → SettlesAs name target failed held old answer new → Begins (target.taken mid) (target.taken new)
-    settles name so = elim (so mid said carries) [
+    by : (own : Bool) → EndsOn own target why failed held old answer new → Begins (target.taken mid) (target.taken new)
+    by true up = subst (λ w. Begins (target.taken mid) (target.taken w)) (sym up.1) (only_more carries)
+    by false up = elim (up mid said carries) [
       | inl well ↦ only_more well.1
       | inr wrong ↦ only_more wrong.1
     ]
-
-    by : (why : FeedFault TellingFault) → GivesUp target why failed held old answer new → Begins (target.taken mid) (target.taken new)
-    by feed.Rest up = same up.1
-    by (feed.Lines line_fault.Read) up = same up.1
-    by (feed.Lines line_fault.LogLimit) up = same up.1
-    by (feed.Lines (line_fault.BadLine line column)) up = settles (fault.BadLine line column) up
-    by (feed.Lines (line_fault.Taker (stop.Oversize line announced))) up = settles (fault.Oversize line announced) up
-    by (feed.Lines (line_fault.Taker stop.Memory)) up = settles fault.Memory up
 
 -- what was told of the lines that had ended before the last piece begins what was written
 pub tells_eagerly : (script : Script) (settings : Settings) (log : List ℕ) (given : ℕ) (front rest : List ℕ) (meanings : List (Option Stamped)) (standing : Standing) (old mid new : List ℕ)
@@ -334,7 +321,7 @@ module _ {M W : Type 0} (stands : M → List Entry → M → Type 0) (scripts : 
       → Tells (stands s.0.machine) target (scripts s.0.machine) s.1 T t.0.machine t.0.pending failed [] t.1
 
   -- the run stopped at an event
-  abbrev pub StoppedTelling : StoppedOnEvent (Telling M W) W TellingFault
+  abbrev pub StoppedTelling : StoppedOnEvent (Telling M W) W
   StoppedTelling s T e why t = IsTellingStart (stands s.0.machine [] s.0.machine) s.0.pending s.0.page.failed s.0.page.block → target.failures s.1 ≤ 2 ^ 62
       → StopsTelling target (scripts s.0.machine) (needs s.0.machine) s.1 T e why t.0.page.failed t.0.page.block t.1
 
@@ -385,11 +372,11 @@ module _ {M W : Type 0} (stands : M → List Entry → M → Type 0) (scripts : 
   }
 
   -- what feeding left
-  abbrev pub Fed : Receiver (Telling M W) × W → {A : Type 0} → ℕ → List ℕ → ℕ → Result A (FeedFault TellingFault) → Receiver (Telling M W) × W → Type 0
+  abbrev pub Fed : Receiver (Telling M W) × W → {A : Type 0} → ℕ → List ℕ → ℕ → Result A (Fault) → Receiver (Telling M W) × W → Type 0
   Fed start {A = A} m log given result now =
       FeedsLog (TookLines ToldEvents) (TookLines (SettledEvents false)) (TookLines (SettledEvents true)) (StoppedOnLine StoppedTelling) start {A = A} m log given result now
 
-  abbrev pub FedSome : Receiver (Telling M W) × W → {A : Type 0} → Result A (FeedFault TellingFault) → Receiver (Telling M W) × W → Type 0
+  abbrev pub FedSome : Receiver (Telling M W) × W → {A : Type 0} → Result A (Fault) → Receiver (Telling M W) × W → Type 0
   FedSome start {A = A} result now =
       FeedsSome (TookLines ToldEvents) (TookLines (SettledEvents false)) (TookLines (SettledEvents true)) (StoppedOnLine StoppedTelling) start {A = A} result now
 
@@ -415,7 +402,7 @@ module _ {M W : Type 0} (stands : M → List Entry → M → Type 0) (scripts : 
         → Tells (stands start.0.taker.machine) target (scripts start.0.taker.machine) start.1 (trace settings meanings) now.0.taker.machine now.0.taker.pending failed [] now.1
     settled failed meanings lines = has_taken (SettledEvents failed) settings start now begun meanings lines begun.fresh low
 
-    halts : (meanings : List (Option Stamped)) (what : Option Stamped) (why : TellingFault) → StoppedOnLine StoppedTelling start meanings what why now
+    halts : (meanings : List (Option Stamped)) (what : Option Stamped) (why : Fault) → StoppedOnLine StoppedTelling start meanings what why now
         → StopsOn settings (λ T e why. StopsTelling target (scripts start.0.taker.machine) (needs start.0.taker.machine) start.1 T e why now.0.taker.page.failed now.0.taker.page.block now.1) meanings what why
     halts meanings what why line =
         let stops = has_stopped StoppedTelling settings start now begun meanings what why line in
@@ -423,7 +410,7 @@ module _ {M W : Type 0} (stands : M → List Entry → M → Type 0) (scripts : 
 
     module _ (new : W) where
       -- what is answered on a fault of the lines
-      pub told_of_fault : {B : Type 0} (replies : Answering B) (A : Type 0) (log : List ℕ) (given : ℕ) (why : FeedFault TellingFault) (answer : Fault) (m : ℕ) → m ≡ settings.max_bytes
+      pub told_of_fault : {B : Type 0} (replies : Answering B) (A : Type 0) (log : List ℕ) (given : ℕ) (why : Fault) (answer : Fault) (m : ℕ) → m ≡ settings.max_bytes
           → Fed start {A = A} m log given (Err why) now → GivesUp target why now.0.taker.page.failed now.0.taker.page.block now.1 answer new
           → AnswersTold (scripts start.0.taker.machine) replies MESSAGE_LIMIT settings log given (Err answer) (target.taken start.1) (target.taken new)
       told_of_fault replies A log given why answer m is read up = by why (subst (λ k. Fed start {A = A} k log given (Err why) now) is read) up
@@ -467,11 +454,11 @@ module _ {M W : Type 0} (stands : M → List Entry → M → Type 0) (scripts : 
               ]
 
           -- a line announces too much
-          over : (line announced : ℕ) (meanings : List (Option Stamped)) (what : Option Stamped) → (halted : StoppedOnLine StoppedTelling start meanings what (stop.Oversize line announced) now)
+          over : (line announced : ℕ) (meanings : List (Option Stamped)) (what : Option Stamped) → (halted : StoppedOnLine StoppedTelling start meanings what (fault.Oversize line announced) now)
               → StopsWithin settings.max_bytes log given meanings what
               → SettlesAs (fault.Oversize line announced) target now.0.taker.page.failed now.0.taker.page.block now.1 answer new → Answers answer
           over line announced meanings what line_stopped place settles =
-              let halted = halts meanings what (stop.Oversize line announced) line_stopped in
+              let halted = halts meanings what (fault.Oversize line announced) line_stopped in
               let strict = halted.4.reason.0 in
               let at = halted.4.reason.1 in
               let found = oversize_stops MESSAGE_LIMIT settings log given line announced meanings what place (omega arith) (each_within settings meanings (halted.4.within strict))
@@ -490,25 +477,25 @@ module _ {M W : Type 0} (stands : M → List Entry → M → Type 0) (scripts : 
               ]
 
           -- what is told of the lines up to the one on which memory was refused
-          longer : (meanings : List (Option Stamped)) (what : Option Stamped) (line : StoppedOnLine StoppedTelling start meanings what stop.Memory now)
+          longer : (meanings : List (Option Stamped)) (what : Option Stamped) (line : StoppedOnLine StoppedTelling start meanings what fault.Memory now)
               → (more : List ℕ) × (text (meanings ++ what ∷ []) ≡ text meanings ++ more)
           longer meanings what line =
-              let halted = halts meanings what stop.Memory line in
+              let halted = halts meanings what fault.Memory line in
               let e = entry_in meanings halted.0 halted.1 in (
                 script.word (trace settings meanings) e,
                 ap (told script.word) (trace_next settings meanings what halted.0 halted.1 halted.2 halted.3) ∙ one_more_told script.word (trace settings meanings) e,
               )
 
-          came : (meanings : List (Option Stamped)) (what : Option Stamped) (line : StoppedOnLine StoppedTelling start meanings what stop.Memory now)
+          came : (meanings : List (Option Stamped)) (what : Option Stamped) (line : StoppedOnLine StoppedTelling start meanings what fault.Memory now)
               → StopsWithin settings.max_bytes log given meanings what → HaveCome passes true (min given settings.max_bytes) log (meanings ++ what ∷ [])
           came meanings what line place =
-              let halted = halts meanings what stop.Memory line in
+              let halted = halts meanings what fault.Memory line in
               let next = trace_next settings meanings what halted.0 halted.1 halted.2 halted.3 in
               have_come passes settings log given meanings what place
               (each (meanings ++ what ∷ []) (λ strict. subst (AllByRecursion AnnouncesWithin) (sym next)
               (each_more (trace settings meanings) (entry_in meanings halted.0 halted.1) (halted.4.within strict) (halted.4.reason.0 strict))))
 
-          stopped : (meanings : List (Option Stamped)) (what : Option Stamped) (line : StoppedOnLine StoppedTelling start meanings what stop.Memory now)
+          stopped : (meanings : List (Option Stamped)) (what : Option Stamped) (line : StoppedOnLine StoppedTelling start meanings what fault.Memory now)
               → StopsWithin settings.max_bytes log given meanings what → (failed : Bool) (why : Fault) → counts_last why ≡ true → Carries target start.1 (text meanings) failed [] new
               → WritesFrontOfFrames script MESSAGE_LIMIT settings log given why old (target.taken new)
           stopped meanings what line place failed why last carries =
@@ -516,48 +503,53 @@ module _ {M W : Type 0} (stands : M → List Entry → M → Type 0) (scripts : 
               writes_front_of_frames script MESSAGE_LIMIT settings log given why (meanings ++ what ∷ []) old (target.taken new) last (came meanings what line place)
               (subst (λ said. HasFront old said (target.taken new)) (sym more.1) (front_longer old (text meanings) more.0 (target.taken new) (front failed (text meanings) carries)))
 
-          some_told : (meanings : List (Option Stamped)) (what : Option Stamped) (line : StoppedOnLine StoppedTelling start meanings what stop.Memory now)
+          some_told : (meanings : List (Option Stamped)) (what : Option Stamped) (line : StoppedOnLine StoppedTelling start meanings what fault.Memory now)
               → StopsWithin settings.max_bytes log given meanings what → 0 < length (text meanings) → HasToldSome script MESSAGE_LIMIT settings log given
           some_told meanings what line place some =
               let more = longer meanings what line in
               let long = ap length more.1 ∙ length-append (text meanings) more.0 in
               told_some script MESSAGE_LIMIT settings log given (meanings ++ what ∷ []) (came meanings what line place) (omega arith)
 
-          by : (why : FeedFault TellingFault) → Fed start {A = A} settings.max_bytes log given (Err why) now
+          by : (why : Fault) → Fed start {A = A} settings.max_bytes log given (Err why) now
               → GivesUp target why now.0.taker.page.failed now.0.taker.page.block now.1 answer new → Answers answer
-          by (feed.Lines (line_fault.BadLine line column)) (meanings, taken, inl (few, refuses)) up =
+          by (fault.BadLine line column) (meanings, taken, inl (few, refuses)) up =
               bad line column given meanings (bad_in_front log given line column meanings refuses) few (omega arith) taken up
-          by (feed.Lines (line_fault.BadLine line column)) (meanings, taken, inr (short, all, place)) up =
+          by (fault.BadLine line column) (meanings, taken, inr (short, all, place)) up =
               bad line column (length log) meanings (bad_at_end log line column meanings place) short (omega arith) taken up
-          by (feed.Lines line_fault.LogLimit) (meanings, taken, long, come, (standing, stood)) up =
+          by fault.LogLimit (meanings, taken, long, come, (standing, stood)) up =
               let begin = take settings.max_bytes log in
               let rest = drop settings.max_bytes log in
               let parts = sym (take-append-drop settings.max_bytes log) in
               let full = length-take-le settings.max_bytes log (omega arith) in
-              let told_so = settled false meanings taken in
+              let told_so = gives meanings taken in
               let passed = each meanings told_so.within in
-              let carries = subst (λ w. Carries target start.1 (text meanings) false [] w) (sym up.1) told_so.carried in
-              subst Answers (sym up.0) (
-                unread_for_limit settings log script.strict begin rest meanings standing stood parts full long passed,
-                writes_to_limit passes text settings log given meanings old (target.taken new) begin rest standing stood parts passed (wrote (text meanings) carries)
-                    full long come,
-              )
-          by (feed.Lines line_fault.Read) (meanings, taken, few, inside, (standing, stood)) up =
+              elim (up start.1 (text meanings) told_so.carried) [
+                | inl well ↦ subst Answers (sym well.0) (
+                  unread_for_limit settings log script.strict begin rest meanings standing stood parts full long passed,
+                  writes_to_limit passes text settings log given meanings old (target.taken new) begin rest standing stood parts passed (wrote (text meanings) well.1) full long come,
+                )
+                | inr wrong ↦ subst Answers (sym wrong.0)
+                    (front_of_read script MESSAGE_LIMIT settings log given fault.LogLimit meanings old (target.taken new)
+                    (writes_to_limit passes text settings log given meanings [] (text meanings) begin rest standing stood parts passed refl full long come)
+                    (front true (text meanings) wrong.1) (wrong.1.spoke refl))
+              ]
+          by fault.Read (meanings, taken, few, inside, (standing, stood)) up =
               let told_so = settled false meanings taken in
               let carries = subst (λ w. Carries target start.1 (text meanings) false [] w) (sym up.1) told_so.carried in
               subst Answers (sym up.0)
               (writes_to_failed_read passes text settings log given meanings old (target.taken new) (take given log) (drop given log) standing stood
               (sym (take-append-drop given log)) (each meanings told_so.within) (wrote (text meanings) carries) (length-take-le given log inside) few)
-          by feed.Rest (meanings, taken, few, inside, (standing, stood)) up =
+          by fault.Write (meanings, taken, few, inside, (standing, stood)) up =
               let told_so = settled true meanings taken in
               let carries = subst (λ w. Carries target start.1 (text meanings) true [] w) (sym up.1) told_so.carried in
               subst Answers (sym up.0)
               (front_of_read script MESSAGE_LIMIT settings log given fault.Read meanings old (target.taken new)
               (writes_to_failed_read passes text settings log given meanings [] (text meanings) (take given log) (drop given log) standing stood
               (sym (take-append-drop given log)) (each meanings told_so.within) refl (length-take-le given log inside) few) (front true (text meanings) carries) (carries.spoke refl))
-          by (feed.Lines (line_fault.Taker (stop.Oversize line announced))) (meanings, what, line_stopped, place) up = over line announced meanings what line_stopped place up
-          by (feed.Lines (line_fault.Taker stop.Memory)) (meanings, what, line, place) up =
-              elim (up start.1 (text meanings) (halts meanings what stop.Memory line).4.carried) [
+          by fault.OutputLimit read up = absurd read
+          by (fault.Oversize line announced) (meanings, what, line_stopped, place) up = over line announced meanings what line_stopped place up
+          by fault.Memory (meanings, what, line, place) up =
+              elim (up start.1 (text meanings) (halts meanings what fault.Memory line).4.carried) [
                 | inl well ↦ subst Answers (sym well.0) (stopped meanings what line place false fault.Memory refl well.1)
                 | inr wrong ↦ subst Answers (sym wrong.0) (
                   front_of_whole script MESSAGE_LIMIT settings log given fault.Write old (target.taken new) (stopped meanings what line place true fault.Write refl wrong.1),
@@ -567,7 +559,7 @@ module _ {M W : Type 0} (stands : M → List Entry → M → Type 0) (scripts : 
 
       -- what is known of the devices then
       -- a frame of the log needed memory, where it was refused
-      pub needed : (A : Type 0) (log : List ℕ) (given : ℕ) (why : FeedFault TellingFault) (answer : Fault) (m : ℕ) → m ≡ settings.max_bytes
+      pub needed : (A : Type 0) (log : List ℕ) (given : ℕ) (why : Fault) (answer : Fault) (m : ℕ) → m ≡ settings.max_bytes
           → Fed start {A = A} m log given (Err why) now → GivesUp target why now.0.taker.page.failed now.0.taker.page.block now.1 answer new → answer ≡ fault.Memory
           → HasFrame (λ T e. IsKeptForMessage MESSAGE_LIMIT T e ⊎ needs start.0.taker.machine T e) settings log
       needed A log given why answer m is read up refused = by why (subst (λ k. Fed start {A = A} k log given (Err why) now) is read) up
@@ -580,21 +572,23 @@ module _ {M W : Type 0} (stands : M → List Entry → M → Type 0) (scripts : 
           other name said apart (inl well) = absurd (apart (sym well.0 ∙ refused))
           other name said apart (inr wrong) = absurd (cc (wrong.0, refused))
 
-          by : (why : FeedFault TellingFault) → Fed start {A = A} settings.max_bytes log given (Err why) now
+          by : (why : Fault) → Fed start {A = A} settings.max_bytes log given (Err why) now
               → GivesUp target why now.0.taker.page.failed now.0.taker.page.block now.1 answer new → Needed
-          by (feed.Lines (line_fault.Taker stop.Memory)) (meanings, what, line_stopped, place) up =
-              let halted = halts meanings what stop.Memory line_stopped in
+          by fault.Memory (meanings, what, line_stopped, place) up =
+              let halted = halts meanings what fault.Memory line_stopped in
               has_frame (λ T e. IsKeptForMessage MESSAGE_LIMIT T e ⊎ needs start.0.taker.machine T e) settings log given meanings what halted.0 halted.1 place halted.2 halted.3 halted.4.reason.1
-          by (feed.Lines (line_fault.Taker (stop.Oversize line announced))) (meanings, what, line_stopped, place) up =
-              let halted = halts meanings what (stop.Oversize line announced) line_stopped in
+          by (fault.Oversize line announced) (meanings, what, line_stopped, place) up =
+              let halted = halts meanings what (fault.Oversize line announced) line_stopped in
               other (fault.Oversize line announced) (told_of_lines (scripts start.0.taker.machine) settings meanings) (λ same. absurd (cc same)) (up start.1 _ halted.4.carried)
-          by (feed.Lines (line_fault.BadLine line column)) (meanings, taken, place) up =
+          by (fault.BadLine line column) (meanings, taken, place) up =
               other (fault.BadLine line column) (told_of_lines (scripts start.0.taker.machine) settings meanings) (λ same. absurd (cc same)) (up start.1 _ (gives meanings taken).carried)
-          by (feed.Lines line_fault.LogLimit) read up = absurd (cc (up.0, refused))
-          by (feed.Lines line_fault.Read) read up = absurd (cc (up.0, refused))
-          by feed.Rest read up = absurd (cc (up.0, refused))
+          by fault.LogLimit (meanings, taken, long, come, stood) up =
+              other fault.LogLimit (told_of_lines (scripts start.0.taker.machine) settings meanings) (λ same. absurd (cc same)) (up start.1 _ (gives meanings taken).carried)
+          by fault.OutputLimit read up = absurd read
+          by fault.Read read up = absurd (cc (up.0, refused))
+          by fault.Write read up = absurd (cc (up.0, refused))
 
-      pub known : (B : Type 0) (why : FeedFault TellingFault) (answer : Fault) → FedSome start {A = B} (Err why) now
+      pub known : (B : Type 0) (why : Fault) (answer : Fault) → FedSome start {A = B} (Err why) now
           → GivesUp target why now.0.taker.page.failed now.0.taker.page.block now.1 answer new
           → (said : List ℕ) × (failed : Bool) × Carries target start.1 said failed [] new × IsOutcomeOf failed answer × IsReadOnly why answer
       known B why answer takes up = by why takes up
@@ -606,20 +600,15 @@ module _ {M W : Type 0} (stands : M → List Entry → M → Type 0) (scripts : 
               (said, false, well.1, subst (λ f. f ≢ fault.Write) (sym well.0) apart, subst (λ f. f ≢ fault.Read) (sym well.0) other)
           on name said apart other (inr wrong) = (said, true, wrong.1, wrong.0, subst (λ f. f ≢ fault.Read) (sym wrong.0) (λ is. absurd (cc is)))
 
-          by : (why : FeedFault TellingFault) → FedSome start {A = B} (Err why) now
+          by : (why : Fault) → FedSome start {A = B} (Err why) now
               → GivesUp target why now.0.taker.page.failed now.0.taker.page.block now.1 answer new
               → (said : List ℕ) × (failed : Bool) × Carries target start.1 said failed [] new × IsOutcomeOf failed answer × IsReadOnly why answer
-          by (feed.Lines (line_fault.BadLine line column)) (meanings, taken) up =
+          by (fault.BadLine line column) (meanings, taken) up =
               on (fault.BadLine line column) (told_of_lines (scripts start.0.taker.machine) settings meanings) (λ is. absurd (cc is)) (λ is. absurd (cc is)) (up start.1 _ (gives meanings taken).carried)
-          by (feed.Lines line_fault.LogLimit) (meanings, taken) up =
-              let text = told_of_lines (scripts start.0.taker.machine) settings meanings in (
-                text,
-                false,
-                subst (λ w. Carries target start.1 text false [] w) (sym up.1) (settled false meanings taken).carried,
-                subst (λ f. f ≢ fault.Write) (sym up.0) (λ is. absurd (cc is)),
-                subst (λ f. f ≢ fault.Read) (sym up.0) (λ is. absurd (cc is)),
-              )
-          by (feed.Lines line_fault.Read) (meanings, taken) up =
+          by fault.LogLimit (meanings, taken) up =
+              on fault.LogLimit (told_of_lines (scripts start.0.taker.machine) settings meanings) (λ is. absurd (cc is)) (λ is. absurd (cc is)) (up start.1 _ (gives meanings taken).carried)
+          by fault.OutputLimit takes up = absurd takes
+          by fault.Read (meanings, taken) up =
               let text = told_of_lines (scripts start.0.taker.machine) settings meanings in (
                 text,
                 false,
@@ -627,7 +616,7 @@ module _ {M W : Type 0} (stands : M → List Entry → M → Type 0) (scripts : 
                 subst (λ f. f ≢ fault.Write) (sym up.0) (λ is. absurd (cc is)),
                 up.0,
               )
-          by feed.Rest (meanings, taken) up =
+          by fault.Write (meanings, taken) up =
               let text = told_of_lines (scripts start.0.taker.machine) settings meanings in (
                 text,
                 true,
@@ -635,11 +624,11 @@ module _ {M W : Type 0} (stands : M → List Entry → M → Type 0) (scripts : 
                 up.0,
                 subst (λ f. f ≢ fault.Read) (sym up.0) (λ is. absurd (cc is)),
               )
-          by (feed.Lines (line_fault.Taker (stop.Oversize place announced))) (meanings, what, line) up =
+          by (fault.Oversize place announced) (meanings, what, line) up =
               on (fault.Oversize place announced) (told_of_lines (scripts start.0.taker.machine) settings meanings) (λ is. absurd (cc is)) (λ is. absurd (cc is))
-              (up start.1 _ (halts meanings what (stop.Oversize place announced) line).4.carried)
-          by (feed.Lines (line_fault.Taker stop.Memory)) (meanings, what, line) up =
-              on fault.Memory (told_of_lines (scripts start.0.taker.machine) settings meanings) (λ is. absurd (cc is)) (λ is. absurd (cc is)) (up start.1 _ (halts meanings what stop.Memory line).4.carried)
+              (up start.1 _ (halts meanings what (fault.Oversize place announced) line).4.carried)
+          by fault.Memory (meanings, what, line) up =
+              on fault.Memory (told_of_lines (scripts start.0.taker.machine) settings meanings) (λ is. absurd (cc is)) (λ is. absurd (cc is)) (up start.1 _ (halts meanings what fault.Memory line).4.carried)
 
 -- so the fault of the target is answered exactly where it failed
 pub fails_so : {A W : Type 0} (target : Ghosts W) (start new : W) (answer : Fault) (said : List ℕ) (failed : Bool) → Carries target start said failed [] new → IsOutcomeOf failed answer
@@ -661,13 +650,15 @@ reads_other : {A : Type 0} (answer : Fault) (before after : ℕ) → after ≡ b
 reads_other answer before after same_count apart = record { risen = λ is. (let same : answer ≡ fault.Read = cc in absurd (apart same)); same = λ _. same_count }
 
 -- and that of the source
-pub reads_so : {A : Type 0} (why : FeedFault TellingFault) (answer : Fault) (before after : ℕ) → CountsFed why before after → IsReadOnly why answer
+pub reads_so : {A : Type 0} (why : Fault) (answer : Fault) (before after : ℕ) → CountsRead why before after → IsReadOnly why answer
     → FailedIf {A = A} fault.Read (Err answer) before after
-reads_so (feed.Lines (line_fault.BadLine line column)) answer before after counts apart = reads_other answer before after counts apart
-reads_so (feed.Lines line_fault.LogLimit) answer before after counts apart = reads_other answer before after counts apart
-reads_so (feed.Lines (line_fault.Taker why)) answer before after counts apart = reads_other answer before after counts apart
-reads_so feed.Rest answer before after counts apart = reads_other answer before after counts apart
-reads_so (feed.Lines line_fault.Read) answer before after counts is = record { risen = λ _. counts; same = λ other. absurd (other (ap Err is)) }
+reads_so fault.Read answer before after counts is = record { risen = λ _. counts; same = λ other. absurd (other (ap Err is)) }
+reads_so (fault.BadLine line column) answer before after counts apart = reads_other answer before after counts apart
+reads_so (fault.Oversize line announced) answer before after counts apart = reads_other answer before after counts apart
+reads_so fault.LogLimit answer before after counts apart = reads_other answer before after counts apart
+reads_so fault.OutputLimit answer before after counts apart = reads_other answer before after counts apart
+reads_so fault.Write answer before after counts apart = reads_other answer before after counts apart
+reads_so fault.Memory answer before after counts apart = reads_other answer before after counts apart
 
 -- ---- the end
 

@@ -10,13 +10,8 @@ use Rattle.isotp_pdu.specs.Reading.{layout_of}
 use Rattle.std.specs.List.{AllByRecursion}
 use Rattle.trace_io.specs.Written.{HasFront, IsWritten}
 use Rattle.trace_io.specs.declared.device.Target.{Ghosts}
-use Rattle.trace_canon.specs.declared.driver.TellingFault.{TellingFault}
-use Rattle.trace_canon.specs.declared.driver.TellingFault.TheVariants as telling
 use Rattle.trace_canon.specs.declared.fault.Fault.{Fault}
-use Rattle.trace_canon.specs.declared.feed.FeedFault.{FeedFault}
-use Rattle.trace_canon.specs.declared.feed.FeedFault.TheVariants as feed
 use Rattle.trace_canon.specs.declared.fault.Fault.TheVariants as fault
-use Rattle.trace_canon.specs.declared.lines.LineFault.TheVariants as line_fault
 use Rattle.trace_canon.specs.declared.pending.Pending.{Pending}
 use Rattle.trace_canon.specs.declared.machine.Stop.{Stop}
 use Rattle.trace_canon.specs.declared.machine.Stop.TheVariants as stop
@@ -100,12 +95,17 @@ pub record Tells {M W : Type 0} (stands : List Entry → M → Type 0) (target :
   pub carried : Carries target start (told script.word T) failed held now
 
 -- why a run stopped at the frame e
-abbrev pub StopsFor : Bool → (List Entry → Entry → Type 0) → List Entry → Entry → TellingFault → Type 0
-StopsFor strict needs T e (telling.Oversize line announced) = (strict ≡ true) × (line ≡ e.line) × (oversize_in MESSAGE_LIMIT (layout_of e.frame) ≡ Some announced)
-StopsFor strict needs T e telling.Memory = (strict ≡ true → AnnouncesWithin e) × (IsKeptForMessage MESSAGE_LIMIT T e ⊎ needs T e)
+abbrev pub StopsFor : Bool → (List Entry → Entry → Type 0) → List Entry → Entry → Fault → Type 0
+StopsFor strict needs T e (fault.Oversize line announced) = (strict ≡ true) × (line ≡ e.line) × (oversize_in MESSAGE_LIMIT (layout_of e.frame) ≡ Some announced)
+StopsFor strict needs T e fault.Memory = (strict ≡ true → AnnouncesWithin e) × (IsKeptForMessage MESSAGE_LIMIT T e ⊎ needs T e)
+StopsFor strict needs T e (fault.BadLine line column) = ⊥
+StopsFor strict needs T e fault.LogLimit = ⊥
+StopsFor strict needs T e fault.OutputLimit = ⊥
+StopsFor strict needs T e fault.Read = ⊥
+StopsFor strict needs T e fault.Write = ⊥
 
 -- The run stopped at the frame e: nothing of it was said.
-pub record StopsTelling {W : Type 0} (target : Ghosts W) (script : Script) (needs : List Entry → Entry → Type 0) (start : W) (T : List Entry) (e : Entry) (why : TellingFault) (failed : Bool) (held : List ℕ) (now : W) : Type 0 where
+pub record StopsTelling {W : Type 0} (target : Ghosts W) (script : Script) (needs : List Entry → Entry → Type 0) (start : W) (T : List Entry) (e : Entry) (why : Fault) (failed : Bool) (held : List ℕ) (now : W) : Type 0 where
   pub within : script.strict ≡ true → AllByRecursion AnnouncesWithin T
   pub reason : StopsFor script.strict needs T e why
   pub carried : Carries target start (told script.word T) failed held now
@@ -116,15 +116,23 @@ SettlesAs {W = W} name target failed held old result new =
     (start : W) (said : List ℕ) → Carries target start said failed held old
     → ((result ≡ name) × Carries target start said false [] new) ⊎ ((result ≡ fault.Write) × Carries target start said true [] new)
 
--- how a run ends on a fault of the lines
-abbrev pub GivesUp : {W : Type 0} → Ghosts W → FeedFault TellingFault → Bool → List ℕ → W → Fault → W → Type 0
-GivesUp target feed.Rest failed held old result new = (result ≡ fault.Write) × (new ≡ old)
-GivesUp target (feed.Lines line_fault.Read) failed held old result new = (result ≡ fault.Read) × (new ≡ old)
-GivesUp target (feed.Lines line_fault.LogLimit) failed held old result new = (result ≡ fault.LogLimit) × (new ≡ old)
-GivesUp target (feed.Lines (line_fault.BadLine line column)) failed held old result new = SettlesAs (fault.BadLine line column) target failed held old result new
-GivesUp target (feed.Lines (line_fault.Taker (telling.Oversize line announced))) failed held old result new =
-    SettlesAs (fault.Oversize line announced) target failed held old result new
-GivesUp target (feed.Lines (line_fault.Taker telling.Memory)) failed held old result new = SettlesAs fault.Memory target failed held old result new
+-- the fault is that of a device, which stands as it is
+abbrev pub is_of_device : Fault → Bool
+is_of_device fault.Read = true
+is_of_device fault.Write = true
+is_of_device (fault.BadLine line column) = false
+is_of_device (fault.Oversize line announced) = false
+is_of_device fault.LogLimit = false
+is_of_device fault.OutputLimit = false
+is_of_device fault.Memory = false
+
+-- how a run ends on a fault: as it is, or once what was said before is written
+abbrev pub EndsOn : {W : Type 0} → Bool → Ghosts W → Fault → Bool → List ℕ → W → Fault → W → Type 0
+EndsOn true target why failed held old result new = (result ≡ why) × (new ≡ old)
+EndsOn false target why failed held old result new = SettlesAs why target failed held old result new
+
+abbrev pub GivesUp : {W : Type 0} → Ghosts W → Fault → Bool → List ℕ → W → Fault → W → Type 0
+GivesUp target why failed held old result new = EndsOn (is_of_device why) target why failed held old result new
 
 -- a run ends with this answer of the machine, and all that it told was written
 abbrev pub EndsSaying : {A W : Type 0} → Ghosts W → Script → Answering A → W → Settings → List (Option Stamped) → Result A Stop → W → Type 0

@@ -1,23 +1,23 @@
 -- Devices of proof: a log read piece by piece, where what is due is written before each read.
-use Rattle.std.specs.Prelude.{◌≡◌, ℕ, ◌+◌, ◌≤◌, List, ◌++◌, length, Option, Result, Ok, Err}
+use Rattle.std.specs.Prelude.{◌≡◌, ℕ, ◌+◌, ◌^◌, ◌<◌, ◌≤◌, ◌⊎◌, List, ◌++◌, length, take, Option, Result, Ok, Err}
+use Rattle.can_log.specs.Log.{LogMeans}
 use Rattle.can_log.specs.Scanning.{Standing}
-use Rattle.can_log.specs.WholeLog.{StandsAfter}
+use Rattle.can_log.specs.WholeLog.{StandsAfter, IsRefusedBehind}
 use Rattle.can_log.specs.declared.frame.Stamped.{Stamped}
 use Rattle.trace_canon.specs.Answers.{piece_length}
-use Rattle.trace_canon.specs.Reading.{Took, Stopped, IsOfLines, CountsRead, ReadsEnd, ReadsLog, TakesSome}
-use Rattle.trace_canon.specs.declared.feed.FeedFault.{FeedFault}
-use Rattle.trace_canon.specs.declared.feed.FeedFault.TheVariants as feed
-use Rattle.trace_canon.specs.declared.lines.LineFault.TheVariants as fault
+use Rattle.trace_canon.specs.Reading.{Took, Stopped, RefusesIn, HasEnded, StopsWithin}
+use Rattle.trace_canon.specs.declared.fault.Fault.{Fault}
+use Rattle.trace_canon.specs.declared.fault.Fault.TheVariants as fault
 
--- a fault that the lines themselves give
-abbrev pub FedByLines : {E : Type 0} → FeedFault E → Type 0
-FedByLines (feed.Lines why) = IsOfLines why
-FedByLines feed.Rest = ⊥
-
--- what the source counts after a fault
-abbrev pub CountsFed : {E : Type 0} → FeedFault E → ℕ → ℕ → Type 0
-CountsFed (feed.Lines why) old new = CountsRead why old new
-CountsFed feed.Rest old new = new ≡ old
+-- the count of failures rose by one where the source failed, and else stayed
+abbrev pub CountsRead : Fault → ℕ → ℕ → Type 0
+CountsRead fault.Read old new = new ≡ old + 1
+CountsRead (fault.BadLine line column) old new = new ≡ old
+CountsRead (fault.Oversize line announced) old new = new ≡ old
+CountsRead fault.LogLimit old new = new ≡ old
+CountsRead fault.OutputLimit old new = new ≡ old
+CountsRead fault.Write old new = new ≡ old
+CountsRead fault.Memory old new = new ≡ old
 
 -- The text of the lines that had ended before the last piece was written; `given` bytes of the log were given.
 pub record WroteBefore {T : Type 0} (sure : Took T) (start : T) (log : List ℕ) (given : ℕ) (now : T) : Type 0 where
@@ -30,27 +30,49 @@ pub record WroteBefore {T : Type 0} (sure : Took T) (start : T) (log : List ℕ)
   pub near : given ≤ length front + piece_length
   pub written : sure start meanings now
 
-module _ {T E : Type 0} (took rested broke : Took T) (stopped : Stopped T E) (start : T) where
-  -- the log was read within its limit; where it was not given whole, all that was due is written, or that failed
-  abbrev pub FeedsLog : {A : Type 0} → ℕ → List ℕ → ℕ → Result A (FeedFault E) → T → Type 0
-  FeedsLog {A = A} m log given (Ok value) now = ReadsLog took stopped start {A = A} m log given (Ok value) now
-  FeedsLog {A = A} m log given (Err (feed.Lines (fault.BadLine line column))) now = ReadsLog took stopped start {A = A} m log given (Err (fault.BadLine line column)) now
-  FeedsLog {A = A} m log given (Err (feed.Lines (fault.Taker why))) now = ReadsLog took stopped start {A = A} m log given (Err (fault.Taker why)) now
-  FeedsLog {A = A} m log given (Err (feed.Lines fault.LogLimit)) now = ReadsLog rested stopped start {A = A} m log given (Err fault.LogLimit) now
-  FeedsLog {A = A} m log given (Err (feed.Lines fault.Read)) now = ReadsLog rested stopped start {A = A} m log given (Err fault.Read) now
-  FeedsLog {A = A} m log given (Err feed.Rest) now = ReadsLog broke stopped start {A = A} m log given (Err fault.Read) now
+-- `given` bytes of the log were given, within its limit m, and all lines that had ended were taken.
+abbrev pub TakesGiven : {T : Type 0} → Took T → T → ℕ → List ℕ → ℕ → T → Type 0
+TakesGiven took start m log given now =
+    (meanings : List (Option Stamped)) × took start meanings now × (given ≤ m) × (given ≤ length log) × ((standing : Standing) × StandsAfter (take given log) meanings standing)
+
+-- some lines were taken
+abbrev pub TakesAny : {T : Type 0} → Took T → T → T → Type 0
+TakesAny took start now = (meanings : List (Option Stamped)) × took start meanings now
+
+-- the taker stopped on some line
+abbrev pub StopsOnAny : {T : Type 0} → Stopped T → T → Fault → T → Type 0
+StopsOnAny stopped start why now = (meanings : List (Option Stamped)) × (what : Option Stamped) × stopped start meanings what why now
+
+-- within the limit m of the log, it did
+abbrev pub StopsLog : {T : Type 0} → Stopped T → T → ℕ → List ℕ → ℕ → Fault → T → Type 0
+StopsLog stopped start m log given why now =
+    (meanings : List (Option Stamped)) × (what : Option Stamped) × stopped start meanings what why now × StopsWithin m log given meanings what
+
+module _ {T : Type 0} (took rested broke : Took T) (stopped : Stopped T) (start : T) where
+  -- The log was read within its limit m, of which this many bytes were given. Where reading failed, all that was due is written, or
+  -- that failed.
+  abbrev pub FeedsLog : {A : Type 0} → ℕ → List ℕ → ℕ → Result A Fault → T → Type 0
+  FeedsLog m log given (Ok value) now =
+      (meanings : List (Option Stamped)) × (length log ≤ m) × (given ≡ length log) × LogMeans log meanings × HasEnded log meanings × took start meanings now
+  FeedsLog m log given (Err (fault.BadLine line column)) now =
+      (meanings : List (Option Stamped)) × took start meanings now
+      × (((given ≤ m) × RefusesIn (take given log) meanings line column) ⊎ ((length log ≤ m) × (given ≡ length log) × IsRefusedBehind meanings log line column))
+  FeedsLog m log given (Err fault.LogLimit) now =
+      (meanings : List (Option Stamped)) × took start meanings now × (m < length log) × (m ≤ given)
+      × ((standing : Standing) × StandsAfter (take m log) meanings standing)
+  FeedsLog m log given (Err (fault.Oversize line announced)) now = StopsLog stopped start m log given (fault.Oversize line announced) now
+  FeedsLog m log given (Err fault.Memory) now = StopsLog stopped start m log given fault.Memory now
+  FeedsLog m log given (Err fault.Read) now = TakesGiven rested start m log given now
+  FeedsLog m log given (Err fault.Write) now = TakesGiven broke start m log given now
+  FeedsLog m log given (Err fault.OutputLimit) now = ⊥
 
   -- whatever the bytes were, some lines were taken
-  abbrev pub FeedsSome : {A : Type 0} → Result A (FeedFault E) → T → Type 0
-  FeedsSome {A = A} (Ok value) now = TakesSome took stopped start {A = A} (Ok value) now
-  FeedsSome {A = A} (Err (feed.Lines (fault.BadLine line column))) now = TakesSome took stopped start {A = A} (Err (fault.BadLine line column)) now
-  FeedsSome {A = A} (Err (feed.Lines (fault.Taker why))) now = TakesSome took stopped start {A = A} (Err (fault.Taker why)) now
-  FeedsSome {A = A} (Err (feed.Lines fault.LogLimit)) now = TakesSome rested stopped start {A = A} (Err fault.LogLimit) now
-  FeedsSome {A = A} (Err (feed.Lines fault.Read)) now = TakesSome rested stopped start {A = A} (Err fault.Read) now
-  FeedsSome {A = A} (Err feed.Rest) now = TakesSome broke stopped start {A = A} (Err fault.Read) now
-
--- the end of the log was read
-abbrev pub FeedsEnd : {T E : Type 0} (took : Took T) (stopped : Stopped T E) (start : T) {A : Type 0} → List ℕ → Result A (FeedFault E) → T → Type 0
-FeedsEnd took stopped start {A = A} log (Ok value) now = ReadsEnd took stopped start {A = A} log (Ok value) now
-FeedsEnd took stopped start {A = A} log (Err (feed.Lines why)) now = ReadsEnd took stopped start {A = A} log (Err why) now
-FeedsEnd took stopped start {A = A} log (Err feed.Rest) now = ⊥
+  abbrev pub FeedsSome : {A : Type 0} → Result A Fault → T → Type 0
+  FeedsSome (Ok value) now = (meanings : List (Option Stamped)) × (length meanings < 2 ^ 62) × took start meanings now
+  FeedsSome (Err (fault.BadLine line column)) now = TakesAny took start now
+  FeedsSome (Err fault.LogLimit) now = TakesAny took start now
+  FeedsSome (Err fault.Read) now = TakesAny rested start now
+  FeedsSome (Err fault.Write) now = TakesAny broke start now
+  FeedsSome (Err (fault.Oversize line announced)) now = StopsOnAny stopped start (fault.Oversize line announced) now
+  FeedsSome (Err fault.Memory) now = StopsOnAny stopped start fault.Memory now
+  FeedsSome (Err fault.OutputLimit) now = ⊥

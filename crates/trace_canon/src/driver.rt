@@ -9,7 +9,7 @@ ghost use Rattle.isotp_receive.specs.Events.{announced_by};
 ghost use Rattle.isotp_receive.specs.Trace.{Entry};
 ghost use Rattle.isotp_receive.specs.Verdict.{verdict};
 ghost use Rattle.trace_io.specs.Counted.{IsLowCount, AreLowCounts};
-ghost use Rattle.trace_canon.specs.Carrying.{Begins, Carries, Speaks, Tells, EndsTelling, GivesUp, stops_for};
+ghost use Rattle.trace_canon.specs.Carrying.{Begins, Carries, Speaks, Tells, EndsTelling, GivesUp, is_of_device, stops_for};
 ghost use Rattle.trace_canon.specs.LeftOut.{CountsRemoved};
 ghost use Rattle.trace_canon.specs.Receiving.{Receives};
 ghost use Rattle.trace_canon.specs.Settings.{Settings};
@@ -18,8 +18,7 @@ ghost use Rattle.trace_canon.specs.Trace.{trace};
 
 use crate::config::Config;
 use crate::fault::Fault;
-use crate::feed::{FeedFault, feed_lines};
-use crate::lines::LineFault;
+use crate::feed::feed_lines;
 use crate::machine::{Machine, Stop};
 use crate::page::{Drain, Page, settle};
 use crate::pending::Pending;
@@ -55,44 +54,31 @@ pub fn run<M: Machine + Drop, R: Source, W: Target>(
     }
 }
 
-/// Why a frame was not told.
-#[derive(Clone, Copy, Debug)]
-pub(crate) enum TellingFault {
-    /// A first frame in this line announces this many bytes, more than a message may have.
-    Oversize { line: u64, announced: u32 },
-    /// Memory was refused.
-    Memory,
-}
-
-/// Writes what was said before a fault of the lines, and answers what that is called.
-fn give_up<W: Target>(fault: FeedFault<TellingFault>, target: &mut W, page: &mut Page) -> Fault
+/// Writes what was said before a fault, and answers what that is called. A fault of a device stands as it is.
+fn give_up<W: Target>(fault: Fault, target: &mut W, page: &mut Page) -> Fault
     ensures { GivesUp W.Target fault page.old.failed page.old.block target.old result target.new }
 {
+    if is_of_device(fault) {
+        return fault;
+    }
+    if settle(target, page) {
+        fault
+    } else {
+        Fault::Write
+    }
+}
+
+/// Whether a fault is that of a device.
+fn is_of_device(fault: Fault) -> bool
+    ensures { result ≡ is_of_device fault }
+{
     match fault {
-        FeedFault::Rest => Fault::Write,
-        FeedFault::Lines(LineFault::Read) => Fault::Read,
-        FeedFault::Lines(LineFault::LogLimit) => Fault::LogLimit,
-        FeedFault::Lines(LineFault::BadLine { line, column }) => {
-            if settle(target, page) {
-                Fault::BadLine { line, column }
-            } else {
-                Fault::Write
-            }
-        }
-        FeedFault::Lines(LineFault::Taker(TellingFault::Oversize { line, announced })) => {
-            if settle(target, page) {
-                Fault::Oversize { line, announced }
-            } else {
-                Fault::Write
-            }
-        }
-        FeedFault::Lines(LineFault::Taker(TellingFault::Memory)) => {
-            if settle(target, page) {
-                Fault::Memory
-            } else {
-                Fault::Write
-            }
-        }
+        Fault::Read | Fault::Write => true,
+        Fault::BadLine { .. }
+        | Fault::Oversize { .. }
+        | Fault::LogLimit
+        | Fault::OutputLimit
+        | Fault::Memory => false,
     }
 }
 
@@ -129,8 +115,6 @@ impl<M: Machine, W: Target> EventTaker for Telling<M, W> {
     ghost use Rattle.std.specs.Prelude.{◌≡◌, ◌≤◌, ◌^◌, [], true, false};
     ghost use Rattle.trace_canon.specs.Carrying.{IsTellingStart, Tells, StopsTelling, WroteTold};
 
-    type Fault = TellingFault;
-
     type Device = W;
 
     ghost took = { λ s T t. IsTellingStart (M.stands s.0.machine [] s.0.machine) s.0.pending s.0.page.failed s.0.page.block → W.failures s.1 ≤ 2 ^ 62
@@ -153,25 +137,19 @@ impl<M: Machine, W: Target> EventTaker for Telling<M, W> {
     }
 
     #[inline(always)]
-    fn take(
-        &mut self,
-        device: &mut W,
-        line: u64,
-        dir: Dir,
-        event: Event<'_>,
-    ) -> Result<(), TellingFault> {
+    fn take(&mut self, device: &mut W, line: u64, dir: Dir, event: Event<'_>) -> Result<(), Fault> {
         self.pending.take(dir, event.verdict);
         match refusal(self.machine.is_strict(), event.verdict) {
-            Some(announced) => Err(TellingFault::Oversize { line, announced }),
+            Some(announced) => Err(Fault::Oversize { line, announced }),
             None => match tell(&mut self.machine, device, &mut self.page, line, dir, event) {
                 Ok(()) => Ok(()),
-                Err(_refused) => Err(TellingFault::Memory),
+                Err(_refused) => Err(Fault::Memory),
             },
         }
     }
 
-    fn refused(&self, _device: &W) -> TellingFault {
-        TellingFault::Memory
+    fn refused(&self, _device: &W) -> Fault {
+        Fault::Memory
     }
 }
 

@@ -7,28 +7,21 @@ ghost use Rattle.trace_io.specs.Counted.{AreLowCounts};
 ghost use Rattle.trace_io.specs.Stream.{Agrees, Gave};
 ghost use Rattle.trace_canon.specs.Answers.{ReadsWhile};
 ghost use Rattle.trace_canon.specs.Reading.{TakesFront};
-ghost use Rattle.trace_canon.specs.Feeding.{FeedsLog, FeedsSome, FeedsEnd, FedByLines, CountsFed, WroteBefore};
+ghost use Rattle.trace_canon.specs.Feeding.{FeedsLog, FeedsSome, CountsRead, WroteBefore};
 
-use crate::lines::{LineFault, LineTaker, PIECE, take_last_line, take_lines};
+use crate::fault::Fault;
+use crate::lines::{LineTaker, PIECE, take_last_line, take_lines};
 use can_log::Scanner;
 use trace_io::Source;
 
-/// Why the lines of a log were not all taken.
-#[derive(Debug, Drop)]
-pub(crate) enum FeedFault<E> {
-    /// For a reason of the lines.
-    Lines(LineFault<E>),
-    /// What was due was not written.
-    Rest,
-}
-
-/// Takes the lines of a log one by one, as they come. Before each read the taker writes what is due.
+/// Takes the lines of a log one by one, as they come. Before each read the taker writes what is due. A fault of a device is
+/// [`Fault::Read`] or [`Fault::Write`].
 pub(crate) fn feed_lines<R: Source, T: LineTaker>(
     max_bytes: u64,
     reader: &mut R,
     taker: &mut T,
     device: &mut T::Device,
-) -> Result<(), FeedFault<T::Fault>>
+) -> Result<(), Fault>
     requires limit { max_bytes ≤ 2 ^ 40 }
     requires reader { AreLowCounts (R.reads reader.old) (length (R.given reader.old)) (R.failures reader.old) }
 
@@ -55,53 +48,35 @@ pub(crate) fn feed_lines<R: Source, T: LineTaker>(
     ensures reads { R.reads reader.new ≤ R.reads reader.old + max_bytes + 1 }
     ensures progress { R.reads reader.new ≤ R.reads reader.old + (length (R.given reader.new) - length (R.given reader.old)) + 1 }
     ensures failures { MatchResult result (λ _. R.failures reader.new ≡ R.failures reader.old)
-        (λ fault. CountsFed fault (R.failures reader.old) (R.failures reader.new)) }
+        (λ fault. CountsRead fault (R.failures reader.old) (R.failures reader.new)) }
 {
     let mut piece = [0; PIECE];
     let mut scanner = Scanner::new();
     let mut left = max_bytes;
     'reading: while left > 0 {
         if !taker.rest(device) {
-            return Err(FeedFault::Rest);
+            return Err(Fault::Write);
         }
         let room = left.min(PIECE as u64) as usize;
         let Ok(n) = reader.read(&mut piece[..room]) else {
-            return Err(FeedFault::Lines(LineFault::Read));
+            return Err(Fault::Read);
         };
         if n == 0 {
-            return last_line(&mut scanner, taker, device);
+            return take_last_line(&mut scanner, taker, device);
         }
         if let Err(fault) = take_lines(&mut scanner, &piece[..n], taker, device) {
-            return Err(FeedFault::Lines(fault));
+            return Err(fault);
         }
         left -= n as u64;
     }
     if !taker.rest(device) {
-        return Err(FeedFault::Rest);
+        return Err(Fault::Write);
     }
     let Ok(n) = reader.read(&mut piece[..1]) else {
-        return Err(FeedFault::Lines(LineFault::Read));
+        return Err(Fault::Read);
     };
     if n > 0 {
-        return Err(FeedFault::Lines(LineFault::LogLimit));
+        return Err(Fault::LogLimit);
     }
-    last_line(&mut scanner, taker, device)
-}
-
-/// Takes the last line, if it has no line feed.
-fn last_line<T: LineTaker>(
-    scanner: &mut Scanner,
-    taker: &mut T,
-    device: &mut T::Device,
-) -> Result<(), FeedFault<T::Fault>>
-    ensures fault { IfErr result FedByLines }
-    ensures lines { (start : T × T.Device) (log : List ℕ) (meanings : List (Option StampedValue)) → length log ≤ 2 ^ 61 → StandsAfter log meanings scanner.old
-        → T.took start meanings (taker.old, device.old) → FeedsEnd T.took T.stopped start log result (taker.new, device.new) }
-    ensures kept { (start : T × T.Device) (log : List ℕ) (meanings first : List (Option StampedValue)) → length log ≤ 2 ^ 61 → StandsAfter log meanings scanner.old
-        → T.took start meanings (taker.old, device.old) → T.sure start first (taker.old, device.old) → T.sure start first (taker.new, device.new) }
-{
-    match take_last_line(scanner, taker, device) {
-        Ok(()) => Ok(()),
-        Err(fault) => Err(FeedFault::Lines(fault)),
-    }
+    take_last_line(&mut scanner, taker, device)
 }

@@ -7,10 +7,11 @@ ghost use Rattle.can_log.specs.WholeLog.{StandsAfter};
 ghost use Rattle.trace_io.specs.Counted.{AreLowCounts};
 ghost use Rattle.trace_io.specs.Stream.{Agrees, Gave};
 ghost use Rattle.trace_canon.specs.Answers.{ReadsWhile};
-ghost use Rattle.trace_canon.specs.Reading.{ReadsPiece, ReadsEnd, ReadsLog, IsOfLines, CountsRead, TakesFront, TakesSome};
+ghost use Rattle.trace_canon.specs.Reading.{ReadsPiece, ReadsEnd, IsOfLines, IsOfTaker};
+ghost use Rattle.trace_canon.specs.declared.fault.Fault.{Fault as FaultValue};
 
+use crate::fault::Fault;
 use can_log::{Id, Scan, Scanner, Stamped};
-use trace_io::{DeviceFault, Source};
 
 /// The most bytes that one read asks for.
 pub(crate) const PIECE: usize = 4096;
@@ -18,15 +19,12 @@ pub(crate) const PIECE: usize = 4096;
 /// What takes the lines of a log one by one. An implementation says by two ghost members what it is after lines, and after
 /// one on which it stopped: each is told of what it went from.
 pub(crate) trait LineTaker {
-    /// Why a line was not taken.
-    type Fault;
-
     /// What it writes to.
     type Device;
 
     ghost took: { Self × Self.Device → List (Option StampedValue) → Self × Self.Device → Type 0 };
 
-    ghost stopped: { Self × Self.Device → List (Option StampedValue) → Option StampedValue → Self.Fault → Self × Self.Device → Type 0 };
+    ghost stopped: { Self × Self.Device → List (Option StampedValue) → Option StampedValue → FaultValue → Self × Self.Device → Type 0 };
 
     /// The text of these first lines was written since, whatever became of the rest.
     ghost sure: { Self × Self.Device → List (Option StampedValue) → Self × Self.Device → Type 0 };
@@ -69,7 +67,8 @@ pub(crate) trait LineTaker {
         device: &mut Self::Device,
         line: u64,
         what: &Option<Stamped>,
-    ) -> Result<(), Self::Fault>
+    ) -> Result<(), Fault>
+        ensures fault { IfErr result IsOfTaker }
         ensures ok { OnOk result ((start : Self × Self.Device) (meanings : List (Option StampedValue)) → line ≡ length meanings + 1 → length meanings < 2 ^ 62
             → took start meanings (self.old, device.old) → took start (meanings ++ what.now ∷ []) (self.new, device.new)) }
         ensures err { IfErr result (λ fault. (start : Self × Self.Device) (meanings : List (Option StampedValue)) → line ≡ length meanings + 1 → length meanings < 2 ^ 62
@@ -78,26 +77,13 @@ pub(crate) trait LineTaker {
             → took start meanings (self.old, device.old) → sure start first (self.old, device.old) → sure start first (self.new, device.new) };
 }
 
-/// Why the lines of a log were not all taken.
-#[derive(Debug, Drop)]
-pub(crate) enum LineFault<E> {
-    /// The log is refused at this place.
-    BadLine { line: u64, column: u32 },
-    /// The log is longer than the limit.
-    LogLimit,
-    /// The source failed.
-    Read,
-    /// The taker stopped.
-    Taker(E),
-}
-
 /// Takes the lines that end in a piece.
 pub(crate) fn take_lines<T: LineTaker>(
     scanner: &mut Scanner,
     piece: &[u8],
     taker: &mut T,
     device: &mut T::Device,
-) -> Result<(), LineFault<T::Fault>>
+) -> Result<(), Fault>
     requires { scanner.old.taken + length piece.now ≤ 2 ^ 61 }
     ensures taken { OnOk result (scanner.new.taken ≤ scanner.old.taken + length piece.now) }
     ensures fault { IfErr result IsOfLines }
@@ -119,12 +105,12 @@ pub(crate) fn take_lines<T: LineTaker>(
         match &answer {
             Scan::Line { used, line, what } => {
                 if let Err(fault) = taker.take(device, *line, what) {
-                    return Err(LineFault::Taker(fault));
+                    return Err(fault);
                 }
                 rest = &rest[*used..];
             }
             Scan::Bad { line, column } => {
-                return Err(LineFault::BadLine {
+                return Err(Fault::BadLine {
                     line: *line,
                     column: *column,
                 });
@@ -140,7 +126,7 @@ pub(crate) fn take_last_line<T: LineTaker>(
     scanner: &mut Scanner,
     taker: &mut T,
     device: &mut T::Device,
-) -> Result<(), LineFault<T::Fault>>
+) -> Result<(), Fault>
     ensures fault { IfErr result IsOfLines }
     ensures lines { (start : T × T.Device) (log : List ℕ) (meanings : List (Option StampedValue)) → length log ≤ 2 ^ 61 → StandsAfter log meanings scanner.old
         → T.took start meanings (taker.old, device.old) → ReadsEnd T.took T.stopped start log result (taker.new, device.new) }
@@ -150,9 +136,9 @@ pub(crate) fn take_last_line<T: LineTaker>(
     match &scanner.finish() {
         Scan::Line { line, what, .. } => match taker.take(device, *line, what) {
             Ok(()) => Ok(()),
-            Err(fault) => Err(LineFault::Taker(fault)),
+            Err(fault) => Err(fault),
         },
-        Scan::Bad { line, column } => Err(LineFault::BadLine {
+        Scan::Bad { line, column } => Err(Fault::BadLine {
             line: *line,
             column: *column,
         }),

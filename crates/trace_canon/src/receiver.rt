@@ -9,9 +9,12 @@ ghost use Rattle.isotp_receive.specs.StandingReception.{receptions_after};
 ghost use Rattle.isotp_receive.specs.Trace.{Entry};
 ghost use Rattle.isotp_receive.specs.Verdict.{verdict};
 ghost use Rattle.trace_canon.specs.Needing.{IsKeptForMessage};
+ghost use Rattle.trace_canon.specs.Reading.{IsOfTaker};
 ghost use Rattle.trace_canon.specs.Receiving.{CountsEvent};
+ghost use Rattle.trace_canon.specs.declared.fault.Fault.{Fault as FaultValue};
 
 use crate::config::Config;
+use crate::fault::Fault;
 use crate::lines::LineTaker;
 use can_log::{Frame, Id, Stamped};
 use direction::Dir;
@@ -20,15 +23,12 @@ use isotp_receive::{Event, Pair, Verdict};
 /// What takes the events of a log's frames one by one. An implementation says by two ghost members what it is after a trace,
 /// and after a frame on which it stopped: each is told of what it went from.
 pub(crate) trait EventTaker {
-    /// Why an event was not taken.
-    type Fault;
-
     /// What it writes to.
     type Device;
 
     ghost took: { Self × Self.Device → List Entry → Self × Self.Device → Type 0 };
 
-    ghost stopped: { Self × Self.Device → List Entry → Entry → Self.Fault → Self × Self.Device → Type 0 };
+    ghost stopped: { Self × Self.Device → List Entry → Entry → FaultValue → Self × Self.Device → Type 0 };
 
     /// The text of this first trace was written since, whatever became of the rest.
     ghost sure: { Self × Self.Device → List Entry → Self × Self.Device → Type 0 };
@@ -56,7 +56,8 @@ pub(crate) trait EventTaker {
         line: u64,
         dir: Dir,
         event: Event<'_>,
-    ) -> Result<(), Self::Fault>
+    ) -> Result<(), Fault>
+        ensures fault { IfErr result IsOfTaker }
         ensures ok { OnOk result ((start : Self × Self.Device) (T : List Entry) (e : Entry) → e.line ≡ line → e.dir ≡ dir → length T < 2 ^ 62
             → seen_event event.entry ≡ verdict MESSAGE_LIMIT T e → took start T (self.old, device.old) → took start (T ++ e ∷ []) (self.new, device.new)) }
         ensures err { IfErr result (λ fault. (start : Self × Self.Device) (T : List Entry) (e : Entry) → e.line ≡ line → e.dir ≡ dir → length T < 2 ^ 62
@@ -67,8 +68,9 @@ pub(crate) trait EventTaker {
 
     /// Why no more events are taken, where memory was refused for the next frame of the trace. A pair asks for memory only
     /// where the frame's bytes are kept for a message of several frames.
-    fn refused(&self, device: &Self::Device) -> Self::Fault
-        ensures { (start : Self × Self.Device) (T : List Entry) (e : Entry) → IsKeptForMessage MESSAGE_LIMIT T e
+    fn refused(&self, device: &Self::Device) -> Fault
+        ensures fault { IsOfTaker result }
+        ensures stopped { (start : Self × Self.Device) (T : List Entry) (e : Entry) → IsKeptForMessage MESSAGE_LIMIT T e
             → took start T (self.now, device.now) → stopped start T e result (self.now, device.now) };
 }
 
@@ -108,7 +110,8 @@ fn receive<E: EventTaker>(
     micros: u64,
     dir: Dir,
     frame: &Frame,
-) -> Result<(), E::Fault>
+) -> Result<(), Fault>
+    ensures fault { IfErr result IsOfTaker }
     ensures pair { OnOk result ((T : List Entry) → pair.old.receptions ≡ receptions_after MESSAGE_LIMIT T
         → pair.new.receptions ≡ receptions_after MESSAGE_LIMIT (T ++ record { line = line; micros = micros; dir = dir; frame = frame.now } ∷ [])) }
     ensures grew { OnOk result (CapacitiesGrow MESSAGE_LIMIT dir (layout_of frame.now) pair.old pair.new) }
@@ -174,8 +177,6 @@ impl<E: EventTaker> LineTaker for Receiver<E> {
     ghost use Rattle.trace_canon.specs.Trace.{trace};
     ghost use Rattle.trace_canon.specs.Receiving.{Receives, entry_in, IsStart};
 
-    type Fault = E::Fault;
-
     type Device = E::Device;
 
     ghost took = { λ s meanings t. (t.0.config ≡ s.0.config)
@@ -217,7 +218,7 @@ impl<E: EventTaker> LineTaker for Receiver<E> {
         device: &mut E::Device,
         line: u64,
         what: &Option<Stamped>,
-    ) -> Result<(), E::Fault> {
+    ) -> Result<(), Fault> {
         self.lines = line;
         let Some(stamped) = what else {
             return Ok(());

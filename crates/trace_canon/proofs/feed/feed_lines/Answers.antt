@@ -2,8 +2,8 @@ use Rattle.std.proofs.Common.{arith, append_assoc, refl, [], ℕ, ◌≡◌, ◌
 use Rattle.can_log.specs.WholeLog.{StandsAfter}
 use Rattle.std.specs.Io.KnownBytes.{Consumes}
 use Rattle.can_log.proofs.Promises.{start_stands}
-use Rattle.trace_canon.proofs.Feedings.{feeds_lines, feeds_some_lines, feeds_to_end, feeds_some_at_end, wrote_since, wrote_now}
-use Rattle.trace_canon.proofs.Streams.{gave_nothing, gave_more, grown_more, grown_none, log_of, front_of_log, over_is, when_ok, not_over, some_not_over, piece_faults, piece_of, takes_in_piece, reads_near}
+use Rattle.trace_canon.proofs.Feedings.{feeds_piece, feeds_some_in_piece, feeds_to_end, feeds_some_at_end, wrote_since, wrote_now}
+use Rattle.trace_canon.proofs.Streams.{gave_nothing, gave_more, grown_more, grown_none, log_of, front_of_log, over_is, when_ok, not_over, some_not_over, piece_of, reads_near}
 use Rattle.trace_canon.proofs.feed.feed_lines.Goals as goal
 
 pub returns-in_default-clause-lines : goal.returns-in_default-clause-lines
@@ -26,10 +26,10 @@ returns-then-n-eq0-clause-lines g c = λ log agrees start taken.
     let all = is.whole (c.in-Ok.ensures.over ∙ over_is c.in-Ok.n (length c.read.new.buf) c.if-n-eq0.true (omega (arith, length-take {A = ℕ}))) in
     let len = ap length all in
     let stands = subst (λ b. StandsAfter b has.meanings c.reading.scanner) all has.stands in
-    feeds_to_end g.T.LineTaker.took g.T.LineTaker.rested g.T.LineTaker.broke g.T.LineTaker.stopped start c.last_line.result c.args.max_bytes _ log
-    (c.last_line.new.taker, c.last_line.new.device)
+    feeds_to_end g.T.LineTaker.took g.T.LineTaker.rested g.T.LineTaker.broke g.T.LineTaker.stopped start c.take_last_line.result c.args.max_bytes _ log
+    (c.take_last_line.new.taker, c.take_last_line.new.device)
     (omega (arith, inv.given)) (is.count ∙ len)
-    (c.last_line.ensures.lines start log has.meanings (omega (arith, inv.given)) stands (c.rest.ensures.well c.if-not-rest.false start has.meanings has.taken).1)
+    (c.take_last_line.ensures.lines start log has.meanings (omega (arith, inv.given)) stands (c.rest.ensures.well c.if-not-rest.false start has.meanings has.taken).1)
 
 pub returns-in-Err-clause-lines : goal.returns-in-Err-clause-lines
 returns-in-Err-clause-lines g c = λ log agrees start taken.
@@ -43,12 +43,11 @@ returns-in-Err-clause-lines g c = λ log agrees start taken.
     let few : (n ≤ 4096) × (n ≤ c.reading.left) = (omega (arith, c.min-room.ensures), omega (arith, c.min-room.ensures)) in
     let len : length (bytes ++ piece) ≡ length bytes + n = length-append bytes piece ∙ ap (λ k. length bytes + k) here.1 in
     let is = log_of (grown_more _ bytes piece inv.gave.grown (c.in-Ok.ensures.given ∙ ap (λ p. g.R.Source.given c.reading.reader ++ p) (sym here.0))) agrees in
-    feeds_lines g.T.LineTaker.took g.T.LineTaker.rested g.T.LineTaker.broke g.T.LineTaker.stopped start (Unit {0}) c.in-Err.fault c.args.max_bytes _ log (c.take_lines.new.taker, c.take_lines.new.device) c.in-Err.ensures.fault
-    (piece_faults g.T.LineTaker.took g.T.LineTaker.stopped start (Unit {0}) c.in-Err.fault c.args.max_bytes _ log has.meanings bytes piece
+    feeds_piece g.T.LineTaker.took g.T.LineTaker.rested g.T.LineTaker.broke g.T.LineTaker.stopped start (Unit {0}) c.in-Err.fault c.args.max_bytes _ log has.meanings bytes piece
     c.reading.scanner c.take_lines.new.scanner (c.take_lines.new.taker, c.take_lines.new.device)
     has.stands is.front is.count
     (omega (arith, is.count, inv.given, few.1)) (omega (arith, few.0, here.1))
-    (c.in-Err.ensures.lines start bytes has.meanings has.stands (c.rest.ensures.well c.if-not-rest.false start has.meanings has.taken).1))
+    (c.in-Err.ensures.lines start bytes has.meanings has.stands (c.rest.ensures.well c.if-not-rest.false start has.meanings has.taken).1)
 
 pub reading-init : goal.reading-init
 reading-init g c = record {
@@ -140,7 +139,7 @@ returns-then-n-gt0-clause-lines g c = λ log agrees start taken.
     let some : 1 ≤ length piece = omega (arith, c.in-Ok-read.ensures.bound, c.if-n-gt0.true) in
     let front = front_of_log bytes piece is in (
       has.meanings,
-      (c.rest-2.ensures.well c.if-not-rest-2.false start has.meanings has.taken).0,
+      (c.rest-2.ensures.well c.if-not-rest-2.false start has.meanings has.taken).1,
       omega (arith, is.long),
       omega (arith, is.count),
       (c.reading.scanner, subst (λ b. StandsAfter b has.meanings c.reading.scanner) (front ∙ ap (λ k. take k log) full) has.stands),
@@ -155,18 +154,18 @@ returns-clause-lines g c = λ log agrees start taken.
     let all = is.whole (c.in-Ok-read.ensures.over ∙ over_is c.in-Ok-read.n (length c.read-2.new.buf) none (omega (arith, length-take {A = ℕ}, inv.piece_len))) in
     let len = ap length all in
     let stands = subst (λ b. StandsAfter b has.meanings c.reading.scanner) all has.stands in
-    feeds_to_end g.T.LineTaker.took g.T.LineTaker.rested g.T.LineTaker.broke g.T.LineTaker.stopped start c.last_line-2.result c.args.max_bytes _ log
-    (c.last_line-2.new.taker, c.last_line-2.new.device)
+    feeds_to_end g.T.LineTaker.took g.T.LineTaker.rested g.T.LineTaker.broke g.T.LineTaker.stopped start c.take_last_line-2.result c.args.max_bytes _ log
+    (c.take_last_line-2.new.taker, c.take_last_line-2.new.device)
     (omega (arith, inv.given)) (is.count ∙ len)
-    (c.last_line-2.ensures.lines start log has.meanings (omega (arith, inv.given)) stands (c.rest-2.ensures.well c.if-not-rest-2.false start has.meanings has.taken).1)
+    (c.take_last_line-2.ensures.lines start log has.meanings (omega (arith, inv.given)) stands (c.rest-2.ensures.well c.if-not-rest-2.false start has.meanings has.taken).1)
 
 pub returns-then-n-eq0-clause-over : goal.returns-then-n-eq0-clause-over
 returns-then-n-eq0-clause-over g c =
-    when_ok c.last_line.result (c.in-Ok.ensures.over ∙ over_is c.in-Ok.n (length c.read.new.buf) c.if-n-eq0.true (omega (arith, length-take {A = ℕ})))
+    when_ok c.take_last_line.result (c.in-Ok.ensures.over ∙ over_is c.in-Ok.n (length c.read.new.buf) c.if-n-eq0.true (omega (arith, length-take {A = ℕ})))
 
 pub returns-clause-over : goal.returns-clause-over
 returns-clause-over g c =
-    when_ok c.last_line-2.result
+    when_ok c.take_last_line-2.result
     (c.in-Ok-read.ensures.over ∙ over_is c.in-Ok-read.n (length c.read-2.new.buf) (omega (arith, c.if-n-gt0.false)) (omega (arith, length-take {A = ℕ}, c.reading.invariant.piece_len)))
 
 pub returns-in_default-clause-ended : goal.returns-in_default-clause-ended
@@ -282,25 +281,25 @@ pub returns-then-n-eq0-clause-takes : goal.returns-then-n-eq0-clause-takes
 returns-then-n-eq0-clause-takes g c = λ start taken.
     let has = c.reading.invariant.lines start taken in
     let short : length c.reading.invariant.gave.bytes ≤ 2 ^ 61 = omega (arith, has.counted) in
-    feeds_some_at_end g.T.LineTaker.took g.T.LineTaker.rested g.T.LineTaker.broke g.T.LineTaker.stopped start c.last_line.result c.reading.invariant.gave.bytes (c.last_line.new.taker, c.last_line.new.device) short
-    (c.last_line.ensures.lines start c.reading.invariant.gave.bytes has.meanings short has.stands (c.rest.ensures.well c.if-not-rest.false start has.meanings has.taken).1)
+    feeds_some_at_end g.T.LineTaker.took g.T.LineTaker.rested g.T.LineTaker.broke g.T.LineTaker.stopped start c.take_last_line.result c.reading.invariant.gave.bytes (c.take_last_line.new.taker, c.take_last_line.new.device) short
+    (c.take_last_line.ensures.lines start c.reading.invariant.gave.bytes has.meanings short has.stands (c.rest.ensures.well c.if-not-rest.false start has.meanings has.taken).1)
 
 pub returns-in-Err-clause-takes : goal.returns-in-Err-clause-takes
 returns-in-Err-clause-takes g c = λ start taken.
     let has = c.reading.invariant.lines start taken in
-    feeds_some_lines g.T.LineTaker.took g.T.LineTaker.rested g.T.LineTaker.broke g.T.LineTaker.stopped start (Unit {0}) c.in-Err.fault (c.take_lines.new.taker, c.take_lines.new.device) c.in-Err.ensures.fault
-    (takes_in_piece g.T.LineTaker.took g.T.LineTaker.stopped start (Unit {0}) c.in-Err.fault has.meanings c.reading.invariant.gave.bytes _ c.take_lines.new.scanner (c.take_lines.new.taker, c.take_lines.new.device)
-    (c.in-Err.ensures.lines start c.reading.invariant.gave.bytes has.meanings has.stands (c.rest.ensures.well c.if-not-rest.false start has.meanings has.taken).1))
+    feeds_some_in_piece g.T.LineTaker.took g.T.LineTaker.rested g.T.LineTaker.broke g.T.LineTaker.stopped start (Unit {0}) c.in-Err.fault has.meanings c.reading.invariant.gave.bytes _ c.take_lines.new.scanner
+    (c.take_lines.new.taker, c.take_lines.new.device)
+    (c.in-Err.ensures.lines start c.reading.invariant.gave.bytes has.meanings has.stands (c.rest.ensures.well c.if-not-rest.false start has.meanings has.taken).1)
 
 pub returns-then-n-gt0-clause-takes : goal.returns-then-n-gt0-clause-takes
-returns-then-n-gt0-clause-takes g c = λ start taken. (let has = c.reading.invariant.lines start taken in (has.meanings, (c.rest-2.ensures.well c.if-not-rest-2.false start has.meanings has.taken).0))
+returns-then-n-gt0-clause-takes g c = λ start taken. (let has = c.reading.invariant.lines start taken in (has.meanings, (c.rest-2.ensures.well c.if-not-rest-2.false start has.meanings has.taken).1))
 
 pub returns-clause-takes : goal.returns-clause-takes
 returns-clause-takes g c = λ start taken.
     let has = c.reading.invariant.lines start taken in
     let short : length c.reading.invariant.gave.bytes ≤ 2 ^ 61 = omega (arith, has.counted) in
-    feeds_some_at_end g.T.LineTaker.took g.T.LineTaker.rested g.T.LineTaker.broke g.T.LineTaker.stopped start c.last_line-2.result c.reading.invariant.gave.bytes (c.last_line-2.new.taker, c.last_line-2.new.device) short
-    (c.last_line-2.ensures.lines start c.reading.invariant.gave.bytes has.meanings short has.stands (c.rest-2.ensures.well c.if-not-rest-2.false start has.meanings has.taken).1)
+    feeds_some_at_end g.T.LineTaker.took g.T.LineTaker.rested g.T.LineTaker.broke g.T.LineTaker.stopped start c.take_last_line-2.result c.reading.invariant.gave.bytes (c.take_last_line-2.new.taker, c.take_last_line-2.new.device) short
+    (c.take_last_line-2.ensures.lines start c.reading.invariant.gave.bytes has.meanings short has.stands (c.rest-2.ensures.well c.if-not-rest-2.false start has.meanings has.taken).1)
 
 -- ---- what was due was written before each read
 
@@ -339,7 +338,7 @@ returns-then-n-eq0-clause-eager g c = λ log agrees start taken sure.
     let is = log_of (grown_none _ inv.gave.bytes c.read.new.buf c.in-Ok.n inv.gave.grown c.in-Ok.ensures.given c.if-n-eq0.true) agrees in
     let rested = c.rest.ensures.well c.if-not-rest.false start has.meanings has.taken in
     wrote_now g.T.LineTaker.sure start has is.rest is.parts (omega (arith, is.count))
-    (c.last_line.ensures.kept start inv.gave.bytes has.meanings has.meanings (omega (arith, has.counted)) has.stands rested.1 (c.rest.ensures.sure c.if-not-rest.false start has.meanings has.taken))
+    (c.take_last_line.ensures.kept start inv.gave.bytes has.meanings has.meanings (omega (arith, has.counted)) has.stands rested.1 (c.rest.ensures.sure c.if-not-rest.false start has.meanings has.taken))
 
 pub returns-clause-eager : goal.returns-clause-eager
 returns-clause-eager g c = λ log agrees start taken sure.
@@ -349,7 +348,7 @@ returns-clause-eager g c = λ log agrees start taken sure.
     let is = log_of (grown_none _ inv.gave.bytes c.read-2.new.buf c.in-Ok-read.n inv.gave.grown c.in-Ok-read.ensures.given none) agrees in
     let rested = c.rest-2.ensures.well c.if-not-rest-2.false start has.meanings has.taken in
     wrote_now g.T.LineTaker.sure start has is.rest is.parts (omega (arith, is.count))
-    (c.last_line-2.ensures.kept start inv.gave.bytes has.meanings has.meanings (omega (arith, has.counted)) has.stands rested.1
+    (c.take_last_line-2.ensures.kept start inv.gave.bytes has.meanings has.meanings (omega (arith, has.counted)) has.stands rested.1
     (c.rest-2.ensures.sure c.if-not-rest-2.false start has.meanings has.taken))
 
 pub returns-in-Err-clause-eager : goal.returns-in-Err-clause-eager
