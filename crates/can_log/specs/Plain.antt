@@ -8,7 +8,7 @@ use Rattle.can_log.specs.declared.plain.Fields.{Fields}
 use Rattle.can_log.specs.declared.plain.PlainBody.{PlainBody}
 use Rattle.can_log.specs.declared.field.Class.TheVariants.{Visible}
 use Rattle.can_log.specs.FieldReader.{is_in}
-use Rattle.can_log.specs.Line.{LineSpelling, IsRunOf, IsIdentifierText, IsDataText, Body, classic, fd}
+use Rattle.can_log.specs.Line.{LineSpelling, identifier_of, IsRunOf, IsIdentifierText, IsDataText, Body, classic, fd}
 
 -- the most digits of data of a frame with flags, and of one without
 abbrev pub most_digits : Option (Bor (List ℕ)) → ℕ
@@ -80,11 +80,12 @@ plain_text fields =
     codes "(" ++ (fields.stamp.now ++ (codes ") " ++ (fields.interface.now ++ (codes " "
     ++ (fields.identifier.now ++ (codes "#" ++ body_text fields.body))))))
 
--- the fields that end where other bytes begin are legal, and the others have one width
+-- the fields that end where other bytes begin are legal, and the others have one width; the identifier is the one spelled
 pub record HavePlainWidths (fields : Fields) : Type 0 where
   pub stamp : IsStamp fields.stamp.now
   pub interface : IsRunOf (is_in Visible) 1 15 fields.interface.now
   pub identifier : IsIdentifierText fields.identifier.now
+  pub decoded : fields.id ≡ identifier_of fields.identifier.now
   pub body : IsPlainBody fields.body
 
 -- n bytes at the front pass the test, at most sixteen

@@ -14,7 +14,7 @@ pub enum Id {
 }
 
 impl Id {
-    ghost use Rattle.std.specs.Prelude.{◌≡◌, ◌≢◌, ◌↔◌, IsTrue, false};
+    ghost use Rattle.std.specs.Prelude.{◌↔◌, IsTrue};
     ghost use Rattle.can_log.specs.Frame.{IsIdentifier};
 
     fn is_in_range(self) -> bool
@@ -24,14 +24,6 @@ impl Id {
             Id::Std(id) => id <= 0x7FF,
             Id::Ext(_) => true,
         }
-    }
-
-    /// Whether it is one of these two.
-    #[inline(always)]
-    pub(crate) fn is_either(self, first: Id, second: Id) -> bool
-        ensures { result ≡ false → (self ≢ first) × (self ≢ second) }
-    {
-        self == first || self == second
     }
 }
 

@@ -28,6 +28,7 @@ mod meaning;
 mod plain;
 mod scanner;
 mod stamp;
+mod wanted;
 
 pub use canonical::{
     BASE_LINE, LONGEST_LINE, append_line, base_line, extended_line, line_bytes, line_length,
@@ -36,3 +37,4 @@ pub use digit_lanes::digits_of_bytes;
 pub use frame::{Frame, Id, Kind, Stamped};
 pub use line_clock::LineClock;
 pub use scanner::{Scan, Scanner};
+pub use wanted::Wanted;

@@ -28,13 +28,15 @@ const ROOM_OF_FD_DATA: usize = 128 + LANES;
 /// The longest name of an interface.
 const LONGEST_INTERFACE: usize = 15;
 
-/// The fields of a line, by their places alone.
+/// The fields of a line by their places, of which the identifier alone is decoded.
 #[derive(Clone, Copy)]
 pub(crate) struct Fields<'a> {
     /// Ten digits of seconds, a point, and six digits of microseconds.
     stamp: &'a [u8],
     interface: &'a [u8],
     identifier: &'a [u8],
+    /// The identifier, decoded where its digits are counted: there it is known how many they are.
+    id: Id,
     body: PlainBody<'a>,
 }
 
@@ -84,7 +86,7 @@ pub(crate) fn plain_identifier(fields: Fields<'_>) -> Id
     requires { HavePlainWidths fields }
     ensures { result ≡ identifier_of fields.entry.identifier.now }
 {
-    identifier_of(fields.identifier)
+    fields.id
 }
 
 /// What a line with these fields records, of which the identifier is decoded.
@@ -162,7 +164,7 @@ fn fields_of(piece: &[u8]) -> Option<(Fields<'_>, &[u8])>
     let [b' ', rest @ ..] = rest else {
         return None;
     };
-    let (identifier, rest) = identifier_in_front(rest)?;
+    let (identifier, id, rest) = identifier_in_front(rest)?;
     let [b'#', rest @ ..] = rest else {
         return None;
     };
@@ -171,6 +173,7 @@ fn fields_of(piece: &[u8]) -> Option<(Fields<'_>, &[u8])>
         stamp,
         interface,
         identifier,
+        id,
         body,
     };
     Some((fields, rest))
@@ -191,17 +194,24 @@ fn interface_in_front(bytes: &[u8]) -> Option<(&[u8], &[u8])>
     Some(bytes.split_at(length))
 }
 
-/// The digits of the identifier, and the bytes after them.
+/// The digits of the identifier, the identifier, and the bytes after the digits.
 #[inline(always)]
-fn identifier_in_front(bytes: &[u8]) -> Option<(&[u8], &[u8])>
+fn identifier_in_front(bytes: &[u8]) -> Option<(&[u8], Id, &[u8])>
     requires { LANES ≤ length bytes.now }
-    ensures parts { IfSome result (λ x. bytes.now ≡ x.0.now ++ x.1.now) }
+    ensures parts { IfSome result (λ x. bytes.now ≡ x.0.now ++ x.2.now) }
     ensures identifier { IfSome result (λ x. IsIdentifierText x.0.now) }
-    ensures length { IfSome result (λ x. length bytes.now ≤ 8 + length x.1.now) }
+    ensures decoded { IfSome result (λ x. x.1 ≡ identifier_of x.0.now) }
+    ensures length { IfSome result (λ x. length bytes.now ≤ 8 + length x.2.now) }
 {
     match hex_front(bytes) {
-        8 => Some(bytes.split_at(8)),
-        3 if bytes[0] < b'8' => Some(bytes.split_at(3)),
+        8 => {
+            let (digits, rest) = bytes.split_at(8);
+            Some((digits, identifier_of(digits), rest))
+        }
+        3 if bytes[0] < b'8' => {
+            let (digits, rest) = bytes.split_at(3);
+            Some((digits, identifier_of(digits), rest))
+        }
         _ => None,
     }
 }

@@ -20,6 +20,7 @@ use crate::plain::{
     Fields, LONGEST_PLAIN, plain_digits, plain_identifier, plain_kind, plain_line, plain_stamped,
     plain_time, put_plain_stamped,
 };
+use crate::wanted::Wanted;
 use arrayvec::ArrayVec;
 use memchr::memchr;
 use std::marker::Model;
@@ -148,13 +149,12 @@ impl Scanner {
     #[inline(always)]
     pub fn scan_wanted_into(
         &mut self,
-        first: Id,
-        second: Id,
+        wanted: &Wanted,
         piece: &[u8],
         answer: &mut Scan,
     ) -> Option<usize>
         requires { self.old.taken + length piece.now ≤ 2 ^ 62 }
-        ensures foreign { IfSome result (λ used. ScansForeign first second self.old piece.now used self.new) }
+        ensures foreign { IfSome result (λ used. ScansForeign wanted.now.first wanted.now.second self.old piece.now used self.new) }
         ensures answer { IfNone result (Scans self.old piece.now answer.new self.new) }
     {
         if let Some(refused) = self.refused {
@@ -167,7 +167,7 @@ impl Scanner {
                 self.lines += 1;
                 self.taken += length as u64;
                 let id = plain_identifier(fields);
-                if !id.is_either(first, second) {
+                if !wanted.has(id) {
                     return Some(length);
                 }
                 answer_plain(answer, length, self.lines, fields, id);

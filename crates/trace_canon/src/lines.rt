@@ -11,7 +11,7 @@ ghost use Rattle.trace_canon.specs.Reading.{ReadsPiece, ReadsEnd, IsOfLines, IsO
 ghost use Rattle.trace_canon.specs.declared.fault.Fault.{Fault as FaultValue};
 
 use crate::fault::Fault;
-use can_log::{Id, Scan, Scanner, Stamped};
+use can_log::{Scan, Scanner, Stamped, Wanted};
 
 /// The most bytes that one read asks for.
 pub(crate) const PIECE: usize = 4096;
@@ -33,8 +33,8 @@ pub(crate) trait LineTaker {
     ghost wants: { Self → IdValue → IdValue → Type 0 };
 
     /// The two identifiers: a frame of another one is foreign to it.
-    fn wanted(&self) -> (Id, Id)
-        ensures { wants self.now result.0 result.1 };
+    fn wanted(&self) -> &Wanted
+        ensures { wants self.now result.now.first result.now.second };
 
     /// Passes the next line, by its number, which records a foreign frame.
     fn pass(&mut self, line: u64)
@@ -96,8 +96,8 @@ pub(crate) fn take_lines<T: LineTaker>(
     // A frame is large: each answer is made over the one before it.
     let mut answer = Scan::NeedMore;
     'lines: while !rest.is_empty() {
-        let (first, second) = taker.wanted();
-        if let Some(used) = scanner.scan_wanted_into(first, second, rest, &mut answer) {
+        let wanted = taker.wanted();
+        if let Some(used) = scanner.scan_wanted_into(wanted, rest, &mut answer) {
             taker.pass(scanner.line_count());
             rest = &rest[used..];
             continue 'lines;

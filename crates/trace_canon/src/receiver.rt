@@ -16,7 +16,7 @@ ghost use Rattle.trace_canon.specs.declared.fault.Fault.{Fault as FaultValue};
 use crate::config::Config;
 use crate::fault::Fault;
 use crate::lines::LineTaker;
-use can_log::{Frame, Id, Stamped};
+use can_log::{Frame, Stamped, Wanted};
 use direction::Dir;
 use isotp_receive::{Event, Pair, Verdict};
 
@@ -200,8 +200,8 @@ impl<E: EventTaker> LineTaker for Receiver<E> {
     ghost wants = { λ s first second. (first ≡ s.config.tester) × (second ≡ s.config.unit) };
 
     #[inline(always)]
-    fn wanted(&self) -> (Id, Id) {
-        (self.config.tester(), self.config.unit())
+    fn wanted(&self) -> &Wanted {
+        self.config.wanted()
     }
 
     #[inline(always)]

@@ -5,12 +5,12 @@ use Rattle.can_log.proofs.Lists.{nil_of}
 use Rattle.can_log.proofs.ScannerSteps.{plain_scanned, none_seen}
 use Rattle.can_log.proofs.scanner.Scanner.scan_wanted_into.Goals as goal
 
-pub returns-then-not-is_either-clause-foreign : goal.returns-then-not-is_either-clause-foreign
-returns-then-not-is_either-clause-foreign c =
+pub returns-then-not-has-clause-foreign : goal.returns-then-not-has-clause-foreign
+returns-then-not-has-clause-foreign c =
     let found = c.in-Some-plain_line in
     let line = c.self.inside.line.items in
     let none : line ≡ [] = nil_of line c.is_empty.result c.is_empty.ensures c.if-is_empty.true in
-    let apart = c.is_either.ensures c.if-not-is_either.true in
+    let apart = c.has.ensures c.if-not-has.true in
     record {
       stamped = stamped_of (parts_in (spelling_of found.fields));
       not_first = λ same. apart.0 (c.plain_identifier-id.ensures ∙ same);
