@@ -44,4 +44,6 @@ pub mod CanonicalMachines
 pub mod CanonicalScripts
 pub mod ListScripts
 pub mod ExplainScripts
+pub mod MessagePlaces
+pub mod PlacingScripts
 pub mod MeaningScripts
