@@ -30,7 +30,7 @@ MICROS = (0, 1, 1000, 999_999, 1_000_000, 1_000_001, -1, -1_000_000, 241, 97_000
 BYTES = b"\n\r (#_)RT0123456789ABCDEFabcdf.7E\xff\x00\x21\x7e"
 REPLACEMENTS = b"\0\n\r (F\xff"
 
-ORACLES = {"normalise": oracle.outcome, "list": oracle.listed, "explain": oracle.explained}
+ORACLES = {"normalise": oracle.outcome, "list": oracle.listed, "explain": oracle.explained, "messages": oracle.placed}
 
 
 def frames_of(rng, sender, message):
@@ -215,16 +215,26 @@ def unlike(words, log, found, came):
 
 
 def differences(program, logs):
-    """What is found of each of these logs by normalise and by explain."""
-    return (difference(program, job, log) for log in logs for job in ("normalise", "explain"))
+    """What is found of each of these logs by normalise, by explain and by messages."""
+    return (difference(program, job, log) for log in logs for job in ("normalise", "explain", "messages"))
+
+
+def list_difference(program, log):
+    """How the list that the program writes of a log differs from what its messages tell."""
+    _, listed, fault = run(program, ["list"], log)
+    _, placed, _ = run(program, ["messages"], log)
+    if fault or listed.decode() == oracle.listed_again(placed.decode()):
+        return None
+    return f"list and messages of {log!r}\n  {listed}\n  {placed}"
 
 
 def random_difference(program, rng, folder, log):
-    """What is found of a log by one of the four jobs."""
+    """What is found of a log by one of the five jobs."""
     limit = limit_for(rng, log)
-    job = rng.choice(("normalise", "normalise", "list", "explain", "explain", "compare"))
+    job = rng.choice(("normalise", "normalise", "list", "explain", "explain", "messages", "messages", "compare"))
     if job != "compare":
-        return difference(program, job, log, limit)
+        found = difference(program, job, log, limit)
+        return found or (list_difference(program, log) if job == "messages" else None)
     other = rng.choice((oracle.outcome(log).written, mutated(rng, oracle.outcome(log).written), mutated(rng, log)))
     return difference_of_two(program, folder, rng.sample((log, other), 2), limit)
 

@@ -73,7 +73,7 @@ module _ (T : List Entry) (e : Entry) (line micros : ℕ) (d : Dir) (event : Eve
       (λ side. of_tester (sym dir_is ∙ side) ∙ (λ i. began_at (sym dir_is i) (is i) (here_at (sym line_is i) (sym micros_is i)) begun.tester))
       (λ side. of_unit (sym dir_is ∙ side) ∙ (λ i. began_at (sym dir_is i) (is i) (here_at (sym line_is i) (sym micros_is i)) begun.unit)) in
       let words : numbered_line number step (d, whole) first (here_at line micros)
-          ≡ numbered_line (number_after (messages MESSAGE_LIMIT T) (d, whole)) (step_after (messages MESSAGE_LIMIT T) (d, whole)) (d, whole) (place_of (first_frame T e)) (place_of e) =
+      ≡ numbered_line (number_after (messages MESSAGE_LIMIT T) (d, whole)) (step_after (messages MESSAGE_LIMIT T) (d, whole)) (d, whole) (place_of (first_frame T e)) (place_of e) =
       (λ i. numbered_line (number_is i) (step_is i) (d, whole) (first_is i) (here_at (sym line_is i) (sym micros_is i))) in
       words ∙ ap (λ x. message_line (messages MESSAGE_LIMIT T) (x, whole) (first_frame T e) e) (sym dir_is) ∙ ap (delivered_line MESSAGE_LIMIT T e) (sym told)
 

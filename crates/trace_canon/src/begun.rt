@@ -64,7 +64,15 @@ fn left(dir: Dir, ended: Option<Ended>, begun: Option<FramePlace>) -> Option<Fra
 {
     match (ended, dir) {
         (None, _) => begun,
-        (Some(Ended { dir: Dir::Tester, .. }), Dir::Tester) => None,
+        (
+            Some(
+                Ended {
+                    dir: Dir::Tester,
+                    ..
+                },
+            ),
+            Dir::Tester,
+        ) => None,
         (Some(Ended { dir: Dir::Unit, .. }), Dir::Unit) => None,
         (Some(_), _) => begun,
     }

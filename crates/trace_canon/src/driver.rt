@@ -163,7 +163,15 @@ impl<M: Machine, W: Target> EventTaker for Telling<M, W> {
         self.pending.take(dir, event.verdict);
         match refusal(self.machine.is_strict(), event.verdict) {
             Some(announced) => Err(TellingFault::Oversize { line, announced }),
-            None => match tell(&mut self.machine, device, &mut self.page, line, micros, dir, event) {
+            None => match tell(
+                &mut self.machine,
+                device,
+                &mut self.page,
+                line,
+                micros,
+                dir,
+                event,
+            ) {
                 Ok(()) => Ok(()),
                 Err(_refused) => Err(TellingFault::Memory),
             },

@@ -37,6 +37,7 @@ abbrev pub job_named : List ℕ → Option Job
 job_named name =
     if bytes_eq name (codes "list") then Some job.List
     else if bytes_eq name (codes "explain") then Some job.Explain
+    else if bytes_eq name (codes "messages") then Some job.Messages
     else if bytes_eq name (codes "compare") then None
     else Some job.Normalise
 

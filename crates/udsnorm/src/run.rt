@@ -24,7 +24,8 @@ use crate::job::Job;
 use crate::tell::{status, tell_fault, tell_side};
 use std::alloc::Global;
 use trace_canon::{
-    CompareFault, Comparison, Config, Fault, Summary, compare, explain, list, normalise,
+    CompareFault, Comparison, Config, Fault, Summary, compare, explain, list, messages,
+    normalise,
 };
 use trace_io::{Source, Target, write_all};
 
@@ -79,6 +80,7 @@ fn do_job<R: Source, W: Target>(
         Job::Normalise => normalise(alloc, config, input, out),
         Job::List => list(alloc, config, input, out),
         Job::Explain => explain(alloc, config, input, out),
+        Job::Messages => messages(alloc, config, input, out),
     }
 }
 

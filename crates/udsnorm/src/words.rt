@@ -73,6 +73,7 @@ fn job_named(name: &str) -> Option<Job>
     match name {
         "list" => Some(Job::List),
         "explain" => Some(Job::Explain),
+        "messages" => Some(Job::Messages),
         "compare" => None,
         _ => Some(Job::Normalise),
     }
