@@ -21,7 +21,8 @@ LOG = b"(1700000000.000000) can0 7E0#0322F190\n"
 CANONICAL = b"(0000000000.000000) can0 7E0#0322F190CCCCCCCC\n"
 LIST = b"1 exchange ReadDataByIdentifier 22F190 -> unanswered\n"
 EXPLANATION = counts_line(LOG, CANONICAL)
-TEXTS = {"normalise": CANONICAL, "list": LIST, "explain": EXPLANATION}
+PLACES = b"1 request tester lines 1 to 1 at 1700000000.000000 to 1700000000.000000 22F190\n"
+TEXTS = {"normalise": CANONICAL, "list": LIST, "explain": EXPLANATION, "messages": PLACES}
 
 NO_LOG_LINE = b"(1.000000) can0 7E0#0\n"
 OVERSIZE = b"(1.000000) can0 7E8#1000001000004142\n"
@@ -69,6 +70,12 @@ EXPLAIN_HELP = [
     FAILED_DEVICE,
     b"Example: udsnorm explain recorded.log",
 ]
+MESSAGES_HELP = [
+    b"Writes each message with its lines and time stamps",
+    b"Usage: udsnorm messages [OPTIONS] [LOG]",
+    FAILED_DEVICE,
+    b"Example: udsnorm messages recorded.log | grep '^12 '",
+]
 COMPARE_HELP = [
     b"Says whether two logs have the same exchanges and stray messages",
     b"Usage: udsnorm compare [OPTIONS] <A> <B>",
@@ -85,6 +92,7 @@ HELPS = [
     (["normalise", "--help"], NORMALISE_HELP),
     (["list", "--help"], LIST_HELP),
     (["explain", "-h"], EXPLAIN_HELP),
+    (["messages", "--help"], MESSAGES_HELP),
     (["compare", "--help"], COMPARE_HELP),
     (["list", "--tester", "7E", "-h"], LIST_HELP),
 ]

@@ -37,6 +37,7 @@ ORACLES = {
     "list": oracle.listed,
     NO_NUMBERS: partial(oracle.listed, has_numbers=False),
     "explain": oracle.explained,
+    "messages": oracle.placed,
 }
 
 
@@ -222,16 +223,26 @@ def unlike(words, log, found, came):
 
 
 def differences(program, logs):
-    """What is found of each of these logs by normalise and by explain."""
-    return (difference(program, job, log) for log in logs for job in ("normalise", "explain"))
+    """What is found of each of these logs by normalise, by explain and by messages."""
+    return (difference(program, job, log) for log in logs for job in ("normalise", "explain", "messages"))
+
+
+def list_difference(program, log):
+    """How the list that the program writes of a log differs from what its messages tell."""
+    _, listed, fault = run(program, ["list"], log)
+    _, placed, _ = run(program, ["messages"], log)
+    if fault or listed.decode() == oracle.listed_again(placed.decode()):
+        return None
+    return f"list and messages of {log!r}\n  {listed}\n  {placed}"
 
 
 def random_difference(program, rng, folder, log):
-    """What is found of a log by one of the four jobs."""
+    """What is found of a log by one of the five jobs."""
     limit = limit_for(rng, log)
-    job = rng.choice(("normalise", "normalise", "list", NO_NUMBERS, "explain", "explain", "compare"))
+    job = rng.choice(("normalise", "normalise", "list", NO_NUMBERS, "explain", "explain", "messages", "messages", "compare"))
     if job != "compare":
-        return difference(program, job, log, limit)
+        found = difference(program, job, log, limit)
+        return found or (list_difference(program, log) if job == "messages" else None)
     other = rng.choice((oracle.outcome(log).written, mutated(rng, oracle.outcome(log).written), mutated(rng, log)))
     return difference_of_two(program, folder, rng.sample((log, other), 2), limit)
 

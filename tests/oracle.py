@@ -480,6 +480,62 @@ def explanation(lines):
     return frames_text(frames) + "".join(told) + " ".join(f"{name} {count}" for name, count in counts.items()) + "\n"
 
 
+# --- The places of messages ---------------------------------------------------------------------------------------------
+
+
+def parts_of(listed):
+    """Of each message the number of its item in the meaning of them all, and what it is to that item."""
+    requests = [n for n, (direction, message) in enumerate(listed) if is_request(direction, message)]
+    parts = [(number, "stray") for number in range(1, (requests or [len(listed)])[0] + 1)]
+    for begin, end in zip(requests, [*requests[1:], len(listed)]):
+        service, exchange = listed[begin][1][0], 1 + max((number for number, _ in parts), default=0)
+        replies = [n for n in range(begin + 1, end) if listed[n][0] == UNIT]
+        answer = next((n for n in replies if is_final(service, listed[n][1])), end)
+        parts.append((exchange, "request"))
+        strays = itertools.count(exchange + 1)
+        for n in range(begin + 1, end):
+            is_left_out = n < answer and n in replies and is_pending(service, listed[n][1])
+            role = "answer" if n == answer else "pending" if is_left_out else "stray"
+            parts.append((next(strays) if role == "stray" else exchange, role))
+    return parts
+
+
+def first_position(frames, p):
+    """The position of the first frame of the message that the frame at p completes."""
+    entry = frames[p]
+    return p if isinstance(entry.layout, Single) else reception(frames, entry.direction, p)[0]
+
+
+def stamp(micros):
+    return f"{micros // 1_000_000}.{micros % 1_000_000:06}"
+
+
+def placed_text(frames):
+    """The line of each message that these frames deliver."""
+    ends = [p for p in range(len(frames)) if delivered(frames, p) is not None]
+    listed = messages(frames)
+    text = ""
+    for p, (direction, message), (number, role) in zip(ends, listed, parts_of(listed)):
+        first, last = frames[first_position(frames, p)], frames[p]
+        text += f"{number} {role} {direction} lines {first.line} to {last.line}"
+        text += f" at {stamp(first.micros)} to {stamp(last.micros)} {digits(message)}\n"
+    return text
+
+
+def listed_again(placed):
+    """The list of a log, told from the lines of its messages alone."""
+    items = {}
+    for line in placed.splitlines():
+        number, role, direction, *_, spelled = line.split(" ")
+        if role == "request":
+            items[int(number)] = Exchange(bytes.fromhex(spelled), None)
+        elif role == "answer":
+            items[int(number)] = items[int(number)]._replace(answer=bytes.fromhex(spelled))
+        elif role == "stray":
+            items[int(number)] = Stray(direction, bytes.fromhex(spelled))
+    return list_text([items[number] for number in range(1, len(items) + 1)])
+
+
 # --- The outcome --------------------------------------------------------------------------------------------------------
 
 Outcome = namedtuple("Outcome", "status fault written")
@@ -539,6 +595,13 @@ def explained(log, limit=GIBIBYTE):
     if refused:
         return Outcome(REFUSED, refused.fault, frames_text(trace(refused.lines)).encode())
     return Outcome(DONE, None, explanation(cut(log)).encode())
+
+
+def placed(log, limit=GIBIBYTE):
+    """The messages of a log with their places; where it is refused, those of its frames before the fault."""
+    refused = refusal(log, limit, is_long_refused=False)
+    text = placed_text(trace(refused.lines if refused else cut(log)))
+    return Outcome(REFUSED if refused else DONE, refused.fault if refused else None, text.encode())
 
 
 def compared(left, right, limit=GIBIBYTE):

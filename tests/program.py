@@ -37,7 +37,26 @@ SIDES = {"extended-identifiers.log": {oracle.TESTER: "18DA10F1", oracle.UNIT: "1
 PROMPT = [
     ("normalise", FIRST_LOG + b"\n(1700000000.100000) can0 7E8#0462F19041\n", FIRST_CANONICAL + b"(0000000000.001000) can0 7E8#0462F19041CCCCCC\n"),
     ("explain", b"(1.000000) can0 7E8#2141\n", b"line 1: unit frame dropped: consecutive frame unexpected\n"),
+    ("messages", b"(1.000000) can0 7E0#023E80\n", b"1 stray tester lines 1 to 1 at 1.000000 to 1.000000 3E80\n"),
 ]
+
+# A log with a message of each role, one of them in several frames between which another side's frame stands, and its messages.
+ROLES = b"""\
+(1.000000) can0 7E0#0322F190
+(1.100000) can0 7E8#037F2278
+(1.200000) can0 7E0#023E80
+(1.300000) can0 7E8#100862F190414243
+(1.350000) can0 7E0#300000
+(1.400000) can0 7E8#214445
+(0000000001.500000) can0 7E8#0150
+"""
+PLACES = b"""\
+1 request tester lines 1 to 1 at 1.000000 to 1.000000 22F190
+1 pending unit lines 2 to 2 at 1.100000 to 1.100000 7F2278
+2 stray tester lines 3 to 3 at 1.200000 to 1.200000 3E80
+1 answer unit lines 4 to 6 at 1.300000 to 1.400000 62F1904142434445
+3 stray unit lines 7 to 7 at 1.500000 to 1.500000 50
+"""
 
 # Words with which the program tells something on standard error, and its exit status.
 TOLD = [
@@ -201,6 +220,14 @@ def take_20_bytes():
     resource.setrlimit(resource.RLIMIT_FSIZE, (20, 20))
 
 
+def places(cases):
+    """Each message with its place, after a refused line and an announcement that is too long as well."""
+    cases.case("a message of each role", cases.run(["messages"], ROLES), DONE, PLACES)
+    cases.case("the same behind a long announcement", cases.run(["messages"], ROLES + OVERSIZE), DONE, PLACES)
+    cases.case("the same before a refused line", cases.run(["messages"], ROLES + b"x\n"), REFUSAL, PLACES, place(8, 1))
+    cases.case("the same where a frame began is longer than the limit", cases.run(["messages", "--limit", "40"], ROLES), REFUSAL, PLACES[:61], LONG_LOG)
+
+
 def broken_pipe(cases):
     """The reader of the output goes away after the first bytes of many."""
     log, canonical = long_log(1_000_000)
@@ -293,7 +320,7 @@ def each_fails(cases, refuser, name, words, kind, told, error=errno.EIO):
 def memory(cases):
     """A log of 100 MB through a pipe takes no more memory than a short one."""
     log, _ = long_log(1_000_000)
-    for job in ("normalise", "explain"):
+    for job in ("normalise", "explain", "messages"):
         program = start(cases.program, [job], stdout=subprocess.DEVNULL, stderr=None)
         give(program, log, 100)
         peak = peak_kilobytes(program)
@@ -306,7 +333,7 @@ def main():
     if len(sys.argv) != 2:
         sys.exit(__doc__)
     cases = Cases(os.path.abspath(sys.argv[1]))
-    for test in [logs, default_limit, the_longest_message, examples, devices, prompt, device_calls, memory]:
+    for test in [logs, default_limit, the_longest_message, examples, places, devices, prompt, device_calls, memory]:
         test(cases)
     cases.end()
 

@@ -46,7 +46,7 @@ def missing_in(text, words):
 
 def names_are_complete(cases):
     commands = named_in(help_of(cases), "Commands")
-    cases.report("the help names four commands", [] if len(commands) == 4 else [str(commands)])
+    cases.report("the help names five commands", [] if len(commands) == 5 else [str(commands)])
     texts = {"the manual page": MANUAL.read_text().replace("\\-", "-")}
     for completion in COMPLETIONS:
         # A long option of fish is written without its dashes.
@@ -73,7 +73,7 @@ def bash_completes(cases):
     """What bash offers, by the function of its completion."""
     script = next(path for path in COMPLETIONS if path.suffix == ".bash")
     for words, want in [
-        (["udsnorm", ""], ["normalise", "list", "explain", "compare", "-h", "--help", "-V", "--version"]),
+        (["udsnorm", ""], ["normalise", "list", "explain", "messages", "compare", "-h", "--help", "-V", "--version"]),
         (["udsnorm", "co"], ["compare"]),
         (["udsnorm", "list", "--"], ["--tester", "--unit", "--limit", "--help", "--no-numbers"]),
         (["udsnorm", "explain", "--"], ["--tester", "--unit", "--limit", "--help"]),

@@ -3,7 +3,7 @@
 _udsnorm()
 {
     local word=${COMP_WORDS[COMP_CWORD]} before=${COMP_WORDS[COMP_CWORD-1]}
-    local commands="normalise list explain compare" options="--tester --unit --limit --help"
+    local commands="normalise list explain messages compare" options="--tester --unit --limit --help"
 
     COMPREPLY=()
     case $before in

@@ -44,5 +44,7 @@ pub mod CanonicalMachines
 pub mod CanonicalScripts
 pub mod ListScripts
 pub mod ExplainScripts
+pub mod MessagePlaces
+pub mod PlacingScripts
 pub mod MeaningScripts
 pub mod InMemories

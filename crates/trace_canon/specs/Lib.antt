@@ -22,6 +22,8 @@ pub mod Told
 pub mod CanonicalScript
 pub mod ListScript
 pub mod ExplainScript
+pub mod MessageLines
+pub mod Begun
 pub mod MeaningScript
 pub mod Laws
 pub mod Reading

@@ -137,11 +137,26 @@ impl<M: Machine, W: Target> EventTaker for Telling<M, W> {
     }
 
     #[inline(always)]
-    fn take(&mut self, device: &mut W, line: u64, dir: Dir, event: Event<'_>) -> Result<(), Fault> {
+    fn take(
+        &mut self,
+        device: &mut W,
+        line: u64,
+        micros: u64,
+        dir: Dir,
+        event: Event<'_>,
+    ) -> Result<(), Fault> {
         self.pending.take(dir, event.verdict);
         match refusal(self.machine.is_strict(), event.verdict) {
             Some(announced) => Err(Fault::Oversize { line, announced }),
-            None => match tell(&mut self.machine, device, &mut self.page, line, dir, event) {
+            None => match tell(
+                &mut self.machine,
+                device,
+                &mut self.page,
+                line,
+                micros,
+                dir,
+                event,
+            ) {
                 Ok(()) => Ok(()),
                 Err(_refused) => Err(Fault::Memory),
             },
@@ -189,10 +204,11 @@ fn tell<M: Machine, W: Target>(
     target: &mut W,
     page: &mut Page,
     line: u64,
+    micros: u64,
     dir: Dir,
     event: Event<'_>,
 ) -> Result<(), AllocError>
-    ensures ok { OnOk result ((start : M) (T : List Entry) (e : Entry) → e.line ≡ line → e.dir ≡ dir → length T < 2 ^ 62
+    ensures ok { OnOk result ((start : M) (T : List Entry) (e : Entry) → e.line ≡ line → e.micros ≡ micros → e.dir ≡ dir → length T < 2 ^ 62
         → seen_event event.entry ≡ verdict MESSAGE_LIMIT T e → M.stands start T machine.old
         → M.stands start (T ++ e ∷ []) machine.new
         × Speaks W.Target page.old.failed page.old.block target.old ((M.script start).word T e) page.new.failed page.new.block target.new) }
@@ -202,7 +218,7 @@ fn tell<M: Machine, W: Target>(
         → M.stands start T machine.old → M.needs start T e) }
 {
     let mut out = Drain { target, page };
-    match machine.event(line, dir, event, &mut out) {
+    match machine.event(line, micros, dir, event, &mut out) {
         Ok(()) => Ok(()),
         Err(refused) => Err(refused),
     }

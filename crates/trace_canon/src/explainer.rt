@@ -97,6 +97,7 @@ impl Machine for Explainer {
     fn event<S: TextSink>(
         &mut self,
         line: u64,
+        _micros: u64,
         dir: Dir,
         event: Event<'_>,
         out: &mut S,

@@ -89,6 +89,7 @@ impl Machine for Holder {
     fn event<S: TextSink>(
         &mut self,
         _line: u64,
+        _micros: u64,
         dir: Dir,
         event: Event<'_>,
         _out: &mut S,

@@ -34,9 +34,11 @@
 //! ends, and makes each fault of theirs one of [`Fault`].
 //!
 //! Each command is a machine: [`normalise`] (`normaliser`, and `canonical_sink` for its lines), [`list`] (`lister`,
-//! `item_lines`), [`explain`] (`explainer`) and [`meaning_of`] (`holder`), on which [`compare`] stands.
+//! `item_lines`), [`explain`] (`explainer`), [`messages`] (`placer`, and `begun` for where a message began) and
+//! [`meaning_of`] (`holder`), on which [`compare`] stands.
 #![tactic(auto)]
 
+mod begun;
 mod block;
 mod canonical_sink;
 mod comparing;
@@ -60,6 +62,7 @@ mod page;
 mod parts;
 mod pending;
 mod place;
+mod placer;
 mod receiver;
 mod say;
 mod summary;
@@ -76,5 +79,6 @@ pub use item_lines::Numbering;
 pub use lister::list;
 pub use machine::{Machine, Stop};
 pub use normaliser::normalise;
+pub use placer::messages;
 pub use summary::Summary;
 pub use text_sink::TextSink;

@@ -100,6 +100,7 @@ impl Machine for Lister {
     fn event<S: TextSink>(
         &mut self,
         _line: u64,
+        _micros: u64,
         dir: Dir,
         event: Event<'_>,
         _out: &mut S,

@@ -49,11 +49,12 @@ pub trait Machine {
     fn event<S: TextSink>(
         &mut self,
         line: u64,
+        micros: u64,
         dir: Dir,
         event: Event<'_>,
         out: &mut S,
     ) -> Result<(), AllocError>
-        ensures ok { OnOk result ((start : Self) (T : List Entry) (e : Entry) → e.line ≡ line → e.dir ≡ dir → length T < 2 ^ 62
+        ensures ok { OnOk result ((start : Self) (T : List Entry) (e : Entry) → e.line ≡ line → e.micros ≡ micros → e.dir ≡ dir → length T < 2 ^ 62
             → seen_event event.entry ≡ verdict MESSAGE_LIMIT T e → stands start T self.old
             → stands start (T ++ e ∷ []) self.new × S.says out.old ((script start).word T e) out.new) }
         ensures err { OnErr result ((start : Self) (T : List Entry) → stands start T self.old → S.says out.old [] out.new) }

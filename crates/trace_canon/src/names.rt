@@ -1,11 +1,13 @@
 //! Names that lines of text have for what is in them.
 ghost use Rattle.std.specs.Prelude.{◌≡◌};
 ghost use Rattle.trace_canon.specs.Words.{direction_text};
+ghost use Rattle.trace_canon.specs.MessageLines.{role_text};
 ghost use Rattle.trace_canon.specs.ExplainText.{cause_text, layout_fault_text};
 
 use direction::Dir;
 use isotp_pdu::PduFault;
 use isotp_receive::Cause;
+use uds_exchange::Step;
 
 /// The name of a direction.
 pub(crate) fn direction_name(dir: Dir) -> &'static str
@@ -14,6 +16,18 @@ pub(crate) fn direction_name(dir: Dir) -> &'static str
     match dir {
         Dir::Tester => "tester",
         Dir::Unit => "unit",
+    }
+}
+
+/// What a message is to its item.
+pub(crate) fn role_name(step: Step) -> &'static str
+    ensures { result.now ≡ role_text step }
+{
+    match step {
+        Step::Request(_) => "request",
+        Step::Answer => "answer",
+        Step::Removed => "pending",
+        Step::Hold | Step::Pass => "stray",
     }
 }
 

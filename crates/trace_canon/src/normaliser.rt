@@ -116,6 +116,7 @@ impl Machine for Canonical {
     fn event<S: TextSink>(
         &mut self,
         _line: u64,
+        _micros: u64,
         dir: Dir,
         event: Event<'_>,
         out: &mut S,

@@ -1,6 +1,6 @@
 //! The parts of a line of text.
-ghost use Rattle.std.specs.Prelude.{◌≡◌, ◌^◌, ◌<◌, ◌≤◌, ◌++◌, codes};
-ghost use Rattle.can_log.specs.Digits.{digit, hexadecimal};
+ghost use Rattle.std.specs.Prelude.{◌≡◌, ◌^◌, ◌<◌, ◌≤◌, ◌++◌, ◌%◌, codes};
+ghost use Rattle.can_log.specs.Digits.{decimal, digit, hexadecimal};
 
 /// The hexadecimal digits.
 const DIGITS: [u8; 16] = *b"0123456789ABCDEF";
@@ -14,6 +14,8 @@ pub(crate) enum Part<'a> {
     Number(u64),
     /// A number below 16, as one hexadecimal digit.
     Digit(u8),
+    /// The last six decimal digits of the number.
+    Decimals(u64),
     /// Two hexadecimal digits for each byte.
     Bytes(&'a [u8]),
     /// The name of the service.
@@ -46,6 +48,33 @@ pub(crate) fn last_digit(number: u8) -> [u8; 1]
     ensures { result ≡ hexadecimal 1 number }
 {
     [hexadecimal_digit(number % 16)]
+}
+
+/// The last six decimal digits of a number.
+#[tactic(auto, unfolding(can_log::specs::Digits::digits))]
+pub(crate) fn six_decimals(number: u64) -> [u8; 6]
+    ensures { result ≡ decimal 6 number }
+{
+    let tens = number / 10;
+    let hundreds = tens / 10;
+    let thousands = hundreds / 10;
+    let ten_thousands = thousands / 10;
+    let hundred_thousands = ten_thousands / 10;
+    [
+        decimal_digit(hundred_thousands),
+        decimal_digit(ten_thousands),
+        decimal_digit(thousands),
+        decimal_digit(hundreds),
+        decimal_digit(tens),
+        decimal_digit(number),
+    ]
+}
+
+/// The last decimal digit of a number.
+fn decimal_digit(number: u64) -> u8
+    ensures { result ≡ digit (number % 10) }
+{
+    DIGITS[(number % 10) as usize]
 }
 
 /// The two digits of a byte.

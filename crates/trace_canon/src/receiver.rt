@@ -49,20 +49,21 @@ pub(crate) trait EventTaker {
             → took start T (self.old, device.old) → sure start T (self.new, device.new) }
         ensures kept { (start : Self × Self.Device) (first : List Entry) → sure start first (self.old, device.old) → sure start first (self.new, device.new) };
 
-    /// Takes what the next frame of the trace did: one of this line and direction.
+    /// Takes what the next frame of the trace did: one of this line, time and direction.
     fn take(
         &mut self,
         device: &mut Self::Device,
         line: u64,
+        micros: u64,
         dir: Dir,
         event: Event<'_>,
     ) -> Result<(), Fault>
         ensures fault { IfErr result IsOfTaker }
-        ensures ok { OnOk result ((start : Self × Self.Device) (T : List Entry) (e : Entry) → e.line ≡ line → e.dir ≡ dir → length T < 2 ^ 62
+        ensures ok { OnOk result ((start : Self × Self.Device) (T : List Entry) (e : Entry) → e.line ≡ line → e.micros ≡ micros → e.dir ≡ dir → length T < 2 ^ 62
             → seen_event event.entry ≡ verdict MESSAGE_LIMIT T e → took start T (self.old, device.old) → took start (T ++ e ∷ []) (self.new, device.new)) }
-        ensures err { IfErr result (λ fault. (start : Self × Self.Device) (T : List Entry) (e : Entry) → e.line ≡ line → e.dir ≡ dir → length T < 2 ^ 62
+        ensures err { IfErr result (λ fault. (start : Self × Self.Device) (T : List Entry) (e : Entry) → e.line ≡ line → e.micros ≡ micros → e.dir ≡ dir → length T < 2 ^ 62
             → seen_event event.entry ≡ verdict MESSAGE_LIMIT T e → took start T (self.old, device.old) → stopped start T e fault (self.new, device.new)) }
-        ensures kept { (start : Self × Self.Device) (T first : List Entry) (e : Entry) → e.line ≡ line → e.dir ≡ dir → length T < 2 ^ 62
+        ensures kept { (start : Self × Self.Device) (T first : List Entry) (e : Entry) → e.line ≡ line → e.micros ≡ micros → e.dir ≡ dir → length T < 2 ^ 62
             → seen_event event.entry ≡ verdict MESSAGE_LIMIT T e → took start T (self.old, device.old)
             → sure start first (self.old, device.old) → sure start first (self.new, device.new) };
 
@@ -127,7 +128,7 @@ fn receive<E: EventTaker>(
     match pair.accept(line, micros, dir, frame) {
         Ok(event) => {
             counts.count(event);
-            taker.take(device, line, dir, event)
+            taker.take(device, line, micros, dir, event)
         }
         Err(_refused) => Err(taker.refused(device)),
     }

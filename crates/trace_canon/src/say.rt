@@ -3,7 +3,9 @@ ghost use Rattle.std.specs.Prelude.{◌++◌};
 ghost use Rattle.trace_canon.specs.Parts.{part_text, parts_text};
 ghost use Rattle.trace_canon.specs.Words.{bytes_text};
 
-use crate::parts::{Part, hexadecimal_digits, last_digit, numbered_code, numbered_service};
+use crate::parts::{
+    Part, hexadecimal_digits, last_digit, numbered_code, numbered_service, six_decimals,
+};
 use crate::text_sink::TextSink;
 use can_log::digits_of_bytes;
 use itoa::Buffer;
@@ -26,6 +28,7 @@ fn say_part<S: TextSink>(out: &mut S, part: Part<'_>)
         Part::Text(text) => out.put(text.as_bytes()),
         Part::Number(number) => out.put(Buffer::new().format(number).as_bytes()),
         Part::Digit(number) => out.put(&last_digit(number)),
+        Part::Decimals(number) => out.put(&six_decimals(number)),
         Part::Bytes(bytes) => say_bytes(out, bytes),
         Part::Service(sid) => match service_name(sid) {
             Some(name) => out.put(name.as_bytes()),

@@ -20,5 +20,6 @@ pub mod Early
 pub mod MustWait
 pub mod Putting
 pub mod NextStep
+pub mod ItemNumbers
 pub mod OpenRequestOfMore
 pub mod Promises

@@ -25,7 +25,7 @@ sid-of-request : (w : Option (ℕ × List ℕ)) → option_map sid (option_map (
 sid-of-request None = refl
 sid-of-request (Some w) = refl
 
-stands-is : (M : List Message) → stands_after M ≡ standing (meaning M)
+pub stands-is : (M : List Message) → stands_after M ≡ standing (meaning M)
 stands-is M =
     ap (λ (o : Option ℕ). let s : OrdererValue = record { open_sid = o; holds = held M } in s)
     (ap (option_map sid) (open-request-waits (meaning M)) ∙ sid-of-request (waiting (meaning M)))

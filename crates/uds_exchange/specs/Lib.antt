@@ -9,3 +9,4 @@ pub mod Laws
 pub mod Pairing
 pub mod OneMessage
 pub mod Steps
+pub mod Numbering

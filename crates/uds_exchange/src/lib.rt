@@ -17,6 +17,7 @@ mod held;
 mod item;
 pub mod laws;
 mod meaning;
+mod numbers;
 mod orderer;
 mod pairing;
 mod sink;
@@ -24,6 +25,7 @@ mod step;
 
 pub use item::Item;
 pub use meaning::Meaning;
+pub use numbers::Numbers;
 pub use orderer::{OrderFault, Orderer};
 pub use pairing::Pairing;
 pub use sink::MessageSink;

@@ -11,21 +11,28 @@ use Rattle.clap.specs.declared.builder.value_parser.ValueParser.TheVariants.{Uns
 abbrev pub option : Text → Text → Rule
 option name default = record (new_rule name) { long = Some name; value_names = 1; defaults = default ∷ [] }
 
--- the option of the limit, a number of 64 bits
-abbrev pub limit : Rule
-limit = record (option (codes "limit") (codes "1073741824")) { parser = Some (Unsigned 0 18446744073709551615) }
+-- the limits that there are where none is given: a gibibyte, and the largest limit
+abbrev pub usual : Text
+usual = codes "1073741824"
+
+abbrev pub largest : Text
+largest = codes "1099511627776"
+
+-- the option of the limit, a number of 64 bits, with what it is where it is not given
+abbrev pub limit : Text → Rule
+limit default = record (option (codes "limit") default) { parser = Some (Unsigned 0 18446744073709551615) }
 
 -- an option without a value
 abbrev pub flag : Text → Rule
 flag name = record (new_rule name) { long = Some name; action = Some SetTrue }
 
 -- the options that every command takes
-abbrev pub options : List Rule
-options = option (codes "tester") (codes "7E0") ∷ option (codes "unit") (codes "7E8") ∷ limit ∷ []
+abbrev pub options : Text → List Rule
+options default = option (codes "tester") (codes "7E0") ∷ option (codes "unit") (codes "7E8") ∷ limit default ∷ []
 
--- a command with these files
-abbrev pub with_files : Text → List Rule → Shape
-with_files name files = record (new_shape name) { rules = options ++ files }
+-- a command with this limit and these files
+abbrev pub with_files : Text → Text → List Rule → Shape
+with_files name default files = record (new_shape name) { rules = options default ++ files }
 
 -- the files of a command: a log that may be given, or two that have to be
 abbrev pub one_log : List Rule
@@ -51,10 +58,11 @@ program = record (new_shape (codes "udsnorm")) {
 abbrev pub commands : App
 commands = record {
   top = record program { is_leaf = false };
-  subs = with_files (codes "normalise") one_log
-      ∷ with_files (codes "list") (one_log ++ flag (codes "no-numbers") ∷ [])
-      ∷ with_files (codes "explain") one_log
-      ∷ with_files (codes "compare") two_logs
+  subs = with_files (codes "normalise") usual one_log
+      ∷ with_files (codes "list") usual (one_log ++ flag (codes "no-numbers") ∷ [])
+      ∷ with_files (codes "explain") usual one_log
+      ∷ with_files (codes "messages") largest one_log
+      ∷ with_files (codes "compare") usual two_logs
       ∷ [];
 }
 

@@ -7,6 +7,8 @@ use Rattle.trace_canon.specs.Failing.{FailedIf}
 use Rattle.trace_canon.specs.Listed.{Lists}
 use Rattle.trace_canon.specs.ExplainAnswers.{AnswersExplain}
 use Rattle.trace_canon.specs.Compared.{Compares, fault_in}
+use Rattle.trace_canon.specs.MessageLines.{placing_script}
+use Rattle.trace_canon.specs.Told.{AnswersTold, answers_counts}
 use Rattle.trace_canon.specs.Refusal.{HasNoBadPlaceWithin, IsNotRefusedWithin}
 use Rattle.trace_canon.specs.declared.comparing.Comparison.{Comparison}
 use Rattle.trace_canon.specs.declared.fault.CompareFault.{CompareFault}
@@ -31,12 +33,14 @@ abbrev pub EngineAnswers : Job → ℕ → Settings → List ℕ → ℕ → Res
 EngineAnswers job.Normalise limit settings log given answer old new = Answers limit settings log given answer old new
 EngineAnswers (job.List numbering) limit settings log given answer old new = Lists numbering limit settings log answer old new
 EngineAnswers job.Explain limit settings log given answer old new = AnswersExplain limit settings log given answer old new
+EngineAnswers job.Messages limit settings log given answer old new = AnswersTold (placing_script limit) answers_counts limit settings log given answer old new
 
 -- how near to what refuses the log the engine that does this job stops reading
 abbrev pub EngineReads : Job → ℕ → Settings → List ℕ → ℕ → ℕ → ℕ → Type 0
 EngineReads job.Normalise limit settings log given failures failures_now = ReadsWhile (IsNotRefusedWithin limit settings log) given failures failures_now
 EngineReads (job.List numbering) limit settings log given failures failures_now = ReadsWhile (IsNotRefusedWithin limit settings log) given failures failures_now
 EngineReads job.Explain limit settings log given failures failures_now = ReadsWhile (HasNoBadPlaceWithin log) given failures failures_now
+EngineReads job.Messages limit settings log given failures failures_now = ReadsWhile (HasNoBadPlaceWithin log) given failures failures_now
 
 -- What a run over one log did, from its input to its output and its error output, and its exit status.
 pub record RanOne {R W E : Type 0} (source : SourceGhosts R) (output : TargetGhosts W) (errors : TargetGhosts E) (job : Job) (limit : ℕ) (settings : Settings)

@@ -48,6 +48,7 @@ abbrev pub job_named : List ℕ → List Row → Option Job
 job_named name rows =
     if bytes_eq name (codes "list") then Some (job.List (numbering_in rows))
     else if bytes_eq name (codes "explain") then Some job.Explain
+    else if bytes_eq name (codes "messages") then Some job.Messages
     else if bytes_eq name (codes "compare") then None
     else Some job.Normalise
 

@@ -2,7 +2,7 @@
 
 ghost use Rattle.std.specs.Prelude.{◌≡◌, [], ◌∷◌, ◌++◌, codes, false, IfOk};
 ghost use Rattle.clap.specs.Words.{app_of, new_rule, rule_of};
-ghost use Rattle.udsnorm.specs.Commands.{commands, flag, limit, one_log, option, program, required, two_logs, with_files};
+ghost use Rattle.udsnorm.specs.Commands.{commands, flag, limit, one_log, option, program, required, two_logs, usual, with_files};
 
 use clap::{Arg, ArgAction, Command, value_parser};
 use std::alloc::{AllocError, Global};
@@ -24,6 +24,11 @@ pub(crate) const RIGHT: &str = "B";
 
 /// The number of this version, as the file `VERSION` has it.
 const VERSION: &str = "0.1.0";
+
+/// The limits that there are where none is given: a gibibyte, and the largest limit.
+const USUAL: &str = "1073741824";
+
+const LARGEST: &str = "1099511627776";
 
 /// What follows the list of commands in the program's help.
 const OF_THE_PROGRAM: &str = "\
@@ -75,6 +80,17 @@ Exit status: 0 done, 2 wrong words, 3 the log is refused,
 
 Example: udsnorm explain recorded.log";
 
+const OF_MESSAGES: &str = "\
+A line has twelve fields: the number that `list` gives the item, what the message is to it
+(`request`, `answer`, `pending` for a reply that is left out, `stray`), who sent it, the lines
+of its first and its last frame, their time stamps, and its bytes. It is written as soon as
+the message is complete.
+
+Exit status: 0 done, 2 wrong words, 3 the log is refused,
+4 a file can't be opened, or reading or writing failed, 5 out of memory.
+
+Example: udsnorm messages recorded.log | grep '^12 '";
+
 const OF_COMPARE: &str = "\
 Prints `same`, or `different at item N`, where N is the number that `list` gives the item.
 
@@ -91,13 +107,27 @@ pub(crate) fn command<'a>(alloc: Global) -> Result<Command<'a>, AllocError>
     ensures { IfOk result (λ c. app_of c ≡ commands) }
 {
     program(alloc)?
-        .subcommand(over_one_log(alloc, "normalise", "Writes the canonical log", OF_NORMALISE)?)?
+        .subcommand(over_one_log(
+            alloc,
+            "normalise",
+            "Writes the canonical log",
+            OF_NORMALISE,
+            USUAL,
+        )?)?
         .subcommand(list(alloc)?)?
         .subcommand(over_one_log(
             alloc,
             "explain",
             "Writes which frames were dropped and which receptions ended early, and why",
             OF_EXPLAIN,
+            USUAL,
+        )?)?
+        .subcommand(over_one_log(
+            alloc,
+            "messages",
+            "Writes each message with its lines and time stamps",
+            OF_MESSAGES,
+            LARGEST,
         )?)?
         .subcommand(compare(alloc)?)
 }
@@ -122,34 +152,37 @@ fn over_one_log<'a>(
     name: &'a str,
     about: &'a str,
     after_help: &'a str,
+    most: &'a str,
 ) -> Result<Command<'a>, AllocError>
-    ensures { IfOk result (λ c. app_of c ≡ record { top = with_files name.entry.now one_log; subs = [] }) }
+    ensures { IfOk result (λ c. app_of c ≡ record { top = with_files name.entry.now most.entry.now one_log; subs = [] }) }
 {
-    with_options(alloc, name, about, after_help)?.arg(log(alloc))
+    with_options(alloc, name, about, after_help, most)?.arg(log(alloc))
 }
 
 /// The command that lists items.
 fn list<'a>(alloc: Global) -> Result<Command<'a>, AllocError>
-    ensures { IfOk result (λ c. app_of c ≡ record { top = with_files (codes "list") (one_log ++ flag (codes "no-numbers") ∷ []); subs = [] }) }
+    ensures { IfOk result (λ c. app_of c ≡ record { top = with_files (codes "list") usual (one_log ++ flag (codes "no-numbers") ∷ []); subs = [] }) }
 {
     over_one_log(
         alloc,
         "list",
         "Writes the exchanges and stray messages",
         OF_LIST,
+        USUAL,
     )?
     .arg(flag(alloc, NO_NUMBERS, "Leaves out the number of each line"))
 }
 
 /// The command over two logs.
 fn compare<'a>(alloc: Global) -> Result<Command<'a>, AllocError>
-    ensures { IfOk result (λ c. app_of c ≡ record { top = with_files (codes "compare") two_logs; subs = [] }) }
+    ensures { IfOk result (λ c. app_of c ≡ record { top = with_files (codes "compare") usual two_logs; subs = [] }) }
 {
     with_options(
         alloc,
         "compare",
         "Says whether two logs have the same exchanges and stray messages",
         OF_COMPARE,
+        USUAL,
     )?
     .arg(required_log(alloc, LEFT, "The left log"))?
     .arg(required_log(alloc, RIGHT, "The right log"))
@@ -161,8 +194,9 @@ fn with_options<'a>(
     name: &'a str,
     about: &'a str,
     after_help: &'a str,
+    most: &'a str,
 ) -> Result<Command<'a>, AllocError>
-    ensures { IfOk result (λ c. app_of c ≡ record { top = with_files name.entry.now []; subs = [] }) }
+    ensures { IfOk result (λ c. app_of c ≡ record { top = with_files name.entry.now most.entry.now []; subs = [] }) }
 {
     Command::new(alloc, name)
         .about(about)
@@ -179,7 +213,7 @@ fn with_options<'a>(
             "7E8",
             "Identifier of the control unit, 3 or 8 hexadecimal digits",
         ))?
-        .arg(limit(alloc))
+        .arg(limit(alloc, most))
 }
 
 /// The option of an identifier.
@@ -194,9 +228,9 @@ fn identifier<'a>(alloc: Global, name: &'a str, default: &'a str, help: &'a str)
         .default_value(default)
 }
 
-/// The option of the limit.
-fn limit<'a>(alloc: Global) -> Arg<'a>
-    ensures rule { rule_of result ≡ limit }
+/// The option of the limit, which is this where it is not given.
+fn limit<'a>(alloc: Global, most: &'a str) -> Arg<'a>
+    ensures rule { rule_of result ≡ limit most.entry.now }
     ensures local { result.global ≡ false }
 {
     Arg::new(alloc, LIMIT)
@@ -204,7 +238,7 @@ fn limit<'a>(alloc: Global) -> Arg<'a>
         .value_name("BYTES")
         .help("Most bytes of a log and its canonical log, up to 2^40")
         .value_parser(value_parser!(u64))
-        .default_value("1073741824")
+        .default_value(most)
 }
 
 /// An option without a value.

@@ -16,6 +16,8 @@ pub enum Job {
     List(Numbering),
     /// Writes which frames were dropped, and which receptions ended early, and why.
     Explain,
+    /// Writes each message with its place in the log.
+    Messages,
 }
 
 /// What a command line asks for.

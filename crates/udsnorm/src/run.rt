@@ -18,7 +18,8 @@ use crate::job::Job;
 use crate::tell::{is_refusal, tell_fault, tell_side};
 use std::alloc::Global;
 use trace_canon::{
-    CompareFault, Comparison, Config, Fault, Summary, compare, explain, list, normalise,
+    CompareFault, Comparison, Config, Fault, Summary, compare, explain, list, messages,
+    normalise,
 };
 use trace_io::{Source, Target, write_all};
 
@@ -75,6 +76,7 @@ fn do_job<R: Source, W: Target>(
         Job::Normalise => normalise(alloc, config, input, out),
         Job::List(numbering) => list(alloc, config, numbering, input, out),
         Job::Explain => explain(alloc, config, input, out),
+        Job::Messages => messages(alloc, config, input, out),
     }
 }
 

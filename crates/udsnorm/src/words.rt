@@ -75,6 +75,7 @@ fn job_named(name: &str, found: &ArgMatches<'_>) -> Option<Job>
     match name {
         "list" => Some(Job::List(numbering(found))),
         "explain" => Some(Job::Explain),
+        "messages" => Some(Job::Messages),
         "compare" => None,
         _ => Some(Job::Normalise),
     }

@@ -4,10 +4,10 @@ use Rattle.trace_canon.specs.declared.page.Page.{Page}
 use Rattle.trace_canon.proofs.driver.tell.Goals as goal
 
 pub returns-in-Ok-clause-ok : goal.returns-in-Ok-clause-ok
-returns-in-Ok-clause-ok g c = λ start T e line dir few seen stands.
+returns-in-Ok-clause-ok g c = λ start T e line micros dir few seen stands.
     let W = g.W.Target in
     let page = c.args.page.now in
-    let said = c.in-Ok.ensures.ok start T e line dir few seen stands in
+    let said = c.in-Ok.ensures.ok start T e line micros dir few seen stands in
     let text = ((g.M.Machine.script start).word T e) in
     let target_is = c.target-1.given.1 (sym said.1.0) in
     let page_is = c.page-1.given.1 (sym said.1.1) in (

@@ -8,4 +8,5 @@ returns c =
     let first = with_command _ _ _ _ _ c.in_ok-subcommand.ensures c.in_ok-program.ensures c.in_ok-over_one_log.ensures refl in
     let second = with_command _ _ _ _ _ c.in_ok-subcommand-2.ensures first c.in_ok-list.ensures refl in
     let third = with_command _ _ _ _ _ c.in_ok-subcommand-3.ensures second c.in_ok-over_one_log-2.ensures refl in
-    IfOk-weaker c.subcommand-4.result _ _ (λ made adds. with_command _ _ made _ _ adds third c.in_ok-compare.ensures refl) c.subcommand-4.ensures
+    let fourth = with_command _ _ _ _ _ c.in_ok-subcommand-4.ensures third c.in_ok-over_one_log-3.ensures refl in
+    IfOk-weaker c.subcommand-5.result _ _ (λ made adds. with_command _ _ made _ _ adds fourth c.in_ok-compare.ensures refl) c.subcommand-5.ensures

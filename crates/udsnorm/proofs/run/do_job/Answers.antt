@@ -8,3 +8,6 @@ returns-in-List-clause-near g c = λ log agrees. rw c.in-List.is (c.list.ensures
 
 pub returns-in-Explain-clause-near : goal.returns-in-Explain-clause-near
 returns-in-Explain-clause-near g c = λ log agrees. rw c.in-Explain.is (c.explain.ensures.near log agrees)
+
+pub returns-in-Messages-clause-near : goal.returns-in-Messages-clause-near
+returns-in-Messages-clause-near g c = λ log agrees. rw c.in-Messages.is (c.messages.ensures.near log agrees)

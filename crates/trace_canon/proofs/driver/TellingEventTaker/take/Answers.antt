@@ -9,7 +9,7 @@ use Rattle.trace_canon.proofs.Tellings.{tells_next, stops_at, stops_before, stop
 use Rattle.trace_canon.proofs.driver.TellingEventTaker.take.Goals as goal
 
 pub returns-in-Some-clause-err : goal.returns-in-Some-clause-err
-returns-in-Some-clause-err g c = λ start T e line dir few seen took fresh low.
+returns-in-Some-clause-err g c = λ start T e line micros dir few seen took fresh low.
     let so_far = took fresh low in
     let script = g.M.Machine.script start.0.machine in
     let strict = c.is_strict.ensures start.0.machine T so_far.machine_stands in
@@ -19,18 +19,18 @@ returns-in-Some-clause-err g c = λ start T e line dir few seen took fresh low.
     c.args.self.now.page.failed c.args.self.now.page.block c.args.device.now (Oversize c.args.line c.in-Some.announced) so_far (why.0, sym line, why.1)
 
 pub returns-in-Ok-clause-ok : goal.returns-in-Ok-clause-ok
-returns-in-Ok-clause-ok g c = λ start T e line dir few seen took fresh low.
+returns-in-Ok-clause-ok g c = λ start T e line micros dir few seen took fresh low.
     let so_far = took fresh low in
     let script = g.M.Machine.script start.0.machine in
     let strict = c.is_strict.ensures start.0.machine T so_far.machine_stands in
-    let said = c.in-Ok.ensures.ok start.0.machine T e line dir few seen so_far.machine_stands in
+    let said = c.in-Ok.ensures.ok start.0.machine T e line micros dir few seen so_far.machine_stands in
     tells_next (g.M.Machine.stands start.0.machine) g.W.Target script (g.M.Machine.needs start.0.machine) start.1 T e c.args.line c.args.dir (seen_event c.args.event) dir seen
     _ _ _ _ _ _ _ _ _ _ so_far (c.take.ensures (messages MESSAGE_LIMIT T) (omega (arith, messages_are_few MESSAGE_LIMIT T)) so_far.removed) said.0
     (not_stopped_for script.strict T e (seen_event c.args.event) seen
     (subst (λ b. stops_for b (seen_event c.args.event).verdict ≡ None) strict (sym c.refusal.ensures ∙ c.in-None.is))) said.1
 
 pub returns-in-Err-clause-err : goal.returns-in-Err-clause-err
-returns-in-Err-clause-err g c = λ start T e line dir few seen took fresh low.
+returns-in-Err-clause-err g c = λ start T e line micros dir few seen took fresh low.
     let so_far = took fresh low in
     let script = g.M.Machine.script start.0.machine in
     let strict = c.is_strict.ensures start.0.machine T so_far.machine_stands in
@@ -40,14 +40,14 @@ returns-in-Err-clause-err g c = λ start T e line dir few seen took fresh low.
     (c.in-Err.ensures.needs start.0.machine T e dir seen so_far.machine_stands) (c.in-Err.ensures.err start.0.machine T so_far.machine_stands)
 
 pub returns-in-Ok-clause-kept : goal.returns-in-Ok-clause-kept
-returns-in-Ok-clause-kept g c = λ start T first e line dir few seen took sure fresh low.
+returns-in-Ok-clause-kept g c = λ start T first e line micros dir few seen took sure fresh low.
     let so_far = took fresh low in
     let before = sure fresh low in
-    let said = c.in-Ok.ensures.ok start.0.machine T e line dir few seen so_far.machine_stands in
+    let said = c.in-Ok.ensures.ok start.0.machine T e line micros dir few seen so_far.machine_stands in
     record { within = before.within; mid = before.mid; said = before.said ++ (g.M.Machine.script start.0.machine).word T e; wrote = before.wrote; carried = said.1 before.mid before.said before.carried }
 
 pub returns-in-Err-clause-kept : goal.returns-in-Err-clause-kept
-returns-in-Err-clause-kept g c = λ start T first e line dir few seen took sure fresh low.
+returns-in-Err-clause-kept g c = λ start T first e line micros dir few seen took sure fresh low.
     let so_far = took fresh low in
     let before = sure fresh low in
     record { within = before.within; mid = before.mid; said = before.said ++ []; wrote = before.wrote; carried = c.in-Err.ensures.err start.0.machine T so_far.machine_stands before.mid before.said before.carried }

@@ -7,7 +7,7 @@ use Rattle.trace_canon.proofs.CanonicalMachines.{messages_next}
 use Rattle.trace_canon.proofs.holder.HolderMachine.event.Goals as goal
 
 pub returns-in-Ok-clause-ok : goal.returns-in-Ok-clause-ok
-returns-in-Ok-clause-ok g c = λ start T e line dir few seen stood.
+returns-in-Ok-clause-ok g c = λ start T e line micros dir few seen stood.
     let M = messages MESSAGE_LIMIT T in
     let next = messages_next T e c.args.dir (seen_event c.args.event) dir seen ∙ ap (λ v. M ++ told_message c.args.dir (seen_verdict v)) c.in-Message.is in
     (record { holds = c.in-Ok.ensures.ok M stood.holds ∙ ap meaning (sym next); same = stood.same }, g.met.S.TextSink.nothing c.args._out.now)
@@ -17,7 +17,7 @@ returns-in-Began g c =
     let which = c.in-Began.is in
     let quiet : told_message c.args.dir (seen_verdict c.args.event.verdict) ≡ [] = search rules in
     record {
-      ok = λ start T e line dir few seen stood.
+      ok = λ start T e line micros dir few seen stood.
           let M = messages MESSAGE_LIMIT T in
           let next = messages_next T e c.args.dir (seen_event c.args.event) dir seen ∙ ap (λ x. M ++ x) quiet ∙ append-nil M in
           (record { holds = stood.holds ∙ ap meaning (sym next); same = stood.same }, g.met.S.TextSink.nothing c.args._out.now);

@@ -6,7 +6,7 @@ use Rattle.trace_canon.proofs.CanonicalMachines.{completes_held, messages_next, 
 use Rattle.trace_canon.proofs.normaliser.CanonicalMachine.event.Goals as goal
 
 pub returns-in-Ok-clause-ok : goal.returns-in-Ok-clause-ok
-returns-in-Ok-clause-ok g c = λ start T e line dir few seen stood.
+returns-in-Ok-clause-ok g c = λ start T e line micros dir few seen stood.
     let M = messages MESSAGE_LIMIT T in
     let self = c.args.self.now in
     let next = messages_next T e c.args.dir (seen_event c.args.event) dir seen
@@ -26,7 +26,7 @@ returns-in-Began g c =
     let which = c.in-Began.is in
     let quiet : told_message c.args.dir (seen_verdict c.args.event.verdict) ≡ [] = search rules in
     record {
-      ok = λ start T e line dir few seen stood.
+      ok = λ start T e line micros dir few seen stood.
           let self = c.args.self.now in
           says_nothing_more g.S.TextSink.says g.met.S.TextSink.nothing start.config self.config T e self.orderer self.place c.args.out.now
           (messages_next T e c.args.dir (seen_event c.args.event) dir seen ∙ ap (λ x. messages MESSAGE_LIMIT T ++ x) quiet) stood;

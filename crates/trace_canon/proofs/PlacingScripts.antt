@@ -1,0 +1,132 @@
+-- What a machine that places messages keeps and says of one more frame; and what is never answered.
+use Rattle.std.proofs.Common.{◌≡◌, ◌≢◌, ℕ, ◌<◌, ◌^◌, List, [], ◌∷◌, ◌++◌, length, arith, refl, ap, sym, subst, ◌∙◌, Result, Ok, Err, append-nil, append_assoc, codes, ◌/◌}
+use Rattle.std.specs.Fmt.{decimal}
+use Rattle.can_log.specs.Digits as digits
+use Rattle.std.specs.Result.{IfErr}
+use Rattle.can_log.specs.Frame.{FrameValue}
+use Rattle.direction.specs.Dir.{Message}
+use Rattle.direction.specs.declared.Dir.{Dir}
+use Rattle.direction.specs.declared.Dir.TheVariants.{Tester, Unit}
+use Rattle.isotp_receive.specs.declared.TheConstants.{MESSAGE_LIMIT}
+use Rattle.isotp_receive.specs.Trace.{Entry}
+use Rattle.isotp_receive.specs.Verdict.{VerdictValue, EventValue, message, messages, verdict}
+use Rattle.uds_exchange.specs.Numbering.{step_after, number_after}
+use Rattle.uds_exchange.specs.declared.step.Step.{Step}
+use Rattle.trace_canon.specs.Begun.{begun_after, began_at, IsBegunAt}
+use Rattle.trace_canon.specs.MessageLines.{place_of, stamp_text, extent_text, role_text, first_frame, numbered_line, message_line, delivered_line, placing_script}
+use Rattle.trace_canon.specs.Settings.{Settings}
+use Rattle.trace_canon.specs.Words.{bytes_text, direction_text}
+use Rattle.trace_canon.specs.Told.{AnswersTold, answers_counts}
+use Rattle.trace_canon.specs.declared.begun.Begun.{Begun}
+use Rattle.trace_canon.specs.declared.begun.FramePlace.{FramePlace}
+use Rattle.trace_canon.specs.declared.fault.Fault.{Fault}
+use Rattle.trace_canon.specs.declared.fault.Fault.TheVariants.{BadLine, Oversize, LogLimit, OutputLimit, Read, Write, Memory}
+use Rattle.trace_canon.specs.declared.summary.Summary.{Summary}
+use Rattle.trace_canon.proofs.MessagePlaces.{own_begun, other_begun, first_of}
+
+abbrev pub here_at : ℕ → ℕ → FramePlace
+here_at line micros = record { line = line; micros = micros }
+
+abbrev entry_at : ℕ → ℕ → Dir → FrameValue → Entry
+entry_at line micros d frame = record { line = line; micros = micros; dir = d; frame = frame }
+
+begun_by : (d : Dir) (T : List Entry) (line micros : ℕ) (frame : FrameValue) (begun : Begun) → IsBegunAt Tester T begun.tester → IsBegunAt Unit T begun.unit
+    → IsBegunAt Tester (T ++ entry_at line micros d frame ∷ []) (begun_after Tester d (verdict MESSAGE_LIMIT T (entry_at line micros d frame)) (here_at line micros) begun.tester)
+    × IsBegunAt Unit (T ++ entry_at line micros d frame ∷ []) (begun_after Unit d (verdict MESSAGE_LIMIT T (entry_at line micros d frame)) (here_at line micros) begun.unit)
+begun_by Tester T line micros frame begun tester unit =
+    (own_begun Tester T line micros frame begun.tester tester, other_begun Tester T line micros frame begun.unit unit)
+begun_by Unit T line micros frame begun tester unit =
+    (other_begun Unit T line micros frame begun.tester tester, own_begun Unit T line micros frame begun.unit unit)
+
+first_by : (d : Dir) (T : List Entry) (line micros : ℕ) (frame : FrameValue) (begun : Begun) (first : FramePlace) (whole : List ℕ)
+    → IsBegunAt Tester T begun.tester → IsBegunAt Unit T begun.unit → (verdict MESSAGE_LIMIT T (entry_at line micros d frame)).verdict ≡ message whole
+    → (d ≡ Tester → first ≡ began_at d (verdict MESSAGE_LIMIT T (entry_at line micros d frame)) (here_at line micros) begun.tester)
+    → (d ≡ Unit → first ≡ began_at d (verdict MESSAGE_LIMIT T (entry_at line micros d frame)) (here_at line micros) begun.unit)
+    → first ≡ place_of (first_frame T (entry_at line micros d frame))
+first_by Tester T line micros frame begun first whole tester unit completes of_tester of_unit =
+    of_tester refl ∙ first_of Tester T line micros frame begun.tester whole tester completes
+first_by Unit T line micros frame begun first whole tester unit completes of_tester of_unit =
+    of_unit refl ∙ first_of Unit T line micros frame begun.unit whole unit completes
+
+module _ (T : List Entry) (e : Entry) (line micros : ℕ) (d : Dir) (event : EventValue) (line_is : e.line ≡ line) (micros_is : e.micros ≡ micros) (dir_is : e.dir ≡ d)
+    (is : event ≡ verdict MESSAGE_LIMIT T e) (begun : Begun) (tester : IsBegunAt Tester T begun.tester) (unit : IsBegunAt Unit T begun.unit) where
+  -- what is kept is right with one more frame
+  pub begun_next : (now : Begun) → now.tester ≡ begun_after Tester d event (here_at line micros) begun.tester
+      → now.unit ≡ begun_after Unit d event (here_at line micros) begun.unit → IsBegunAt Tester (T ++ e ∷ []) now.tester × IsBegunAt Unit (T ++ e ∷ []) now.unit
+  begun_next now tester_is unit_is =
+      let both = begun_by e.dir T e.line e.micros e.frame begun tester unit in (
+        subst (λ b. IsBegunAt Tester (T ++ e ∷ []) b)
+            (sym (tester_is ∙ (λ i. begun_after Tester (sym dir_is i) (is i) (here_at (sym line_is i) (sym micros_is i)) begun.tester))) both.0,
+        subst (λ b. IsBegunAt Unit (T ++ e ∷ []) b)
+            (sym (unit_is ∙ (λ i. begun_after Unit (sym dir_is i) (is i) (here_at (sym line_is i) (sym micros_is i)) begun.unit))) both.1,
+      )
+
+  -- so what is said is the line of the message that it completes
+  pub line_said : (whole : List ℕ) (number : ℕ) (step : Step) (first : FramePlace) → event.verdict ≡ message whole
+      → number ≡ number_after (messages MESSAGE_LIMIT T) (d, whole) → step ≡ step_after (messages MESSAGE_LIMIT T) (d, whole)
+      → (d ≡ Tester → first ≡ began_at d event (here_at line micros) begun.tester) → (d ≡ Unit → first ≡ began_at d event (here_at line micros) begun.unit)
+      → numbered_line number step (d, whole) first (here_at line micros) ≡ delivered_line MESSAGE_LIMIT T e (verdict MESSAGE_LIMIT T e).verdict
+  line_said whole number step first completes number_is step_is of_tester of_unit =
+      let told : (verdict MESSAGE_LIMIT T e).verdict ≡ message whole = sym (ap (λ (x : EventValue). x.verdict) is) ∙ completes in
+      let first_is : first ≡ place_of (first_frame T e) =
+      first_by e.dir T e.line e.micros e.frame begun first whole tester unit told
+      (λ side. of_tester (sym dir_is ∙ side) ∙ (λ i. began_at (sym dir_is i) (is i) (here_at (sym line_is i) (sym micros_is i)) begun.tester))
+      (λ side. of_unit (sym dir_is ∙ side) ∙ (λ i. began_at (sym dir_is i) (is i) (here_at (sym line_is i) (sym micros_is i)) begun.unit)) in
+      let words : numbered_line number step (d, whole) first (here_at line micros)
+      ≡ numbered_line (number_after (messages MESSAGE_LIMIT T) (d, whole)) (step_after (messages MESSAGE_LIMIT T) (d, whole)) (d, whole) (place_of (first_frame T e)) (place_of e) =
+      (λ i. numbered_line (number_is i) (step_is i) (d, whole) (first_is i) (here_at (sym line_is i) (sym micros_is i))) in
+      words ∙ ap (λ x. message_line (messages MESSAGE_LIMIT T) (x, whole) (first_frame T e) e) (sym dir_is) ∙ ap (delivered_line MESSAGE_LIMIT T e) (sym told)
+
+-- pieces put together from the back, and from the front
+stamp_end : (seconds dot decimals rest : List ℕ) → seconds ++ (dot ++ (decimals ++ rest)) ≡ (seconds ++ dot ++ decimals) ++ rest
+stamp_end seconds dot decimals rest = simp append_assoc
+
+extent_end : (a b c d e f g h rest : List ℕ) → a ++ (b ++ (c ++ (d ++ (e ++ (f ++ (g ++ (h ++ rest))))))) ≡ (a ++ b ++ c ++ d ++ e ++ f ++ g ++ h) ++ rest
+extent_end a b c d e f g h rest = simp append_assoc
+
+line_end : (a b c d e f g h i : List ℕ) → a ++ (b ++ (c ++ (d ++ (e ++ (f ++ (g ++ (h ++ (i ++ [])))))))) ≡ a ++ b ++ c ++ d ++ e ++ f ++ g ++ h ++ i
+line_end a b c d e f g h i = simp (append_assoc, append-nil)
+
+-- the parts of the line of a message
+abbrev line_parts_of : ℕ → List ℕ → List ℕ → List ℕ → FramePlace → FramePlace → List ℕ
+line_parts_of number role side bytes start end =
+    decimal number ++ (codes " " ++ (role ++ (codes " " ++ (side ++ (codes " lines " ++ (decimal start.line ++ (codes " to " ++ (decimal end.line ++ (codes " at "
+    ++ (decimal (start.micros / 1000000) ++ (codes "." ++ (digits.decimal 6 start.micros ++ (codes " to "
+    ++ (decimal (end.micros / 1000000) ++ (codes "." ++ (digits.decimal 6 end.micros ++ (codes " " ++ (bytes ++ (codes "\n" ++ [])))))))))))))))))))
+
+pub line_parts : (number : ℕ) (step : Step) (sent : Message) (start end : FramePlace) (role side : List ℕ) → role ≡ role_text step → side ≡ direction_text sent.0
+    → line_parts_of number role side (bytes_text sent.1) start end ≡ numbered_line number step sent start end
+line_parts number step sent start end role side role_is side_is =
+    let last_words : List ℕ = codes " " ++ (bytes_text sent.1 ++ (codes "\n" ++ [])) in
+    let front : List ℕ → List ℕ = λ x. codes " lines " ++ (decimal start.line ++ (codes " to " ++ (decimal end.line ++ (codes " at " ++ x)))) in
+    let late = stamp_end (decimal (end.micros / 1000000)) (codes ".") (digits.decimal 6 end.micros) last_words in
+    let early = stamp_end (decimal (start.micros / 1000000)) (codes ".") (digits.decimal 6 start.micros) (codes " to " ++ (stamp_text end.micros ++ last_words)) in
+    let extent = extent_end (codes " lines ") (decimal start.line) (codes " to ") (decimal end.line) (codes " at ") (stamp_text start.micros) (codes " to ") (stamp_text end.micros) last_words in
+    let whole = line_end (decimal number) (codes " ") (role_text step) (codes " ") (direction_text sent.0) (extent_text start end) (codes " ") (bytes_text sent.1) (codes "\n") in
+    rw (role_is, side_is)
+    (ap (λ x. decimal number ++ (codes " " ++ (role_text step ++ (codes " " ++ (direction_text sent.0 ++ x)))))
+    (ap (λ x. front (decimal (start.micros / 1000000) ++ (codes "." ++ (digits.decimal 6 start.micros ++ (codes " to " ++ x))))) late ∙ ap front early ∙ extent) ∙ whole)
+
+-- an announced length refuses no log whose messages are placed
+pub never_oversize : (settings : Settings) (log : List ℕ) (given : ℕ) (result : Result Summary Fault) (old new : List ℕ)
+    → AnswersTold (placing_script MESSAGE_LIMIT) answers_counts MESSAGE_LIMIT settings log given result old new → IfErr result (λ why. (line announced : ℕ) → why ≢ Oversize line announced)
+never_oversize settings log given (Ok summary) old new answers = tt
+never_oversize settings log given (Err (Oversize line announced)) old new (never, wrote) = absurd never
+never_oversize settings log given (Err (BadLine line column)) old new answers = λ l a is. absurd (cc is)
+never_oversize settings log given (Err LogLimit) old new answers = λ l a is. absurd (cc is)
+never_oversize settings log given (Err OutputLimit) old new answers = λ l a is. absurd (cc is)
+never_oversize settings log given (Err Read) old new answers = λ l a is. absurd (cc is)
+never_oversize settings log given (Err Write) old new answers = λ l a is. absurd (cc is)
+never_oversize settings log given (Err Memory) old new answers = λ l a is. absurd (cc is)
+
+-- nor does a canonical log that would be too long
+pub never_output_limit : (settings : Settings) (log : List ℕ) (given : ℕ) (result : Result Summary Fault) (old new : List ℕ)
+    → AnswersTold (placing_script MESSAGE_LIMIT) answers_counts MESSAGE_LIMIT settings log given result old new → IfErr result (λ why. why ≢ OutputLimit)
+never_output_limit settings log given (Ok summary) old new answers = tt
+never_output_limit settings log given (Err OutputLimit) old new (all, meanings, is, counted, wrote) = absurd (cc counted)
+never_output_limit settings log given (Err (Oversize line announced)) old new answers = λ is. absurd (cc is)
+never_output_limit settings log given (Err (BadLine line column)) old new answers = λ is. absurd (cc is)
+never_output_limit settings log given (Err LogLimit) old new answers = λ is. absurd (cc is)
+never_output_limit settings log given (Err Read) old new answers = λ is. absurd (cc is)
+never_output_limit settings log given (Err Write) old new answers = λ is. absurd (cc is)
+never_output_limit settings log given (Err Memory) old new answers = λ is. absurd (cc is)

@@ -1,0 +1,90 @@
+//! Where the receptions that stand began.
+ghost use Rattle.std.specs.Prelude.{◌≡◌, None, true};
+ghost use Rattle.direction.specs.declared.Dir.TheVariants.{Tester, Unit};
+ghost use Rattle.isotp_receive.specs.EventSeen.{seen_event, seen_verdict};
+ghost use Rattle.isotp_receive.specs.Trace.{same_direction};
+ghost use Rattle.trace_canon.specs.Begun.{began_at, begun_after, left_by, moved_by};
+
+use direction::Dir;
+use isotp_receive::{Ended, Event, Verdict};
+
+/// Where a frame stands: its line and its time in microseconds.
+#[derive(Clone, Copy, Debug)]
+pub(crate) struct FramePlace {
+    pub line: u64,
+    pub micros: u64,
+}
+
+/// Of each direction the place of the first frame of the reception that stands, if one does.
+#[derive(Clone, Copy, Debug)]
+pub(crate) struct Begun {
+    pub tester: Option<FramePlace>,
+    pub unit: Option<FramePlace>,
+}
+
+impl Begun {
+    /// Before the first frame.
+    pub(crate) fn start() -> Begun
+        ensures tester { result.tester ≡ None }
+        ensures unit { result.unit ≡ None }
+    {
+        Begun {
+            tester: None,
+            unit: None,
+        }
+    }
+
+    /// Takes what a frame did that stands here. Answers where the message began, if it completed one.
+    pub(crate) fn take(&mut self, here: FramePlace, dir: Dir, event: Event<'_>) -> FramePlace
+        ensures tester { self.new.tester ≡ begun_after Tester dir (seen_event event.entry) here self.old.tester }
+        ensures unit { self.new.unit ≡ begun_after Unit dir (seen_event event.entry) here self.old.unit }
+        ensures tester_first { dir ≡ Tester → result ≡ began_at dir (seen_event event.entry) here self.old.tester }
+        ensures unit_first { dir ≡ Unit → result ≡ began_at dir (seen_event event.entry) here self.old.unit }
+    {
+        let tester = left(Dir::Tester, event.ended, self.tester);
+        let unit = left(Dir::Unit, event.ended, self.unit);
+        match dir {
+            Dir::Tester => {
+                self.tester = moved(event.verdict, here, tester);
+                self.unit = unit;
+                tester.unwrap_or(here)
+            }
+            Dir::Unit => {
+                self.tester = tester;
+                self.unit = moved(event.verdict, here, unit);
+                unit.unwrap_or(here)
+            }
+        }
+    }
+}
+
+/// Where the reception of a direction began, if one stands after this end.
+fn left(dir: Dir, ended: Option<Ended>, begun: Option<FramePlace>) -> Option<FramePlace>
+    ensures { result ≡ left_by dir ended begun }
+{
+    match (ended, dir) {
+        (None, _) => begun,
+        (
+            Some(
+                Ended {
+                    dir: Dir::Tester,
+                    ..
+                },
+            ),
+            Dir::Tester,
+        ) => None,
+        (Some(Ended { dir: Dir::Unit, .. }), Dir::Unit) => None,
+        (Some(_), _) => begun,
+    }
+}
+
+/// The same after what became of a frame of the direction.
+fn moved(verdict: Verdict<'_>, here: FramePlace, begun: Option<FramePlace>) -> Option<FramePlace>
+    ensures { result ≡ moved_by true (seen_verdict verdict.entry) here begun }
+{
+    match verdict {
+        Verdict::Message(_) => None,
+        Verdict::Began => Some(here),
+        Verdict::Stored | Verdict::Flow | Verdict::Dropped(_) => begun,
+    }
+}

@@ -1,0 +1,178 @@
+//! `messages`: a machine that says each message with its place in the log, as it is delivered.
+ghost use Rattle.std.specs.Prelude.{◌≡◌, ◌≢◌, ◌-◌, ℕ, List, [], length, IfErr, Err};
+ghost use Rattle.isotp_receive.specs.declared.TheConstants.{MESSAGE_LIMIT};
+ghost use Rattle.trace_canon.specs.Answers.{ReadsWhile};
+ghost use Rattle.trace_canon.specs.Begun.{PlacesMessages};
+ghost use Rattle.trace_canon.specs.Devices.{ReadFrom, WroteTo};
+ghost use Rattle.trace_canon.specs.MessageLines.{numbered_line, placing_script};
+ghost use Rattle.trace_canon.specs.Needing.{NeedsMemoryToReceive};
+ghost use Rattle.trace_canon.specs.Refusal.{HasNoBadPlaceWithin};
+ghost use Rattle.trace_canon.specs.Told.{AnswersTold, TellsEagerly, answers_counts};
+ghost use Rattle.trace_canon.specs.declared.fault.Fault.TheVariants.{Memory};
+ghost use Rattle.trace_io.specs.Stream.{Agrees};
+ghost use Rattle.trace_io.specs.Counted.{IsLowCount, AreLowCounts};
+
+use crate::begun::{Begun, FramePlace};
+use crate::config::Config;
+use crate::driver::run;
+use crate::fault::Fault;
+use crate::machine::{Machine, Stop};
+use crate::names::{direction_name, role_name};
+use crate::parts::Part;
+use crate::say::say_parts;
+use crate::summary::Summary;
+use crate::text_sink::TextSink;
+use direction::Dir;
+use isotp_receive::{Event, Pair, Verdict};
+use std::alloc::{AllocError, Global};
+use trace_io::{Source, Target};
+use uds_exchange::{Numbers, Step};
+
+/// Reads a log and writes a line for each message that is delivered, as it comes: the number that [`list`](crate::list) gives
+/// its item, what it is to that, its direction, the lines and the time stamps of its first frame and its last one, and its bytes.
+///
+/// The target is not flushed.
+pub fn messages<R: Source, W: Target>(
+    alloc: Global,
+    config: &Config,
+    reader: &mut R,
+    writer: &mut W,
+) -> Result<Summary, Fault>
+    requires reader { AreLowCounts (R.reads reader.old) (length (R.given reader.old)) (R.failures reader.old) }
+    requires writer { IsLowCount (W.failures writer.old) }
+
+    // What is answered and written, for each log with which the bytes that were read agree.
+    ensures answer { (log : List ℕ) → Agrees (R.given reader.old) (R.given reader.new) (R.is_over reader.new) log
+        → AnswersTold (placing_script MESSAGE_LIMIT) answers_counts MESSAGE_LIMIT config.now log (length (R.given reader.new) - length (R.given reader.old)) result (W.taken writer.old) (W.taken writer.new) }
+
+    // Before each read the lines of all that was read were written.
+    ensures eager { (log : List ℕ) → Agrees (R.given reader.old) (R.given reader.new) (R.is_over reader.new) log
+        → TellsEagerly (placing_script MESSAGE_LIMIT) MESSAGE_LIMIT config.now log (length (R.given reader.new) - length (R.given reader.old)) (W.taken writer.old) (W.taken writer.new) }
+
+    // Reading stops within one piece: there is no refused place among all bytes given but the last 4,096, and none among all
+    // where a read failed.
+    ensures near { (log : List ℕ) → Agrees (R.given reader.old) (R.given reader.new) (R.is_over reader.new) log
+        → ReadsWhile (HasNoBadPlaceWithin log) (length (R.given reader.new) - length (R.given reader.old)) (R.failures reader.old) (R.failures reader.new) }
+
+    // No announced length and no canonical log refuses it.
+    ensures never_oversize { IfErr result (λ fault. (line announced : ℕ) → fault ≢ Fault.Oversize line announced) }
+    ensures never_output_limit { IfErr result (λ fault. fault ≢ Fault.OutputLimit) }
+
+    // Memory is refused only for a log that needs it: for a message of several frames.
+    ensures memory { (log : List ℕ) → Agrees (R.given reader.old) (R.given reader.new) (R.is_over reader.new) log
+        → result ≡ Err Memory → NeedsMemoryToReceive MESSAGE_LIMIT config.now log }
+
+    // What it did with the devices.
+    ensures read { ReadFrom R.Source Fault.Read config.now.max_bytes result reader.old reader.new }
+    ensures wrote { WroteTo W.Target Fault.Write result writer.old writer.new }
+{
+    run(alloc, config, start(), reader, writer)
+}
+
+/// A machine before the first frame.
+fn start() -> Placer
+    ensures { PlacesMessages [] result.numbers result.begun }
+{
+    Placer {
+        numbers: Numbers::new(),
+        begun: Begun::start(),
+    }
+}
+
+/// Says the line of each message. It keeps no message.
+#[derive(Drop)]
+pub(crate) struct Placer {
+    pub numbers: Numbers,
+    pub begun: Begun,
+}
+
+impl Machine for Placer {
+    ghost use Rattle.isotp_receive.specs.declared.TheConstants.{MESSAGE_LIMIT};
+    ghost use Rattle.trace_canon.specs.Begun.{PlacesMessages};
+    ghost use Rattle.trace_canon.specs.MessageLines.{placing_script};
+    ghost use Rattle.trace_canon.specs.Told.{answers_counts};
+
+    type Answer = Summary;
+
+    ghost stands = { λ start T now. PlacesMessages T now.numbers now.begun };
+
+    ghost script = { λ start. placing_script MESSAGE_LIMIT };
+
+    ghost answers = { λ start. answers_counts };
+
+    ghost needs = { λ start T e. ⊥ };
+
+    #[inline(always)]
+    fn is_strict(&self) -> bool {
+        false
+    }
+
+    #[inline(always)]
+    fn event<S: TextSink>(
+        &mut self,
+        line: u64,
+        micros: u64,
+        dir: Dir,
+        event: Event<'_>,
+        out: &mut S,
+    ) -> Result<(), AllocError> {
+        let here = FramePlace { line, micros };
+        let first = self.begun.take(here, dir, event);
+        match event.verdict {
+            Verdict::Message(message) => {
+                let (number, step) = self.numbers.take(dir, message);
+                say_message(number, step, dir, message, first, here, out);
+                Ok(())
+            }
+            Verdict::Began | Verdict::Stored | Verdict::Flow | Verdict::Dropped(_) => Ok(()),
+        }
+    }
+
+    fn end<S: TextSink>(
+        self,
+        _pair: &Pair,
+        summary: &Summary,
+        _out: &mut S,
+    ) -> Result<Summary, Stop> {
+        Ok(*summary)
+    }
+}
+
+/// Says the line of a message that has its first frame and its last one in these places.
+fn say_message<S: TextSink>(
+    number: u64,
+    step: Step,
+    dir: Dir,
+    message: &[u8],
+    first: FramePlace,
+    last: FramePlace,
+    out: &mut S,
+)
+    ensures { S.says out.old (numbered_line number step (dir, message.now) first last) out.new }
+{
+    say_parts(
+        out,
+        &[
+            Part::Number(number),
+            Part::Text(" "),
+            Part::Text(role_name(step)),
+            Part::Text(" "),
+            Part::Text(direction_name(dir)),
+            Part::Text(" lines "),
+            Part::Number(first.line),
+            Part::Text(" to "),
+            Part::Number(last.line),
+            Part::Text(" at "),
+            Part::Number(first.micros / 1_000_000),
+            Part::Text("."),
+            Part::Decimals(first.micros),
+            Part::Text(" to "),
+            Part::Number(last.micros / 1_000_000),
+            Part::Text("."),
+            Part::Decimals(last.micros),
+            Part::Text(" "),
+            Part::Bytes(message),
+            Part::Text("\n"),
+        ],
+    );
+}
