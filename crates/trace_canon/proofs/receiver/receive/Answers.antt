@@ -1,0 +1,14 @@
+use Rattle.std.proofs.Common.{refl}
+use Rattle.std.proofs.lemmas.Result.{IfErr-weaker, on_ok_weaker}
+use Rattle.isotp_receive.specs.Trace.{Entry}
+use Rattle.trace_canon.proofs.receiver.receive.Goals as goal
+
+pub returns-in-Ok-clause-ok : goal.returns-in-Ok-clause-ok
+returns-in-Ok-clause-ok g c =
+    let e : Entry = record { line = c.args.line; micros = c.args.micros; dir = c.args.dir; frame = c.args.frame.now } in
+    on_ok_weaker c.take.result (λ taken start first T stands few tells. taken start first T e refl refl few (c.in-Ok.ensures.verdict T stands) tells) c.take.ensures.ok
+
+pub returns-in-Ok-clause-err : goal.returns-in-Ok-clause-err
+returns-in-Ok-clause-err g c =
+    let e : Entry = record { line = c.args.line; micros = c.args.micros; dir = c.args.dir; frame = c.args.frame.now } in
+    IfErr-weaker c.take.result _ _ (λ fault stopped start first T stands few tells. stopped start first T e refl refl few (c.in-Ok.ensures.verdict T stands) tells) c.take.ensures.err
