@@ -117,7 +117,6 @@ impl<M: Machine, W: Target> Telling<M, W> {
     ghost use Rattle.isotp_receive.specs.Trace.{Entry};
     ghost use Rattle.isotp_receive.specs.Verdict.{verdict};
     ghost use Rattle.trace_canon.specs.Carrying.{Tells, StopsTelling, WroteTold};
-    ghost use Rattle.trace_canon.specs.Needing.{IsKeptForMessage};
     ghost use Rattle.trace_canon.specs.Reading.{IsOfTaker};
 
     /// Writes what is due, before more is read. Answers whether it could.
@@ -140,7 +139,13 @@ impl<M: Machine, W: Target> Telling<M, W> {
 
     /// Takes what the next frame of the trace did: one of this line and direction.
     #[inline(always)]
-    pub(crate) fn take(&mut self, target: &mut W, line: u64, dir: Dir, event: Event<'_>) -> Result<(), Fault>
+    pub(crate) fn take(
+        &mut self,
+        target: &mut W,
+        line: u64,
+        dir: Dir,
+        event: Event<'_>,
+    ) -> Result<(), Fault>
         ensures fault { IfErr result IsOfTaker }
         ensures ok { OnOk result ((start : W) (first : M) (T : List Entry) (e : Entry) → e.line ≡ line → e.dir ≡ dir → length T < 2 ^ 62
             → seen_event event.entry ≡ verdict MESSAGE_LIMIT T e
@@ -164,17 +169,6 @@ impl<M: Machine, W: Target> Telling<M, W> {
                 Err(_refused) => Err(Fault::Memory),
             },
         }
-    }
-
-    /// Why no more is told, where memory was refused for the next frame of the trace. A pair asks for memory only where the
-    /// frame's bytes are kept for a message of several frames.
-    pub(crate) fn refused(&self, _target: &W) -> Fault
-        ensures fault { IsOfTaker result }
-        ensures stopped { (start : W) (first : M) (T : List Entry) (e : Entry) → IsKeptForMessage MESSAGE_LIMIT T e
-            → Tells (M.stands first) W.Target (M.script first) start T self.now.machine self.now.pending self.now.page.failed self.now.page.block _target.now
-            → StopsTelling W.Target (M.script first) (M.needs first) start T e result self.now.page.failed self.now.page.block _target.now }
-    {
-        Fault::Memory
     }
 }
 

@@ -46,7 +46,7 @@ impl Counts {
     }
 }
 
-/// Takes one more frame of a direction. Where memory is refused for it, the taker says what that is called.
+/// Takes one more frame of a direction. A pair asks for memory only where the frame's bytes are kept for a message of several frames.
 fn receive<M: Machine, W: Target>(
     pair: &mut Pair,
     counts: &mut Counts,
@@ -80,7 +80,7 @@ fn receive<M: Machine, W: Target>(
             counts.count(event);
             taker.take(target, line, dir, event)
         }
-        Err(_refused) => Err(taker.refused(target)),
+        Err(_refused) => Err(Fault::Memory),
     }
 }
 
@@ -171,12 +171,7 @@ impl<M: Machine, W: Target> LineTaker for Receiver<M, W> {
         self.taker.rest(device)
     }
 
-    fn take(
-        &mut self,
-        device: &mut W,
-        line: u64,
-        what: &Option<Stamped>,
-    ) -> Result<(), Fault> {
+    fn take(&mut self, device: &mut W, line: u64, what: &Option<Stamped>) -> Result<(), Fault> {
         self.lines = line;
         let Some(stamped) = what else {
             return Ok(());

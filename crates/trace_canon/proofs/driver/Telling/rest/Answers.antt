@@ -10,10 +10,10 @@ pub returns-clause-well : goal.returns-clause-well
 returns-clause-well g c = λ is start first T tells.
     let M = g.M.Machine in
     let self = c.args.self.now in (
-          subst (λ b. Tells (M.stands first) g.W.Target (M.script first) start T self.machine self.pending (not b) [] c.settle.new.target) is
+      subst (λ b. Tells (M.stands first) g.W.Target (M.script first) start T self.machine self.pending (not b) [] c.settle.new.target) is
           (settled_as (M.stands first) g.W.Target (M.script first) start T self.machine self.pending self.page.failed self.page.block _ _ c.settle.result
           tells c.settle.ensures.settled),
-          same_page (M.stands first) g.W.Target (M.script first) start T self.machine self.pending _ _ c.settle.new.target
+      same_page (M.stands first) g.W.Target (M.script first) start T self.machine self.pending _ _ c.settle.new.target
           (subst (λ b. Tells (M.stands first) g.W.Target (M.script first) start T self.machine self.pending (not b) [] c.settle.new.target) is
           (settled_as (M.stands first) g.W.Target (M.script first) start T self.machine self.pending self.page.failed self.page.block _ _ c.settle.result
           tells c.settle.ensures.settled)) (c.settle.ensures.well is) (c.settle.ensures.blank is),
