@@ -311,17 +311,17 @@ blank_page target start low = record {
 
 module _ {M W : Type 0} (stands : M → List Entry → M → Type 0) (scripts : M → Script) (needs : M → List Entry → Entry → Type 0) (target : Ghosts W) where
   -- events were told
-  abbrev pub ToldEvents : TookEvents (Telling M W) W
+  abbrev pub ToldEvents : TookEvents M W
   ToldEvents s T t = IsTellingStart (stands s.0.machine [] s.0.machine) s.0.pending s.0.page.failed s.0.page.block → target.failures s.1 ≤ 2 ^ 62
       → Tells (stands s.0.machine) target (scripts s.0.machine) s.1 T t.0.machine t.0.pending t.0.page.failed t.0.page.block t.1
 
   -- and written, or that failed
-  abbrev pub SettledEvents : Bool → TookEvents (Telling M W) W
+  abbrev pub SettledEvents : Bool → TookEvents M W
   SettledEvents failed s T t = IsTellingStart (stands s.0.machine [] s.0.machine) s.0.pending s.0.page.failed s.0.page.block → target.failures s.1 ≤ 2 ^ 62
       → Tells (stands s.0.machine) target (scripts s.0.machine) s.1 T t.0.machine t.0.pending failed [] t.1
 
   -- the run stopped at an event
-  abbrev pub StoppedTelling : StoppedOnEvent (Telling M W) W
+  abbrev pub StoppedTelling : StoppedOnEvent M W
   StoppedTelling s T e why t = IsTellingStart (stands s.0.machine [] s.0.machine) s.0.pending s.0.page.failed s.0.page.block → target.failures s.1 ≤ 2 ^ 62
       → StopsTelling target (scripts s.0.machine) (needs s.0.machine) s.1 T e why t.0.page.failed t.0.page.block t.1
 
@@ -346,20 +346,20 @@ module _ {M W : Type 0} (stands : M → List Entry → M → Type 0) (scripts : 
       record { stands = subst (λ m. stands m [] m) (sym same) at_start; removed = removed; well = well; blank = blank }
 
   -- no line was taken
-  pub takes_nothing : (start : Receiver (Telling M W) × W) → TookLines ToldEvents start [] start
+  pub takes_nothing : (start : Receiver M W × W) → TookLines ToldEvents start [] start
   takes_nothing start = took_nothing ToldEvents start (told_nothing (start.0.taker, start.1))
 
   -- what was told of events was written
-  abbrev pub WroteEvents : TookEvents (Telling M W) W
+  abbrev pub WroteEvents : TookEvents M W
   WroteEvents s T t = IsTellingStart (stands s.0.machine [] s.0.machine) s.0.pending s.0.page.failed s.0.page.block → target.failures s.1 ≤ 2 ^ 62
       → WroteTold target (scripts s.0.machine) s.1 T t.0.page.failed t.0.page.block t.1
 
   -- and of lines
-  abbrev pub WroteLines : Receiver (Telling M W) × W → List (Option Stamped) → Receiver (Telling M W) × W → Type 0
+  abbrev pub WroteLines : Receiver M W × W → List (Option Stamped) → Receiver M W × W → Type 0
   WroteLines s meanings t = IsStart s.0.pair s.0.lines s.0.counts → WroteEvents (s.0.taker, s.1) (trace s.0.config meanings) (t.0.taker, t.1)
 
   -- of no line nothing is told
-  pub wrote_no_line : (start : Receiver (Telling M W) × W) → WroteLines start [] start
+  pub wrote_no_line : (start : Receiver M W × W) → WroteLines start [] start
   unfolding trace_from
   wrote_no_line start none fresh low = record {
     within = λ strict. tt;
@@ -372,16 +372,16 @@ module _ {M W : Type 0} (stands : M → List Entry → M → Type 0) (scripts : 
   }
 
   -- what feeding left
-  abbrev pub Fed : Receiver (Telling M W) × W → {A : Type 0} → ℕ → List ℕ → ℕ → Result A (Fault) → Receiver (Telling M W) × W → Type 0
+  abbrev pub Fed : Receiver M W × W → {A : Type 0} → ℕ → List ℕ → ℕ → Result A (Fault) → Receiver M W × W → Type 0
   Fed start {A = A} m log given result now =
       FeedsLog (TookLines ToldEvents) (TookLines (SettledEvents false)) (TookLines (SettledEvents true)) (StoppedOnLine StoppedTelling) start {A = A} m log given result now
 
-  abbrev pub FedSome : Receiver (Telling M W) × W → {A : Type 0} → Result A (Fault) → Receiver (Telling M W) × W → Type 0
+  abbrev pub FedSome : Receiver M W × W → {A : Type 0} → Result A (Fault) → Receiver M W × W → Type 0
   FedSome start {A = A} result now =
       FeedsSome (TookLines ToldEvents) (TookLines (SettledEvents false)) (TookLines (SettledEvents true)) (StoppedOnLine StoppedTelling) start {A = A} result now
 
   -- from such a start on
-  module _ (settings : Settings) (start now : Receiver (Telling M W) × W) (begun : IsRunStart HasToldNothing settings start) (low : target.failures start.1 ≤ 2 ^ 62) where
+  module _ (settings : Settings) (start now : Receiver M W × W) (begun : IsRunStart HasToldNothing settings start) (low : target.failures start.1 ≤ 2 ^ 62) where
     pub gives : (meanings : List (Option Stamped)) → TookLines ToldEvents start meanings now
         → Tells (stands start.0.taker.machine) target (scripts start.0.taker.machine) start.1 (trace settings meanings) now.0.taker.machine now.0.taker.pending
         now.0.taker.page.failed now.0.taker.page.block now.1

@@ -22,7 +22,7 @@ use crate::feed::feed_lines;
 use crate::machine::{Machine, Stop};
 use crate::page::{Drain, Page, settle};
 use crate::pending::Pending;
-use crate::receiver::{EventTaker, Receiver};
+use crate::receiver::Receiver;
 use crate::summary::Summary;
 use crate::summing::sum_up;
 use direction::Dir;
@@ -111,46 +111,64 @@ impl<M, W> Telling<M, W> {
     }
 }
 
-impl<M: Machine, W: Target> EventTaker for Telling<M, W> {
-    ghost use Rattle.std.specs.Prelude.{◌≡◌, ◌≤◌, ◌^◌, [], true, false};
-    ghost use Rattle.trace_canon.specs.Carrying.{IsTellingStart, Tells, StopsTelling, WroteTold};
+impl<M: Machine, W: Target> Telling<M, W> {
+    ghost use Rattle.std.specs.Prelude.{◌≡◌, ◌^◌, ◌<◌, List, [], ◌∷◌, ◌++◌, length, OnOk, IfErr, true, false};
+    ghost use Rattle.isotp_receive.specs.declared.TheConstants.{MESSAGE_LIMIT};
+    ghost use Rattle.isotp_receive.specs.EventSeen.{seen_event};
+    ghost use Rattle.isotp_receive.specs.Trace.{Entry};
+    ghost use Rattle.isotp_receive.specs.Verdict.{verdict};
+    ghost use Rattle.trace_canon.specs.Carrying.{Tells, StopsTelling, WroteTold};
+    ghost use Rattle.trace_canon.specs.Reading.{IsOfTaker};
 
-    type Device = W;
-
-    ghost took = { λ s T t. IsTellingStart (M.stands s.0.machine [] s.0.machine) s.0.pending s.0.page.failed s.0.page.block → W.failures s.1 ≤ 2 ^ 62
-        → Tells (M.stands s.0.machine) W.Target (M.script s.0.machine) s.1 T t.0.machine t.0.pending t.0.page.failed t.0.page.block t.1 };
-
-    ghost sure = { λ s T t. IsTellingStart (M.stands s.0.machine [] s.0.machine) s.0.pending s.0.page.failed s.0.page.block → W.failures s.1 ≤ 2 ^ 62
-        → WroteTold W.Target (M.script s.0.machine) s.1 T t.0.page.failed t.0.page.block t.1 };
-
-    ghost rested = { λ s T t. IsTellingStart (M.stands s.0.machine [] s.0.machine) s.0.pending s.0.page.failed s.0.page.block → W.failures s.1 ≤ 2 ^ 62
-        → Tells (M.stands s.0.machine) W.Target (M.script s.0.machine) s.1 T t.0.machine t.0.pending false [] t.1 };
-
-    ghost broke = { λ s T t. IsTellingStart (M.stands s.0.machine [] s.0.machine) s.0.pending s.0.page.failed s.0.page.block → W.failures s.1 ≤ 2 ^ 62
-        → Tells (M.stands s.0.machine) W.Target (M.script s.0.machine) s.1 T t.0.machine t.0.pending true [] t.1 };
-
-    ghost stopped = { λ s T e fault t. IsTellingStart (M.stands s.0.machine [] s.0.machine) s.0.pending s.0.page.failed s.0.page.block → W.failures s.1 ≤ 2 ^ 62
-        → StopsTelling W.Target (M.script s.0.machine) (M.needs s.0.machine) s.1 T e fault t.0.page.failed t.0.page.block t.1 };
-
-    fn rest(&mut self, device: &mut W) -> bool {
-        settle(device, &mut self.page)
+    /// Writes what is due, before more is read. Answers whether it could.
+    pub(crate) fn rest(&mut self, target: &mut W) -> bool
+        ensures well { result ≡ true → (start : W) (first : M) (T : List Entry)
+            → Tells (M.stands first) W.Target (M.script first) start T self.old.machine self.old.pending self.old.page.failed self.old.page.block target.old
+            → Tells (M.stands first) W.Target (M.script first) start T self.new.machine self.new.pending false [] target.new
+            × Tells (M.stands first) W.Target (M.script first) start T self.new.machine self.new.pending self.new.page.failed self.new.page.block target.new }
+        ensures wrong { result ≡ false → (start : W) (first : M) (T : List Entry)
+            → Tells (M.stands first) W.Target (M.script first) start T self.old.machine self.old.pending self.old.page.failed self.old.page.block target.old
+            → Tells (M.stands first) W.Target (M.script first) start T self.new.machine self.new.pending true [] target.new }
+        ensures sure { result ≡ true → (start : W) (first : M) (T : List Entry)
+            → Tells (M.stands first) W.Target (M.script first) start T self.old.machine self.old.pending self.old.page.failed self.old.page.block target.old
+            → WroteTold W.Target (M.script first) start T self.new.page.failed self.new.page.block target.new }
+        ensures kept { (start : W) (first : M) (earlier : List Entry) → WroteTold W.Target (M.script first) start earlier self.old.page.failed self.old.page.block target.old
+            → WroteTold W.Target (M.script first) start earlier self.new.page.failed self.new.page.block target.new }
+    {
+        settle(target, &mut self.page)
     }
 
+    /// Takes what the next frame of the trace did: one of this line, time and direction.
     #[inline(always)]
-    fn take(
+    pub(crate) fn take(
         &mut self,
-        device: &mut W,
+        target: &mut W,
         line: u64,
         micros: u64,
         dir: Dir,
         event: Event<'_>,
-    ) -> Result<(), Fault> {
+    ) -> Result<(), Fault>
+        ensures fault { IfErr result IsOfTaker }
+        ensures ok { OnOk result ((start : W) (first : M) (T : List Entry) (e : Entry) → e.line ≡ line → e.micros ≡ micros → e.dir ≡ dir → length T < 2 ^ 62
+            → seen_event event.entry ≡ verdict MESSAGE_LIMIT T e
+            → Tells (M.stands first) W.Target (M.script first) start T self.old.machine self.old.pending self.old.page.failed self.old.page.block target.old
+            → Tells (M.stands first) W.Target (M.script first) start (T ++ e ∷ []) self.new.machine self.new.pending self.new.page.failed self.new.page.block target.new) }
+        ensures err { IfErr result (λ fault. (start : W) (first : M) (T : List Entry) (e : Entry) → e.line ≡ line → e.micros ≡ micros → e.dir ≡ dir → length T < 2 ^ 62
+            → seen_event event.entry ≡ verdict MESSAGE_LIMIT T e
+            → Tells (M.stands first) W.Target (M.script first) start T self.old.machine self.old.pending self.old.page.failed self.old.page.block target.old
+            → StopsTelling W.Target (M.script first) (M.needs first) start T e fault self.new.page.failed self.new.page.block target.new) }
+        ensures kept { (start : W) (first : M) (T earlier : List Entry) (e : Entry) → e.line ≡ line → e.micros ≡ micros → e.dir ≡ dir → length T < 2 ^ 62
+            → seen_event event.entry ≡ verdict MESSAGE_LIMIT T e
+            → Tells (M.stands first) W.Target (M.script first) start T self.old.machine self.old.pending self.old.page.failed self.old.page.block target.old
+            → WroteTold W.Target (M.script first) start earlier self.old.page.failed self.old.page.block target.old
+            → WroteTold W.Target (M.script first) start earlier self.new.page.failed self.new.page.block target.new }
+    {
         self.pending.take(dir, event.verdict);
         match refusal(self.machine.is_strict(), event.verdict) {
             Some(announced) => Err(Fault::Oversize { line, announced }),
             None => match tell(
                 &mut self.machine,
-                device,
+                target,
                 &mut self.page,
                 line,
                 micros,
@@ -161,10 +179,6 @@ impl<M: Machine, W: Target> EventTaker for Telling<M, W> {
                 Err(_refused) => Err(Fault::Memory),
             },
         }
-    }
-
-    fn refused(&self, _device: &W) -> Fault {
-        Fault::Memory
     }
 }
 
@@ -243,7 +257,7 @@ fn tell_end<M: Machine, W: Target>(
 
 /// Writes what is said at the end, and answers.
 fn finish<M: Machine, W: Target>(
-    receiver: Receiver<Telling<M, W>>,
+    receiver: Receiver<M, W>,
     target: &mut W,
 ) -> Result<M::Answer, Fault>
     ensures ends { (start : W) (first : M) (settings : Settings) (meanings : List (Option StampedValue))

@@ -19,7 +19,7 @@ use Rattle.trace_canon.proofs.driver.run.Goals.{After-start-receiver, After-fini
 use Rattle.trace_canon.proofs.driver.run.Goals as goal
 
 -- the run before its first line
-abbrev start : (g : Over) → After-start-receiver g → Receiver (Telling g.row.M.Denot g.row.W.Denot) × g.row.W.Denot
+abbrev start : (g : Over) → After-start-receiver g → Receiver g.row.M.Denot g.row.W.Denot × g.row.W.Denot
 start g c = (c.start-receiver.result, c.args.writer.now)
 
 begun : (g : Over) (c : After-start-receiver g) → IsRunStart (HasToldNothing g.M.Machine.stands g.M.Machine.script g.M.Machine.needs g.W.Target) c.args.config.now (start g c)
@@ -49,7 +49,7 @@ returns-in-Err g c =
     let W = g.W.Target in
     let settings = c.args.config.now in
     let at = (goal.at.returns-in-Err g c).After-start-receiver in
-    let now : Receiver (Telling g.row.M.Denot g.row.W.Denot) × g.row.W.Denot = (c.feed_lines.new.taker, c.feed_lines.new.device) in
+    let now : Receiver g.row.M.Denot g.row.W.Denot × g.row.W.Denot = (c.feed_lines.new.taker, c.feed_lines.new.device) in
     let none = takes_nothing M.stands M.script M.needs W (start g at) in
     let known_of =
     known M.stands M.script M.needs W settings (start g at) now (begun g at) c.requires.writer c.give_up.new.target (Unit {0}) c.in-Err.fault c.give_up.result
@@ -103,7 +103,7 @@ ends g c meanings lines =
     let W = g.W.Target in
     let settings = c.args.config.now in
     let at = (goal.at.returns-in-Ok g c).After-start-receiver in
-    let now : Receiver (Telling g.row.M.Denot g.row.W.Denot) × g.row.W.Denot = (c.feed_lines.new.taker, c.feed_lines.new.device) in
+    let now : Receiver g.row.M.Denot g.row.W.Denot × g.row.W.Denot = (c.feed_lines.new.taker, c.feed_lines.new.device) in
     subst (λ m. EndsTelling W (M.script m) (M.answers m) c.args.writer.now settings meanings c.finish.result c.finish.new.target) (same_machine g at)
     (c.finish.ensures.ends c.args.writer.now c.start-receiver.result.taker.machine settings meanings
     (has_received (ToldEvents M.stands M.script M.needs W) settings (start g at) now (begun g at) meanings lines)
@@ -115,7 +115,7 @@ within : (g : Over) (c : After-finish g) (meanings : List (Option Stamped))
 within g c meanings lines =
     let M = g.M.Machine in
     let at = (goal.at.returns-in-Ok g c).After-start-receiver in
-    let now : Receiver (Telling g.row.M.Denot g.row.W.Denot) × g.row.W.Denot = (c.feed_lines.new.taker, c.feed_lines.new.device) in
+    let now : Receiver g.row.M.Denot g.row.W.Denot × g.row.W.Denot = (c.feed_lines.new.taker, c.feed_lines.new.device) in
     subst (λ (script : Script). script.strict ≡ true → AllByRecursion AnnouncesWithin (trace c.args.config.now meanings)) (same_script g at)
     (gives M.stands M.script M.needs g.W.Target c.args.config.now (start g at) now (begun g at) c.requires.writer meanings lines).within
 
@@ -138,7 +138,7 @@ returns-in-Ok g c =
             (omega (arith, read.1, c.max_bytes.ensures.value)) read.2 read.3 (within g c read.0 read.5) (ends g c read.0 read.5);
         eager = λ log agrees.
             let lines = c.in-Ok.ensures.lines log agrees (start g at) none in
-            let now : Receiver (Telling g.row.M.Denot g.row.W.Denot) × g.row.W.Denot = (c.feed_lines.new.taker, c.feed_lines.new.device) in
+            let now : Receiver g.row.M.Denot g.row.W.Denot × g.row.W.Denot = (c.feed_lines.new.taker, c.feed_lines.new.device) in
             subst (λ (script : Script). TellsEagerly script MESSAGE_LIMIT settings log (length (g.R.Source.given c.feed_lines.new.reader) - length (g.R.Source.given c.args.reader.now))
             (W.taken c.args.writer.now) (W.taken c.finish.new.target)) (same_script g at)
             (eagerly M.stands M.script M.needs W settings (start g at) now (begun g at) c.requires.writer log (length (g.R.Source.given c.feed_lines.new.reader) - length (g.R.Source.given c.args.reader.now))
