@@ -18,8 +18,7 @@ use crate::job::Job;
 use crate::tell::{is_refusal, tell_fault, tell_side};
 use std::alloc::Global;
 use trace_canon::{
-    CompareFault, Comparison, Config, Fault, Summary, compare, explain, list, messages,
-    normalise,
+    CompareFault, Comparison, Config, Fault, Summary, compare, explain, list, messages, normalise,
 };
 use trace_io::{Source, Target, write_all};
 
