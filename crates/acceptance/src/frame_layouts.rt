@@ -143,13 +143,11 @@ fn told(alloc: Global, frame: &Frame) -> Result<String, AllocError> {
         Ok(Pdu::First { len, rx_dl, bytes }) => {
             with_bytes(alloc, &format!(in alloc; "First {len} {rx_dl}")?, bytes)
         }
-        Ok(
-            Pdu::Next {
-                sn,
-                can_dl,
-                bytes,
-            },
-        ) => with_bytes(alloc, &format!(in alloc; "Next {sn} {can_dl}")?, bytes),
+        Ok(Pdu::Next { sn, can_dl, bytes }) => with_bytes(
+            alloc,
+            &format!(in alloc; "Next {sn} {can_dl}")?,
+            bytes,
+        ),
         Ok(Pdu::Flow(status)) => format!(in alloc; "Flow {status:?}\n"),
         Err(fault) => format!(in alloc; "{fault:?}\n"),
     }
