@@ -209,7 +209,12 @@ fn a_session_in_memory_goes_through_each_call(rt: HostRuntime) -> Result<(), Fai
     let found = in_memory::comparison(alloc, &config, log, CANONICAL.as_bytes());
     assert!(rt; found == Ok(Comparison::Same));
     let cut = in_memory::canonical_log(alloc, &config, &log[..9]).err();
-    assert!(rt; cut == Some(Fault::BadLine { line: 1, column: 10 }));
+    assert!(rt;
+        cut == Some(Fault::BadLine {
+            line: 1,
+            column: 10
+        })
+    );
     Ok(())
 }
 

@@ -35,13 +35,7 @@ pub fn item_list(
     ensures { MatchResult result (λ text. IsListOf numbering MESSAGE_LIMIT config.now log.now text.items) (IsRefused MESSAGE_LIMIT config.now log.now) }
 {
     let mut writer = Writing::new(Vec::new(alloc));
-    let answer = list(
-        alloc,
-        config,
-        numbering,
-        &mut Bytes::new(log),
-        &mut writer,
-    );
+    let answer = list(alloc, config, numbering, &mut Bytes::new(log), &mut writer);
     text_of(answer, writer.into_inner())
 }
 
