@@ -238,7 +238,7 @@ def help_texts(cases):
         wrong += [f"no line {line!r}" for line in lines if line not in told]
         wrong += [] if told[0] == lines[0] else [f"begins with {told[0]!r}"]
         wrong += [] if output.endswith(b"\n") and not output.endswith(b"\n\n") else ["no line feed at the end"]
-        wrong += [] if len(told) <= 26 and max(map(len, told)) <= 100 else ["more than a screen"]
+        wrong += [] if len(told) <= 30 and max(map(len, told)) <= 100 else ["more than a screen"]
         cases.report(f"help by {words}", wrong)
     with open("/dev/full", "wb") as full:
         cases.case("help on a full disk", cases.run(["--help"], stdout=full), DEVICE, None, WRITE_FAILED)

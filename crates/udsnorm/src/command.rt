@@ -42,6 +42,7 @@ Exit status:
   3  a log is refused
   4  a file can't be opened, or reading or writing failed
   5  out of memory
+
 Example: udsnorm compare yesterday.log today.log";
 
 const OF_NORMALISE: &str = "\
@@ -236,7 +237,7 @@ fn limit<'a>(alloc: Global, most: &'a str) -> Arg<'a>
     Arg::new(alloc, LIMIT)
         .long(LIMIT)
         .value_name("BYTES")
-        .help("Most bytes of a log and its canonical log, up to 2^40")
+        .help("Most bytes of log and canonical log, up to 2^40")
         .value_parser(value_parser!(u64))
         .default_value(most)
 }
