@@ -1,5 +1,5 @@
 -- Where the receptions that stand began, after one more frame, and where a message began.
-use Rattle.std.proofs.Common.{◌≡◌, ℕ, ◌==◌, Bool, true, false, List, [], ◌∷◌, ◌++◌, Option, Some, None, Result, Ok, Err, refl, ap, sym, subst, ◌∙◌, nat_le, inl, inr, cond, option_map}
+use Rattle.std.proofs.Common.{◌≡◌, ℕ, ◌==◌, Bool, true, false, List, [], ◌∷◌, ◌++◌, Option, Some, None, Result, Ok, Err, refl, nat_le, inl, inr, option_map}
 use Rattle.std.specs.Prelude.{if◌then◌else◌}
 use Rattle.std.proofs.lemmas.Bool.{cases_Bool}
 use Rattle.can_log.specs.Frame.{FrameValue}
@@ -15,10 +15,10 @@ use Rattle.isotp_receive.specs.declared.TheConstants.{MESSAGE_LIMIT}
 use Rattle.isotp_receive.specs.Fit.{Fit, late, wrong_number, wrong_length, one_more as one_more_fits, last}
 use Rattle.isotp_receive.specs.Machine.{after, continued_by}
 use Rattle.isotp_receive.specs.StandingReception.{StandingReception, fit_of, stands}
-use Rattle.isotp_receive.specs.Trace.{Entry, FrameRole, role, own_role, other_role, same_direction}
-use Rattle.isotp_receive.specs.Verdict.{VerdictValue, EventValue, message, on_layout, on_fit, verdict}
+use Rattle.isotp_receive.specs.Trace.{Entry, role, own_role, other_role, same_direction}
+use Rattle.isotp_receive.specs.Verdict.{message, on_layout, on_fit, verdict}
 use Rattle.isotp_receive.proofs.OneMore.{one_more}
-use Rattle.trace_canon.specs.Begun.{left_by, moved_by, begun_after, began_at, IsBegunAt}
+use Rattle.trace_canon.specs.Begun.{begun_after, began_at, IsBegunAt}
 use Rattle.trace_canon.specs.MessageLines.{place_of, starts, last_start, first_frame}
 use Rattle.trace_canon.specs.declared.begun.FramePlace.{FramePlace}
 

@@ -1,5 +1,5 @@
 -- What a machine that places messages keeps and says of one more frame; and what is never answered.
-use Rattle.std.proofs.Common.{◌≡◌, ◌≢◌, ℕ, ◌<◌, ◌^◌, List, [], ◌∷◌, ◌++◌, length, arith, refl, ap, sym, subst, ◌∙◌, Result, Ok, Err, append-nil, append_assoc, codes, ◌/◌}
+use Rattle.std.proofs.Common.{◌≡◌, ◌≢◌, ℕ, List, [], ◌∷◌, ◌++◌, refl, ap, sym, subst, ◌∙◌, Result, Ok, Err, append-nil, append_assoc, codes, ◌/◌}
 use Rattle.std.specs.Fmt.{decimal}
 use Rattle.can_log.specs.Digits as digits
 use Rattle.std.specs.Result.{IfErr}
@@ -9,7 +9,7 @@ use Rattle.direction.specs.declared.Dir.{Dir}
 use Rattle.direction.specs.declared.Dir.TheVariants.{Tester, Unit}
 use Rattle.isotp_receive.specs.declared.TheConstants.{MESSAGE_LIMIT}
 use Rattle.isotp_receive.specs.Trace.{Entry}
-use Rattle.isotp_receive.specs.Verdict.{VerdictValue, EventValue, message, messages, verdict}
+use Rattle.isotp_receive.specs.Verdict.{EventValue, message, messages, verdict}
 use Rattle.uds_exchange.specs.Numbering.{step_after, number_after}
 use Rattle.uds_exchange.specs.declared.step.Step.{Step}
 use Rattle.trace_canon.specs.Begun.{begun_after, began_at, IsBegunAt}

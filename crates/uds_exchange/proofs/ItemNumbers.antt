@@ -1,16 +1,15 @@
 -- How many items there are with one more message, and so the numbers of items.
-use Rattle.std.proofs.Common.{◌≡◌, ℕ, ◌+◌, ◌<◌, ◌≤◌, ◌^◌, false, List, [], ◌∷◌, ◌++◌, length, Option, Some, None, arith, refl, sym, ◌∙◌, ap, inl, inr, length-append, option_map, zero, suc}
+use Rattle.std.proofs.Common.{◌≡◌, ℕ, ◌+◌, ◌<◌, ◌≤◌, ◌^◌, false, List, [], ◌∷◌, ◌++◌, length, Option, Some, None, arith, refl, sym, ◌∙◌, ap, inl, inr, length-append, zero, suc}
 use Rattle.std.specs.Prelude.{slice_set}
 use Rattle.std.proofs.lemmas.Bool.{cases_Bool}
 use Rattle.direction.specs.Dir.{Message}
-use Rattle.uds_message.specs.Message.{sid}
 use Rattle.uds_exchange.specs.Meaning.{ItemValue, exchange, stray, stray_of, is_tester_request, is_answer_to, is_pending_reply_to, meaning, flattened}
-use Rattle.uds_exchange.specs.Order.{open_request, held, early}
+use Rattle.uds_exchange.specs.Order.{held, early}
 use Rattle.uds_exchange.specs.Orderer.{OrdererValue, stands_after}
 use Rattle.uds_exchange.specs.Pairing.{waiting, waiting_sid, join_by, join}
 use Rattle.uds_exchange.specs.OneMessage.{step_of}
-use Rattle.uds_exchange.specs.Steps.{advance_for, advance}
-use Rattle.uds_exchange.specs.Numbering.{step_after, number_by, number_after, CountsItems, one_more, advanced, number_in}
+use Rattle.uds_exchange.specs.Steps.{advance_for}
+use Rattle.uds_exchange.specs.Numbering.{step_after, number_by, number_after, CountsItems, advanced, number_in}
 use Rattle.uds_exchange.specs.declared.numbers.Numbers.{Numbers}
 use Rattle.uds_exchange.specs.declared.step.Step.{Step}
 use Rattle.uds_exchange.specs.declared.step.Step.TheVariants as step

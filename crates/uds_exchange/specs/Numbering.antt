@@ -1,5 +1,5 @@
 -- The numbers of items: to which item of the meaning one more message belongs, by the messages before it alone.
-use Rattle.std.specs.Prelude.{◌≡◌, ℕ, ◌+◌, ◌-◌, List, length, Option, Some, None, option_map, min}
+use Rattle.std.specs.Prelude.{◌≡◌, ℕ, ◌+◌, ◌-◌, List, length, Some, None, option_map, min}
 use Rattle.direction.specs.Dir.{Message}
 use Rattle.uds_message.specs.Message.{sid}
 use Rattle.uds_exchange.specs.Meaning.{meaning}

@@ -1,5 +1,5 @@
 -- What was done where the exit status is 0.
-use Rattle.std.proofs.Common.{◌≡◌, ◌≤◌, ◌+◌, ℕ, inl, inr, List, ◌++◌, Option, Some, None, Result, Ok, Err, arith, refl, ap, sym, subst, ◌∙◌}
+use Rattle.std.proofs.Common.{◌≡◌, ◌≤◌, ◌+◌, ℕ, inl, inr, List, ◌++◌, Some, None, Result, Ok, Err, arith, ap, sym, subst, ◌∙◌}
 use Rattle.isotp_receive.specs.declared.TheConstants.{MESSAGE_LIMIT}
 use Rattle.clap.specs.Walk.{Text}
 use Rattle.trace_canon.specs.Compared.{Compares, fault_in}

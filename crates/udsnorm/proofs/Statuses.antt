@@ -1,5 +1,5 @@
 -- What a run comes to, by what an engine answered and which devices failed.
-use Rattle.std.proofs.Common.{◌≡◌, ◌≢◌, ◌<◌, ◌≤◌, ◌⊎◌, ◌+◌, ◌-◌, ℕ, inl, inr, Bool, true, false, true≢false, List, [], ◌++◌, length, length-append, append-nil, Option, Some, None, Result, Ok, Err, arith, refl, ap, sym, subst, ◌∙◌}
+use Rattle.std.proofs.Common.{◌≡◌, ◌≢◌, ◌≤◌, ◌⊎◌, ◌+◌, ◌-◌, ℕ, inl, inr, Bool, true, false, true≢false, List, [], ◌++◌, length, length-append, append-nil, Option, Some, None, Result, Ok, Err, arith, refl, ap, sym, subst, ◌∙◌}
 use Rattle.std.specs.Io.KnownBytes.{Appends, Keeps}
 use Rattle.trace_canon.specs.Failing.{FailedIf}
 use Rattle.trace_canon.specs.declared.comparing.Comparison.{Comparison}

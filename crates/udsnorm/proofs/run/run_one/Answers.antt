@@ -1,4 +1,4 @@
-use Rattle.std.proofs.Common.{◌≡◌, ◌≤◌, ◌+◌, ap, ◌∙◌, sym, subst}
+use Rattle.std.proofs.Common.{◌≤◌, ◌+◌, ap, ◌∙◌, sym, subst}
 use Rattle.udsnorm.specs.Ending.{EndsAs, flushes}
 use Rattle.udsnorm.proofs.Statuses.{comes_to, done_once, failed_once, flushed_at_most_once, flushed_once_then, is_flushed_then, not_flushed_then, took_still}
 use Rattle.udsnorm.proofs.run.run_one.Goals as goal

@@ -1,4 +1,4 @@
-use Rattle.std.proofs.Common.{◌≡◌, rules, arith, ap, subst, sym, ◌∙◌, [], ◌∷◌, ◌++◌, append-nil, List}
+use Rattle.std.proofs.Common.{◌≡◌, rules, arith, ap, subst, sym, ◌∙◌, [], ◌++◌, append-nil, List}
 use Rattle.direction.specs.Dir.{Message}
 use Rattle.isotp_receive.specs.declared.TheConstants.{MESSAGE_LIMIT}
 use Rattle.isotp_receive.specs.EventSeen.{seen_event, seen_verdict}
@@ -6,7 +6,6 @@ use Rattle.isotp_receive.specs.Verdict.{messages, told_message}
 use Rattle.isotp_receive.proofs.Promises.{messages_are_few}
 use Rattle.uds_exchange.specs.Numbering.{CountsItems}
 use Rattle.trace_canon.specs.MessageLines.{delivered_line}
-use Rattle.trace_canon.specs.Begun.{PlacesMessages}
 use Rattle.trace_canon.proofs.CanonicalMachines.{messages_next}
 use Rattle.trace_canon.proofs.PlacingScripts.{begun_next, line_said}
 use Rattle.trace_canon.proofs.placer.PlacerMachine.event.Goals as goal
