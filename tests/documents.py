@@ -15,6 +15,7 @@
 - docs/architecture.md says of each crate of the kit that the program stands on where it is called, and the call stands there;
 - docs/proved.md cites each clause of each public call, and each law that the pages for callers leave out, and no other;
 - each fault displays the line that the program tells of it, as the page for callers of udsnorm says;
+- docs/formats.md has the names of services and response codes of tests/rows, which the program is tested with;
 - the number of the version stands in the program's source once, and is that of the file VERSION.
 
 Prints a line for each case and ends with `N passed, M failed`; its status is 1 where a case failed.
@@ -37,6 +38,7 @@ DOCS = TOP / "docs"
 PICTURE = DOCS / "crates.svg"
 ARCHITECTURE = DOCS / "architecture.md"
 DEFINITIONS = DOCS / "definitions.md"
+FORMATS = DOCS / "formats.md"
 README = TOP / "README.md"
 PROVED = DOCS / "proved.md"
 ATTACKS = DOCS / "attacks.md"
@@ -335,6 +337,16 @@ def lines_of_faults(cases):
         cases.report(f"what {name} displays is the line that is told of it", wrong)
 
 
+def names_of_bytes(cases):
+    """The tables of names, but for that of the one response code that no list has."""
+    told = [cells for title in ("Names of services", "Names of response codes") for cells in table_below(FORMATS, title)]
+    named = {" ".join(cells[:2]) + (", sub-function" if cells[2:] == ["yes"] else "") for cells in told}
+    rows = [line for name in ("services.txt", "response_codes.txt") for line in (TOP / "tests" / "rows" / name).read_text().splitlines()]
+    tested = {line for line in rows if line and not line.startswith("#")} | {"78 requestCorrectlyReceivedResponsePending"}
+    wrong = sorted(named ^ tested)
+    cases.report("docs/formats.md has the names that the program is tested with", [f"one has {line!r} alone" for line in wrong])
+
+
 def version_of_the_source(cases):
     version = (TOP / "VERSION").read_text().rstrip("\n")
     texts = [path.read_text() for path in (TOP / "crates" / PROGRAM / "src").glob("*.rt")]
@@ -348,7 +360,7 @@ def main():
     cases = Cases(None)
     for test in [
         picture, links, named_files, counts, planted, wrong_bodies, tried_by_the_gate, definitions, citations, calls_of_the_kit,
-        cited_clauses, lines_of_faults, version_of_the_source,
+        cited_clauses, lines_of_faults, names_of_bytes, version_of_the_source,
     ]:
         test(cases)
     cases.end()

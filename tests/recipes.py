@@ -1,5 +1,5 @@
 #!/usr/bin/env python3
-"""Tests of docs/recipes.md: its commands, taken out of the page itself, print what the page shows.
+"""Tests of docs/recipes.md and docs/formats.md: their commands, taken out of the page itself, print what the page shows.
 
     tests/recipes.py crates/udsnorm/out/udsnorm
 
@@ -23,7 +23,7 @@ from pathlib import Path
 from cases import Cases
 
 TOP = Path(__file__).resolve().parent.parent
-PAGE = TOP / "docs" / "recipes.md"
+PAGES = [TOP / "docs" / name for name in ("recipes.md", "formats.md")]
 
 # Follows what each command prints. The next command still finds the status in $?.
 MARK = "\x01"
@@ -92,7 +92,7 @@ def answers(folder, lines, environment):
     return done.stdout.split(MARK)[:-1]
 
 
-def run_section(cases, title, blocks, folder, environment):
+def run_section(cases, page, title, blocks, folder, environment):
     """Each command of a section that is run is a case."""
     wanted = []
     for words, line, text in blocks:
@@ -101,7 +101,7 @@ def run_section(cases, title, blocks, folder, environment):
             continue
         lack = missing_tool(tools)
         if lack:
-            print(f"skipped line {line} of {PAGE.name}: it needs {lack}", flush=True)
+            print(f"skipped line {line} of {page.name}: it needs {lack}", flush=True)
             continue
         wanted += commands(text)
     came = answers(folder, [command for command, _ in wanted], environment)
@@ -124,22 +124,28 @@ def save_scripts(blocks, folder):
             script.chmod(0o755)
 
 
+def run_page(cases, page, home, environment):
+    """Each section of a page in a folder of its own, with the scripts of those before it."""
+    found = sections(page.read_text())
+    for number, (title, blocks) in enumerate(found):
+        folder = home / page.stem / str(number)
+        folder.mkdir(parents=True)
+        copy_logs(found[0][1], folder, environment)
+        for _, before in found[: number + 1]:
+            save_scripts(before, folder)
+        run_section(cases, page, title, blocks, folder, environment)
+
+
 def main():
     if len(sys.argv) != 2:
         sys.exit(__doc__)
     cases = Cases(os.path.abspath(sys.argv[1]))
-    found = sections(PAGE.read_text())
     with tempfile.TemporaryDirectory() as directory:
         home = Path(directory)
         environment = surroundings(home, cases.program)
-        for number, (title, blocks) in enumerate(found):
-            folder = home / str(number)
-            folder.mkdir()
-            copy_logs(found[0][1], folder, environment)
-            for _, before in found[: number + 1]:
-                save_scripts(before, folder)
-            run_section(cases, title, blocks, folder, environment)
-    cases.report("the page has recipes", [] if cases.passed + cases.failed >= 30 else ["fewer than 30 commands were found"])
+        for page in PAGES:
+            run_page(cases, page, home, environment)
+    cases.report("the pages have commands", [] if cases.passed + cases.failed >= 36 else ["fewer than 36 commands were found"])
     cases.end()
 
 
