@@ -609,10 +609,10 @@ def explained(log, limit=GIBIBYTE):
     return Outcome(DONE, None, explanation(cut(log)).encode())
 
 
-def placed(log, limit=GIBIBYTE):
+def placed(log, limit=GIBIBYTE, sides=SIDES):
     """The messages of a log with their places; where it is refused, those of its frames before the fault."""
     refused = refusal(log, limit, is_long_refused=False)
-    text = placed_text(trace(refused.lines if refused else cut(log)))
+    text = placed_text(trace(refused.lines if refused else cut(log), sides))
     return Outcome(REFUSED if refused else DONE, refused.fault if refused else None, text.encode())
 
 
