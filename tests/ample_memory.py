@@ -70,6 +70,8 @@ def taken_by_each_job(cases, name, log, messages, text):
     counts = f"lines {lines} frames {lines} messages {messages} dropped 0 ended 0 unfinished 0 pending 0\n".encode()
     cases.case(f"explain: {name}", cases.run(["explain"], log), DONE, counts)
     cases.case(f"list: {name}", cases.run(["list"], log), DONE, text)
+    placed = cases.run(["messages"], log)
+    cases.case(f"messages: {name}", placed._replace(output=b"%d" % placed.output.count(b"\n")), DONE, b"%d" % messages)
     normalised = cases.run(["normalise"], log)
     canonical = normalised.output
     cases.case(f"normalise: {name}", normalised, DONE, None)

@@ -8,7 +8,7 @@ from cases import DEVICE, DONE, REFUSAL
 from counts import counts_line
 from refuser import READ, TAKES_NOTHING, WRITE
 from runs import Ended, differences, files, how, pipe, start
-from tables import CANONICAL_LINE, VIN, VIN_CANONICAL
+from tables import CANONICAL_LINE, VIN, VIN_CANONICAL, VIN_PLACED
 from told import LONG_LOG, READ_FAILED, WRITE_FAILED
 
 # A session after two frames that mean nothing.
@@ -30,6 +30,12 @@ line 1: unit frame dropped: unknown kind
 line 2: unit frame dropped: consecutive frame unexpected
 """ + counts_line(SESSION, messages=3, dropped=2)
 
+PLACED = b"""\
+1 request tester lines 3 to 3 at 1.002000 to 1.002000 22F190
+2 stray tester lines 4 to 4 at 1.003000 to 1.003000 3E80
+1 answer unit lines 5 to 5 at 1.004000 to 1.004000 62F19041
+"""
+
 KEEP_ALIVE = b"(1.000000) can0 7E0#023E80\n"
 KEEP_ALIVE_LISTED = b"1 stray tester 3E80\n"
 
@@ -43,7 +49,12 @@ line 2: unit frame dropped: unknown kind
 def devices(program):
     yield "normalise, a read fails after each byte", partial(reads_fail, program)
     yield "list, a read fails after each byte", partial(listing_fails, program)
-    yield "explain, a read fails after each byte", partial(explaining_fails, program)
+    for job, log, told in [
+        ("explain", SESSION, [*EXPLAINED.splitlines(keepends=True)[:2], b"", b"", b""]),
+        ("messages", SESSION, [b"", b"", *PLACED.splitlines(keepends=True)]),
+        ("messages", VIN, [VIN_PLACED.splitlines(keepends=True)[0], b"", b"", b"", VIN_PLACED.splitlines(keepends=True)[1]]),
+    ]:
+        yield f"{job} of {len(log)} bytes, a read fails after each byte", partial(telling_fails, program, job, log, told)
     yield "compare, a read of either log fails after each byte", partial(comparing_fails, program)
     for job, log, text in [
         ("normalise", VIN, VIN_CANONICAL),
@@ -51,13 +62,16 @@ def devices(program):
         ("list", KEEP_ALIVE, KEEP_ALIVE_LISTED),
         ("explain", SESSION, EXPLAINED),
         ("explain", NO_FRAMES, NO_FRAMES_EXPLAINED),
+        ("messages", SESSION, PLACED),
+        ("messages", NO_FRAMES, b""),
     ]:
         name = f"{job} of {len(log)} bytes"
         yield f"{name}, a write fails after each byte", partial(writes_fail, program, job, log, text, errno.EIO)
         yield f"{name}, the output is full after each byte", partial(writes_fail, program, job, log, text, TAKES_NOTHING)
-    yield "an output that takes a hundred bytes", partial(hundred_bytes, program)
-    yield "a log in the middle of which writing fails", partial(fails_in_the_middle, program)
-    yield "a log that never ends", partial(never_ends, program)
+    for job, text in [("normalise", VIN_CANONICAL), ("messages", VIN_PLACED)]:
+        yield f"{job}, an output that takes a hundred bytes", partial(hundred_bytes, program, job, text)
+        yield f"{job}, a log in the middle of which writing fails", partial(fails_in_the_middle, program, job)
+        yield f"{job}, a log that never ends", partial(never_ends, program, job)
 
 
 def reads_fail(program):
@@ -81,12 +95,12 @@ def listing_fails(program):
     return wrong
 
 
-def explaining_fails(program):
-    """What is told of the frames of the lines before is written: a line each of the first two."""
-    wrong, told = [], EXPLAINED.splitlines(keepends=True)[:2]
-    for given in range(len(SESSION) + 1):
-        found = program.run_failing(["explain"], READ, given + 1, SESSION, most=1)
-        written = b"".join(told[: SESSION[:given].count(b"\n")])
+def telling_fails(program, job, log, told):
+    """What is told of each of the lines before is written."""
+    wrong = []
+    for given in range(len(log) + 1):
+        found = program.run_failing([job], READ, given + 1, log, most=1)
+        written = b"".join(told[: log[:given].count(b"\n")])
         wrong += differences(f"{given} bytes", found, (Ended(DEVICE, written, READ_FAILED), True))
     return wrong
 
@@ -113,26 +127,26 @@ def writes_fail(program, job, log, text, error):
     return wrong + differences("all bytes", found, (Ended(DONE, text, b""), False))
 
 
-def hundred_bytes(program):
+def hundred_bytes(program, job, text):
     """It takes what the first hundred bytes of the log decide, one line, and then fails."""
-    found = program.run_failing(["normalise"], WRITE, 2, VIN, most=100)
-    first = VIN_CANONICAL.splitlines(keepends=True)[0]
-    return differences("normalise", found, (Ended(DEVICE, first, WRITE_FAILED), True))
+    found = program.run_failing([job], WRITE, 2, VIN, most=100)
+    first = text.splitlines(keepends=True)[0]
+    return differences(job, found, (Ended(DEVICE, first, WRITE_FAILED), True))
 
 
-def fails_in_the_middle(program):
+def fails_in_the_middle(program, job):
     """No more of the log is read than the piece of 4,096 bytes of which something can't be written."""
     log = 100 * VIN
     with pipe(log) as reader, open("/dev/full", "wb") as full:
-        found = program.run(["normalise"], stdin=reader, stdout=full)
+        found = program.run([job], stdin=reader, stdout=full)
         read = len(log) - len(reader.read())
-    wrong = differences("normalise", how(found), (DEVICE, WRITE_FAILED))
+    wrong = differences(job, how(found), (DEVICE, WRITE_FAILED))
     return wrong + ([] if read <= 4096 else [f"{read} bytes were read"])
 
 
-def never_ends(program):
+def never_ends(program, job):
     """Of line feeds without end one more is read than the limit, and byte by byte no further read is made."""
-    words, log, want = ["normalise", "--limit", "100"], 4096 * b"\n", Ended(REFUSAL, b"", LONG_LOG)
+    words, log, want = [job, "--limit", "100"], 4096 * b"\n", Ended(REFUSAL, b"", LONG_LOG)
     endless = start("yes", [""], stdin=None, stderr=None)
     found = program.run(words, stdin=endless.stdout)
     endless.stdout.close()
@@ -143,7 +157,7 @@ def never_ends(program):
     last = program.run_failing(words, READ, 101, log, most=1)
     further = program.run_failing(words, READ, 102, log, most=1)
     return [
-        *differences("normalise", (found, again), (want, want)),
+        *differences(job, (found, again), (want, want)),
         *differences("bytes that are read", read, 101),
         *differences("read 101 fails", last, (Ended(DEVICE, b"", READ_FAILED), True)),
         *differences("read 102 fails", further, (want, False)),

@@ -4,10 +4,10 @@
     tests/differential.py crates/udsnorm/out/udsnorm [--seconds NUMBER] [--seed NUMBER]
 
 First examples/vin.log, 212 bytes, with each of its bytes replaced by each of seven bytes that a line may and may not have:
-1,484 logs, each through normalise and through explain. Each is accepted, or refused at the place that the oracle finds by
+1,484 logs, each through normalise, explain and messages. Each is accepted, or refused at the place that the oracle finds by
 trying what could follow. Then, until the seconds are over, random ones: half of them are sessions whose frames are lost,
 repeated, exchanged and late; the others are made of a sample log or a session by changing bytes. Each of these goes through
-one of the four jobs, half of them under a limit about the length of the log. The same seed gives the same runs; it is 1
+one of the five jobs, half of them under a limit about the length of the log. The same seed gives the same runs; it is 1
 where none is given, and the seconds 12.
 Prints the log of each difference, and ends with `N passed, M failed`; its status is 1 where there was a difference.
 """

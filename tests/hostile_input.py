@@ -40,6 +40,10 @@ MOST_CANONICAL = {
 LONGEST_ITEM = "{} exchange DynamicallyDefineDataIdentifier 2C -> unanswered\n"
 LONGEST_ITEM_OF_ONE_FRAME = "{} exchange DynamicallyDefineDataIdentifier 2C000000000000 -> unanswered\n"
 LONGEST_DROP = "line {}: tester frame dropped: consecutive frame unexpected\n"
+LONGEST_PLACE = "{0} request tester lines {0} to {0} at 0.000000 to 0.000000 2C\n"
+
+# Who sends a message of each role.
+ROLES = {"request tester", "stray tester", "answer unit", "pending unit", "stray unit"}
 
 # Lines in which most stands for their length, in one way or another.
 ONE_BYTE = b"(0.000000) a 7E8#0111\n"
@@ -75,7 +79,13 @@ end: tester reception from line 1 of 1048575 bytes unfinished
 end: unit reception from line 2 of 1048575 bytes unfinished
 """
 
+# Logs of which normalise and list tell an error, and what the other jobs write of the last one.
 REFUSED_LOGS = [b"x", b"(", b"\n" * 1000 + b"\xff" * 1000, LONGEST + b"(1.0\n" * 1000, b"(0.000000) a 7E8#1000FFFFFFFF4142\n" * 1000]
+ANNOUNCED = {
+    "explain": b"".join(b"line %d: unit frame dropped: 4294967295 bytes announced\n" % line for line in range(1, 1001))
+    + counts_line(REFUSED_LOGS[4], dropped=1000),
+    "messages": b"",
+}
 
 
 def frame_line(identifier, data):
@@ -101,9 +111,9 @@ def segmented(identifier, message, rx_dl):
     return b"".join(lines)
 
 
-def shortest_recordings(identifier, size):
-    """The shortest logs of a message of this many bytes: in a single frame, and in frames of each length."""
-    message = bytes(size)
+def shortest_recordings(identifier, message):
+    """The shortest logs of a message: in a single frame, and in frames of each length."""
+    size = len(message)
     if size <= 62:
         yield single_frame(identifier, message)
     for rx_dl in RX_DLS:
@@ -115,7 +125,7 @@ def canonical_growth(cases):
     """No message has a canonical log of more bytes for each byte of its shortest recording, and one has as many."""
     for (unit, tester), expected in MOST_CANONICAL.items():
         most, longest, wrong = Fraction(0), None, []
-        for size, log in ((size, log) for size in MESSAGE_LENGTHS for log in shortest_recordings(unit, size)):
+        for size, log in ((size, log) for size in MESSAGE_LENGTHS for log in shortest_recordings(unit, bytes(size))):
             status, text, _ = cases.run(["normalise", "--unit", unit, "--tester", tester], log)
             wrong += [] if status == DONE and text else [f"status {status}, {len(text)} bytes of {size}"]
             most, longest = max((most, longest), (Fraction(len(text), len(log)), size), key=lambda found: found[0])
@@ -133,6 +143,7 @@ def longest_texts(cases):
         ("list", REQUEST, LONGEST_ITEM),
         ("list", LONG_REQUEST, LONGEST_ITEM_OF_ONE_FRAME),
         ("explain", CONSECUTIVE, LONGEST_DROP),
+        ("messages", REQUEST, LONGEST_PLACE),
     ]:
         log = line * 10_000
         status, text, _ = cases.run([job], log)
@@ -161,6 +172,37 @@ def drops(cases):
 FIRST_DATA = b"\x10\x00\x00\x00\xff\xff\x41\x42"
 
 
+def places(cases):
+    """What messages tells of a message, for each byte of its lines, is most for a request of one byte: of messages of each role
+    and of many lengths in their shortest recordings, alone and behind a request, with the shortest stamps and the longest, in
+    lines whose numbers have eight digits."""
+    most = Fraction(len(LONGEST_PLACE.format(10**7)), len(REQUEST))
+    wrong, found, roles = [], [], set()
+    for (sender, message), before, seconds in itertools.product(placed_messages(), (b"", REQUEST), (b"(0.", b"(9999999999.")):
+        for recording in shortest_recordings(sender, message):
+            log = (before + recording).replace(b"(0.", seconds)
+            status, text, _ = cases.run(["messages"], log)
+            roles |= set(re.findall(r"^\d+ (\w+ \w+)", text.decode(), re.M))
+            found.append(Fraction(len(with_long_numbers(text.decode())), len(log)))
+            wrong += [repr(log)] if status != DONE or found[-1] > most else []
+    wrong += [] if max(found) == most else [f"{max(found)} at most"]
+    wrong += [] if roles == ROLES else [f"{roles}"]
+    cases.report(f"no message of {len(found)} recordings has more told of it than {most} for each byte", wrong)
+
+
+def placed_messages():
+    """Messages with their senders: requests and what is none, and of the unit answers, pending replies and what is neither."""
+    for sender, begun in [("7E0", b"\x2C"), ("7E0", b"\x6C"), ("7E8", b"\x6C"), ("7E8", b"\x2C")]:
+        for size in (*range(1, 17), 61, 62, 63, 126, 4095):
+            yield sender, begun.ljust(size, bytes(1))
+    yield from [("7E8", b"\x7F\x2C\x78"), ("7E8", b"\x7F\x2C\x11")]
+
+
+def with_long_numbers(text):
+    """Lines of messages whose three numbers have eight digits each."""
+    return re.sub(r"^\d+ (\w+ \w+ lines) \d+ to \d+ ", r"10000000 \1 10000000 to 10000000 ", text, flags=re.M)
+
+
 def longest_lines(cases):
     """The longest line that is read, and one byte more."""
     cases.case("the longest line, with a carriage return", cases.run(["explain"], LONGEST[:-1] + b"\r\n"), DONE, counts_line(LONGEST, frames=0))
@@ -171,10 +213,10 @@ def longest_lines(cases):
 
 
 def one_line_of_error(cases):
-    for job in ["normalise", "list", "explain"]:
+    for job in ["normalise", "list", "explain", "messages"]:
         for number, log in enumerate(REFUSED_LOGS):
             status, text, error = cases.run([job], log)
-            is_told = job == "explain" and number == 4 and (status, error) == (DONE, b"") and text.endswith(counts_line(log, dropped=1000))
+            is_told = number == 4 and (status, text, error) == (DONE, ANNOUNCED.get(job), b"")
             is_line = status == REFUSAL and error.count(b"\n") == 1 and error.endswith(b"\n") and len(error) < 80
             cases.report(f"{job} of refused log {number}: {error!r}", [] if is_told or is_line else [f"status {status}"])
 
@@ -214,6 +256,11 @@ def memory(cases):
         ("explain", REQUEST, ONE_BYTE, 0),
         ("explain", b"", CONSECUTIVE, 0),
         ("explain", b"", LONGEST, 0),
+        ("messages", REQUEST, ONE_BYTE, 0),
+        ("messages", b"", REQUEST, 0),
+        ("messages", b"", FIRST, 0),
+        ("messages", b"", FOURTEEN_BYTES, 0),
+        ("messages", b"", LONGEST, 0),
         ("list", REQUEST, ONE_BYTE, MEANT),
         ("list", b"", REQUEST, MEANT),
     ]:
@@ -224,7 +271,7 @@ def memory(cases):
     log = two_receptions()
     told = UNFINISHED + counts_line(log, unfinished=2)
     cases.case("two of the longest messages lack their last frames", cases.run(["explain"], log), DONE, told)
-    for job in ["normalise", "explain"]:
+    for job in ["normalise", "explain", "messages"]:
         holds_at_most(cases, [job], "no log", b"", 0, DONE)
         holds_at_most(cases, [job], "two of the longest messages without their last frames", log, RECEPTION_BYTES, DONE)
     memory_of_two(cases)
@@ -254,18 +301,18 @@ def work(cases):
     them or for the counts. The time for each byte is printed, and nothing fails by it."""
     size = 4_000_000
     for line, *written in [
-        (ONE_BYTE, 1, 1, 0),
-        (FOURTEEN_BYTES, 4, 1, 0),
-        (REQUEST, 1, 1, 0),
-        (CONSECUTIVE, 0, 0, 1),
-        (FIRST, 0, 0, 1),
-        (FOREIGN, 0, 0, 0),
-        (BLANK, 0, 0, 0),
-        (LONGEST, 0, 0, 0),
+        (ONE_BYTE, 1, 1, 0, 1),
+        (FOURTEEN_BYTES, 4, 1, 0, 1),
+        (REQUEST, 1, 1, 0, 1),
+        (CONSECUTIVE, 0, 0, 1, 0),
+        (FIRST, 0, 0, 1, 0),
+        (FOREIGN, 0, 0, 0, 0),
+        (BLANK, 0, 0, 0, 0),
+        (LONGEST, 0, 0, 0, 0),
     ]:
         lines = size // len(line)
         log = REQUEST + line * lines
-        for job, number in zip(["normalise", "list", "explain"], written):
+        for job, number in zip(["normalise", "list", "explain", "messages"], written):
             begun = time.monotonic()
             status, text, _ = cases.run([job], log)
             nanoseconds = (time.monotonic() - begun) * 1e9 / len(log)
@@ -278,7 +325,7 @@ def main():
     if len(sys.argv) != 2:
         sys.exit(__doc__)
     cases = Cases(os.path.abspath(sys.argv[1]))
-    for test in [canonical_growth, longest_texts, drops, longest_lines, one_line_of_error, memory, work]:
+    for test in [canonical_growth, longest_texts, drops, places, longest_lines, one_line_of_error, memory, work]:
         test(cases)
     cases.end()
 

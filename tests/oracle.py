@@ -523,17 +523,29 @@ def placed_text(frames):
 
 
 def listed_again(placed):
-    """The list of a log, told from the lines of its messages alone."""
-    items = {}
+    """The list of a log, told from the lines of its messages alone. None where a request or a stray has not the next number, or
+    an answer or a pending reply not that of an exchange without an answer."""
+    items = []
     for line in placed.splitlines():
         number, role, direction, *_, spelled = line.split(" ")
-        if role == "request":
-            items[int(number)] = Exchange(bytes.fromhex(spelled), None)
-        elif role == "answer":
-            items[int(number)] = items[int(number)]._replace(answer=bytes.fromhex(spelled))
-        elif role == "stray":
-            items[int(number)] = Stray(direction, bytes.fromhex(spelled))
-    return list_text([items[number] for number in range(1, len(items) + 1)])
+        at, message = int(number) - 1, bytes.fromhex(spelled)
+        is_next, is_open = at == len(items), is_unanswered(items[at : at + 1])
+        match role:
+            case "request" if is_next:
+                items.append(Exchange(message, None))
+            case "stray" if is_next:
+                items.append(Stray(direction, message))
+            case "answer" if is_open:
+                items[at] = Exchange(items[at].request, message)
+            case "pending" if is_open:
+                pass
+            case _:
+                return None
+    return list_text(items)
+
+
+def is_unanswered(items):
+    return [isinstance(item, Exchange) and item.answer is None for item in items] == [True]
 
 
 # --- The outcome --------------------------------------------------------------------------------------------------------
@@ -597,10 +609,10 @@ def explained(log, limit=GIBIBYTE):
     return Outcome(DONE, None, explanation(cut(log)).encode())
 
 
-def placed(log, limit=GIBIBYTE):
+def placed(log, limit=GIBIBYTE, sides=SIDES):
     """The messages of a log with their places; where it is refused, those of its frames before the fault."""
     refused = refusal(log, limit, is_long_refused=False)
-    text = placed_text(trace(refused.lines if refused else cut(log)))
+    text = placed_text(trace(refused.lines if refused else cut(log), sides))
     return Outcome(REFUSED if refused else DONE, refused.fault if refused else None, text.encode())
 
 

@@ -33,13 +33,6 @@ OVERSIZE = b"(1.000000) can0 7E8#1000001000004142\n"
 # The identifiers of the examples that are not of 7E0 and 7E8.
 SIDES = {"extended-identifiers.log": {oracle.TESTER: "18DA10F1", oracle.UNIT: "18DAF110"}}
 
-# What a job tells of the front of a log, while more of it may come.
-PROMPT = [
-    ("normalise", FIRST_LOG + b"\n(1700000000.100000) can0 7E8#0462F19041\n", FIRST_CANONICAL + b"(0000000000.001000) can0 7E8#0462F19041CCCCCC\n"),
-    ("explain", b"(1.000000) can0 7E8#2141\n", b"line 1: unit frame dropped: consecutive frame unexpected\n"),
-    ("messages", b"(1.000000) can0 7E0#023E80\n", b"1 stray tester lines 1 to 1 at 1.000000 to 1.000000 3E80\n"),
-]
-
 # A log with a message of each role, one of them in several frames between which another side's frame stands, and its messages.
 ROLES = b"""\
 (1.000000) can0 7E0#0322F190
@@ -57,6 +50,14 @@ PLACES = b"""\
 1 answer unit lines 4 to 6 at 1.300000 to 1.400000 62F1904142434445
 3 stray unit lines 7 to 7 at 1.500000 to 1.500000 50
 """
+
+# What a job tells of the front of a log, while more of it may come.
+PROMPT = [
+    ("normalise", FIRST_LOG + b"\n(1700000000.100000) can0 7E8#0462F19041\n", FIRST_CANONICAL + b"(0000000000.001000) can0 7E8#0462F19041CCCCCC\n"),
+    ("explain", b"(1.000000) can0 7E8#2141\n", b"line 1: unit frame dropped: consecutive frame unexpected\n"),
+    ("messages", b"(1.000000) can0 7E0#023E80\n", b"1 stray tester lines 1 to 1 at 1.000000 to 1.000000 3E80\n"),
+    ("messages", ROLES, PLACES),
+]
 
 # Words with which the program tells something on standard error, and its exit status.
 TOLD = [
@@ -102,30 +103,35 @@ def logs(cases):
 
 
 def default_limit(cases):
-    """A log may have 2^30 bytes, where no words say otherwise."""
+    """A log may have 2^30 bytes, and more for messages, where no words say otherwise."""
     line = b"(0000000001.000000) can0 123##0" + b"00" * 48 + b"\n"
-    for name, last, status, error in [
-        ("a log of 2^30 bytes", b"", DONE, b""),
-        ("a log of one byte more", b"\n", REFUSAL, LONG_LOG),
+    for name, words, last, status, error in [
+        ("a log of 2^30 bytes", [], b"", DONE, b""),
+        ("a log of one byte more", [], b"\n", REFUSAL, LONG_LOG),
+        ("the messages of a log of one byte more", ["messages"], b"\n", DONE, b""),
     ]:
-        program = start(cases.program)
+        program = start(cases.program, words)
         give(program, line * 2**13, 2**10)
         cases.case(name, end(program, last), status, error=error)
 
 
 def the_longest_message(cases):
-    """Its canonical log is its own, at a limit of its own length."""
-    canonical = canonical_of_unit(bytes(k % 251 for k in range(1_048_575)))
+    """Its canonical log is its own, at a limit of its own length, and the message is told from its first line to its last."""
+    message = bytes(k % 251 for k in range(1_048_575))
+    canonical = canonical_of_unit(message)
     length = 6_890_754
     found = cases.run(["normalise", "--limit", str(length)], canonical)
     cases.case("the canonical log of the longest message", found, DONE, canonical)
     lines = found.output.count(b"\n")
     is_long = len(found.output) == length and lines == 149_799
     cases.report("the length of the longest message's canonical log", [] if is_long else [f"{len(found.output)} bytes, {lines} lines"])
+    line = f"1 stray unit lines 1 to 149799 at 0.000000 to 149.798000 {message.hex().upper()}\n".encode()
+    cases.case("the place of the longest message", cases.run(["messages"], canonical), DONE, line)
     front = canonical[: 46 * 149_798]
     told = b"end: unit reception from line 1 of 1048575 bytes unfinished\n"
     told += counts_line(front, unfinished=1)
     cases.case("the longest message without its last frame", cases.run(["explain"], front), DONE, told)
+    cases.case("the same has no message", cases.run(["messages"], front), DONE)
     limit = ["normalise", "--limit", str(length - 1)]
     cases.case("the same below its length", cases.run(limit, canonical), REFUSAL, error=LONG_LOG)
 
@@ -150,7 +156,9 @@ def examples(cases):
         options = ["--tester", sides[oracle.TESTER], "--unit", sides[oracle.UNIT]] if log.name in SIDES else []
         found = cases.run(["normalise", *options, log])
         canonical = log.with_suffix(".canonical")
-        came = oracle.outcome(log.read_bytes(), sides=sides)
+        came, placed = (job(log.read_bytes(), sides=sides) for job in (oracle.outcome, oracle.placed))
+        error = f"{placed.fault}\n".encode() if placed.fault else b""
+        cases.case(f"examples/{log.name}, its messages", cases.run(["messages", *options, log]), placed.status, placed.written, error)
         if canonical.exists():
             cases.case(f"examples/{log.name}", found, DONE, canonical.read_bytes())
             cases.case(f"examples/{log.name} by the oracle", found, came.status, came.written)
@@ -271,7 +279,20 @@ def prompt(cases):
             program.stdin.close()
             os.close(ours)
             found = status, came, waits
-            cases.report(f"{job} tells at once, through {name}", [] if found == (-signal.SIGINT, text, True) else [f"{found}"])
+            cases.report(f"{job} tells {len(text)} bytes at once, through {name}", [] if found == (-signal.SIGINT, text, True) else [f"{found}"])
+
+
+def messages_one_by_one(cases):
+    """The line of each message can be read before the frame behind it is given."""
+    program, given, wrong = start(cases.program, ["messages"]), 0, []
+    for line in PLACES.splitlines(keepends=True):
+        last = int(line.split(b" ")[6])
+        give(program, b"".join(ROLES.splitlines(keepends=True)[given:last]))
+        given = last
+        came = os.read(program.stdout.fileno(), 4096) if select.select([program.stdout], [], [], 30)[0] else b""
+        wrong += [] if came == line else [f"{came!r}, not {line!r}"]
+    cases.report("the messages of a log that comes line by line", wrong)
+    cases.case("nothing more at its end", end(program), DONE)
 
 
 def device_calls(cases):
@@ -290,6 +311,9 @@ def device_calls(cases):
             (["normalise", long], [pieces + 1], pieces),
             (["list", vin], [2], 1),
             (["explain", vin], [2], 1),
+            (["messages", blank], [2], 0),
+            (["messages", vin], [2], 1),
+            (["messages", long], [pieces + 1], pieces),
             (["compare", vin, long], [2, pieces + 1], 1),
         ]:
             sides = [b"left: ", b"right: "] if words[0] == "compare" else [b""]
@@ -333,7 +357,7 @@ def main():
     if len(sys.argv) != 2:
         sys.exit(__doc__)
     cases = Cases(os.path.abspath(sys.argv[1]))
-    for test in [logs, default_limit, the_longest_message, examples, places, devices, prompt, device_calls, memory]:
+    for test in [logs, default_limit, the_longest_message, examples, places, devices, prompt, messages_one_by_one, device_calls, memory]:
         test(cases)
     cases.end()
 

@@ -51,45 +51,47 @@ compare         10      8    13
 # identifiers stand beside it with its canonical log: compare has the growths that list has over the left log, and then those
 # over the right one.
 JOB_GROWTHS = """
-                                                       normalise  list  explain  compare
-both-directions                                                3     8        3       13
-candump-any                                                    0     5        0       10
-candump-fd                                                     1     8        1       13
-candump-marks                                                  2     7        2       12
-extended-identifiers                                           0     2        0        7
-extended-identifiers --tester 18DA10F1 --unit 18DAF110         2     7        2       14
-first                                                          0     2        0        7
-lost-frame                                                     2     6        2       11
-pending                                                        4     8        2       13
-refused                                                        0     2        0        2
-single-frames                                                  0     6        0       11
-vin-fd-crlf                                                    0     3        0        8
-vin                                                            2     5        2       10
-stray                                                          2     4        0        9
-both                                                           2     5        2       10
-long                                                           0     -        0        -
+                                                       normalise  list  explain  messages  compare
+both-directions                                                3     8        3         3       13
+candump-any                                                    0     5        0         0       10
+candump-fd                                                     1     8        1         1       13
+candump-marks                                                  2     7        2         2       12
+extended-identifiers                                           0     2        0         0        7
+extended-identifiers --tester 18DA10F1 --unit 18DAF110         2     7        2         2       14
+first                                                          0     2        0         0        7
+lost-frame                                                     2     6        2         2       11
+pending                                                        4     8        2         2       13
+refused                                                        0     2        0         0        2
+single-frames                                                  0     6        0         0       11
+vin-fd-crlf                                                    0     3        0         0        8
+vin                                                            2     5        2         2       10
+stray                                                          2     4        0         0        9
+both                                                           2     5        2         2       10
+long                                                           0     -        0         0        -
 """
 
 # How many growths words of the command line have, and how many of them are swallowed inside the parser: the answer is then the
 # same. Most where it looks for words to suggest. A file that is missing is told before a job begins.
 WORD_GROWTHS = """
                                                            growths  swallowed
-normalise missing                                               71          1
-list missing                                                    71          1
-explain missing                                                 71          1
-compare missing missing                                         82          1
-normalise --tester 18DA10F1 --unit 18DAF110 missing             85          1
-list --tester 18DA10F1 --unit 18DAF110 missing                  85          1
-explain --tester 18DA10F1 --unit 18DAF110 missing               85          1
-compare --tester 18DA10F1 --unit 18DAF110 missing missing       96          1
---help                                                          78          1
-list --help                                                    113          1
-lis                                                             78         13
-list --limi 1                                                   92         11
-list --limit x                                                  63          1
-compare a                                                      102          1
-list --tester 7E                                                68          1
-list --tester 800                                               68          1
+normalise missing                                               81          1
+list missing                                                    86          1
+explain missing                                                 81          1
+messages missing                                                81          1
+compare missing missing                                         92          1
+normalise --tester 18DA10F1 --unit 18DAF110 missing             95          1
+list --tester 18DA10F1 --unit 18DAF110 missing                 100          1
+explain --tester 18DA10F1 --unit 18DAF110 missing               95          1
+messages --tester 18DA10F1 --unit 18DAF110 missing              95          1
+compare --tester 18DA10F1 --unit 18DAF110 missing missing      106          1
+--help                                                          96          1
+list --help                                                    130          1
+lis                                                             94         16
+list --limi 1                                                  109         15
+list --limit x                                                  73          1
+compare a                                                      112          1
+list --tester 7E                                                82          1
+list --tester 800                                               82          1
 """
 
 def table(text):

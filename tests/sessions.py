@@ -15,6 +15,7 @@ from collections import namedtuple
 from concurrent.futures import ThreadPoolExecutor
 from functools import partial
 
+import oracle
 import tables
 from cases import DIFFERENT, DONE, REFUSAL, WORDS, Cases
 from counts import counts_in, counts_line
@@ -22,16 +23,16 @@ from devices import devices
 from recordings import CANONICAL, SIZES, Style, message_of, recorded
 from refuser import Refuser
 from runs import Ended, Program, differences, files, how, pipe
-from tables import CANONICAL_LINE, VIN, Row
+from tables import CANONICAL_LINE, VIN, VIN_PLACED, Row
 from told import LONG_CANONICAL, LONG_LOG, OVERSIZE, place
 
-JOBS = ["normalise", "list", "explain"]
+JOBS = ["normalise", "list", "explain", "messages"]
 
-# Why a log is refused that can be explained all the same.
+# Why a log is refused that can be explained all the same, and whose messages can be told.
 ONLY_NORMALISED = (OVERSIZE, LONG_CANONICAL)
 
 # How the jobs ended over one log, and what is wrong with that.
-Taken = namedtuple("Taken", "normalised listed explained wrong")
+Taken = namedtuple("Taken", "normalised listed explained placed wrong")
 
 
 # --- A log through the jobs -------------------------------------------------------------------------------------------------
@@ -40,18 +41,34 @@ Taken = namedtuple("Taken", "normalised listed explained wrong")
 def taken(program, log, options=()):
     """A log through each job, in one piece and byte by byte, which has to give the same. Listing ends as normalising does, and
     lists nothing where the log is refused. So does explaining, for which no message is too long and which has no canonical
-    log."""
+    log. Telling the messages ends as explaining does."""
     ended, wrong = [], []
     for job in JOBS:
         ended.append(program.run([job, *options], log))
         wrong += differences(f"{job} byte by byte", program.run_short([job, *options], log), ended[-1])
-    normalised, listed, explained = ended
+    normalised, listed, explained, placed = ended
     wrong += differences("how list ends", how(listed), how(normalised))
     wrong += differences("what is listed of a refused log", listed.output if listed.status else b"", b"")
     wrong += differences("list --no-numbers", program.run(["list", "--no-numbers", *options], log), without_numbers(listed))
     if not normalised.error.endswith(ONLY_NORMALISED):
         wrong += differences("how explain ends", how(explained), how(normalised))
-    return Taken(normalised, listed, explained, wrong)
+    wrong += differences("how messages ends", how(placed), how(explained))
+    if explained.status == DONE:
+        wrong += differences("how many messages", messages_in(placed), messages_counted(explained))
+    if listed.status == DONE:
+        wrong += differences("the list by the messages", oracle.listed_again(placed.output.decode()), listed.output.decode())
+    return Taken(*ended, wrong)
+
+
+def messages_in(placed):
+    """How many messages have a line, and how many of these are pending replies."""
+    return len(re.findall(rb"\n", placed.output)), len(re.findall(rb"^\d+ pending ", placed.output, re.M))
+
+
+def messages_counted(explained):
+    """The same, as it is counted."""
+    counts = counts_in(explained.output)
+    return counts["messages"], counts["pending"]
 
 
 def without_numbers(listed):
@@ -60,12 +77,44 @@ def without_numbers(listed):
 
 
 def again(program, row, found):
-    """A canonical log is its own and lists the same, with each message in it, and without a frame lost."""
+    """A canonical log is its own and lists the same. Each message is in it, one behind the other, and no frame is lost."""
     canonical = row.canonical()
     clean = counts_line(canonical, canonical, row.sides())
-    wants = [Ended(DONE, canonical, b""), found.listed, Ended(DONE, clean, b"")]
+    places = placed_one_by_one(found.listed)
+    wants = [Ended(DONE, canonical, b""), found.listed, Ended(DONE, clean, b""), Ended(DONE, places, b"")]
     ended = [program.run([job, *sides(row)], canonical) for job in JOBS]
     return differences("the canonical log again", ended, wants)
+
+
+def placed_one_by_one(listed):
+    """What is told of the messages of a canonical log, by its list."""
+    text, last = b"", 0
+    for number, role, side, digits in parts_of(listed):
+        first, last = last + 1, last + len(canonical_frames(digits))
+        text += placed_line(number, role, side, first, last, digits)
+    return text
+
+
+def parts_of(listed):
+    """The messages of a list, each with the number of its item, its role and its side."""
+    for line in listed.output.decode().splitlines():
+        number, kind, name, digits, *answer = line.split(" ")
+        if kind == "stray":
+            yield number, "stray", name, digits
+        else:
+            yield number, "request", oracle.TESTER, digits
+            if len(answer) > 2:
+                yield number, "answer", oracle.UNIT, answer[-1]
+
+
+def canonical_frames(digits):
+    return oracle.canonical_frames(oracle.UNIT, bytes.fromhex(digits))
+
+
+def placed_line(number, role, side, first, last, digits):
+    """The line of a message in a log whose lines are a millisecond apart."""
+    begun, ended = (f"{line // 1000}.{line % 1000:03}000" for line in (first - 1, last - 1))
+    return f"{number} {role} {side} lines {first} to {last} at {begun} to {ended} {digits}\n".encode()
 
 
 def sides(row):
@@ -102,6 +151,18 @@ def session(program, row, has_items=False):
     return wrong if refused else wrong + again(program, row, found)
 
 
+def places(program):
+    for row in tables.table("places"):
+        yield f"places: {row.name}", partial(placed, program, row)
+
+
+def placed(program, row):
+    """A log has the messages of its row, or is refused as that says and has so many before."""
+    found, refused = taken(program, row.log(), sides(row)), row.text("refused")
+    want = Ended(REFUSAL if refused else DONE, row.text("placed"), refused)
+    return found.wrong + differences("messages", found.placed, want)
+
+
 def logs_without_message(program):
     for row in tables.table("lines_without_message"):
         yield f"lines_without_message: {row.name}", partial(without_message, program, row)
@@ -114,12 +175,13 @@ def without_message(program, row):
     return [
         *found.wrong,
         *differences("counts", found.explained.output.splitlines(keepends=True)[-1], row.counts()),
-        *differences("normalise and list", (found.normalised, found.listed), (nothing, nothing)),
+        *differences("normalise, list and messages", (found.normalised, found.listed, found.placed), (nothing, nothing, nothing)),
     ]
 
 
 FRAME = b"(1.000000) can0 7E0#0111\n"
 FRAME_CANONICAL = b"(0000000000.000000) can0 7E0#0111CCCCCCCCCCCC\n"
+FRAME_PLACED = b"1 request tester lines 2 to 2 at 1.000000 to 1.000000 11\n"
 
 
 def refused_lines(program):
@@ -132,17 +194,21 @@ def refused_lines(program):
 def refused_line(program, column, line):
     """A line is refused at its column: as the first one, and as the third one, after and before a frame."""
     behind = b"\n" + FRAME + line + b"\n" + FRAME
-    return refused(program, line + b"\n", 1, column) + refused(program, behind, 3, column, FRAME_CANONICAL)
+    return refused(program, line + b"\n", 1, column) + refused(program, behind, 3, column, FRAME_CANONICAL, FRAME_PLACED)
 
 
 def unfinished_line(program, column, line):
     return refused(program, line, 1, column)
 
 
-def refused(program, log, line, column, written=b""):
+def refused(program, log, line, column, canonical=b"", placed=b""):
     """A log is refused at this place, and this is written."""
-    found = taken(program, log)
-    return found.wrong + differences("normalise", found.normalised, Ended(REFUSAL, written, place(line, column)))
+    found, told = taken(program, log), place(line, column)
+    return [
+        *found.wrong,
+        *differences("normalise", found.normalised, Ended(REFUSAL, canonical, told)),
+        *differences("messages", found.placed, Ended(REFUSAL, placed, told)),
+    ]
 
 
 def recording_that_breaks_off(program):
@@ -150,12 +216,15 @@ def recording_that_breaks_off(program):
 
 
 def breaks_off(program):
-    """Of all fronts of a recording 42 are accepted, and the others are refused at their ends."""
+    """Of all fronts of a recording 42 are accepted, and the others are refused at their ends. The request is told from the first
+    whole line on, and the answer with the last one."""
     wrong, accepted = differences("bytes of the recording", len(VIN), 212), 0
     for length in range(len(VIN) + 1):
         front = VIN[:length]
         found = taken(program, front)
-        wrong += found.wrong
+        whole = sum(line == of_vin for line, of_vin in zip(front.split(b"\n"), VIN.split(b"\n")[:5]))
+        text = b"".join(VIN_PLACED.splitlines(keepends=True)[: (whole >= 1) + (whole == 5)])
+        wrong += found.wrong + differences(f"messages of {length} bytes", found.placed.output, text)
         if found.normalised.status == DONE:
             accepted += 1
         else:
@@ -237,8 +306,9 @@ def limits(program):
     for name in ["limits_nothing_written", "limits_written", "limits_of_extended_identifiers"]:
         for row in tables.table(name):
             yield f"{name}: {row.name}", partial(under_limits, program, row)
-    for row in tables.table("explained_under_limits"):
-        yield f"explained_under_limits: {row.name}", partial(explained_under_limits, program, row)
+    for name, job, mark in [("explained_under_limits", "explain", "told"), ("placed_under_limits", "messages", "placed")]:
+        for row in tables.table(name):
+            yield f"{name}: {row.name}", partial(told_under_limits, program, job, mark, row)
 
 
 def under_limits(program, row):
@@ -257,13 +327,13 @@ def accepted(found):
     return "accepted, {messages} messages, {dropped} dropped".format(**counts) if counts else ""
 
 
-def explained_under_limits(program, row):
-    """The same of the text that explains a refused log."""
+def told_under_limits(program, job, mark, row):
+    """The same of the text that a job without a canonical log writes, which is in the row with this mark."""
     wrong = []
     for limit in limits_of(row):
-        found = program.run(["explain", "--limit", limit], row.log())
-        wrong += differences("byte by byte", program.run_short(["explain", "--limit", limit], row.log()), found)
-        wrong += limited(row, limit, found, row.text("told"))
+        found = program.run([job, "--limit", limit], row.log())
+        wrong += differences("byte by byte", program.run_short([job, "--limit", limit], row.log()), found)
+        wrong += limited(row, limit, found, row.text(mark), "accepted" if found.status == DONE else "")
     return wrong
 
 
@@ -342,13 +412,16 @@ def recordings(program):
 
 
 def sent_in_each_style(program, length, size):
-    """However its frames are padded, a recording of a message has the message's canonical log."""
+    """However its frames are padded, a recording of a message has the message's canonical log, and the message stands in its
+    first and its last line."""
     message, wrong = message_of(length), []
     canonical = recorded(CANONICAL, message)
     for style in itertools.starmap(partial(Style, size), itertools.product([b"\x00", b"\xff"], [False, True])):
         log = recorded(style, message)
         wrong += differences(f"{style}", program.run(["normalise"], log), Ended(DONE, canonical, b""))
         wrong += differences(f"explain {style}", program.run(["explain"], log), Ended(DONE, counts_line(log, canonical), b""))
+        text = placed_line(1, "stray", oracle.UNIT, 1, log.count(b"\n"), message.hex().upper())
+        wrong += differences(f"messages {style}", program.run(["messages"], log), Ended(DONE, text, b""))
     return wrong
 
 
@@ -442,8 +515,8 @@ def main():
     with tempfile.TemporaryDirectory() as folder, ThreadPoolExecutor() as workers:
         program = Program(cases.program, Refuser(folder))
         kinds = [
-            sessions, logs_without_message, frames_without_part, refused_lines, recording_that_breaks_off, names_listed, limits,
-            configurations, comparisons, recordings, long_logs, devices,
+            sessions, places, logs_without_message, frames_without_part, refused_lines, recording_that_breaks_off, names_listed,
+            limits, configurations, comparisons, recordings, long_logs, devices,
         ]
         names, checks = zip(*(case for kind in kinds for case in kind(program)))
         cases.report("each table of rows/ is taken", [f"{name} is not" for name in tables.left()])

@@ -20,6 +20,7 @@ What is told of the log is the lines with the mark `told`, and last its counts:
     counts NAME=NUMBER   counts that the row is about; there may be several such lines, and none of them need say anything.
                          The others are those of its log and its canonical log, or zero: counts.py says which
 
+    placed TEXT          the line of a message
     between TESTER UNIT  the identifiers, where they are not 7E0 and 7E8
 """
 
@@ -34,6 +35,10 @@ EXAMPLES = TESTS.parent / "examples"
 # A vehicle identification number, read in five classic frames.
 VIN = (EXAMPLES / "vin.log").read_bytes()
 VIN_CANONICAL = (EXAMPLES / "vin.canonical").read_bytes()
+VIN_PLACED = b"""\
+1 request tester lines 1 to 1 at 1700000000.000000 to 1700000000.000000 22F190
+1 answer unit lines 2 to 5 at 1700000000.012000 to 1700000000.030000 62F1905742413341354335304546313233343536
+"""
 
 # The length of a canonical line with its line feed.
 CANONICAL_LINE = 46
