@@ -3,7 +3,7 @@ use Rattle.std.proofs.Common.{◌≡◌, ℕ, ◌+◌, ◌≤◌, false, refl, s
 use Rattle.std.proofs.Common.{List, [], ◌∷◌, ◌++◌, length, append_assoc, length-append, Ok, Err}
 use Rattle.std.specs.Prelude.{◌==◌}
 use Rattle.std.proofs.lemmas.Bool.{cases_Bool}
-use Rattle.can_log.specs.FieldReader.{Stop, short, refused, FieldRead, Reader, read_on, and_then, either}
+use Rattle.can_log.specs.proving.FieldReader.{Stop, short, refused, FieldRead, Reader, read_on, and_then, either}
 use Rattle.can_log.proofs.Lists.{parts_again, parts_more}
 use Rattle.can_log.proofs.FirstBytes.{Follows, Misses, Starts, follows_weaker, follows_append, follows_front, follows_head, starts_append, starts_head, first_of_both, first_of_front}
 use Rattle.can_log.proofs.Results.{read_on-ok, read_on-err}

@@ -7,10 +7,10 @@ use Rattle.can_log.specs.declared.line.Parts.{Parts}
 use Rattle.can_log.specs.declared.frame.Stamped.{Stamped}
 use Rattle.can_log.specs.Line.{LineMeans}
 use Rattle.can_log.specs.Refused.{HasCompletion}
-use Rattle.can_log.specs.Judging.{IsRefusedFrom}
-use Rattle.can_log.specs.FieldReader.{Gives}
-use Rattle.can_log.specs.LineReader.{line_at, meaning_by, AreLineParts}
-use Rattle.can_log.specs.Views.{line_parts_of, OnShort, OnRefused}
+use Rattle.can_log.specs.proving.Judging.{IsRefusedFrom}
+use Rattle.can_log.specs.proving.FieldReader.{Gives}
+use Rattle.can_log.specs.proving.LineReader.{line_at, meaning_by, AreLineParts}
+use Rattle.can_log.specs.proving.Views.{line_parts_of, OnShort, OnRefused}
 use Rattle.can_log.proofs.Results.{value_is}
 use Rattle.can_log.proofs.LineReads.{read_means, means_read, short_becomes, refused_first, read_parts}
 

@@ -3,7 +3,7 @@ use Rattle.std.proofs.Common.{◌≡◌, ℕ, ◌+◌, ◌*◌, ◌<◌, ◌%◌
 use Rattle.std.specs.Char.{is_ascii_digit, digit_value}
 use Rattle.std.specs.Str.Parse.{digits_value}
 use Rattle.std.proofs.lemmas.Simd.{pick_l_whole}
-use Rattle.can_log.specs.Plain.{AreDecimals, seconds_of, micros_of}
+use Rattle.can_log.specs.proving.Plain.{AreDecimals, seconds_of, micros_of}
 use Rattle.can_log.proofs.DigitValues.{digit_is}
 use Rattle.can_log.proofs.EachElement.{AllByRecursion-front, AllByRecursion-back}
 

@@ -11,7 +11,7 @@ use Rattle.std.proofs.Math.Seq.{take-add, take-length}
 use Rattle.can_log.proofs.DigitValues.{AreHex}
 use Rattle.can_log.proofs.EachElement.{AllByRecursion-append}
 use lib.Lanes.{Each1, chunk, zip2, mask_l, top}
-use Rattle.can_log.specs.Plain.{IsFrontOf, first_set}
+use Rattle.can_log.specs.proving.Plain.{IsFrontOf, first_set}
 
 -- an operation on two vectors that were computed lane by lane from v
 pub lanes_joined : (h : ℕ → ℕ → ℕ) (f g : ℕ → ℕ) (v : List ℕ) {a b : List ℕ} → a ≡ map f v → b ≡ map g v → zip2 h a b ≡ map (λ x. h (f x) (g x)) v

@@ -4,8 +4,8 @@ use Rattle.std.proofs.Common.{◌≡◌, ℕ, zero, suc, ◌+◌, ◌-◌, ◌�
 use Rattle.std.proofs.Common.{List, [], ◌∷◌, ◌++◌, length, append_assoc, length-append, Option, Ok, Err}
 use Rattle.std.specs.Prelude.{codes}
 use Rattle.can_log.specs.declared.frame.Stamped.{Stamped}
-use Rattle.can_log.specs.FieldReader.{FieldRead, short, refused}
-use Rattle.can_log.specs.LineReader.{line_at, meaning_by}
+use Rattle.can_log.specs.proving.FieldReader.{FieldRead, short, refused}
+use Rattle.can_log.specs.proving.LineReader.{line_at, meaning_by}
 use Rattle.can_log.specs.Line.{Parts, LineMeans, IsNoLine}
 use Rattle.can_log.specs.Refused.{NoLineFeed, HasCompletion, IsRefusedPlace}
 use Rattle.can_log.specs.Log.{log_lines, LinesMean, LogMeans, IsRefusedRest, IsRefusedIn}

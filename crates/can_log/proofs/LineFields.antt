@@ -7,10 +7,10 @@ use Rattle.std.proofs.lemmas.Bool.{cases_Bool, eqb-true}
 use Rattle.std.proofs.lemmas.List.{append-nil, length-replicate}
 use Rattle.can_log.specs.declared.field.Class.{Class}
 use Rattle.can_log.specs.declared.field.Class.TheVariants.{Digit, Hex, Space, Visible, UpToEight, AboveEight, Mark}
-use Rattle.can_log.specs.FieldReader.{Reader, short, ◌>>=◌, ◌>>◌, is_in, run_at, byte_at, done, either, only}
+use Rattle.can_log.specs.proving.FieldReader.{Reader, short, ◌>>=◌, ◌>>◌, is_in, run_at, byte_at, done, either, only}
 use Rattle.can_log.specs.Line.{Body, classic, remote, fd, Parts}
-use Rattle.can_log.specs.LineReader.{Stamp, stamp_at, place_at, is_identifier, identifier_at, is_even, data_at, raw_digit_at, raw_dlc_at, is_eight}
-use Rattle.can_log.specs.LineReader.{classic_at, remote_at, fd_at, body_at, gap_mark_at, mark_at, end_at, frame_at}
+use Rattle.can_log.specs.proving.LineReader.{Stamp, stamp_at, place_at, is_identifier, identifier_at, is_even, data_at, raw_digit_at, raw_dlc_at, is_eight}
+use Rattle.can_log.specs.proving.LineReader.{classic_at, remote_at, fd_at, body_at, gap_mark_at, mark_at, end_at, frame_at}
 use Rattle.can_log.proofs.EachElement.{AllByRecursion-front}
 use Rattle.can_log.proofs.FirstBytes.{Follows, Misses, Starts, AnyByte, any_follows, follows_weaker, follows_first, starts_append, starts_misses}
 use Rattle.can_log.proofs.FieldLaws.{CanEnd, Law, Then, then_of, then_head, then_begins, then_law, Either, either_law}

@@ -9,7 +9,7 @@ use Rattle.can_log.specs.declared.scanner.Judgement.TheVariants as judgement
 use Rattle.can_log.specs.Line.{Body, classic, remote, fd, LineSpelling, spell_body, spell_mark, spell_line, IsBody, IsMark, IsLineSpelling, LineMeans}
 use Rattle.can_log.specs.declared.frame.Stamped.{Stamped}
 use Rattle.can_log.specs.Refused.{HasCompletion}
-use Rattle.can_log.specs.Judging.{Judged, IsRefusedAt, IsRefusedFrom}
+use Rattle.can_log.specs.proving.Judging.{Judged, IsRefusedAt, IsRefusedFrom}
 use Rattle.can_log.proofs.Lists.{parts_more}
 
 body_length : (b : Body) → IsBody b → length (spell_body b) ≤ 130

@@ -8,10 +8,10 @@ use Rattle.std.proofs.lemmas.List.{append-nil}
 use Rattle.can_log.specs.Line.{Body, classic, remote, fd, IsBody, LineSpelling, Parts, parts_in, stamped_of, spell_line, IsLineText, LineMeans}
 use Rattle.can_log.specs.declared.frame.Stamped.{Stamped}
 use Rattle.can_log.specs.Refused.{HasCompletion, HasNoCompletion}
-use Rattle.can_log.specs.Judging.{IsRefusedFrom}
-use Rattle.can_log.specs.FieldReader.{short, refused, FieldRead, Reader, byte_at, and_then, done, either}
-use Rattle.can_log.specs.LineReader.{stamp_at, place_at, identifier_at, body_at, mark_at, end_at, frame_at, opened_at, blank_at, line_at}
-use Rattle.can_log.specs.LineReader.{meaning_by, AreParts, AreLineParts, FitsBody}
+use Rattle.can_log.specs.proving.Judging.{IsRefusedFrom}
+use Rattle.can_log.specs.proving.FieldReader.{short, refused, FieldRead, Reader, byte_at, and_then, done, either}
+use Rattle.can_log.specs.proving.LineReader.{stamp_at, place_at, identifier_at, body_at, mark_at, end_at, frame_at, opened_at, blank_at, line_at}
+use Rattle.can_log.specs.proving.LineReader.{meaning_by, AreParts, AreLineParts, FitsBody}
 use Rattle.can_log.proofs.Lists.{parts_more}
 use Rattle.can_log.proofs.FirstBytes.{Starts, Misses}
 use Rattle.can_log.proofs.Results.{read_on-ok, value_is, rest_is}

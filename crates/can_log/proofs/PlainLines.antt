@@ -11,7 +11,7 @@ use Rattle.can_log.specs.declared.frame.Kind.{Kind}
 use Rattle.can_log.specs.Frame.{IsFrame, IsIdentifier}
 use Rattle.can_log.proofs.SpelledBytes.{bytes_len}
 use Rattle.can_log.specs.Line.{spell_body, spell_line, identifier_of, frame_kind_of, data_of, bytes_spelled, IsRunOf, IsIdentifierText, IsDataText, IsBody, IsLineSpelling}
-use Rattle.can_log.specs.Plain.{HavePlainWidths, IsStamp, AreDecimals, AreFlags, seconds_of, micros_of, most_digits, flags_spelled, digits_of, body_text, body_with, plain_text, spelling_of}
+use Rattle.can_log.specs.proving.Plain.{HavePlainWidths, IsStamp, AreDecimals, AreFlags, seconds_of, micros_of, most_digits, flags_spelled, digits_of, body_text, body_with, plain_text, spelling_of}
 use Rattle.can_log.proofs.EachElement.{AllByRecursion-front, AllByRecursion-back}
 use Rattle.can_log.proofs.Spelling.{id_to}
 

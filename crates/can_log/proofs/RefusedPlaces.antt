@@ -8,7 +8,7 @@ use Rattle.can_log.specs.declared.frame.Stamped.{Stamped}
 use Rattle.can_log.specs.Line.{LineMeans, IsNoLine}
 use Rattle.can_log.specs.Refused.{NoLineFeed, HasCompletion, HasNoCompletion, IsRefusedPlace, IsUnfinishedAt}
 use Rattle.can_log.specs.Log.{IsRefusedRest}
-use Rattle.can_log.specs.Judging.{IsRefusedAt}
+use Rattle.can_log.specs.proving.Judging.{IsRefusedAt}
 use Rattle.can_log.proofs.Lists.{parts_more}
 use Rattle.can_log.proofs.Cuts.{two_cuts}
 use Rattle.can_log.proofs.LineReads.{front_legal, fronts_legal, means_becomes}

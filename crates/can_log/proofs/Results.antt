@@ -1,7 +1,7 @@
 -- Results: what they hold, and what is known of two fields that are read one after the other.
 use Rattle.std.proofs.Common.{◌≡◌, List, ℕ, Result, Ok, Err, refl, ap, inl, inr, ◌⊎◌}
 use Rattle.std.specs.Prelude.{OnOk, IsOk}
-use Rattle.can_log.specs.FieldReader.{Stop, refused, FieldRead, Reader, read_on}
+use Rattle.can_log.specs.proving.FieldReader.{Stop, refused, FieldRead, Reader, read_on}
 
 pub from_ok : {A E P : Type 0} (r : Result A E) → OnOk r P → IsOk r → P
 from_ok (Ok x) h ok = h

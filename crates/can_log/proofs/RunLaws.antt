@@ -6,7 +6,7 @@ use Rattle.std.specs.List.{AllByRecursion}
 use Rattle.std.proofs.lemmas.Bool.{cases_Bool, cases_eq, cases_lt, eqb-true, eq-eqb, ne_eqb, le-ltb, lt-ltb}
 use Rattle.std.proofs.lemmas.List.{append-nil, take_at, drop_at, length-replicate}
 use Rattle.can_log.specs.declared.field.Class.{Class}
-use Rattle.can_log.specs.FieldReader.{short, refused, FieldRead, Reader, ◌>>◌, is_in, stop_at, run_length, run_at, byte_at}
+use Rattle.can_log.specs.proving.FieldReader.{short, refused, FieldRead, Reader, ◌>>◌, is_in, stop_at, run_length, run_at, byte_at}
 use Rattle.can_log.proofs.EachElement.{AllByRecursion-append, AllByRecursion-replicate}
 use Rattle.can_log.proofs.FirstBytes.{Follows, Starts, AnyByte, any_follows, follows_first, starts_first}
 use Rattle.can_log.proofs.Results.{ok_is, rest_is, refused_is}

@@ -4,7 +4,7 @@ use Rattle.std.specs.List.{list_all}
 use Rattle.std.proofs.lemmas.Bool.{and_parts}
 use Rattle.std.proofs.Math.Seq.{drop-cons, drop-length}
 use Rattle.can_log.specs.declared.field.Class.{Class}
-use Rattle.can_log.specs.FieldReader.{is_in, run_length}
+use Rattle.can_log.specs.proving.FieldReader.{is_in, run_length}
 
 pub run_length-done : (class : Class) (bytes : List ℕ) → run_length class 0 bytes ≡ 0
 unfolding run_length

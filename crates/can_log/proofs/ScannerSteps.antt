@@ -11,10 +11,10 @@ use Rattle.can_log.specs.declared.scanner.Judgement.{Judgement}
 use Rattle.can_log.specs.declared.scanner.Judgement.TheVariants as judgement
 use Rattle.can_log.specs.declared.plain.Fields.{Fields}
 use Rattle.can_log.specs.Line.{LineMeans, IsNoLine, IsLineSpelling, spell_line, stamped_of, parts_in}
-use Rattle.can_log.specs.Plain.{spelling_of}
+use Rattle.can_log.specs.proving.Plain.{spelling_of}
 use Rattle.can_log.specs.Refused.{NoLineFeed, HasCompletion, IsRefusedPlace, IsUnfinishedAt}
 use Rattle.can_log.specs.Scanning.{Place, Standing, Scans, ScansFrom, Finishes, FinishesFrom}
-use Rattle.can_log.specs.Judging.{Judged}
+use Rattle.can_log.specs.proving.Judging.{Judged}
 use Rattle.can_log.proofs.LineFeeds.{at_feed, line_clean}
 use Rattle.can_log.proofs.RefusedPlaces.{place_extends, not_refused}
 

@@ -5,8 +5,8 @@ use Rattle.std.proofs.Common.{List, [], ◌∷◌, ◌++◌, Ok, Err}
 use Rattle.std.specs.Prelude.{◌≢◌, codes}
 use Rattle.std.proofs.lemmas.Bool.{cases_Bool, cases_eq, cond_both, ne_eqb}
 use Rattle.std.proofs.lemmas.List.{append-nil}
-use Rattle.can_log.specs.FieldReader.{Stop, short, refused, FieldRead, Reader, and_then, done, stop_at, only}
-use Rattle.can_log.specs.LineReader.{end_at}
+use Rattle.can_log.specs.proving.FieldReader.{Stop, short, refused, FieldRead, Reader, and_then, done, stop_at, only}
+use Rattle.can_log.specs.proving.LineReader.{end_at}
 use Rattle.can_log.proofs.FirstBytes.{Follows, AnyByte, follows_weaker}
 use Rattle.can_log.proofs.Results.{ok_is, value_is, rest_is, refused_is, read_on-ok, read_on-err}
 use Rattle.can_log.proofs.FieldLaws.{Takes, IsOpen, Refuses, CanEnd, Law, refuses_as, can_end_as, open_on, reads_again}

@@ -11,8 +11,8 @@ use Rattle.can_log.specs.declared.field.Class.{Class}
 use Rattle.can_log.specs.declared.field.Class.TheVariants.{UpToEight}
 use Rattle.can_log.specs.Line.{Body, classic, remote, fd, LineSpelling, Parts, parts_in, spell_raw_dlc, spell_body, spell_mark, spell_line}
 use Rattle.can_log.specs.Line.{IsRunOf, is_raw_dlc, IsDataText, IsBody, IsIdentifierText, IsMark, IsLineSpelling, IsLineText}
-use Rattle.can_log.specs.FieldReader.{is_in}
-use Rattle.can_log.specs.LineReader.{Stamp, is_identifier, is_eight}
+use Rattle.can_log.specs.proving.FieldReader.{is_in}
+use Rattle.can_log.specs.proving.LineReader.{Stamp, is_identifier, is_eight}
 use Rattle.can_log.proofs.Lists.{parts_are}
 use Rattle.can_log.proofs.DigitValues.{AreHex, three_low, three_high}
 use Rattle.can_log.proofs.FieldLaws.{then_of}

@@ -3,7 +3,7 @@
 ghost use Rattle.std.specs.Prelude.{◌≡◌, ◌<◌, ◌≤◌, ◌^◌, length, take};
 ghost use Rattle.std.specs.Str.Parse.{digits_value};
 ghost use Rattle.can_log.specs.declared.field.Class.TheVariants.{Digit};
-ghost use Rattle.can_log.specs.FieldReader.{Gives, GivesField, stop_of, stop_at, is_in, run_length, run_at, byte_at};
+ghost use Rattle.can_log.specs.proving.FieldReader.{Gives, GivesField, stop_of, stop_at, is_in, run_length, run_at, byte_at};
 
 use crate::hexadecimal::{are_hex_digits, is_hex_digit};
 
@@ -81,7 +81,7 @@ pub(crate) fn stop_at(bytes: &[u8]) -> Stop<'_>
 }
 
 /// The bytes of a class at the front, `least` to `most` of them, and the bytes after them.
-#[tactic(auto, unfolding(crate::specs::FieldReader::run_at))]
+#[tactic(auto, unfolding(crate::specs::proving::FieldReader::run_at))]
 #[inline(always)]
 pub(crate) fn run_of(
     class: Class,
@@ -127,7 +127,7 @@ fn leading_digits(most: usize, bytes: &[u8]) -> (usize, u64)
 }
 
 /// The decimal digits at the front, `least` to `most` of them, and the bytes after them.
-#[tactic(auto, unfolding(crate::specs::FieldReader::run_at))]
+#[tactic(auto, unfolding(crate::specs::proving::FieldReader::run_at))]
 #[inline(always)]
 pub(crate) fn number_of(
     least: usize,
@@ -146,7 +146,7 @@ pub(crate) fn number_of(
 }
 
 /// The bytes after the byte `c`.
-#[tactic(auto, unfolding(crate::specs::FieldReader::byte_at))]
+#[tactic(auto, unfolding(crate::specs::proving::FieldReader::byte_at))]
 #[inline(always)]
 pub(crate) fn byte_of(c: u8, bytes: &[u8]) -> Result<&[u8], Stop<'_>>
     ensures { Gives (λ x. (tt, x.now)) result (byte_at c bytes.now) }

@@ -3,8 +3,8 @@
 ghost use Rattle.std.specs.Prelude.{◌≡◌, ◌≤◌, ◌%◌, length, take};
 ghost use Rattle.std.specs.Char.{is_ascii_hexdigit};
 ghost use Rattle.can_log.specs.Line.{IsRunOf};
-ghost use Rattle.can_log.specs.FieldReader.{is_in};
-ghost use Rattle.can_log.specs.Plain.{IsFrontOf, first_set};
+ghost use Rattle.can_log.specs.proving.FieldReader.{is_in};
+ghost use Rattle.can_log.specs.proving.Plain.{IsFrontOf, first_set};
 ghost use Rattle.can_log.specs.declared.field.Class.TheVariants.{Visible};
 
 use std::simd::prelude::*;

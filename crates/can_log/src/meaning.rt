@@ -5,8 +5,8 @@ ghost use Rattle.std.specs.List.{AllByRecursion};
 ghost use Rattle.std.specs.Char.{is_ascii_hexdigit};
 ghost use Rattle.std.specs.Str.Parse.{digits_value};
 ghost use Rattle.can_log.specs.Line.{IsRunOf, IsDataText, IsIdentifierText, identifier_of, bytes_spelled, stamped_of};
-ghost use Rattle.can_log.specs.LineReader.{AreParts};
-ghost use Rattle.can_log.specs.Views.{parts_of};
+ghost use Rattle.can_log.specs.proving.LineReader.{AreParts};
+ghost use Rattle.can_log.specs.proving.Views.{parts_of};
 
 use crate::canonical::{append, write_at};
 use crate::frame::{Frame, Id, Kind, Stamped};

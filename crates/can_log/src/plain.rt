@@ -4,8 +4,8 @@
 ghost use Rattle.std.specs.Prelude.{◌≡◌, ◌≤◌, ◌+◌, ◌*◌, ◌++◌, IfSome, None, codes, length, take};
 ghost use Rattle.std.specs.Str.Parse.{digits_value};
 ghost use Rattle.can_log.specs.Line.{parts_in, identifier_of, stamped_of, frame_kind_of, spell_line, IsLineSpelling, IsRunOf, IsIdentifierText, IsDataText};
-ghost use Rattle.can_log.specs.FieldReader.{is_in};
-ghost use Rattle.can_log.specs.Plain.{HavePlainWidths, AreDecimals, seconds_of, micros_of, IsPlainBody, AreFlags, digits_of, body_with, flags_spelled, most_digits, body_text, plain_text, spelling_of};
+ghost use Rattle.can_log.specs.proving.FieldReader.{is_in};
+ghost use Rattle.can_log.specs.proving.Plain.{HavePlainWidths, AreDecimals, seconds_of, micros_of, IsPlainBody, AreFlags, digits_of, body_with, flags_spelled, most_digits, body_text, plain_text, spelling_of};
 ghost use Rattle.can_log.specs.declared.field.Class.TheVariants.{Visible};
 
 use crate::frame::{Frame, Id, Kind, Stamped};
@@ -217,7 +217,7 @@ fn identifier_in_front(bytes: &[u8]) -> Option<(&[u8], Id, &[u8])>
 }
 
 /// The body of a line that ends after its data, and the bytes after its line feed.
-#[tactic(auto, unfolding(crate::specs::Plain::body_text))]
+#[tactic(auto, unfolding(crate::specs::proving::Plain::body_text))]
 #[inline(always)]
 fn body_in_front(bytes: &[u8]) -> Option<(PlainBody<'_>, &[u8])>
     requires { most_digits None + 15 ≤ length bytes.now }

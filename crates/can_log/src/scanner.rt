@@ -4,12 +4,12 @@ ghost use Rattle.std.specs.Prelude.{◌≡◌, ℕ, ◌≤◌, ◌+◌, ◌^◌,
 ghost use Rattle.can_log.specs.Frame.{IsFrame};
 ghost use Rattle.can_log.specs.Line.{LineMeans, IsDataText, bytes_spelled, identifier_of, stamped_of, parts_in};
 ghost use Rattle.can_log.specs.Refused.{NoLineFeed, HasCompletion, IsRefusedPlace};
-ghost use Rattle.can_log.specs.Judging.{Judged};
+ghost use Rattle.can_log.specs.proving.Judging.{Judged};
 ghost use Rattle.can_log.specs.Scanning.{Scans, ScansForeign, Finishes};
 ghost use Rattle.can_log.specs.WholeLog.{at_start};
 ghost use Rattle.can_log.specs.declared.scanner.Scan.TheVariants.{Bad, Line};
 ghost use Rattle.can_log.specs.declared.frame.Stamped.{Stamped as StampedValue};
-ghost use Rattle.can_log.specs.Plain.{HavePlainWidths, AreDecimals, seconds_of, micros_of, spelling_of};
+ghost use Rattle.can_log.specs.proving.Plain.{HavePlainWidths, AreDecimals, seconds_of, micros_of, spelling_of};
 
 use crate::field::Stop;
 use crate::frame::{Frame, Id, Kind, Stamped};
@@ -73,7 +73,7 @@ struct Place {
 impl Model for Scanner {
     ghost use Rattle.std.specs.Prelude.{option_map};
     ghost use Rattle.can_log.specs.Scanning.{Standing};
-    ghost use Rattle.can_log.specs.Judging.{StandsWell};
+    ghost use Rattle.can_log.specs.proving.Judging.{StandsWell};
 
     ghost Value = { Standing };
 

@@ -4,7 +4,7 @@ ghost use Rattle.std.specs.Prelude.{◌≡◌, ◌+◌, ◌*◌, ◌++◌, IsTru
 ghost use Rattle.std.specs.List.{AllByRecursion};
 ghost use Rattle.std.specs.Char.{is_ascii_digit};
 ghost use Rattle.std.specs.Str.Parse.{digits_value};
-ghost use Rattle.can_log.specs.Plain.{AreDecimals, IsStamp, seconds_of, micros_of};
+ghost use Rattle.can_log.specs.proving.Plain.{AreDecimals, IsStamp, seconds_of, micros_of};
 
 use crate::lanes::{LANES, first_set};
 use std::simd::prelude::*;

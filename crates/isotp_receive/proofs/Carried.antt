@@ -10,7 +10,7 @@ use Rattle.isotp_receive.specs.Trace.{Entry, single, first, role, At}
 use Rattle.isotp_receive.specs.StandingReception.{StandingReception, stands}
 use Rattle.isotp_receive.specs.Recording.{IsRisingFrom, IsSegmented, Carries, unsegmented, segmented, Transfer, IsIn, last_or}
 use Rattle.isotp_receive.proofs.Heard.{heard}
-use Rattle.isotp_receive.specs.Machine.{after}
+use Rattle.isotp_receive.specs.proving.Machine.{after}
 use Rattle.isotp_receive.proofs.ListPositions.{get-same, get-here}
 use Rattle.isotp_receive.proofs.PositionLists.{above-least, first-or-later}
 use Rattle.isotp_receive.proofs.Readings.{first_from}

@@ -9,7 +9,7 @@ use Rattle.isotp_receive.specs.Trace.{Entry, FrameRole, consecutive, role, At}
 use Rattle.isotp_receive.specs.Fit.{one_more, last}
 use Rattle.isotp_receive.specs.StandingReception.{StandingReception, fit_of}
 use Rattle.isotp_receive.specs.Recording.{unsegmented, segmented, Transfer, IsTransfer, IsIn, last_or, IsGiven}
-use Rattle.isotp_receive.specs.Machine.{after, fresh}
+use Rattle.isotp_receive.specs.proving.Machine.{after, fresh}
 use Rattle.isotp_receive.proofs.PositionLists.{in-append, in-left, in-right, rising-append, last-snoc}
 use Rattle.isotp_receive.proofs.Readings.{whole_from, next_from}
 use Rattle.isotp_receive.proofs.FitTests.{was-last}

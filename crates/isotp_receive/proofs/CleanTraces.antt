@@ -22,7 +22,7 @@ use Rattle.isotp_receive.specs.Verdict.{VerdictValue, message, began, stored, fl
 use Rattle.isotp_receive.specs.Recording.{Transfer, IsTransfer, IsIn, last_or, AreApart, EachPair, IsGiven, IsIdle, IsRecording}
 use Rattle.isotp_receive.specs.CleanTrace.{IsKept, EachClean, IsClean}
 use Rattle.isotp_receive.proofs.Heard.{placed}
-use Rattle.isotp_receive.specs.Machine.{after}
+use Rattle.isotp_receive.specs.proving.Machine.{after}
 use Rattle.isotp_receive.proofs.ListPositions.{get-same, get-here}
 use Rattle.isotp_receive.proofs.Directions.{same, same-self, other-apart}
 use Rattle.isotp_receive.proofs.OneMore.{one_more}

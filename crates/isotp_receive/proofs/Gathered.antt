@@ -10,7 +10,7 @@ use Rattle.isotp_receive.specs.OnTime.{n_cr, IsReference}
 use Rattle.isotp_receive.specs.Fit.{one_more, last}
 use Rattle.isotp_receive.specs.StandingReception.{StandingReception, fit_of}
 use Rattle.isotp_receive.specs.Recording.{IsConsecutiveFrame, EachNumbered, IsRisingFrom, IsSegmented, IsIn}
-use Rattle.isotp_receive.specs.Machine.{fresh}
+use Rattle.isotp_receive.specs.proving.Machine.{fresh}
 use Rattle.isotp_receive.proofs.Products.{sum-grows}
 use Rattle.isotp_receive.proofs.PositionLists.{in-append, rising-append, numbered-snoc}
 use Rattle.isotp_receive.proofs.Readings.{first_from, next_from}

@@ -11,7 +11,7 @@ use Rattle.isotp_receive.specs.OnTime.{n_cr}
 use Rattle.isotp_receive.specs.Fit.{one_more, last}
 use Rattle.isotp_receive.specs.StandingReception.{StandingReception, is_on_time, expected, has_length, fit_of}
 use Rattle.isotp_receive.specs.Recording.{IsSegmented}
-use Rattle.isotp_receive.specs.Machine.{after, fresh}
+use Rattle.isotp_receive.specs.proving.Machine.{after, fresh}
 use Rattle.isotp_receive.proofs.Fronts.{front-goes-on}
 use Rattle.isotp_receive.proofs.ListPositions.{get-same}
 use Rattle.isotp_receive.proofs.Readings.{first_from, next_from}

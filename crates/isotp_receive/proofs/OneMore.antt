@@ -8,7 +8,7 @@ use Rattle.direction.specs.declared.Dir.{Dir}
 use Rattle.isotp_receive.specs.Trace.{Entry, FirstFrame, FrameRole, single, first, consecutive, continue_or_wait, overflow, no_part, role}
 use Rattle.isotp_receive.specs.Places.{consecutive_by, consecutive_frames_in}
 use Rattle.isotp_receive.specs.StandingReception.{carried_by, carried, referred, reference, carried_after, is_on_time, expected, has_length, stays_incomplete, keeps_by, keep, is_open, StandingReception, standing_of, since, or_else, stands}
-use Rattle.isotp_receive.specs.Machine.{continued_by, continued, continue, after}
+use Rattle.isotp_receive.specs.proving.Machine.{continued_by, continued, continue, after}
 use Rattle.isotp_receive.proofs.Choices.{stopped, unchanged, stopped-at-zero, moved-behind}
 use Rattle.isotp_receive.proofs.Readings.{IsRoleOf, role_from}
 use Rattle.isotp_receive.proofs.CountedFrames.{taken-snoc, carried-snoc, reference-snoc, keep-snoc}

@@ -6,7 +6,7 @@ use Rattle.isotp_receive.specs.Places.{bytes_before, IsConsecutiveCount}
 use Rattle.isotp_receive.specs.OnTime.{IsReference}
 use Rattle.isotp_receive.specs.StandingReception.{StandingReception}
 use Rattle.isotp_receive.specs.Recording.{IsConsecutiveFrame, EachNumbered, last_or}
-use Rattle.isotp_receive.specs.Machine.{after}
+use Rattle.isotp_receive.specs.proving.Machine.{after}
 use Rattle.isotp_receive.proofs.References.{still, moved}
 
 -- How far the message has come before position n: it began at `begun`, `number` of its `count` consecutive frames have

@@ -18,7 +18,4 @@ pub mod Growth
 pub mod Capacities
 pub mod EventSeen
 pub mod Taken
-pub mod Machine
-pub mod Kept
-pub mod ReceptionLending
-pub mod PairLending
+pub mod proving

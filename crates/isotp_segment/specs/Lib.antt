@@ -1,4 +1,4 @@
 pub mod CanonicalFrames
-pub mod Given
 pub mod Timed
 pub mod Laws
+pub mod proving

@@ -61,7 +61,7 @@ impl<'a> Model for Segments<'a> {
     ghost use Rattle.direction.specs.declared.Dir.{Dir};
     ghost use Rattle.isotp_receive.specs.declared.TheConstants.{MESSAGE_LIMIT};
     ghost use Rattle.isotp_segment.specs.CanonicalFrames.{canonical_frames};
-    ghost use Rattle.isotp_segment.specs.Given.{AreGiven};
+    ghost use Rattle.isotp_segment.specs.proving.Given.{AreGiven};
 
     ghost Value = { List (Dir × List ℕ) };
 

@@ -16,7 +16,7 @@ use Rattle.isotp_receive.specs.Growth.{MayBeRefused}
 use Rattle.isotp_receive.specs.Trace.{Entry}
 use Rattle.isotp_receive.specs.Verdict.{VerdictValue, verdict}
 use Rattle.isotp_receive.proofs.Promises.{kept_is_within}
-use Rattle.trace_canon.specs.Announcing.{AnnouncesWithin}
+use Rattle.trace_canon.specs.proving.Announcing.{AnnouncesWithin}
 use Rattle.trace_canon.specs.Needing.{IsKeptForMessage}
 use Rattle.trace_canon.specs.Refusal.{oversize, EachWithin}
 use Rattle.trace_canon.specs.Settings.{Settings, direction_of}

@@ -11,9 +11,9 @@ use Rattle.uds_exchange.specs.Order.{early}
 use Rattle.uds_exchange.specs.Orderer.{IsHeld, OrdererValue, stands_after}
 use Rattle.trace_canon.specs.Needing.{CompletesHeld}
 use Rattle.trace_canon.specs.CanonicalScript.{place_of, lines_due, StandsCanonical}
-use Rattle.trace_canon.specs.Saying.{SaysDue}
+use Rattle.trace_canon.specs.proving.Saying.{SaysDue}
 use Rattle.trace_canon.specs.Settings.{Settings}
-use Rattle.trace_canon.specs.Writing.{Place, start_of, text_from, place_after}
+use Rattle.trace_canon.specs.proving.Writing.{Place, start_of, text_from, place_after}
 use Rattle.trace_canon.proofs.CanonicalWriting.{text_none, place_append}
 use Rattle.trace_canon.proofs.OneMoreFrame.{messages_more}
 use Rattle.trace_canon.proofs.Texts.{all_frames-append}

@@ -9,7 +9,7 @@ use Rattle.uds_exchange.specs.Orderer.{StopsHeld, StopsDue}
 use Rattle.uds_exchange.specs.Sink.{AfterOk, Puts}
 use Rattle.uds_exchange.specs.declared.orderer.OrderFault.{OrderFault}
 use Rattle.uds_exchange.specs.declared.orderer.OrderFault.TheVariants as order_fault
-use Rattle.trace_canon.specs.Writing.{text_from, place_after}
+use Rattle.trace_canon.specs.proving.Writing.{text_from, place_after}
 use Rattle.trace_canon.specs.declared.canonical_sink.CanonicalSink.{CanonicalSink}
 use Rattle.trace_canon.proofs.CanonicalWriting.{text_none, place_none, text_append, place_append}
 

@@ -18,7 +18,7 @@ use Rattle.uds_exchange.specs.Meaning.{meaning, flattened}
 use Rattle.uds_exchange.proofs.Promises.{early_grows, early_then_held}
 use Rattle.trace_canon.specs.CanonicalScript.{StandsCanonical, is_too_long, answers_canonical, CanonicalTellsTheSame, canonical_script, place_of, lines_due, text_of_early, CanonicalTellsEarly}
 use Rattle.trace_canon.specs.Told.{told_after, told, told_of_lines, whole_of_lines, EndsWith, WritesTold, WritesFrontOfTold, TellsEagerly}
-use Rattle.trace_canon.specs.Writing.{Place, start_of, text_from, place_after}
+use Rattle.trace_canon.specs.proving.Writing.{Place, start_of, text_from, place_after}
 use Rattle.trace_canon.proofs.CanonicalWriting.{text_none, text_append, place_append}
 use Rattle.trace_canon.proofs.OneMoreFrame.{messages_more}
 use Rattle.trace_canon.proofs.Texts.{all_frames-append, fitting_frames, fitting_log_begins}

@@ -2,7 +2,7 @@
 use Rattle.std.proofs.Common.{◌≡◌, Bool, true, false, List, [], ◌++◌, ℕ, refl, sym, append-nil}
 use Rattle.trace_io.specs.Written.{HasFront}
 use Rattle.trace_io.specs.declared.device.Target.{Ghosts}
-use Rattle.trace_canon.specs.Carrying.{Carries}
+use Rattle.trace_canon.specs.proving.Carrying.{Carries}
 use Rattle.trace_canon.proofs.WrittenFronts.{written_all}
 
 module _ {W : Type 0} (target : Ghosts W) where

@@ -5,8 +5,8 @@ use Rattle.can_log.specs.Scanning.{Standing}
 use Rattle.can_log.specs.WholeLog.{StandsAfter}
 use Rattle.can_log.specs.declared.frame.Stamped.{Stamped}
 use Rattle.trace_canon.specs.Answers.{piece_length}
-use Rattle.trace_canon.specs.Feeding.{StopsLog, FeedsLog, FeedsSome, WroteBefore}
-use Rattle.trace_canon.specs.Reading.{Took, Stopped, RefusesIn, StopsIn, StopsPiece, ReadsPiece, ReadsEnd}
+use Rattle.trace_canon.specs.proving.Feeding.{StopsLog, FeedsLog, FeedsSome, WroteBefore}
+use Rattle.trace_canon.specs.proving.Reading.{Took, Stopped, RefusesIn, StopsIn, StopsPiece, ReadsPiece, ReadsEnd}
 use Rattle.trace_canon.specs.declared.fault.Fault.{Fault}
 use Rattle.trace_canon.specs.declared.fault.Fault.TheVariants as fault
 use Rattle.trace_canon.proofs.Streams.{HasTaken, at_count, few_in_log}

@@ -5,7 +5,7 @@ use Rattle.can_log.specs.Log.{ended_lines}
 use Rattle.direction.specs.declared.Dir.{Dir}
 use Rattle.trace_canon.specs.CanonicalLog.{canonical_lines}
 use Rattle.trace_canon.specs.Settings.{Settings}
-use Rattle.trace_canon.specs.Writing.{Place, behind, line_at, text_from, place_after}
+use Rattle.trace_canon.specs.proving.Writing.{Place, behind, line_at, text_from, place_after}
 use Rattle.trace_canon.proofs.CanonicalWriting.{text_none, place_none, text_step, place_step, place_stop}
 
 module _ (settings : Settings) where

@@ -13,12 +13,12 @@ use Rattle.isotp_pdu.specs.declared.PduFault.{PduFault}
 use Rattle.isotp_pdu.specs.declared.Status.TheVariants.{Continue, Wait, Overflow}
 use Rattle.isotp_receive.specs.declared.TheConstants.{MESSAGE_LIMIT}
 use Rattle.isotp_receive.specs.Fit.{Fit, late, wrong_number, wrong_length, one_more as one_more_fits, last}
-use Rattle.isotp_receive.specs.Machine.{after, continued_by}
+use Rattle.isotp_receive.specs.proving.Machine.{after, continued_by}
 use Rattle.isotp_receive.specs.StandingReception.{StandingReception, fit_of, stands}
 use Rattle.isotp_receive.specs.Trace.{Entry, role, own_role, other_role, same_direction}
 use Rattle.isotp_receive.specs.Verdict.{message, on_layout, on_fit, verdict}
 use Rattle.isotp_receive.proofs.OneMore.{one_more}
-use Rattle.trace_canon.specs.Begun.{begun_after, began_at, IsBegunAt}
+use Rattle.trace_canon.specs.proving.Begun.{begun_after, began_at, IsBegunAt}
 use Rattle.trace_canon.specs.MessageLines.{place_of, starts, last_start, first_frame}
 use Rattle.trace_canon.specs.declared.begun.FramePlace.{FramePlace}
 

@@ -5,8 +5,8 @@ use Rattle.can_log.specs.declared.frame.Stamped.{Stamped}
 use Rattle.isotp_receive.specs.Trace.{Entry}
 use Rattle.trace_canon.specs.Explained.{takes_all}
 use Rattle.trace_canon.specs.Needing.{BeginsWithLines, HasFrame}
-use Rattle.trace_canon.specs.Reading.{StopsWithin}
-use Rattle.trace_canon.specs.Receiving.{entry_in}
+use Rattle.trace_canon.specs.proving.Reading.{StopsWithin}
+use Rattle.trace_canon.specs.proving.Receiving.{entry_in}
 use Rattle.trace_canon.specs.Settings.{Settings, direction_of}
 use Rattle.trace_canon.specs.Trace.{trace}
 use Rattle.trace_canon.proofs.Explained.{all_taken}

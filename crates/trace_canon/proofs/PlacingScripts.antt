@@ -12,7 +12,7 @@ use Rattle.isotp_receive.specs.Trace.{Entry}
 use Rattle.isotp_receive.specs.Verdict.{EventValue, message, messages, verdict}
 use Rattle.uds_exchange.specs.Numbering.{step_after, number_after}
 use Rattle.uds_exchange.specs.declared.step.Step.{Step}
-use Rattle.trace_canon.specs.Begun.{begun_after, began_at, IsBegunAt}
+use Rattle.trace_canon.specs.proving.Begun.{begun_after, began_at, IsBegunAt}
 use Rattle.trace_canon.specs.MessageLines.{place_of, stamp_text, extent_text, role_text, first_frame, numbered_line, message_line, delivered_line, placing_script}
 use Rattle.trace_canon.specs.Settings.{Settings}
 use Rattle.trace_canon.specs.Words.{bytes_text, direction_text}

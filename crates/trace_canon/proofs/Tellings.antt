@@ -20,12 +20,12 @@ use Rattle.trace_canon.specs.declared.receiver.Receiver.{Receiver}
 use Rattle.trace_canon.specs.declared.machine.Stop.{Stop}
 use Rattle.trace_canon.specs.declared.machine.Stop.TheVariants as end_stop
 use Rattle.trace_canon.specs.declared.summary.Summary.{Summary}
-use Rattle.trace_canon.specs.Carrying.{StopsFor, stops_for, Carries, Speaks, Settles, IsTellingStart, Tells, StopsTelling, EndsSaying, EndsTelling, SettlesAs, is_of_device, EndsOn, GivesUp, WroteTold}
-use Rattle.trace_canon.specs.Feeding.{FeedsLog, FeedsSome, CountsRead, WroteBefore}
-use Rattle.trace_canon.specs.LeftOut.{CountsRemoved}
+use Rattle.trace_canon.specs.proving.Carrying.{StopsFor, stops_for, Carries, Speaks, Settles, IsTellingStart, Tells, StopsTelling, EndsSaying, EndsTelling, SettlesAs, is_of_device, EndsOn, GivesUp, WroteTold}
+use Rattle.trace_canon.specs.proving.Feeding.{FeedsLog, FeedsSome, CountsRead, WroteBefore}
+use Rattle.trace_canon.specs.proving.LeftOut.{CountsRemoved}
 use Rattle.trace_canon.specs.Failing.{FailedIf}
 use Rattle.trace_canon.specs.LinesRead.{counts_last, AreGiven, AreLinesRead, WritesTextOfRead}
-use Rattle.trace_canon.specs.Reading.{Took, TakesFront, StopsWithin}
+use Rattle.trace_canon.specs.proving.Reading.{Took, TakesFront, StopsWithin}
 use Rattle.trace_canon.specs.Settings.{Settings}
 use Rattle.trace_canon.specs.Summing.{summary_of}
 use Rattle.trace_canon.specs.Told.{WritesFrontOfFrames, HasToldSome, FailsToTell, Answering, EndsWith, passing, IsReadToEnd, IsUnreadFor, StopsNothingWithin, WritesFrontOfTold, Script, told_after, told, told_of_lines, whole_of_lines, AnswersTold, TellsEagerly}
@@ -37,10 +37,10 @@ use Rattle.isotp_pdu.specs.Reading.{layout_of}
 use Rattle.isotp_receive.specs.Events.{oversize_in, too_long_in}
 use Rattle.isotp_receive.proofs.Promises.{too_long_is_announced}
 use Rattle.trace_canon.specs.Answers.{piece_length, ReadsWhile}
-use Rattle.trace_canon.specs.Announcing.{AnnouncesWithin}
+use Rattle.trace_canon.specs.proving.Announcing.{AnnouncesWithin}
 use Rattle.trace_canon.specs.Needing.{HasFrame, IsKeptForMessage}
 use Rattle.trace_canon.proofs.Needs.{has_frame}
-use Rattle.trace_canon.specs.Receiving.{entry_in, IsStart}
+use Rattle.trace_canon.specs.proving.Receiving.{entry_in, IsStart}
 use Rattle.trace_canon.specs.Refusal.{EachPasses}
 use Rattle.trace_canon.proofs.Announcements.{each_within, line_announces, each_more}
 use Rattle.trace_canon.proofs.LastReads.{reads_legal, reads_unrefused}

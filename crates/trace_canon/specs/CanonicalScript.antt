@@ -14,7 +14,7 @@ use Rattle.trace_canon.specs.declared.fault.Fault.{Fault}
 use Rattle.trace_canon.specs.declared.machine.Stop.TheVariants as stop
 use Rattle.trace_canon.specs.declared.summary.Summary.{Summary}
 use Rattle.uds_exchange.specs.Meaning.{meaning, flattened}
-use Rattle.trace_canon.specs.Writing.{Place, start_of, text_from, place_after}
+use Rattle.trace_canon.specs.proving.Writing.{Place, start_of, text_from, place_after}
 
 -- where the canonical log stands after these messages
 abbrev pub place_of : Settings → List Message → Place

@@ -7,8 +7,8 @@ ghost use Rattle.isotp_segment.specs.CanonicalFrames.{canonical_frames};
 ghost use Rattle.isotp_segment.specs.Timed.{all_frames};
 ghost use Rattle.uds_exchange.specs.Order.{held as held_after};
 ghost use Rattle.uds_exchange.specs.Orderer.{IsHeld, stands_after};
-ghost use Rattle.trace_canon.specs.Saying.{SaysDue};
-ghost use Rattle.trace_canon.specs.Writing.{text_from, place_after};
+ghost use Rattle.trace_canon.specs.proving.Saying.{SaysDue};
+ghost use Rattle.trace_canon.specs.proving.Writing.{text_from, place_after};
 
 use crate::config::Config;
 use crate::length::has_frames;
@@ -36,7 +36,7 @@ impl<'a, S: TextSink> MessageSink for CanonicalSink<'a, S> {
     ghost use Rattle.std.specs.Prelude.{◌≡◌};
     ghost use Rattle.isotp_receive.specs.declared.TheConstants.{MESSAGE_LIMIT};
     ghost use Rattle.isotp_segment.specs.CanonicalFrames.{canonical_frames};
-    ghost use Rattle.trace_canon.specs.Writing.{text_from, place_after};
+    ghost use Rattle.trace_canon.specs.proving.Writing.{text_from, place_after};
 
     type Fault = NoFault;
 

@@ -9,9 +9,9 @@ ghost use Rattle.isotp_receive.specs.Events.{announced_by};
 ghost use Rattle.isotp_receive.specs.Trace.{Entry};
 ghost use Rattle.isotp_receive.specs.Verdict.{verdict};
 ghost use Rattle.trace_io.specs.Counted.{IsLowCount, AreLowCounts};
-ghost use Rattle.trace_canon.specs.Carrying.{Begins, Carries, Speaks, Tells, EndsTelling, GivesUp, is_of_device, stops_for};
-ghost use Rattle.trace_canon.specs.LeftOut.{CountsRemoved};
-ghost use Rattle.trace_canon.specs.Receiving.{Receives};
+ghost use Rattle.trace_canon.specs.proving.Carrying.{Begins, Carries, Speaks, Tells, EndsTelling, GivesUp, is_of_device, stops_for};
+ghost use Rattle.trace_canon.specs.proving.LeftOut.{CountsRemoved};
+ghost use Rattle.trace_canon.specs.proving.Receiving.{Receives};
 ghost use Rattle.trace_canon.specs.Settings.{Settings};
 ghost use Rattle.trace_canon.specs.Told.{Ran};
 ghost use Rattle.trace_canon.specs.Trace.{trace};
@@ -93,7 +93,7 @@ pub(crate) struct Telling<M, W> {
 
 impl<M, W> Telling<M, W> {
     ghost use Rattle.std.specs.Prelude.{◌≡◌, [], false};
-    ghost use Rattle.trace_canon.specs.LeftOut.{CountsRemoved};
+    ghost use Rattle.trace_canon.specs.proving.LeftOut.{CountsRemoved};
 
     /// Before the first event.
     fn start(machine: M) -> Telling<M, W>
@@ -117,8 +117,8 @@ impl<M: Machine, W: Target> Telling<M, W> {
     ghost use Rattle.isotp_receive.specs.EventSeen.{seen_event};
     ghost use Rattle.isotp_receive.specs.Trace.{Entry};
     ghost use Rattle.isotp_receive.specs.Verdict.{verdict};
-    ghost use Rattle.trace_canon.specs.Carrying.{Tells, StopsTelling, WroteTold};
-    ghost use Rattle.trace_canon.specs.Reading.{IsOfTaker};
+    ghost use Rattle.trace_canon.specs.proving.Carrying.{Tells, StopsTelling, WroteTold};
+    ghost use Rattle.trace_canon.specs.proving.Reading.{IsOfTaker};
 
     /// Writes what is due, before more is read. Answers whether it could.
     pub(crate) fn rest(&mut self, target: &mut W) -> bool

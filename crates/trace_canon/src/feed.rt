@@ -6,8 +6,8 @@ ghost use Rattle.can_log.specs.declared.frame.Stamped.{Stamped as StampedValue};
 ghost use Rattle.trace_io.specs.Counted.{AreLowCounts};
 ghost use Rattle.trace_io.specs.Stream.{Agrees, Gave};
 ghost use Rattle.trace_canon.specs.Answers.{ReadsWhile};
-ghost use Rattle.trace_canon.specs.Reading.{TakesFront};
-ghost use Rattle.trace_canon.specs.Feeding.{FeedsLog, FeedsSome, CountsRead, WroteBefore};
+ghost use Rattle.trace_canon.specs.proving.Reading.{TakesFront};
+ghost use Rattle.trace_canon.specs.proving.Feeding.{FeedsLog, FeedsSome, CountsRead, WroteBefore};
 
 use crate::fault::Fault;
 use crate::lines::{LineTaker, PIECE, take_last_line, take_lines};

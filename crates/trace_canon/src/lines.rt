@@ -7,7 +7,7 @@ ghost use Rattle.can_log.specs.WholeLog.{StandsAfter};
 ghost use Rattle.trace_io.specs.Counted.{AreLowCounts};
 ghost use Rattle.trace_io.specs.Stream.{Agrees, Gave};
 ghost use Rattle.trace_canon.specs.Answers.{ReadsWhile};
-ghost use Rattle.trace_canon.specs.Reading.{ReadsPiece, ReadsEnd, IsOfLines, IsOfTaker};
+ghost use Rattle.trace_canon.specs.proving.Reading.{ReadsPiece, ReadsEnd, IsOfLines, IsOfTaker};
 ghost use Rattle.trace_canon.specs.declared.fault.Fault.{Fault as FaultValue};
 
 use crate::fault::Fault;

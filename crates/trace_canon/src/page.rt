@@ -1,6 +1,6 @@
 //! The page that text is gathered on, between a machine and the target.
 ghost use Rattle.std.specs.Prelude.{◌≡◌, ◌^◌, ◌≤◌, [], true, false};
-ghost use Rattle.trace_canon.specs.Carrying.{Speaks, Settles, SaysNoMore};
+ghost use Rattle.trace_canon.specs.proving.Carrying.{Speaks, Settles, SaysNoMore};
 
 use crate::block::{Block, gather};
 use crate::text_sink::TextSink;
@@ -36,8 +36,8 @@ pub(crate) struct Drain<'a, W> {
 impl<'a, W: Target> TextSink for Drain<'a, W> {
     ghost use Rattle.std.specs.Prelude.{◌≡◌};
     ghost use Rattle.std.proofs.Common.{refl, ◌∙◌};
-    ghost use Rattle.trace_canon.specs.Carrying.{Speaks};
-    ghost use Rattle.trace_canon.specs.Drains.{speaks_nothing, speaks_onward};
+    ghost use Rattle.trace_canon.specs.proving.Carrying.{Speaks};
+    ghost use Rattle.trace_canon.specs.proving.Drains.{speaks_nothing, speaks_onward};
 
     ghost says = { λ s text t. (t.target.ghost_name ≡ s.target.ghost_name) × (t.page.ghost_name ≡ s.page.ghost_name)
         × Speaks W.Target s.page.now.failed s.page.now.block s.target.now text t.page.now.failed t.page.now.block t.target.now };

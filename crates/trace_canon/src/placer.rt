@@ -2,7 +2,7 @@
 ghost use Rattle.std.specs.Prelude.{◌≡◌, ◌≢◌, ◌-◌, ℕ, List, [], length, IfErr, Err};
 ghost use Rattle.isotp_receive.specs.declared.TheConstants.{MESSAGE_LIMIT};
 ghost use Rattle.trace_canon.specs.Answers.{ReadsWhile};
-ghost use Rattle.trace_canon.specs.Begun.{PlacesMessages};
+ghost use Rattle.trace_canon.specs.proving.Begun.{PlacesMessages};
 ghost use Rattle.trace_canon.specs.Devices.{ReadFrom, WroteTo};
 ghost use Rattle.trace_canon.specs.MessageLines.{numbered_line, placing_script};
 ghost use Rattle.trace_canon.specs.Needing.{NeedsMemoryToReceive};
@@ -88,7 +88,7 @@ pub(crate) struct Placer {
 
 impl Machine for Placer {
     ghost use Rattle.isotp_receive.specs.declared.TheConstants.{MESSAGE_LIMIT};
-    ghost use Rattle.trace_canon.specs.Begun.{PlacesMessages};
+    ghost use Rattle.trace_canon.specs.proving.Begun.{PlacesMessages};
     ghost use Rattle.trace_canon.specs.MessageLines.{placing_script};
     ghost use Rattle.trace_canon.specs.Told.{answers_counts};
 

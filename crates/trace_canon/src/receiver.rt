@@ -8,9 +8,9 @@ ghost use Rattle.isotp_receive.specs.EventSeen.{seen_event};
 ghost use Rattle.isotp_receive.specs.StandingReception.{receptions_after};
 ghost use Rattle.isotp_receive.specs.Trace.{Entry};
 ghost use Rattle.isotp_receive.specs.Verdict.{verdict};
-ghost use Rattle.trace_canon.specs.Carrying.{Tells, StopsTelling, WroteTold};
-ghost use Rattle.trace_canon.specs.Reading.{IsOfTaker};
-ghost use Rattle.trace_canon.specs.Receiving.{CountsEvent};
+ghost use Rattle.trace_canon.specs.proving.Carrying.{Tells, StopsTelling, WroteTold};
+ghost use Rattle.trace_canon.specs.proving.Reading.{IsOfTaker};
+ghost use Rattle.trace_canon.specs.proving.Receiving.{CountsEvent};
 
 use crate::config::Config;
 use crate::driver::Telling;
@@ -101,7 +101,7 @@ impl<M, W> Receiver<M, W> {
     ghost use Rattle.std.specs.Prelude.{◌≡◌};
     ghost use Rattle.isotp_receive.specs.Capacities.{new_pair};
     ghost use Rattle.isotp_receive.specs.declared.TheConstants.{MESSAGE_LIMIT};
-    ghost use Rattle.trace_canon.specs.Receiving.{IsReceiverStart};
+    ghost use Rattle.trace_canon.specs.proving.Receiving.{IsReceiverStart};
 
     /// Before the first line, with a pair that has received no frame and keeps no memory.
     pub(crate) fn start(config: &Config, pair: Pair, taker: Telling<M, W>) -> Receiver<M, W>
@@ -130,8 +130,8 @@ impl<M: Machine, W: Target> LineTaker for Receiver<M, W> {
     ghost use Rattle.trace_canon.specs.Settings.{direction_of};
     ghost use Rattle.trace_canon.specs.Trace.{trace};
     ghost use Rattle.std.specs.Prelude.{◌≤◌, ◌^◌, [], true, false};
-    ghost use Rattle.trace_canon.specs.Carrying.{IsTellingStart, Tells, StopsTelling, WroteTold};
-    ghost use Rattle.trace_canon.specs.Receiving.{Receives, entry_in, IsStart};
+    ghost use Rattle.trace_canon.specs.proving.Carrying.{IsTellingStart, Tells, StopsTelling, WroteTold};
+    ghost use Rattle.trace_canon.specs.proving.Receiving.{Receives, entry_in, IsStart};
 
     type Device = W;
 

@@ -1,6 +1,6 @@
 //! The parts of a line of text, said one after another.
 ghost use Rattle.std.specs.Prelude.{◌++◌};
-ghost use Rattle.trace_canon.specs.Parts.{part_text, parts_text};
+ghost use Rattle.trace_canon.specs.proving.Parts.{part_text, parts_text};
 ghost use Rattle.trace_canon.specs.Words.{bytes_text};
 
 use crate::parts::{

@@ -5,7 +5,7 @@ use Rattle.std.proofs.lemmas.List.Sums.{sum_by-cons}
 use Rattle.direction.specs.Dir.{Message}
 use Rattle.direction.specs.declared.Dir.{Dir}
 use Rattle.uds_exchange.specs.declared.held.Extent.{Extent}
-use Rattle.uds_exchange.specs.Steps.{total_length, cut_from}
+use Rattle.uds_exchange.specs.proving.Steps.{total_length, cut_from}
 
 pub cut_from-drop : (hs : List Extent) (i : ℕ) (d : Extent) (bs m more : List ℕ) → i < length hs
     → m ≡ take (get_or hs i d).len bs → more ≡ drop (get_or hs i d).len bs

@@ -6,9 +6,9 @@ use Rattle.direction.specs.Dir.{Message}
 use Rattle.uds_exchange.specs.Meaning.{ItemValue, exchange, stray, stray_of, is_tester_request, is_answer_to, is_pending_reply_to, meaning, flattened}
 use Rattle.uds_exchange.specs.Order.{held, early}
 use Rattle.uds_exchange.specs.Orderer.{OrdererValue, stands_after}
-use Rattle.uds_exchange.specs.Pairing.{waiting, waiting_sid, join_by, join}
+use Rattle.uds_exchange.specs.proving.Pairing.{waiting, waiting_sid, join_by, join}
 use Rattle.uds_exchange.specs.OneMessage.{step_of}
-use Rattle.uds_exchange.specs.Steps.{advance_for}
+use Rattle.uds_exchange.specs.proving.Steps.{advance_for}
 use Rattle.uds_exchange.specs.Numbering.{step_after, number_by, number_after, CountsItems, advanced, number_in}
 use Rattle.uds_exchange.specs.declared.numbers.Numbers.{Numbers}
 use Rattle.uds_exchange.specs.declared.step.Step.{Step}

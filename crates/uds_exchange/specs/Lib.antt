@@ -6,7 +6,6 @@ pub mod Order
 pub mod Sink
 pub mod Orderer
 pub mod Laws
-pub mod Pairing
 pub mod OneMessage
-pub mod Steps
 pub mod Numbering
+pub mod proving

@@ -2,7 +2,7 @@
 
 ghost use Rattle.std.specs.Prelude.{◌≡◌, ◌++◌, ◌∷◌, [], length, OnOk, OnErr, IfErr, sum_by};
 ghost use Rattle.uds_exchange.specs.Sink.{Puts, Fails};
-ghost use Rattle.uds_exchange.specs.Steps.{total_length, cut_from};
+ghost use Rattle.uds_exchange.specs.proving.Steps.{total_length, cut_from};
 
 use crate::sink::MessageSink;
 use direction::Dir;
@@ -26,7 +26,7 @@ pub(crate) struct Held {
 impl Model for Held {
     ghost use Rattle.std.specs.Prelude.{List, ◌≡◌, length};
     ghost use Rattle.direction.specs.Dir.{Message};
-    ghost use Rattle.uds_exchange.specs.Steps.{total_length, cut_from};
+    ghost use Rattle.uds_exchange.specs.proving.Steps.{total_length, cut_from};
 
     ghost Value = { List Message };
 

@@ -5,8 +5,8 @@ ghost use Rattle.direction.specs.Dir.{Message};
 ghost use Rattle.uds_exchange.specs.Order.{held as held_after};
 ghost use Rattle.uds_exchange.specs.Sink.{Puts, Fails};
 ghost use Rattle.uds_exchange.specs.Orderer.{stands_after, PutsDue, IsHeld, StopsDue, StopsHeld};
-ghost use Rattle.uds_exchange.specs.Steps as Spec;
-ghost use Rattle.uds_exchange.specs.Steps.{due, due_for, Stops};
+ghost use Rattle.uds_exchange.specs.proving.Steps as Spec;
+ghost use Rattle.uds_exchange.specs.proving.Steps.{due, due_for, Stops};
 ghost use Rattle.uds_exchange.specs.declared.orderer.OrderFault.TheVariants.{Memory};
 
 use crate::held::Held;

@@ -4,7 +4,7 @@ ghost use Rattle.std.specs.Prelude.{◌≡◌, ◌≢◌, ◌<◌, ◌++◌, ◌
 ghost use Rattle.direction.specs.Dir.{Message};
 ghost use Rattle.uds_exchange.specs.Meaning.{meaning, exchange};
 ghost use Rattle.uds_exchange.specs.ItemSeen.{item_value, item_values};
-ghost use Rattle.uds_exchange.specs.Pairing as Spec;
+ghost use Rattle.uds_exchange.specs.proving.Pairing as Spec;
 
 use crate::item::Item;
 use crate::meaning::Meaning;
@@ -28,7 +28,7 @@ impl Model for Pairing {
     ghost use Rattle.std.specs.Prelude.{List};
     ghost use Rattle.uds_exchange.specs.Meaning.{ItemValue};
     ghost use Rattle.uds_exchange.specs.ItemSeen.{item_values};
-    ghost use Rattle.uds_exchange.specs.Pairing.{IsWaitingAt};
+    ghost use Rattle.uds_exchange.specs.proving.Pairing.{IsWaitingAt};
 
     ghost Value = { List ItemValue };
 

@@ -4,8 +4,8 @@ pub mod Words
 pub mod Status
 pub mod FaultLines
 pub mod Telling
-pub mod Parts
 pub mod Comparisons
 pub mod Ending
 pub mod Run
 pub mod Asked
+pub mod proving

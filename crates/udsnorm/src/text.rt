@@ -2,7 +2,7 @@
 
 ghost use Rattle.std.specs.Prelude.{◌≡◌, ◌+◌, ◌≤◌, ◌++◌, length};
 ghost use Rattle.arrayvec.specs.ArrayVec.{array_vec_len};
-ghost use Rattle.udsnorm.specs.Parts.{part_text, parts_text};
+ghost use Rattle.udsnorm.specs.proving.Parts.{part_text, parts_text};
 ghost use Rattle.udsnorm.specs.declared.text.TheConstants.{LONGEST_LINE};
 
 use arrayvec::ArrayVec;

@@ -1,7 +1,7 @@
 use Rattle.std.proofs.Common.{◌-◌, ◌≡◌, ◌≤◌, length, ◌+◌, drop, take}
 use Rattle.std.specs.Str.Parse.{digits_value}
 use Rattle.can_log.specs.declared.field.Class.TheVariants.{Digit}
-use Rattle.can_log.specs.FieldReader.{run_length}
+use Rattle.can_log.specs.proving.FieldReader.{run_length}
 use Rattle.can_log.proofs.DigitValues.{AreDigits}
 use Rattle.can_log.proofs.field.leading_digits.Given as goal
 

@@ -1,5 +1,5 @@
 use Rattle.std.proofs.Common.{◌-◌, ◌≡◌, ◌≤◌, length, ◌+◌, drop}
-use Rattle.can_log.specs.FieldReader.{run_length}
+use Rattle.can_log.specs.proving.FieldReader.{run_length}
 use Rattle.can_log.proofs.field.run_length.Given as goal
 
 abbrev pub invariant-loop-n : goal.invariant-loop-n

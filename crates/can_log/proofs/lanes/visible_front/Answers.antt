@@ -2,7 +2,7 @@ use Rattle.std.proofs.Common.{ℕ, cond, ltb, refl}
 use lib.Lanes.{chunk}
 use Rattle.std.proofs.lemmas.Simd.{length-chunk, splat_is_map, zip2_splat}
 use Rattle.can_log.specs.declared.field.Class.TheVariants.{Visible}
-use Rattle.can_log.specs.FieldReader.{is_in}
+use Rattle.can_log.specs.proving.FieldReader.{is_in}
 use Rattle.can_log.proofs.LaneRuns.{lanes_joined, run_in_front}
 use Rattle.can_log.proofs.lanes.visible_front.Goals as goal
 

@@ -1,6 +1,6 @@
 use Rattle.std.proofs.Common.{◌≡◌, refl}
 use Rattle.can_log.specs.Line.{bytes_spelled}
-use Rattle.can_log.specs.Plain.{digits_of}
+use Rattle.can_log.specs.proving.Plain.{digits_of}
 use Rattle.can_log.proofs.PlainLines.{plain_frame}
 use Rattle.can_log.proofs.plain.put_plain_stamped.Goals as goal
 

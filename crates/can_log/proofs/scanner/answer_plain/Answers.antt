@@ -1,6 +1,6 @@
 use Rattle.std.proofs.Common.{◌≡◌, refl, ◌∙◌, ap}
 use Rattle.can_log.specs.Line.{bytes_spelled, data_of}
-use Rattle.can_log.specs.Plain.{body_with, digits_of}
+use Rattle.can_log.specs.proving.Plain.{body_with, digits_of}
 use Rattle.can_log.proofs.PlainLines.{plain_frame, plain_bytes}
 use Rattle.can_log.proofs.scanner.answer_plain.Goals as goal
 

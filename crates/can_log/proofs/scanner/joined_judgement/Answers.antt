@@ -1,6 +1,6 @@
 use Rattle.std.proofs.Common.{◌≡◌, ◌∙◌, ◌++◌, ◌-◌, ℕ, List, length, take, arith, ap, subst, refl}
 use Rattle.std.proofs.lemmas.List.{length-take}
-use Rattle.can_log.specs.Judging.{Judged}
+use Rattle.can_log.specs.proving.Judging.{Judged}
 use Rattle.can_log.proofs.Results.{from_ok}
 use Rattle.can_log.proofs.LineLength.{joined_any}
 use Rattle.can_log.proofs.scanner.joined_judgement.Goals as goal

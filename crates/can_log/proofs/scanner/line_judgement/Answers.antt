@@ -1,5 +1,5 @@
 use Rattle.std.proofs.Common.{◌≡◌, ◌++◌, [], List, ℕ, subst, sym}
-use Rattle.can_log.specs.Judging.{Judged}
+use Rattle.can_log.specs.proving.Judging.{Judged}
 use Rattle.can_log.proofs.Lists.{nil_of}
 use Rattle.can_log.proofs.scanner.line_judgement.Goals as goal
 

@@ -1,6 +1,6 @@
 use Rattle.std.proofs.Common.{◌++◌, List, ℕ, Some, inl, refl, sym, subst, ◌∙◌, arith}
 use Rattle.can_log.specs.Line.{LineMeans, spell_line}
-use Rattle.can_log.specs.Plain.{spelling_of}
+use Rattle.can_log.specs.proving.Plain.{spelling_of}
 use Rattle.can_log.proofs.LineFeeds.{line_clean, same_line}
 use Rattle.can_log.proofs.PaddedLines.{fed_behind}
 use Rattle.can_log.proofs.scanner.plain_ended.Goals as goal

@@ -1,6 +1,6 @@
 use Rattle.std.proofs.Common.{get_or, sym, subst}
 use Rattle.std.proofs.lemmas.Simd.{pick_l_whole}
-use Rattle.can_log.specs.Plain.{AreDecimals}
+use Rattle.can_log.specs.proving.Plain.{AreDecimals}
 use Rattle.can_log.proofs.LaneNumbers.{sixteen_is}
 use Rattle.can_log.proofs.stamp.decimal_number.Goals as goal
 

@@ -1,5 +1,5 @@
 use Rattle.std.proofs.Common.{subst}
-use Rattle.can_log.specs.Plain.{AreDecimals}
+use Rattle.can_log.specs.proving.Plain.{AreDecimals}
 use Rattle.can_log.proofs.stamp.has_decimals.Goals as goal
 
 pub returns : goal.returns

@@ -2,7 +2,7 @@ use Rattle.std.proofs.Common.{sym, subst, ◌∙◌}
 use Rattle.isotp_receive.specs.declared.TheConstants.{MESSAGE_LIMIT}
 use Rattle.isotp_segment.specs.Timed.{all_frames}
 use Rattle.uds_exchange.specs.Order.{held}
-use Rattle.trace_canon.specs.Writing.{text_from}
+use Rattle.trace_canon.specs.proving.Writing.{text_from}
 use Rattle.trace_canon.proofs.CanonicalSayings.{SaysOne, said_all, never_stops}
 use Rattle.trace_canon.proofs.canonical_sink.finish_to.Goals as goal
 

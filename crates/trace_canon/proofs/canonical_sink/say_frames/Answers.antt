@@ -3,7 +3,7 @@ use Rattle.can_log.specs.Canonical.{canonical_line, canonical_length}
 use Rattle.direction.specs.declared.Dir.{Dir}
 use Rattle.can_log.proofs.Promises.{canonical_line_length}
 use Rattle.trace_canon.specs.Settings.{id_of}
-use Rattle.trace_canon.specs.Writing.{behind, line_at, text_from, place_after}
+use Rattle.trace_canon.specs.proving.Writing.{behind, line_at, text_from, place_after}
 use Rattle.trace_canon.proofs.CanonicalWriting.{text_none, place_none, text_step, place_step, text_stop, place_stop}
 use Rattle.trace_canon.proofs.canonical_sink.say_frames.Given.{Over}
 use Rattle.trace_canon.proofs.canonical_sink.say_frames.Goals.{After-admits, After-clock}

@@ -1,7 +1,7 @@
 use Rattle.std.proofs.Common.{not, [], subst, ap, ◌∙◌, Ok, Err}
 use Rattle.isotp_receive.specs.declared.TheConstants.{MESSAGE_LIMIT}
 use Rattle.trace_canon.specs.declared.machine.Stop.TheVariants.{OutputLimit}
-use Rattle.trace_canon.specs.Carrying.{Carries}
+use Rattle.trace_canon.specs.proving.Carrying.{Carries}
 use Rattle.trace_canon.specs.Told.{whole_of_lines}
 use Rattle.trace_canon.specs.Trace.{trace}
 use Rattle.trace_canon.proofs.Tellings.{carried_at_the_end, only_stop, only_more}

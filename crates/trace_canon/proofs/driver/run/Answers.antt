@@ -1,16 +1,16 @@
 use Rattle.std.proofs.Common.{◌⊎◌, ◌≡◌, ◌-◌, List, length, arith, ap, subst, ◌∙◌, Option, Err, ℕ, true}
 use Rattle.can_log.specs.declared.frame.Stamped.{Stamped}
 use Rattle.std.specs.List.{AllByRecursion}
-use Rattle.trace_canon.specs.Announcing.{AnnouncesWithin}
+use Rattle.trace_canon.specs.proving.Announcing.{AnnouncesWithin}
 use Rattle.trace_canon.specs.Trace.{trace}
 use Rattle.trace_canon.specs.Needing.{HasFrame, IsKeptForMessage}
 use Rattle.isotp_receive.specs.declared.TheConstants.{MESSAGE_LIMIT}
 use Rattle.trace_canon.specs.declared.driver.Telling.{Telling}
 use Rattle.trace_canon.specs.declared.receiver.Receiver.{Receiver}
-use Rattle.trace_canon.specs.Carrying.{EndsTelling}
+use Rattle.trace_canon.specs.proving.Carrying.{EndsTelling}
 use Rattle.trace_canon.specs.Told.{Script, StopsNothingWithin, AnswersTold, TellsEagerly}
 use Rattle.trace_canon.specs.Answers.{ReadsWhile}
-use Rattle.trace_canon.specs.Reading.{TakesFront}
+use Rattle.trace_canon.specs.proving.Reading.{TakesFront}
 use Rattle.trace_canon.proofs.Runs.{TookLines, IsRunStart, starts_run, has_received}
 use Rattle.trace_canon.proofs.Tellings.{needed, never_memory, eagerly, more_given_up, wrote_no_line, reads_near, ToldEvents, HasToldNothing, told_none, takes_nothing, gives, told_of_fault, known, fails_so, left_alone_so, reads_so, known_then, told_at_the_end}
 use Rattle.trace_canon.proofs.Streams.{when_ok}

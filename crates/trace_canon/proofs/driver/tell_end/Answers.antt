@@ -1,5 +1,5 @@
 use Rattle.std.proofs.Common.{sym, subst}
-use Rattle.trace_canon.specs.Carrying.{Speaks}
+use Rattle.trace_canon.specs.proving.Carrying.{Speaks}
 use Rattle.trace_canon.specs.declared.page.Page.{Page}
 use Rattle.trace_canon.proofs.driver.tell_end.Goals as goal
 

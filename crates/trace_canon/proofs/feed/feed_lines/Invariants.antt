@@ -1,7 +1,7 @@
 use Rattle.std.proofs.Common.{◌≡◌, ◌+◌, ◌≤◌, length, [], true}
 use Rattle.std.specs.Io.KnownBytes.{IsAtEnd}
 use Rattle.trace_io.specs.Stream.{Gave}
-use Rattle.trace_canon.specs.Feeding.{WroteBefore}
+use Rattle.trace_canon.specs.proving.Feeding.{WroteBefore}
 use Rattle.trace_canon.proofs.Streams.{HasTaken}
 use Rattle.trace_canon.proofs.feed.feed_lines.Given as goal
 

@@ -1,5 +1,5 @@
 use Rattle.std.proofs.Common.{refl, sym, ◌∙◌}
-use Rattle.trace_canon.specs.Writing.{start_of}
+use Rattle.trace_canon.specs.proving.Writing.{start_of}
 use Rattle.trace_canon.proofs.CanonicalWriting.{place_none}
 use Rattle.trace_canon.proofs.normaliser.start.Goals as goal
 

@@ -1,7 +1,7 @@
 use Rattle.std.proofs.Common.{arith, length-append, refl, ◌+◌, ◌++◌, true, false, ap, sym, subst, ◌∙◌}
 use Rattle.can_log.proofs.Lists.{nonempty}
 use Rattle.trace_io.proofs.Takings.{took_more}
-use Rattle.trace_canon.specs.Carrying.{Carries}
+use Rattle.trace_canon.specs.proving.Carrying.{Carries}
 use Rattle.trace_canon.proofs.WrittenFronts.{front_behind, front_longer, written_behind}
 use Rattle.trace_canon.proofs.page.put_text.Goals as goal
 

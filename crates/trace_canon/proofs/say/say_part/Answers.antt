@@ -1,5 +1,5 @@
 use Rattle.std.proofs.Common.{◌∙◌, ap, sym, subst, Some, None}
-use Rattle.trace_canon.specs.Parts.{part_text}
+use Rattle.trace_canon.specs.proving.Parts.{part_text}
 use Rattle.trace_canon.proofs.NumberedNames.{service_named, code_named}
 use Rattle.trace_canon.proofs.say.say_part.Goals as goal
 

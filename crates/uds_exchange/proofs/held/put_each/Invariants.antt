@@ -1,6 +1,6 @@
 use Rattle.std.proofs.Common.{◌≡◌, length, drop}
 use Rattle.uds_exchange.proofs.Putting.{Onto}
-use Rattle.uds_exchange.specs.Steps.{total_length, cut_from}
+use Rattle.uds_exchange.specs.proving.Steps.{total_length, cut_from}
 use Rattle.uds_exchange.proofs.held.put_each.Given as goal
 
 abbrev pub invariant-loop-extent : goal.invariant-loop-extent

@@ -1,5 +1,5 @@
 use Rattle.std.proofs.Common.{◌≡◌, ◌++◌, drop}
-use Rattle.udsnorm.specs.Parts.{parts_text}
+use Rattle.udsnorm.specs.proving.Parts.{parts_text}
 use Rattle.udsnorm.proofs.text.line_of.Given as goal
 
 abbrev pub invariant-parts : goal.invariant-parts

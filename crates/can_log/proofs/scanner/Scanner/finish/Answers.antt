@@ -1,5 +1,5 @@
 use Rattle.std.proofs.Common.{◌+◌, List, ℕ, ◌<◌, length, subst}
-use Rattle.can_log.specs.Judging.{Judged}
+use Rattle.can_log.specs.proving.Judging.{Judged}
 use Rattle.can_log.specs.Scanning.{Standing}
 use Rattle.can_log.proofs.Lists.{nonempty}
 use Rattle.can_log.proofs.RefusedPlaces.{unfinished}

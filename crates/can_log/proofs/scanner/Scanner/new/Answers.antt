@@ -1,5 +1,5 @@
 use Rattle.std.proofs.Common.{arith, subst, sym, List, ℕ}
-use Rattle.can_log.specs.Judging.{StandsWell}
+use Rattle.can_log.specs.proving.Judging.{StandsWell}
 use Rattle.can_log.proofs.LineReads.{empty_legal}
 use Rattle.can_log.proofs.scanner.Scanner.new.Goals as goal
 

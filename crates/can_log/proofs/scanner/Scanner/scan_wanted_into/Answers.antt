@@ -1,6 +1,6 @@
 use Rattle.std.proofs.Common.{◌≡◌, [], refl, ◌∙◌}
 use Rattle.can_log.specs.Line.{stamped_of, parts_in}
-use Rattle.can_log.specs.Plain.{spelling_of}
+use Rattle.can_log.specs.proving.Plain.{spelling_of}
 use Rattle.can_log.proofs.Lists.{nil_of}
 use Rattle.can_log.proofs.ScannerSteps.{plain_scanned, none_seen}
 use Rattle.can_log.proofs.scanner.Scanner.scan_wanted_into.Goals as goal

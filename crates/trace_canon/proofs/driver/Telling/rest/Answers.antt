@@ -1,6 +1,6 @@
 use Rattle.std.proofs.Common.{[], false, arith, sym, subst}
 use Rattle.std.specs.Prelude.{not}
-use Rattle.trace_canon.specs.Carrying.{Tells, Carries}
+use Rattle.trace_canon.specs.proving.Carrying.{Tells, Carries}
 use Rattle.trace_canon.specs.Told.{told}
 use Rattle.trace_canon.proofs.Carryings.{wrote_all}
 use Rattle.trace_canon.proofs.Tellings.{settled_as, same_page, blank_page}

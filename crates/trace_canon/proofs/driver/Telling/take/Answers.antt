@@ -4,7 +4,7 @@ use Rattle.isotp_receive.specs.EventSeen.{seen_event}
 use Rattle.isotp_receive.specs.Verdict.{messages}
 use Rattle.isotp_receive.proofs.Promises.{messages_are_few}
 use Rattle.trace_canon.specs.declared.fault.Fault.TheVariants.{Oversize}
-use Rattle.trace_canon.specs.Carrying.{stops_for}
+use Rattle.trace_canon.specs.proving.Carrying.{stops_for}
 use Rattle.trace_canon.proofs.Tellings.{tells_next, stops_at, stops_before, stopped_for, not_stopped_for}
 use Rattle.trace_canon.proofs.driver.Telling.take.Goals as goal
 

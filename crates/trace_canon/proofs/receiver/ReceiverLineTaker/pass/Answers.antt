@@ -1,5 +1,5 @@
 use Rattle.std.proofs.Common.{[], ◌≤◌, ◌^◌, ◌≡◌, None, Some, refl, sym, subst, ◌∙◌, ap}
-use Rattle.trace_canon.specs.Carrying.{IsTellingStart, Tells}
+use Rattle.trace_canon.specs.proving.Carrying.{IsTellingStart, Tells}
 use Rattle.trace_canon.specs.Settings.{direction_of}
 use Rattle.trace_canon.proofs.Directions.{foreign_direction}
 use Rattle.trace_canon.proofs.Receivings.{trace_same_foreign, receives_same}

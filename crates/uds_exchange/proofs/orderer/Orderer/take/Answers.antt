@@ -1,7 +1,7 @@
 use Rattle.std.proofs.Common.{◌∙◌, ap}
 use Rattle.direction.specs.Dir.{Message}
 use Rattle.uds_exchange.specs.Orderer.{OrdererValue}
-use Rattle.uds_exchange.specs.Steps.{advance}
+use Rattle.uds_exchange.specs.proving.Steps.{advance}
 use Rattle.uds_exchange.proofs.Variants.{on_ok_along, if_err_along}
 use Rattle.uds_exchange.proofs.NextStep.{stands-next, puts-due, held-with, stops-due}
 use Rattle.uds_exchange.proofs.orderer.Orderer.take.Goals as goal

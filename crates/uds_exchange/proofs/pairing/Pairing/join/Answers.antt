@@ -5,7 +5,7 @@ use Rattle.uds_message.specs.Message.{sid}
 use Rattle.uds_exchange.specs.declared.item.Item.TheVariants as item
 use Rattle.uds_exchange.specs.Meaning.{ItemValue, exchange, stray}
 use Rattle.uds_exchange.specs.ItemSeen.{item_values}
-use Rattle.uds_exchange.specs.Pairing.{IsWaitingAt}
+use Rattle.uds_exchange.specs.proving.Pairing.{IsWaitingAt}
 use Rattle.uds_exchange.proofs.Kept.{item_values-push, length-item_values, kept-request, kept-stray, kept-answer}
 use Rattle.uds_exchange.proofs.Kept.{joins-request, request-sid, joins-stray, joins-answer, changes-stray, changes-answer, answered-at, answered-below, answered-exchange}
 use Rattle.uds_exchange.proofs.Variants.{on_err}

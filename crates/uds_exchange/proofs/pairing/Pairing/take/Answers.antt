@@ -1,6 +1,6 @@
 use Rattle.std.proofs.Common.{sym, ◌∙◌, ap}
 use Rattle.direction.specs.Dir.{Message}
-use Rattle.uds_exchange.specs.Pairing.{join}
+use Rattle.uds_exchange.specs.proving.Pairing.{join}
 use Rattle.uds_exchange.proofs.OneMore.{meaning-append}
 use Rattle.uds_exchange.proofs.Variants.{on_ok_along, on_err_along}
 use Rattle.uds_exchange.proofs.pairing.Pairing.take.Goals as goal

@@ -7,7 +7,7 @@ use Rattle.std.specs.Borrow.{Bor}
 use Rattle.can_log.specs.declared.plain.Fields.{Fields}
 use Rattle.can_log.specs.declared.plain.PlainBody.{PlainBody}
 use Rattle.can_log.specs.declared.field.Class.TheVariants.{Visible}
-use Rattle.can_log.specs.FieldReader.{is_in}
+use Rattle.can_log.specs.proving.FieldReader.{is_in}
 use Rattle.can_log.specs.Line.{LineSpelling, identifier_of, IsRunOf, IsIdentifierText, IsDataText, Body, classic, fd}
 
 -- the most digits of data of a frame with flags, and of one without

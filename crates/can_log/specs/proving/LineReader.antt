@@ -4,7 +4,7 @@ use Prim.Native.Char.{code}
 use Rattle.std.specs.Prelude.{ℕ, ◌%◌, ◌&&◌, ◌||◌, Bool, true, false, List, [], ◌∷◌, length, Option, Some, None, Ok, Err, nat_lt, slice_index, ⊤, ◌==◌, if◌then◌else◌}
 use Rattle.can_log.specs.declared.field.Class.TheVariants.{Digit, Hex, Space, Visible, UpToEight, AboveEight, Mark}
 use Rattle.can_log.specs.declared.frame.Stamped.{Stamped}
-use Rattle.can_log.specs.FieldReader.{Reader, refused, ◌>>=◌, ◌>>◌, done, either, only, run_at, byte_at}
+use Rattle.can_log.specs.proving.FieldReader.{Reader, refused, ◌>>=◌, ◌>>◌, done, either, only, run_at, byte_at}
 use Rattle.can_log.specs.Line.{Body, classic, remote, fd, Parts, stamped_of, IsDataText, IsIdentifierText}
 
 -- the digits of a time

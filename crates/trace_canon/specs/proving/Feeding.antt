@@ -5,7 +5,7 @@ use Rattle.can_log.specs.Scanning.{Standing}
 use Rattle.can_log.specs.WholeLog.{StandsAfter, IsRefusedBehind}
 use Rattle.can_log.specs.declared.frame.Stamped.{Stamped}
 use Rattle.trace_canon.specs.Answers.{piece_length}
-use Rattle.trace_canon.specs.Reading.{Took, Stopped, RefusesIn, HasEnded, StopsWithin}
+use Rattle.trace_canon.specs.proving.Reading.{Took, Stopped, RefusesIn, HasEnded, StopsWithin}
 use Rattle.trace_canon.specs.declared.fault.Fault.{Fault}
 use Rattle.trace_canon.specs.declared.fault.Fault.TheVariants as fault
 

@@ -16,8 +16,8 @@ use Rattle.trace_canon.specs.declared.pending.Pending.{Pending}
 use Rattle.trace_canon.specs.declared.machine.Stop.{Stop}
 use Rattle.trace_canon.specs.declared.machine.Stop.TheVariants as stop
 use Rattle.trace_canon.specs.Trace.{trace}
-use Rattle.trace_canon.specs.LeftOut.{CountsRemoved}
-use Rattle.trace_canon.specs.Announcing.{AnnouncesWithin}
+use Rattle.trace_canon.specs.proving.LeftOut.{CountsRemoved}
+use Rattle.trace_canon.specs.proving.Announcing.{AnnouncesWithin}
 use Rattle.trace_canon.specs.Needing.{IsKeptForMessage}
 use Rattle.trace_canon.specs.Settings.{Settings}
 use Rattle.trace_canon.specs.Summing.{summary_of}

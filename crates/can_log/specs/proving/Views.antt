@@ -8,7 +8,7 @@ use Rattle.can_log.specs.declared.field.Number.{Number}
 use Rattle.can_log.specs.declared.field.Stop.{Stop}
 use Rattle.can_log.specs.declared.field.Stop.TheVariants as stop
 use Rattle.can_log.specs.Line as line
-use Rattle.can_log.specs.LineReader.{Stamp}
+use Rattle.can_log.specs.proving.LineReader.{Stamp}
 
 -- the digits of a number
 abbrev pub digits_in : Number → List ℕ

@@ -5,7 +5,7 @@ use Rattle.isotp_receive.specs.declared.TheConstants.{MESSAGE_LIMIT}
 use Rattle.isotp_segment.specs.Timed.{all_frames}
 use Rattle.uds_exchange.specs.Orderer.{IsDue}
 use Rattle.trace_canon.specs.Settings.{Settings}
-use Rattle.trace_canon.specs.Writing.{Place, text_from, place_after}
+use Rattle.trace_canon.specs.proving.Writing.{Place, text_from, place_after}
 
 -- the lines of the messages that are due with this one were said
 abbrev pub SaysDue : {S : Type 0} → (S → List ℕ → S → Type 0) → Settings → List Message → Message → Place → S → Place → S → Type 0

@@ -1,0 +1,6 @@
+-- Devices of proof, apart from the definitions that the promises are made of.
+pub mod FieldReader
+pub mod LineReader
+pub mod Views
+pub mod Plain
+pub mod Judging

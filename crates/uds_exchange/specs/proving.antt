@@ -1,0 +1,3 @@
+-- Devices of proof, apart from the definitions that the promises are made of.
+pub mod Pairing
+pub mod Steps
