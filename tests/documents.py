@@ -6,8 +6,6 @@
 - the picture of the crates is the one that scripts/draw-crates draws of crates.txt, and names each crate and dependency;
 - each link of each document to a file of the repository, and to a heading in it, leads somewhere;
 - the source files that documents name are there;
-- the table of wrong bodies in docs/proved.md is the one that scripts/must-fail-counts prints, and README says the same;
-- how many bodies were planted by hand, as docs/attacks.md and docs/proved.md say, is the number of the rows of docs/attacks.md;
 - each wrong body of must-fail/ and attacks/ can be applied: what it takes away stands once;
 - those that the first table of docs/proved.md names are tried by the gate, one or more for each part of its first sentence;
 - docs/definitions.md names each file of definitions, and each definition stands in the file that it names;
@@ -25,7 +23,6 @@ import re
 import subprocess
 import sys
 import tempfile
-from collections import Counter
 from pathlib import Path
 from xml.etree import ElementTree
 
@@ -39,9 +36,7 @@ PICTURE = DOCS / "crates.svg"
 ARCHITECTURE = DOCS / "architecture.md"
 DEFINITIONS = DOCS / "definitions.md"
 FORMATS = DOCS / "formats.md"
-README = TOP / "README.md"
 PROVED = DOCS / "proved.md"
-ATTACKS = DOCS / "attacks.md"
 PROGRAM = "udsnorm"
 SVG = "{http://www.w3.org/2000/svg}"
 
@@ -144,59 +139,6 @@ def named_files(cases):
         names = [name for words in re.findall(r"`([^`\n]+)`", prose(document)) for name in re.findall(r"[\w./-]+\.(?:rt|antt|py)\b", words)]
         wrong = [f"no {name}" for name in names if not name.endswith("Answers.antt") and not any(path.endswith(f"/{name}") for path in paths)]
         cases.report(f"the source files that {name_of(document)} names", wrong)
-
-
-def counts(cases):
-    table = subprocess.run([TOP / "scripts" / "must-fail-counts"], check=True, capture_output=True, text=True, timeout=60).stdout
-    found = table in PROVED.read_text()
-    cases.report("the table of wrong bodies is that of the files", [] if found else ["put in what scripts/must-fail-counts prints"])
-    in_all = re.search(r"^\| all \| (\d+) \| (\d+) \|$", table, re.M)
-    numbers(cases, README, r"tries (\d+)[^;.]*; `make attack` tries (\d+) more", [int(number) for number in in_all.groups()])
-
-
-def numbers(cases, document, sentence, counted):
-    """A sentence of a document, with a group for each number, says what was counted."""
-    found = re.search(sentence, document.read_text().replace("\n", " "))
-    told = [int(number) for number in found.groups()] if found else None
-    name = f"{name_of(document)}: {found[0] if found else sentence}"
-    cases.report(name, [] if told == counted else [f"counted are {counted}"])
-
-
-def rows_below(document):
-    """How many rows the tables of a document have below each heading, without those that name the columns."""
-    heading, rows = None, Counter()
-    for line in document.read_text().splitlines():
-        title = re.match(r"#+ (.*)", line)
-        heading = title[1] if title else heading
-        if re.fullmatch(r"[|:-]+", line):
-            rows[heading] -= 1
-        elif line.startswith("| "):
-            rows[heading] += 1
-    return rows
-
-
-def planted(cases):
-    """The first round was over the engine, the second over the engine and the program. Each has bodies that are right."""
-    rows = rows_below(ATTACKS)
-    right = rows.pop("Bodies that pass")
-    wrong = rows.pop("`normalise` and `meaning_of`") + rows.pop("`list`, `explain` and `compare`")
-    again = rows.pop("`trace_canon`, again")
-    of_program = rows.pop("`udsnorm`")
-    last = of_program + rows.pop("A second round, over the joined product")
-    cases.report("no other heading of the attacks has rows", [f"{heading}: {number}" for heading, number in rows.items()])
-    for document, sentence, counted in [
-        (
-            ATTACKS,
-            r"Of the (\d+) bodies of the first round, over `trace_canon`, (\d+) are refused and (\d+) pass",
-            [wrong + right, wrong, right],
-        ),
-        (ATTACKS, r"tried (\d+) more, over `udsnorm` too", [again + last]),
-        (ATTACKS, r"All (\d+) for `trace_canon` are refused, and of (\d+) for `udsnorm` (\d+)", [again, last, of_program]),
-        (PROVED, r"\| `trace_canon` \| (\d+) \| (\d+) \| (\d+) \|", [wrong + right + again, wrong + again, right]),
-        (PROVED, r"the last (\d+) of `udsnorm`, are listed one by one", [last]),
-        (PROVED, r"attacked by the last (\d+) of these two crates", [again + last]),
-    ]:
-        numbers(cases, document, sentence, counted)
 
 
 def not_there_once(edit, crate):
@@ -359,7 +301,7 @@ def main():
         sys.exit(__doc__)
     cases = Cases(None)
     for test in [
-        picture, links, named_files, counts, planted, wrong_bodies, tried_by_the_gate, definitions, citations, calls_of_the_kit,
+        picture, links, named_files, wrong_bodies, tried_by_the_gate, definitions, citations, calls_of_the_kit,
         cited_clauses, lines_of_faults, names_of_bytes, version_of_the_source,
     ]:
         test(cases)
