@@ -8,8 +8,8 @@
 - the source files that documents name are there;
 - each wrong body of must-fail/ and attacks/ can be applied: what it takes away stands once;
 - those that the first table of docs/proved.md names are tried by the gate, one or more for each part of its first sentence;
-- docs/definitions.md names each file of definitions, and each definition stands in the file that it names;
-- it has each definition that a public function's contract or a law cites;
+- each definition that docs/definitions.md names stands in the file that it names;
+- a line of prose stands above each definition that a public function's contract or a law cites;
 - docs/architecture.md says of each crate of the kit that the program stands on where it is called, and the call stands there;
 - docs/proved.md cites each clause of each public call, and each law that the pages for callers leave out, and no other;
 - each fault displays the line that the program tells of it, as the page for callers of udsnorm says;
@@ -40,9 +40,6 @@ PROVED = DOCS / "proved.md"
 PROGRAM = "udsnorm"
 SVG = "{http://www.w3.org/2000/svg}"
 
-# Files of `specs/` that docs/definitions.md leaves out: the index, what laws say, and what says that it is a device of proof.
-INDEX = "Lib"
-DEVICE = re.compile(r"-- (A device|Devices) of proof\b")
 
 
 def files_below(folder):
@@ -178,32 +175,22 @@ def tried_by_the_gate(cases):
 
 
 def definition_rows(page):
-    """The rows of docs/definitions.md: crate, names of definitions, names of files."""
-    crate = None
+    """The rows of docs/definitions.md that name definitions: their names, and the files of crates/ in which they stand."""
     for line in page.splitlines():
-        heading = re.match(r"## `(\w+)`", line)
-        crate = heading[1] if heading else crate
-        cells = line.split(" | ")
-        if crate and line.startswith("| `") and len(cells) >= 3:
-            yield crate, re.findall(r"`([^`]+)`", cells[0]), re.findall(r"`([^`]+)`", cells[1])
+        if line.startswith("|") and ".antt`" in line:
+            words = re.findall(r"`([^`]+)`", line)
+            yield [word for word in words if re.fullmatch(r"\w+", word)], [word for word in words if word.endswith(".antt")]
 
 
 def definitions(cases):
     rows = list(definition_rows(DEFINITIONS.read_text()))
-    for crate in crates():
-        files = {path.stem: path.read_text() for path in sorted((TOP / "crates" / crate / "specs").glob("*.antt"))}
-        if not files:
-            continue
-        wanted = {name for name, text in files.items() if name != INDEX and not name.endswith("Laws") and not DEVICE.match(text)}
-        named = {file for of, _, row_files in rows if of == crate for file in row_files}
-        wrong = [f"no {file}" for file in sorted(wanted - named)]
-        wrong += [f"{file} is a device of proof, or not there" for file in sorted(named - wanted) if not file.endswith("Laws") or file not in files]
-        cases.report(f"the page of definitions names each file of {crate}", wrong)
-        wrong = []
-        for of, names, row_files in rows:
-            texts = "\n".join(files.get(file, "") for file in row_files)
-            wrong += [f"{name} is not in {', '.join(row_files)}" for name in names if of == crate and not is_defined(name, texts)]
-        cases.report(f"the definitions of {crate} stand in the files that it names", wrong)
+    wrong = []
+    for names, files in rows:
+        paths = [TOP / "crates" / file for file in files]
+        wrong += [f"no {path}" for path in paths if not path.exists()]
+        texts = "\n".join(path.read_text() for path in paths if path.exists())
+        wrong += [f"{name} is not in {', '.join(files)}" for name in names if not is_defined(name, texts)]
+    cases.report("the definitions that docs/definitions.md names stand in the files that it names", wrong if rows else ["none is named"])
 
 
 def is_defined(name, text):
@@ -227,18 +214,23 @@ def cited(path):
                 yield crate, file, name
 
 
+def prose_above(name, text):
+    """The comment directly above the definition of this name."""
+    found = re.search(rf"((?:^--.*\n)+)(?:abbrev |unfoldable )?pub (?:record |data )?{re.escape(name)} ", text, re.M)
+    return found[1] if found else ""
+
+
 def citations(cases):
-    """A law's statement is found by its name in a file of laws, and a case of a list of cases with that list."""
-    named = {name for _, names, _ in definition_rows(DEFINITIONS.read_text()) for name in names}
+    """A law's statement is found by its name in a file of laws."""
     for crate in crates():
         folder = TOP / "crates" / crate
         citing = [path for path in FILES if (folder / "src") in path.parents or (path.parent == folder / "specs" and path.stem.endswith("Laws"))]
         wrong = set()
         for of, file, name in (row for path in citing for row in cited(path)):
-            definitions = TOP / "crates" / of / "specs" / f"{file}.antt"
-            is_listed = name in named or file.endswith("Laws") or not definitions.exists() or not is_defined(name, definitions.read_text())
-            wrong |= set() if is_listed else {f"no {name} of {of}"}
-        cases.report(f"the page has the definitions that public contracts and laws of {crate} cite", sorted(wrong))
+            path = TOP / "crates" / of / "specs" / f"{file}.antt"
+            text = path.read_text() if path.exists() else ""
+            wrong |= {f"{name} of {of}"} if is_defined(name, text) and not prose_above(name, text) else set()
+        cases.report(f"a line of prose stands above each definition that contracts and laws of {crate} cite", sorted(wrong))
 
 
 def table_below(document, title):

@@ -114,10 +114,11 @@ pub record KeepsWithin (limit : ℕ) (T : List Entry) (pair : PairValue) : Type 
   pub tester : IsWithin limit T Tester pair.tester_capacity
   pub unit : IsWithin limit T Unit pair.unit_capacity
 
--- a new pair does, and with one more frame it does again
+-- a new pair keeps within
 abbrev pub NewPairKeepsWithin : Type 0
 NewPairKeepsWithin = (limit : ℕ) → KeepsWithin limit [] (new_pair limit)
 
+-- and a pair that has taken one more frame still does
 abbrev pub OneMoreKeepsWithin : Type 0
 OneMoreKeepsWithin =
     (limit : ℕ) (T : List Entry) (e : Entry) (old new : PairValue) → old.receptions ≡ receptions_after limit T → KeepsWithin limit T old
