@@ -14,8 +14,9 @@ use Rattle.trace_io.specs.declared.device.Target.{Ghosts as TargetGhosts}
 use Rattle.udsnorm.specs.Asked.{Did, DidAsked, DidWords, IsDone, IsDoneBy, ToldWords}
 use Rattle.udsnorm.specs.Comparisons.{comparison_line}
 use Rattle.udsnorm.specs.Ending.{flushes}
-use Rattle.udsnorm.specs.Run.{EngineAnswers, IsStatusOfTwo, TookLine}
-use Rattle.udsnorm.specs.declared.job.Job.{Job}
+use Rattle.udsnorm.specs.Commands.{EngineAnswers}
+use Rattle.udsnorm.specs.Run.{IsStatusOfTwo, TookLine}
+use Rattle.udsnorm.specs.declared.commands.Job.{Job}
 use Rattle.udsnorm.specs.declared.job.Plan.{Plan}
 use Rattle.udsnorm.specs.declared.job.Plan.TheVariants.{One, Two}
 use Rattle.udsnorm.specs.declared.job.WordsFault.{WordsFault}

@@ -5,4 +5,3 @@ pub mod Built
 pub mod Taken
 pub mod SpelledIdentifiers
 pub mod LineParts
-mod CommandJobs

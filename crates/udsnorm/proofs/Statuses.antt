@@ -10,9 +10,10 @@ use Rattle.trace_canon.specs.Settings.{Settings}
 use Rattle.trace_canon.specs.declared.summary.Summary.{Summary}
 use Rattle.trace_io.specs.Stream.{Agrees, Took}
 use Rattle.udsnorm.specs.Ending.{ComesTo, EndsAs, EndsTwoWith, flushes, status_of_run}
-use Rattle.udsnorm.specs.Run.{EngineAnswers, IsStatusOfTwo}
+use Rattle.udsnorm.specs.Commands.{EngineAnswers}
+use Rattle.udsnorm.specs.Run.{IsStatusOfTwo}
 use Rattle.udsnorm.specs.Status.{status_of}
-use Rattle.udsnorm.specs.declared.job.Job.{Job}
+use Rattle.udsnorm.specs.declared.commands.Job.{Job}
 
 -- ---- after the flush
 

@@ -11,12 +11,13 @@ use Rattle.trace_canon.specs.declared.summary.Summary.{Summary}
 use Rattle.trace_io.specs.Written.{HasFront}
 use Rattle.trace_io.specs.declared.device.Source.{Ghosts as SourceGhosts}
 use Rattle.trace_io.specs.declared.device.Target.{Ghosts as TargetGhosts}
+use Rattle.udsnorm.specs.Commands.{EngineAnswers}
 use Rattle.udsnorm.specs.Comparisons.{comparison_line}
 use Rattle.udsnorm.specs.FaultLines.{fault_line, side_line, words_text}
-use Rattle.udsnorm.specs.Run.{EngineAnswers, RanOne, RanTwo}
+use Rattle.udsnorm.specs.Run.{RanOne, RanTwo}
 use Rattle.udsnorm.specs.Telling.{TookText}
 use Rattle.udsnorm.specs.Words.{IsPlanned}
-use Rattle.udsnorm.specs.declared.job.Job.{Job}
+use Rattle.udsnorm.specs.declared.commands.Job.{Job}
 use Rattle.udsnorm.specs.declared.job.Plan.{Plan}
 use Rattle.udsnorm.specs.declared.job.Plan.TheVariants.{One, Two}
 use Rattle.udsnorm.specs.declared.job.WordsFault.{WordsFault}

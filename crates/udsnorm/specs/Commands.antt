@@ -1,22 +1,31 @@
--- The commands of the program with their options and files, as the parser takes them.
-use Rattle.std.specs.Prelude.{true, false, List, [], ◌∷◌, ◌++◌, Some, Option, codes}
+-- The commands of the program: the options and files of each, as the parser takes them, the job that it asks for, and what the
+-- engine answers and reads that does the job. A command is one row of `table`, and a case of `EngineAnswers` and of
+-- `engine_reads`.
+use Rattle.std.specs.Prelude.{ℕ, Bool, true, false, List, [], ◌∷◌, ◌++◌, map, Some, None, Option, Result, codes, bytes_eq, if◌then◌else◌}
 use Rattle.clap.specs.Faults.{fault_of}
 use Rattle.clap.specs.Kinds.{Kinds}
 use Rattle.clap.specs.Simple.{App, Shape, new_rule, new_shape, subcommand_of}
 use Rattle.clap.specs.Walk.{Row, Rule, Text}
 use Rattle.clap.specs.declared.builder.action.ArgAction.TheVariants.{SetTrue}
 use Rattle.clap.specs.declared.builder.value_parser.ValueParser.TheVariants.{Unsigned}
+use Rattle.trace_canon.specs.Answers.{Answers, ReadsWhile}
+use Rattle.trace_canon.specs.ExplainAnswers.{AnswersExplain}
+use Rattle.trace_canon.specs.Listed.{Lists}
+use Rattle.trace_canon.specs.MessageLines.{placing_script}
+use Rattle.trace_canon.specs.Refusal.{HasNoBadPlaceWithin, IsNotRefusedWithin}
+use Rattle.trace_canon.specs.Settings.{Settings}
+use Rattle.trace_canon.specs.Told.{AnswersTold, answers_counts}
+use Rattle.trace_canon.specs.declared.fault.Fault.{Fault}
+use Rattle.trace_canon.specs.declared.summary.Summary.{Summary}
+use Rattle.udsnorm.specs.Values.{numbering_in}
+use Rattle.udsnorm.specs.declared.commands.Job.{Job}
+use Rattle.udsnorm.specs.declared.commands.Job.TheVariants as job
+
+-- ---- options and files
 
 -- an option of one value, with the value that it has where it is not given
 abbrev pub option : Text → Text → Rule
 option name default = record (new_rule name) { long = Some name; value_names = 1; defaults = default ∷ [] }
-
--- the limits that there are where none is given: a gibibyte, and the largest limit
-abbrev pub usual : Text
-usual = codes "1073741824"
-
-abbrev pub largest : Text
-largest = codes "1099511627776"
 
 -- the option of the limit, a number of 64 bits, with what it is where it is not given
 abbrev pub limit : Text → Rule
@@ -26,23 +35,72 @@ limit default = record (option (codes "limit") default) { parser = Some (Unsigne
 abbrev pub flag : Text → Rule
 flag name = record (new_rule name) { long = Some name; action = Some SetTrue }
 
--- the options that every command takes
-abbrev pub options : Text → List Rule
-options default = option (codes "tester") (codes "7E0") ∷ option (codes "unit") (codes "7E8") ∷ limit default ∷ []
+-- a file, which has to be named or may be
+abbrev pub file : Text → Bool → Rule
+file name is_required = record (new_rule name) { required = is_required }
 
--- a command with this limit and these files
-abbrev pub with_files : Text → Text → List Rule → Shape
-with_files name default files = record (new_shape name) { rules = options default ++ files }
+-- the identifiers of both sides
+abbrev pub sides : List Rule
+sides = option (codes "tester") (codes "7E0") ∷ option (codes "unit") (codes "7E8") ∷ []
 
--- the files of a command: a log that may be given, or two that have to be
+-- the limit, which is a gibibyte where none is given, or the largest one
+abbrev pub usual_limit : List Rule
+usual_limit = limit (codes "1073741824") ∷ []
+
+abbrev pub largest_limit : List Rule
+largest_limit = limit (codes "1099511627776") ∷ []
+
+-- whether items have numbers
+abbrev pub numbering : List Rule
+numbering = flag (codes "no-numbers") ∷ []
+
+-- a log that may be named, or two that have to be
 abbrev pub one_log : List Rule
-one_log = new_rule (codes "LOG") ∷ []
-
-abbrev pub required : Text → Rule
-required name = record (new_rule name) { required = true }
+one_log = file (codes "LOG") false ∷ []
 
 abbrev pub two_logs : List Rule
-two_logs = required (codes "A") ∷ required (codes "B") ∷ []
+two_logs = file (codes "A") true ∷ file (codes "B") true ∷ []
+
+-- ---- the commands
+
+-- a command: its name, its options and files, and its job over one log, by what they are given; it has none where it is over two
+pub record CommandRow : Type 0 where
+  pub name : Text
+  pub rules : List Rule
+  pub job : List Row → Option Job
+
+abbrev pub table : List CommandRow
+table =
+       record { name = codes "normalise"; rules = sides ++ usual_limit ++ one_log; job = λ rows. Some job.Normalise }
+    ∷ record { name = codes "list"; rules = sides ++ usual_limit ++ one_log ++ numbering; job = λ rows. Some (job.List (numbering_in rows)) }
+    ∷ record { name = codes "explain"; rules = sides ++ usual_limit ++ one_log; job = λ rows. Some job.Explain }
+    ∷ record { name = codes "messages"; rules = sides ++ largest_limit ++ one_log; job = λ rows. Some job.Messages }
+    ∷ record { name = codes "compare"; rules = sides ++ usual_limit ++ two_logs; job = λ rows. None }
+    ∷ []
+
+-- what the engine that does this job over one log answers, and what it writes
+abbrev pub EngineAnswers : Job → ℕ → Settings → List ℕ → ℕ → Result Summary Fault → List ℕ → List ℕ → Type 0
+EngineAnswers job.Normalise limit settings log given answer old new = Answers limit settings log given answer old new
+EngineAnswers (job.List numbering) limit settings log given answer old new = Lists numbering limit settings log answer old new
+EngineAnswers job.Explain limit settings log given answer old new = AnswersExplain limit settings log given answer old new
+EngineAnswers job.Messages limit settings log given answer old new = AnswersTold (placing_script limit) answers_counts limit settings log given answer old new
+
+-- of so many bytes of the log nothing refuses it for the engine that does this job
+abbrev pub IsReadFor : Job → ℕ → Settings → List ℕ → ℕ → Type 0
+IsReadFor job.Normalise limit settings log given = IsNotRefusedWithin limit settings log given
+IsReadFor (job.List numbering) limit settings log given = IsNotRefusedWithin limit settings log given
+IsReadFor job.Explain limit settings log given = HasNoBadPlaceWithin log given
+IsReadFor job.Messages limit settings log given = HasNoBadPlaceWithin log given
+
+-- ---- the program
+
+-- how near to what refuses the log the engine that does this job stops reading
+abbrev pub EngineReads : Job → ℕ → Settings → List ℕ → ℕ → ℕ → ℕ → Type 0
+EngineReads job limit settings log given failures failures_now = ReadsWhile (IsReadFor job limit settings log) given failures failures_now
+
+-- a command as the parser takes it
+abbrev pub shape_of : CommandRow → Shape
+shape_of row = record (new_shape row.name) { rules = row.rules }
 
 -- the program before its commands: it has no options but those that ask for help and for its version, and one command has to
 -- be named
@@ -56,15 +114,15 @@ program = record (new_shape (codes "udsnorm")) {
 
 -- the program
 abbrev pub commands : App
-commands = record {
-  top = record program { is_leaf = false };
-  subs = with_files (codes "normalise") usual one_log
-      ∷ with_files (codes "list") usual (one_log ++ flag (codes "no-numbers") ∷ [])
-      ∷ with_files (codes "explain") usual one_log
-      ∷ with_files (codes "messages") largest one_log
-      ∷ with_files (codes "compare") usual two_logs
-      ∷ [];
-}
+commands = record { top = record program { is_leaf = false }; subs = map shape_of table }
+
+-- the job of the command of this name in a table; what is none of them is `normalise`
+abbrev pub job_in : List CommandRow → Text → List Row → Option Job
+job_in [] name rows = Some job.Normalise
+job_in (row ∷ below) name rows = if bytes_eq name row.name then row.job rows else job_in below name rows
+
+abbrev pub job_named : Text → List Row → Option Job
+job_named = job_in table
 
 -- the words, or what stands for none
 abbrev pub words_or_normalise : List Text → List Text

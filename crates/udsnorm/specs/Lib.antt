@@ -1,4 +1,5 @@
 pub mod Identifiers
+pub mod Values
 pub mod Commands
 pub mod Words
 pub mod Status

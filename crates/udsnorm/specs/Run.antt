@@ -1,15 +1,11 @@
 -- What a run over logs answers, what it takes from its input, and what its output takes.
 use Rattle.std.specs.Prelude.{◌≡◌, ◌≢◌, ℕ, ◌+◌, ◌-◌, ◌<◌, ◌⊎◌, List, ◌++◌, length, true, false, Result, Ok, Err, OnOk}
 use Rattle.trace_canon.specs.Settings.{Settings}
-use Rattle.trace_canon.specs.Answers.{Answers, ReadsWhile}
+use Rattle.trace_canon.specs.Answers.{ReadsWhile}
 use Rattle.trace_canon.specs.Devices.{ReadFrom}
 use Rattle.trace_canon.specs.Failing.{FailedIf}
-use Rattle.trace_canon.specs.Listed.{Lists}
-use Rattle.trace_canon.specs.ExplainAnswers.{AnswersExplain}
 use Rattle.trace_canon.specs.Compared.{Compares, fault_in}
-use Rattle.trace_canon.specs.MessageLines.{placing_script}
-use Rattle.trace_canon.specs.Told.{AnswersTold, answers_counts}
-use Rattle.trace_canon.specs.Refusal.{HasNoBadPlaceWithin, IsNotRefusedWithin}
+use Rattle.trace_canon.specs.Refusal.{IsNotRefusedWithin}
 use Rattle.trace_canon.specs.declared.comparing.Comparison.{Comparison}
 use Rattle.trace_canon.specs.declared.fault.CompareFault.{CompareFault}
 use Rattle.trace_canon.specs.declared.fault.CompareFault.TheVariants.{Left, Right}
@@ -20,27 +16,13 @@ use Rattle.trace_io.specs.Stream.{Agrees, Took}
 use Rattle.trace_io.specs.Written.{HasFront}
 use Rattle.trace_io.specs.declared.device.Source.{Ghosts as SourceGhosts}
 use Rattle.trace_io.specs.declared.device.Target.{Ghosts as TargetGhosts}
+use Rattle.udsnorm.specs.Commands.{EngineAnswers, EngineReads}
 use Rattle.udsnorm.specs.Comparisons.{comparison_line}
 use Rattle.udsnorm.specs.Ending.{ComesTo, flushes, status_of_comparison, status_of_run}
 use Rattle.udsnorm.specs.FaultLines.{run_text, run_two_text}
 use Rattle.udsnorm.specs.Status.{status_of}
 use Rattle.udsnorm.specs.Telling.{TookText}
-use Rattle.udsnorm.specs.declared.job.Job.{Job}
-use Rattle.udsnorm.specs.declared.job.Job.TheVariants as job
-
--- what the engine that does this job over one log answers, and what it writes
-abbrev pub EngineAnswers : Job → ℕ → Settings → List ℕ → ℕ → Result Summary Fault → List ℕ → List ℕ → Type 0
-EngineAnswers job.Normalise limit settings log given answer old new = Answers limit settings log given answer old new
-EngineAnswers (job.List numbering) limit settings log given answer old new = Lists numbering limit settings log answer old new
-EngineAnswers job.Explain limit settings log given answer old new = AnswersExplain limit settings log given answer old new
-EngineAnswers job.Messages limit settings log given answer old new = AnswersTold (placing_script limit) answers_counts limit settings log given answer old new
-
--- how near to what refuses the log the engine that does this job stops reading
-abbrev pub EngineReads : Job → ℕ → Settings → List ℕ → ℕ → ℕ → ℕ → Type 0
-EngineReads job.Normalise limit settings log given failures failures_now = ReadsWhile (IsNotRefusedWithin limit settings log) given failures failures_now
-EngineReads (job.List numbering) limit settings log given failures failures_now = ReadsWhile (IsNotRefusedWithin limit settings log) given failures failures_now
-EngineReads job.Explain limit settings log given failures failures_now = ReadsWhile (HasNoBadPlaceWithin log) given failures failures_now
-EngineReads job.Messages limit settings log given failures failures_now = ReadsWhile (HasNoBadPlaceWithin log) given failures failures_now
+use Rattle.udsnorm.specs.declared.commands.Job.{Job}
 
 -- What a run over one log did, from its input to its output and its error output, and its exit status.
 pub record RanOne {R W E : Type 0} (source : SourceGhosts R) (output : TargetGhosts W) (errors : TargetGhosts E) (job : Job) (limit : ℕ) (settings : Settings)

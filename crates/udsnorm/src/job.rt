@@ -3,22 +3,10 @@
 ghost use Rattle.std.specs.Prelude.{◌≡◌};
 ghost use Rattle.udsnorm.specs.declared.job.WordsFault.TheVariants as words_fault;
 
+use crate::commands::Job;
 use std::alloc::AllocError;
 use thiserror::Error;
-use trace_canon::{Config, ConfigFault, Numbering};
-
-/// What the program does with one log.
-#[derive(Clone, Copy, PartialEq, Eq)]
-pub enum Job {
-    /// Writes the canonical log.
-    Normalise,
-    /// Writes the exchanges and stray messages, with their numbers or without.
-    List(Numbering),
-    /// Writes which frames were dropped, and which receptions ended early, and why.
-    Explain,
-    /// Writes each message with its place in the log.
-    Messages,
-}
+use trace_canon::{Config, ConfigFault};
 
 /// What a command line asks for.
 #[derive(Drop)]

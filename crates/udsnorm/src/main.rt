@@ -20,6 +20,7 @@ ghost use Rattle.udsnorm.specs.FaultLines.{fault_line, side_line};
 ghost use Rattle.udsnorm.specs.Commands.{words_or_normalise};
 
 mod command;
+mod commands;
 mod comparison;
 mod fault_lines;
 mod identifiers;
@@ -27,9 +28,11 @@ mod job;
 mod run;
 mod tell;
 mod text;
+mod values;
 mod words;
 
-use crate::job::{Job, Plan, WordsFault};
+use crate::commands::Job;
+use crate::job::{Plan, WordsFault};
 use crate::run::{run_one, run_two};
 use crate::tell::{tell, tell_fault, tell_side};
 use crate::words::plan;

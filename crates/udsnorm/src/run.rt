@@ -3,23 +3,19 @@
 ghost use Rattle.std.specs.Prelude.{◌≡◌, ℕ, ◌+◌, ◌-◌, ◌^◌, ◌<◌, ◌≤◌, ◌⊎◌, ◌↔◌, List, ◌++◌, true, OnOk, IfErr, MatchResult, length};
 ghost use Rattle.std.specs.Io.KnownBytes.{Keeps};
 ghost use Rattle.isotp_receive.specs.declared.TheConstants.{MESSAGE_LIMIT};
-ghost use Rattle.trace_canon.specs.Devices.{ReadFrom, WroteTo};
 ghost use Rattle.trace_io.specs.Counted.{AreLowCounts, IsLowCount};
-ghost use Rattle.trace_io.specs.Stream.{Agrees};
 ghost use Rattle.trace_io.specs.Written.{HasFront};
 ghost use Rattle.udsnorm.specs.Comparisons.{comparison_line};
 ghost use Rattle.udsnorm.specs.Ending.{EndsAs, EndsTwoWith, flushes, status_of_comparison, status_of_run};
 ghost use Rattle.udsnorm.specs.FaultLines.{run_text, run_two_text};
-ghost use Rattle.udsnorm.specs.Run.{EngineAnswers, EngineReads, RanOne, RanTwo, TookLine};
+ghost use Rattle.udsnorm.specs.Run.{RanOne, RanTwo, TookLine};
 ghost use Rattle.udsnorm.specs.Telling.{TookText};
 
+use crate::commands::{Job, do_job};
 use crate::comparison::comparison_line;
-use crate::job::Job;
 use crate::tell::{is_refusal, tell_fault, tell_side};
 use std::alloc::Global;
-use trace_canon::{
-    CompareFault, Comparison, Config, Fault, Summary, compare, explain, list, messages, normalise,
-};
+use trace_canon::{CompareFault, Comparison, Config, Fault, Summary, compare};
 use trace_io::{Source, Target, write_all};
 
 /// Does a job over one log, and answers the exit status. The text goes to the output, which is flushed before a fault of the
@@ -52,31 +48,6 @@ pub fn run_one<R: Source, W: Target, E: Target>(
     let answer = do_job(alloc, job, config, input, out);
     let outcome = flushed_one(answer, out);
     tell_outcome(outcome, err)
-}
-
-/// What the engine answers that does the job.
-fn do_job<R: Source, W: Target>(
-    alloc: Global,
-    job: Job,
-    config: &Config,
-    input: &mut R,
-    out: &mut W,
-) -> Result<Summary, Fault>
-    requires input { AreLowCounts (R.reads input.old) (length (R.given input.old)) (R.failures input.old) }
-    requires out { IsLowCount (W.failures out.old) }
-    ensures engine { (log : List ℕ) → Agrees (R.given input.old) (R.given input.new) (R.is_over input.new) log
-        → EngineAnswers job MESSAGE_LIMIT config.now log (length (R.given input.new) - length (R.given input.old)) result (W.taken out.old) (W.taken out.new) }
-    ensures near { (log : List ℕ) → Agrees (R.given input.old) (R.given input.new) (R.is_over input.new) log
-        → EngineReads job MESSAGE_LIMIT config.now log (length (R.given input.new) - length (R.given input.old)) (R.failures input.old) (R.failures input.new) }
-    ensures read { ReadFrom R.Source Fault.Read config.now.max_bytes result input.old input.new }
-    ensures wrote { WroteTo W.Target Fault.Write result out.old out.new }
-{
-    match job {
-        Job::Normalise => normalise(alloc, config, input, out),
-        Job::List(numbering) => list(alloc, config, numbering, input, out),
-        Job::Explain => explain(alloc, config, input, out),
-        Job::Messages => messages(alloc, config, input, out),
-    }
 }
 
 /// What a run comes to, once what it wrote is flushed: its answer, or a failed write.

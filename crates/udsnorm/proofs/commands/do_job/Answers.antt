@@ -1,4 +1,4 @@
-use Rattle.udsnorm.proofs.run.do_job.Goals as goal
+use Rattle.udsnorm.proofs.commands.do_job.Goals as goal
 
 pub returns-in-Normalise-clause-near : goal.returns-in-Normalise-clause-near
 returns-in-Normalise-clause-near g c = λ log agrees. rw c.in-Normalise.is (c.normalise.ensures.near log agrees)
