@@ -12,7 +12,7 @@ use Rattle.trace_io.specs.Stream.{Agrees, Gave, Took}
 use Rattle.trace_io.proofs.Promises.{agrees_with_told}
 use Rattle.trace_canon.specs.declared.fault.Fault.{Fault}
 use Rattle.trace_canon.specs.declared.fault.Fault.TheVariants.{BadLine, Oversize, LogLimit, OutputLimit, Read, Write, Memory}
-use Rattle.trace_canon.specs.declared.item_lines.Numbering.{Numbering}
+use Rattle.trace_canon.specs.declared.item_lines.ItemStyle.{ItemStyle}
 use Rattle.trace_canon.specs.declared.summary.Summary.{Summary}
 use Rattle.trace_canon.specs.Answers.{Answers, TellsOutcome, GivesMeaning}
 use Rattle.trace_canon.specs.ExplainAnswers.{AnswersExplain}
@@ -83,12 +83,12 @@ canonical_in_memory limit settings log given (Ok summary) old taken held old_is 
 canonical_in_memory limit settings log given (Err fault) old taken held old_is held_is failed (is, left) =
     refused limit settings log fault is (λ read. reads_well failed (ap Err read))
 
-pub list_in_memory : (numbering : Numbering) (limit : ℕ) (settings : Settings) (log : List ℕ) (answer : Result Summary Fault) (old taken held : List ℕ)
-    → old ≡ [] → taken ≡ held → FailedIf Read answer 0 0 → Lists numbering limit settings log answer old taken
-    → MatchResult answer (λ _. IsListOf numbering limit settings log held) (λ fault. IsRefused limit settings log (fault_in_memory fault))
-list_in_memory numbering limit settings log (Ok summary) old taken held old_is held_is failed (items, is, wrote) =
-    (items, summary, is, sym held_is ∙ wrote ∙ ap (λ xs. xs ++ list_text numbering items) old_is)
-list_in_memory numbering limit settings log (Err fault) old taken held old_is held_is failed (is, left) =
+pub list_in_memory : (style : ItemStyle) (limit : ℕ) (settings : Settings) (log : List ℕ) (answer : Result Summary Fault) (old taken held : List ℕ)
+    → old ≡ [] → taken ≡ held → FailedIf Read answer 0 0 → Lists style limit settings log answer old taken
+    → MatchResult answer (λ _. IsListOf style limit settings log held) (λ fault. IsRefused limit settings log (fault_in_memory fault))
+list_in_memory style limit settings log (Ok summary) old taken held old_is held_is failed (items, is, wrote) =
+    (items, summary, is, sym held_is ∙ wrote ∙ ap (λ xs. xs ++ list_text style items) old_is)
+list_in_memory style limit settings log (Err fault) old taken held old_is held_is failed (is, left) =
     refused limit settings log fault is (λ read. reads_well failed (ap Err read))
 
 unread_for : (limit : ℕ) (settings : Settings) (log : List ℕ) (given : ℕ) (fault : Fault) (old taken : List ℕ)

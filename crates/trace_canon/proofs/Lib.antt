@@ -24,6 +24,7 @@ pub mod WrittenFronts
 pub mod CanonicalWriting
 pub mod NumberedNames
 pub mod ItemLines
+mod JsonTexts
 pub mod EventTexts
 pub mod Pieces
 pub mod Streams

@@ -9,7 +9,7 @@ use Rattle.isotp_receive.specs.Trace.{Entry}
 use Rattle.trace_io.specs.Written.{HasFront}
 use Rattle.trace_canon.specs.declared.fault.Fault.{Fault}
 use Rattle.trace_canon.specs.declared.fault.Fault.TheVariants.{BadLine, Oversize, LogLimit, OutputLimit, Read, Write, Memory}
-use Rattle.trace_canon.specs.declared.item_lines.Numbering.{Numbering}
+use Rattle.trace_canon.specs.declared.item_lines.ItemStyle.{ItemStyle}
 use Rattle.trace_canon.specs.declared.machine.Stop.TheVariants as end_stop
 use Rattle.trace_canon.specs.declared.summary.Summary.{Summary}
 use Rattle.trace_canon.specs.Answers.{IsAcceptedWith}
@@ -33,19 +33,19 @@ nothing_in : (front rest : List ℕ) → front ++ rest ≡ [] → front ≡ []
 nothing_in [] rest is = refl
 nothing_in (x ∷ front) rest is = absurd (cc is)
 
-module _ (numbering : Numbering) (settings : Settings) where
-  none_told : (meanings : List (Option Stamped)) → told_of_lines (list_script numbering settings) settings meanings ≡ []
+module _ (style : ItemStyle) (settings : Settings) where
+  none_told : (meanings : List (Option Stamped)) → told_of_lines (list_script style settings) settings meanings ≡ []
   none_told meanings = told_nothing [] (trace settings meanings)
 
   whole_is : (meanings : List (Option Stamped)) (b : Bool) → fits_within settings (meaning_of_lines MESSAGE_LIMIT settings meanings) ≡ b
-      → whole_of_lines (list_script numbering settings) MESSAGE_LIMIT settings meanings ≡ listed numbering b (meaning_of_lines MESSAGE_LIMIT settings meanings)
+      → whole_of_lines (list_script style settings) MESSAGE_LIMIT settings meanings ≡ listed style b (meaning_of_lines MESSAGE_LIMIT settings meanings)
   whole_is meanings b is =
-      ap (λ t. t ++ listed numbering (fits_within settings (meaning_of_lines MESSAGE_LIMIT settings meanings)) (meaning_of_lines MESSAGE_LIMIT settings meanings)) (none_told meanings)
-      ∙ ap (λ x. listed numbering x (meaning_of_lines MESSAGE_LIMIT settings meanings)) is
+      ap (λ t. t ++ listed style (fits_within settings (meaning_of_lines MESSAGE_LIMIT settings meanings)) (meaning_of_lines MESSAGE_LIMIT settings meanings)) (none_told meanings)
+      ∙ ap (λ x. listed style x (meaning_of_lines MESSAGE_LIMIT settings meanings)) is
 
   module _ (log : List ℕ) where
     -- nothing was written
-    unwritten : (given : ℕ) (why : Fault) (old new : List ℕ) → WritesTold (list_script numbering settings) MESSAGE_LIMIT settings log given why old new → new ≡ old
+    unwritten : (given : ℕ) (why : Fault) (old new : List ℕ) → WritesTold (list_script style settings) MESSAGE_LIMIT settings log given why old new → new ≡ old
     unwritten given why old new wrote = wrote.wrote ∙ ap (λ x. old ++ x) (none_told wrote.meanings) ∙ append-nil old
 
     accepted_with : (meanings : List (Option Stamped)) → IsReadWhole MESSAGE_LIMIT settings log meanings → fits_within settings (meaning_of_lines MESSAGE_LIMIT settings meanings) ≡ true
@@ -59,10 +59,10 @@ module _ (numbering : Numbering) (settings : Settings) where
 
     -- the list was written
     lists : (given : ℕ) (summary : Summary) (old new : List ℕ)
-        → EndsWith (list_script numbering settings) (answers_list settings) MESSAGE_LIMIT settings log given (Ok summary) old new → Lists numbering MESSAGE_LIMIT settings log (Ok summary) old new
+        → EndsWith (list_script style settings) (answers_list settings) MESSAGE_LIMIT settings log given (Ok summary) old new → Lists style MESSAGE_LIMIT settings log (Ok summary) old new
     lists given summary old new (all, meanings, read, answer, wrote) = by (fits_within settings (meaning_of_lines MESSAGE_LIMIT settings meanings)) refl
       where
-        by : (b : Bool) → fits_within settings (meaning_of_lines MESSAGE_LIMIT settings meanings) ≡ b → Lists numbering MESSAGE_LIMIT settings log (Ok summary) old new
+        by : (b : Bool) → fits_within settings (meaning_of_lines MESSAGE_LIMIT settings meanings) ≡ b → Lists style MESSAGE_LIMIT settings log (Ok summary) old new
         by true is =
             let same : Ok summary ≡ Ok (summary_of MESSAGE_LIMIT settings meanings) =
             answer ∙ ap (λ (b : Bool). if b then Ok (summary_of MESSAGE_LIMIT settings meanings) else Err end_stop.OutputLimit) is in
@@ -77,11 +77,11 @@ module _ (numbering : Numbering) (settings : Settings) where
             absurd (cc same)
 
     -- the canonical log is too long
-    lists_none : (given : ℕ) (old new : List ℕ) → EndsWith (list_script numbering settings) (answers_list settings) MESSAGE_LIMIT settings log given (Err end_stop.OutputLimit) old new
-        → Lists numbering MESSAGE_LIMIT settings log (Err OutputLimit) old new
+    lists_none : (given : ℕ) (old new : List ℕ) → EndsWith (list_script style settings) (answers_list settings) MESSAGE_LIMIT settings log given (Err end_stop.OutputLimit) old new
+        → Lists style MESSAGE_LIMIT settings log (Err OutputLimit) old new
     lists_none given old new (all, meanings, read, answer, wrote) = by (fits_within settings (meaning_of_lines MESSAGE_LIMIT settings meanings)) refl
       where
-        by : (b : Bool) → fits_within settings (meaning_of_lines MESSAGE_LIMIT settings meanings) ≡ b → Lists numbering MESSAGE_LIMIT settings log (Err OutputLimit) old new
+        by : (b : Bool) → fits_within settings (meaning_of_lines MESSAGE_LIMIT settings meanings) ≡ b → Lists style MESSAGE_LIMIT settings log (Err OutputLimit) old new
         by true is =
             let same : Err end_stop.OutputLimit ≡ Ok (summary_of MESSAGE_LIMIT settings meanings) =
             answer ∙ ap (λ (b : Bool). if b then Ok (summary_of MESSAGE_LIMIT settings meanings) else Err end_stop.OutputLimit) is in
@@ -89,10 +89,10 @@ module _ (numbering : Numbering) (settings : Settings) where
         by false is = ((meanings, read, leb-false _ _ is), wrote ∙ ap (λ x. old ++ x) (whole_is meanings false is) ∙ append-nil old)
 
     -- writing failed, which can only be at the end
-    lists_front : (old new : List ℕ) → EndsUnwritten (list_script numbering settings) MESSAGE_LIMIT settings log old new → Lists numbering MESSAGE_LIMIT settings log (Err Write) old new
+    lists_front : (old new : List ℕ) → EndsUnwritten (list_script style settings) MESSAGE_LIMIT settings log old new → Lists style MESSAGE_LIMIT settings log (Err Write) old new
     lists_front old new ends = by (fits_within settings (meaning_of_lines MESSAGE_LIMIT settings ends.meanings)) refl
       where
-        by : (b : Bool) → fits_within settings (meaning_of_lines MESSAGE_LIMIT settings ends.meanings) ≡ b → Lists numbering MESSAGE_LIMIT settings log (Err Write) old new
+        by : (b : Bool) → fits_within settings (meaning_of_lines MESSAGE_LIMIT settings ends.meanings) ≡ b → Lists style MESSAGE_LIMIT settings log (Err Write) old new
         by true is = (
           tt,
           (
@@ -107,36 +107,36 @@ module _ (numbering : Numbering) (settings : Settings) where
             let long = ap length (whole_is ends.meanings false is) in
             absurd (omega arith)
 
-    no_front : (given : ℕ) (why : Fault) (old new : List ℕ) → WritesFrontOfFrames (list_script numbering settings) MESSAGE_LIMIT settings log given why old new → new ≡ old
+    no_front : (given : ℕ) (why : Fault) (old new : List ℕ) → WritesFrontOfFrames (list_script style settings) MESSAGE_LIMIT settings log given why old new → new ≡ old
     no_front given why old new wrote =
         let none = nothing_in wrote.written wrote.missing (sym wrote.front ∙ none_told wrote.meanings) in
         wrote.wrote ∙ ap (λ x. old ++ x) none ∙ append-nil old
 
-    none_before : (given : ℕ) → HasToldSome (list_script numbering settings) MESSAGE_LIMIT settings log given → ⊥
+    none_before : (given : ℕ) → HasToldSome (list_script style settings) MESSAGE_LIMIT settings log given → ⊥
     none_before given told =
         let some = told.some in
         let long = ap length (none_told told.meanings) in
         absurd (omega arith)
 
 pub list_tells_the_same : ListTellsTheSame
-list_tells_the_same numbering settings log given (Ok summary) old new ends = lists numbering settings log given summary old new ends
-list_tells_the_same numbering settings log given (Err OutputLimit) old new ends = lists_none numbering settings log given old new ends
-list_tells_the_same numbering settings log given (Err (BadLine line column)) old new (why, wrote) = (why, unwritten numbering settings log given (BadLine line column) old new wrote)
-list_tells_the_same numbering settings log given (Err (Oversize line announced)) old new (why, wrote) = (why, unwritten numbering settings log given (Oversize line announced) old new wrote)
-list_tells_the_same numbering settings log given (Err LogLimit) old new (why, wrote) = (why, unwritten numbering settings log given LogLimit old new wrote)
-list_tells_the_same numbering settings log given (Err Read) old new wrote = (tt, unwritten numbering settings log given Read old new wrote)
-list_tells_the_same numbering settings log given (Err Write) old new (front, inl some) = absurd (none_before numbering settings log given some)
-list_tells_the_same numbering settings log given (Err Write) old new (front, inr ends) = lists_front numbering settings log old new ends
-list_tells_the_same numbering settings log given (Err Memory) old new wrote = (tt, no_front numbering settings log given Memory old new wrote)
+list_tells_the_same style settings log given (Ok summary) old new ends = lists style settings log given summary old new ends
+list_tells_the_same style settings log given (Err OutputLimit) old new ends = lists_none style settings log given old new ends
+list_tells_the_same style settings log given (Err (BadLine line column)) old new (why, wrote) = (why, unwritten style settings log given (BadLine line column) old new wrote)
+list_tells_the_same style settings log given (Err (Oversize line announced)) old new (why, wrote) = (why, unwritten style settings log given (Oversize line announced) old new wrote)
+list_tells_the_same style settings log given (Err LogLimit) old new (why, wrote) = (why, unwritten style settings log given LogLimit old new wrote)
+list_tells_the_same style settings log given (Err Read) old new wrote = (tt, unwritten style settings log given Read old new wrote)
+list_tells_the_same style settings log given (Err Write) old new (front, inl some) = absurd (none_before style settings log given some)
+list_tells_the_same style settings log given (Err Write) old new (front, inr ends) = lists_front style settings log old new ends
+list_tells_the_same style settings log given (Err Memory) old new wrote = (tt, no_front style settings log given Memory old new wrote)
 
 -- where there is no list, and writing did not fail, nothing was written; what is known then of the target
-pub unwritten_list : (Alone : Type 0) (numbering : Numbering) (settings : Settings) (log : List ℕ) (result : Result Summary Fault) (old new : List ℕ) → Lists numbering MESSAGE_LIMIT settings log result old new
+pub unwritten_list : (Alone : Type 0) (style : ItemStyle) (settings : Settings) (log : List ℕ) (result : Result Summary Fault) (old new : List ℕ) → Lists style MESSAGE_LIMIT settings log result old new
     → (result ≢ Err Write → new ≡ old → Alone) → IfErr result (λ why. why ≢ Write → Alone)
-unwritten_list Alone numbering settings log (Ok summary) old new lists alone = tt
-unwritten_list Alone numbering settings log (Err (BadLine line column)) old new lists alone = λ _. alone (λ is. absurd (cc is)) lists.1
-unwritten_list Alone numbering settings log (Err (Oversize line announced)) old new lists alone = λ _. alone (λ is. absurd (cc is)) lists.1
-unwritten_list Alone numbering settings log (Err LogLimit) old new lists alone = λ _. alone (λ is. absurd (cc is)) lists.1
-unwritten_list Alone numbering settings log (Err OutputLimit) old new lists alone = λ _. alone (λ is. absurd (cc is)) lists.1
-unwritten_list Alone numbering settings log (Err Read) old new lists alone = λ _. alone (λ is. absurd (cc is)) lists.1
-unwritten_list Alone numbering settings log (Err Memory) old new lists alone = λ _. alone (λ is. absurd (cc is)) lists.1
-unwritten_list Alone numbering settings log (Err Write) old new lists alone = λ other. absurd (other refl)
+unwritten_list Alone style settings log (Ok summary) old new lists alone = tt
+unwritten_list Alone style settings log (Err (BadLine line column)) old new lists alone = λ _. alone (λ is. absurd (cc is)) lists.1
+unwritten_list Alone style settings log (Err (Oversize line announced)) old new lists alone = λ _. alone (λ is. absurd (cc is)) lists.1
+unwritten_list Alone style settings log (Err LogLimit) old new lists alone = λ _. alone (λ is. absurd (cc is)) lists.1
+unwritten_list Alone style settings log (Err OutputLimit) old new lists alone = λ _. alone (λ is. absurd (cc is)) lists.1
+unwritten_list Alone style settings log (Err Read) old new lists alone = λ _. alone (λ is. absurd (cc is)) lists.1
+unwritten_list Alone style settings log (Err Memory) old new lists alone = λ _. alone (λ is. absurd (cc is)) lists.1
+unwritten_list Alone style settings log (Err Write) old new lists alone = λ other. absurd (other refl)

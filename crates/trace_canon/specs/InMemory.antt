@@ -6,7 +6,7 @@ use Rattle.trace_canon.specs.declared.comparing.Comparison.{Comparison}
 use Rattle.trace_canon.specs.declared.fault.CompareFault.{CompareFault}
 use Rattle.trace_canon.specs.declared.fault.Fault.{Fault}
 use Rattle.trace_canon.specs.declared.fault.Fault.TheVariants.{BadLine, Oversize, LogLimit, OutputLimit, Read, Write, Memory}
-use Rattle.trace_canon.specs.declared.item_lines.Numbering.{Numbering}
+use Rattle.trace_canon.specs.declared.item_lines.ItemStyle.{ItemStyle}
 use Rattle.trace_canon.specs.declared.summary.Summary.{Summary}
 use Rattle.trace_canon.specs.Answers.{TellsOutcome, IsAcceptedWith, GivesMeaning}
 use Rattle.trace_canon.specs.Compared.{Compares, fault_in}
@@ -35,9 +35,9 @@ abbrev pub IsCanonicalLogOf : ℕ → Settings → List ℕ → List ℕ → Typ
 IsCanonicalLogOf limit settings log text = (accepted : Accepted) × IsOutcome limit settings log (Ok accepted) × (text ≡ accepted.text)
 
 -- the log is accepted, and this is the list of its items, with their numbers or without
-abbrev pub IsListOf : Numbering → ℕ → Settings → List ℕ → List ℕ → Type 0
-IsListOf numbering limit settings log text =
-    (items : List ItemValue) × (summary : Summary) × IsAcceptedWith limit settings log items summary × (text ≡ list_text numbering items)
+abbrev pub IsListOf : ItemStyle → ℕ → Settings → List ℕ → List ℕ → Type 0
+IsListOf style limit settings log text =
+    (items : List ItemValue) × (summary : Summary) × IsAcceptedWith limit settings log items summary × (text ≡ list_text style items)
 
 -- the log can be read, and this explains it
 abbrev pub IsExplanationOf : ℕ → Settings → List ℕ → List ℕ → Type 0

@@ -9,6 +9,7 @@ pub mod Outcome
 pub mod Explained
 pub mod Needing
 pub mod Words
+pub mod Json
 pub mod ListText
 pub mod ExplainText
 pub mod Answers

@@ -10,7 +10,7 @@ use Rattle.trace_canon.specs.ListText.{list_text}
 use Rattle.trace_canon.specs.Settings.{Settings}
 use Rattle.trace_canon.specs.Told.{Script, Answering, AnswersTold}
 use Rattle.trace_canon.specs.declared.fault.Fault.{Fault}
-use Rattle.trace_canon.specs.declared.item_lines.Numbering.{Numbering}
+use Rattle.trace_canon.specs.declared.item_lines.ItemStyle.{ItemStyle}
 use Rattle.trace_canon.specs.declared.machine.Stop.TheVariants.{OutputLimit}
 use Rattle.trace_canon.specs.declared.summary.Summary.{Summary}
 
@@ -23,13 +23,13 @@ abbrev pub fits_within : Settings → List ItemValue → Bool
 fits_within settings items = nat_le (length (canonical_log MESSAGE_LIMIT settings (flattened items))) settings.max_bytes
 
 -- the list of these items, where that is so
-abbrev pub listed : Numbering → Bool → List ItemValue → List ℕ
-listed numbering fits items = if fits then list_text numbering items else []
+abbrev pub listed : ItemStyle → Bool → List ItemValue → List ℕ
+listed style fits items = if fits then list_text style items else []
 
 -- nothing of each frame, and at the end the list
-abbrev pub list_script : Numbering → Settings → Script
-list_script numbering settings =
-    record { strict = true; word = λ T e. []; last = λ T summary. listed numbering (fits_within settings (items_of T)) (items_of T) }
+abbrev pub list_script : ItemStyle → Settings → Script
+list_script style settings =
+    record { strict = true; word = λ T e. []; last = λ T summary. listed style (fits_within settings (items_of T)) (items_of T) }
 
 -- it answers the counts where that is so
 abbrev pub answers_list : Settings → Answering Summary
@@ -42,5 +42,5 @@ pub record HoldsItems (settings : Settings) (T : List Entry) (items : List ItemV
 
 -- so what is answered and written is what lists the log
 abbrev pub ListTellsTheSame : Type 0
-ListTellsTheSame = (numbering : Numbering) (settings : Settings) (log : List ℕ) (given : ℕ) (result : Result Summary Fault) (old new : List ℕ)
-    → AnswersTold (list_script numbering settings) (answers_list settings) MESSAGE_LIMIT settings log given result old new → Lists numbering MESSAGE_LIMIT settings log result old new
+ListTellsTheSame = (style : ItemStyle) (settings : Settings) (log : List ℕ) (given : ℕ) (result : Result Summary Fault) (old new : List ℕ)
+    → AnswersTold (list_script style settings) (answers_list settings) MESSAGE_LIMIT settings log given result old new → Lists style MESSAGE_LIMIT settings log result old new

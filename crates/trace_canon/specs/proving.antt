@@ -6,6 +6,7 @@ pub mod Receiving
 pub mod Announcing
 pub mod LeftOut
 pub mod Parts
+pub mod Spelling
 pub mod Writing
 pub mod Measuring
 pub mod Saying

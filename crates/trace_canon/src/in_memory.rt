@@ -8,7 +8,7 @@ use crate::config::Config;
 use crate::explainer::explain;
 use crate::fault::{CompareFault, Fault};
 use crate::holder::meaning_of;
-use crate::item_lines::Numbering;
+use crate::item_lines::ItemStyle;
 use crate::lister::list;
 use crate::normaliser::normalise;
 use crate::summary::Summary;
@@ -29,13 +29,13 @@ pub fn canonical_log(alloc: Global, config: &Config, log: &[u8]) -> Result<Vec<u
 pub fn item_list(
     alloc: Global,
     config: &Config,
-    numbering: Numbering,
+    style: ItemStyle,
     log: &[u8],
 ) -> Result<Vec<u8>, Fault>
-    ensures { MatchResult result (λ text. IsListOf numbering MESSAGE_LIMIT config.now log.now text.items) (IsRefused MESSAGE_LIMIT config.now log.now) }
+    ensures { MatchResult result (λ text. IsListOf style MESSAGE_LIMIT config.now log.now text.items) (IsRefused MESSAGE_LIMIT config.now log.now) }
 {
     let mut writer = Writing::new(Vec::new(alloc));
-    let answer = list(alloc, config, numbering, &mut Bytes::new(log), &mut writer);
+    let answer = list(alloc, config, style, &mut Bytes::new(log), &mut writer);
     text_of(answer, writer.into_inner())
 }
 

@@ -1,9 +1,11 @@
 //! The text of a meaning, said item by item.
 ghost use Rattle.std.specs.Prelude.{◌++◌, codes, option_map};
 ghost use Rattle.uds_exchange.specs.ItemSeen.{item_value};
-ghost use Rattle.trace_canon.specs.ListText.{item_line, item_text, list_text, number_text, outcome_line};
+ghost use Rattle.trace_canon.specs.ListText.{item_line, worded_line, item_text, list_text, number_text, outcome_line};
 
+use crate::item_objects::say_item_object;
 use crate::names::direction_name;
+use crate::notation::Notation;
 use crate::parts::Part;
 use crate::say::say_parts;
 use crate::text_sink::TextSink;
@@ -19,20 +21,40 @@ pub enum Numbering {
     Hidden,
 }
 
+/// How the lines of items are written.
+#[derive(Clone, Copy, Debug, PartialEq, Eq)]
+pub struct ItemStyle {
+    pub numbering: Numbering,
+    pub notation: Notation,
+}
+
 /// Says the line of each item, in order.
-pub(crate) fn say_items<S: TextSink>(meaning: &Meaning, numbering: Numbering, out: &mut S)
-    ensures { S.says out.old (list_text numbering meaning.now) out.new }
+pub(crate) fn say_items<S: TextSink>(meaning: &Meaning, style: ItemStyle, out: &mut S)
+    ensures { S.says out.old (list_text style meaning.now) out.new }
 {
     'items: for i in 0..meaning.len() {
         if let Some(item) = meaning.item(i) {
-            say_item(i as u64 + 1, numbering, item, out);
+            say_item(i as u64 + 1, style, item, out);
         }
     }
 }
 
 /// Says the line of an item, which has this number.
-fn say_item<S: TextSink>(number: u64, numbering: Numbering, item: &Item, out: &mut S)
-    ensures { S.says out.old (item_line numbering number (item_value item.now)) out.new }
+pub(crate) fn say_item<S: TextSink>(number: u64, style: ItemStyle, item: &Item, out: &mut S)
+    ensures { S.says out.old (item_line style number (item_value item.now)) out.new }
+{
+    match style.notation {
+        Notation::Text => say_worded(number, style.numbering, item, out),
+        Notation::Json => {
+            say_item_object(number, style.numbering, item, out);
+            say_parts(out, &[Part::Text("\n")]);
+        }
+    }
+}
+
+/// The same in words.
+fn say_worded<S: TextSink>(number: u64, numbering: Numbering, item: &Item, out: &mut S)
+    ensures { S.says out.old (worded_line numbering number (item_value item.now)) out.new }
 {
     say_number(number, numbering, out);
     say_unnumbered(item, out);

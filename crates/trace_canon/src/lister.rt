@@ -12,7 +12,7 @@ ghost use Rattle.trace_io.specs.Counted.{IsLowCount, AreLowCounts};
 use crate::config::Config;
 use crate::driver::run;
 use crate::fault::Fault;
-use crate::item_lines::{Numbering, say_items};
+use crate::item_lines::{ItemStyle, say_items};
 use crate::length::fits;
 use crate::machine::{Machine, Stop};
 use crate::summary::Summary;
@@ -23,13 +23,13 @@ use std::alloc::{AllocError, Global};
 use trace_io::{Source, Target};
 use uds_exchange::Pairing;
 
-/// Reads a log, and then writes a line for each item of its meaning, with its number or without.
+/// Reads a log, and then writes a line for each item of its meaning, in this style.
 ///
 /// The target is not flushed.
 pub fn list<R: Source, W: Target>(
     alloc: Global,
     config: &Config,
-    numbering: Numbering,
+    style: ItemStyle,
     reader: &mut R,
     writer: &mut W,
 ) -> Result<Summary, Fault>
@@ -38,7 +38,7 @@ pub fn list<R: Source, W: Target>(
 
     // What is answered and written, for each log with which the bytes that were read agree.
     ensures answer { (log : List ℕ) → Agrees (R.given reader.old) (R.given reader.new) (R.is_over reader.new) log
-        → Lists numbering MESSAGE_LIMIT config.now log result (W.taken writer.old) (W.taken writer.new) }
+        → Lists style MESSAGE_LIMIT config.now log result (W.taken writer.old) (W.taken writer.new) }
 
     // Where there is no such list, the target is left alone.
     ensures unwritten { IfErr result (λ fault. fault ≢ Fault.Write → writer.new ≡ writer.old) }
@@ -52,20 +52,20 @@ pub fn list<R: Source, W: Target>(
     ensures read { ReadFrom R.Source Fault.Read config.now.max_bytes result reader.old reader.new }
     ensures wrote { WroteTo W.Target Fault.Write result writer.old writer.new }
 {
-    let machine = start(alloc, config, numbering);
+    let machine = start(alloc, config, style);
     run(alloc, config, machine, reader, writer)
 }
 
 /// A machine before the first message.
-fn start(alloc: Global, config: &Config, numbering: Numbering) -> Lister
+fn start(alloc: Global, config: &Config, style: ItemStyle) -> Lister
     ensures settings { result.config ≡ config.now }
-    ensures numbering { result.numbering ≡ numbering }
+    ensures style { result.style ≡ style }
     ensures holds { HoldsItems config.now [] result.pairing result.config }
 {
     Lister {
         pairing: Pairing::new(alloc),
         config: *config,
-        numbering,
+        style,
     }
 }
 
@@ -74,7 +74,7 @@ fn start(alloc: Global, config: &Config, numbering: Numbering) -> Lister
 pub(crate) struct Lister {
     pub pairing: Pairing,
     pub config: Config,
-    pub numbering: Numbering,
+    pub style: ItemStyle,
 }
 
 impl Machine for Lister {
@@ -83,9 +83,9 @@ impl Machine for Lister {
 
     type Answer = Summary;
 
-    ghost stands = { λ start T now. HoldsItems start.config T now.pairing now.config × (now.numbering ≡ start.numbering) };
+    ghost stands = { λ start T now. HoldsItems start.config T now.pairing now.config × (now.style ≡ start.style) };
 
-    ghost script = { λ start. list_script start.numbering start.config };
+    ghost script = { λ start. list_script start.style start.config };
 
     ghost answers = { λ start. answers_list start.config };
 
@@ -123,13 +123,13 @@ impl Machine for Lister {
         let Lister {
             pairing,
             config,
-            numbering,
+            style,
         } = self;
         let meaning = pairing.finish();
         if !fits(&config, &meaning) {
             return Err(Stop::OutputLimit);
         }
-        say_items(&meaning, numbering, out);
+        say_items(&meaning, style, out);
         Ok(*summary)
     }
 }

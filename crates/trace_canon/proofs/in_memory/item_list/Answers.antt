@@ -10,6 +10,6 @@ returns c =
     let agrees = agrees_in_memory c.args.log.now c.new-2.result c.list-answer.new.reader c.new-2.ensures ran.read.gave ran.read.ended in
     let empty = ap (λ w. w.taken) c.new-writer.ensures in
     let held = taken_is_held empty (ap (λ w. w.inner.items) c.new-writer.ensures ∙ c.new.ensures.items) ran.wrote.took in
-    gathered (λ v. v.items) (IsListOf c.args.numbering MESSAGE_LIMIT c.args.config.now c.args.log.now) (IsRefused MESSAGE_LIMIT c.args.config.now c.args.log.now) c.list-answer.result c.into_inner.result c.text_of.result
-    (list_in_memory c.args.numbering MESSAGE_LIMIT c.args.config.now c.args.log.now c.list-answer.result _ _ _ empty (held ∙ ap (λ v. v.items) (sym c.into_inner.ensures)) ran.read.failed (ran.answer c.args.log.now agrees))
+    gathered (λ v. v.items) (IsListOf c.args.style MESSAGE_LIMIT c.args.config.now c.args.log.now) (IsRefused MESSAGE_LIMIT c.args.config.now c.args.log.now) c.list-answer.result c.into_inner.result c.text_of.result
+    (list_in_memory c.args.style MESSAGE_LIMIT c.args.config.now c.args.log.now c.list-answer.result _ _ _ empty (held ∙ ap (λ v. v.items) (sym c.into_inner.ensures)) ran.read.failed (ran.answer c.args.log.now agrees))
     c.text_of.ensures
