@@ -1,6 +1,7 @@
 #!/usr/bin/env python3
 """Tests of what a release is made of: the version, the tarball and the Debian package, each installed somewhere, run and
-removed again. The package is tried only where dpkg-deb is installed, and by dpkg itself only for root.
+removed again. The package is tried only where dpkg-deb and strip are installed, by dpkg itself only for root, and by Debian's
+checker only where lintian is installed.
 
     tests/release.py crates/udsnorm/out/udsnorm
 
@@ -37,6 +38,7 @@ PACKAGED = {
     "usr/share/fish/vendor_completions.d/udsnorm.fish",
     "usr/share/doc/udsnorm/copyright",
     "usr/share/doc/udsnorm/changelog.gz",
+    "usr/share/doc/udsnorm/changelog.Debian.gz",
 }
 
 
@@ -83,6 +85,8 @@ def commands_of(readme, folder):
 
 def tarball(cases, folder):
     file = is_repeatable(cases, "dist", cases.program, folder)
+    output("sha256sum", "--check", "--quiet", f"{file.name}.sha256", cwd=file.parent)
+    cases.report("the checksum of the tarball", [])
     output("tar", "-xzf", file, "-C", folder)
     unpacked = folder / f"udsnorm-{VERSION}"
     wrong = difference(files_below(unpacked), SHIPPED | {"README.md", "LICENSE", "CHANGELOG.md"})
@@ -103,21 +107,32 @@ def tarball(cases, folder):
 
 
 def package(cases, folder):
-    if not shutil.which("dpkg-deb"):
-        print("skipped the Debian package: dpkg-deb is not installed", flush=True)
+    missing = [tool for tool in ("dpkg-deb", "strip") if not shutil.which(tool)]
+    if missing:
+        print(f"skipped the Debian package: no {' and no '.join(missing)} is installed", flush=True)
         return
     file = is_repeatable(cases, "deb", cases.program, folder)
     fields = output("dpkg-deb", "--field", file, "Package", "Version", "Depends")
-    want = rf"Package: udsnorm\nVersion: {re.escape(VERSION)}\nDepends: libc6 \(>= \d+\.\d+\)\n"
+    want = rf"Package: udsnorm\nVersion: {re.escape(VERSION)}-0upstream1\nDepends: libc6 \(>= \d+\.\d+\)\n"
     cases.report("the fields of the package", [] if re.fullmatch(want, fields) else [fields])
     root = folder / "extracted"
     output("dpkg-deb", "--extract", file, root)
     cases.report("the files of the package", difference(files_below(root), PACKAGED))
     runs(cases, "its program", root / "usr" / "bin" / "udsnorm")
+    checked(cases, file)
     if os.geteuid() == 0:
         installed(cases, file, folder / "root")
     else:
         print("skipped the installation of the package: only root may", flush=True)
+
+
+def checked(cases, file):
+    """Debian's own checker has no error and no warning for the package."""
+    if not shutil.which("lintian"):
+        print("skipped the checks of lintian: it is not installed", flush=True)
+        return
+    told = subprocess.run(["lintian", "--allow-root", file], stdout=subprocess.PIPE, text=True, timeout=120).stdout
+    cases.report("lintian finds no error and no warning", re.findall(r"^[EW]: .*", told, re.M))
 
 
 def installed(cases, file, root):
