@@ -5,6 +5,7 @@
 
 - the picture of the crates is the one that scripts/draw-crates draws of crates.txt, and names each crate and dependency;
 - each link of each document to a file of the repository, and to a heading in it, leads somewhere;
+- no line of their prose has more than 120 characters;
 - the source files that documents name are there;
 - each wrong body of must-fail/ and attacks/ can be applied: what it takes away stands once;
 - those that the first table of docs/proved.md names are tried by the gate, one or more for each part of its first sentence;
@@ -127,6 +128,15 @@ def links(cases):
                 wrong.append(f"no heading {link}")
         cases.report(f"the links of {name_of(document)}", wrong)
     cases.report("links were found", [] if count >= 100 else [f"{count} alone"])
+
+
+def lengths_of_lines(cases):
+    """A line of prose has at most 120 characters. Rows of tables and pictures have no other way to break, and blocks of code
+    are what a shell or a program says."""
+    for document in DOCUMENTS:
+        lines = enumerate(prose(document).splitlines(), 1)
+        wrong = [f"line {number} has {len(line)}" for number, line in lines if len(line) > 120 and not re.match(r" *\||!\[", line)]
+        cases.report(f"no line of prose of {name_of(document)} is too long", wrong)
 
 
 def named_files(cases):
@@ -293,7 +303,7 @@ def main():
         sys.exit(__doc__)
     cases = Cases(None)
     for test in [
-        picture, links, named_files, wrong_bodies, tried_by_the_gate, definitions, citations, calls_of_the_kit,
+        picture, links, lengths_of_lines, named_files, wrong_bodies, tried_by_the_gate, definitions, citations, calls_of_the_kit,
         cited_clauses, lines_of_faults, names_of_bytes, version_of_the_source,
     ]:
         test(cases)
