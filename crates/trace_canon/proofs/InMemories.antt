@@ -1,5 +1,6 @@
 -- What calls over devices answer, where the log lies in memory and the text is gathered there.
 use Rattle.std.proofs.Common.{◌≡◌, ◌≢◌, ℕ, ◌+◌, true, false, List, [], ◌++◌, Some, Result, Ok, Err, arith, refl, ap, sym, subst, ◌∙◌}
+use Rattle.std.proofs.lemmas.List.{append-nil}
 use Rattle.std.specs.Io.KnownBytes.{IsAtEnd}
 use Rattle.std.specs.Prelude.{MatchResult, IfErr}
 use Rattle.uds_exchange.specs.Meaning.{ItemValue}
@@ -17,12 +18,14 @@ use Rattle.trace_canon.specs.declared.summary.Summary.{Summary}
 use Rattle.trace_canon.specs.Answers.{Answers, TellsOutcome, GivesMeaning}
 use Rattle.trace_canon.specs.ExplainAnswers.{AnswersExplain}
 use Rattle.trace_canon.specs.Failing.{FailedIf}
-use Rattle.trace_canon.specs.InMemory.{IsOfMemory, IsRefused, IsUnread, IsCanonicalLogOf, IsListOf, IsExplanationOf, MeansInMemory, ComparesInMemory, fault_in_memory}
+use Rattle.trace_canon.specs.InMemory.{IsOfMemory, IsRefused, IsUnread, IsCanonicalLogWith, IsListWith, IsPlacingWith, IsExplanationWith, MeansInMemory, ComparesInMemory, fault_in_memory}
 use Rattle.trace_canon.specs.ExplainText.{explain_text_of_lines}
 use Rattle.trace_canon.specs.Listed.{Lists}
 use Rattle.trace_canon.specs.ListText.{list_text}
+use Rattle.trace_canon.specs.MessageLines.{placing_script}
+use Rattle.trace_canon.specs.Outcome.{Accepted, IsOutcome}
 use Rattle.trace_canon.specs.Settings.{Settings}
-use Rattle.trace_canon.specs.Told.{IsUnreadFor}
+use Rattle.trace_canon.specs.Told.{IsUnreadFor, AnswersTold, answers_counts, told_of_lines, whole_of_lines}
 
 -- bytes of which none was read
 abbrev pub unread : List ℕ → BytesInMemory
@@ -65,29 +68,35 @@ refused limit settings log OutputLimit is not = (is, of_memory OutputLimit not)
 refused limit settings log Read is not = (is, of_memory Read not)
 refused limit settings log Memory is not = (is, of_memory Memory not)
 
--- So an answer over devices is one over memory: what it says of the text and of a fault is said of what was gathered.
-pub gathered : {V : Type 0} (text_in : V → List ℕ) (IsText : List ℕ → Type 0) (IsFault : Fault → Type 0) (answer : Result Summary Fault) (text : V) (result : Result V Fault)
-    → MatchResult answer (λ _. IsText (text_in text)) (λ fault. IsFault (fault_in_memory fault))
-    → MatchResult answer (λ _. result ≡ Ok text) (λ fault. result ≡ Err (fault_in_memory fault))
-    → MatchResult result (λ v. IsText (text_in v)) IsFault
-gathered {V = V} text_in IsText IsFault (Ok summary) text result is gives =
-    subst (λ (r : Result V Fault). MatchResult r (λ v. IsText (text_in v)) IsFault) (sym gives) is
-gathered {V = V} text_in IsText IsFault (Err fault) text result is gives =
-    subst (λ (r : Result V Fault). MatchResult r (λ v. IsText (text_in v)) IsFault) (sym gives) is
+-- So an answer over devices is one over memory: what it says of the text and the counts, and of a fault, is said of what was gathered.
+pub gathered : {C : Type 0} (IsCounted : C → Type 0) (IsFault : Fault → Type 0) (counted_with : Summary → C) (answer : Result Summary Fault) (result : Result C Fault)
+    → MatchResult answer (λ summary. IsCounted (counted_with summary)) (λ fault. IsFault (fault_in_memory fault))
+    → MatchResult answer (λ summary. result ≡ Ok (counted_with summary)) (λ fault. result ≡ Err (fault_in_memory fault))
+    → MatchResult result IsCounted IsFault
+gathered {C = C} IsCounted IsFault counted_with (Ok summary) result is gives =
+    subst (λ (r : Result C Fault). MatchResult r IsCounted IsFault) (sym gives) is
+gathered {C = C} IsCounted IsFault counted_with (Err fault) result is gives =
+    subst (λ (r : Result C Fault). MatchResult r IsCounted IsFault) (sym gives) is
+
+accepted_is : (limit : ℕ) (settings : Settings) (log : List ℕ) (accepted : Accepted) (text : List ℕ) (summary : Summary)
+    → IsOutcome limit settings log (Ok accepted) → text ≡ accepted.text → accepted.summary ≡ summary → IsCanonicalLogWith limit settings log text summary
+accepted_is limit settings log accepted text summary outcome text_is counted =
+    subst (λ (s : Summary). IsCanonicalLogWith limit settings log text s) counted
+    (subst (λ (t : List ℕ). IsCanonicalLogWith limit settings log t accepted.summary) (sym text_is) outcome)
 
 pub canonical_in_memory : (limit : ℕ) (settings : Settings) (log : List ℕ) (given : ℕ) (answer : Result Summary Fault) (old taken held : List ℕ)
     → old ≡ [] → taken ≡ held → FailedIf Read answer 0 0 → Answers limit settings log given answer old taken
-    → MatchResult answer (λ _. IsCanonicalLogOf limit settings log held) (λ fault. IsRefused limit settings log (fault_in_memory fault))
+    → MatchResult answer (λ summary. IsCanonicalLogWith limit settings log held summary) (λ fault. IsRefused limit settings log (fault_in_memory fault))
 canonical_in_memory limit settings log given (Ok summary) old taken held old_is held_is failed (accepted, outcome, counted, wrote) =
-    (accepted, outcome, sym held_is ∙ wrote ∙ ap (λ xs. xs ++ accepted.text) old_is)
+    accepted_is limit settings log accepted held summary outcome (sym held_is ∙ wrote ∙ ap (λ xs. xs ++ accepted.text) old_is) counted
 canonical_in_memory limit settings log given (Err fault) old taken held old_is held_is failed (is, left) =
     refused limit settings log fault is (λ read. reads_well failed (ap Err read))
 
 pub list_in_memory : (numbering : Numbering) (limit : ℕ) (settings : Settings) (log : List ℕ) (answer : Result Summary Fault) (old taken held : List ℕ)
     → old ≡ [] → taken ≡ held → FailedIf Read answer 0 0 → Lists numbering limit settings log answer old taken
-    → MatchResult answer (λ _. IsListOf numbering limit settings log held) (λ fault. IsRefused limit settings log (fault_in_memory fault))
+    → MatchResult answer (λ summary. IsListWith numbering limit settings log held summary) (λ fault. IsRefused limit settings log (fault_in_memory fault))
 list_in_memory numbering limit settings log (Ok summary) old taken held old_is held_is failed (items, is, wrote) =
-    (items, summary, is, sym held_is ∙ wrote ∙ ap (λ xs. xs ++ list_text numbering items) old_is)
+    (items, is, sym held_is ∙ wrote ∙ ap (λ xs. xs ++ list_text numbering items) old_is)
 list_in_memory numbering limit settings log (Err fault) old taken held old_is held_is failed (is, left) =
     refused limit settings log fault is (λ read. reads_well failed (ap Err read))
 
@@ -101,11 +110,34 @@ unread_for limit settings log given Memory old taken is = search
 unread_for limit settings log given (Oversize line announced) old taken is = is
 unread_for limit settings log given OutputLimit old taken is = is
 
+told_unread : (limit : ℕ) (settings : Settings) (log : List ℕ) (given : ℕ) (fault : Fault) (old taken : List ℕ)
+    → AnswersTold (placing_script limit) answers_counts limit settings log given (Err fault) old taken → IsUnreadFor false limit settings log (fault_in_memory fault)
+told_unread limit settings log given (BadLine line column) old taken (is, wrote) = is
+told_unread limit settings log given LogLimit old taken (is, wrote) = is
+told_unread limit settings log given Read old taken is = search
+told_unread limit settings log given Write old taken is = search
+told_unread limit settings log given Memory old taken is = search
+told_unread limit settings log given (Oversize line announced) old taken (is, wrote) = is
+told_unread limit settings log given OutputLimit old taken (whole, meanings, read, counted, wrote) = absurd (cc counted)
+
+pub placing_in_memory : (limit : ℕ) (settings : Settings) (log : List ℕ) (given : ℕ) (answer : Result Summary Fault) (old taken held : List ℕ)
+    → old ≡ [] → taken ≡ held → FailedIf Read answer 0 0 → AnswersTold (placing_script limit) answers_counts limit settings log given answer old taken
+    → MatchResult answer (λ summary. IsPlacingWith limit settings log held summary) (λ fault. IsUnread limit settings log (fault_in_memory fault))
+placing_in_memory limit settings log given (Ok summary) old taken held old_is held_is failed (whole, meanings, read, counted, wrote) = (
+  meanings,
+  read,
+  cc counted,
+  sym held_is ∙ wrote ∙ ap (λ xs. xs ++ whole_of_lines (placing_script limit) limit settings meanings) old_is
+      ∙ append-nil (told_of_lines (placing_script limit) settings meanings),
+)
+placing_in_memory limit settings log given (Err fault) old taken held old_is held_is failed is =
+    (told_unread limit settings log given fault old taken is, of_memory fault (λ read. reads_well failed (ap Err read)))
+
 pub explanation_in_memory : (limit : ℕ) (settings : Settings) (log : List ℕ) (given : ℕ) (answer : Result Summary Fault) (old taken held : List ℕ)
     → old ≡ [] → taken ≡ held → FailedIf Read answer 0 0 → AnswersExplain limit settings log given answer old taken
-    → MatchResult answer (λ _. IsExplanationOf limit settings log held) (λ fault. IsUnread limit settings log (fault_in_memory fault))
+    → MatchResult answer (λ summary. IsExplanationWith limit settings log held summary) (λ fault. IsUnread limit settings log (fault_in_memory fault))
 explanation_in_memory limit settings log given (Ok summary) old taken held old_is held_is failed (meanings, is, counted, wrote) =
-    (meanings, is, sym held_is ∙ wrote ∙ ap (λ xs. xs ++ explain_text_of_lines limit settings meanings) old_is)
+    (meanings, is, counted, sym held_is ∙ wrote ∙ ap (λ xs. xs ++ explain_text_of_lines limit settings meanings) old_is)
 explanation_in_memory limit settings log given (Err fault) old taken held old_is held_is failed is =
     (unread_for limit settings log given fault old taken is, of_memory fault (λ read. reads_well failed (ap Err read)))
 

@@ -14,8 +14,10 @@ use Rattle.trace_canon.specs.Explained.{IsReadAs}
 use Rattle.trace_canon.specs.ExplainText.{explain_text_of_lines}
 use Rattle.trace_canon.specs.ListText.{list_text}
 use Rattle.trace_canon.specs.Outcome.{Accepted, IsOutcome}
+use Rattle.trace_canon.specs.MessageLines.{placing_script}
 use Rattle.trace_canon.specs.Settings.{Settings}
-use Rattle.trace_canon.specs.Told.{IsUnreadFor}
+use Rattle.trace_canon.specs.Summing.{summary_of}
+use Rattle.trace_canon.specs.Told.{IsUnreadFor, told_of_lines}
 
 -- it is not that of a device
 pub record IsOfMemory (fault : Fault) : Type 0 where
@@ -30,6 +32,27 @@ IsRefused limit settings log fault = TellsOutcome limit settings log fault × Is
 abbrev pub IsUnread : ℕ → Settings → List ℕ → Fault → Type 0
 IsUnread limit settings log fault = IsUnreadFor false limit settings log fault × IsOfMemory fault
 
+-- the log is accepted, and these are its canonical log and its counts
+abbrev pub IsCanonicalLogWith : ℕ → Settings → List ℕ → List ℕ → Summary → Type 0
+IsCanonicalLogWith limit settings log text summary = IsOutcome limit settings log (Ok (record { text = text; summary = summary }))
+
+-- the log is accepted with these counts, and this is the list of its items, with their numbers or without
+abbrev pub IsListWith : Numbering → ℕ → Settings → List ℕ → List ℕ → Summary → Type 0
+IsListWith numbering limit settings log text summary =
+    (items : List ItemValue) × IsAcceptedWith limit settings log items summary × (text ≡ list_text numbering items)
+
+-- the log can be read and has these counts, and this places its messages
+abbrev pub IsPlacingWith : ℕ → Settings → List ℕ → List ℕ → Summary → Type 0
+IsPlacingWith limit settings log text summary =
+    (meanings : List (Option Stamped)) × IsReadAs settings log (Ok meanings) × (summary ≡ summary_of limit settings meanings)
+    × (text ≡ told_of_lines (placing_script limit) settings meanings)
+
+-- the log can be read and has these counts, and this explains it
+abbrev pub IsExplanationWith : ℕ → Settings → List ℕ → List ℕ → Summary → Type 0
+IsExplanationWith limit settings log text summary =
+    (meanings : List (Option Stamped)) × IsReadAs settings log (Ok meanings) × (summary ≡ summary_of limit settings meanings)
+    × (text ≡ explain_text_of_lines limit settings meanings)
+
 -- the log is accepted, and this is its canonical log
 abbrev pub IsCanonicalLogOf : ℕ → Settings → List ℕ → List ℕ → Type 0
 IsCanonicalLogOf limit settings log text = (accepted : Accepted) × IsOutcome limit settings log (Ok accepted) × (text ≡ accepted.text)
@@ -38,6 +61,11 @@ IsCanonicalLogOf limit settings log text = (accepted : Accepted) × IsOutcome li
 abbrev pub IsListOf : Numbering → ℕ → Settings → List ℕ → List ℕ → Type 0
 IsListOf numbering limit settings log text =
     (items : List ItemValue) × (summary : Summary) × IsAcceptedWith limit settings log items summary × (text ≡ list_text numbering items)
+
+-- the log can be read, and this places its messages
+abbrev pub IsPlacingOf : ℕ → Settings → List ℕ → List ℕ → Type 0
+IsPlacingOf limit settings log text =
+    (meanings : List (Option Stamped)) × IsReadAs settings log (Ok meanings) × (text ≡ told_of_lines (placing_script limit) settings meanings)
 
 -- the log can be read, and this explains it
 abbrev pub IsExplanationOf : ℕ → Settings → List ℕ → List ℕ → Type 0

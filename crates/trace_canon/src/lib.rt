@@ -43,6 +43,7 @@ mod block;
 mod canonical_sink;
 mod comparing;
 mod config;
+pub mod counted;
 mod driver;
 mod explainer;
 mod fault;
