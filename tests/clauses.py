@@ -28,7 +28,7 @@ CALL, PRIVATE, LAW, MEMBER = "call", "private", "law", "member"
 COMMENT_OR_TEXT = re.compile(r'//[^\n]*|"(?:\\.|[^"\\\n])*"|\'(?:\\.|[^\'\\\n])\'')
 ARRAY_LENGTH = re.compile(r";(?=[^;{}\[\]\n]*\])")
 BLOCK = re.compile(r"^(pub )?(trait|impl)\b(.*?)\{\n(.*?)^\}", re.M | re.S)
-FUNCTION = re.compile(r"^ *(pub )?(?:pub\(crate\) )?fn (\w+)", re.M)
+FUNCTION = re.compile(r"^ *(pub )?(?:pub\(crate\) )?(?:extern\s+)?fn (\w+)", re.M)
 CLAUSE = re.compile(r"\b(requires|ensures)\*?\s*(\w*)\s*$")
 
 
@@ -81,7 +81,7 @@ def exported(root):
     text = bare(root)
     lists = re.findall(r"^pub use \w+::(?:\{([^}]*)\}|(\w+));", text, re.M)
     names = {name for many, one in lists for name in re.findall(r"\w+", many or one)}
-    names |= set(re.findall(r"^pub (?:fn|struct|enum|trait) (\w+)", text, re.M))
+    names |= set(re.findall(r"^pub (?:(?:extern\s+)?fn|struct|enum|trait) (\w+)", text, re.M))
     return names, set(re.findall(r"^pub mod (\w+);", text, re.M))
 
 

@@ -39,6 +39,7 @@ DEFINITIONS = DOCS / "definitions.md"
 FORMATS = DOCS / "formats.md"
 PROVED = DOCS / "proved.md"
 PROGRAM = "udsnorm"
+LIBRARY = "udsnorm_c"
 SVG = "{http://www.w3.org/2000/svg}"
 
 
@@ -65,7 +66,7 @@ def name_of(path):
 def crates():
     """What each crate stands on, by crates.txt."""
     text = re.sub(r"#.*", "", (TOP / "crates.txt").read_text())
-    return {name: below.split() for name, below in re.findall(r"^(\w+):(.*)$", text, re.M)}
+    return {name: below.split() for name, below in re.findall(r"^(\w+)(?: staticlib)?:(.*)$", text, re.M)}
 
 
 def below(table, name):
@@ -82,7 +83,7 @@ def picture(cases):
     table = crates()
     boxes = {group.get("id"): group for group in ElementTree.parse(PICTURE).iter(f"{SVG}g")}
     cases.report("the picture has each crate", [] if set(boxes) == set(table) else [str(sorted(set(boxes) ^ set(table)))])
-    shipped = {PROGRAM, *below(table, PROGRAM)}
+    shipped = {PROGRAM, *below(table, PROGRAM), LIBRARY, *below(table, LIBRARY)}
     for name in sorted(set(boxes) & set(table)):
         words = re.findall(r"\w+", " ".join(text.text for text in boxes[name].iter(f"{SVG}text")))
         kind = boxes[name].find(f"{SVG}rect").get("class")
@@ -210,7 +211,7 @@ def is_defined(name, text):
 
 def contracts(text):
     """The contracts of the public functions of a source file: what stands between their names and their bodies."""
-    return re.findall(r"^( *)pub fn \w+(.*?)^\1\{", text, re.M | re.S)
+    return re.findall(r"^( *)pub (?:extern \"C\" )?fn \w+(.*?)^\1\{", text, re.M | re.S)
 
 
 def cited(path):
