@@ -4,7 +4,10 @@ use Rattle.std.specs.List.{list_all}
 use Rattle.direction.specs.Dir.{Message}
 use Rattle.uds_exchange.specs.Meaning.{is_tester_request, is_answer_to, is_pending_reply_to, meaning, flattened, removed_messages}
 use Rattle.uds_exchange.specs.Roles.{MessageRole, IsOpenBehind, HasRole, AreRoles, arranged, those_removed}
+use Rattle.uds_exchange.specs.Numbering.{step_after}
 use Rattle.uds_exchange.specs.Order.{open_request, held, early, rejection_of}
+use Rattle.uds_exchange.specs.declared.step.Step.{Step}
+use Rattle.uds_exchange.specs.declared.step.Step.TheVariants as step
 
 -- the messages of a meaning have that meaning
 abbrev pub MeaningIsKept : Type 0
@@ -89,3 +92,24 @@ HeldMustWait = (M : List Message) (first : Message) (rest : List Message) → he
 -- the messages put in all, early ones and then held ones, and the removed ones are as many as the list's
 abbrev pub NoneIsLostInOrder : Type 0
 NoneIsLostInOrder = (M : List Message) → length (early M ++ held M) + length (removed_messages M) ≡ length M
+
+-- The ones with this message put in somewhere, and else in order, are the others.
+pub record IsPutIn (before : List Message) (message : Message) (after : List Message) : Type 0 where
+  pub front : List Message
+  pub rest : List Message
+  pub was : before ≡ front ++ rest
+  pub is : after ≡ front ++ message ∷ rest
+
+-- by what becomes of it: it is left out, or put in
+abbrev pub IsPutInBy : Step → List Message → Message → List Message → Type 0
+IsPutInBy (step.Request service) before message after = IsPutIn before message after
+IsPutInBy step.Answer before message after = IsPutIn before message after
+IsPutInBy step.Removed before message after = after ≡ before
+IsPutInBy step.Hold before message after = IsPutIn before message after
+IsPutInBy step.Pass before message after = IsPutIn before message after
+
+-- the messages of a meaning with one more message are those without it and that one, where it isn't removed: so none is ever
+-- taken out again
+abbrev pub OneMoreIsPutIn : Type 0
+OneMoreIsPutIn = (M : List Message) (message : Message)
+    → IsPutInBy (step_after M message) (flattened (meaning M)) message (flattened (meaning (M ++ message ∷ [])))

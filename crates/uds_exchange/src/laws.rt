@@ -9,7 +9,7 @@ ghost use Rattle.uds_exchange.specs.Orderer.{PutsDue};
 ghost use Rattle.uds_exchange.specs.Laws.{MeaningIsKept, NoneIsLost, NoneIsMadeUp};
 ghost use Rattle.uds_exchange.specs.Laws.{EachHasOneRole, EachListHasRoles, MessagesByRoles};
 ghost use Rattle.uds_exchange.specs.Laws.{OpenRequestIsLast, OpenRequestGoesOn, RemovedGoOn, HeldByOpenRequest, HeldMustWait};
-ghost use Rattle.uds_exchange.specs.Laws.{EarlyThenHeld, EarlyStays, EarlyGrows, NoneIsLostInOrder};
+ghost use Rattle.uds_exchange.specs.Laws.{EarlyThenHeld, OneMoreIsPutIn, EarlyStays, EarlyGrows, NoneIsLostInOrder};
 
 use crate::sink::MessageSink;
 
@@ -62,6 +62,11 @@ pub fn removed_go_on()
 /// What is early, and then what is held, are the messages of the meaning in order.
 pub fn early_then_held()
     ensures { EarlyThenHeld }
+{}
+
+/// A message more is put in among the messages of the meaning, unless it is removed: none of them is taken out again.
+pub fn one_more_is_put_in()
+    ensures { OneMoreIsPutIn }
 {}
 
 /// Where no request is open nothing is held.
