@@ -29,12 +29,12 @@ told_is_events limit past (e ∷ rest) = ap (λ l. event_text e.line e.dir (verd
 texts : (limit : ℕ) (settings : Settings) → told_of_lines (explain_script limit) settings ≡ (λ meanings. events_text limit (trace settings meanings))
 texts limit settings = λ i meanings. told_is_events limit [] (trace settings meanings) i
 
-wholes : (limit : ℕ) (settings : Settings) → whole_of_lines (explain_script limit) limit settings ≡ explain_text_of_lines limit settings
-wholes limit settings = λ i meanings. (texts limit settings i meanings) ++ (explain_script limit).last (trace settings meanings) (summary_of limit settings meanings)
+wholes : (limit : ℕ) (settings : Settings) (log : List ℕ) → whole_of_lines (explain_script limit) limit settings log ≡ explain_text_of_lines limit settings log
+wholes limit settings log = λ i meanings. (texts limit settings i meanings) ++ (explain_script limit).last (trace settings meanings) (summary_of limit settings log meanings)
 
 pub explain_tells_the_same : ExplainTellsTheSame
 explain_tells_the_same limit settings log given (Ok summary) old new (all, meanings, is, counted, wrote) =
-    (meanings, is, cc counted, wrote ∙ ap (λ (whole : List (Option Stamped) → List ℕ). old ++ whole meanings) (wholes limit settings))
+    (meanings, is, cc counted, wrote ∙ ap (λ (whole : List (Option Stamped) → List ℕ). old ++ whole meanings) (wholes limit settings log))
 explain_tells_the_same limit settings log given (Err (BadLine line column)) old new (is, wrote) =
     (is, subst (λ text. WritesTextOfRead takes_all text settings log given (BadLine line column) old new) (texts limit settings) wrote)
 explain_tells_the_same limit settings log given (Err LogLimit) old new (is, wrote) =
@@ -42,9 +42,9 @@ explain_tells_the_same limit settings log given (Err LogLimit) old new (is, wrot
 explain_tells_the_same limit settings log given (Err Read) old new wrote =
     subst (λ text. WritesTextOfRead takes_all text settings log given Read old new) (texts limit settings) wrote
 explain_tells_the_same limit settings log given (Err Write) old new (wrote, why) =
-    subst (λ text. WritesFrontOfRead takes_all text settings log given Write old new) (wholes limit settings) wrote
+    subst (λ text. WritesFrontOfRead takes_all text settings log given Write old new) (wholes limit settings log) wrote
 explain_tells_the_same limit settings log given (Err Memory) old new wrote =
-    subst (λ text. WritesFrontOfRead takes_all text settings log given Memory old new) (wholes limit settings)
+    subst (λ text. WritesFrontOfRead takes_all text settings log given Memory old new) (wholes limit settings log)
     (front_of_whole (explain_script limit) limit settings log given Memory old new wrote)
 explain_tells_the_same limit settings log given (Err (Oversize line announced)) old new (never, wrote) = absurd never
 explain_tells_the_same limit settings log given (Err OutputLimit) old new (all, meanings, is, counted, wrote) = absurd (cc counted)
@@ -55,7 +55,7 @@ pub certifies : (settings : Settings) (log : List ℕ) (given : ℕ) (result : R
 certifies settings log given (Ok summary) old new answers = λ dropped ended unfinished.
     let meanings = answers.0 in
     let same = answers.2 in
-    let clean = clean_summary_is_certificate MESSAGE_LIMIT settings meanings (omega arith) (ap (λ (x : Summary). x.dropped) (sym same) ∙ dropped)
+    let clean = clean_summary_is_certificate MESSAGE_LIMIT settings log meanings (omega arith) (ap (λ (x : Summary). x.dropped) (sym same) ∙ dropped)
     (ap (λ (x : Summary). x.ended) (sym same) ∙ ended) (ap (λ (x : Summary). x.unfinished) (sym same) ∙ unfinished) in
     record { meanings = meanings; means = answers.1.1; recording = clean.0; own_frames = clean.1; once = clean.2 }
 certifies settings log given (Err why) old new answers = tt

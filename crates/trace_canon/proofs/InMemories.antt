@@ -105,7 +105,7 @@ pub explanation_in_memory : (limit : ℕ) (settings : Settings) (log : List ℕ)
     → old ≡ [] → taken ≡ held → FailedIf Read answer 0 0 → AnswersExplain limit settings log given answer old taken
     → MatchResult answer (λ _. IsExplanationOf limit settings log held) (λ fault. IsUnread limit settings log (fault_in_memory fault))
 explanation_in_memory limit settings log given (Ok summary) old taken held old_is held_is failed (meanings, is, counted, wrote) =
-    (meanings, is, sym held_is ∙ wrote ∙ ap (λ xs. xs ++ explain_text_of_lines limit settings meanings) old_is)
+    (meanings, is, sym held_is ∙ wrote ∙ ap (λ xs. xs ++ explain_text_of_lines limit settings log meanings) old_is)
 explanation_in_memory limit settings log given (Err fault) old taken held old_is held_is failed is =
     (unread_for limit settings log given fault old taken is, of_memory fault (λ read. reads_well failed (ap Err read)))
 

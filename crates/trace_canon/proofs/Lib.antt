@@ -25,6 +25,7 @@ pub mod CanonicalWriting
 pub mod NumberedNames
 pub mod ItemLines
 pub mod EventTexts
+pub mod LastBytes
 pub mod Pieces
 pub mod Streams
 pub mod Feedings

@@ -37,9 +37,9 @@ module _ (numbering : Numbering) (settings : Settings) where
   none_told : (meanings : List (Option Stamped)) → told_of_lines (list_script numbering settings) settings meanings ≡ []
   none_told meanings = told_nothing [] (trace settings meanings)
 
-  whole_is : (meanings : List (Option Stamped)) (b : Bool) → fits_within settings (meaning_of_lines MESSAGE_LIMIT settings meanings) ≡ b
-      → whole_of_lines (list_script numbering settings) MESSAGE_LIMIT settings meanings ≡ listed numbering b (meaning_of_lines MESSAGE_LIMIT settings meanings)
-  whole_is meanings b is =
+  whole_is : (log : List ℕ) (meanings : List (Option Stamped)) (b : Bool) → fits_within settings (meaning_of_lines MESSAGE_LIMIT settings meanings) ≡ b
+      → whole_of_lines (list_script numbering settings) MESSAGE_LIMIT settings log meanings ≡ listed numbering b (meaning_of_lines MESSAGE_LIMIT settings meanings)
+  whole_is log meanings b is =
       ap (λ t. t ++ listed numbering (fits_within settings (meaning_of_lines MESSAGE_LIMIT settings meanings)) (meaning_of_lines MESSAGE_LIMIT settings meanings)) (none_told meanings)
       ∙ ap (λ x. listed numbering x (meaning_of_lines MESSAGE_LIMIT settings meanings)) is
 
@@ -49,9 +49,9 @@ module _ (numbering : Numbering) (settings : Settings) where
     unwritten given why old new wrote = wrote.wrote ∙ ap (λ x. old ++ x) (none_told wrote.meanings) ∙ append-nil old
 
     accepted_with : (meanings : List (Option Stamped)) → IsReadWhole MESSAGE_LIMIT settings log meanings → fits_within settings (meaning_of_lines MESSAGE_LIMIT settings meanings) ≡ true
-        → IsAcceptedWith MESSAGE_LIMIT settings log (meaning_of_lines MESSAGE_LIMIT settings meanings) (summary_of MESSAGE_LIMIT settings meanings)
+        → IsAcceptedWith MESSAGE_LIMIT settings log (meaning_of_lines MESSAGE_LIMIT settings meanings) (summary_of MESSAGE_LIMIT settings log meanings)
     accepted_with meanings read is = record {
-      accepted = record { text = canonical_log_of_lines MESSAGE_LIMIT settings meanings; summary = summary_of MESSAGE_LIMIT settings meanings };
+      accepted = record { text = canonical_log_of_lines MESSAGE_LIMIT settings meanings; summary = summary_of MESSAGE_LIMIT settings log meanings };
       outcome = (meanings, read, record { spelled = refl; fits = leb-true _ _ is; counted = refl });
       means = record { meanings = meanings; means = read.means; found = refl };
       counted = refl;
@@ -64,16 +64,16 @@ module _ (numbering : Numbering) (settings : Settings) where
       where
         by : (b : Bool) → fits_within settings (meaning_of_lines MESSAGE_LIMIT settings meanings) ≡ b → Lists numbering MESSAGE_LIMIT settings log (Ok summary) old new
         by true is =
-            let same : Ok summary ≡ Ok (summary_of MESSAGE_LIMIT settings meanings) =
-            answer ∙ ap (λ (b : Bool). if b then Ok (summary_of MESSAGE_LIMIT settings meanings) else Err end_stop.OutputLimit) is in
-            let counted : summary ≡ summary_of MESSAGE_LIMIT settings meanings = cc same in (
+            let same : Ok summary ≡ Ok (summary_of MESSAGE_LIMIT settings log meanings) =
+            answer ∙ ap (λ (b : Bool). if b then Ok (summary_of MESSAGE_LIMIT settings log meanings) else Err end_stop.OutputLimit) is in
+            let counted : summary ≡ summary_of MESSAGE_LIMIT settings log meanings = cc same in (
               meaning_of_lines MESSAGE_LIMIT settings meanings,
               subst (IsAcceptedWith MESSAGE_LIMIT settings log (meaning_of_lines MESSAGE_LIMIT settings meanings)) (sym counted) (accepted_with meanings read is),
-              wrote ∙ ap (λ x. old ++ x) (whole_is meanings true is),
+              wrote ∙ ap (λ x. old ++ x) (whole_is log meanings true is),
             )
         by false is =
             let same : Ok summary ≡ Err end_stop.OutputLimit =
-            answer ∙ ap (λ (b : Bool). if b then Ok (summary_of MESSAGE_LIMIT settings meanings) else Err end_stop.OutputLimit) is in
+            answer ∙ ap (λ (b : Bool). if b then Ok (summary_of MESSAGE_LIMIT settings log meanings) else Err end_stop.OutputLimit) is in
             absurd (cc same)
 
     -- the canonical log is too long
@@ -83,10 +83,10 @@ module _ (numbering : Numbering) (settings : Settings) where
       where
         by : (b : Bool) → fits_within settings (meaning_of_lines MESSAGE_LIMIT settings meanings) ≡ b → Lists numbering MESSAGE_LIMIT settings log (Err OutputLimit) old new
         by true is =
-            let same : Err end_stop.OutputLimit ≡ Ok (summary_of MESSAGE_LIMIT settings meanings) =
-            answer ∙ ap (λ (b : Bool). if b then Ok (summary_of MESSAGE_LIMIT settings meanings) else Err end_stop.OutputLimit) is in
+            let same : Err end_stop.OutputLimit ≡ Ok (summary_of MESSAGE_LIMIT settings log meanings) =
+            answer ∙ ap (λ (b : Bool). if b then Ok (summary_of MESSAGE_LIMIT settings log meanings) else Err end_stop.OutputLimit) is in
             absurd (cc same)
-        by false is = ((meanings, read, leb-false _ _ is), wrote ∙ ap (λ x. old ++ x) (whole_is meanings false is) ∙ append-nil old)
+        by false is = ((meanings, read, leb-false _ _ is), wrote ∙ ap (λ x. old ++ x) (whole_is log meanings false is) ∙ append-nil old)
 
     -- writing failed, which can only be at the end
     lists_front : (old new : List ℕ) → EndsUnwritten (list_script numbering settings) MESSAGE_LIMIT settings log old new → Lists numbering MESSAGE_LIMIT settings log (Err Write) old new
@@ -97,14 +97,14 @@ module _ (numbering : Numbering) (settings : Settings) where
           tt,
           (
             meaning_of_lines MESSAGE_LIMIT settings ends.meanings,
-            summary_of MESSAGE_LIMIT settings ends.meanings,
+            summary_of MESSAGE_LIMIT settings log ends.meanings,
             accepted_with ends.meanings ends.read is,
-            subst (λ text. HasFront old text new) (whole_is ends.meanings true is) ends.front,
+            subst (λ text. HasFront old text new) (whole_is log ends.meanings true is) ends.front,
           ),
         )
         by false is =
             let some = ends.some in
-            let long = ap length (whole_is ends.meanings false is) in
+            let long = ap length (whole_is log ends.meanings false is) in
             absurd (omega arith)
 
     no_front : (given : ℕ) (why : Fault) (old new : List ℕ) → WritesFrontOfFrames (list_script numbering settings) MESSAGE_LIMIT settings log given why old new → new ≡ old

@@ -17,7 +17,7 @@ use Rattle.trace_canon.specs.Summing.{summary_of}
 pub meaning_is_the_same : MeaningIsTheSame
 meaning_is_the_same settings log given (Ok items) old new (all, meanings, read, answer, wrote) = (
   (
-    record { text = canonical_log_of_lines MESSAGE_LIMIT settings meanings; summary = summary_of MESSAGE_LIMIT settings meanings },
+    record { text = canonical_log_of_lines MESSAGE_LIMIT settings meanings; summary = summary_of MESSAGE_LIMIT settings log meanings },
     (meanings, read, record { spelled = refl; fits = leb-true _ _ answer.1; counted = refl }),
   ),
   record { meanings = meanings; means = read.means; found = answer.0 },

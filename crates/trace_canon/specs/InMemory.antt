@@ -42,7 +42,7 @@ IsListOf numbering limit settings log text =
 -- the log can be read, and this explains it
 abbrev pub IsExplanationOf : ℕ → Settings → List ℕ → List ℕ → Type 0
 IsExplanationOf limit settings log text =
-    (meanings : List (Option Stamped)) × IsReadAs settings log (Ok meanings) × (text ≡ explain_text_of_lines limit settings meanings)
+    (meanings : List (Option Stamped)) × IsReadAs settings log (Ok meanings) × (text ≡ explain_text_of_lines limit settings log meanings)
 
 -- the meaning of the log, or why it has none
 abbrev pub MeansInMemory : ℕ → Settings → List ℕ → Result (List ItemValue) Fault → Type 0

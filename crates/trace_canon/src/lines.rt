@@ -121,12 +121,12 @@ pub(crate) fn take_lines<T: LineTaker>(
     Ok(())
 }
 
-/// Takes the last line, if it has no line feed.
+/// Takes the last line, if it has no line feed. Answers whether the last byte of the log is one.
 pub(crate) fn take_last_line<T: LineTaker>(
     scanner: &mut Scanner,
     taker: &mut T,
     device: &mut T::Device,
-) -> Result<(), Fault>
+) -> Result<bool, Fault>
     ensures fault { IfErr result IsOfLines }
     ensures lines { (start : T × T.Device) (log : List ℕ) (meanings : List (Option StampedValue)) → length log ≤ 2 ^ 61 → StandsAfter log meanings scanner.old
         → T.took start meanings (taker.old, device.old) → ReadsEnd T.took T.stopped start log result (taker.new, device.new) }
@@ -135,13 +135,13 @@ pub(crate) fn take_last_line<T: LineTaker>(
 {
     match &scanner.finish() {
         Scan::Line { line, what, .. } => match taker.take(device, *line, what) {
-            Ok(()) => Ok(()),
+            Ok(()) => Ok(false),
             Err(fault) => Err(fault),
         },
         Scan::Bad { line, column } => Err(Fault::BadLine {
             line: *line,
             column: *column,
         }),
-        Scan::NeedMore | Scan::End => Ok(()),
+        Scan::NeedMore | Scan::End => Ok(scanner.line_count() > 0),
     }
 }
