@@ -22,4 +22,6 @@ pub mod Putting
 pub mod NextStep
 pub mod ItemNumbers
 pub mod OpenRequestOfMore
+pub mod Deciding
+pub mod PuttingItems
 pub mod Promises

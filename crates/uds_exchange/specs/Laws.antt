@@ -1,8 +1,9 @@
 -- The laws of meanings, over the definitions alone.
-use Rattle.std.specs.Prelude.{◌≡◌, ◌≢◌, ◌↔◌, ℕ, ◌+◌, Bool, true, List, [], ◌∷◌, ◌++◌, Option, Some, None, length, if◌then◌else◌}
+use Rattle.std.specs.Prelude.{◌≡◌, ◌≢◌, ◌↔◌, ℕ, ◌+◌, Bool, true, List, [], ◌∷◌, ◌++◌, map, Option, Some, None, length, if◌then◌else◌}
 use Rattle.std.specs.List.{list_all}
 use Rattle.direction.specs.Dir.{Message}
-use Rattle.uds_exchange.specs.Meaning.{is_tester_request, is_answer_to, is_pending_reply_to, meaning, flattened, removed_messages}
+use Rattle.uds_exchange.specs.Meaning.{is_tester_request, is_answer_to, is_pending_reply_to, ItemValue, exchange, stray_of, meaning, flattened, removed_messages}
+use Rattle.uds_exchange.specs.Decided.{decided, undecided}
 use Rattle.uds_exchange.specs.Roles.{MessageRole, IsOpenBehind, HasRole, AreRoles, arranged, those_removed}
 use Rattle.uds_exchange.specs.Order.{open_request, held, early, rejection_of}
 
@@ -85,6 +86,20 @@ HeldMustWait = (M : List Message) (first : Message) (rest : List Message) → he
     → (request : List ℕ) × IsOpenBehind M request
     × (flattened (meaning (M ++ rejection_of request ∷ [])) ≡ early M ++ rejection_of request ∷ held M)
     × (first ≢ rejection_of request)
+
+-- what is decided and then what is not are the items of the meaning
+abbrev pub DecidedThenUndecided : Type 0
+DecidedThenUndecided = (M : List Message) → decided M ++ undecided M ≡ meaning M
+
+-- what is decided begins what is decided after more messages
+abbrev pub DecidedGrows : Type 0
+DecidedGrows = (M more : List Message) → (rest : List ItemValue) × (decided (M ++ more) ≡ decided M ++ rest)
+
+-- where a request is open, a rejection of it would change its exchange, and the strays would stand behind that: so nothing more
+-- is decided
+abbrev pub UndecidedMustWait : Type 0
+UndecidedMustWait = (M : List Message) (request : List ℕ) → open_request M ≡ Some request
+    → meaning (M ++ rejection_of request ∷ []) ≡ decided M ++ exchange request (Some (rejection_of request).1) ∷ map stray_of (held M)
 
 -- the messages put in all, early ones and then held ones, and the removed ones are as many as the list's
 abbrev pub NoneIsLostInOrder : Type 0

@@ -104,7 +104,7 @@ impl Pairing {
 }
 
 /// The bytes, copied into new memory.
-fn copy(alloc: Global, bytes: &[u8]) -> Result<Vec<u8>, AllocError>
+pub(crate) fn copy(alloc: Global, bytes: &[u8]) -> Result<Vec<u8>, AllocError>
     ensures { IfOk result (λ v. v.items ≡ bytes.now) }
 {
     let mut v = Vec::new(alloc);
