@@ -35,6 +35,7 @@ pub mod RefusedPlaces
 pub mod RefusedLogs
 pub mod LegalOrRefused
 -- the scanner
+pub mod IdentifierNumbers
 pub mod ScannerSteps
 pub mod LogReads
 -- canonical lines

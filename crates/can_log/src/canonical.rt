@@ -1,9 +1,10 @@
 //! The canonical line of a frame.
-ghost use Rattle.std.specs.Prelude.{◌≡◌, ◌+◌, ◌^◌, ◌<◌, ◌≤◌, [], ◌∷◌, ◌++◌, Some, codes, length, take};
+ghost use Rattle.std.specs.Prelude.{◌≡◌, ℕ, ◌+◌, ◌^◌, ◌<◌, ◌≤◌, List, [], ◌∷◌, ◌++◌, Some, codes, length, take, drop};
 ghost use Rattle.std.specs.List.{flat_map};
 ghost use Rattle.arrayvec.specs.ArrayVec.{array_vec_len};
-ghost use Rattle.can_log.specs.Canonical.{canonical_front, canonical_length, canonical_line, canonical_stamped};
+ghost use Rattle.can_log.specs.Canonical.{canonical_front, canonical_length, canonical_line, canonical_stamped, identifier_text};
 ghost use Rattle.can_log.specs.Digits.{hexadecimal};
+ghost use Rattle.can_log.specs.declared.frame.Id.{Id as IdValue};
 ghost use Rattle.can_log.specs.declared.frame.Id.TheVariants.{Std, Ext};
 ghost use Rattle.can_log.specs.Frame.{IsCanIdentifier};
 ghost use Rattle.can_log.specs.Log.{LogMeans};
@@ -18,6 +19,9 @@ pub const BASE_LINE: usize = 46;
 
 /// How many bytes the line of an extended identifier has, which is the longest: its number has five digits more.
 pub const LONGEST_LINE: usize = 51;
+
+/// How many bytes a line has from its data on: sixteen digits and a line feed.
+const FROM_DATA: usize = 17;
 
 /// The line of a classic frame of 8 bytes at `n` milliseconds, with its line feed. An extended identifier has 29 bits.
 ///
@@ -86,14 +90,38 @@ fn line_of_digits<const LENGTH: usize>(
     line
 }
 
+/// Makes the line at the clock's time, with other data, out of one of the same identifier, whose digits stay.
+#[inline(always)]
+pub fn change_line(line: &mut [u8], clock: &LineClock, data: &[u8; 8])
+    requires { BASE_LINE ≤ length line.old }
+    ensures { (n : ℕ) (id : IdValue) (earlier : List ℕ) → length earlier ≡ 8 → line.old ≡ canonical_line n id earlier
+        → line.new ≡ canonical_line clock.now id «data».now }
+{
+    write_at(line, 0, clock.front());
+    write_at(line, line.len() - FROM_DATA, &digits_of_bytes(data));
+}
+
 /// Writes a part of a line over the bytes from `at` on.
 #[inline(always)]
 pub(crate) fn write_at(line: &mut [u8], at: usize, part: &[u8])
     requires { at + length part.now ≤ length line.old }
     ensures written { take (at + length part.now) line.new ≡ take at line.old ++ part.now }
+    ensures kept { drop (at + length part.now) line.new ≡ drop (at + length part.now) line.old }
     ensures length { length line.new ≡ length line.old }
 {
     line[at..at + part.len()].copy_from_slice(part);
+}
+
+/// The digits by which a canonical line names an identifier: three of a base one, eight of an extended one.
+pub fn identifier_text(id: Id) -> ArrayVec<u8, 8>
+    ensures { result.items ≡ identifier_text id }
+{
+    let mut text = ArrayVec::new();
+    match id {
+        Id::Std(base) => append(&mut text, &hexadecimal_digits::<3>(u32::from(base))),
+        Id::Ext(extended) => append(&mut text, &hexadecimal_digits::<8>(extended)),
+    }
+    text
 }
 
 /// How many bytes the line of an identifier has, its line feed counted.

@@ -5,7 +5,7 @@ use arrayvec::ArrayVec;
 use std::marker::Model;
 
 /// A CAN identifier (ISO 11898-1): the base format of 11 bits, or the extended format.
-#[derive(Clone, Copy, Debug, PartialEq, Eq)]
+#[derive(Clone, Copy, Debug, PartialEq, Eq, PartialOrd, Ord)]
 pub enum Id {
     /// A base identifier. One above 7FF makes no [`Frame`].
     Std(u16),

@@ -30,7 +30,7 @@ impl Model for Wanted {
 }
 
 impl Wanted {
-    ghost use Rattle.std.specs.Prelude.{◌≡◌, ◌≢◌, false};
+    ghost use Rattle.std.specs.Prelude.{◌≡◌, ◌↔◌, ◌⊎◌, IsTrue};
 
     /// These two.
     pub fn new(first: Id, second: Id) -> Wanted
@@ -58,13 +58,28 @@ impl Wanted {
         self.second
     }
 
+    /// Whether an identifier is the first of them.
+    #[inline(always)]
+    pub fn is_first(&self, id: Id) -> bool
+        ensures { IsTrue result ↔ (id ≡ self.now.first) }
+    {
+        number_of(id) == self.first_number
+    }
+
+    /// Whether an identifier is the second of them.
+    #[inline(always)]
+    pub fn is_second(&self, id: Id) -> bool
+        ensures { IsTrue result ↔ (id ≡ self.now.second) }
+    {
+        number_of(id) == self.second_number
+    }
+
     /// Whether an identifier is one of them.
     #[inline(always)]
     pub(crate) fn has(&self, id: Id) -> bool
-        ensures { result ≡ false → (id ≢ self.now.first) × (id ≢ self.now.second) }
+        ensures { IsTrue result ↔ ((id ≡ self.now.first) ⊎ (id ≡ self.now.second)) }
     {
-        let number = number_of(id);
-        number == self.first_number || number == self.second_number
+        self.is_first(id) || self.is_second(id)
     }
 }
 
@@ -74,7 +89,7 @@ fn number_of(id: Id) -> u64
     ensures { result ≡ number_of id }
 {
     match id {
-        Id::Std(number) => u64::from(number),
-        Id::Ext(number) => (1 << 32) + u64::from(number),
+        Id::Std(number) => 2 * u64::from(number),
+        Id::Ext(number) => 2 * u64::from(number) + 1,
     }
 }

@@ -135,11 +135,11 @@ fn of_bytes(bytes: &[u8]) -> Result<Pdu<'_>, PduFault>
     }
 }
 
-/// Whether a CAN frame may have this many bytes (ISO 11898-1).
+/// Whether a CAN frame may have this many bytes (ISO 11898-1). Those of a classic frame are asked for first.
 fn is_can_dl(len: usize) -> bool
     ensures { result ≡ Layouts.is_can_dl len }
 {
-    matches!(len, 0..=8 | 12 | 16 | 20 | 24 | 32 | 48 | 64)
+    len <= 8 || matches!(len, 12 | 16 | 20 | 24 | 32 | 48 | 64)
 }
 
 /// A single frame (ISO 15765-2, section 9.6.2).

@@ -1,5 +1,5 @@
 -- The proofs of the public laws, each under the name of its statement in specs/, for the crates above to cite; and at the
--- end small facts of lists, positions and directions. Nothing else of proofs/ is for them.
+-- end one more frame, and small facts of lists, positions and directions. Nothing else of proofs/ is for them.
 pub use Rattle.isotp_receive.proofs.StandingLaws.{stands-open as what_stands_is_open, open-stands as what_is_open_stands, standing-is-fixed as what_stands_is_fixed, one-open as one_is_open}
 pub use Rattle.isotp_receive.proofs.StandingLaws.{kept-bytes as keeps_fewer_bytes}
 pub use Rattle.isotp_receive.proofs.DeliversLaws.{message-delivers as a_message_is_delivered}
@@ -15,7 +15,8 @@ pub use Rattle.isotp_receive.proofs.Readings.{first_frame_is_read}
 pub use Rattle.isotp_receive.proofs.References.{same-reference as one_reference, within-a-second as on_time_is_within_a_second}
 pub use Rattle.isotp_receive.proofs.Growths.{stands-without as refused_leaves_the_other}
 pub use Rattle.isotp_receive.proofs.CapacityLaws.{stay-within as capacities_stay_within, new-within as new_pair_keeps_within, one-more-within as one_more_keeps_within}
+pub use Rattle.isotp_receive.proofs.OneMore.{one_more}
 pub use Rattle.isotp_receive.proofs.ListPositions.{get-here, get-left, get-drop}
 pub use Rattle.isotp_receive.proofs.Fronts.{take_over}
 pub use Rattle.isotp_receive.proofs.PositionLists.{last-in}
-pub use Rattle.isotp_receive.proofs.Directions.{same-self}
+pub use Rattle.isotp_receive.proofs.Directions.{same-self, apart-flipped, other-apart}

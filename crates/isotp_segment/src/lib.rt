@@ -89,21 +89,24 @@ impl<'a> Segments<'a> {
         }
     }
 
-    /// The next frame, if it is a consecutive one that the message fills: who sends it, eight bytes of the message, and the byte
-    /// that stands in place of the first of them.
+    /// The next frame, if it is a consecutive one of this sender that the message fills: eight bytes of the message
+    /// in one piece, of which the control byte takes the place of the first. Most frames of a long message are such,
+    /// and whoever takes them in a loop of their own meets no other kind there.
     #[tactic(auto, using(crate::proofs::Frames::drop_canonical_frames), unfolding(crate::specs::CanonicalFrames::canonical_frame))]
     #[inline(always)]
-    fn next_full(&mut self) -> Option<(Dir, &'a [u8; 8], u8)>
-        ensures some { IfSome result (λ x. self.old ≡ (x.0, slice_set x.1.now 0 x.2) ∷ self.new) }
+    pub fn next_full(&mut self, sender: Dir) -> Option<[u8; 8]>
+        ensures some { IfSome result (λ frame. self.old ≡ (sender, frame) ∷ self.new) }
         ensures none { IfNone result (self.new ≡ self.old) }
     {
-        if self.number < 2 || self.count <= self.number {
+        if self.number < 2 || self.count <= self.number || sender != self.dir {
             return None;
         }
         match full_frame(self.message, self.number - 1) {
             Some((bytes, control)) => {
                 self.number += 1;
-                Some((self.dir, bytes, control))
+                let mut frame = *bytes;
+                frame[0] = control;
+                Some(frame)
             }
             None => None,
         }
@@ -136,16 +139,12 @@ impl<'a> Iterator for Segments<'a> {
 
     ghost remaining = { λ frames. at_most (length frames) };
 
-    // Most frames are consecutive ones that the message fills. They go a way of their own, and the others by a call: where the
-    // two were joined, the eight bytes would be taken apart and put together again.
+    // Most frames are consecutive ones that the message fills. They go a way of their own, and the others by a call.
     #[inline(always)]
     fn next(&mut self) -> Option<(Dir, [u8; 8])> {
-        match self.next_full() {
-            Some((sender, bytes, control)) => {
-                let mut frame = *bytes;
-                frame[0] = control;
-                Some((sender, frame))
-            }
+        let sender = self.dir;
+        match self.next_full(sender) {
+            Some(frame) => Some((sender, frame)),
             None => self.next_any(),
         }
     }
