@@ -2,8 +2,8 @@
 //!
 //! An engine reads from a [`Source`] and writes to a [`Target`]. Both say in their contracts which bytes they gave or took,
 //! and count what an engine promises about: calls, bytes and failures. [`write_all`] writes a whole text. [`Reading`] and
-//! [`Writing`] make devices of std's readers and writers, [`Bytes`] gives what lies in memory; [`Short`], [`FailsAt`], [`FailsAfter`], [`FullAfter`] and
-//! [`Endless`] are for tests of an engine.
+//! [`Writing`] make devices of std's readers and writers, [`Bytes`] gives what lies in memory; [`Short`], [`FailsAt`],
+//! [`FailsAfter`], [`FullAfter`] and [`Endless`] are for tests of an engine.
 //!
 //! ```
 //! let mut reader = Reading::new(b"(1.000000) can0 7E0#00".as_slice());

@@ -64,7 +64,7 @@ items-next M x =
     ap length (meaning-append M x) ∙ join-length (meaning M) x ∙ ap (λ s. items_by s (length (meaning M))) (step-is M x)
 
 -- each item has a message, so that there are no more items than messages
-items-few : (its : List ItemValue) → length its ≤ length (flattened its)
+pub items-few : (its : List ItemValue) → length its ≤ length (flattened its)
 items-few [] = omega arith
 items-few (exchange r None ∷ its) = let rest = items-few its in omega arith
 items-few (exchange r (Some a) ∷ its) = let rest = items-few its in omega arith

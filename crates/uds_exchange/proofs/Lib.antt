@@ -20,6 +20,9 @@ pub mod Early
 pub mod MustWait
 pub mod Putting
 pub mod NextStep
+pub mod PutIn
 pub mod ItemNumbers
 pub mod OpenRequestOfMore
+pub mod Deciding
+pub mod PuttingItems
 pub mod Promises

@@ -82,7 +82,7 @@ no-answer-held : (M : List Message) → NoAnswerHeld (meaning M)
 no-answer-held M = no-answer-over [] M (λ w k. refl)
 
 -- the rejection is an answer
-rejects : (r : List ℕ) → is_request r ≡ true → is_answer_to r (rejection_of r) ≡ true
+pub rejects : (r : List ℕ) → is_request r ≡ true → is_answer_to r (rejection_of r) ≡ true
 rejects [] h = absurd (false≢true h)
 rejects (s ∷ bytes) h =
     elim (cases_Bool (is_response_sid s)) [

@@ -13,7 +13,11 @@ pub use Rattle.uds_exchange.proofs.Early.{early-then-held as early_then_held, ea
 pub use Rattle.uds_exchange.proofs.MustWait.{open-request-behind as open_request_is_last, answer-first as held_must_wait, none-lost-in-order as none_is_lost_in_order}
 use Rattle.uds_exchange.proofs.MustWait.{nothing-held}
 pub use Rattle.uds_exchange.proofs.OpenRequestOfMore.{open_request_goes_on, removed_go_on}
+pub use Rattle.uds_exchange.proofs.Deciding.{decided_then_undecided, decided_grows, undecided_must_wait}
+pub use Rattle.uds_exchange.proofs.PuttingItems.{decided-puts-go-on as decided_puts_go_on, decided-puts-end as decided_puts_end}
+pub use Rattle.uds_exchange.proofs.PutIn.{one_more_is_put_in}
 pub use Rattle.uds_exchange.proofs.Putting.{puts-append as puts_join}
+pub use Rattle.uds_exchange.proofs.ItemNumbers.{items-few as items_are_few}
 pub use Rattle.uds_exchange.proofs.NextStep.{puts-go-on as puts_go_on, puts-end as puts_end}
 
 pub none_is_made_up : NoneIsMadeUp

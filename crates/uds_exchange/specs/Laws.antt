@@ -1,10 +1,14 @@
 -- The laws of meanings, over the definitions alone.
-use Rattle.std.specs.Prelude.{◌≡◌, ◌≢◌, ◌↔◌, ℕ, ◌+◌, Bool, true, List, [], ◌∷◌, ◌++◌, Option, Some, None, length, if◌then◌else◌}
+use Rattle.std.specs.Prelude.{◌≡◌, ◌≢◌, ◌↔◌, ℕ, ◌+◌, Bool, true, List, [], ◌∷◌, ◌++◌, map, Option, Some, None, length, if◌then◌else◌}
 use Rattle.std.specs.List.{list_all}
 use Rattle.direction.specs.Dir.{Message}
-use Rattle.uds_exchange.specs.Meaning.{is_tester_request, is_answer_to, is_pending_reply_to, meaning, flattened, removed_messages}
+use Rattle.uds_exchange.specs.Meaning.{is_tester_request, is_answer_to, is_pending_reply_to, ItemValue, exchange, stray_of, meaning, flattened, removed_messages}
+use Rattle.uds_exchange.specs.Decided.{decided, undecided}
 use Rattle.uds_exchange.specs.Roles.{MessageRole, IsOpenBehind, HasRole, AreRoles, arranged, those_removed}
+use Rattle.uds_exchange.specs.Numbering.{step_after}
 use Rattle.uds_exchange.specs.Order.{open_request, held, early, rejection_of}
+use Rattle.uds_exchange.specs.declared.step.Step.{Step}
+use Rattle.uds_exchange.specs.declared.step.Step.TheVariants as step
 
 -- the messages of a meaning have that meaning
 abbrev pub MeaningIsKept : Type 0
@@ -86,6 +90,41 @@ HeldMustWait = (M : List Message) (first : Message) (rest : List Message) → he
     × (flattened (meaning (M ++ rejection_of request ∷ [])) ≡ early M ++ rejection_of request ∷ held M)
     × (first ≢ rejection_of request)
 
+-- what is decided and then what is not are the items of the meaning
+abbrev pub DecidedThenUndecided : Type 0
+DecidedThenUndecided = (M : List Message) → decided M ++ undecided M ≡ meaning M
+
+-- what is decided begins what is decided after more messages
+abbrev pub DecidedGrows : Type 0
+DecidedGrows = (M more : List Message) → (rest : List ItemValue) × (decided (M ++ more) ≡ decided M ++ rest)
+
+-- where a request is open, a rejection of it would change its exchange, and the strays stand behind that: so nothing
+-- more is decided
+abbrev pub UndecidedMustWait : Type 0
+UndecidedMustWait = (M : List Message) (request : List ℕ) → open_request M ≡ Some request
+    → meaning (M ++ rejection_of request ∷ []) ≡ decided M ++ exchange request (Some (rejection_of request).1) ∷ map stray_of (held M)
+
 -- the messages put in all, early ones and then held ones, and the removed ones are as many as the list's
 abbrev pub NoneIsLostInOrder : Type 0
 NoneIsLostInOrder = (M : List Message) → length (early M ++ held M) + length (removed_messages M) ≡ length M
+
+-- The ones with this message put in somewhere, and else in order, are the others.
+pub record IsPutIn (before : List Message) (message : Message) (after : List Message) : Type 0 where
+  pub front : List Message
+  pub rest : List Message
+  pub was : before ≡ front ++ rest
+  pub is : after ≡ front ++ message ∷ rest
+
+-- by what becomes of it: it is left out, or put in
+abbrev pub IsPutInBy : Step → List Message → Message → List Message → Type 0
+IsPutInBy (step.Request service) before message after = IsPutIn before message after
+IsPutInBy step.Answer before message after = IsPutIn before message after
+IsPutInBy step.Removed before message after = after ≡ before
+IsPutInBy step.Hold before message after = IsPutIn before message after
+IsPutInBy step.Pass before message after = IsPutIn before message after
+
+-- the messages of a meaning with one more message are those without it and that one, where it isn't removed: so none is
+-- ever taken out again
+abbrev pub OneMoreIsPutIn : Type 0
+OneMoreIsPutIn = (M : List Message) (message : Message)
+    → IsPutInBy (step_after M message) (flattened (meaning M)) message (flattened (meaning (M ++ message ∷ [])))

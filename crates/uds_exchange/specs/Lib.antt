@@ -5,6 +5,9 @@ pub mod Difference
 pub mod Order
 pub mod Sink
 pub mod Orderer
+pub mod Decided
+pub mod ItemSink
+pub mod Decider
 pub mod Laws
 pub mod OneMessage
 pub mod Numbering

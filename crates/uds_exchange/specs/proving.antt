@@ -1,3 +1,4 @@
 -- Devices of proof, apart from the definitions that the promises are made of.
 pub mod Pairing
 pub mod Steps
+pub mod Deciding

@@ -9,8 +9,13 @@ ghost use Rattle.uds_exchange.specs.Orderer.{PutsDue};
 ghost use Rattle.uds_exchange.specs.Laws.{MeaningIsKept, NoneIsLost, NoneIsMadeUp};
 ghost use Rattle.uds_exchange.specs.Laws.{EachHasOneRole, EachListHasRoles, MessagesByRoles};
 ghost use Rattle.uds_exchange.specs.Laws.{OpenRequestIsLast, OpenRequestGoesOn, RemovedGoOn, HeldByOpenRequest, HeldMustWait};
-ghost use Rattle.uds_exchange.specs.Laws.{EarlyThenHeld, EarlyStays, EarlyGrows, NoneIsLostInOrder};
+ghost use Rattle.uds_exchange.specs.Decided.{decided, undecided};
+ghost use Rattle.uds_exchange.specs.Decider.{PutsDecided};
+ghost use Rattle.uds_exchange.specs.ItemSink.{PutsItems};
+ghost use Rattle.uds_exchange.specs.Laws.{EarlyThenHeld, OneMoreIsPutIn, EarlyStays, EarlyGrows, NoneIsLostInOrder};
+ghost use Rattle.uds_exchange.specs.Laws.{DecidedThenUndecided, DecidedGrows, UndecidedMustWait};
 
+use crate::item_sink::ItemSink;
 use crate::sink::MessageSink;
 
 /// The messages of a meaning, in order, mean the same again.
@@ -64,6 +69,11 @@ pub fn early_then_held()
     ensures { EarlyThenHeld }
 {}
 
+/// A message more is put in among the messages of the meaning, unless it is removed: none of them is taken out again.
+pub fn one_more_is_put_in()
+    ensures { OneMoreIsPutIn }
+{}
+
 /// Where no request is open nothing is held.
 pub fn held_by_open_request()
     ensures { HeldByOpenRequest }
@@ -89,6 +99,21 @@ pub fn none_is_lost_in_order()
     ensures { NoneIsLostInOrder }
 {}
 
+/// What is decided, and then what is not, are the items of the meaning.
+pub fn decided_then_undecided()
+    ensures { DecidedThenUndecided }
+{}
+
+/// What is decided stays, whatever messages follow.
+pub fn decided_grows()
+    ensures { DecidedGrows }
+{}
+
+/// Where a request is open, an answer would change its exchange: nothing more is decided.
+pub fn undecided_must_wait()
+    ensures { UndecidedMustWait }
+{}
+
 /// What was put in two runs was put in one.
 pub fn puts_join<S: MessageSink>()
     ensures { (s u t : S) (xs ys : List Message) → Puts S.after_ok s xs u → Puts S.after_ok u ys t
@@ -105,4 +130,16 @@ pub fn puts_go_on<S: MessageSink>()
 pub fn puts_end<S: MessageSink>()
     ensures { (s t u : S) (M : List Message) → Puts S.after_ok s (early M) t
         → Puts S.after_ok t (held M) u → Puts S.after_ok s (flattened (meaning M)) u }
+{}
+
+/// Where what is decided was put, and then what one more message decides, what is decided with that message was put.
+pub fn decided_puts_go_on<S: ItemSink>()
+    ensures { (s t u : S) (M : List Message) (x : Message) → PutsItems S.takes s (decided M) t
+        → PutsDecided S.takes M x t u → PutsItems S.takes s (decided (M ++ x ∷ [])) u }
+{}
+
+/// Where what is decided was put, and then what is not, the items of the meaning were put.
+pub fn decided_puts_end<S: ItemSink>()
+    ensures { (s t u : S) (M : List Message) → PutsItems S.takes s (decided M) t
+        → PutsItems S.takes t (undecided M) u → PutsItems S.takes s (meaning M) u }
 {}

@@ -13,8 +13,10 @@
 //! ```
 #![tactic(auto)]
 
+mod decider;
 mod held;
 mod item;
+mod item_sink;
 pub mod laws;
 mod meaning;
 mod numbers;
@@ -23,7 +25,9 @@ mod pairing;
 mod sink;
 mod step;
 
-pub use item::Item;
+pub use decider::Decider;
+pub use item::{Item, LentItem};
+pub use item_sink::ItemSink;
 pub use meaning::Meaning;
 pub use numbers::Numbers;
 pub use orderer::{OrderFault, Orderer};

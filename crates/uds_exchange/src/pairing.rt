@@ -3,6 +3,7 @@
 ghost use Rattle.std.specs.Prelude.{◌≡◌, ◌≢◌, ◌<◌, ◌++◌, ◌∷◌, [], List, ℕ, length, Some, None, OnOk, OnErr, IfOk, slice_get, slice_set};
 ghost use Rattle.direction.specs.Dir.{Message};
 ghost use Rattle.uds_exchange.specs.Meaning.{meaning, exchange};
+ghost use Rattle.uds_exchange.specs.Numbering.{step_after};
 ghost use Rattle.uds_exchange.specs.ItemSeen.{item_value, item_values};
 ghost use Rattle.uds_exchange.specs.proving.Pairing as Spec;
 
@@ -48,6 +49,13 @@ impl Pairing {
             open_sid: None,
             last: 0,
         }
+    }
+
+    /// What becomes of one more message.
+    pub fn step(&self, dir: Dir, message: &[u8]) -> Step
+        ensures { (M : List Message) → self.now ≡ meaning M → result ≡ step_after M (dir, message.now) }
+    {
+        step_of(self.open_sid, dir, message)
     }
 
     /// Takes one more message. A reply that is left out is not copied. After an `Err` nothing has changed, and the call may be
@@ -104,7 +112,7 @@ impl Pairing {
 }
 
 /// The bytes, copied into new memory.
-fn copy(alloc: Global, bytes: &[u8]) -> Result<Vec<u8>, AllocError>
+pub(crate) fn copy(alloc: Global, bytes: &[u8]) -> Result<Vec<u8>, AllocError>
     ensures { IfOk result (λ v. v.items ≡ bytes.now) }
 {
     let mut v = Vec::new(alloc);

@@ -124,7 +124,7 @@ pub fn is_suppressing(message: &[u8]) -> bool
 }
 
 /// Whether bit 6 is set, which tells the identifiers of responses.
-fn is_response_sid(sid: u8) -> bool
+pub fn is_response_sid(sid: u8) -> bool
     ensures { result ≡ Spec.is_response_sid sid }
 {
     sid & POSITIVE_RESPONSE != 0

@@ -1,0 +1,200 @@
+-- What is decided as a meaning grows, and that a decider does just that.
+use Rattle.std.proofs.Common.{◌≡◌, ℕ, true, false, List, [], ◌∷◌, ◌++◌, map, Option, Some, None, refl, sym, ◌∙◌, ap, subst, inl, inr, append_assoc, option_map}
+use Rattle.std.specs.Prelude.{slice_set}
+use Rattle.std.proofs.lemmas.List.{append-nil, map-append}
+use Rattle.std.proofs.lemmas.Bool.{cases_Bool}
+use Rattle.std.proofs.lemmas.Option.{same_Some, none-some}
+use Rattle.direction.specs.Dir.{Message}
+use Rattle.direction.specs.declared.Dir.{Dir}
+use Rattle.uds_message.specs.Message.{sid}
+use Rattle.uds_exchange.specs.Decided.{decided_in, decided, unanswered_items, undecided}
+use Rattle.uds_exchange.specs.Decider.{DeciderValue, decides_after, AreDecidedBy, IsKept}
+use Rattle.uds_exchange.specs.Laws.{open_with, DecidedThenUndecided, DecidedGrows, UndecidedMustWait}
+use Rattle.uds_exchange.specs.Meaning.{ItemValue, exchange, stray, stray_of, is_tester_request, is_answer_to, is_pending_reply_to, meaning, flattened}
+use Rattle.uds_exchange.specs.Order.{has_exchange, open_request_in, open_request, held_in, held, rejection_of}
+use Rattle.uds_exchange.specs.Orderer.{OrdererValue, stands_after, IsHeld}
+use Rattle.uds_exchange.specs.proving.Deciding.{answered_items, items_for, step_in, items_by, keep_for, keep, Refuses}
+use Rattle.uds_exchange.specs.proving.Pairing.{one_later, waiting, join_by, join}
+use Rattle.uds_exchange.specs.proving.Steps.{advance_for, advance}
+use Rattle.uds_exchange.specs.declared.step.Step.{Step}
+use Rattle.uds_exchange.specs.declared.step.Step.TheVariants as step
+use Rattle.uds_exchange.proofs.MustWait.{open-request-waits, open-request-behind, rejects}
+use Rattle.uds_exchange.proofs.NextStep.{stands-next}
+use Rattle.uds_exchange.proofs.OneMore.{meaning-append}
+use Rattle.uds_exchange.proofs.OpenRequestOfMore.{open_request_goes_on}
+use Rattle.uds_exchange.proofs.Waiting.{has-more, has-last, has-set, waiting-at, one_later-some, request_of}
+
+-- items without an exchange are the strays of their messages
+strays-again : (its : List ItemValue) → has_exchange its ≡ false → map stray_of (flattened its) ≡ its
+strays-again [] none = refl
+strays-again (exchange r a ∷ its) none = cc
+strays-again (stray d m ∷ its) none = ap (λ l. stray d m ∷ l) (strays-again its none)
+
+-- what is decided and then what is not are all items
+whole : (its : List ItemValue) → decided_in its ++ unanswered_items (open_request_in its) (held_in its) ≡ its
+whole [] = refl
+whole (stray d m ∷ its) = ap (λ l. stray d m ∷ l) (whole its)
+whole (exchange r (Some a) ∷ its) = ap (λ l. exchange r (Some a) ∷ l) (whole its)
+whole (exchange r None ∷ its) =
+    elim (cases_Bool (has_exchange its)) [
+      | inl e ↦ rw e (ap (λ l. exchange r None ∷ l) (whole its))
+      | inr e ↦ rw e (ap (λ l. exchange r None ∷ l) (strays-again its e))
+    ]
+
+-- one more request decides all before it
+decided-request : (its : List ItemValue) (r : List ℕ) → decided_in (its ++ exchange r None ∷ []) ≡ its
+decided-request [] r = refl
+decided-request (stray d m ∷ its) r = ap (λ l. stray d m ∷ l) (decided-request its r)
+decided-request (exchange q (Some a) ∷ its) r = ap (λ l. exchange q (Some a) ∷ l) (decided-request its r)
+decided-request (exchange q None ∷ its) r = rw (has-last its r None) (ap (λ l. exchange q None ∷ l) (decided-request its r))
+
+one_later-none : (o : Option (ℕ × List ℕ)) → one_later o ≡ None → o ≡ None
+one_later-none None h = refl
+one_later-none (Some w) h = cc
+
+-- where no request waits all is decided, and one more stray is
+decided-all : (its : List ItemValue) → waiting its ≡ None → decided_in its ≡ its
+decided-all its h =
+    let none : open_request_in its ≡ None = open-request-waits its ∙ ap request_of h in
+    sym (append-nil (decided_in its)) ∙ ap (λ o. decided_in its ++ unanswered_items o (held_in its)) (sym none) ∙ whole its
+
+decided-stray : (its : List ItemValue) (d : Dir) (m : List ℕ) → waiting its ≡ None → decided_in (its ++ stray d m ∷ []) ≡ its ++ stray d m ∷ []
+decided-stray [] d m h = refl
+decided-stray (stray e n ∷ its) d m h = ap (λ l. stray e n ∷ l) (decided-stray its d m (one_later-none _ h))
+decided-stray (exchange q (Some a) ∷ its) d m h = ap (λ l. exchange q (Some a) ∷ l) (decided-stray its d m (one_later-none _ h))
+decided-stray (exchange q None ∷ its) d m h =
+    elim (cases_Bool (has_exchange its)) [
+      | inl e ↦ rw (has-more its (stray d m) refl, e) (ap (λ l. exchange q None ∷ l) (decided-stray its d m (one_later-none _ (rw e at h))))
+      | inr e ↦ absurd (none-some _ (sym (rw e at h)))
+    ]
+
+-- where a request waits one more stray decides nothing
+decided-held : (its : List ItemValue) (w : ℕ × List ℕ) (d : Dir) (m : List ℕ) → waiting its ≡ Some w → decided_in (its ++ stray d m ∷ []) ≡ decided_in its
+decided-held [] w d m h = cc
+decided-held (stray e n ∷ its) w d m h =
+    let v = one_later-some (waiting its) w h in
+    ap (λ l. stray e n ∷ l) (decided-held its v.0 d m v.1)
+decided-held (exchange q (Some a) ∷ its) w d m h =
+    let v = one_later-some (waiting its) w h in
+    ap (λ l. exchange q (Some a) ∷ l) (decided-held its v.0 d m v.1)
+decided-held (exchange q None ∷ its) w d m h =
+    elim (cases_Bool (has_exchange its)) [
+      | inl e ↦ (let v = one_later-some (waiting its) w (rw e at h) in
+          rw (has-more its (stray d m) refl, e) (ap (λ l. exchange q None ∷ l) (decided-held its v.0 d m v.1)))
+      | inr e ↦ rw (has-more its (stray d m) refl, e) refl
+    ]
+
+-- and its answer decides its exchange and the strays behind it
+decided-answered : (its : List ItemValue) (w : ℕ × List ℕ) (a : List ℕ) → waiting its ≡ Some w
+    → decided_in (slice_set its w.0 (exchange w.1 (Some a))) ≡ decided_in its ++ exchange w.1 (Some a) ∷ map stray_of (held_in its)
+decided-answered [] w a h = cc
+decided-answered (stray e n ∷ its) w a h =
+    let v = one_later-some (waiting its) w h in
+    rw v.2 (ap (λ l. stray e n ∷ l) (decided-answered its v.0 a v.1))
+decided-answered (exchange q (Some b) ∷ its) w a h =
+    let v = one_later-some (waiting its) w h in
+    rw v.2 (ap (λ l. exchange q (Some b) ∷ l) (decided-answered its v.0 a v.1))
+decided-answered (exchange q None ∷ its) w a h =
+    elim (cases_Bool (has_exchange its)) [
+      | inl e ↦ (let v = one_later-some (waiting its) w (rw e at h) in
+          let more = has-set its v.0.0 v.0.1 None (Some a) (waiting-at its v.0 v.1) ∙ e in
+          rw (v.2, more, e) (ap (λ l. exchange q None ∷ l) (decided-answered its v.0 a v.1)))
+      | inr e ↦ (let same : (0, q) ≡ w = same_Some _ _ (rw e at h) in
+          rw (← same, e) (ap (λ l. exchange q (Some a) ∷ l) (decided-alone its e)))
+    ]
+  where
+    decided-alone : (xs : List ItemValue) → has_exchange xs ≡ false → decided_in xs ≡ map stray_of (flattened xs)
+    decided-alone [] none = refl
+    decided-alone (exchange r c ∷ xs) none = cc
+    decided-alone (stray d m ∷ xs) none = ap (λ l. stray d m ∷ l) (decided-alone xs none)
+
+-- a decider, by the exchange that waits
+abbrev standing : Option (ℕ × List ℕ) → List Message → DeciderValue
+standing w holds = record { request = request_of w; holds = holds }
+
+joined : (its : List ItemValue) (x : Message) (w : Option (ℕ × List ℕ)) → is_tester_request x ≡ false → waiting its ≡ w
+    → decided_in (join_by w its x) ≡ decided_in its ++ items_by (standing w (held_in its)) x
+joined its x None r h = rw r (decided-stray its x.0 x.1 h ∙ ap (λ l. l ++ stray_of x ∷ []) (sym (decided-all its h)))
+joined its x (Some w) r h =
+    elim (cases_Bool (is_answer_to w.1 x)) [
+      | inl e ↦ rw (r, e) (decided-answered its w x.1 h)
+      | inr e ↦ elim (cases_Bool (is_pending_reply_to w.1 x)) [
+        | inl q ↦ rw (r, e, q) (sym (append-nil (decided_in its)))
+        | inr q ↦ rw (r, e, q) (decided-held its w x.0 x.1 h ∙ sym (append-nil (decided_in its)))
+      ]
+    ]
+
+more : (its : List ItemValue) (x : Message) → decided_in (join its x) ≡ decided_in its ++ items_by (standing (waiting its) (held_in its)) x
+more its x =
+    elim (cases_Bool (is_tester_request x)) [
+      | inl e ↦ rw e (decided-request its x.1 ∙ sym (whole its) ∙ ap (λ o. decided_in its ++ unanswered_items o (held_in its)) (open-request-waits its))
+      | inr e ↦ (ap decided_in (let by : join its x ≡ join_by (waiting its) its x = rw e refl in by) ∙ joined its x (waiting its) e refl)
+    ]
+
+-- what one more message decides, by what a decider keeps
+pub decided-by : (M : List Message) (x : Message) (d : DeciderValue) → d ≡ decides_after M → AreDecidedBy M x (items_by d x)
+decided-by M x d is =
+    ap decided_in (meaning-append M x) ∙ more (meaning M) x
+    ∙ ap (λ (o : Option (List ℕ)). let s : DeciderValue = record { request = o; holds = held M } in decided M ++ items_by s x) (sym (open-request-waits (meaning M)))
+    ∙ ap (λ s. decided M ++ items_by s x) (sym is)
+
+-- ---- what a decider keeps
+
+request-kept : (o : Option (List ℕ)) (holds : List Message) (x : Message) → (keep (record { request = o; holds = holds }) x).request ≡ open_with o x
+request-kept None holds x = elim (cases_Bool (is_tester_request x)) [ inl e ↦ rw e refl | inr e ↦ rw e refl ]
+request-kept (Some r) holds x =
+    elim (cases_Bool (is_tester_request x)) [
+      | inl e ↦ rw e refl
+      | inr e ↦ elim (cases_Bool (is_answer_to r x)) [
+        | inl a ↦ rw (e, a) refl
+        | inr a ↦ elim (cases_Bool (is_pending_reply_to r x)) [ inl q ↦ rw (e, a, q) refl | inr q ↦ rw (e, a, q) refl ]
+      ]
+    ]
+
+holds-same : (s : Step) (d : DeciderValue) (o : OrdererValue) (x : Message) → d.holds ≡ o.holds → (keep_for s d x).holds ≡ (advance_for s o x).holds
+holds-same (step.Request service) d o x is = refl
+holds-same step.Answer d o x is = refl
+holds-same step.Removed d o x is = is
+holds-same step.Hold d o x is = ap (λ l. l ++ x ∷ []) is
+holds-same step.Pass d o x is = is
+
+holds-kept : (M : List Message) (x : Message) → (keep (decides_after M) x).holds ≡ held (M ++ x ∷ [])
+holds-kept M x = holds-same (step_in (decides_after M) x) (decides_after M) (stands_after M) x refl ∙ ap (λ (o : OrdererValue). o.holds) (stands-next M x)
+
+-- it is where it stands after the longer list
+pub keeps-next : (M : List Message) (x : Message) → keep (decides_after M) x ≡ decides_after (M ++ x ∷ [])
+keeps-next M x =
+    let request = request-kept (open_request M) (held M) x ∙ sym (open_request_goes_on M x) in
+    let holds = holds-kept M x in
+    (λ i. record { request = request i; holds = holds i })
+
+-- where memory is refused, the message is one that is kept
+pub refuses-kept : (M : List Message) (x : Message) (d : DeciderValue) → d ≡ decides_after M → Refuses d x → IsKept M x
+refuses-kept M x d is (inl asks) = inl asks
+refuses-kept M x d is (inr holds) =
+    inr (sym (holds-kept M x) ∙ ap (λ (s : DeciderValue). (keep s x).holds) (sym is) ∙ holds ∙ ap (λ (s : DeciderValue). s.holds ++ x ∷ []) is)
+
+-- ---- the laws
+
+pub decided_then_undecided : DecidedThenUndecided
+decided_then_undecided M = whole (meaning M)
+
+pub decided_grows : DecidedGrows
+decided_grows M [] = ([], ap decided (append-nil M) ∙ sym (append-nil (decided M)))
+decided_grows M (x ∷ N) =
+    let later = decided_grows (M ++ x ∷ []) N in
+    let now = items_by (decides_after M) x in (
+      now ++ later.0,
+      ap decided (sym (append_assoc M (x ∷ []) N)) ∙ later.1 ∙ ap (λ l. l ++ later.0) (decided-by M x (decides_after M) refl) ∙ append_assoc (decided M) now later.0,
+    )
+
+pub undecided_must_wait : UndecidedMustWait
+undecided_must_wait M request open_one =
+    let x = rejection_of request in
+    let answers = rejects request ((open-request-behind M request).0 open_one).is_one in
+    let closed : open_request (M ++ x ∷ []) ≡ None = open_request_goes_on M x ∙ ap (λ o. open_with o x) open_one ∙ rw answers refl in
+    let now : items_by (decides_after M) x ≡ exchange request (Some x.1) ∷ map stray_of (held M) = rw (open_one, answers) refl in
+    sym (decided_then_undecided (M ++ x ∷ []))
+    ∙ ap (λ o. decided (M ++ x ∷ []) ++ unanswered_items o (held (M ++ x ∷ []))) closed
+    ∙ append-nil (decided (M ++ x ∷ []))
+    ∙ decided-by M x (decides_after M) refl ∙ ap (λ l. decided M ++ l) now

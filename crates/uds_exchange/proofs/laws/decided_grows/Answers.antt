@@ -1,0 +1,5 @@
+use Rattle.uds_exchange.proofs.Deciding.{decided_grows}
+use Rattle.uds_exchange.proofs.laws.decided_grows.Goals as goal
+
+pub returns : goal.returns
+returns c = decided_grows

@@ -1,0 +1,25 @@
+-- Which items of a meaning are decided before the list of messages has ended, and which are not.
+use Rattle.std.specs.Prelude.{ℕ, List, [], ◌∷◌, map, Option, Some, None, if◌then◌else◌}
+use Rattle.direction.specs.Dir.{Message}
+use Rattle.uds_exchange.specs.Meaning.{ItemValue, exchange, stray, stray_of, meaning}
+use Rattle.uds_exchange.specs.Order.{has_exchange, open_request, held}
+
+-- the items before the last exchange, where that has no answer; else all of them
+abbrev pub decided_in : List ItemValue → List ItemValue
+decided_in [] = []
+decided_in (stray d bytes ∷ later) = stray d bytes ∷ decided_in later
+decided_in (exchange request (Some reply) ∷ later) = exchange request (Some reply) ∷ decided_in later
+decided_in (exchange request None ∷ later) = if has_exchange later then exchange request None ∷ decided_in later else []
+
+-- the items that are decided by a list of messages, whatever follows it
+abbrev pub decided : List Message → List ItemValue
+decided M = decided_in (meaning M)
+
+-- a request that waits for its answer, as an exchange without one, and these messages as strays after it
+abbrev pub unanswered_items : Option (List ℕ) → List Message → List ItemValue
+unanswered_items None holds = []
+unanswered_items (Some request) holds = exchange request None ∷ map stray_of holds
+
+-- the items that are not: the exchange of the open request, and the strays after it
+abbrev pub undecided : List Message → List ItemValue
+undecided M = unanswered_items (open_request M) (held M)

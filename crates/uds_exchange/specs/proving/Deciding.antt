@@ -1,0 +1,47 @@
+-- Devices of proof: what a decider does with one more message.
+use Rattle.std.specs.Prelude.{◌≡◌, ◌⊎◌, ℕ, true, List, [], ◌∷◌, ◌++◌, map, Option, Some, None, option_map}
+use Rattle.direction.specs.Dir.{Message}
+use Rattle.uds_message.specs.Message.{sid}
+use Rattle.uds_exchange.specs.Decided.{unanswered_items}
+use Rattle.uds_exchange.specs.Decider.{DeciderValue}
+use Rattle.uds_exchange.specs.Meaning.{ItemValue, exchange, stray_of, is_tester_request}
+use Rattle.uds_exchange.specs.OneMessage.{step_of}
+use Rattle.uds_exchange.specs.declared.step.Step.{Step}
+use Rattle.uds_exchange.specs.declared.step.Step.TheVariants as step
+
+-- a request with its answer, where one waits, and these messages as strays after it
+abbrev pub answered_items : Option (List ℕ) → List ℕ → List Message → List ItemValue
+answered_items None reply holds = []
+answered_items (Some request) reply holds = exchange request (Some reply) ∷ map stray_of holds
+
+-- the items that are decided by this step with a message
+abbrev pub items_for : Step → DeciderValue → Message → List ItemValue
+items_for (step.Request service) standing message = unanswered_items standing.request standing.holds
+items_for step.Answer standing message = answered_items standing.request message.1 standing.holds
+items_for step.Removed standing message = []
+items_for step.Hold standing message = []
+items_for step.Pass standing message = stray_of message ∷ []
+
+-- what becomes of a message
+abbrev pub step_in : DeciderValue → Message → Step
+step_in standing message = step_of (option_map sid standing.request) message
+
+-- the items that one more message decides
+abbrev pub items_by : DeciderValue → Message → List ItemValue
+items_by standing message = items_for (step_in standing message) standing message
+
+-- what the decider is after this step
+abbrev pub keep_for : Step → DeciderValue → Message → DeciderValue
+keep_for (step.Request service) standing message = record { request = Some message.1; holds = [] }
+keep_for step.Answer standing message = record { request = None; holds = [] }
+keep_for step.Removed standing message = standing
+keep_for step.Hold standing message = record standing { holds = standing.holds ++ message ∷ [] }
+keep_for step.Pass standing message = standing
+
+-- what the decider is after one more message
+abbrev pub keep : DeciderValue → Message → DeciderValue
+keep standing message = keep_for (step_in standing message) standing message
+
+-- memory can be refused here: the message is a request, or would be held
+abbrev pub Refuses : DeciderValue → Message → Type 0
+Refuses standing message = (is_tester_request message ≡ true) ⊎ ((keep standing message).holds ≡ standing.holds ++ message ∷ [])

@@ -1,0 +1,202 @@
+//! The items of a meaning, each as soon as it is decided.
+
+ghost use Rattle.std.specs.Prelude.{◌≡◌, ◌++◌, ◌∷◌, [], List, OnOk, OnErr, map, option_map};
+ghost use Rattle.direction.specs.Dir.{Message};
+ghost use Rattle.uds_message.specs.Message.{sid as sid_of};
+ghost use Rattle.uds_exchange.specs.Meaning.{stray_of};
+ghost use Rattle.uds_exchange.specs.Decided.{undecided, unanswered_items};
+ghost use Rattle.uds_exchange.specs.Decider.{decides_after, PutsDecided, IsKept};
+ghost use Rattle.uds_exchange.specs.ItemSink.{PutsItems};
+ghost use Rattle.uds_exchange.specs.proving.Deciding.{answered_items, items_by, keep, Refuses};
+
+use crate::held::Held;
+use crate::item::LentItem;
+use crate::item_sink::ItemSink;
+use crate::pairing::copy;
+use crate::sink::MessageSink;
+use crate::step::{Step, step_of};
+use direction::Dir;
+use std::alloc::{AllocError, Global};
+use std::marker::Model;
+use uds_message::sid;
+
+/// Puts the items of a meaning in order into a sink, each as soon as nothing that follows can change it: an exchange when
+/// its answer comes or the next request does, and the strays after it then too. It keeps the open request, and the
+/// messages that are held behind it. A reply that is left out is neither kept nor put.
+#[derive(Debug, Drop)]
+pub struct Decider {
+    alloc: Global,
+    /// The last request, where that waits for its answer.
+    request: Option<Vec<u8>>,
+    /// What follows that request.
+    held: Held,
+}
+
+impl Model for Decider {
+    ghost use Rattle.std.specs.Prelude.{option_map};
+    ghost use Rattle.uds_exchange.specs.Decider.{DeciderValue};
+
+    ghost Value = { DeciderValue };
+
+    ghost view = { λ d. record { request = option_map (λ bytes. bytes.items) d.request; holds = d.held } };
+}
+
+impl Decider {
+    /// A decider that has taken no message. It takes no memory.
+    pub fn new(alloc: Global) -> Decider
+        ensures { result ≡ decides_after [] }
+    {
+        Decider {
+            alloc,
+            request: None,
+            held: Held::new(alloc),
+        }
+    }
+
+    /// Takes one more message, and puts all items that are now decided. Memory is taken for a request, and for a message
+    /// that is held. After an `Err` nothing was put, the decider is unchanged, and the call may be made again.
+    pub fn take<S: ItemSink>(
+        &mut self,
+        dir: Dir,
+        message: &[u8],
+        sink: &mut S,
+    ) -> Result<(), AllocError>
+        ensures stands { OnOk result ((M : List Message) → self.old ≡ decides_after M
+            → self.new ≡ decides_after (M ++ (dir, message.now) ∷ [])) }
+        ensures puts { OnOk result ((M : List Message) → self.old ≡ decides_after M
+            → PutsDecided S.takes M (dir, message.now) sink.old sink.new) }
+
+        ensures err { OnErr result (self.new ≡ self.old) }
+        ensures unput { OnErr result (sink.new ≡ sink.old) }
+        ensures kept_only { OnErr result ((M : List Message) → self.old ≡ decides_after M → IsKept M (dir, message.now)) }
+    {
+        self.advance(dir, message, sink)
+    }
+
+    /// Puts what is left: the exchange of the open request, and the strays behind it. It takes no memory.
+    pub fn finish<S: ItemSink>(self, sink: &mut S)
+        ensures { (M : List Message) → self ≡ decides_after M → PutsItems S.takes sink.old (undecided M) sink.new }
+    {
+        let Decider {
+            alloc: _,
+            request,
+            held,
+        } = self;
+        put_unanswered(&request, &held, sink);
+    }
+
+    /// Takes one more message, by the open request and what is held alone.
+    fn advance<S: ItemSink>(
+        &mut self,
+        dir: Dir,
+        message: &[u8],
+        sink: &mut S,
+    ) -> Result<(), AllocError>
+        ensures now { OnOk result (self.new ≡ keep self.old (dir, message.now)) }
+        ensures puts { OnOk result (PutsItems S.takes sink.old (items_by self.old (dir, message.now)) sink.new) }
+        ensures err { OnErr result (self.new ≡ self.old) }
+        ensures unput { OnErr result (sink.new ≡ sink.old) }
+        ensures kept { OnErr result (Refuses self.old (dir, message.now)) }
+    {
+        match step_of(open_sid(&self.request), dir, message) {
+            Step::Request(_) => {
+                let request = copy(self.alloc, message)?;
+                put_unanswered(&self.request, &self.held, sink);
+                self.request = Some(request);
+                self.held.clear();
+                Ok(())
+            }
+            Step::Answer => {
+                put_answered(&self.request, message, &self.held, sink);
+                self.request = None;
+                self.held.clear();
+                Ok(())
+            }
+            Step::Removed => Ok(()),
+            Step::Hold => self.held.push(dir, message),
+            Step::Pass => {
+                sink.put(LentItem::Stray {
+                    dir,
+                    bytes: message,
+                });
+                Ok(())
+            }
+        }
+    }
+}
+
+/// The first byte of a request that waits, if one does.
+fn open_sid(request: &Option<Vec<u8>>) -> Option<u8>
+    ensures { result ≡ option_map sid_of (option_map (λ bytes. bytes.items) request.now) }
+{
+    match request {
+        Some(request) => Some(sid(request)),
+        None => None,
+    }
+}
+
+/// Puts the exchange of a request that waits, with its answer, and the strays behind it.
+fn put_answered<S: ItemSink>(request: &Option<Vec<u8>>, answer: &[u8], held: &Held, sink: &mut S)
+    ensures { PutsItems S.takes sink.old (answered_items (option_map (λ bytes. bytes.items) request.now) answer.now held.now) sink.new }
+{
+    if let Some(request) = request {
+        sink.put(LentItem::Exchange {
+            request: request.as_slice(),
+            answer: Some(answer),
+        });
+        put_strays(held, sink);
+    }
+}
+
+/// Puts the exchange of a request that waits, without an answer, and the strays behind it.
+fn put_unanswered<S: ItemSink>(request: &Option<Vec<u8>>, held: &Held, sink: &mut S)
+    ensures { PutsItems S.takes sink.old (unanswered_items (option_map (λ bytes. bytes.items) request.now) held.now) sink.new }
+{
+    if let Some(request) = request {
+        sink.put(LentItem::Exchange {
+            request: request.as_slice(),
+            answer: None,
+        });
+        put_strays(held, sink);
+    }
+}
+
+/// Puts messages as strays.
+fn put_strays<S: ItemSink>(held: &Held, sink: &mut S)
+    ensures { PutsItems S.takes sink.old (map stray_of held.now) sink.new }
+{
+    let mut strays = StraySink { sink };
+    if let Err(_fault) = held.put_all(&mut strays) {
+        // A sink of items takes all that is put.
+        return;
+    }
+}
+
+/// No fault: a sink of items takes all that is put.
+#[derive(Clone, Copy, Debug)]
+pub(crate) struct NoFault;
+
+/// Puts each message as a stray.
+#[derive(Drop)]
+pub(crate) struct StraySink<'a, S> {
+    pub sink: &'a mut S,
+}
+
+impl<'a, S: ItemSink> MessageSink for StraySink<'a, S> {
+    ghost use Rattle.std.specs.Prelude.{◌≡◌};
+    ghost use Rattle.uds_exchange.specs.Meaning.{stray};
+
+    type Fault = NoFault;
+
+    ghost after_ok = { λ s d m t. (t.sink.ghost_name ≡ s.sink.ghost_name) × S.takes s.sink.now (stray d m) t.sink.now };
+
+    ghost after_err = { λ s d m e t. ⊥ };
+
+    fn put(&mut self, dir: Dir, message: &[u8]) -> Result<(), NoFault> {
+        self.sink.put(LentItem::Stray {
+            dir,
+            bytes: message,
+        });
+        Ok(())
+    }
+}
