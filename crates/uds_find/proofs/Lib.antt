@@ -1,0 +1,5 @@
+pub mod Waiting
+pub mod Counting
+pub mod Standing
+pub mod Needing
+pub mod Promises

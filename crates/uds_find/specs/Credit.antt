@@ -1,0 +1,89 @@
+-- Which identifier an answer is credited to: the one that last asked for the service.
+use Rattle.std.specs.Prelude.{◌≡◌, ℕ, ◌==◌, ◌<◌, Bool, false, List, [], ◌∷◌, ◌++◌, length, Option, Some, None, if◌then◌else◌}
+use Rattle.std.specs.List.{cons_option, count_by, filter, last_or}
+use Rattle.std.specs.Ordering.{is_eq}
+use Rattle.std.specs.declared.cmp.Ordering.{Ordering}
+use Rattle.can_log.specs.Frame.{FrameValue}
+use Rattle.can_log.specs.declared.frame.Id.{Id}
+use Rattle.can_log.specs.declared.frame.Id.TheVariants as id
+use Rattle.uds_find.specs.Mention.{mention_of}
+use Rattle.uds_find.specs.contracts.pair.PairOrd.TheImpl as pair_ord
+use Rattle.uds_find.specs.declared.mention.Mention.{Mention}
+use Rattle.uds_find.specs.declared.mention.Mention.TheVariants.{Asks, Answers}
+use Rattle.uds_find.specs.declared.pair.Pair.{Pair}
+
+-- whether it is said of this service
+abbrev pub is_of : ℕ → Option Mention → Bool
+is_of service None = false
+is_of service (Some (Asks asked)) = asked == service
+is_of service (Some (Answers answered)) = answered == service
+
+-- whether a frame says something of the service
+abbrev pub speaks_of : ℕ → FrameValue → Bool
+speaks_of service frame = is_of service (mention_of frame)
+
+-- the identifier of a frame that says this, where it asks
+abbrev pub asker_by : Option Mention → Id → Option Id
+asker_by (Some (Asks service)) asker = Some asker
+asker_by (Some (Answers service)) asker = None
+asker_by None asker = None
+
+-- the identifier of a frame, where there is one and it asks
+abbrev pub asker_in : Option FrameValue → Option Id
+asker_in None = None
+asker_in (Some frame) = asker_by (mention_of frame) frame.id
+
+-- who waits for an answer of the service after these frames: the last that says something of it, where that one asks
+unfoldable pub waits_for : ℕ → List FrameValue → Option Id
+waits_for service past = asker_in (last_or None (filter (speaks_of service) past))
+
+-- the two are one identifier
+abbrev pub is_same : Id → Id → Bool
+is_same (id.Std one) (id.Std other) = one == other
+is_same (id.Ext one) (id.Ext other) = one == other
+is_same (id.Std one) (id.Ext other) = false
+is_same (id.Ext one) (id.Std other) = false
+
+-- an answer of the unit is credited to who waits for it, and never to the unit itself
+abbrev pub credited_to : Option Id → Id → Option Pair
+credited_to None unit = None
+credited_to (Some tester) unit = if is_same tester unit then None else Some (record { tester = tester; unit = unit })
+
+-- the pair that a frame of this identifier is credited to, where it says this after these frames
+abbrev pub credit_by : List FrameValue → Option Mention → Id → Option Pair
+credit_by past (Some (Answers service)) unit = credited_to (waits_for service past) unit
+credit_by past (Some (Asks service)) unit = None
+credit_by past None unit = None
+
+-- the pair that a frame is credited to after these frames
+abbrev pub credit : List FrameValue → FrameValue → Option Pair
+credit past frame = credit_by past (mention_of frame) frame.id
+
+-- the pairs that these frames are credited to, where the frames `past` came before them
+unfoldable pub credits_after : List FrameValue → List FrameValue → List Pair
+credits_after past [] = []
+credits_after past (frame ∷ rest) = cons_option (credit past frame) (credits_after (past ++ frame ∷ []) rest)
+
+-- the pairs that frames are credited to, one for each answer that is
+abbrev pub credits : List FrameValue → List Pair
+credits frames = credits_after [] frames
+
+-- an order of pairs, which are equal in it exactly where they are one pair
+abbrev pub pair_order : Pair → Pair → Ordering
+pair_order = (pair_ord.ghosts).cmp
+
+-- how many answers of its unit are credited to its tester
+unfoldable pub credit_count : Pair → List FrameValue → ℕ
+credit_count pair frames = count_by (λ credited. is_eq (pair_order credited pair)) (credits frames)
+
+-- some answer among these frames is credited
+abbrev pub HasCredit : List FrameValue → Type 0
+HasCredit frames = 0 < length (credits frames)
+
+-- after these frames this one is the first that is credited to its pair
+abbrev pub IsFirstCredit : List FrameValue → FrameValue → Type 0
+IsFirstCredit past frame = (pair : Pair) × (credit past frame ≡ Some pair) × (credit_count pair past ≡ 0)
+
+-- the first credit of a pair is a credit
+abbrev pub FirstCreditIsCredit : Type 0
+FirstCreditIsCredit = (past : List FrameValue) (frame : FrameValue) → IsFirstCredit past frame → HasCredit (past ++ frame ∷ [])

@@ -1,0 +1,52 @@
+-- The lines of a log's pairs, and what a finder keeps of the frames so far.
+use Rattle.std.specs.Prelude.{◌≡◌, ℕ, ◌==◌, ◌<◌, List, Option, Some, None, length, map, slice_index_or, if◌then◌else◌, IsPermutation}
+use Rattle.std.specs.List.Sorted.{IsSorted, IsStrictlySortedBy}
+use Rattle.std.specs.Map.{keys_of, lookup}
+use Rattle.std.specs.Ordering.{is_eq}
+use Rattle.std.specs.declared.cmp.Ordering.{Ordering}
+use Rattle.can_log.specs.Canonical.{identifier_text}
+use Rattle.can_log.specs.Frame.{FrameValue}
+use Rattle.can_log.specs.declared.frame.Id.{Id}
+use Rattle.uds_find.specs.Credit.{credit_count, pair_order, waits_for}
+use Rattle.uds_find.specs.contracts.pair.CreditLineOrd.TheImpl as line_ord
+use Rattle.uds_find.specs.declared.finder.Finder.{Finder}
+use Rattle.uds_find.specs.declared.pair.CreditLine.{CreditLine}
+use Rattle.uds_find.specs.declared.pair.Pair.{Pair}
+
+-- how many credits a pair has, where it has one
+abbrev pub counted : ℕ → Option ℕ
+counted count = if count == 0 then None else Some count
+
+-- A table has each pair of these frames that has a credit, once, and the number of its credits.
+pub record IsTally (frames : List FrameValue) (table : List (Pair × ℕ)) : Type 0 where
+  pub once : IsStrictlySortedBy pair_order (keys_of table)
+  pub counts : (pair : Pair) → lookup (λ other. is_eq (pair_order pair other)) table ≡ counted (credit_count pair frames)
+
+-- Each place tells who waits for an answer of its service after these frames.
+pub record TellsWaiting (frames : List FrameValue) (waiting : List (Option Id)) : Type 0 where
+  pub places : length waiting ≡ 256
+  pub each : (service : ℕ) → service < 256 → slice_index_or waiting service None ≡ waits_for service frames
+
+-- A finder stands after these frames.
+pub record StandsAfter (frames : List FrameValue) (finder : Finder) : Type 0 where
+  pub waiting : TellsWaiting frames finder.waiting
+  pub tally : IsTally frames finder.pairs.entries
+
+-- the line of a pair and of the number of its credits
+abbrev pub credit_line : Pair × ℕ → CreditLine
+credit_line entry = record {
+  credits = record { 0 = entry.1 };
+  tester = record { items = identifier_text entry.0.tester };
+  unit = record { items = identifier_text entry.0.unit };
+}
+
+-- the order of lines: the most credits first, then by the bytes of the tester's text, then of the unit's
+abbrev pub line_order : CreditLine → CreditLine → Ordering
+line_order = (line_ord.ghosts).cmp
+
+-- These are the lines of the pairs that have a credit in these frames, in their order.
+pub record AreCreditLines (frames : List FrameValue) (lines : List CreditLine) : Type 0 where
+  pub table : List (Pair × ℕ)
+  pub tally : IsTally frames table
+  pub each : IsPermutation (map credit_line table) lines
+  pub sorted : IsSorted line_order lines

@@ -1,0 +1,3 @@
+pub mod Mention
+pub mod Credit
+pub mod Finding

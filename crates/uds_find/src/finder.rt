@@ -1,0 +1,140 @@
+//! Frames taken one by one, and the pairs that they are credited to.
+
+ghost use Rattle.std.specs.Prelude.{◌≡◌, ◌^◌, ◌<◌, [], ◌∷◌, ◌++◌, List, length, OnOk, OnErr, IfOk, Some, map};
+ghost use Rattle.std.specs.BTreeMap.{IsUnchanged};
+ghost use Rattle.can_log.specs.Frame.{FrameValue};
+ghost use Rattle.uds_find.specs.Credit as Spec;
+ghost use Rattle.uds_find.specs.Finding.{IsTally, credit_line};
+
+use crate::mention::{Mention, mention_of};
+use crate::pair::{CreditLine, Pair};
+use can_log::{Frame, Id};
+use std::alloc::{AllocError, Global};
+use std::collections::BTreeMap;
+
+/// What is kept of the frames of a log: of each service who waits for its answer, and the answers of each pair.
+#[derive(Drop)]
+pub struct Finder {
+    pub waiting: [Option<Id>; 256],
+    pub pairs: BTreeMap<Pair, u64>,
+}
+
+impl Finder {
+    ghost use Rattle.std.specs.Prelude.{◌≡◌, ◌^◌, ◌<◌, [], ◌∷◌, ◌++◌, List, length, OnOk, OnErr};
+    ghost use Rattle.can_log.specs.Frame.{FrameValue};
+    ghost use Rattle.std.specs.Prelude.{IfOk, Some};
+    ghost use Rattle.std.specs.BTreeMap.{IsUnchanged};
+    ghost use Rattle.uds_find.specs.Credit.{HasCredit, IsFirstCredit};
+    ghost use Rattle.uds_find.specs.Finding.{AreCreditLines, IsTally, StandsAfter};
+    ghost use Rattle.uds_find.specs.Mention.{mention_of};
+    ghost use Rattle.uds_find.specs.declared.mention.Mention.TheVariants.{Answers};
+
+    /// Before the first frame.
+    pub fn new(alloc: Global) -> Finder
+        ensures { StandsAfter [] result }
+    {
+        let pairs = BTreeMap::new(alloc);
+        Finder {
+            waiting: [None; 256],
+            pairs,
+        }
+    }
+
+    /// Takes one more frame. Where memory is refused, it stands where it stood.
+    pub fn take(&mut self, frame: &Frame) -> Result<(), AllocError>
+        ensures ok { OnOk result ((frames : List FrameValue) → length frames < 2 ^ 62 → StandsAfter frames self.old → StandsAfter (frames ++ frame.now ∷ []) self.new) }
+        ensures err { OnErr result ((frames : List FrameValue) → StandsAfter frames self.old → StandsAfter frames self.new) }
+        ensures needs { OnErr result ((frames : List FrameValue) → StandsAfter frames self.old → IsFirstCredit frames frame.now) }
+    {
+        match mention_of(frame) {
+            None => Ok(()),
+            Some(Mention::Asks(service)) => {
+                self.waiting[service as usize] = Some(frame.id());
+                Ok(())
+            }
+            Some(Mention::Answers(service)) => {
+                self.credit(service, frame.id())?;
+                self.waiting[service as usize] = None;
+                Ok(())
+            }
+        }
+    }
+
+    /// The lines of the pairs, in their order.
+    pub fn finish(self, alloc: Global) -> Result<Vec<CreditLine>, AllocError>
+        ensures lines { IfOk result (λ lines. (frames : List FrameValue) → StandsAfter frames self → AreCreditLines frames lines.items) }
+        ensures needs { OnErr result ((frames : List FrameValue) → StandsAfter frames self → HasCredit frames) }
+    {
+        let mut lines = lines_of(alloc, self.pairs)?;
+        lines.sort_unstable();
+        Ok(lines)
+    }
+
+    /// Credits an answer of the service by this identifier to who waits for it.
+    fn credit(&mut self, service: u8, unit: Id) -> Result<(), AllocError>
+        ensures ok { OnOk result ((frames : List FrameValue) (frame : FrameValue) → length frames < 2 ^ 62 → mention_of frame ≡ Some (Answers service) → frame.id ≡ unit
+            → StandsAfter frames self.old → IsTally (frames ++ frame ∷ []) self.new.pairs.entries) }
+        ensures err { OnErr result (IsUnchanged self.old.pairs self.new.pairs) }
+        ensures needs { OnErr result ((frames : List FrameValue) (frame : FrameValue) → mention_of frame ≡ Some (Answers service) → frame.id ≡ unit
+            → StandsAfter frames self.old → IsFirstCredit frames frame) }
+        ensures kept { self.new.waiting ≡ self.old.waiting }
+    {
+        match credited_to(self.waiting[service as usize], unit) {
+            None => Ok(()),
+            Some(pair) => {
+                count(&mut self.pairs, pair)?;
+                Ok(())
+            }
+        }
+    }
+}
+
+/// Counts one more answer of a pair.
+fn count(pairs: &mut BTreeMap<Pair, u64>, pair: Pair) -> Result<(), AllocError>
+    ensures ok { OnOk result ((frames : List FrameValue) (frame : FrameValue) → length frames < 2 ^ 62 → IsTally frames pairs.old.entries
+        → Spec.credit frames frame ≡ Some pair → IsTally (frames ++ frame ∷ []) pairs.new.entries) }
+    ensures err { OnErr result (IsUnchanged pairs.old pairs.new) }
+    ensures needs { OnErr result ((frames : List FrameValue) → IsTally frames pairs.old.entries → Spec.credit_count pair frames ≡ 0) }
+{
+    let answers = pairs.get(&pair).copied().unwrap_or(0);
+    pairs.insert(pair, answers.saturating_add(1))?;
+    Ok(())
+}
+
+/// The lines of the pairs, in the order of the table.
+fn lines_of(alloc: Global, pairs: BTreeMap<Pair, u64>) -> Result<Vec<CreditLine>, AllocError>
+    ensures lines { IfOk result (λ lines. lines.items ≡ map credit_line pairs.entries) }
+    ensures needs { OnErr result (0 < length pairs.entries) }
+{
+    let mut lines = Vec::new(alloc);
+    let mut rest = pairs;
+    'pairs: while let Some((pair, credits)) = rest.pop_first() {
+        lines.push(CreditLine::new(pair, credits))?;
+    }
+    Ok(lines)
+}
+
+/// The pair of who waits for an answer and of who gives it.
+fn credited_to(waiting: Option<Id>, unit: Id) -> Option<Pair>
+    ensures { result ≡ Spec.credited_to waiting unit }
+{
+    match waiting {
+        Some(tester) => if is_same(tester, unit) {
+            None
+        } else {
+            Some(Pair { tester, unit })
+        },
+        None => None,
+    }
+}
+
+/// Whether the two are one identifier.
+fn is_same(one: Id, other: Id) -> bool
+    ensures { result ≡ Spec.is_same one other }
+{
+    match (one, other) {
+        (Id::Std(one), Id::Std(other)) => one == other,
+        (Id::Ext(one), Id::Ext(other)) => one == other,
+        (Id::Std(_), Id::Ext(_)) | (Id::Ext(_), Id::Std(_)) => false,
+    }
+}

@@ -1,0 +1,22 @@
+//! Which identifiers of a log ask, and which answer them, for a log whose tester and unit nobody named.
+//!
+//! A frame that begins a message says of a service that it asks for it or that it answers it ([`mention_of`]), whatever its
+//! identifier. A [`Finder`] takes frames one by one, and credits each answer to the identifier that last asked for its
+//! service; its lines are the pairs, each with the number of its answers.
+//!
+//! ```text
+//! 7E0#0322F190          asks for service 22
+//! 7E8#101462F190574241  answers it: credited to 7E0
+//! 7E0#300000            says nothing
+//! 7E8#2131413345304645  says nothing       =>  1 7E0 7E8
+//! ```
+#![tactic(auto)]
+
+mod finder;
+pub mod laws;
+mod mention;
+mod pair;
+
+pub use finder::Finder;
+pub use mention::{Mention, mention_of};
+pub use pair::{CreditLine, Pair};
