@@ -97,9 +97,9 @@ module _ (settings : Settings) where
   early_is : (meanings : List (Option Stamped)) → told_of_lines (canonical_script settings) settings meanings ≡ early_text MESSAGE_LIMIT settings meanings
   early_is meanings = canonical_tells_early settings (trace settings meanings) ∙ said_fits settings (early (messages MESSAGE_LIMIT (trace settings meanings)))
 
-  whole_said : (meanings : List (Option Stamped)) → whole_of_lines (canonical_script settings) MESSAGE_LIMIT settings meanings
+  whole_said : (log : List ℕ) (meanings : List (Option Stamped)) → whole_of_lines (canonical_script settings) MESSAGE_LIMIT settings log meanings
       ≡ text_from settings (start_of settings.max_bytes) (all_frames MESSAGE_LIMIT (flattened (meaning (messages MESSAGE_LIMIT (trace settings meanings)))))
-  whole_said meanings =
+  whole_said log meanings =
       let M = messages MESSAGE_LIMIT (trace settings meanings) in
       let begin = start_of settings.max_bytes in
       ap (λ x. x ++ text_from settings (place_of settings (early M)) (all_frames MESSAGE_LIMIT (held M))) (canonical_tells_early settings (trace settings meanings))
@@ -107,8 +107,8 @@ module _ (settings : Settings) where
       ∙ ap (text_from settings begin) (sym (all_frames-append MESSAGE_LIMIT (early M) (held M)))
       ∙ ap (λ x. text_from settings begin (all_frames MESSAGE_LIMIT x)) (early_then_held M)
 
-  whole_is : (meanings : List (Option Stamped)) → whole_of_lines (canonical_script settings) MESSAGE_LIMIT settings meanings ≡ fitting settings (canonical_log_of_lines MESSAGE_LIMIT settings meanings)
-  whole_is meanings = whole_said meanings ∙ said_fits settings (flattened (meaning (messages MESSAGE_LIMIT (trace settings meanings))))
+  whole_is : (log : List ℕ) (meanings : List (Option Stamped)) → whole_of_lines (canonical_script settings) MESSAGE_LIMIT settings log meanings ≡ fitting settings (canonical_log_of_lines MESSAGE_LIMIT settings meanings)
+  whole_is log meanings = whole_said log meanings ∙ said_fits settings (flattened (meaning (messages MESSAGE_LIMIT (trace settings meanings))))
 
   texts : told_of_lines (canonical_script settings) settings ≡ early_text MESSAGE_LIMIT settings
   texts = λ i meanings. early_is meanings i
@@ -127,7 +127,7 @@ module _ (settings : Settings) where
           written = wrote.written;
           missing = wrote.missing ++ begins.0;
           wrote = wrote.wrote;
-          front = begins.1 ∙ ap (λ x. x ++ begins.0) (sym (whole_is wrote.meanings) ∙ wrote.front) ∙ append_assoc wrote.written wrote.missing begins.0;
+          front = begins.1 ∙ ap (λ x. x ++ begins.0) (sym (whole_is log wrote.meanings) ∙ wrote.front) ∙ append_assoc wrote.written wrote.missing begins.0;
         }
 
     writes_eagerly_told : TellsEagerly (canonical_script settings) MESSAGE_LIMIT settings log given old new → WritesEagerly MESSAGE_LIMIT settings log given old new
@@ -141,15 +141,15 @@ module _ (settings : Settings) where
         by : (b : Bool) → is_too_long settings (trace settings meanings) ≡ b → Answers MESSAGE_LIMIT settings log given (Ok summary) old new
         by true is =
             let same : Ok summary ≡ Err end_stop.OutputLimit =
-            answer ∙ ap (λ (b : Bool). if b then Err end_stop.OutputLimit else Ok (summary_of MESSAGE_LIMIT settings meanings)) is in
+            answer ∙ ap (λ (b : Bool). if b then Err end_stop.OutputLimit else Ok (summary_of MESSAGE_LIMIT settings log meanings)) is in
             absurd (cc same)
         by false is =
-            let same : Ok summary ≡ Ok (summary_of MESSAGE_LIMIT settings meanings) =
-            answer ∙ ap (λ (b : Bool). if b then Err end_stop.OutputLimit else Ok (summary_of MESSAGE_LIMIT settings meanings)) is in
-            let counted : summary ≡ summary_of MESSAGE_LIMIT settings meanings = cc same in
+            let same : Ok summary ≡ Ok (summary_of MESSAGE_LIMIT settings log meanings) =
+            answer ∙ ap (λ (b : Bool). if b then Err end_stop.OutputLimit else Ok (summary_of MESSAGE_LIMIT settings log meanings)) is in
+            let counted : summary ≡ summary_of MESSAGE_LIMIT settings log meanings = cc same in
             let fits = whole_when settings (flattened (meaning (messages MESSAGE_LIMIT (trace settings meanings)))) is in
             subst (λ s. Answers MESSAGE_LIMIT settings log given (Ok s) old new) (sym counted)
-            (answers_accepted MESSAGE_LIMIT settings log given meanings old new read fits.0 (wrote ∙ ap (λ x. old ++ x) (whole_said meanings ∙ fits.1)))
+            (answers_accepted MESSAGE_LIMIT settings log given meanings old new read fits.0 (wrote ∙ ap (λ x. old ++ x) (whole_said log meanings ∙ fits.1)))
 
     ends_over : EndsWith (canonical_script settings) (answers_canonical settings) MESSAGE_LIMIT settings log given (Err end_stop.OutputLimit) old new
         → Answers MESSAGE_LIMIT settings log given (Err OutputLimit) old new
@@ -157,12 +157,12 @@ module _ (settings : Settings) where
       where
         by : (b : Bool) → is_too_long settings (trace settings meanings) ≡ b → Answers MESSAGE_LIMIT settings log given (Err OutputLimit) old new
         by false is =
-            let same : Err end_stop.OutputLimit ≡ Ok (summary_of MESSAGE_LIMIT settings meanings) =
-            answer ∙ ap (λ (b : Bool). if b then Err end_stop.OutputLimit else Ok (summary_of MESSAGE_LIMIT settings meanings)) is in
+            let same : Err end_stop.OutputLimit ≡ Ok (summary_of MESSAGE_LIMIT settings log meanings) =
+            answer ∙ ap (λ (b : Bool). if b then Err end_stop.OutputLimit else Ok (summary_of MESSAGE_LIMIT settings log meanings)) is in
             absurd (cc same)
         by true is =
             answers_output_limit MESSAGE_LIMIT settings log given meanings old new read all (long_when settings (flattened (meaning (messages MESSAGE_LIMIT (trace settings meanings)))) is)
-            (wrote ∙ ap (λ x. old ++ x) (whole_is meanings))
+            (wrote ∙ ap (λ x. old ++ x) (whole_is log meanings))
 
 pub canonical_tells_the_same : CanonicalTellsTheSame
 canonical_tells_the_same settings log given (Ok summary) old new ends eager = ends_well settings log given old new summary ends

@@ -1,5 +1,5 @@
 -- A log that is read where what is due is written before each read.
-use Rattle.std.proofs.Common.{◌≡◌, ℕ, ◌+◌, ◌^◌, ◌≤◌, List, ◌++◌, length, take, drop, arith, ap, sym, ◌∙◌, inl, inr, Option, append_assoc, length-append, Result, Ok, Err}
+use Rattle.std.proofs.Common.{◌≡◌, ℕ, ◌+◌, ◌^◌, ◌≤◌, Bool, List, ◌++◌, length, take, drop, arith, ap, sym, ◌∙◌, inl, inr, Option, append_assoc, length-append, Result, Ok, Err}
 use Rattle.std.proofs.lemmas.List.{take-append-drop}
 use Rattle.can_log.specs.Scanning.{Standing}
 use Rattle.can_log.specs.WholeLog.{StandsAfter}
@@ -15,7 +15,7 @@ module _ {T : Type 0} (took rested broke : Took T) (stopped : Stopped T) (start 
   -- a piece of the log was not read to its end
   pub feeds_piece : (A : Type 0) (why : Fault) (m given : ℕ) (log : List ℕ) (first : List (Option Stamped)) (bytes piece : List ℕ) (stood standing : Standing) (now : T)
       → StandsAfter bytes first stood → bytes ++ piece ≡ take (length (bytes ++ piece)) log → given ≡ length (bytes ++ piece) → given ≤ m → length piece ≤ piece_length
-      → ReadsPiece took stopped start {A = A} first bytes piece (Err why) standing now → FeedsLog took rested broke stopped start {A = A} m log given (Err why) now
+      → ReadsPiece took stopped start {A = A} first bytes piece (Err why) standing now → FeedsLog took rested broke stopped start m log given (Err why) now
   feeds_piece A why m given log first bytes piece stood standing now stands front count within small = by why
     where
       stops : (why : Fault) → StopsPiece took stopped start first (bytes ++ piece) why now → StopsLog stopped start m log given why now
@@ -40,7 +40,7 @@ module _ {T : Type 0} (took rested broke : Took T) (stopped : Stopped T) (start 
             ),
           )
 
-      by : (why : Fault) → ReadsPiece took stopped start {A = A} first bytes piece (Err why) standing now → FeedsLog took rested broke stopped start {A = A} m log given (Err why) now
+      by : (why : Fault) → ReadsPiece took stopped start {A = A} first bytes piece (Err why) standing now → FeedsLog took rested broke stopped start m log given (Err why) now
       by (fault.BadLine line column) (meanings, place, taken) =
           (meanings, taken, inl (within, at_count (λ b. RefusesIn b meanings line column) (bytes ++ piece) log given front count place))
       by (fault.Oversize line announced) reads = stops (fault.Oversize line announced) reads
@@ -51,7 +51,7 @@ module _ {T : Type 0} (took rested broke : Took T) (stopped : Stopped T) (start 
       by fault.Write reads = absurd reads
 
   pub feeds_some_in_piece : (A : Type 0) (why : Fault) (first : List (Option Stamped)) (bytes piece : List ℕ) (standing : Standing) (now : T)
-      → ReadsPiece took stopped start {A = A} first bytes piece (Err why) standing now → FeedsSome took rested broke stopped start {A = A} (Err why) now
+      → ReadsPiece took stopped start {A = A} first bytes piece (Err why) standing now → FeedsSome took rested broke stopped start {A = Bool} (Err why) now
   feeds_some_in_piece A (fault.BadLine line column) first bytes piece standing now (meanings, place, taken) = (meanings, taken)
   feeds_some_in_piece A (fault.Oversize line announced) first bytes piece standing now (meanings, what, stops, halted) = (meanings, what, halted)
   feeds_some_in_piece A fault.Memory first bytes piece standing now (meanings, what, stops, halted) = (meanings, what, halted)
@@ -61,9 +61,9 @@ module _ {T : Type 0} (took rested broke : Took T) (stopped : Stopped T) (start 
   feeds_some_in_piece A fault.Write first bytes piece standing now reads = absurd reads
 
   -- the log was read to its end
-  pub feeds_to_end : {A : Type 0} (result : Result A Fault) (m given : ℕ) (log : List ℕ) (now : T) → length log ≤ m → given ≡ length log
+  pub feeds_to_end : (result : Result Bool Fault) (m given : ℕ) (log : List ℕ) (now : T) → length log ≤ m → given ≡ length log
       → ReadsEnd took stopped start log result now → FeedsLog took rested broke stopped start m log given result now
-  feeds_to_end (Ok value) m given log now short all (meanings, means, ended, taken) = (meanings, short, all, means, ended, taken)
+  feeds_to_end (Ok feed) m given log now short all (meanings, means, ended, taken, feed_is) = (meanings, short, all, means, ended, taken, feed_is)
   feeds_to_end (Err (fault.BadLine line column)) m given log now short all (meanings, place, taken) = (meanings, taken, inr (short, all, place))
   feeds_to_end (Err (fault.Oversize line announced)) m given log now short all (meanings, what, stops, halted) = (meanings, what, halted, inr (short, all, stops))
   feeds_to_end (Err fault.Memory) m given log now short all (meanings, what, stops, halted) = (meanings, what, halted, inr (short, all, stops))
@@ -72,9 +72,9 @@ module _ {T : Type 0} (took rested broke : Took T) (stopped : Stopped T) (start 
   feeds_to_end (Err fault.Read) m given log now short all ends = absurd ends
   feeds_to_end (Err fault.Write) m given log now short all ends = absurd ends
 
-  pub feeds_some_at_end : {A : Type 0} (result : Result A Fault) (log : List ℕ) (now : T) → length log ≤ 2 ^ 61
+  pub feeds_some_at_end : (result : Result Bool Fault) (log : List ℕ) (now : T) → length log ≤ 2 ^ 61
       → ReadsEnd took stopped start log result now → FeedsSome took rested broke stopped start result now
-  feeds_some_at_end (Ok value) log now short (meanings, means, ended, taken) = (let few = few_in_log log meanings means in (meanings, omega arith, taken))
+  feeds_some_at_end (Ok feed) log now short (meanings, means, ended, taken, feed_is) = (let few = few_in_log log meanings means in (meanings, omega arith, taken))
   feeds_some_at_end (Err (fault.BadLine line column)) log now short (meanings, place, taken) = (meanings, taken)
   feeds_some_at_end (Err (fault.Oversize line announced)) log now short (meanings, what, stops, halted) = (meanings, what, halted)
   feeds_some_at_end (Err fault.Memory) log now short (meanings, what, stops, halted) = (meanings, what, halted)

@@ -1,8 +1,11 @@
 -- What calls over devices answer, where the log lies in memory and the text is gathered there.
 use Rattle.std.proofs.Common.{◌≡◌, ◌≢◌, ℕ, ◌+◌, true, false, List, [], ◌++◌, Some, Result, Ok, Err, arith, refl, ap, sym, subst, ◌∙◌}
+use Rattle.std.proofs.lemmas.List.{append-nil}
 use Rattle.std.specs.Io.KnownBytes.{IsAtEnd}
 use Rattle.std.specs.Prelude.{MatchResult, IfErr}
+use Rattle.isotp_receive.specs.declared.TheConstants.{MESSAGE_LIMIT}
 use Rattle.uds_exchange.specs.Meaning.{ItemValue}
+use Rattle.trace_canon.specs.declared.comparing.Compared.{Compared}
 use Rattle.trace_canon.specs.declared.comparing.Comparison.{Comparison}
 use Rattle.trace_canon.specs.declared.fault.CompareFault.{CompareFault}
 use Rattle.trace_canon.specs.declared.fault.CompareFault.TheVariants.{Left, Right}
@@ -12,17 +15,21 @@ use Rattle.trace_io.specs.Stream.{Agrees, Gave, Took}
 use Rattle.trace_io.proofs.Promises.{agrees_with_told}
 use Rattle.trace_canon.specs.declared.fault.Fault.{Fault}
 use Rattle.trace_canon.specs.declared.fault.Fault.TheVariants.{BadLine, Oversize, LogLimit, OutputLimit, Read, Write, Memory}
-use Rattle.trace_canon.specs.declared.item_lines.Numbering.{Numbering}
+use Rattle.trace_canon.specs.declared.item_lines.ItemStyle.{ItemStyle}
+use Rattle.trace_canon.specs.declared.notation.Notation.{Notation}
 use Rattle.trace_canon.specs.declared.summary.Summary.{Summary}
 use Rattle.trace_canon.specs.Answers.{Answers, TellsOutcome, GivesMeaning}
 use Rattle.trace_canon.specs.ExplainAnswers.{AnswersExplain}
 use Rattle.trace_canon.specs.Failing.{FailedIf}
-use Rattle.trace_canon.specs.InMemory.{IsOfMemory, IsRefused, IsUnread, IsCanonicalLogOf, IsListOf, IsExplanationOf, MeansInMemory, ComparesInMemory, fault_in_memory}
+use Rattle.trace_canon.specs.InMemory.{IsOfMemory, IsRefused, IsUnread, IsCanonicalLogWith, IsListWith, IsPlacingWith, IsExplanationWith, IsFindingWith, MeansInMemory, ComparesInMemory, fault_in_memory}
 use Rattle.trace_canon.specs.ExplainText.{explain_text_of_lines}
+use Rattle.trace_canon.specs.Found.{Finds, IsUnheardFor, pairs_text}
 use Rattle.trace_canon.specs.Listed.{Lists}
 use Rattle.trace_canon.specs.ListText.{list_text}
+use Rattle.trace_canon.specs.MessageLines.{placing_script}
+use Rattle.trace_canon.specs.Outcome.{Accepted, IsOutcome}
 use Rattle.trace_canon.specs.Settings.{Settings}
-use Rattle.trace_canon.specs.Told.{IsUnreadFor}
+use Rattle.trace_canon.specs.Told.{IsUnreadFor, AnswersTold, answers_counts, told_of_lines, whole_of_lines}
 
 -- bytes of which none was read
 abbrev pub unread : List ℕ → BytesInMemory
@@ -65,49 +72,95 @@ refused limit settings log OutputLimit is not = (is, of_memory OutputLimit not)
 refused limit settings log Read is not = (is, of_memory Read not)
 refused limit settings log Memory is not = (is, of_memory Memory not)
 
--- So an answer over devices is one over memory: what it says of the text and of a fault is said of what was gathered.
-pub gathered : {V : Type 0} (text_in : V → List ℕ) (IsText : List ℕ → Type 0) (IsFault : Fault → Type 0) (answer : Result Summary Fault) (text : V) (result : Result V Fault)
-    → MatchResult answer (λ _. IsText (text_in text)) (λ fault. IsFault (fault_in_memory fault))
-    → MatchResult answer (λ _. result ≡ Ok text) (λ fault. result ≡ Err (fault_in_memory fault))
-    → MatchResult result (λ v. IsText (text_in v)) IsFault
-gathered {V = V} text_in IsText IsFault (Ok summary) text result is gives =
-    subst (λ (r : Result V Fault). MatchResult r (λ v. IsText (text_in v)) IsFault) (sym gives) is
-gathered {V = V} text_in IsText IsFault (Err fault) text result is gives =
-    subst (λ (r : Result V Fault). MatchResult r (λ v. IsText (text_in v)) IsFault) (sym gives) is
+-- So an answer over devices is one over memory: what it says of the text and the counts, and of a fault, is said of what was gathered.
+pub gathered : {C : Type 0} (IsCounted : C → Type 0) (IsFault : Fault → Type 0) (counted_with : Summary → C) (answer : Result Summary Fault) (result : Result C Fault)
+    → MatchResult answer (λ summary. IsCounted (counted_with summary)) (λ fault. IsFault (fault_in_memory fault))
+    → MatchResult answer (λ summary. result ≡ Ok (counted_with summary)) (λ fault. result ≡ Err (fault_in_memory fault))
+    → MatchResult result IsCounted IsFault
+gathered {C = C} IsCounted IsFault counted_with (Ok summary) result is gives =
+    subst (λ (r : Result C Fault). MatchResult r IsCounted IsFault) (sym gives) is
+gathered {C = C} IsCounted IsFault counted_with (Err fault) result is gives =
+    subst (λ (r : Result C Fault). MatchResult r IsCounted IsFault) (sym gives) is
+
+accepted_is : (limit : ℕ) (settings : Settings) (log : List ℕ) (accepted : Accepted) (text : List ℕ) (summary : Summary)
+    → IsOutcome limit settings log (Ok accepted) → text ≡ accepted.text → accepted.summary ≡ summary → IsCanonicalLogWith limit settings log text summary
+accepted_is limit settings log accepted text summary outcome text_is counted =
+    subst (λ (s : Summary). IsCanonicalLogWith limit settings log text s) counted
+    (subst (λ (t : List ℕ). IsCanonicalLogWith limit settings log t accepted.summary) (sym text_is) outcome)
 
 pub canonical_in_memory : (limit : ℕ) (settings : Settings) (log : List ℕ) (given : ℕ) (answer : Result Summary Fault) (old taken held : List ℕ)
     → old ≡ [] → taken ≡ held → FailedIf Read answer 0 0 → Answers limit settings log given answer old taken
-    → MatchResult answer (λ _. IsCanonicalLogOf limit settings log held) (λ fault. IsRefused limit settings log (fault_in_memory fault))
+    → MatchResult answer (λ summary. IsCanonicalLogWith limit settings log held summary) (λ fault. IsRefused limit settings log (fault_in_memory fault))
 canonical_in_memory limit settings log given (Ok summary) old taken held old_is held_is failed (accepted, outcome, counted, wrote) =
-    (accepted, outcome, sym held_is ∙ wrote ∙ ap (λ xs. xs ++ accepted.text) old_is)
+    accepted_is limit settings log accepted held summary outcome (sym held_is ∙ wrote ∙ ap (λ xs. xs ++ accepted.text) old_is) counted
 canonical_in_memory limit settings log given (Err fault) old taken held old_is held_is failed (is, left) =
     refused limit settings log fault is (λ read. reads_well failed (ap Err read))
 
-pub list_in_memory : (numbering : Numbering) (limit : ℕ) (settings : Settings) (log : List ℕ) (answer : Result Summary Fault) (old taken held : List ℕ)
-    → old ≡ [] → taken ≡ held → FailedIf Read answer 0 0 → Lists numbering limit settings log answer old taken
-    → MatchResult answer (λ _. IsListOf numbering limit settings log held) (λ fault. IsRefused limit settings log (fault_in_memory fault))
-list_in_memory numbering limit settings log (Ok summary) old taken held old_is held_is failed (items, is, wrote) =
-    (items, summary, is, sym held_is ∙ wrote ∙ ap (λ xs. xs ++ list_text numbering items) old_is)
-list_in_memory numbering limit settings log (Err fault) old taken held old_is held_is failed (is, left) =
+pub list_in_memory : (style : ItemStyle) (limit : ℕ) (settings : Settings) (log : List ℕ) (answer : Result Summary Fault) (old taken held : List ℕ)
+    → old ≡ [] → taken ≡ held → FailedIf Read answer 0 0 → Lists style limit settings log answer old taken
+    → MatchResult answer (λ summary. IsListWith style limit settings log held summary) (λ fault. IsRefused limit settings log (fault_in_memory fault))
+list_in_memory style limit settings log (Ok summary) old taken held old_is held_is failed (items, is, wrote) =
+    (items, is, sym held_is ∙ wrote ∙ ap (λ xs. xs ++ list_text style items) old_is)
+list_in_memory style limit settings log (Err fault) old taken held old_is held_is failed (is, left) =
     refused limit settings log fault is (λ read. reads_well failed (ap Err read))
 
-unread_for : (limit : ℕ) (settings : Settings) (log : List ℕ) (given : ℕ) (fault : Fault) (old taken : List ℕ)
-    → AnswersExplain limit settings log given (Err fault) old taken → IsUnreadFor false limit settings log (fault_in_memory fault)
-unread_for limit settings log given (BadLine line column) old taken (is, wrote) = is
-unread_for limit settings log given LogLimit old taken (is, wrote) = is
-unread_for limit settings log given Read old taken is = search
-unread_for limit settings log given Write old taken is = search
-unread_for limit settings log given Memory old taken is = search
-unread_for limit settings log given (Oversize line announced) old taken is = is
-unread_for limit settings log given OutputLimit old taken is = is
+unread_for : (notation : Notation) (limit : ℕ) (settings : Settings) (log : List ℕ) (given : ℕ) (fault : Fault) (old taken : List ℕ)
+    → AnswersExplain notation limit settings log given (Err fault) old taken → IsUnreadFor false limit settings log (fault_in_memory fault)
+unread_for notation limit settings log given (BadLine line column) old taken (is, wrote) = is
+unread_for notation limit settings log given LogLimit old taken (is, wrote) = is
+unread_for notation limit settings log given Read old taken is = search
+unread_for notation limit settings log given Write old taken is = search
+unread_for notation limit settings log given Memory old taken is = search
+unread_for notation limit settings log given (Oversize line announced) old taken is = is
+unread_for notation limit settings log given OutputLimit old taken is = is
 
-pub explanation_in_memory : (limit : ℕ) (settings : Settings) (log : List ℕ) (given : ℕ) (answer : Result Summary Fault) (old taken held : List ℕ)
-    → old ≡ [] → taken ≡ held → FailedIf Read answer 0 0 → AnswersExplain limit settings log given answer old taken
-    → MatchResult answer (λ _. IsExplanationOf limit settings log held) (λ fault. IsUnread limit settings log (fault_in_memory fault))
-explanation_in_memory limit settings log given (Ok summary) old taken held old_is held_is failed (meanings, is, counted, wrote) =
-    (meanings, is, sym held_is ∙ wrote ∙ ap (λ xs. xs ++ explain_text_of_lines limit settings meanings) old_is)
-explanation_in_memory limit settings log given (Err fault) old taken held old_is held_is failed is =
-    (unread_for limit settings log given fault old taken is, of_memory fault (λ read. reads_well failed (ap Err read)))
+told_unread : (notation : Notation) (limit : ℕ) (settings : Settings) (log : List ℕ) (given : ℕ) (fault : Fault) (old taken : List ℕ)
+    → AnswersTold (placing_script notation limit) answers_counts limit settings log given (Err fault) old taken → IsUnreadFor false limit settings log (fault_in_memory fault)
+told_unread notation limit settings log given (BadLine line column) old taken (is, wrote) = is
+told_unread notation limit settings log given LogLimit old taken (is, wrote) = is
+told_unread notation limit settings log given Read old taken is = search
+told_unread notation limit settings log given Write old taken is = search
+told_unread notation limit settings log given Memory old taken is = search
+told_unread notation limit settings log given (Oversize line announced) old taken (is, wrote) = is
+told_unread notation limit settings log given OutputLimit old taken (whole, meanings, read, counted, wrote) = absurd (cc counted)
+
+pub placing_in_memory : (notation : Notation) (limit : ℕ) (settings : Settings) (log : List ℕ) (given : ℕ) (answer : Result Summary Fault) (old taken held : List ℕ)
+    → old ≡ [] → taken ≡ held → FailedIf Read answer 0 0 → AnswersTold (placing_script notation limit) answers_counts limit settings log given answer old taken
+    → MatchResult answer (λ summary. IsPlacingWith notation limit settings log held summary) (λ fault. IsUnread limit settings log (fault_in_memory fault))
+placing_in_memory notation limit settings log given (Ok summary) old taken held old_is held_is failed (whole, meanings, read, counted, wrote) = (
+  meanings,
+  read,
+  cc counted,
+  sym held_is ∙ wrote ∙ ap (λ xs. xs ++ whole_of_lines (placing_script notation limit) limit settings log meanings) old_is
+      ∙ append-nil (told_of_lines (placing_script notation limit) settings meanings),
+)
+placing_in_memory notation limit settings log given (Err fault) old taken held old_is held_is failed is =
+    (told_unread notation limit settings log given fault old taken is, of_memory fault (λ read. reads_well failed (ap Err read)))
+
+pub explanation_in_memory : (notation : Notation) (limit : ℕ) (settings : Settings) (log : List ℕ) (given : ℕ) (answer : Result Summary Fault) (old taken held : List ℕ)
+    → old ≡ [] → taken ≡ held → FailedIf Read answer 0 0 → AnswersExplain notation limit settings log given answer old taken
+    → MatchResult answer (λ summary. IsExplanationWith notation limit settings log held summary) (λ fault. IsUnread limit settings log (fault_in_memory fault))
+explanation_in_memory notation limit settings log given (Ok summary) old taken held old_is held_is failed (meanings, is, counted, wrote) =
+    (meanings, is, counted, sym held_is ∙ wrote ∙ ap (λ xs. xs ++ explain_text_of_lines notation limit settings log meanings) old_is)
+explanation_in_memory notation limit settings log given (Err fault) old taken held old_is held_is failed is =
+    (unread_for notation limit settings log given fault old taken is, of_memory fault (λ read. reads_well failed (ap Err read)))
+
+heard_for : (settings : Settings) (log : List ℕ) (fault : Fault) → IsUnheardFor settings log fault → IsUnreadFor false MESSAGE_LIMIT settings log (fault_in_memory fault)
+heard_for settings log (BadLine line column) is = is
+heard_for settings log LogLimit is = is
+heard_for settings log Read is = search
+heard_for settings log Write is = search
+heard_for settings log Memory is = search
+heard_for settings log (Oversize line announced) is = is
+heard_for settings log OutputLimit is = is
+
+pub finding_in_memory : (notation : Notation) (settings : Settings) (log : List ℕ) (answer : Result Summary Fault) (old taken held : List ℕ)
+    → old ≡ [] → taken ≡ held → FailedIf Read answer 0 0 → Finds notation settings log answer old taken
+    → MatchResult answer (λ summary. IsFindingWith notation settings log held summary) (λ fault. IsUnread MESSAGE_LIMIT settings log (fault_in_memory fault))
+finding_in_memory notation settings log (Ok summary) old taken held old_is held_is failed (pairs, is, wrote) =
+    (pairs, is, sym held_is ∙ wrote ∙ ap (λ xs. xs ++ pairs_text notation pairs) old_is)
+finding_in_memory notation settings log (Err fault) old taken held old_is held_is failed (is, left) =
+    (heard_for settings log fault is, of_memory fault (λ read. reads_well failed (ap Err read)))
 
 pub meaning_in_memory : (limit : ℕ) (settings : Settings) (log : List ℕ) (answer : Result (List ItemValue) Fault) → FailedIf Read answer 0 0
     → IfErr answer (λ fault. fault ≢ Write) → GivesMeaning limit settings log answer → MeansInMemory limit settings log answer
@@ -115,10 +168,15 @@ meaning_in_memory limit settings log (Ok items) failed written is = is
 meaning_in_memory limit settings log (Err fault) failed written is =
     (is, record { no_read = λ read. reads_well failed (ap Err read); no_write = written })
 
-pub comparison_in_memory : (limit : ℕ) (settings : Settings) (one other : List ℕ) (answer : Result Comparison CompareFault)
+-- what is answered of two logs in memory: how they compare, or the fault
+abbrev pub comparison_in : Result Compared CompareFault → Result Comparison CompareFault
+comparison_in (Ok compared) = Ok compared.comparison
+comparison_in (Err fault) = Err fault
+
+pub comparison_in_memory : (limit : ℕ) (settings : Settings) (one other : List ℕ) (answer : Result Compared CompareFault)
     → FailedIf (Left Read) answer 0 0 → FailedIf (Right Read) answer 0 0 → IfErr answer (λ fault. fault_in fault ≢ Write)
-    → Compares limit settings one other answer → ComparesInMemory limit settings one other answer
-comparison_in_memory limit settings one other (Ok comparison) left right written is = is
+    → Compares limit settings one other answer → ComparesInMemory limit settings one other (comparison_in answer)
+comparison_in_memory limit settings one other (Ok compared) left right written is = (compared, is, refl)
 comparison_in_memory limit settings one other (Err (Left fault)) left right written is =
     (is, record { no_read = λ read. reads_well left (ap (λ f. Err (Left f)) read); no_write = written })
 comparison_in_memory limit settings one other (Err (Right fault)) left right written is =

@@ -24,7 +24,14 @@ pub mod WrittenFronts
 pub mod CanonicalWriting
 pub mod NumberedNames
 pub mod ItemLines
+pub mod JsonTexts
+pub mod ItemObjects
+pub mod ComparisonTexts
+pub mod TextWords
+pub mod EqualLists
 pub mod EventTexts
+pub mod RemarkObjects
+pub mod LastBytes
 pub mod Pieces
 pub mod Streams
 pub mod Feedings
@@ -39,12 +46,20 @@ pub mod Needs
 pub mod Carryings
 pub mod Tellings
 pub mod Answered
+pub mod SaidFrames
 pub mod CanonicalSayings
 pub mod CanonicalMachines
 pub mod CanonicalScripts
-pub mod ListScripts
 pub mod ExplainScripts
 pub mod MessagePlaces
+pub mod LenientRuns
 pub mod PlacingScripts
-pub mod MeaningScripts
+pub mod Collecting
+pub mod SessionScripts
+pub mod Printings
+pub mod WatchScripts
 pub mod InMemories
+pub mod Hearings
+pub mod PairLines
+-- what the crates above may cite
+pub mod Promises

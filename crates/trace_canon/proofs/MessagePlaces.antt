@@ -5,7 +5,6 @@ use Rattle.std.proofs.lemmas.Bool.{cases_Bool}
 use Rattle.can_log.specs.Frame.{FrameValue}
 use Rattle.direction.specs.Dir.{other_direction}
 use Rattle.direction.specs.declared.Dir.{Dir}
-use Rattle.direction.specs.declared.Dir.TheVariants.{Tester, Unit}
 use Rattle.isotp_pdu.specs.Layout.{Layout}
 use Rattle.isotp_pdu.specs.Layout as layout
 use Rattle.isotp_pdu.specs.Reading.{layout_of}
@@ -17,22 +16,13 @@ use Rattle.isotp_receive.specs.proving.Machine.{after, continued_by}
 use Rattle.isotp_receive.specs.StandingReception.{StandingReception, fit_of, stands}
 use Rattle.isotp_receive.specs.Trace.{Entry, role, own_role, other_role, same_direction}
 use Rattle.isotp_receive.specs.Verdict.{message, on_layout, on_fit, verdict}
-use Rattle.isotp_receive.proofs.OneMore.{one_more}
+use Rattle.isotp_receive.proofs.Promises.{one_more, same-self, other-apart, apart-flipped}
 use Rattle.trace_canon.specs.proving.Begun.{begun_after, began_at, IsBegunAt}
 use Rattle.trace_canon.specs.MessageLines.{place_of, starts, last_start, first_frame}
 use Rattle.trace_canon.specs.declared.begun.FramePlace.{FramePlace}
 
-same : (d : Dir) → same_direction d d ≡ true
-same Tester = refl
-same Unit = refl
-
 other : (d : Dir) → same_direction d (other_direction d) ≡ false
-other Tester = refl
-other Unit = refl
-
-another : (d : Dir) → same_direction (other_direction d) d ≡ false
-another Tester = refl
-another Unit = refl
+other d = apart-flipped (other_direction d) d (other-apart d)
 
 -- the last start with one more frame
 last_start_more : (d : Dir) (earlier : Entry) (T : List Entry) (e : Entry)
@@ -47,11 +37,11 @@ at place standing = option_map (λ (s : StandingReception). place) standing
 -- a consecutive frame of the direction, by how it fits
 on_fitting : (d : Dir) (standing : StandingReception) (micros sequence_number : ℕ) (bytes : List ℕ) (here place : FramePlace) (fit : Fit)
     → begun_after d d (on_fit d standing fit sequence_number bytes) here (Some place) ≡ at place (continued_by fit standing micros bytes)
-on_fitting d standing micros sequence_number bytes here place late = rw (same d) refl
-on_fitting d standing micros sequence_number bytes here place wrong_number = rw (same d) refl
-on_fitting d standing micros sequence_number bytes here place wrong_length = rw (same d) refl
-on_fitting d standing micros sequence_number bytes here place one_more_fits = rw (same d) refl
-on_fitting d standing micros sequence_number bytes here place last = rw (same d) refl
+on_fitting d standing micros sequence_number bytes here place late = rw (same-self d) refl
+on_fitting d standing micros sequence_number bytes here place wrong_number = rw (same-self d) refl
+on_fitting d standing micros sequence_number bytes here place wrong_length = rw (same-self d) refl
+on_fitting d standing micros sequence_number bytes here place one_more_fits = rw (same-self d) refl
+on_fitting d standing micros sequence_number bytes here place last = rw (same-self d) refl
 
 -- what ends of the other direction leaves where the own one began
 module _ (line micros : ℕ) (here : FramePlace) where
@@ -59,52 +49,52 @@ module _ (line micros : ℕ) (here : FramePlace) where
   own_next : (d : Dir) (own others : Option StandingReception) (place : FramePlace) (read : Result Layout PduFault)
       → begun_after d d (on_layout MESSAGE_LIMIT d own others micros read) here (at place own)
       ≡ at (if starts (own_role line micros read) then here else place) (after MESSAGE_LIMIT own micros (own_role line micros read))
-  own_next d own others place (Err fault) = rw (same d) refl
-  own_next d None others place (Ok (layout.single whole)) = rw (same d) refl
-  own_next d (Some standing) others place (Ok (layout.single whole)) = rw (same d) refl
+  own_next d own others place (Err fault) = rw (same-self d) refl
+  own_next d None others place (Ok (layout.single whole)) = rw (same-self d) refl
+  own_next d (Some standing) others place (Ok (layout.single whole)) = rw (same-self d) refl
   own_next d None others place (Ok (layout.first len rx_dl bytes)) =
-      elim (cases_Bool (nat_le len MESSAGE_LIMIT)) [ inl e ↦ rw (e, same d) refl | inr e ↦ rw (e, same d) refl ]
+      elim (cases_Bool (nat_le len MESSAGE_LIMIT)) [ inl e ↦ rw (e, same-self d) refl | inr e ↦ rw (e, same-self d) refl ]
   own_next d (Some standing) others place (Ok (layout.first len rx_dl bytes)) =
-      elim (cases_Bool (nat_le len MESSAGE_LIMIT)) [ inl e ↦ rw (e, same d) refl | inr e ↦ rw (e, same d) refl ]
-  own_next d None others place (Ok (layout.consecutive sequence_number can_dl bytes)) = rw (same d) refl
+      elim (cases_Bool (nat_le len MESSAGE_LIMIT)) [ inl e ↦ rw (e, same-self d) refl | inr e ↦ rw (e, same-self d) refl ]
+  own_next d None others place (Ok (layout.consecutive sequence_number can_dl bytes)) = rw (same-self d) refl
   own_next d (Some standing) others place (Ok (layout.consecutive sequence_number can_dl bytes)) =
       on_fitting d standing micros sequence_number bytes here place (fit_of standing micros sequence_number can_dl)
-  own_next d own None place (Ok (layout.flow_control Continue)) = rw (same d) refl
-  own_next d own (Some standing) place (Ok (layout.flow_control Continue)) = rw (same d) refl
-  own_next d own None place (Ok (layout.flow_control Wait)) = rw (same d) refl
-  own_next d own (Some standing) place (Ok (layout.flow_control Wait)) = rw (same d) refl
-  own_next d own None place (Ok (layout.flow_control Overflow)) = rw (same d) refl
+  own_next d own None place (Ok (layout.flow_control Continue)) = rw (same-self d) refl
+  own_next d own (Some standing) place (Ok (layout.flow_control Continue)) = rw (same-self d) refl
+  own_next d own None place (Ok (layout.flow_control Wait)) = rw (same-self d) refl
+  own_next d own (Some standing) place (Ok (layout.flow_control Wait)) = rw (same-self d) refl
+  own_next d own None place (Ok (layout.flow_control Overflow)) = rw (same-self d) refl
   own_next d own (Some standing) place (Ok (layout.flow_control Overflow)) =
-      elim (cases_Bool (standing.taken == 0)) [ inl e ↦ rw (e, same d, other d) refl | inr e ↦ rw (e, same d) refl ]
+      elim (cases_Bool (standing.taken == 0)) [ inl e ↦ rw (e, same-self d, other d) refl | inr e ↦ rw (e, same-self d) refl ]
 
   -- what a consecutive frame of the other direction does
   other_fitting : (d : Dir) (standing : StandingReception) (sequence_number : ℕ) (bytes : List ℕ) (begun : Option FramePlace) (fit : Fit)
       → begun_after (other_direction d) d (on_fit d standing fit sequence_number bytes) here begun ≡ begun
-  other_fitting d standing sequence_number bytes begun late = rw (another d) refl
-  other_fitting d standing sequence_number bytes begun wrong_number = rw (another d) refl
-  other_fitting d standing sequence_number bytes begun wrong_length = rw (another d) refl
-  other_fitting d standing sequence_number bytes begun one_more_fits = rw (another d) refl
-  other_fitting d standing sequence_number bytes begun last = rw (another d) refl
+  other_fitting d standing sequence_number bytes begun late = rw (other-apart d) refl
+  other_fitting d standing sequence_number bytes begun wrong_number = rw (other-apart d) refl
+  other_fitting d standing sequence_number bytes begun wrong_length = rw (other-apart d) refl
+  other_fitting d standing sequence_number bytes begun one_more_fits = rw (other-apart d) refl
+  other_fitting d standing sequence_number bytes begun last = rw (other-apart d) refl
 
   -- a frame of the other direction d
   other_next : (d : Dir) (own others : Option StandingReception) (place : FramePlace) (read : Result Layout PduFault)
       → begun_after (other_direction d) d (on_layout MESSAGE_LIMIT d own others micros read) here (at place others)
       ≡ at (if starts (other_role read) then here else place) (after MESSAGE_LIMIT others micros (other_role read))
-  other_next d own others place (Err fault) = rw (another d) refl
-  other_next d None others place (Ok (layout.single whole)) = rw (another d) refl
-  other_next d (Some standing) others place (Ok (layout.single whole)) = rw (another d) refl
-  other_next d None others place (Ok (layout.first len rx_dl bytes)) = rw (another d) refl
-  other_next d (Some standing) others place (Ok (layout.first len rx_dl bytes)) = rw (another d) refl
-  other_next d None others place (Ok (layout.consecutive sequence_number can_dl bytes)) = rw (another d) refl
+  other_next d own others place (Err fault) = rw (other-apart d) refl
+  other_next d None others place (Ok (layout.single whole)) = rw (other-apart d) refl
+  other_next d (Some standing) others place (Ok (layout.single whole)) = rw (other-apart d) refl
+  other_next d None others place (Ok (layout.first len rx_dl bytes)) = rw (other-apart d) refl
+  other_next d (Some standing) others place (Ok (layout.first len rx_dl bytes)) = rw (other-apart d) refl
+  other_next d None others place (Ok (layout.consecutive sequence_number can_dl bytes)) = rw (other-apart d) refl
   other_next d (Some standing) others place (Ok (layout.consecutive sequence_number can_dl bytes)) =
       other_fitting d standing sequence_number bytes (at place others) (fit_of standing micros sequence_number can_dl)
-  other_next d own None place (Ok (layout.flow_control Continue)) = rw (another d) refl
-  other_next d own (Some standing) place (Ok (layout.flow_control Continue)) = rw (another d) refl
-  other_next d own None place (Ok (layout.flow_control Wait)) = rw (another d) refl
-  other_next d own (Some standing) place (Ok (layout.flow_control Wait)) = rw (another d) refl
-  other_next d own None place (Ok (layout.flow_control Overflow)) = rw (another d) refl
+  other_next d own None place (Ok (layout.flow_control Continue)) = rw (other-apart d) refl
+  other_next d own (Some standing) place (Ok (layout.flow_control Continue)) = rw (other-apart d) refl
+  other_next d own None place (Ok (layout.flow_control Wait)) = rw (other-apart d) refl
+  other_next d own (Some standing) place (Ok (layout.flow_control Wait)) = rw (other-apart d) refl
+  other_next d own None place (Ok (layout.flow_control Overflow)) = rw (other-apart d) refl
   other_next d own (Some standing) place (Ok (layout.flow_control Overflow)) =
-      elim (cases_Bool (standing.taken == 0)) [ inl e ↦ rw (e, another d, same (other_direction d)) refl | inr e ↦ rw (e, another d) refl ]
+      elim (cases_Bool (standing.taken == 0)) [ inl e ↦ rw (e, other-apart d, same-self (other_direction d)) refl | inr e ↦ rw (e, other-apart d) refl ]
 
   -- where the message began that a frame completes: here, or where the reception did that stood
   first_found : (d : Dir) (own others : Option StandingReception) (place : FramePlace) (read : Result Layout PduFault) (whole : List ℕ)
@@ -112,7 +102,7 @@ module _ (line micros : ℕ) (here : FramePlace) where
       → began_at d (on_layout MESSAGE_LIMIT d own others micros read) here (at place own) ≡ (if starts (own_role line micros read) then here else place)
   first_found d own others place (Err fault) whole is = absurd (cc is)
   first_found d None others place (Ok (layout.single bytes)) whole is = refl
-  first_found d (Some standing) others place (Ok (layout.single bytes)) whole is = rw (same d) refl
+  first_found d (Some standing) others place (Ok (layout.single bytes)) whole is = rw (same-self d) refl
   first_found d own others place (Ok (layout.first len rx_dl bytes)) whole is =
       elim (cases_Bool (nat_le len MESSAGE_LIMIT)) [ inl e ↦ absurd (cc (rw e at is)) | inr e ↦ absurd (cc (rw e at is)) ]
   first_found d None others place (Ok (layout.consecutive sequence_number can_dl bytes)) whole is = absurd (cc is)
@@ -139,11 +129,11 @@ place_if false e x = refl
 
 role_own : (d : Dir) (line micros : ℕ) (frame : FrameValue) → role d (record { line = line; micros = micros; dir = d; frame = frame }) ≡ own_role line micros (layout_of frame)
 unfolding role
-role_own d line micros frame = rw (same d) refl
+role_own d line micros frame = rw (same-self d) refl
 
 role_other : (d : Dir) (line micros : ℕ) (frame : FrameValue) → role (other_direction d) (record { line = line; micros = micros; dir = d; frame = frame }) ≡ other_role (layout_of frame)
 unfolding role
-role_other d line micros frame = rw (another d) refl
+role_other d line micros frame = rw (other-apart d) refl
 
 -- what is kept of the sender's direction is right with one more frame
 pub own_begun : (d : Dir) (T : List Entry) (line micros : ℕ) (frame : FrameValue) (begun : Option FramePlace)

@@ -14,7 +14,7 @@ use Rattle.trace_canon.proofs.Receivings.{trace_next}
 use Rattle.trace_canon.proofs.StoppedRuns.{have_come}
 
 -- the lines up to the one on which the run stopped are the first of the log
-begins_with_lines : (settings : Settings) (log : List ℕ) (given : ℕ) (meanings : List (Option Stamped)) (what : Option Stamped)
+pub begins_with_lines : (settings : Settings) (log : List ℕ) (given : ℕ) (meanings : List (Option Stamped)) (what : Option Stamped)
     → StopsWithin settings.max_bytes log given meanings what → BeginsWithLines log (meanings ++ what ∷ [])
 begins_with_lines settings log given meanings what place =
     let come = have_come takes_all settings log given meanings what place (all_taken (meanings ++ what ∷ [])) in

@@ -1,8 +1,7 @@
--- What a machine that places messages keeps and says of one more frame; and what is never answered.
-use Rattle.std.proofs.Common.{◌≡◌, ◌≢◌, ℕ, List, [], ◌∷◌, ◌++◌, refl, ap, sym, subst, ◌∙◌, Result, Ok, Err, append-nil, append_assoc, codes, ◌/◌}
+-- What a machine that places messages keeps and says of one more frame.
+use Rattle.std.proofs.Common.{◌≡◌, ◌≢◌, ℕ, List, [], ◌∷◌, ◌++◌, refl, ap, sym, subst, ◌∙◌, append-nil, append_assoc, codes, ◌/◌}
 use Rattle.std.specs.Fmt.{decimal}
 use Rattle.can_log.specs.Digits as digits
-use Rattle.std.specs.Result.{IfErr}
 use Rattle.can_log.specs.Frame.{FrameValue}
 use Rattle.direction.specs.Dir.{Message}
 use Rattle.direction.specs.declared.Dir.{Dir}
@@ -13,16 +12,18 @@ use Rattle.isotp_receive.specs.Verdict.{EventValue, message, messages, verdict}
 use Rattle.uds_exchange.specs.Numbering.{step_after, number_after}
 use Rattle.uds_exchange.specs.declared.step.Step.{Step}
 use Rattle.trace_canon.specs.proving.Begun.{begun_after, began_at, IsBegunAt}
-use Rattle.trace_canon.specs.MessageLines.{place_of, stamp_text, extent_text, role_text, first_frame, numbered_line, message_line, delivered_line, placing_script}
-use Rattle.trace_canon.specs.Settings.{Settings}
+use Rattle.trace_canon.specs.MessageLines.{PlacedMessage, place_of, stamp_text, extent_text, role_text, first_frame, placed_line, placed_members, placed_text, placed_behind, delivered_line}
+use Rattle.trace_canon.specs.Json.{object_line}
 use Rattle.trace_canon.specs.Words.{bytes_text, direction_text}
-use Rattle.trace_canon.specs.Told.{AnswersTold, answers_counts}
 use Rattle.trace_canon.specs.declared.begun.Begun.{Begun}
 use Rattle.trace_canon.specs.declared.begun.FramePlace.{FramePlace}
-use Rattle.trace_canon.specs.declared.fault.Fault.{Fault}
-use Rattle.trace_canon.specs.declared.fault.Fault.TheVariants.{BadLine, Oversize, LogLimit, OutputLimit, Read, Write, Memory}
-use Rattle.trace_canon.specs.declared.summary.Summary.{Summary}
+use Rattle.trace_canon.specs.declared.notation.Notation.{Notation}
+use Rattle.trace_canon.proofs.JsonTexts.{line_is}
 use Rattle.trace_canon.proofs.MessagePlaces.{own_begun, other_begun, first_of}
+
+-- a message in these places
+abbrev pub placed_at : ℕ → Step → Message → FramePlace → FramePlace → PlacedMessage
+placed_at number step sent start end = record { number = number; step = step; sent = sent; start = start; end = end }
 
 abbrev pub here_at : ℕ → ℕ → FramePlace
 here_at line micros = record { line = line; micros = micros }
@@ -62,24 +63,32 @@ module _ (T : List Entry) (e : Entry) (line micros : ℕ) (d : Dir) (event : Eve
       )
 
   -- so what is said is the line of the message that it completes
-  pub line_said : (whole : List ℕ) (number : ℕ) (step : Step) (first : FramePlace) → event.verdict ≡ message whole
+  pub line_said : (notation kept : Notation) (whole : List ℕ) (number : ℕ) (step : Step) (first : FramePlace) → kept ≡ notation → event.verdict ≡ message whole
       → number ≡ number_after (messages MESSAGE_LIMIT T) (d, whole) → step ≡ step_after (messages MESSAGE_LIMIT T) (d, whole)
       → (d ≡ Tester → first ≡ began_at d event (here_at line micros) begun.tester) → (d ≡ Unit → first ≡ began_at d event (here_at line micros) begun.unit)
-      → numbered_line number step (d, whole) first (here_at line micros) ≡ delivered_line MESSAGE_LIMIT T e (verdict MESSAGE_LIMIT T e).verdict
-  line_said whole number step first completes number_is step_is of_tester of_unit =
+      → placed_text kept (placed_at number step (d, whole) first (here_at line micros)) ≡ delivered_line notation MESSAGE_LIMIT T e (verdict MESSAGE_LIMIT T e).verdict
+  line_said notation kept whole number step first same completes number_is step_is of_tester of_unit =
       let told : (verdict MESSAGE_LIMIT T e).verdict ≡ message whole = sym (ap (λ (x : EventValue). x.verdict) is) ∙ completes in
       let first_is : first ≡ place_of (first_frame T e) =
       first_by e.dir T e.line e.micros e.frame begun first whole tester unit told
       (λ side. of_tester (sym dir_is ∙ side) ∙ (λ i. began_at (sym dir_is i) (is i) (here_at (sym line_is i) (sym micros_is i)) begun.tester))
       (λ side. of_unit (sym dir_is ∙ side) ∙ (λ i. began_at (sym dir_is i) (is i) (here_at (sym line_is i) (sym micros_is i)) begun.unit)) in
-      let words : numbered_line number step (d, whole) first (here_at line micros)
-      ≡ numbered_line (number_after (messages MESSAGE_LIMIT T) (d, whole)) (step_after (messages MESSAGE_LIMIT T) (d, whole)) (d, whole) (place_of (first_frame T e)) (place_of e) =
-      (λ i. numbered_line (number_is i) (step_is i) (d, whole) (first_is i) (here_at (sym line_is i) (sym micros_is i))) in
-      words ∙ ap (λ x. message_line (messages MESSAGE_LIMIT T) (x, whole) (first_frame T e) e) (sym dir_is) ∙ ap (delivered_line MESSAGE_LIMIT T e) (sym told)
+      let words : placed_text kept (placed_at number step (d, whole) first (here_at line micros))
+      ≡ placed_text notation (placed_behind (messages MESSAGE_LIMIT T) (d, whole) (first_frame T e) e) =
+      (λ i. placed_text (same i) (placed_at (number_is i) (step_is i) (d, whole) (first_is i) (here_at (sym line_is i) (sym micros_is i)))) in
+      words ∙ ap (λ x. placed_text notation (placed_behind (messages MESSAGE_LIMIT T) (x, whole) (first_frame T e) e)) (sym dir_is)
+      ∙ ap (delivered_line notation MESSAGE_LIMIT T e) (sym told)
 
 -- pieces put together from the back, and from the front
 stamp_end : (seconds dot decimals rest : List ℕ) → seconds ++ (dot ++ (decimals ++ rest)) ≡ (seconds ++ dot ++ decimals) ++ rest
 stamp_end seconds dot decimals rest = simp append_assoc
+
+two_stamps : (front : List ℕ → List ℕ) (start end : ℕ) (between rest : List ℕ)
+    → front (decimal (start / 1000000) ++ (codes "." ++ (digits.decimal 6 start ++ (between ++ (decimal (end / 1000000) ++ (codes "." ++ (digits.decimal 6 end ++ rest)))))))
+    ≡ front (stamp_text start ++ (between ++ (stamp_text end ++ rest)))
+two_stamps front start end between rest =
+    ap (λ x. front (decimal (start / 1000000) ++ (codes "." ++ (digits.decimal 6 start ++ (between ++ x))))) (stamp_end (decimal (end / 1000000)) (codes ".") (digits.decimal 6 end) rest)
+    ∙ ap front (stamp_end (decimal (start / 1000000)) (codes ".") (digits.decimal 6 start) (between ++ (stamp_text end ++ rest)))
 
 extent_end : (a b c d e f g h rest : List ℕ) → a ++ (b ++ (c ++ (d ++ (e ++ (f ++ (g ++ (h ++ rest))))))) ≡ (a ++ b ++ c ++ d ++ e ++ f ++ g ++ h) ++ rest
 extent_end a b c d e f g h rest = simp append_assoc
@@ -95,38 +104,32 @@ line_parts_of number role side bytes start end =
     ++ (decimal (end.micros / 1000000) ++ (codes "." ++ (digits.decimal 6 end.micros ++ (codes " " ++ (bytes ++ (codes "\n" ++ [])))))))))))))))))))
 
 pub line_parts : (number : ℕ) (step : Step) (sent : Message) (start end : FramePlace) (role side : List ℕ) → role ≡ role_text step → side ≡ direction_text sent.0
-    → line_parts_of number role side (bytes_text sent.1) start end ≡ numbered_line number step sent start end
+    → line_parts_of number role side (bytes_text sent.1) start end ≡ placed_line (placed_at number step sent start end)
 line_parts number step sent start end role side role_is side_is =
     let last_words : List ℕ = codes " " ++ (bytes_text sent.1 ++ (codes "\n" ++ [])) in
     let front : List ℕ → List ℕ = λ x. codes " lines " ++ (decimal start.line ++ (codes " to " ++ (decimal end.line ++ (codes " at " ++ x)))) in
-    let late = stamp_end (decimal (end.micros / 1000000)) (codes ".") (digits.decimal 6 end.micros) last_words in
-    let early = stamp_end (decimal (start.micros / 1000000)) (codes ".") (digits.decimal 6 start.micros) (codes " to " ++ (stamp_text end.micros ++ last_words)) in
+    let stamps = two_stamps front start.micros end.micros (codes " to ") last_words in
     let extent = extent_end (codes " lines ") (decimal start.line) (codes " to ") (decimal end.line) (codes " at ") (stamp_text start.micros) (codes " to ") (stamp_text end.micros) last_words in
     let whole = line_end (decimal number) (codes " ") (role_text step) (codes " ") (direction_text sent.0) (extent_text start end) (codes " ") (bytes_text sent.1) (codes "\n") in
     rw (role_is, side_is)
     (ap (λ x. decimal number ++ (codes " " ++ (role_text step ++ (codes " " ++ (direction_text sent.0 ++ x)))))
-    (ap (λ x. front (decimal (start.micros / 1000000) ++ (codes "." ++ (digits.decimal 6 start.micros ++ (codes " to " ++ x))))) late ∙ ap front early ∙ extent) ∙ whole)
+    (stamps ∙ extent) ∙ whole)
 
--- an announced length refuses no log whose messages are placed
-pub never_oversize : (settings : Settings) (log : List ℕ) (given : ℕ) (result : Result Summary Fault) (old new : List ℕ)
-    → AnswersTold (placing_script MESSAGE_LIMIT) answers_counts MESSAGE_LIMIT settings log given result old new → IfErr result (λ why. (line announced : ℕ) → why ≢ Oversize line announced)
-never_oversize settings log given (Ok summary) old new answers = tt
-never_oversize settings log given (Err (Oversize line announced)) old new (never, wrote) = absurd never
-never_oversize settings log given (Err (BadLine line column)) old new answers = λ l a is. absurd (cc is)
-never_oversize settings log given (Err LogLimit) old new answers = λ l a is. absurd (cc is)
-never_oversize settings log given (Err OutputLimit) old new answers = λ l a is. absurd (cc is)
-never_oversize settings log given (Err Read) old new answers = λ l a is. absurd (cc is)
-never_oversize settings log given (Err Write) old new answers = λ l a is. absurd (cc is)
-never_oversize settings log given (Err Memory) old new answers = λ l a is. absurd (cc is)
+-- the parts of its object
+abbrev object_parts_of : ℕ → List ℕ → List ℕ → List ℕ → FramePlace → FramePlace → List ℕ
+object_parts_of number role side bytes start end =
+    codes "{\"item\":" ++ (decimal number ++ (codes ",\"role\":\"" ++ (role ++ (codes "\",\"direction\":\"" ++ (side
+    ++ (codes "\",\"first_line\":" ++ (decimal start.line ++ (codes ",\"last_line\":" ++ (decimal end.line
+    ++ (codes ",\"start\":\"" ++ (decimal (start.micros / 1000000) ++ (codes "." ++ (digits.decimal 6 start.micros
+    ++ (codes "\",\"end\":\"" ++ (decimal (end.micros / 1000000) ++ (codes "." ++ (digits.decimal 6 end.micros
+    ++ (codes "\",\"message\":\"" ++ (bytes ++ (codes "\"}\n" ++ []))))))))))))))))))))
 
--- nor does a canonical log that would be too long
-pub never_output_limit : (settings : Settings) (log : List ℕ) (given : ℕ) (result : Result Summary Fault) (old new : List ℕ)
-    → AnswersTold (placing_script MESSAGE_LIMIT) answers_counts MESSAGE_LIMIT settings log given result old new → IfErr result (λ why. why ≢ OutputLimit)
-never_output_limit settings log given (Ok summary) old new answers = tt
-never_output_limit settings log given (Err OutputLimit) old new (all, meanings, is, counted, wrote) = absurd (cc counted)
-never_output_limit settings log given (Err (Oversize line announced)) old new answers = λ is. absurd (cc is)
-never_output_limit settings log given (Err (BadLine line column)) old new answers = λ is. absurd (cc is)
-never_output_limit settings log given (Err LogLimit) old new answers = λ is. absurd (cc is)
-never_output_limit settings log given (Err Read) old new answers = λ is. absurd (cc is)
-never_output_limit settings log given (Err Write) old new answers = λ is. absurd (cc is)
-never_output_limit settings log given (Err Memory) old new answers = λ is. absurd (cc is)
+pub object_parts : (number : ℕ) (step : Step) (sent : Message) (start end : FramePlace) (role side : List ℕ) → role ≡ role_text step → side ≡ direction_text sent.0
+    → object_parts_of number role side (bytes_text sent.1) start end ≡ object_line (placed_members (placed_at number step sent start end))
+object_parts number step sent start end role side role_is side_is =
+    let message_words : List ℕ = codes "\",\"message\":\"" ++ (bytes_text sent.1 ++ (codes "\"}\n" ++ [])) in
+    let front : List ℕ → List ℕ = λ x.
+    codes "{\"item\":" ++ (decimal number ++ (codes ",\"role\":\"" ++ (role_text step ++ (codes "\",\"direction\":\"" ++ (direction_text sent.0
+    ++ (codes "\",\"first_line\":" ++ (decimal start.line ++ (codes ",\"last_line\":" ++ (decimal end.line ++ (codes ",\"start\":\"" ++ x)))))))))) in
+    rw (role_is, side_is)
+    (two_stamps front start.micros end.micros (codes "\",\"end\":\"") message_words ∙ sym (line_is (placed_members (placed_at number step sent start end))))

@@ -9,7 +9,7 @@ use Rattle.can_log.specs.declared.frame.Stamped.{Stamped}
 use Rattle.isotp_receive.specs.Trace.{Entry}
 use Rattle.isotp_receive.specs.Verdict.{EventValue, messages, told_message, verdict}
 use Rattle.isotp_receive.specs.declared.TheConstants.{MESSAGE_LIMIT}
-use Rattle.trace_io.proofs.Takings.{took_no_byte}
+use Rattle.trace_io.proofs.Promises.{took_no_byte}
 use Rattle.trace_io.specs.Written.{HasFront}
 use Rattle.trace_io.specs.declared.device.Target.{Ghosts}
 use Rattle.trace_canon.specs.declared.driver.Telling.{Telling}
@@ -180,7 +180,7 @@ told_grows script settings meanings more =
 pub front_of_whole : (script : Script) (limit : ℕ) (settings : Settings) (log : List ℕ) (given : ℕ) (why : Fault) (old new : List ℕ)
     → WritesFrontOfFrames script limit settings log given why old new → WritesFrontOfTold script limit settings log given why old new
 front_of_whole script limit settings log given why old new wrote =
-    let end = script.last (trace settings wrote.meanings) (summary_of limit settings wrote.meanings) in
+    let end = script.last (trace settings wrote.meanings) (summary_of limit settings log wrote.meanings) in
     record {
       meanings = wrote.meanings;
       read = wrote.read;
@@ -372,9 +372,9 @@ module _ {M W : Type 0} (stands : M → List Entry → M → Type 0) (scripts : 
   }
 
   -- what feeding left
-  abbrev pub Fed : Receiver M W × W → {A : Type 0} → ℕ → List ℕ → ℕ → Result A (Fault) → Receiver M W × W → Type 0
-  Fed start {A = A} m log given result now =
-      FeedsLog (TookLines ToldEvents) (TookLines (SettledEvents false)) (TookLines (SettledEvents true)) (StoppedOnLine StoppedTelling) start {A = A} m log given result now
+  abbrev pub Fed : Receiver M W × W → ℕ → List ℕ → ℕ → Result Bool Fault → Receiver M W × W → Type 0
+  Fed start m log given result now =
+      FeedsLog (TookLines ToldEvents) (TookLines (SettledEvents false)) (TookLines (SettledEvents true)) (StoppedOnLine StoppedTelling) start m log given result now
 
   abbrev pub FedSome : Receiver M W × W → {A : Type 0} → Result A (Fault) → Receiver M W × W → Type 0
   FedSome start {A = A} result now =
@@ -410,10 +410,10 @@ module _ {M W : Type 0} (stands : M → List Entry → M → Type 0) (scripts : 
 
     module _ (new : W) where
       -- what is answered on a fault of the lines
-      pub told_of_fault : {B : Type 0} (replies : Answering B) (A : Type 0) (log : List ℕ) (given : ℕ) (why : Fault) (answer : Fault) (m : ℕ) → m ≡ settings.max_bytes
-          → Fed start {A = A} m log given (Err why) now → GivesUp target why now.0.taker.page.failed now.0.taker.page.block now.1 answer new
+      pub told_of_fault : {B : Type 0} (replies : Answering B) (log : List ℕ) (given : ℕ) (why : Fault) (answer : Fault) (m : ℕ) → m ≡ settings.max_bytes
+          → Fed start m log given (Err why) now → GivesUp target why now.0.taker.page.failed now.0.taker.page.block now.1 answer new
           → AnswersTold (scripts start.0.taker.machine) replies MESSAGE_LIMIT settings log given (Err answer) (target.taken start.1) (target.taken new)
-      told_of_fault replies A log given why answer m is read up = by why (subst (λ k. Fed start {A = A} k log given (Err why) now) is read) up
+      told_of_fault replies log given why answer m is read up = by why (subst (λ k. Fed start k log given (Err why) now) is read) up
         where
           script : Script
           script = scripts start.0.taker.machine
@@ -510,7 +510,7 @@ module _ {M W : Type 0} (stands : M → List Entry → M → Type 0) (scripts : 
               let long = ap length more.1 ∙ length-append (text meanings) more.0 in
               told_some script MESSAGE_LIMIT settings log given (meanings ++ what ∷ []) (came meanings what line place) (omega arith)
 
-          by : (why : Fault) → Fed start {A = A} settings.max_bytes log given (Err why) now
+          by : (why : Fault) → Fed start settings.max_bytes log given (Err why) now
               → GivesUp target why now.0.taker.page.failed now.0.taker.page.block now.1 answer new → Answers answer
           by (fault.BadLine line column) (meanings, taken, inl (few, refuses)) up =
               bad line column given meanings (bad_in_front log given line column meanings refuses) few (omega arith) taken up
@@ -559,10 +559,10 @@ module _ {M W : Type 0} (stands : M → List Entry → M → Type 0) (scripts : 
 
       -- what is known of the devices then
       -- a frame of the log needed memory, where it was refused
-      pub needed : (A : Type 0) (log : List ℕ) (given : ℕ) (why : Fault) (answer : Fault) (m : ℕ) → m ≡ settings.max_bytes
-          → Fed start {A = A} m log given (Err why) now → GivesUp target why now.0.taker.page.failed now.0.taker.page.block now.1 answer new → answer ≡ fault.Memory
+      pub needed : (log : List ℕ) (given : ℕ) (why : Fault) (answer : Fault) (m : ℕ) → m ≡ settings.max_bytes
+          → Fed start m log given (Err why) now → GivesUp target why now.0.taker.page.failed now.0.taker.page.block now.1 answer new → answer ≡ fault.Memory
           → HasFrame (λ T e. IsKeptForMessage MESSAGE_LIMIT T e ⊎ needs start.0.taker.machine T e) settings log
-      needed A log given why answer m is read up refused = by why (subst (λ k. Fed start {A = A} k log given (Err why) now) is read) up
+      needed log given why answer m is read up refused = by why (subst (λ k. Fed start k log given (Err why) now) is read) up
         where
           Needed : Type 0
           Needed = HasFrame (λ T e. IsKeptForMessage MESSAGE_LIMIT T e ⊎ needs start.0.taker.machine T e) settings log
@@ -572,7 +572,7 @@ module _ {M W : Type 0} (stands : M → List Entry → M → Type 0) (scripts : 
           other name said apart (inl well) = absurd (apart (sym well.0 ∙ refused))
           other name said apart (inr wrong) = absurd (cc (wrong.0, refused))
 
-          by : (why : Fault) → Fed start {A = A} settings.max_bytes log given (Err why) now
+          by : (why : Fault) → Fed start settings.max_bytes log given (Err why) now
               → GivesUp target why now.0.taker.page.failed now.0.taker.page.block now.1 answer new → Needed
           by fault.Memory (meanings, what, line_stopped, place) up =
               let halted = halts meanings what fault.Memory line_stopped in
@@ -666,30 +666,30 @@ module _ {A W : Type 0} (target : Ghosts W) (script : Script) (answers : Answeri
   -- what it answers at the end of the log
   pub told_at_the_end : (log : List ℕ) (given : ℕ) (meanings : List (Option Stamped)) (result : Result A Fault) → length log ≤ settings.max_bytes
       → given ≡ length log → LogMeans log meanings → (script.strict ≡ true → AllByRecursion AnnouncesWithin (trace settings meanings))
-      → EndsTelling target script answers start settings meanings result new
+      → EndsTelling target script answers start settings log meanings result new
       → AnswersTold script answers MESSAGE_LIMIT settings log given result (target.taken start) (target.taken new)
   told_at_the_end log given meanings result short all means within = by result
     where
       each : EachPasses (passing script.strict MESSAGE_LIMIT settings) meanings
       each = all_pass script.strict settings meanings within
 
-      with_answer : (reply : Result A Stop) → EndsSaying target script answers start settings meanings reply new
+      with_answer : (reply : Result A Stop) → EndsSaying target script answers start settings log meanings reply new
           → EndsWith script answers MESSAGE_LIMIT settings log given reply (target.taken start) (target.taken new)
       with_answer reply ends = (
         omega (arith, all),
         meanings,
         read_to_end settings log script.strict meanings short means each,
         ends.0,
-        wrote_all target start new (whole_of_lines script MESSAGE_LIMIT settings meanings) ends.1,
+        wrote_all target start new (whole_of_lines script MESSAGE_LIMIT settings log meanings) ends.1,
       )
 
-      by : (result : Result A Fault) → EndsTelling target script answers start settings meanings result new
+      by : (result : Result A Fault) → EndsTelling target script answers start settings log meanings result new
           → AnswersTold script answers MESSAGE_LIMIT settings log given result (target.taken start) (target.taken new)
       by (Ok value) ends = with_answer (Ok value) ends
       by (Err fault.OutputLimit) ends = with_answer (Err end_stop.OutputLimit) ends
       by (Err fault.Write) ends =
-          let front = wrote_front target start new (whole_of_lines script MESSAGE_LIMIT settings meanings) true ends in (
-            writes_front_of_all (passing script.strict MESSAGE_LIMIT settings) (whole_of_lines script MESSAGE_LIMIT settings) settings log given meanings (target.taken start)
+          let front = wrote_front target start new (whole_of_lines script MESSAGE_LIMIT settings log meanings) true ends in (
+            writes_front_of_all (passing script.strict MESSAGE_LIMIT settings) (whole_of_lines script MESSAGE_LIMIT settings log) settings log given meanings (target.taken start)
                 (target.taken new) fault.Write front.front means (le-min (omega arith) short) refl each front.wrote (front.rest, front.parts),
             inr (record { meanings = meanings; read = read_to_end settings log script.strict meanings short means each; some = ends.spoke refl; front = front }),
           )
@@ -700,41 +700,41 @@ module _ {A W : Type 0} (target : Ghosts W) (script : Script) (answers : Answeri
       by (Err (fault.Oversize line announced)) ends = absurd ends
 
   -- what is carried to the end: writing failed exactly where that is answered
-  pub known_then : (meanings : List (Option Stamped)) (result : Result A Fault) → EndsTelling target script answers start settings meanings result new
+  pub known_then : (log : List ℕ) (meanings : List (Option Stamped)) (result : Result A Fault) → EndsTelling target script answers start settings log meanings result new
       → (said : List ℕ) × (failed : Bool) × Carries target start said failed [] new × FailedIf fault.Write result (target.failures start) (target.failures new)
       × (result ≢ Err fault.Read)
-  known_then meanings (Ok value) ends = (_, false, ends.1, record { risen = λ is. absurd (cc is); same = λ _. ends.1.failures }, λ is. absurd (cc is))
-  known_then meanings (Err fault.OutputLimit) ends = (_, false, ends.1, record { risen = λ is. absurd (cc is); same = λ _. ends.1.failures }, λ is. absurd (cc is))
-  known_then meanings (Err fault.Write) ends = (_, true, ends, record { risen = λ _. ends.failures; same = λ other. absurd (other refl) }, λ is. absurd (cc is))
-  known_then meanings (Err fault.Read) ends = absurd ends
-  known_then meanings (Err fault.Memory) ends = absurd ends
-  known_then meanings (Err fault.LogLimit) ends = absurd ends
-  known_then meanings (Err (fault.BadLine line column)) ends = absurd ends
-  known_then meanings (Err (fault.Oversize line announced)) ends = absurd ends
+  known_then log meanings (Ok value) ends = (_, false, ends.1, record { risen = λ is. absurd (cc is); same = λ _. ends.1.failures }, λ is. absurd (cc is))
+  known_then log meanings (Err fault.OutputLimit) ends = (_, false, ends.1, record { risen = λ is. absurd (cc is); same = λ _. ends.1.failures }, λ is. absurd (cc is))
+  known_then log meanings (Err fault.Write) ends = (_, true, ends, record { risen = λ _. ends.failures; same = λ other. absurd (other refl) }, λ is. absurd (cc is))
+  known_then log meanings (Err fault.Read) ends = absurd ends
+  known_then log meanings (Err fault.Memory) ends = absurd ends
+  known_then log meanings (Err fault.LogLimit) ends = absurd ends
+  known_then log meanings (Err (fault.BadLine line column)) ends = absurd ends
+  known_then log meanings (Err (fault.Oversize line announced)) ends = absurd ends
 
 -- memory is not refused at the end
-pub never_memory : {A W : Type 0} (target : Ghosts W) (script : Script) (answers : Answering A) (start new : W) (settings : Settings) (meanings : List (Option Stamped)) (result : Result A Fault)
-    → EndsTelling target script answers start settings meanings result new → result ≢ Err fault.Memory
-never_memory target script answers start new settings meanings (Ok value) ends = λ is. absurd (cc is)
-never_memory target script answers start new settings meanings (Err fault.Memory) ends = absurd ends
-never_memory target script answers start new settings meanings (Err fault.OutputLimit) ends = λ is. absurd (cc is)
-never_memory target script answers start new settings meanings (Err fault.Write) ends = λ is. absurd (cc is)
-never_memory target script answers start new settings meanings (Err fault.Read) ends = λ is. absurd (cc is)
-never_memory target script answers start new settings meanings (Err fault.LogLimit) ends = λ is. absurd (cc is)
-never_memory target script answers start new settings meanings (Err (fault.BadLine line column)) ends = λ is. absurd (cc is)
-never_memory target script answers start new settings meanings (Err (fault.Oversize line announced)) ends = λ is. absurd (cc is)
+pub never_memory : {A W : Type 0} (target : Ghosts W) (script : Script) (answers : Answering A) (start new : W) (settings : Settings) (log : List ℕ) (meanings : List (Option Stamped)) (result : Result A Fault)
+    → EndsTelling target script answers start settings log meanings result new → result ≢ Err fault.Memory
+never_memory target script answers start new settings log meanings (Ok value) ends = λ is. absurd (cc is)
+never_memory target script answers start new settings log meanings (Err fault.Memory) ends = absurd ends
+never_memory target script answers start new settings log meanings (Err fault.OutputLimit) ends = λ is. absurd (cc is)
+never_memory target script answers start new settings log meanings (Err fault.Write) ends = λ is. absurd (cc is)
+never_memory target script answers start new settings log meanings (Err fault.Read) ends = λ is. absurd (cc is)
+never_memory target script answers start new settings log meanings (Err fault.LogLimit) ends = λ is. absurd (cc is)
+never_memory target script answers start new settings log meanings (Err (fault.BadLine line column)) ends = λ is. absurd (cc is)
+never_memory target script answers start new settings log meanings (Err (fault.Oversize line announced)) ends = λ is. absurd (cc is)
 
 -- there is one reason to stop at the end
 pub only_stop : (why : Stop) → why ≡ end_stop.OutputLimit
 only_stop end_stop.OutputLimit = refl
 
 -- all that is said at the end was said
-module _ {M W : Type 0} (stands : List Entry → M → Type 0) (target : Ghosts W) (script : Script) (start : W) (settings : Settings) (meanings : List (Option Stamped)) where
+module _ {M W : Type 0} (stands : List Entry → M → Type 0) (target : Ghosts W) (script : Script) (start : W) (settings : Settings) (log : List ℕ) (meanings : List (Option Stamped)) where
   -- and settled so
   pub carried_at_the_end : (machine : M) (pending : Pending) (failed failed_then : Bool) (held held_then : List ℕ) (old mid new : W) (settled : Bool) (summary : Summary)
-      → Tells stands target script start (trace settings meanings) machine pending failed held old → summary ≡ summary_of MESSAGE_LIMIT settings meanings
+      → Tells stands target script start (trace settings meanings) machine pending failed held old → summary ≡ summary_of MESSAGE_LIMIT settings log meanings
       → Speaks target failed held old (script.last (trace settings meanings) summary) failed_then held_then mid → Settles target failed_then held_then mid settled new
-      → Carries target start (whole_of_lines script MESSAGE_LIMIT settings meanings) (not settled) [] new
+      → Carries target start (whole_of_lines script MESSAGE_LIMIT settings log meanings) (not settled) [] new
   carried_at_the_end machine pending failed failed_then held held_then old mid new settled summary so_far is speaks settles =
       let T = trace settings meanings in
       subst (λ s. Carries target start (told script.word T ++ script.last T s) (not settled) [] new) is

@@ -2,20 +2,26 @@
 use Rattle.std.specs.Prelude.{◌≡◌, ◌≢◌, ℕ, false, List, Option, Result, Ok, Err}
 use Rattle.can_log.specs.declared.frame.Stamped.{Stamped}
 use Rattle.uds_exchange.specs.Meaning.{ItemValue}
+use Rattle.trace_canon.specs.declared.comparing.Compared.{Compared}
 use Rattle.trace_canon.specs.declared.comparing.Comparison.{Comparison}
 use Rattle.trace_canon.specs.declared.fault.CompareFault.{CompareFault}
 use Rattle.trace_canon.specs.declared.fault.Fault.{Fault}
 use Rattle.trace_canon.specs.declared.fault.Fault.TheVariants.{BadLine, Oversize, LogLimit, OutputLimit, Read, Write, Memory}
-use Rattle.trace_canon.specs.declared.item_lines.Numbering.{Numbering}
+use Rattle.trace_canon.specs.declared.item_lines.ItemStyle.{ItemStyle}
+use Rattle.trace_canon.specs.declared.notation.Notation.{Notation}
 use Rattle.trace_canon.specs.declared.summary.Summary.{Summary}
 use Rattle.trace_canon.specs.Answers.{TellsOutcome, IsAcceptedWith, GivesMeaning}
 use Rattle.trace_canon.specs.Compared.{Compares, fault_in}
 use Rattle.trace_canon.specs.Explained.{IsReadAs}
 use Rattle.trace_canon.specs.ExplainText.{explain_text_of_lines}
+use Rattle.trace_canon.specs.Found.{IsFoundIn, pairs_text}
 use Rattle.trace_canon.specs.ListText.{list_text}
 use Rattle.trace_canon.specs.Outcome.{Accepted, IsOutcome}
+use Rattle.trace_canon.specs.MessageLines.{placing_script}
 use Rattle.trace_canon.specs.Settings.{Settings}
-use Rattle.trace_canon.specs.Told.{IsUnreadFor}
+use Rattle.trace_canon.specs.Summing.{summary_of}
+use Rattle.trace_canon.specs.Told.{IsUnreadFor, told_of_lines}
+use Rattle.uds_find.specs.declared.pair.CreditLine.{CreditLine}
 
 -- it is not that of a device
 pub record IsOfMemory (fault : Fault) : Type 0 where
@@ -30,19 +36,49 @@ IsRefused limit settings log fault = TellsOutcome limit settings log fault × Is
 abbrev pub IsUnread : ℕ → Settings → List ℕ → Fault → Type 0
 IsUnread limit settings log fault = IsUnreadFor false limit settings log fault × IsOfMemory fault
 
+-- the log is accepted, and these are its canonical log and its counts
+abbrev pub IsCanonicalLogWith : ℕ → Settings → List ℕ → List ℕ → Summary → Type 0
+IsCanonicalLogWith limit settings log text summary = IsOutcome limit settings log (Ok (record { text = text; summary = summary }))
+
+-- the log is accepted with these counts, and this is the list of its items in this style
+abbrev pub IsListWith : ItemStyle → ℕ → Settings → List ℕ → List ℕ → Summary → Type 0
+IsListWith style limit settings log text summary =
+    (items : List ItemValue) × IsAcceptedWith limit settings log items summary × (text ≡ list_text style items)
+
+-- the log can be read and has these counts, and this places its messages in this notation
+abbrev pub IsPlacingWith : Notation → ℕ → Settings → List ℕ → List ℕ → Summary → Type 0
+IsPlacingWith notation limit settings log text summary =
+    (meanings : List (Option Stamped)) × IsReadAs settings log (Ok meanings) × (summary ≡ summary_of limit settings log meanings)
+    × (text ≡ told_of_lines (placing_script notation limit) settings meanings)
+
+-- the log can be read and has these counts, and this explains it in this notation
+abbrev pub IsExplanationWith : Notation → ℕ → Settings → List ℕ → List ℕ → Summary → Type 0
+IsExplanationWith notation limit settings log text summary =
+    (meanings : List (Option Stamped)) × IsReadAs settings log (Ok meanings) × (summary ≡ summary_of limit settings log meanings)
+    × (text ≡ explain_text_of_lines notation limit settings log meanings)
+
+-- the log can be read and has these counts, and this has a line for each of its pairs
+abbrev pub IsFindingWith : Notation → Settings → List ℕ → List ℕ → Summary → Type 0
+IsFindingWith notation settings log text summary = (pairs : List CreditLine) × IsFoundIn settings log pairs summary × (text ≡ pairs_text notation pairs)
+
 -- the log is accepted, and this is its canonical log
 abbrev pub IsCanonicalLogOf : ℕ → Settings → List ℕ → List ℕ → Type 0
 IsCanonicalLogOf limit settings log text = (accepted : Accepted) × IsOutcome limit settings log (Ok accepted) × (text ≡ accepted.text)
 
--- the log is accepted, and this is the list of its items, with their numbers or without
-abbrev pub IsListOf : Numbering → ℕ → Settings → List ℕ → List ℕ → Type 0
-IsListOf numbering limit settings log text =
-    (items : List ItemValue) × (summary : Summary) × IsAcceptedWith limit settings log items summary × (text ≡ list_text numbering items)
+-- the log is accepted, and this is the list of its items in this style
+abbrev pub IsListOf : ItemStyle → ℕ → Settings → List ℕ → List ℕ → Type 0
+IsListOf style limit settings log text =
+    (items : List ItemValue) × (summary : Summary) × IsAcceptedWith limit settings log items summary × (text ≡ list_text style items)
 
--- the log can be read, and this explains it
-abbrev pub IsExplanationOf : ℕ → Settings → List ℕ → List ℕ → Type 0
-IsExplanationOf limit settings log text =
-    (meanings : List (Option Stamped)) × IsReadAs settings log (Ok meanings) × (text ≡ explain_text_of_lines limit settings meanings)
+-- the log can be read, and this places its messages in this notation
+abbrev pub IsPlacingOf : Notation → ℕ → Settings → List ℕ → List ℕ → Type 0
+IsPlacingOf notation limit settings log text =
+    (meanings : List (Option Stamped)) × IsReadAs settings log (Ok meanings) × (text ≡ told_of_lines (placing_script notation limit) settings meanings)
+
+-- the log can be read, and this explains it in this notation
+abbrev pub IsExplanationOf : Notation → ℕ → Settings → List ℕ → List ℕ → Type 0
+IsExplanationOf notation limit settings log text =
+    (meanings : List (Option Stamped)) × IsReadAs settings log (Ok meanings) × (text ≡ explain_text_of_lines notation limit settings log meanings)
 
 -- the meaning of the log, or why it has none
 abbrev pub MeansInMemory : ℕ → Settings → List ℕ → Result (List ItemValue) Fault → Type 0
@@ -51,7 +87,8 @@ MeansInMemory limit settings log (Err fault) = IsRefused limit settings log faul
 
 -- how the meanings of the two logs compare, or why one has none
 abbrev pub ComparesInMemory : ℕ → Settings → List ℕ → List ℕ → Result Comparison CompareFault → Type 0
-ComparesInMemory limit settings one other (Ok comparison) = Compares limit settings one other (Ok comparison)
+ComparesInMemory limit settings one other (Ok comparison) =
+    (compared : Compared) × Compares limit settings one other (Ok compared) × (compared.comparison ≡ comparison)
 ComparesInMemory limit settings one other (Err fault) = Compares limit settings one other (Err fault) × IsOfMemory (fault_in fault)
 
 -- the fault of a text that is gathered in memory, where a write fails for want of memory alone

@@ -1,4 +1,5 @@
--- The text that places the messages of a log: a line for each message that is delivered, in the order of delivery.
+-- The text that places the messages of a log: a line for each message that is delivered, in the order of delivery, in words or
+-- as an object of JSON.
 use Rattle.std.specs.Prelude.{ℕ, ◌/◌, Bool, true, false, List, [], ◌∷◌, ◌++◌, codes, if◌then◌else◌}
 use Rattle.std.specs.Fmt.{decimal}
 use Rattle.can_log.specs.Digits as digits
@@ -9,7 +10,11 @@ use Rattle.isotp_receive.specs.Verdict.{VerdictValue, message, began, stored, fl
 use Rattle.uds_exchange.specs.Numbering.{step_after, number_after}
 use Rattle.uds_exchange.specs.declared.step.Step.{Step}
 use Rattle.uds_exchange.specs.declared.step.Step.TheVariants as becomes
+use Rattle.trace_canon.specs.Json.{Members, nothing, member, object_line}
+use Rattle.trace_canon.specs.Json as json
 use Rattle.trace_canon.specs.declared.begun.FramePlace.{FramePlace}
+use Rattle.trace_canon.specs.declared.notation.Notation.{Notation}
+use Rattle.trace_canon.specs.declared.notation.Notation.TheVariants.{Text, Json}
 use Rattle.trace_canon.specs.Told.{Script}
 use Rattle.trace_canon.specs.Words.{bytes_text, direction_text}
 
@@ -34,16 +39,41 @@ abbrev pub extent_text : FramePlace → FramePlace → List ℕ
 extent_text start end =
     codes " lines " ++ decimal start.line ++ codes " to " ++ decimal end.line ++ codes " at " ++ stamp_text start.micros ++ codes " to " ++ stamp_text end.micros
 
--- the line of a message: the number of its item, what it is to that, who sent it, where it stands, and its bytes
-abbrev pub numbered_line : ℕ → Step → Message → FramePlace → FramePlace → List ℕ
-numbered_line number step sent start end =
-    decimal number ++ codes " " ++ role_text step ++ codes " " ++ direction_text sent.0
-    ++ extent_text start end ++ codes " " ++ bytes_text sent.1 ++ codes "\n"
+-- A message that is delivered, with its place.
+pub record PlacedMessage : Type 0 where
+  -- the number of its item, and what it is to that
+  pub number : ℕ
+  pub step : Step
+  -- who sent it, and its bytes
+  pub sent : Message
+  -- where its first frame stands, and its last one
+  pub start : FramePlace
+  pub end : FramePlace
 
--- of one behind the messages M, from its first frame to its last one
-abbrev pub message_line : List Message → Message → Entry → Entry → List ℕ
-message_line M sent start end =
-    numbered_line (number_after M sent) (step_after M sent) sent (place_of start) (place_of end)
+-- its line in words
+abbrev pub placed_line : PlacedMessage → List ℕ
+placed_line placed =
+    decimal placed.number ++ codes " " ++ role_text placed.step ++ codes " " ++ direction_text placed.sent.0
+    ++ extent_text placed.start placed.end ++ codes " " ++ bytes_text placed.sent.1 ++ codes "\n"
+
+-- the same as JSON
+abbrev pub placed_members : PlacedMessage → Members
+placed_members placed =
+    member (codes "item") (json.number placed.number) (member (codes "role") (json.string (role_text placed.step))
+    (member (codes "direction") (json.string (direction_text placed.sent.0))
+    (member (codes "first_line") (json.number placed.start.line) (member (codes "last_line") (json.number placed.end.line)
+    (member (codes "start") (json.string (stamp_text placed.start.micros)) (member (codes "end") (json.string (stamp_text placed.end.micros))
+    (member (codes "message") (json.string (bytes_text placed.sent.1)) nothing)))))))
+
+-- its line in a notation
+abbrev pub placed_text : Notation → PlacedMessage → List ℕ
+placed_text Text placed = placed_line placed
+placed_text Json placed = object_line (placed_members placed)
+
+-- a message behind the messages M, from its first frame to its last one
+abbrev pub placed_behind : List Message → Message → Entry → Entry → PlacedMessage
+placed_behind M sent start end =
+    record { number = number_after M sent; step = step_after M sent; sent = sent; start = place_of start; end = place_of end }
 
 -- a frame of this role starts a message: a single frame or a first frame
 abbrev pub starts : FrameRole → Bool
@@ -64,13 +94,14 @@ abbrev pub first_frame : List Entry → Entry → Entry
 first_frame T e = last_start e.dir e (T ++ e ∷ [])
 
 -- the line of the message that the frame e completes after the frames T, where it does this
-abbrev pub delivered_line : ℕ → List Entry → Entry → VerdictValue → List ℕ
-delivered_line limit T e (message bytes) = message_line (messages limit T) (e.dir, bytes) (first_frame T e) e
-delivered_line limit T e began = []
-delivered_line limit T e stored = []
-delivered_line limit T e flowed = []
-delivered_line limit T e (dropped reason) = []
+abbrev pub delivered_line : Notation → ℕ → List Entry → Entry → VerdictValue → List ℕ
+delivered_line notation limit T e (message bytes) = placed_text notation (placed_behind (messages limit T) (e.dir, bytes) (first_frame T e) e)
+delivered_line notation limit T e began = []
+delivered_line notation limit T e stored = []
+delivered_line notation limit T e flowed = []
+delivered_line notation limit T e (dropped reason) = []
 
 -- of each frame the line of the message that it completes, and nothing at the end
-abbrev pub placing_script : ℕ → Script
-placing_script limit = record { strict = false; word = λ T e. delivered_line limit T e (verdict limit T e).verdict; last = λ T summary. [] }
+abbrev pub placing_script : Notation → ℕ → Script
+placing_script notation limit =
+    record { strict = false; word = λ T e. delivered_line notation limit T e (verdict limit T e).verdict; last = λ T summary. [] }

@@ -6,6 +6,7 @@ use Rattle.isotp_pdu.specs.Reading.{layout_of}
 use Rattle.isotp_receive.specs.Growth.{MayBeRefused}
 use Rattle.isotp_receive.specs.Trace.{Entry}
 use Rattle.isotp_receive.specs.Verdict.{message, messages, verdict}
+use Rattle.uds_exchange.specs.Decider.{IsKept}
 use Rattle.uds_exchange.specs.Orderer.{IsHeld}
 use Rattle.trace_canon.specs.Settings.{Settings}
 use Rattle.trace_canon.specs.Trace.{trace}
@@ -30,6 +31,10 @@ pub record HasFrame (Holds : List Entry → Entry → Type 0) (settings : Settin
 abbrev pub CompletesHeld : ℕ → List Entry → Entry → Type 0
 CompletesHeld limit T e = (bytes : List ℕ) × ((verdict limit T e).verdict ≡ message bytes) × IsHeld (messages limit T) (e.dir, bytes)
 
+-- The frame completes a message that is kept: a request, or a stray behind a request that waits for its answer.
+abbrev pub CompletesKept : ℕ → List Entry → Entry → Type 0
+CompletesKept limit T e = (bytes : List ℕ) × ((verdict limit T e).verdict ≡ message bytes) × IsKept (messages limit T) (e.dir, bytes)
+
 -- The bytes of the frame are kept for a message of several frames: it is a first frame that begins a reception, or a
 -- consecutive frame that is stored or completes a message.
 abbrev pub IsKeptForMessage : ℕ → List Entry → Entry → Type 0
@@ -42,3 +47,7 @@ NeedsMemoryToReceive limit = HasFrame (IsKeptForMessage limit)
 -- or one that completes a message which is held
 abbrev pub NeedsMemoryToOrder : ℕ → Settings → List ℕ → Type 0
 NeedsMemoryToOrder limit = HasFrame (λ T e. IsKeptForMessage limit T e ⊎ CompletesHeld limit T e)
+
+-- or one that completes a message which is kept
+abbrev pub NeedsMemoryToDecide : ℕ → Settings → List ℕ → Type 0
+NeedsMemoryToDecide limit = HasFrame (λ T e. IsKeptForMessage limit T e ⊎ CompletesKept limit T e)

@@ -44,9 +44,9 @@ abbrev pub told_of_lines : Script → Settings → List (Option Stamped) → Lis
 told_of_lines script settings meanings = told script.word (trace settings meanings)
 
 -- and all that is told of it
-abbrev pub whole_of_lines : Script → ℕ → Settings → List (Option Stamped) → List ℕ
-whole_of_lines script limit settings meanings =
-    told script.word (trace settings meanings) ++ script.last (trace settings meanings) (summary_of limit settings meanings)
+abbrev pub whole_of_lines : Script → ℕ → Settings → List ℕ → List (Option Stamped) → List ℕ
+whole_of_lines script limit settings log meanings =
+    told script.word (trace settings meanings) ++ script.last (trace settings meanings) (summary_of limit settings log meanings)
 
 -- the test on which a line stops a run
 abbrev pub passing : Bool → ℕ → Settings → Option Stamped → Bool
@@ -84,7 +84,7 @@ WritesFrontOfFrames script limit settings = WritesFrontOfRead (passing script.st
 
 -- a front of all that is told of them was
 abbrev pub WritesFrontOfTold : Script → ℕ → Settings → List ℕ → ℕ → Fault → List ℕ → List ℕ → Type 0
-WritesFrontOfTold script limit settings = WritesFrontOfRead (passing script.strict limit settings) (whole_of_lines script limit settings) settings
+WritesFrontOfTold script limit settings log = WritesFrontOfRead (passing script.strict limit settings) (whole_of_lines script limit settings log) settings log
 
 -- what may be answered at the end of a trace with these counts
 abbrev pub Answering : Type 0 → Type 1
@@ -98,7 +98,7 @@ answers_counts T summary result = result ≡ Ok summary
 abbrev pub EndsWith : {A : Type 0} → Script → Answering A → ℕ → Settings → List ℕ → ℕ → Result A Stop → List ℕ → List ℕ → Type 0
 EndsWith script answers limit settings log given result old new =
     (length log ≤ given) × (meanings : List (Option Stamped)) × IsReadToEnd script.strict limit settings log meanings
-    × answers (trace settings meanings) (summary_of limit settings meanings) result × (new ≡ old ++ whole_of_lines script limit settings meanings)
+    × answers (trace settings meanings) (summary_of limit settings log meanings) result × (new ≡ old ++ whole_of_lines script limit settings log meanings)
 
 -- What is told of the lines that were read before a write failed is something.
 pub record HasToldSome (script : Script) (limit : ℕ) (settings : Settings) (log : List ℕ) (given : ℕ) : Type 0 where
@@ -110,8 +110,8 @@ pub record HasToldSome (script : Script) (limit : ℕ) (settings : Settings) (lo
 pub record EndsUnwritten (script : Script) (limit : ℕ) (settings : Settings) (log : List ℕ) (old new : List ℕ) : Type 0 where
   pub meanings : List (Option Stamped)
   pub read : IsReadToEnd script.strict limit settings log meanings
-  pub some : 0 < length (whole_of_lines script limit settings meanings)
-  pub front : HasFront old (whole_of_lines script limit settings meanings) new
+  pub some : 0 < length (whole_of_lines script limit settings log meanings)
+  pub front : HasFront old (whole_of_lines script limit settings log meanings) new
 
 -- writing failed: while the log was read, where something was told of it, or at its end
 abbrev pub FailsToTell : Script → ℕ → Settings → List ℕ → ℕ → List ℕ → List ℕ → Type 0

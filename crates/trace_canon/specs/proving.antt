@@ -6,8 +6,11 @@ pub mod Receiving
 pub mod Announcing
 pub mod LeftOut
 pub mod Parts
+pub mod Spelling
 pub mod Writing
 pub mod Measuring
 pub mod Saying
 pub mod Carrying
 pub mod Drains
+pub mod Watching
+pub mod Hearing

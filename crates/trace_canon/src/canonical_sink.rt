@@ -1,24 +1,32 @@
 //! Canonical lines, said as soon as the place of their messages is known.
-ghost use Rattle.std.specs.Prelude.{◌≡◌, ◌^◌, List, [], ◌∷◌, ◌++◌, OnOk, OnErr};
+ghost use Rattle.std.specs.Prelude.{◌≡◌, ◌≤◌, ◌^◌, ℕ, List, [], ◌∷◌, ◌++◌, length, true, false, OnOk, OnErr};
 ghost use Rattle.can_log.specs.Canonical.{canonical_line};
+ghost use Rattle.can_log.specs.declared.frame.Id.TheVariants.{Std, Ext};
 ghost use Rattle.direction.specs.Dir.{Message};
+ghost use Rattle.direction.specs.declared.Dir.{Dir as DirValue};
 ghost use Rattle.isotp_receive.specs.declared.TheConstants.{MESSAGE_LIMIT};
 ghost use Rattle.isotp_segment.specs.CanonicalFrames.{canonical_frames};
 ghost use Rattle.isotp_segment.specs.Timed.{all_frames};
 ghost use Rattle.uds_exchange.specs.Order.{held as held_after};
 ghost use Rattle.uds_exchange.specs.Orderer.{IsHeld, stands_after};
-ghost use Rattle.trace_canon.specs.proving.Saying.{SaysDue};
-ghost use Rattle.trace_canon.specs.proving.Writing.{text_from, place_after};
+ghost use Rattle.trace_canon.specs.Settings.{id_of};
+ghost use Rattle.trace_canon.specs.proving.Saying.{SaysDue, SaysFront};
+ghost use Rattle.trace_canon.specs.proving.Writing.{filled_up, text_from, place_after};
 
 use crate::config::Config;
 use crate::length::has_frames;
 use crate::place::Place;
 use crate::text_sink::TextSink;
-use can_log::{Id, LineClock, base_line, extended_line, line_length};
+use can_log::{
+    BASE_LINE, Id, LONGEST_LINE, LineClock, base_line, change_line, extended_line, line_length,
+};
 use direction::Dir;
 use isotp_segment::Segments;
 use std::alloc::AllocError;
 use uds_exchange::{MessageSink, OrderFault, Orderer};
+
+/// Eight bytes that stand for data that is still to come.
+const BLANK: [u8; 8] = [0; 8];
 
 /// No fault: a text sink takes all that is said.
 #[derive(Clone, Copy, Debug)]
@@ -64,24 +72,55 @@ fn say_message<S: TextSink>(
     ensures place { place.new ≡ place_after config.now place.old (canonical_frames MESSAGE_LIMIT dir message.now) }
 {
     if has_frames(message) {
-        say_frames(out, config, place, Segments::new(dir, message));
+        say_frames(out, config, place, dir, Segments::new(dir, message));
     }
 }
 
-/// Says the lines of the frames, up to the first that does not fit.
-fn say_frames<S: TextSink>(out: &mut S, config: &Config, place: &mut Place, frames: Segments<'_>)
+/// Says the lines of the frames of a message, up to the first that does not fit. Behind the continue frame of the
+/// other side stand the full frames of the sender.
+fn say_frames<S: TextSink>(
+    out: &mut S,
+    config: &Config,
+    place: &mut Place,
+    dir: Dir,
+    frames: Segments<'_>,
+)
     ensures says { S.says out.old (text_from config.now place.old frames.entry) out.new }
     ensures place { place.new ≡ place_after config.now place.old frames.entry }
 {
-    'frames: for (sender, frame) in frames {
-        let id = config.id_of(sender);
-        let length = line_length(id);
-        if !place.admits(length) {
+    let mut rest = frames;
+    'frames: while let Some(next) = rest.next() {
+        let sender = next.0;
+        let frame = next.1;
+        if !say_frame(out, config, place, sender, &frame) {
             return;
         }
-        say_line(out, place.clock(), id, &frame);
-        place.pass(length);
+        if sender != dir {
+            rest = say_full_frames(out, config, place, dir, rest);
+        }
     }
+}
+
+/// Says the line of a frame, if it fits.
+#[inline(always)]
+fn say_frame<S: TextSink>(
+    out: &mut S,
+    config: &Config,
+    place: &mut Place,
+    sender: Dir,
+    frame: &[u8; 8],
+) -> bool
+    ensures says { (later : List (DirValue × List ℕ)) → SaysFront S.says config.now place.old out.old ((sender, frame.now) ∷ later) place.new out.new later }
+    ensures over { result ≡ false → place.new ≡ filled_up place.old }
+{
+    let id = config.id_of(sender);
+    let length = line_length(id);
+    if !place.admits(length) {
+        return false;
+    }
+    say_line(out, place.clock(), id, frame);
+    place.pass(length);
+    true
 }
 
 /// Says the canonical line of a frame.
@@ -93,6 +132,76 @@ fn say_line<S: TextSink>(out: &mut S, clock: &LineClock, id: Id, frame: &[u8; 8]
         Id::Std(number) => out.put(&base_line(clock, number, frame)),
         Id::Ext(number) => out.put(&extended_line(clock, number, frame)),
     }
+}
+
+/// Says the lines of the full consecutive frames of a sender that come next, and answers the frames that are left.
+#[inline(always)]
+fn say_full_frames<'a, S: TextSink>(
+    out: &mut S,
+    config: &Config,
+    place: &mut Place,
+    sender: Dir,
+    frames: Segments<'a>,
+) -> Segments<'a>
+    ensures says { SaysFront S.says config.now place.old out.old frames.entry place.new out.new result }
+    ensures fewer { length result ≤ length frames.entry }
+{
+    match config.id_of(sender) {
+        Id::Std(number) => {
+            let line = blank_base_line(number);
+            say_stretch(out, config, place, sender, line, frames)
+        }
+        Id::Ext(number) => {
+            let line = blank_extended_line(number);
+            say_stretch(out, config, place, sender, line, frames)
+        }
+    }
+}
+
+/// A line of a base identifier whose time and data are still to come. It is made by a call, so that its parts lie
+/// together in memory.
+#[inline(never)]
+fn blank_base_line(number: u16) -> [u8; BASE_LINE]
+    ensures { result ≡ canonical_line 0 (Std number) BLANK }
+{
+    base_line(&LineClock::at(0), number, &BLANK)
+}
+
+/// The same of an extended identifier.
+#[inline(never)]
+fn blank_extended_line(number: u32) -> [u8; LONGEST_LINE]
+    ensures { result ≡ canonical_line 0 (Ext number) BLANK }
+{
+    extended_line(&LineClock::at(0), number, &BLANK)
+}
+
+/// The same by a line of the sender, in which time and data are changed from frame to frame. The frames are moved in
+/// and out, so that none of their parts has to lie in memory meanwhile.
+#[inline(always)]
+fn say_stretch<'a, S: TextSink, const LENGTH: usize>(
+    out: &mut S,
+    config: &Config,
+    place: &mut Place,
+    sender: Dir,
+    blank: [u8; LENGTH],
+    frames: Segments<'a>,
+) -> Segments<'a>
+    requires line { blank ≡ canonical_line 0 (id_of config.now sender) BLANK }
+    requires long { BASE_LINE ≤ LENGTH }
+    ensures says { SaysFront S.says config.now place.old out.old frames.entry place.new out.new result }
+    ensures fewer { length result ≤ length frames.entry }
+{
+    let mut line = blank;
+    let mut rest = frames;
+    'stretch: while let Some(frame) = rest.next_full(sender) {
+        if !place.admits(LENGTH) {
+            return rest;
+        }
+        change_line(&mut line, place.clock(), &frame);
+        out.put(&line);
+        place.pass(LENGTH);
+    }
+    rest
 }
 
 /// Takes one more message, and says the lines of all whose place is now known.

@@ -13,6 +13,7 @@ ghost use Rattle.trace_canon.specs.proving.Carrying.{Begins, Carries, Speaks, Te
 ghost use Rattle.trace_canon.specs.proving.LeftOut.{CountsRemoved};
 ghost use Rattle.trace_canon.specs.proving.Receiving.{Receives};
 ghost use Rattle.trace_canon.specs.Settings.{Settings};
+ghost use Rattle.trace_canon.specs.Summing.{ends_in_line_feed};
 ghost use Rattle.trace_canon.specs.Told.{Ran};
 ghost use Rattle.trace_canon.specs.Trace.{trace};
 
@@ -49,7 +50,7 @@ pub fn run<M: Machine + Drop, R: Source, W: Target>(
     let pair = Pair::new(alloc);
     let mut receiver = Receiver::start(config, pair, Telling::start(machine));
     match feed_lines(config.max_bytes(), reader, &mut receiver, writer) {
-        Ok(()) => finish(receiver, writer),
+        Ok(ended) => finish(receiver, ended, writer),
         Err(fault) => Err(give_up(fault, writer, &mut receiver.taker.page)),
     }
 }
@@ -255,16 +256,17 @@ fn tell_end<M: Machine, W: Target>(
     machine.end(pair, summary, &mut out)
 }
 
-/// Writes what is said at the end, and answers.
+/// Writes what is said at the end, and answers. The log ended in a line feed, or not.
 fn finish<M: Machine, W: Target>(
     receiver: Receiver<M, W>,
+    ended: bool,
     target: &mut W,
 ) -> Result<M::Answer, Fault>
-    ensures ends { (start : W) (first : M) (settings : Settings) (meanings : List (Option StampedValue))
-        → Receives settings meanings receiver.pair receiver.lines receiver.counts
+    ensures ends { (start : W) (first : M) (settings : Settings) (log : List ℕ) (meanings : List (Option StampedValue))
+        → Receives settings meanings receiver.pair receiver.lines receiver.counts → ended ≡ ends_in_line_feed log
         → Tells (M.stands first) W.Target (M.script first) start (trace settings meanings) receiver.taker.machine receiver.taker.pending
         receiver.taker.page.failed receiver.taker.page.block target.old
-        → EndsTelling W.Target (M.script first) (M.answers first) start settings meanings result target.new }
+        → EndsTelling W.Target (M.script first) (M.answers first) start settings log meanings result target.new }
     ensures more { (mid : W) (said : List ℕ) (first : M) (settings : Settings) (meanings : List (Option StampedValue))
         → Receives settings meanings receiver.pair receiver.lines receiver.counts → M.stands first (trace settings meanings) receiver.taker.machine
         → Carries W.Target mid said receiver.taker.page.failed receiver.taker.page.block target.old → Begins (W.taken mid) (W.taken target.new) }
@@ -282,7 +284,7 @@ fn finish<M: Machine, W: Target>(
         mut page,
         ..
     } = taker;
-    let summary = sum_up(&pair, lines, counts, pending.count);
+    let summary = sum_up(&pair, lines, counts, pending.count, ended);
     let answer = tell_end(machine, target, &mut page, &pair, &summary);
     if !settle(target, &mut page) {
         return Err(Fault::Write);

@@ -1,9 +1,8 @@
 //! `explain`: a machine that says what became of each frame.
-ghost use Rattle.std.specs.Prelude.{◌≡◌, ◌≢◌, ◌-◌, ◌++◌, ℕ, List, [], Some, length, IfOk, IfErr, Err};
+ghost use Rattle.std.specs.Prelude.{◌≡◌, ◌≢◌, ◌-◌, ℕ, List, length, IfOk, IfErr, Err};
 ghost use Rattle.isotp_receive.specs.EventSeen.{seen_event, seen_verdict};
-ghost use Rattle.isotp_receive.specs.Verdict.{dropped};
 ghost use Rattle.isotp_receive.specs.declared.TheConstants.{MESSAGE_LIMIT};
-ghost use Rattle.trace_canon.specs.ExplainText.{reason_line, dropped_line, ended_line, event_text, unfinished_line, unfinished_text, summary_line};
+ghost use Rattle.trace_canon.specs.ExplainText.{dropped_text, end_text, ended_text, event_text, unfinished_line};
 ghost use Rattle.trace_canon.specs.Answers.{ReadsWhile};
 ghost use Rattle.trace_canon.specs.Devices.{ReadFrom, WroteTo};
 ghost use Rattle.trace_canon.specs.ExplainAnswers.{AnswersExplain};
@@ -18,23 +17,23 @@ use crate::config::Config;
 use crate::driver::run;
 use crate::fault::Fault;
 use crate::machine::{Machine, Stop};
-use crate::names::{cause_name, direction_name, layout_fault_name};
-use crate::parts::Part;
-use crate::say::say_parts;
+use crate::notation::Notation;
+use crate::remark::{Remark, say_remark};
 use crate::summary::Summary;
 use crate::text_sink::TextSink;
 use direction::Dir;
-use isotp_receive::{Ended, Event, Pair, Reason, Verdict};
+use isotp_receive::{Ended, Event, Pair, Verdict};
 use std::alloc::{AllocError, Global};
 use trace_io::{Source, Target};
 
 /// Reads a log and writes a line for each reception that ended without its message and for each frame that was dropped, as
-/// they come; then the receptions that stand at the end, and the counts.
+/// they come; then the receptions that stand at the end, and the counts. In words or as objects of JSON.
 ///
 /// The target is not flushed.
 pub fn explain<R: Source, W: Target>(
     alloc: Global,
     config: &Config,
+    notation: Notation,
     reader: &mut R,
     writer: &mut W,
 ) -> Result<Summary, Fault>
@@ -43,7 +42,7 @@ pub fn explain<R: Source, W: Target>(
 
     // What is answered and written, for each log with which the bytes that were read agree.
     ensures answer { (log : List ℕ) → Agrees (R.given reader.old) (R.given reader.new) (R.is_over reader.new) log
-        → AnswersExplain MESSAGE_LIMIT config.now log (length (R.given reader.new) - length (R.given reader.old)) result (W.taken writer.old) (W.taken writer.new) }
+        → AnswersExplain notation MESSAGE_LIMIT config.now log (length (R.given reader.new) - length (R.given reader.old)) result (W.taken writer.old) (W.taken writer.new) }
 
     // Where nothing was dropped, ended or left unfinished, the log is a recording.
     ensures certificate { (log : List ℕ) → Agrees (R.given reader.old) (R.given reader.new) (R.is_over reader.new) log → IfOk result (Certifies MESSAGE_LIMIT config.now log) }
@@ -65,24 +64,26 @@ pub fn explain<R: Source, W: Target>(
     ensures read { ReadFrom R.Source Fault.Read config.now.max_bytes result reader.old reader.new }
     ensures wrote { WroteTo W.Target Fault.Write result writer.old writer.new }
 {
-    run(alloc, config, Explainer, reader, writer)
+    run(alloc, config, Explainer { notation }, reader, writer)
 }
 
 /// Says the lines of each frame.
 #[derive(Drop)]
-struct Explainer;
+struct Explainer {
+    notation: Notation,
+}
 
 impl Machine for Explainer {
-    ghost use Rattle.std.specs.Prelude.{⊤};
+    ghost use Rattle.std.specs.Prelude.{◌≡◌};
     ghost use Rattle.isotp_receive.specs.declared.TheConstants.{MESSAGE_LIMIT};
     ghost use Rattle.trace_canon.specs.Told.{answers_counts};
     ghost use Rattle.trace_canon.specs.ExplainScript.{explain_script};
 
     type Answer = Summary;
 
-    ghost stands = { λ start T now. ⊤ };
+    ghost stands = { λ start T now. now.notation ≡ start.notation };
 
-    ghost script = { λ start. explain_script MESSAGE_LIMIT };
+    ghost script = { λ start. explain_script start.notation MESSAGE_LIMIT };
 
     ghost answers = { λ start. answers_counts };
 
@@ -102,7 +103,7 @@ impl Machine for Explainer {
         event: Event<'_>,
         out: &mut S,
     ) -> Result<(), AllocError> {
-        say_event(line, dir, event, out);
+        say_event(self.notation, line, dir, event, out);
         Ok(())
     }
 
@@ -112,154 +113,62 @@ impl Machine for Explainer {
         summary: &Summary,
         out: &mut S,
     ) -> Result<Summary, Stop> {
-        say_end(pair, summary, out);
+        say_end(self.notation, pair, summary, out);
         Ok(*summary)
     }
 }
 
 /// Says the lines of a frame, which is in this line and was sent by this side.
-fn say_event<S: TextSink>(line: u64, dir: Dir, event: Event<'_>, out: &mut S)
-    ensures { S.says out.old (event_text line dir (seen_event event.entry)) out.new }
+fn say_event<S: TextSink>(notation: Notation, line: u64, dir: Dir, event: Event<'_>, out: &mut S)
+    ensures { S.says out.old (event_text notation line dir (seen_event event.entry)) out.new }
 {
-    say_ended(line, event.ended, out);
-    say_dropped(line, dir, event.verdict, out);
+    say_ended(notation, line, event.ended, out);
+    say_dropped(notation, line, dir, event.verdict, out);
 }
 
 /// Says the line of the reception that a frame ended, if it ended one.
-fn say_ended<S: TextSink>(line: u64, ended: Option<Ended>, out: &mut S)
-    ensures { S.says out.old (ended_line line ended) out.new }
+fn say_ended<S: TextSink>(notation: Notation, line: u64, ended: Option<Ended>, out: &mut S)
+    ensures { S.says out.old (ended_text notation line ended) out.new }
 {
     if let Some(ended) = ended {
-        say_parts(
-            out,
-            &[
-                Part::Text("line "),
-                Part::Number(line),
-                Part::Text(": "),
-                Part::Text(direction_name(ended.dir)),
-                Part::Text(" reception from line "),
-                Part::Number(ended.begun_line),
-                Part::Text(" of "),
-                Part::Number(u64::from(ended.len)),
-                Part::Text(" bytes ended: "),
-                Part::Text(cause_name(ended.cause)),
-                Part::Text("\n"),
-            ],
-        );
+        say_remark(notation, Remark::Ended { line, ended }, out);
     }
 }
 
 /// Says the line of a frame, if it was dropped.
-fn say_dropped<S: TextSink>(line: u64, dir: Dir, verdict: Verdict<'_>, out: &mut S)
-    ensures { S.says out.old (dropped_line line dir (seen_verdict verdict.entry)) out.new }
+fn say_dropped<S: TextSink>(
+    notation: Notation,
+    line: u64,
+    dir: Dir,
+    verdict: Verdict<'_>,
+    out: &mut S,
+)
+    ensures { S.says out.old (dropped_text notation line dir (seen_verdict verdict.entry)) out.new }
 {
     match verdict {
-        Verdict::Dropped(reason) => say_dropped_line(line, dir, reason, out),
+        Verdict::Dropped(reason) => say_remark(
+            notation,
+            Remark::Dropped { line, dir, reason },
+            out,
+        ),
         Verdict::Message(_) | Verdict::Began | Verdict::Stored | Verdict::Flow => {}
     }
 }
 
-/// Says the line of a dropped frame.
-fn say_dropped_line<S: TextSink>(line: u64, dir: Dir, reason: Reason, out: &mut S)
-    ensures { S.says out.old (dropped_line line dir (dropped reason)) out.new }
-{
-    say_parts(
-        out,
-        &[
-            Part::Text("line "),
-            Part::Number(line),
-            Part::Text(": "),
-            Part::Text(direction_name(dir)),
-            Part::Text(" frame dropped: "),
-        ],
-    );
-    say_reason(reason, out);
-}
-
-/// Says why a frame was dropped, to the end of its line.
-fn say_reason<S: TextSink>(reason: Reason, out: &mut S)
-    ensures { S.says out.old (reason_line reason) out.new }
-{
-    match reason {
-        Reason::Pdu(fault) => say_parts(
-            out,
-            &[Part::Text(layout_fault_name(fault)), Part::Text("\n")],
-        ),
-        Reason::FlowUnexpected => say_parts(out, &[Part::Text("flow control unexpected\n")]),
-        Reason::NextUnexpected => say_parts(out, &[Part::Text("consecutive frame unexpected\n")]),
-        Reason::NextLate => say_parts(out, &[Part::Text("consecutive frame late\n")]),
-        Reason::NextSequence { expected, found } => say_parts(
-            out,
-            &[
-                Part::Text("sequence number "),
-                Part::Digit(expected),
-                Part::Text(" expected, "),
-                Part::Digit(found),
-                Part::Text(" found\n"),
-            ],
-        ),
-        Reason::NextLength => say_parts(out, &[Part::Text("consecutive frame length\n")]),
-        Reason::TooLong { announced } => say_parts(
-            out,
-            &[
-                Part::Number(u64::from(announced)),
-                Part::Text(" bytes announced\n"),
-            ],
-        ),
-    }
-}
-
 /// Says what follows the lines of all frames: the receptions that stand, the tester's first, and the counts.
-fn say_end<S: TextSink>(pair: &Pair, summary: &Summary, out: &mut S)
-    ensures { S.says out.old (unfinished_text pair.now.receptions ++ summary_line summary.now) out.new }
+fn say_end<S: TextSink>(notation: Notation, pair: &Pair, summary: &Summary, out: &mut S)
+    ensures { S.says out.old (end_text notation pair.now.receptions summary.now) out.new }
 {
-    say_unfinished(Dir::Tester, pair.open(Dir::Tester), out);
-    say_unfinished(Dir::Unit, pair.open(Dir::Unit), out);
-    say_summary(summary, out);
+    say_unfinished(notation, Dir::Tester, pair.open(Dir::Tester), out);
+    say_unfinished(notation, Dir::Unit, pair.open(Dir::Unit), out);
+    say_remark(notation, Remark::Counts(*summary), out);
 }
 
 /// Says the line of a reception that stands, if one does.
-fn say_unfinished<S: TextSink>(dir: Dir, begun: Option<(u64, u32)>, out: &mut S)
-    ensures { S.says out.old (unfinished_line dir begun) out.new }
+fn say_unfinished<S: TextSink>(notation: Notation, dir: Dir, begun: Option<(u64, u32)>, out: &mut S)
+    ensures { S.says out.old (unfinished_line notation dir begun) out.new }
 {
     if let Some((line, len)) = begun {
-        say_parts(
-            out,
-            &[
-                Part::Text("end: "),
-                Part::Text(direction_name(dir)),
-                Part::Text(" reception from line "),
-                Part::Number(line),
-                Part::Text(" of "),
-                Part::Number(u64::from(len)),
-                Part::Text(" bytes unfinished\n"),
-            ],
-        );
+        say_remark(notation, Remark::Unfinished { dir, line, len }, out);
     }
-}
-
-/// Says the line of the counts.
-fn say_summary<S: TextSink>(summary: &Summary, out: &mut S)
-    ensures { S.says out.old (summary_line summary.now) out.new }
-{
-    say_parts(
-        out,
-        &[
-            Part::Text("lines "),
-            Part::Number(summary.lines),
-            Part::Text(" frames "),
-            Part::Number(summary.frames),
-            Part::Text(" messages "),
-            Part::Number(summary.messages),
-            Part::Text(" dropped "),
-            Part::Number(summary.dropped),
-            Part::Text(" ended "),
-            Part::Number(summary.ended),
-            Part::Text(" unfinished "),
-            Part::Number(summary.unfinished),
-            Part::Text(" pending "),
-            Part::Number(summary.pending),
-            Part::Text("\n"),
-        ],
-    );
 }

@@ -1,51 +1,61 @@
 //! What logs that lie in memory are answered with. No device is asked: so what has no answer is refused, or memory was.
-ghost use Rattle.std.specs.Prelude.{◌≡◌, Ok, Err, MatchResult};
+//! [`counted`](crate::counted) has the texts with the counts of the log beside them.
+ghost use Rattle.std.specs.Prelude.{MatchResult};
 ghost use Rattle.isotp_receive.specs.declared.TheConstants.{MESSAGE_LIMIT};
-ghost use Rattle.trace_canon.specs.InMemory.{ComparesInMemory, IsCanonicalLogOf, IsExplanationOf, IsListOf, IsRefused, IsUnread, MeansInMemory, fault_in_memory};
+ghost use Rattle.trace_canon.specs.InMemory.{ComparesInMemory, IsCanonicalLogOf, IsExplanationOf, IsListOf, IsPlacingOf, IsRefused, IsUnread, MeansInMemory};
 
+use crate::collector::meaning_of;
 use crate::comparing::{Comparison, compare};
 use crate::config::Config;
-use crate::explainer::explain;
+use crate::counted;
 use crate::fault::{CompareFault, Fault};
-use crate::holder::meaning_of;
-use crate::item_lines::Numbering;
-use crate::lister::list;
-use crate::normaliser::normalise;
-use crate::summary::Summary;
+use crate::item_lines::ItemStyle;
+use crate::notation::Notation;
 use std::alloc::Global;
-use trace_io::{Bytes, Writing};
+use trace_io::Bytes;
 use uds_exchange::Meaning;
 
 /// The canonical log of a log, as [`normalise`](crate::normalise) writes it.
 pub fn canonical_log(alloc: Global, config: &Config, log: &[u8]) -> Result<Vec<u8>, Fault>
     ensures { MatchResult result (λ text. IsCanonicalLogOf MESSAGE_LIMIT config.now log.now text.items) (IsRefused MESSAGE_LIMIT config.now log.now) }
 {
-    let mut writer = Writing::new(Vec::new(alloc));
-    let answer = normalise(alloc, config, &mut Bytes::new(log), &mut writer);
-    text_of(answer, writer.into_inner())
+    Ok(counted::canonical_log(alloc, config, log)?.text)
 }
 
 /// The list of a log's items, as [`list`](crate::list) writes it.
 pub fn item_list(
     alloc: Global,
     config: &Config,
-    numbering: Numbering,
+    style: ItemStyle,
     log: &[u8],
 ) -> Result<Vec<u8>, Fault>
-    ensures { MatchResult result (λ text. IsListOf numbering MESSAGE_LIMIT config.now log.now text.items) (IsRefused MESSAGE_LIMIT config.now log.now) }
+    ensures { MatchResult result (λ text. IsListOf style MESSAGE_LIMIT config.now log.now text.items) (IsRefused MESSAGE_LIMIT config.now log.now) }
 {
-    let mut writer = Writing::new(Vec::new(alloc));
-    let answer = list(alloc, config, numbering, &mut Bytes::new(log), &mut writer);
-    text_of(answer, writer.into_inner())
+    Ok(counted::item_list(alloc, config, style, log)?.text)
+}
+
+/// A line for each message of a log, with its place, as [`messages`](crate::messages) writes them.
+pub fn message_lines(
+    alloc: Global,
+    config: &Config,
+    notation: Notation,
+    log: &[u8],
+) -> Result<Vec<u8>, Fault>
+    ensures { MatchResult result (λ text. IsPlacingOf notation MESSAGE_LIMIT config.now log.now text.items) (IsUnread MESSAGE_LIMIT config.now log.now) }
+{
+    Ok(counted::message_lines(alloc, config, notation, log)?.text)
 }
 
 /// What each frame of a log did, as [`explain`](crate::explain) writes it.
-pub fn explanation(alloc: Global, config: &Config, log: &[u8]) -> Result<Vec<u8>, Fault>
-    ensures { MatchResult result (λ text. IsExplanationOf MESSAGE_LIMIT config.now log.now text.items) (IsUnread MESSAGE_LIMIT config.now log.now) }
+pub fn explanation(
+    alloc: Global,
+    config: &Config,
+    notation: Notation,
+    log: &[u8],
+) -> Result<Vec<u8>, Fault>
+    ensures { MatchResult result (λ text. IsExplanationOf notation MESSAGE_LIMIT config.now log.now text.items) (IsUnread MESSAGE_LIMIT config.now log.now) }
 {
-    let mut writer = Writing::new(Vec::new(alloc));
-    let answer = explain(alloc, config, &mut Bytes::new(log), &mut writer);
-    text_of(answer, writer.into_inner())
+    Ok(counted::explanation(alloc, config, notation, log)?.text)
 }
 
 /// What the messages of a log mean, as [`meaning_of`](crate::meaning_of) answers it.
@@ -64,16 +74,8 @@ pub fn comparison(
 ) -> Result<Comparison, CompareFault>
     ensures { ComparesInMemory MESSAGE_LIMIT config.now left.now right.now result }
 {
-    compare(alloc, config, &mut Bytes::new(left), &mut Bytes::new(right))
-}
-
-/// The text that was gathered, where all is well.
-fn text_of(answer: Result<Summary, Fault>, text: Vec<u8>) -> Result<Vec<u8>, Fault>
-    ensures { MatchResult answer (λ _. result ≡ Ok text) (λ fault. result ≡ Err (fault_in_memory fault)) }
-{
-    match answer {
-        Ok(_) => Ok(text),
-        Err(Fault::Write) => Err(Fault::Memory),
+    match compare(alloc, config, &mut Bytes::new(left), &mut Bytes::new(right)) {
+        Ok(compared) => Ok(compared.comparison),
         Err(fault) => Err(fault),
     }
 }

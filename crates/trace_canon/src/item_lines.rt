@@ -1,13 +1,15 @@
 //! The text of a meaning, said item by item.
 ghost use Rattle.std.specs.Prelude.{◌++◌, codes, option_map};
-ghost use Rattle.uds_exchange.specs.ItemSeen.{item_value};
-ghost use Rattle.trace_canon.specs.ListText.{item_line, item_text, list_text, number_text, outcome_line};
+ghost use Rattle.uds_exchange.specs.ItemSeen.{lent_value};
+ghost use Rattle.trace_canon.specs.ListText.{item_line, worded_line, item_text, list_text, number_text, outcome_line};
 
+use crate::item_objects::say_item_object;
 use crate::names::direction_name;
+use crate::notation::Notation;
 use crate::parts::Part;
 use crate::say::say_parts;
 use crate::text_sink::TextSink;
-use uds_exchange::{Item, Meaning};
+use uds_exchange::{LentItem, Meaning};
 use uds_message::{is_negative_response, is_suppressing, response_code, sid};
 
 /// Whether the lines of items have numbers.
@@ -19,20 +21,45 @@ pub enum Numbering {
     Hidden,
 }
 
+/// How the lines of items are written.
+#[derive(Clone, Copy, Debug, PartialEq, Eq)]
+pub struct ItemStyle {
+    pub numbering: Numbering,
+    pub notation: Notation,
+}
+
 /// Says the line of each item, in order.
-pub(crate) fn say_items<S: TextSink>(meaning: &Meaning, numbering: Numbering, out: &mut S)
-    ensures { S.says out.old (list_text numbering meaning.now) out.new }
+pub(crate) fn say_items<S: TextSink>(meaning: &Meaning, style: ItemStyle, out: &mut S)
+    ensures { S.says out.old (list_text style meaning.now) out.new }
 {
     'items: for i in 0..meaning.len() {
         if let Some(item) = meaning.item(i) {
-            say_item(i as u64 + 1, numbering, item, out);
+            say_item(i as u64 + 1, style, item.lent(), out);
         }
     }
 }
 
 /// Says the line of an item, which has this number.
-fn say_item<S: TextSink>(number: u64, numbering: Numbering, item: &Item, out: &mut S)
-    ensures { S.says out.old (item_line numbering number (item_value item.now)) out.new }
+pub(crate) fn say_item<S: TextSink>(number: u64, style: ItemStyle, item: LentItem<'_>, out: &mut S)
+    ensures { S.says out.old (item_line style number (lent_value item.entry)) out.new }
+{
+    match style.notation {
+        Notation::Text => say_worded(number, style.numbering, item, out),
+        Notation::Json => {
+            say_item_object(number, style.numbering, item, out);
+            say_parts(out, &[Part::Text("\n")]);
+        }
+    }
+}
+
+/// The same in words.
+pub(crate) fn say_worded<S: TextSink>(
+    number: u64,
+    numbering: Numbering,
+    item: LentItem<'_>,
+    out: &mut S,
+)
+    ensures { S.says out.old (worded_line numbering number (lent_value item.entry)) out.new }
 {
     say_number(number, numbering, out);
     say_unnumbered(item, out);
@@ -49,11 +76,11 @@ fn say_number<S: TextSink>(number: u64, numbering: Numbering, out: &mut S)
 }
 
 /// Says what an item is, to the end of its line.
-fn say_unnumbered<S: TextSink>(item: &Item, out: &mut S)
-    ensures { S.says out.old (item_text (item_value item.now) ++ codes "\n") out.new }
+fn say_unnumbered<S: TextSink>(item: LentItem<'_>, out: &mut S)
+    ensures { S.says out.old (item_text (lent_value item.entry) ++ codes "\n") out.new }
 {
     match item {
-        Item::Exchange { request, answer } => {
+        LentItem::Exchange { request, answer } => {
             say_parts(
                 out,
                 &[
@@ -66,11 +93,11 @@ fn say_unnumbered<S: TextSink>(item: &Item, out: &mut S)
             );
             say_outcome(request, answer, out);
         }
-        Item::Stray { dir, bytes } => say_parts(
+        LentItem::Stray { dir, bytes } => say_parts(
             out,
             &[
                 Part::Text("stray "),
-                Part::Text(direction_name(*dir)),
+                Part::Text(direction_name(dir)),
                 Part::Text(" "),
                 Part::Bytes(bytes),
                 Part::Text("\n"),
@@ -80,8 +107,8 @@ fn say_unnumbered<S: TextSink>(item: &Item, out: &mut S)
 }
 
 /// Says what came of a request, to the end of its line.
-fn say_outcome<S: TextSink>(request: &Vec<u8>, answer: &Option<Vec<u8>>, out: &mut S)
-    ensures { S.says out.old (outcome_line request.now.items (option_map (λ reply. reply.items) answer.now)) out.new }
+fn say_outcome<S: TextSink>(request: &[u8], answer: Option<&[u8]>, out: &mut S)
+    ensures { S.says out.old (outcome_line request.now (option_map (λ reply. reply.now) answer.entry)) out.new }
 {
     match answer {
         None if is_suppressing(request) => say_parts(out, &[Part::Text("silent\n")]),

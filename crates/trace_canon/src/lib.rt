@@ -33,52 +33,70 @@
 //! a `page`, which is written where it is full and before more is read. The machine sees no device: `driver` joins the two
 //! ends, and makes each fault of theirs one of [`Fault`].
 //!
-//! Each command is a machine: [`normalise`] (`normaliser`, and `canonical_sink` for its lines), [`list`] (`lister`,
-//! `item_lines`), [`explain`] (`explainer`), [`messages`] (`placer`, and `begun` for where a message began) and
-//! [`meaning_of`] (`holder`), on which [`compare`] stands.
+//! Each command is a machine: [`normalise`] (`normaliser`, and `canonical_sink` for its lines), [`explain`] (`explainer`),
+//! [`messages`] (`placer`, and `begun` for where a message began), [`watch`] (`watcher`) and the one that collects what a
+//! log means (`collector`). On that stand [`meaning_of`], [`list`] (`lister`, `item_lines`) and [`compare`] (`comparing`).
 #![tactic(auto)]
 
 mod begun;
 mod block;
 mod canonical_sink;
+mod collector;
 mod comparing;
+mod comparison_lines;
+mod comparison_objects;
 mod config;
+pub mod counted;
 mod driver;
 mod explainer;
 mod fault;
 mod feed;
-mod holder;
+mod finding;
+mod hearing;
 pub mod in_memory;
 mod item_lines;
+mod item_objects;
 pub mod laws;
 mod length;
 mod lines;
 mod lister;
 mod machine;
+mod message_objects;
 mod names;
 mod normaliser;
+mod notation;
 mod nowhere;
 mod page;
+mod pair_lines;
 mod parts;
 mod pending;
 mod place;
 mod placer;
+mod printer;
 mod receiver;
+mod remark;
+mod remark_objects;
 mod say;
 mod summary;
 mod summing;
 mod text_sink;
+mod watcher;
 
-pub use comparing::{Comparison, compare};
+pub use collector::{Session, meaning_of};
+pub use comparing::{Compared, Comparison, compare};
+pub use comparison_lines::{ComparisonStyle, write_comparison};
 pub use config::{Config, LARGEST_LIMIT};
 pub use driver::run;
 pub use explainer::explain;
 pub use fault::{CompareFault, ConfigFault, Fault};
-pub use holder::meaning_of;
-pub use item_lines::Numbering;
+pub use finding::find;
+pub use item_lines::{ItemStyle, Numbering};
 pub use lister::list;
 pub use machine::{Machine, Stop};
 pub use normaliser::normalise;
+pub use notation::Notation;
 pub use placer::messages;
+pub use remark::Remark;
 pub use summary::Summary;
 pub use text_sink::TextSink;
+pub use watcher::watch;

@@ -1,8 +1,9 @@
 //! The lines of a piece of a log, handed on one by one.
-ghost use Rattle.std.specs.Prelude.{◌≡◌, ◌≢◌, ℕ, ◌+◌, ◌-◌, ◌^◌, ◌<◌, ◌≤◌, List, [], ◌∷◌, ◌++◌, length, OnOk, IfErr, Option, Some, MatchResult, true, false};
+ghost use Rattle.std.specs.Prelude.{◌≡◌, ◌≢◌, ℕ, ◌+◌, ◌-◌, ◌^◌, ◌<◌, ◌≤◌, List, [], ◌∷◌, ◌++◌, length, OnOk, IfErr, IfNone, IfSome, IsSomeAnd, Option, Some, MatchResult, true, false};
 ghost use Rattle.can_log.specs.declared.frame.Id.{Id as IdValue};
 ghost use Rattle.std.specs.Io.KnownBytes.{IsAtEnd};
 ghost use Rattle.can_log.specs.declared.frame.Stamped.{Stamped as StampedValue};
+ghost use Rattle.can_log.specs.Scanning.{Scans, ScansForeign};
 ghost use Rattle.can_log.specs.WholeLog.{StandsAfter};
 ghost use Rattle.trace_io.specs.Counted.{AreLowCounts};
 ghost use Rattle.trace_io.specs.Stream.{Agrees, Gave};
@@ -29,12 +30,12 @@ pub(crate) trait LineTaker {
     /// The text of these first lines was written since, whatever became of the rest.
     ghost sure: { Self × Self.Device → List (Option StampedValue) → Self × Self.Device → Type 0 };
 
-    /// Which identifiers it looks at the frames of.
+    /// Which identifiers it looks at the frames of, where it does not look at all.
     ghost wants: { Self → IdValue → IdValue → Type 0 };
 
-    /// The two identifiers: a frame of another one is foreign to it.
-    fn wanted(&self) -> &Wanted
-        ensures { wants self.now result.now.first result.now.second };
+    /// The two identifiers: a frame of another one is foreign to it. Where there are none, no frame is.
+    fn wanted(&self) -> Option<&Wanted>
+        ensures { IfSome result (λ wanted. wants self.now wanted.now.first wanted.now.second) };
 
     /// Passes the next line, by its number, which records a foreign frame.
     fn pass(&mut self, line: u64)
@@ -97,7 +98,7 @@ pub(crate) fn take_lines<T: LineTaker>(
     let mut answer = Scan::NeedMore;
     'lines: while !rest.is_empty() {
         let wanted = taker.wanted();
-        if let Some(used) = scanner.scan_wanted_into(wanted, rest, &mut answer) {
+        if let Some(used) = scan_next(scanner, wanted, rest, &mut answer) {
             taker.pass(scanner.line_count());
             rest = &rest[used..];
             continue 'lines;
@@ -121,12 +122,34 @@ pub(crate) fn take_lines<T: LineTaker>(
     Ok(())
 }
 
-/// Takes the last line, if it has no line feed.
+/// Scans the next line of a piece. Where it records a frame of an identifier that is not wanted, it answers how many bytes
+/// that line has.
+#[inline(always)]
+fn scan_next(
+    scanner: &mut Scanner,
+    wanted: Option<&Wanted>,
+    piece: &[u8],
+    answer: &mut Scan,
+) -> Option<usize>
+    requires { scanner.old.taken + length piece.now ≤ 2 ^ 62 }
+    ensures foreign { IfSome result (λ used. IsSomeAnd wanted.entry (λ w. ScansForeign w.now.first w.now.second scanner.old piece.now used scanner.new)) }
+    ensures answer { IfNone result (Scans scanner.old piece.now answer.new scanner.new) }
+{
+    match wanted {
+        Some(wanted) => scanner.scan_wanted_into(wanted, piece, answer),
+        None => {
+            scanner.scan_into(piece, answer);
+            None
+        }
+    }
+}
+
+/// Takes the last line, if it has no line feed. Answers whether the last byte of the log is one.
 pub(crate) fn take_last_line<T: LineTaker>(
     scanner: &mut Scanner,
     taker: &mut T,
     device: &mut T::Device,
-) -> Result<(), Fault>
+) -> Result<bool, Fault>
     ensures fault { IfErr result IsOfLines }
     ensures lines { (start : T × T.Device) (log : List ℕ) (meanings : List (Option StampedValue)) → length log ≤ 2 ^ 61 → StandsAfter log meanings scanner.old
         → T.took start meanings (taker.old, device.old) → ReadsEnd T.took T.stopped start log result (taker.new, device.new) }
@@ -135,13 +158,13 @@ pub(crate) fn take_last_line<T: LineTaker>(
 {
     match &scanner.finish() {
         Scan::Line { line, what, .. } => match taker.take(device, *line, what) {
-            Ok(()) => Ok(()),
+            Ok(()) => Ok(false),
             Err(fault) => Err(fault),
         },
         Scan::Bad { line, column } => Err(Fault::BadLine {
             line: *line,
             column: *column,
         }),
-        Scan::NeedMore | Scan::End => Ok(()),
+        Scan::NeedMore | Scan::End => Ok(scanner.line_count() > 0),
     }
 }

@@ -12,10 +12,14 @@ pub(crate) enum Part<'a> {
     Text(&'static str),
     /// The number in decimal.
     Number(u64),
+    /// The number of what is at this place, counted from 1.
+    Place(usize),
     /// A number below 16, as one hexadecimal digit.
     Digit(u8),
     /// The last six decimal digits of the number.
     Decimals(u64),
+    /// The bytes as they are.
+    Spelled(&'a [u8]),
     /// Two hexadecimal digits for each byte.
     Bytes(&'a [u8]),
     /// The name of the service.

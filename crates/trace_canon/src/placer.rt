@@ -4,7 +4,7 @@ ghost use Rattle.isotp_receive.specs.declared.TheConstants.{MESSAGE_LIMIT};
 ghost use Rattle.trace_canon.specs.Answers.{ReadsWhile};
 ghost use Rattle.trace_canon.specs.proving.Begun.{PlacesMessages};
 ghost use Rattle.trace_canon.specs.Devices.{ReadFrom, WroteTo};
-ghost use Rattle.trace_canon.specs.MessageLines.{numbered_line, placing_script};
+ghost use Rattle.trace_canon.specs.MessageLines.{placed_line, placed_text, placing_script};
 ghost use Rattle.trace_canon.specs.Needing.{NeedsMemoryToReceive};
 ghost use Rattle.trace_canon.specs.Refusal.{HasNoBadPlaceWithin};
 ghost use Rattle.trace_canon.specs.Told.{AnswersTold, TellsEagerly, answers_counts};
@@ -17,7 +17,9 @@ use crate::config::Config;
 use crate::driver::run;
 use crate::fault::Fault;
 use crate::machine::{Machine, Stop};
+use crate::message_objects::say_message_object;
 use crate::names::{direction_name, role_name};
+use crate::notation::Notation;
 use crate::parts::Part;
 use crate::say::say_parts;
 use crate::summary::Summary;
@@ -28,13 +30,15 @@ use std::alloc::{AllocError, Global};
 use trace_io::{Source, Target};
 use uds_exchange::{Numbers, Step};
 
-/// Reads a log and writes a line for each message that is delivered, as it comes: the number that [`list`](crate::list) gives
-/// its item, what it is to that, its direction, the lines and the time stamps of its first frame and its last one, and its bytes.
+/// Reads a log and writes a line for each message that is delivered, as it comes, in words or as an object of JSON: the
+/// number that [`list`](crate::list) gives its item, what it is to that, its direction, the lines and the time stamps of
+/// its first frame and its last one, and its bytes.
 ///
 /// The target is not flushed.
 pub fn messages<R: Source, W: Target>(
     alloc: Global,
     config: &Config,
+    notation: Notation,
     reader: &mut R,
     writer: &mut W,
 ) -> Result<Summary, Fault>
@@ -43,11 +47,11 @@ pub fn messages<R: Source, W: Target>(
 
     // What is answered and written, for each log with which the bytes that were read agree.
     ensures answer { (log : List ℕ) → Agrees (R.given reader.old) (R.given reader.new) (R.is_over reader.new) log
-        → AnswersTold (placing_script MESSAGE_LIMIT) answers_counts MESSAGE_LIMIT config.now log (length (R.given reader.new) - length (R.given reader.old)) result (W.taken writer.old) (W.taken writer.new) }
+        → AnswersTold (placing_script notation MESSAGE_LIMIT) answers_counts MESSAGE_LIMIT config.now log (length (R.given reader.new) - length (R.given reader.old)) result (W.taken writer.old) (W.taken writer.new) }
 
     // Before each read the lines of all that was read were written.
     ensures eager { (log : List ℕ) → Agrees (R.given reader.old) (R.given reader.new) (R.is_over reader.new) log
-        → TellsEagerly (placing_script MESSAGE_LIMIT) MESSAGE_LIMIT config.now log (length (R.given reader.new) - length (R.given reader.old)) (W.taken writer.old) (W.taken writer.new) }
+        → TellsEagerly (placing_script notation MESSAGE_LIMIT) MESSAGE_LIMIT config.now log (length (R.given reader.new) - length (R.given reader.old)) (W.taken writer.old) (W.taken writer.new) }
 
     // Reading stops within one piece: there is no refused place among all bytes given but the last 4,096, and none among all
     // where a read failed.
@@ -66,14 +70,17 @@ pub fn messages<R: Source, W: Target>(
     ensures read { ReadFrom R.Source Fault.Read config.now.max_bytes result reader.old reader.new }
     ensures wrote { WroteTo W.Target Fault.Write result writer.old writer.new }
 {
-    run(alloc, config, start(), reader, writer)
+    let machine = start(notation);
+    run(alloc, config, machine, reader, writer)
 }
 
 /// A machine before the first frame.
-fn start() -> Placer
-    ensures { PlacesMessages [] result.numbers result.begun }
+fn start(notation: Notation) -> Placer
+    ensures notation { result.notation ≡ notation }
+    ensures places { PlacesMessages notation [] result.notation result.numbers result.begun }
 {
     Placer {
+        notation,
         numbers: Numbers::new(),
         begun: Begun::start(),
     }
@@ -82,6 +89,7 @@ fn start() -> Placer
 /// Says the line of each message. It keeps no message.
 #[derive(Drop)]
 pub(crate) struct Placer {
+    pub notation: Notation,
     pub numbers: Numbers,
     pub begun: Begun,
 }
@@ -94,9 +102,9 @@ impl Machine for Placer {
 
     type Answer = Summary;
 
-    ghost stands = { λ start T now. PlacesMessages T now.numbers now.begun };
+    ghost stands = { λ start T now. PlacesMessages start.notation T now.notation now.numbers now.begun };
 
-    ghost script = { λ start. placing_script MESSAGE_LIMIT };
+    ghost script = { λ start. placing_script start.notation MESSAGE_LIMIT };
 
     ghost answers = { λ start. answers_counts };
 
@@ -121,7 +129,7 @@ impl Machine for Placer {
         match event.verdict {
             Verdict::Message(message) => {
                 let (number, step) = self.numbers.take(dir, message);
-                say_message(number, step, dir, message, first, here, out);
+                say_message(self.notation, number, step, dir, message, first, here, out);
                 Ok(())
             }
             Verdict::Began | Verdict::Stored | Verdict::Flow | Verdict::Dropped(_) => Ok(()),
@@ -140,6 +148,7 @@ impl Machine for Placer {
 
 /// Says the line of a message that has its first frame and its last one in these places.
 fn say_message<S: TextSink>(
+    notation: Notation,
     number: u64,
     step: Step,
     dir: Dir,
@@ -148,7 +157,25 @@ fn say_message<S: TextSink>(
     last: FramePlace,
     out: &mut S,
 )
-    ensures { S.says out.old (numbered_line number step (dir, message.now) first last) out.new }
+    ensures { S.says out.old (placed_text notation (record { number = number; step = step; sent = (dir, message.now); start = first; end = last })) out.new }
+{
+    match notation {
+        Notation::Text => say_message_line(number, step, dir, message, first, last, out),
+        Notation::Json => say_message_object(number, step, dir, message, first, last, out),
+    }
+}
+
+/// Says it in words.
+fn say_message_line<S: TextSink>(
+    number: u64,
+    step: Step,
+    dir: Dir,
+    message: &[u8],
+    first: FramePlace,
+    last: FramePlace,
+    out: &mut S,
+)
+    ensures { S.says out.old (placed_line (record { number = number; step = step; sent = (dir, message.now); start = first; end = last })) out.new }
 {
     say_parts(
         out,

@@ -25,18 +25,22 @@ use trace_io::Target;
 /// What was counted in the frames of a log so far.
 #[derive(Clone, Copy, Debug)]
 pub(crate) struct Counts {
-    pub frames: u64,
+    pub tester_frames: u64,
+    pub unit_frames: u64,
     pub messages: u64,
     pub dropped: u64,
     pub ended: u64,
 }
 
 impl Counts {
-    /// Counts what one more frame did.
-    fn count(&mut self, event: Event<'_>)
-        ensures { CountsEvent self.old (seen_event event.entry) self.new }
+    /// Counts what one more frame of a direction did.
+    fn count(&mut self, dir: Dir, event: Event<'_>)
+        ensures { CountsEvent self.old dir (seen_event event.entry) self.new }
     {
-        self.frames = self.frames.saturating_add(1);
+        match dir {
+            Dir::Tester => self.tester_frames = self.tester_frames.saturating_add(1),
+            Dir::Unit => self.unit_frames = self.unit_frames.saturating_add(1),
+        }
         if event.ended.is_some() {
             self.ended = self.ended.saturating_add(1);
         }
@@ -48,7 +52,8 @@ impl Counts {
     }
 }
 
-/// Takes one more frame of a direction. A pair asks for memory only where the frame's bytes are kept for a message of several frames.
+/// Takes one more frame of a direction. A pair asks for memory only where the frame's bytes are kept for a message of
+/// several frames.
 fn receive<M: Machine, W: Target>(
     pair: &mut Pair,
     counts: &mut Counts,
@@ -64,7 +69,7 @@ fn receive<M: Machine, W: Target>(
         → pair.new.receptions ≡ receptions_after MESSAGE_LIMIT (T ++ record { line = line; micros = micros; dir = dir; frame = frame.now } ∷ [])) }
     ensures grew { OnOk result (CapacitiesGrow MESSAGE_LIMIT dir (layout_of frame.now) pair.old pair.new) }
     ensures counts { OnOk result ((T : List Entry) → pair.old.receptions ≡ receptions_after MESSAGE_LIMIT T
-        → CountsEvent counts.old (verdict MESSAGE_LIMIT T (record { line = line; micros = micros; dir = dir; frame = frame.now })) counts.new) }
+        → CountsEvent counts.old dir (verdict MESSAGE_LIMIT T (record { line = line; micros = micros; dir = dir; frame = frame.now })) counts.new) }
     ensures ok { OnOk result ((start : W) (first : M) (T : List Entry) → pair.old.receptions ≡ receptions_after MESSAGE_LIMIT T → length T < 2 ^ 62
         → Tells (M.stands first) W.Target (M.script first) start T taker.old.machine taker.old.pending taker.old.page.failed taker.old.page.block target.old
         → Tells (M.stands first) W.Target (M.script first) start (T ++ record { line = line; micros = micros; dir = dir; frame = frame.now } ∷ [])
@@ -80,7 +85,7 @@ fn receive<M: Machine, W: Target>(
 {
     match pair.accept(line, micros, dir, frame) {
         Ok(event) => {
-            counts.count(event);
+            counts.count(dir, event);
             taker.take(target, line, micros, dir, event)
         }
         Err(_refused) => Err(Fault::Memory),
@@ -113,7 +118,8 @@ impl<M, W> Receiver<M, W> {
             pair,
             lines: 0,
             counts: Counts {
-                frames: 0,
+                tester_frames: 0,
+                unit_frames: 0,
                 messages: 0,
                 dropped: 0,
                 ended: 0,
@@ -161,8 +167,8 @@ impl<M: Machine, W: Target> LineTaker for Receiver<M, W> {
     ghost wants = { λ s first second. (first ≡ s.config.tester) × (second ≡ s.config.unit) };
 
     #[inline(always)]
-    fn wanted(&self) -> &Wanted {
-        self.config.wanted()
+    fn wanted(&self) -> Option<&Wanted> {
+        Some(self.config.wanted())
     }
 
     #[inline(always)]

@@ -27,8 +27,11 @@ fn say_part<S: TextSink>(out: &mut S, part: Part<'_>)
     match part {
         Part::Text(text) => out.put(text.as_bytes()),
         Part::Number(number) => out.put(Buffer::new().format(number).as_bytes()),
+        // One more than the largest place is no `usize`.
+        Part::Place(place) => out.put(Buffer::new().format(place as u128 + 1).as_bytes()),
         Part::Digit(number) => out.put(&last_digit(number)),
         Part::Decimals(number) => out.put(&six_decimals(number)),
+        Part::Spelled(bytes) => out.put(bytes),
         Part::Bytes(bytes) => say_bytes(out, bytes),
         Part::Service(sid) => match service_name(sid) {
             Some(name) => out.put(name.as_bytes()),

@@ -11,6 +11,7 @@ use Rattle.uds_exchange.specs.Numbering.{CountsItems}
 use Rattle.uds_exchange.specs.declared.numbers.Numbers.{Numbers}
 use Rattle.trace_canon.specs.declared.begun.Begun.{Begun}
 use Rattle.trace_canon.specs.declared.begun.FramePlace.{FramePlace}
+use Rattle.trace_canon.specs.declared.notation.Notation.{Notation}
 use Rattle.trace_canon.specs.MessageLines.{place_of, last_start}
 
 -- where a reception of d began, if one stands, after an end
@@ -39,8 +40,9 @@ began_at sender event here begun = unwrap_or (left_by sender event.ended begun) 
 abbrev pub IsBegunAt : Dir → List Entry → Option FramePlace → Type 0
 IsBegunAt d T begun = (earlier : Entry) → begun ≡ option_map (λ (standing : StandingReception). place_of (last_start d earlier T)) (stands MESSAGE_LIMIT d T)
 
--- This is what a machine that places messages keeps of the frames T.
-pub record PlacesMessages (T : List Entry) (numbers : Numbers) (begun : Begun) : Type 0 where
+-- This is what a machine that places messages in a notation keeps of the frames T.
+pub record PlacesMessages (notation : Notation) (T : List Entry) (kept : Notation) (numbers : Numbers) (begun : Begun) : Type 0 where
+  pub same : kept ≡ notation
   pub counts : CountsItems (messages MESSAGE_LIMIT T) numbers
   pub tester : IsBegunAt Tester T begun.tester
   pub unit : IsBegunAt Unit T begun.unit

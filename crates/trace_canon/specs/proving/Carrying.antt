@@ -135,17 +135,17 @@ abbrev pub GivesUp : {W : Type 0} → Ghosts W → Fault → Bool → List ℕ �
 GivesUp target why failed held old result new = EndsOn (is_of_device why) target why failed held old result new
 
 -- a run ends with this answer of the machine, and all that it told was written
-abbrev pub EndsSaying : {A W : Type 0} → Ghosts W → Script → Answering A → W → Settings → List (Option Stamped) → Result A Stop → W → Type 0
-EndsSaying target script answers start settings meanings result new =
-    answers (trace settings meanings) (summary_of MESSAGE_LIMIT settings meanings) result × Carries target start (whole_of_lines script MESSAGE_LIMIT settings meanings) false [] new
+abbrev pub EndsSaying : {A W : Type 0} → Ghosts W → Script → Answering A → W → Settings → List ℕ → List (Option Stamped) → Result A Stop → W → Type 0
+EndsSaying target script answers start settings log meanings result new =
+    answers (trace settings meanings) (summary_of MESSAGE_LIMIT settings log meanings) result × Carries target start (whole_of_lines script MESSAGE_LIMIT settings log meanings) false [] new
 
--- how a run ends that has read lines which mean this
-abbrev pub EndsTelling : {A W : Type 0} → Ghosts W → Script → Answering A → W → Settings → List (Option Stamped) → Result A Fault → W → Type 0
-EndsTelling target script answers start settings meanings (Ok value) new = EndsSaying target script answers start settings meanings (Ok value) new
-EndsTelling target script answers start settings meanings (Err fault.OutputLimit) new = EndsSaying target script answers start settings meanings (Err stop.OutputLimit) new
-EndsTelling target script answers start settings meanings (Err fault.Write) new = Carries target start (whole_of_lines script MESSAGE_LIMIT settings meanings) true [] new
-EndsTelling target script answers start settings meanings (Err fault.Read) new = ⊥
-EndsTelling target script answers start settings meanings (Err fault.Memory) new = ⊥
-EndsTelling target script answers start settings meanings (Err fault.LogLimit) new = ⊥
-EndsTelling target script answers start settings meanings (Err (fault.BadLine line column)) new = ⊥
-EndsTelling target script answers start settings meanings (Err (fault.Oversize line announced)) new = ⊥
+-- how a run ends that has read the log, whose lines mean this
+abbrev pub EndsTelling : {A W : Type 0} → Ghosts W → Script → Answering A → W → Settings → List ℕ → List (Option Stamped) → Result A Fault → W → Type 0
+EndsTelling target script answers start settings log meanings (Ok value) new = EndsSaying target script answers start settings log meanings (Ok value) new
+EndsTelling target script answers start settings log meanings (Err fault.OutputLimit) new = EndsSaying target script answers start settings log meanings (Err stop.OutputLimit) new
+EndsTelling target script answers start settings log meanings (Err fault.Write) new = Carries target start (whole_of_lines script MESSAGE_LIMIT settings log meanings) true [] new
+EndsTelling target script answers start settings log meanings (Err fault.Read) new = ⊥
+EndsTelling target script answers start settings log meanings (Err fault.Memory) new = ⊥
+EndsTelling target script answers start settings log meanings (Err fault.LogLimit) new = ⊥
+EndsTelling target script answers start settings log meanings (Err (fault.BadLine line column)) new = ⊥
+EndsTelling target script answers start settings log meanings (Err (fault.Oversize line announced)) new = ⊥

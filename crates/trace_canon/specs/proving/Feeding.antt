@@ -1,10 +1,11 @@
 -- Devices of proof: a log read piece by piece, where what is due is written before each read.
-use Rattle.std.specs.Prelude.{◌≡◌, ℕ, ◌+◌, ◌^◌, ◌<◌, ◌≤◌, ◌⊎◌, List, ◌++◌, length, take, Option, Result, Ok, Err}
+use Rattle.std.specs.Prelude.{◌≡◌, ℕ, ◌+◌, ◌^◌, ◌<◌, ◌≤◌, ◌⊎◌, Bool, List, ◌++◌, length, take, Option, Result, Ok, Err}
 use Rattle.can_log.specs.Log.{LogMeans}
 use Rattle.can_log.specs.Scanning.{Standing}
 use Rattle.can_log.specs.WholeLog.{StandsAfter, IsRefusedBehind}
 use Rattle.can_log.specs.declared.frame.Stamped.{Stamped}
 use Rattle.trace_canon.specs.Answers.{piece_length}
+use Rattle.trace_canon.specs.Summing.{ends_in_line_feed}
 use Rattle.trace_canon.specs.proving.Reading.{Took, Stopped, RefusesIn, HasEnded, StopsWithin}
 use Rattle.trace_canon.specs.declared.fault.Fault.{Fault}
 use Rattle.trace_canon.specs.declared.fault.Fault.TheVariants as fault
@@ -51,9 +52,10 @@ StopsLog stopped start m log given why now =
 module _ {T : Type 0} (took rested broke : Took T) (stopped : Stopped T) (start : T) where
   -- The log was read within its limit m, of which this many bytes were given. Where reading failed, all that was due is written, or
   -- that failed.
-  abbrev pub FeedsLog : {A : Type 0} → ℕ → List ℕ → ℕ → Result A Fault → T → Type 0
-  FeedsLog m log given (Ok value) now =
+  abbrev pub FeedsLog : ℕ → List ℕ → ℕ → Result Bool Fault → T → Type 0
+  FeedsLog m log given (Ok ended) now =
       (meanings : List (Option Stamped)) × (length log ≤ m) × (given ≡ length log) × LogMeans log meanings × HasEnded log meanings × took start meanings now
+      × (ended ≡ ends_in_line_feed log)
   FeedsLog m log given (Err (fault.BadLine line column)) now =
       (meanings : List (Option Stamped)) × took start meanings now
       × (((given ≤ m) × RefusesIn (take given log) meanings line column) ⊎ ((length log ≤ m) × (given ≡ length log) × IsRefusedBehind meanings log line column))

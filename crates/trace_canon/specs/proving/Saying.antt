@@ -1,6 +1,7 @@
--- Devices of proof: the messages whose place is known with one more, said as canonical lines.
-use Rattle.std.specs.Prelude.{◌≡◌, ℕ, List}
+-- Devices of proof: frames, and the messages whose place is known with one more, said as canonical lines.
+use Rattle.std.specs.Prelude.{◌≡◌, ℕ, List, ◌++◌}
 use Rattle.direction.specs.Dir.{Message}
+use Rattle.direction.specs.declared.Dir.{Dir}
 use Rattle.isotp_receive.specs.declared.TheConstants.{MESSAGE_LIMIT}
 use Rattle.isotp_segment.specs.Timed.{all_frames}
 use Rattle.uds_exchange.specs.Orderer.{IsDue}
@@ -12,3 +13,9 @@ abbrev pub SaysDue : {S : Type 0} → (S → List ℕ → S → Type 0) → Sett
 SaysDue says settings M message place out place_now out_now =
     (due : List Message) × IsDue M message due × (place_now ≡ place_after settings place (all_frames MESSAGE_LIMIT due))
     × says out (text_from settings place (all_frames MESSAGE_LIMIT due)) out_now
+
+-- the lines of frames were said as far as those that are left
+pub record SaysFront {S : Type 0} (says : S → List ℕ → S → Type 0) (settings : Settings) (place : Place) (out : S) (frames : List (Dir × List ℕ))
+    (place_now : Place) (out_now : S) (left : List (Dir × List ℕ)) : Type 0 where
+  pub said : (text : List ℕ) × (text_from settings place frames ≡ text ++ text_from settings place_now left) × says out text out_now
+  pub stands : place_after settings place frames ≡ place_after settings place_now left

@@ -1,6 +1,6 @@
 use Rattle.std.proofs.Common.{◌≡◌, ◌+◌, ◌++◌, ap, subst, ◌∙◌}
 use Rattle.std.specs.Prelude.{MatchResult}
-use Rattle.trace_io.proofs.Takings.{took_more}
+use Rattle.trace_io.proofs.Promises.{took_more}
 use Rattle.trace_io.specs.Written.{HasFront}
 use Rattle.trace_canon.proofs.Results.{handed_on}
 use Rattle.trace_canon.proofs.WrittenFronts.{front_longer, gathered_at_once}

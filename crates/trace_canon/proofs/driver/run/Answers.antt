@@ -1,7 +1,8 @@
-use Rattle.std.proofs.Common.{◌⊎◌, ◌≡◌, ◌-◌, List, length, arith, ap, subst, ◌∙◌, Option, Err, ℕ, true}
+use Rattle.std.proofs.Common.{◌⊎◌, ◌≡◌, ◌-◌, List, length, arith, ap, subst, ◌∙◌, Option, Err, ℕ, Bool, true}
 use Rattle.can_log.specs.declared.frame.Stamped.{Stamped}
 use Rattle.std.specs.List.{AllByRecursion}
 use Rattle.trace_canon.specs.proving.Announcing.{AnnouncesWithin}
+use Rattle.trace_canon.specs.Summing.{ends_in_line_feed}
 use Rattle.trace_canon.specs.Trace.{trace}
 use Rattle.trace_canon.specs.Needing.{HasFrame, IsKeptForMessage}
 use Rattle.isotp_receive.specs.declared.TheConstants.{MESSAGE_LIMIT}
@@ -13,6 +14,7 @@ use Rattle.trace_canon.specs.Answers.{ReadsWhile}
 use Rattle.trace_canon.specs.proving.Reading.{TakesFront}
 use Rattle.trace_canon.proofs.Runs.{TookLines, IsRunStart, starts_run, has_received}
 use Rattle.trace_canon.proofs.Tellings.{needed, never_memory, eagerly, more_given_up, wrote_no_line, reads_near, ToldEvents, HasToldNothing, told_none, takes_nothing, gives, told_of_fault, known, fails_so, left_alone_so, reads_so, known_then, told_at_the_end}
+use Rattle.trace_canon.proofs.LastBytes.{some_log}
 use Rattle.trace_canon.proofs.Streams.{when_ok}
 use Rattle.trace_canon.proofs.driver.run.Given.{Over}
 use Rattle.trace_canon.proofs.driver.run.Goals.{After-start-receiver, After-finish}
@@ -52,14 +54,14 @@ returns-in-Err g c =
     let now : Receiver g.row.M.Denot g.row.W.Denot × g.row.W.Denot = (c.feed_lines.new.taker, c.feed_lines.new.device) in
     let none = takes_nothing M.stands M.script M.needs W (start g at) in
     let known_of =
-    known M.stands M.script M.needs W settings (start g at) now (begun g at) c.requires.writer c.give_up.new.target (Unit {0}) c.in-Err.fault c.give_up.result
+    known M.stands M.script M.needs W settings (start g at) now (begun g at) c.requires.writer c.give_up.new.target Bool c.in-Err.fault c.give_up.result
     (c.in-Err.ensures.takes (start g at) none) c.give_up.ensures in
     record {
       ran = record {
         answer = λ log agrees.
             subst (λ m. AnswersTold (M.script m) (M.answers m) MESSAGE_LIMIT settings log (length (g.R.Source.given c.feed_lines.new.reader) - length (g.R.Source.given c.args.reader.now)) (Err c.give_up.result)
             (W.taken c.args.writer.now) (W.taken c.give_up.new.target)) (same_machine g at)
-            (told_of_fault M.stands M.script M.needs W settings (start g at) now (begun g at) c.requires.writer c.give_up.new.target (M.answers c.start-receiver.result.taker.machine) (Unit {0}) log
+            (told_of_fault M.stands M.script M.needs W settings (start g at) now (begun g at) c.requires.writer c.give_up.new.target (M.answers c.start-receiver.result.taker.machine) log
             (length (g.R.Source.given c.feed_lines.new.reader) - length (g.R.Source.given c.args.reader.now)) c.in-Err.fault c.give_up.result c.max_bytes.result c.max_bytes.ensures.value
             (c.in-Err.ensures.lines log agrees (start g at) none) c.give_up.ensures);
         eager = λ log agrees.
@@ -70,7 +72,7 @@ returns-in-Err g c =
             (more_given_up c.in-Err.fault _ _ c.feed_lines.new.device c.give_up.new.target c.give_up.result c.give_up.ensures));
         memory = λ log agrees refused.
             subst (λ m. HasFrame (λ T e. IsKeptForMessage MESSAGE_LIMIT T e ⊎ M.needs m T e) settings log) (same_machine g at)
-            (needed M.stands M.script M.needs W settings (start g at) now (begun g at) c.requires.writer c.give_up.new.target (Unit {0}) log
+            (needed M.stands M.script M.needs W settings (start g at) now (begun g at) c.requires.writer c.give_up.new.target log
             (length (g.R.Source.given c.feed_lines.new.reader) - length (g.R.Source.given c.args.reader.now)) c.in-Err.fault c.give_up.result c.max_bytes.result c.max_bytes.ensures.value
             (c.in-Err.ensures.lines log agrees (start g at) none) c.give_up.ensures (cc refused));
         near = λ log agrees. near g at log _ _ _ (c.in-Err.ensures.near log agrees (start g at) none);
@@ -95,18 +97,18 @@ returns-in-Err g c =
     }
 
 -- how the run ends, after lines that mean this
-ends : (g : Over) (c : After-finish g) (meanings : List (Option Stamped))
+ends : (g : Over) (c : After-finish g) (log : List ℕ) (meanings : List (Option Stamped)) → c.in-Ok.ended ≡ ends_in_line_feed log
     → TookLines (ToldEvents g.M.Machine.stands g.M.Machine.script g.M.Machine.needs g.W.Target) (c.start-receiver.result, c.args.writer.now) meanings (c.feed_lines.new.taker, c.feed_lines.new.device)
-    → EndsTelling g.W.Target (g.M.Machine.script c.args.machine) (g.M.Machine.answers c.args.machine) c.args.writer.now c.args.config.now meanings c.finish.result c.finish.new.target
-ends g c meanings lines =
+    → EndsTelling g.W.Target (g.M.Machine.script c.args.machine) (g.M.Machine.answers c.args.machine) c.args.writer.now c.args.config.now log meanings c.finish.result c.finish.new.target
+ends g c log meanings feed lines =
     let M = g.M.Machine in
     let W = g.W.Target in
     let settings = c.args.config.now in
     let at = (goal.at.returns-in-Ok g c).After-start-receiver in
     let now : Receiver g.row.M.Denot g.row.W.Denot × g.row.W.Denot = (c.feed_lines.new.taker, c.feed_lines.new.device) in
-    subst (λ m. EndsTelling W (M.script m) (M.answers m) c.args.writer.now settings meanings c.finish.result c.finish.new.target) (same_machine g at)
-    (c.finish.ensures.ends c.args.writer.now c.start-receiver.result.taker.machine settings meanings
-    (has_received (ToldEvents M.stands M.script M.needs W) settings (start g at) now (begun g at) meanings lines)
+    subst (λ m. EndsTelling W (M.script m) (M.answers m) c.args.writer.now settings log meanings c.finish.result c.finish.new.target) (same_machine g at)
+    (c.finish.ensures.ends c.args.writer.now c.start-receiver.result.taker.machine settings log meanings
+    (has_received (ToldEvents M.stands M.script M.needs W) settings (start g at) now (begun g at) meanings lines) feed
     (gives M.stands M.script M.needs W settings (start g at) now (begun g at) c.requires.writer meanings lines))
 
 within : (g : Over) (c : After-finish g) (meanings : List (Option Stamped))
@@ -127,15 +129,16 @@ returns-in-Ok g c =
     let at = (goal.at.returns-in-Ok g c).After-start-receiver in
     let none = takes_nothing M.stands M.script M.needs W (start g at) in
     let takes = c.in-Ok.ensures.takes (start g at) none in
-    let end = ends g c takes.0 takes.2 in
+    let some = some_log c.in-Ok.ended in
+    let end = ends g c some.0 takes.0 some.1 takes.2 in
     let script = M.script c.args.machine in
-    let known_of = known_then W script (M.answers c.args.machine) c.args.writer.now c.finish.new.target settings takes.0 c.finish.result end in
+    let known_of = known_then W script (M.answers c.args.machine) c.args.writer.now c.finish.new.target settings some.0 takes.0 c.finish.result end in
     record {
       ran = record {
         answer = λ log agrees.
             let read = c.in-Ok.ensures.lines log agrees (start g at) none in
             told_at_the_end W script (M.answers c.args.machine) c.args.writer.now c.finish.new.target settings log (length (g.R.Source.given c.feed_lines.new.reader) - length (g.R.Source.given c.args.reader.now)) read.0 c.finish.result
-            (omega (arith, read.1, c.max_bytes.ensures.value)) read.2 read.3 (within g c read.0 read.5) (ends g c read.0 read.5);
+            (omega (arith, read.1, c.max_bytes.ensures.value)) read.2 read.3 (within g c read.0 read.5) (ends g c log read.0 read.6 read.5);
         eager = λ log agrees.
             let lines = c.in-Ok.ensures.lines log agrees (start g at) none in
             let now : Receiver g.row.M.Denot g.row.W.Denot × g.row.W.Denot = (c.feed_lines.new.taker, c.feed_lines.new.device) in
@@ -146,7 +149,7 @@ returns-in-Ok g c =
             (λ mid said carried. c.finish.ensures.more mid said c.start-receiver.result.taker.machine settings lines.0
             (has_received (ToldEvents M.stands M.script M.needs W) settings (start g at) now (begun g at) lines.0 lines.5)
             (gives M.stands M.script M.needs W settings (start g at) now (begun g at) c.requires.writer lines.0 lines.5).machine_stands carried));
-        memory = λ log agrees refused. absurd (never_memory W script (M.answers c.args.machine) c.args.writer.now c.finish.new.target settings takes.0 c.finish.result end refused);
+        memory = λ log agrees refused. absurd (never_memory W script (M.answers c.args.machine) c.args.writer.now c.finish.new.target settings some.0 takes.0 c.finish.result end refused);
         near = λ log agrees. near g at log _ _ _ (c.in-Ok.ensures.near log agrees (start g at) none);
         read = record {
           over = when_ok c.finish.result c.in-Ok.ensures.over;

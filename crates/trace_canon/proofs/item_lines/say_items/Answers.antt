@@ -1,4 +1,4 @@
-use Rattle.std.proofs.Common.{sym, arith, ap, subst, take_all}
+use Rattle.std.proofs.Common.{Some, sym, arith, ap, subst, take_all, ◌∙◌}
 use Rattle.trace_canon.specs.ListText.{list_text}
 use Rattle.trace_canon.proofs.ItemLines.{more_lines, is_there}
 use Rattle.trace_canon.proofs.item_lines.say_items.Goals as goal
@@ -12,7 +12,7 @@ items-preserved g c =
     elim c.match-item.branch [
       | in-Some w ↦
           rw w.out-is
-          (subst (λ text. g.S.TextSink.says c.args.out.now text w.say_item.new.out) (sym (more_lines c.args.numbering c.args.meaning.now c.items.i _ (sym w.in-Some.ensures)))
+          (subst (λ text. g.S.TextSink.says c.args.out.now text w.say_item.new.out) (sym (more_lines c.args.style c.args.meaning.now c.items.i _ (sym w.in-Some.ensures ∙ ap Some (sym w.lent.ensures))))
           (g.met.S.TextSink.onward _ _ _ _ _ c.items.invariant w.say_item.ensures))
       | in_default w ↦ absurd (is_there c.args.meaning.now c.items.i (omega (arith, c.len-i-end.ensures)) (sym w.in_default.ensures))
     ]
@@ -20,4 +20,4 @@ items-preserved g c =
 pub returns : goal.returns
 returns g c =
     let whole = take_all c.items.i c.args.meaning.now (omega (arith, c.len-i-end.ensures, c.items-test.false)) in
-    subst (λ text. g.S.TextSink.says c.args.out.now text c.items.out) (ap (list_text c.args.numbering) whole) c.items.invariant
+    subst (λ text. g.S.TextSink.says c.args.out.now text c.items.out) (ap (list_text c.args.style) whole) c.items.invariant

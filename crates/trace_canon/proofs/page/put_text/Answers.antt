@@ -1,6 +1,6 @@
-use Rattle.std.proofs.Common.{arith, length-append, refl, ◌+◌, ◌++◌, true, false, ap, sym, subst, ◌∙◌}
-use Rattle.can_log.proofs.Lists.{nonempty}
-use Rattle.trace_io.proofs.Takings.{took_more}
+use Rattle.std.proofs.Common.{◌<◌, arith, length, length-append, refl, ◌+◌, ◌++◌, true, false, ap, sym, subst, ◌∙◌}
+use Rattle.std.proofs.lemmas.Bool.Decides.{nat_tests}
+use Rattle.trace_io.proofs.Promises.{took_more}
 use Rattle.trace_canon.specs.proving.Carrying.{Carries}
 use Rattle.trace_canon.proofs.WrittenFronts.{front_behind, front_longer, written_behind}
 use Rattle.trace_canon.proofs.page.put_text.Goals as goal
@@ -10,13 +10,15 @@ returns-in-Err g c = λ start said carries.
     let W = g.W.Target in
     let page = c.args.page.now in
     let failed = c.in-Err.ensures in
+    let tells = sym c.is_empty.ensures ∙ c.if-is_empty.false in
+    let some_text : 0 < length c.args.text.now = grind (arith, nat_tests) in
     let so_far : Carries W start said false page.block c.args.target.now =
     subst (λ b. Carries W start said b page.block c.args.target.now) c.if-page.false carries in
     record {
       low = so_far.low;
-      held_some = λ some. omega (arith, nonempty c.args.text.now c.is_empty.result c.is_empty.ensures c.if-is_empty.false, length-append said c.args.text.now);
-      spoke = λ is. omega (arith, nonempty c.args.text.now c.is_empty.result c.is_empty.ensures c.if-is_empty.false, length-append said c.args.text.now);
-      still = λ none. absurd (omega (arith, none, nonempty c.args.text.now c.is_empty.result c.is_empty.ensures c.if-is_empty.false, length-append said c.args.text.now));
+      held_some = λ some. omega (arith, some_text, length-append said c.args.text.now);
+      spoke = λ is. omega (arith, some_text, length-append said c.args.text.now);
+      still = λ none. absurd (omega (arith, none, some_text, length-append said c.args.text.now));
       failures = failed.failures ∙ ap (λ n. n + 1) so_far.failures;
       no_empty_write = failed.no_empty_write ∙ so_far.no_empty_write;
       flushes = failed.flushes ∙ so_far.flushes;
@@ -29,13 +31,15 @@ returns-in_default g c = λ start said carries.
     let W = g.W.Target in
     let page = c.args.page.now in
     let put = c.in_default.ensures in
+    let tells = sym c.is_empty.ensures ∙ c.if-is_empty.false in
+    let some_text : 0 < length c.args.text.now = grind (arith, nat_tests) in
     let so_far : Carries W start said false page.block c.args.target.now =
     subst (λ b. Carries W start said b page.block c.args.target.now) c.if-page.false carries in
     subst (λ b. Carries W start (said ++ c.args.text.now) b c.gather.new.block c.gather.new.writer) (sym c.if-page.false) (record {
       low = so_far.low;
-      held_some = λ some. omega (arith, nonempty c.args.text.now c.is_empty.result c.is_empty.ensures c.if-is_empty.false, length-append said c.args.text.now);
+      held_some = λ some. omega (arith, some_text, length-append said c.args.text.now);
       spoke = λ is. absurd (cc is);
-      still = λ none. absurd (omega (arith, none, nonempty c.args.text.now c.is_empty.result c.is_empty.ensures c.if-is_empty.false, length-append said c.args.text.now));
+      still = λ none. absurd (omega (arith, none, some_text, length-append said c.args.text.now));
       failures = put.failures ∙ so_far.failures;
       no_empty_write = put.no_empty_write ∙ so_far.no_empty_write;
       flushes = put.flushes ∙ so_far.flushes;

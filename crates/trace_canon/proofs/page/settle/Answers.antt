@@ -1,5 +1,5 @@
 use Rattle.std.proofs.Common.{arith, refl, ◌+◌, ◌++◌, append-nil, false, [], Err, ap, sym, subst, ◌∙◌}
-use Rattle.trace_io.proofs.Takings.{took_more}
+use Rattle.trace_io.proofs.Promises.{took_more}
 use Rattle.trace_io.specs.Written.{HasFront}
 use Rattle.trace_canon.specs.proving.Carrying.{Carries}
 use Rattle.trace_canon.proofs.WrittenFronts.{block_written, gathered_written, rest_along}

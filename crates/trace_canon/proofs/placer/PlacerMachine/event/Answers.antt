@@ -19,10 +19,11 @@ returns-in-Message-clause-ok g c = λ start T e line micros dir few seen stood.
     let counts = c.take-number.ensures.counts M (omega arith) stood.counts in
     let begun = begun_next T e c.args.line c.args.micros c.args.dir (seen_event c.args.event) line micros dir seen c.args.self.now.begun stood.tester stood.unit c.take-first.new.self
     c.take-first.ensures.tester c.take-first.ensures.unit in
-    let said = line_said T e c.args.line c.args.micros c.args.dir (seen_event c.args.event) line micros dir seen c.args.self.now.begun stood.tester stood.unit whole
-    c.take-number.result.0 c.take-number.result.1 c.take-first.result (ap seen_verdict c.in-Message.is) (c.take-number.ensures.number M (omega arith) stood.counts)
+    let said = line_said T e c.args.line c.args.micros c.args.dir (seen_event c.args.event) line micros dir seen c.args.self.now.begun stood.tester stood.unit start.notation c.args.self.now.notation whole
+    c.take-number.result.0 c.take-number.result.1 c.take-first.result stood.same (ap seen_verdict c.in-Message.is) (c.take-number.ensures.number M (omega arith) stood.counts)
     (c.take-number.ensures.step M stood.counts) c.take-first.ensures.tester_first c.take-first.ensures.unit_first in (
       record {
+        same = stood.same;
         counts = subst (λ (l : List Message). CountsItems l c.take-number.new.self) (sym next) counts;
         tester = begun.0;
         unit = begun.1;
@@ -40,9 +41,10 @@ returns-in-Began g c =
           let next = messages_next T e c.args.dir (seen_event c.args.event) dir seen ∙ ap (λ x. M ++ x) quiet ∙ append-nil M in
           let begun = begun_next T e c.args.line c.args.micros c.args.dir (seen_event c.args.event) line micros dir seen c.args.self.now.begun stood.tester stood.unit c.take-first.new.self
           c.take-first.ensures.tester c.take-first.ensures.unit in
-          let silent_so : delivered_line MESSAGE_LIMIT T e (seen_verdict c.args.event.verdict) ≡ [] = search rules in
-          let silent = ap (λ x. delivered_line MESSAGE_LIMIT T e x) (sym (ap (λ x. x.verdict) seen)) ∙ silent_so in (
+          let silent_so : delivered_line start.notation MESSAGE_LIMIT T e (seen_verdict c.args.event.verdict) ≡ [] = search rules in
+          let silent = ap (λ x. delivered_line start.notation MESSAGE_LIMIT T e x) (sym (ap (λ x. x.verdict) seen)) ∙ silent_so in (
             record {
+              same = stood.same;
               counts = subst (λ (l : List Message). CountsItems l c.args.self.now.numbers) (sym next) stood.counts;
               tester = begun.0;
               unit = begun.1;

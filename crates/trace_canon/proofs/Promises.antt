@@ -1,0 +1,3 @@
+-- Lemmas of the laws of `laws`, and of the words in texts, for the proofs of the crates above.
+pub use Rattle.trace_canon.proofs.ReadAgain.{clean_log_is_recording, clean_summary_is_certificate, summary_certifies}
+pub use Rattle.trace_canon.proofs.TextWords.{is_in_word, IsWord, bytes_word, service_word, code_word}

@@ -1,0 +1,66 @@
+-- Frames said as canonical lines, one after another, as far as there is room.
+use Rattle.std.proofs.Common.{◌≡◌, ℕ, ◌<◌, ◌≤◌, List, [], ◌∷◌, ◌++◌, length, refl, ap, sym, subst, ◌∙◌, append-nil, append_assoc}
+use Rattle.can_log.proofs.Promises.{canonical_line_length}
+use Rattle.direction.specs.declared.Dir.{Dir}
+use Rattle.trace_canon.specs.Settings.{Settings, id_of}
+use Rattle.trace_canon.specs.proving.Saying.{SaysFront}
+use Rattle.trace_canon.specs.proving.Writing.{Place, behind, filled_up, line_at, text_from, place_after}
+use Rattle.trace_canon.proofs.CanonicalWriting.{text_none, place_none, text_step, place_step, text_stop, place_stop, text_full, place_full}
+
+-- the lines of a sender's frames are all of one length
+pub same_line_length : (settings : Settings) (n m : ℕ) (sender : Dir) (earlier bytes : List ℕ) → length earlier ≡ 8 → length bytes ≡ 8
+    → length (line_at settings m (sender, bytes)) ≡ length (line_at settings n (sender, earlier))
+same_line_length settings n m sender earlier bytes eight many =
+    canonical_line_length m (id_of settings sender) bytes many ∙ sym (canonical_line_length n (id_of settings sender) earlier eight)
+
+module _ {S : Type 0} (says : S → List ℕ → S → Type 0) (nothing : (s : S) → says s [] s)
+    (onward : (s m t : S) (a b : List ℕ) → says s a m → says m b t → says s (a ++ b) t) (settings : Settings) where
+  -- none yet
+  pub none_said : (place : Place) (out : S) (frames : List (Dir × List ℕ)) → SaysFront says settings place out frames place out frames
+  none_said place out frames = record { said = ([], refl, nothing out); stands = refl }
+
+  -- some, and then more
+  pub more_said : (p q now r : Place) (s t u : S) (xs ys left zs : List (Dir × List ℕ)) → SaysFront says settings p s xs q t ys → ys ≡ left → now ≡ q
+      → SaysFront says settings now t left r u zs → SaysFront says settings p s xs r u zs
+  more_said p q now r s t u xs ys left zs one same here more =
+      let two = subst (λ fs. SaysFront says settings q t fs r u zs) (sym same) (subst (λ k. SaysFront says settings k t left r u zs) here more) in
+      let first = one.said in
+      let second = two.said in
+      record {
+        said = (
+          first.0 ++ second.0,
+          first.1 ∙ ap (λ x. first.0 ++ x) second.1 ∙ sym (append_assoc first.0 second.0 (text_from settings r zs)),
+          onward s t u first.0 second.0 first.2 second.2,
+        );
+        stands = one.stands ∙ two.stands;
+      }
+
+  -- a frame whose line fits
+  pub line_said : (place : Place) (out out_now : S) (frame : Dir × List ℕ) (later : List (Dir × List ℕ)) (line : List ℕ)
+      → line ≡ line_at settings place.lines frame → length line ≤ place.room → says out line out_now
+      → SaysFront says settings place out (frame ∷ later) (behind place line) out_now later
+  line_said place out out_now frame later line is fits said =
+      let room = subst (λ (l : List ℕ). length l ≤ place.room) is fits in
+      record {
+        said = (
+          line,
+          text_step settings place frame later room ∙ ap (λ (l : List ℕ). l ++ text_from settings (behind place l) later) (sym is),
+          said,
+        );
+        stands = place_step settings place frame later room ∙ ap (λ (l : List ℕ). place_after settings (behind place l) later) (sym is);
+      }
+
+  -- a frame whose line does not
+  pub line_stops : (place : Place) (out : S) (frame : Dir × List ℕ) (later : List (Dir × List ℕ)) → place.room < length (line_at settings place.lines frame)
+      → SaysFront says settings place out (frame ∷ later) (filled_up place) out later
+  line_stops place out frame later over = record {
+    said = ([], text_stop settings place frame later over ∙ sym (text_full settings (filled_up place) later refl), nothing out);
+    stands = place_stop settings place frame later over ∙ sym (place_full settings place later);
+  }
+
+  -- all of them, where nothing of what is left is said
+  pub all_lines_said : (p q : Place) (s t : S) (frames left : List (Dir × List ℕ)) → text_from settings q left ≡ [] → SaysFront says settings p s frames q t left
+      → says s (text_from settings p frames) t
+  all_lines_said p q s t frames left none front =
+      let said = front.said in
+      subst (λ (x : List ℕ). says s x t) (sym (said.1 ∙ ap (λ x. said.0 ++ x) none ∙ append-nil said.0)) said.2

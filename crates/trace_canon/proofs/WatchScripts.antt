@@ -1,0 +1,179 @@
+-- The lines of items said as soon as these are decided: what is kept and said of one more frame, and that all is the list.
+use Rattle.std.proofs.Common.{◌≡◌, ℕ, ◌+◌, ◌^◌, ◌<◌, ◌≤◌, List, [], ◌∷◌, ◌++◌, length, drop, Result, Ok, Err, arith, refl, ap, sym, subst, ◌∙◌, append-nil, append_assoc, length-append}
+use Rattle.std.proofs.Math.Seq.{drop-append_seam}
+use Rattle.std.specs.Prelude.{OnOk}
+use Rattle.direction.specs.Dir.{Message}
+use Rattle.direction.specs.declared.Dir.{Dir}
+use Rattle.isotp_receive.specs.declared.TheConstants.{MESSAGE_LIMIT}
+use Rattle.isotp_receive.specs.Trace.{Entry}
+use Rattle.isotp_receive.specs.Verdict.{EventValue, message as message_of, messages, told_message, verdict}
+use Rattle.isotp_receive.proofs.Promises.{messages_are_few}
+use Rattle.uds_exchange.specs.Decided.{decided, undecided}
+use Rattle.uds_exchange.specs.Decider.{DeciderValue, decides_after, IsKept}
+use Rattle.uds_exchange.specs.ItemSink.{PutsItems}
+use Rattle.uds_exchange.specs.Meaning.{ItemValue, meaning}
+use Rattle.uds_exchange.specs.Numbering.{one_more}
+use Rattle.uds_exchange.proofs.Promises.{decided_grows, decided_then_undecided, items_are_few, none_is_lost}
+use Rattle.trace_canon.specs.SessionScript.{items_of}
+use Rattle.trace_canon.specs.ListText.{item_line, list_text, list_text_from}
+use Rattle.trace_canon.specs.Messages.{meaning_of_lines}
+use Rattle.trace_canon.specs.Needing.{CompletesKept}
+use Rattle.trace_canon.specs.Settings.{Settings}
+use Rattle.trace_canon.specs.Summing.{summary_of}
+use Rattle.trace_canon.specs.Told.{AnswersTold, answers_counts, told_after, told}
+use Rattle.trace_canon.specs.Trace.{trace}
+use Rattle.trace_canon.specs.WatchScript.{decided_of, decided_by, text_behind, watching_script, WatchTellsDecided, WatchTellsTheList, WritesTheList}
+use Rattle.trace_canon.specs.proving.Watching.{SaysLines, SaysDecided, WatchesItems}
+use Rattle.trace_canon.specs.declared.fault.Fault.{Fault}
+use Rattle.trace_canon.specs.declared.item_lines.ItemStyle.{ItemStyle}
+use Rattle.trace_canon.specs.declared.summary.Summary.{Summary}
+use Rattle.trace_canon.specs.declared.watcher.LineSink.{LineSink}
+use Rattle.trace_canon.proofs.ItemLines.{lines-append}
+use Rattle.trace_canon.proofs.OneMoreFrame.{messages_more}
+
+-- ---- lines said one after another
+
+-- a number that is not the largest of 64 bits has a next one
+next_number : (n after : ℕ) → after ≡ one_more n → n + 1 < 2 ^ 64 → after ≡ n + 1
+next_number n after is few = omega arith
+
+module _ {S : Type 0} (says : S → List ℕ → S → Type 0) (nothing : (s : S) → says s [] s)
+    (onward : (s m t : S) (a b : List ℕ) → says s a m → says m b t → says s (a ++ b) t) where
+  -- the line of an item was said
+  abbrev pub SaysItem : LineSink S → ItemValue → LineSink S → Type 0
+  SaysItem s item t =
+      (t.out.ghost_name ≡ s.out.ghost_name) × (t.number.ghost_name ≡ s.number.ghost_name) × (t.style ≡ s.style)
+      × (t.number.now ≡ one_more s.number.now) × says s.out.now (item_line s.style s.number.now item) t.out.now
+
+  -- the lines of items were said
+  pub record SaidItems (s : LineSink S) (items : List ItemValue) (t : LineSink S) : Type 0 where
+    pub same_out : t.out.ghost_name ≡ s.out.ghost_name
+    pub same_number : t.number.ghost_name ≡ s.number.ghost_name
+    pub lines : SaysLines says s.style items s.number.now s.out.now t.number.now t.out.now
+
+  pub said_items : (items : List ItemValue) (s t : LineSink S) → PutsItems SaysItem s items t → SaidItems s items t
+  said_items [] s t is = subst (SaidItems s []) (sym is) (record { same_out = refl; same_number = refl; lines = λ few. (omega arith, nothing s.out.now) })
+  said_items (item ∷ later) s t (between, one, rest) =
+      let after = said_items later between t rest in
+      record {
+        same_out = after.same_out ∙ one.0;
+        same_number = after.same_number ∙ one.1;
+        lines = λ few.
+            let next = next_number s.number.now between.number.now one.3 (omega arith) in
+            let said = after.lines (omega arith) in
+            let same = one.2 in
+            let text : list_text_from between.style between.number.now later ≡ list_text_from s.style (s.number.now + 1) later =
+            (λ i. list_text_from (same i) (next i) later) in (
+              said.0 ∙ omega arith,
+              onward s.out.now between.out.now t.out.now (item_line s.style s.number.now item) (list_text_from s.style (s.number.now + 1) later) one.4
+                  (subst (λ x. says between.out.now x t.out.now) text said.1),
+            );
+      }
+
+-- ---- one more frame
+
+-- there are no more items than frames, decided or not
+few_items : (T : List Entry) → length (decided_of T) + length (undecided (messages MESSAGE_LIMIT T)) ≤ length T
+few_items T =
+    let M = messages MESSAGE_LIMIT T in
+    let both = sym (length-append (decided M) (undecided M)) ∙ ap length (decided_then_undecided M) in
+    let few = items_are_few (meaning M) in
+    let lost = none_is_lost M in
+    let frames = messages_are_few MESSAGE_LIMIT T in
+    omega arith
+
+-- a frame that completes a message which is kept
+pub completes_kept : (T : List Entry) (e : Entry) (d : Dir) (event : EventValue) (bytes : List ℕ) → e.dir ≡ d → event ≡ verdict MESSAGE_LIMIT T e → event.verdict ≡ message_of bytes
+    → IsKept (messages MESSAGE_LIMIT T) (d, bytes) → CompletesKept MESSAGE_LIMIT T e
+completes_kept T e d event bytes dir_is is told kept =
+    (bytes, sym (ap (λ (x : EventValue). x.verdict) is) ∙ told, subst (λ x. IsKept (messages MESSAGE_LIMIT T) (x, bytes)) (sym dir_is) kept)
+
+module _ {S : Type 0} (says : S → List ℕ → S → Type 0) (style kept : ItemStyle) (T : List Entry) where
+  -- a message: the lines of what it decides were said
+  pub watches_next : (e : Entry) (message : Message) (decider decider_now : DeciderValue) (number number_now : ℕ) (out out_now : S) → length T < 2 ^ 62
+      → messages MESSAGE_LIMIT (T ++ e ∷ []) ≡ messages MESSAGE_LIMIT T ++ message ∷ [] → WatchesItems style T decider kept number
+      → decider_now ≡ decides_after (messages MESSAGE_LIMIT T ++ message ∷ []) → SaysDecided says kept (messages MESSAGE_LIMIT T) message number out number_now out_now
+      → WatchesItems style (T ++ e ∷ []) decider_now kept number_now × says out (text_behind style T (decided_by T e)) out_now
+  watches_next e message decider decider_now number number_now out out_now few next stood decides (items, are, lines) =
+      let before = decided_of T in
+      let longer : decided_of (T ++ e ∷ []) ≡ before ++ items = ap decided next ∙ are in
+      let left : decided_by T e ≡ items = ap (drop (length before)) longer ∙ drop-append_seam before items in
+      let grown = ap length longer ∙ length-append before items in
+      let frames = length-append T (e ∷ []) in
+      let all_few = few_items (T ++ e ∷ []) in
+      let numbered = stood.numbered in
+      let same = stood.same in
+      let said = lines (omega arith) in (
+        record { decides = decides ∙ ap decides_after (sym next); same = same; numbered = said.0 ∙ omega arith; few = omega arith },
+        subst (λ text. says out text out_now) (λ i. list_text_from (same i) (numbered i) (sym left i)) said.1,
+      )
+
+  -- no message: nothing is
+  pub watches_on : (nothing : (s : S) → says s [] s) (e : Entry) (decider : DeciderValue) (number : ℕ) (out : S) → length T < 2 ^ 62
+      → messages MESSAGE_LIMIT (T ++ e ∷ []) ≡ messages MESSAGE_LIMIT T ++ [] → WatchesItems style T decider kept number
+      → WatchesItems style (T ++ e ∷ []) decider kept number × says out (text_behind style T (decided_by T e)) out
+  watches_on nothing e decider number out few next stood =
+      let before = decided_of T in
+      let same : messages MESSAGE_LIMIT (T ++ e ∷ []) ≡ messages MESSAGE_LIMIT T = next ∙ append-nil (messages MESSAGE_LIMIT T) in
+      let none : decided_by T e ≡ [] = ap (λ M. drop (length before) (decided M)) same ∙ ap (drop (length before)) (sym (append-nil before)) ∙ drop-append_seam before [] in
+      let frames = length-append T (e ∷ []) in (
+        record {
+          decides = stood.decides ∙ ap decides_after (sym same);
+          same = stood.same;
+          numbered = stood.numbered ∙ ap (λ M. 1 + length (decided M)) (sym same);
+          few = omega arith;
+        },
+        subst (λ text. says out text out) (sym (ap (text_behind style T) none)) (nothing out),
+      )
+
+  -- at the end what is not decided
+  pub watched : (decider : DeciderValue) (number number_now : ℕ) (out out_now : S) → WatchesItems style T decider kept number
+      → SaysLines says kept (undecided (messages MESSAGE_LIMIT T)) number out number_now out_now
+      → says out (text_behind style T (undecided (messages MESSAGE_LIMIT T))) out_now
+  watched decider number number_now out out_now stood lines =
+      let all_few = few_items T in
+      let numbered = stood.numbered in
+      let same = stood.same in
+      let few = stood.few in
+      subst (λ text. says out text out_now) (λ i. list_text_from (same i) (numbered i) (undecided (messages MESSAGE_LIMIT T))) (lines (omega arith)).1
+
+-- ---- all that is told
+
+module _ (style : ItemStyle) where
+  -- the list of items, and the text of those behind them
+  joined : (T : List Entry) (items : List ItemValue) → list_text style (decided_of T) ++ text_behind style T items ≡ list_text style (decided_of T ++ items)
+  joined T items = sym (lines-append style 1 (decided_of T) items)
+
+  next_told : (T : List Entry) (e : Entry) → list_text style (decided_of T) ++ text_behind style T (decided_by T e) ≡ list_text style (decided_of (T ++ e ∷ []))
+  next_told T e =
+      let M = messages MESSAGE_LIMIT T in
+      let grows = decided_grows M (told_message e.dir (verdict MESSAGE_LIMIT T e).verdict) in
+      let longer : decided_of (T ++ e ∷ []) ≡ decided M ++ grows.0 = ap decided (messages_more MESSAGE_LIMIT T e) ∙ grows.1 in
+      let left : decided_by T e ≡ grows.0 = ap (drop (length (decided M))) longer ∙ drop-append_seam (decided M) grows.0 in
+      ap (λ items. list_text style (decided_of T) ++ text_behind style T items) left ∙ joined T grows.0 ∙ ap (list_text style) (sym longer)
+
+  from_there : (past rest : List Entry) → list_text style (decided_of past) ++ told_after ((watching_script style).word) past rest ≡ list_text style (decided_of (past ++ rest))
+  from_there past [] = append-nil (list_text style (decided_of past)) ∙ ap (λ T. list_text style (decided_of T)) (sym (append-nil past))
+  from_there past (e ∷ rest) =
+      let word = text_behind style past (decided_by past e) in
+      let later = told_after ((watching_script style).word) (past ++ e ∷ []) rest in
+      sym (append_assoc (list_text style (decided_of past)) word later) ∙ ap (λ x. x ++ later) (next_told past e) ∙ from_there (past ++ e ∷ []) rest
+      ∙ ap (λ T. list_text style (decided_of T)) (append_assoc past (e ∷ []) rest)
+
+pub watch_tells_decided : WatchTellsDecided
+watch_tells_decided style T = from_there style [] T
+
+pub watch_tells_the_list : WatchTellsTheList
+watch_tells_the_list style T summary =
+    let M = messages MESSAGE_LIMIT T in
+    ap (λ x. x ++ text_behind style T (undecided M)) (watch_tells_decided style T) ∙ joined style T (undecided M) ∙ ap (list_text style) (decided_then_undecided M)
+
+-- so where a run comes to the end of the log, that was written
+pub writes_the_list : (style : ItemStyle) (settings : Settings) (log : List ℕ) (given : ℕ) (result : Result Summary Fault) (old new : List ℕ)
+    → AnswersTold (watching_script style) answers_counts MESSAGE_LIMIT settings log given result old new → OnOk result (WritesTheList style MESSAGE_LIMIT settings log old new)
+writes_the_list style settings log given (Ok summary) old new (all, meanings, is, counted, wrote) = (
+  meaning_of_lines MESSAGE_LIMIT settings meanings,
+  record { meanings = meanings; means = is.1; found = refl },
+  wrote ∙ ap (λ x. old ++ x) (watch_tells_the_list style (trace settings meanings) (summary_of MESSAGE_LIMIT settings log meanings)),
+)
+writes_the_list style settings log given (Err why) old new answers = tt

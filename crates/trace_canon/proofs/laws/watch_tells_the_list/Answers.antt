@@ -1,0 +1,8 @@
+use Rattle.trace_canon.proofs.WatchScripts.{watch_tells_decided, watch_tells_the_list}
+use Rattle.trace_canon.proofs.laws.watch_tells_the_list.Goals as goal
+
+pub returns-clause-decided : goal.returns-clause-decided
+returns-clause-decided c = watch_tells_decided
+
+pub returns-clause-whole : goal.returns-clause-whole
+returns-clause-whole c = watch_tells_the_list

@@ -1,0 +1,104 @@
+-- Which identifiers ask in a log and which answer them, whatever identifiers it has: what is answered, and what is then
+-- written. No length that is announced refuses a log, and of the settings the limit alone counts.
+use Rattle.std.specs.Prelude.{◌≡◌, ℕ, List, [], ◌∷◌, ◌++◌, length, codes, false, Option, Some, None, Result, Ok, Err}
+use Rattle.std.specs.Fmt.{decimal}
+use Rattle.std.specs.List.{flat_map}
+use Rattle.can_log.specs.Frame.{FrameValue}
+use Rattle.can_log.specs.declared.frame.Stamped.{Stamped}
+use Rattle.isotp_receive.specs.declared.TheConstants.{MESSAGE_LIMIT}
+use Rattle.trace_io.specs.Written.{HasFront}
+use Rattle.trace_canon.specs.declared.fault.Fault.{Fault}
+use Rattle.trace_canon.specs.declared.fault.Fault.TheVariants.{BadLine, Oversize, LogLimit, OutputLimit, Read, Write, Memory}
+use Rattle.trace_canon.specs.declared.hearing.Found.{Found}
+use Rattle.trace_canon.specs.declared.notation.Notation.{Notation}
+use Rattle.trace_canon.specs.declared.notation.Notation.TheVariants.{Text, Json}
+use Rattle.trace_canon.specs.declared.summary.Summary.{Summary}
+use Rattle.trace_canon.specs.Explained.{IsReadAs}
+use Rattle.trace_canon.specs.Json.{Members, nothing, member, object_line}
+use Rattle.trace_canon.specs.Json as json
+use Rattle.trace_canon.specs.Needing.{BeginsWithLines}
+use Rattle.trace_canon.specs.Settings.{Settings}
+use Rattle.trace_canon.specs.Summing.{ends_in_line_feed}
+use Rattle.trace_canon.specs.Told.{IsUnreadFor}
+use Rattle.uds_find.specs.Credit.{HasCredit}
+use Rattle.uds_find.specs.Finding.{AreCreditLines}
+use Rattle.uds_find.specs.declared.pair.CreditLine.{CreditLine}
+
+-- the frames of lines that mean this, whatever their identifiers
+unfoldable pub frames_in : List (Option Stamped) → List FrameValue
+frames_in [] = []
+frames_in (None ∷ meanings) = frames_in meanings
+frames_in (Some stamped ∷ meanings) = stamped.frame ∷ frames_in meanings
+
+-- what is counted in a log whose lines mean this, where nobody told the identifiers: no frame is of a side
+abbrev pub summary_of_lines : List ℕ → List (Option Stamped) → Summary
+summary_of_lines log meanings = record {
+  lines = length meanings;
+  frames = 0;
+  tester_frames = 0;
+  unit_frames = 0;
+  messages = 0;
+  dropped = 0;
+  ended = 0;
+  unfinished = 0;
+  pending = 0;
+  ends_in_line_feed = ends_in_line_feed log;
+}
+
+-- these are the pairs of the frames of a log whose lines mean this, and its counts
+abbrev pub IsFoundOf : List ℕ → List (Option Stamped) → List CreditLine → Summary → Type 0
+IsFoundOf log meanings pairs summary = AreCreditLines (frames_in meanings) pairs × (summary ≡ summary_of_lines log meanings)
+
+-- the log can be read, and these are its pairs and its counts
+abbrev pub IsFoundIn : Settings → List ℕ → List CreditLine → Summary → Type 0
+IsFoundIn settings log pairs summary = (meanings : List (Option Stamped)) × IsReadAs settings log (Ok meanings) × IsFoundOf log meanings pairs summary
+
+-- why the log can't be read, where the fault tells that
+abbrev pub IsUnheardFor : Settings → List ℕ → Fault → Type 0
+IsUnheardFor settings log fault = IsUnreadFor false MESSAGE_LIMIT settings log fault
+
+-- the pairs of a log and its counts, or why it can't be read
+abbrev pub GivesFound : Settings → List ℕ → Result Found Fault → Type 0
+GivesFound settings log (Ok found) = IsFoundIn settings log found.pairs.items found.summary
+GivesFound settings log (Err fault) = IsUnheardFor settings log fault
+
+-- memory may be needed: the first lines of the log have an answer that is credited
+abbrev pub NeedsMemoryToFind : List ℕ → Type 0
+NeedsMemoryToFind log = (meanings : List (Option Stamped)) × BeginsWithLines log meanings × HasCredit (frames_in meanings)
+
+-- the line of a pair in words: its credits, and the options by which other commands take its identifiers
+abbrev pub worded_pair : CreditLine → List ℕ
+worded_pair pair = decimal pair.credits.0 ++ codes " --tester " ++ pair.tester.items ++ codes " --unit " ++ pair.unit.items ++ codes "\n"
+
+-- as JSON
+abbrev pub pair_object : CreditLine → Members
+pair_object pair =
+    member (codes "credits") (json.number pair.credits.0) (member (codes "tester") (json.string pair.tester.items)
+    (member (codes "unit") (json.string pair.unit.items) nothing))
+
+-- its line, as it is written in this notation
+abbrev pub pair_line : Notation → CreditLine → List ℕ
+pair_line Text pair = worded_pair pair
+pair_line Json pair = object_line (pair_object pair)
+
+-- the lines of pairs
+abbrev pub pairs_text : Notation → List CreditLine → List ℕ
+pairs_text notation pairs = flat_map (pair_line notation) pairs
+
+-- What is written after `old` where there is no such text: a front of it where writing failed, and else nothing.
+abbrev pub LeavesOfFind : Notation → Settings → List ℕ → Fault → List ℕ → List ℕ → Type 0
+LeavesOfFind notation settings log Write old new =
+    (pairs : List CreditLine) × (summary : Summary) × IsFoundIn settings log pairs summary × HasFront old (pairs_text notation pairs) new
+LeavesOfFind notation settings log (BadLine line column) old new = new ≡ old
+LeavesOfFind notation settings log (Oversize line announced) old new = new ≡ old
+LeavesOfFind notation settings log LogLimit old new = new ≡ old
+LeavesOfFind notation settings log OutputLimit old new = new ≡ old
+LeavesOfFind notation settings log Read old new = new ≡ old
+LeavesOfFind notation settings log Memory old new = new ≡ old
+
+-- What is answered on a log, and what is then written where `old` was before: the lines of its pairs, and its counts; else
+-- why it can't be read, and what that leaves.
+abbrev pub Finds : Notation → Settings → List ℕ → Result Summary Fault → List ℕ → List ℕ → Type 0
+Finds notation settings log (Ok summary) old new =
+    (pairs : List CreditLine) × IsFoundIn settings log pairs summary × (new ≡ old ++ pairs_text notation pairs)
+Finds notation settings log (Err fault) old new = IsUnheardFor settings log fault × LeavesOfFind notation settings log fault old new

@@ -1,0 +1,58 @@
+-- What is answered with a log's meaning and its counts; nothing is told of it.
+use Rattle.std.specs.Prelude.{◌≡◌, ℕ, ◌<◌, ◌≤◌, Bool, true, false, nat_le, List, [], length, Result, Ok, Err}
+use Rattle.isotp_receive.specs.declared.TheConstants.{MESSAGE_LIMIT}
+use Rattle.isotp_receive.specs.Trace.{Entry}
+use Rattle.isotp_receive.specs.Verdict.{messages}
+use Rattle.direction.specs.Dir.{Message}
+use Rattle.uds_exchange.specs.Meaning.{ItemValue, meaning, flattened}
+use Rattle.uds_exchange.specs.declared.step.Step.{Step}
+use Rattle.uds_exchange.specs.declared.step.Step.TheVariants as step
+use Rattle.trace_canon.specs.Answers.{GivesSession}
+use Rattle.trace_canon.specs.CanonicalLog.{canonical_log}
+use Rattle.trace_canon.specs.Settings.{Settings}
+use Rattle.trace_canon.specs.Told.{Script, Answering, AnswersTold}
+use Rattle.trace_canon.specs.declared.collector.Session.{Session}
+use Rattle.trace_canon.specs.declared.fault.Fault.{Fault}
+use Rattle.trace_canon.specs.declared.machine.Stop.TheVariants.{OutputLimit}
+use Rattle.trace_canon.specs.proving.Measuring.{HaveLengths}
+
+-- what the trace means
+abbrev pub items_of : List Entry → List ItemValue
+items_of T = meaning (messages MESSAGE_LIMIT T)
+
+-- the canonical log of these items is within the limit
+abbrev pub fits_within : Settings → List ItemValue → Bool
+fits_within settings items = nat_le (length (canonical_log MESSAGE_LIMIT settings (flattened items))) settings.max_bytes
+
+-- a message of which this becomes has a place in the meaning
+abbrev pub has_place : Step → Bool
+has_place (step.Request service) = true
+has_place step.Answer = true
+has_place step.Removed = false
+has_place step.Hold = true
+has_place step.Pass = true
+
+-- What is kept of these messages: all that they mean and how long its canonical log is, while that is within the limit;
+-- else no item, and that it is longer. So what is held never has a canonical log above the limit.
+pub record Collects (settings : Settings) (M : List Message) (items : List ItemValue) (known : ℕ) (config : Settings) : Type 0 where
+  pub same : config ≡ settings
+  pub size : ℕ
+  pub measured : HaveLengths settings (flattened (meaning M)) size
+  pub all : size ≤ settings.max_bytes → (items ≡ meaning M) × (known ≡ size)
+  pub none : settings.max_bytes < size → (items ≡ []) × (settings.max_bytes < known)
+  pub held : fits_within settings items ≡ true
+
+-- nothing
+abbrev pub silent_script : Script
+silent_script = record { strict = true; word = λ T e. []; last = λ T summary. [] }
+
+-- it answers the meaning and the counts, where its canonical log is within the limit
+abbrev pub answers_session : Settings → Answering Session
+answers_session settings T summary (Ok session) = (session.meaning ≡ items_of T) × (session.summary ≡ summary) × (fits_within settings (items_of T) ≡ true)
+answers_session settings T summary (Err OutputLimit) = fits_within settings (items_of T) ≡ false
+
+-- so what is answered gives the session, and nothing is written
+abbrev pub SessionIsTheSame : Type 0
+SessionIsTheSame = (settings : Settings) (log : List ℕ) (given : ℕ) (result : Result Session Fault) (old new : List ℕ)
+    → AnswersTold silent_script (answers_session settings) MESSAGE_LIMIT settings log given result old new
+    → GivesSession MESSAGE_LIMIT settings log result

@@ -1,0 +1,49 @@
+-- What is told of a log whose items are watched: the list of them, each line as soon as its item is decided.
+use Rattle.std.specs.Prelude.{◌≡◌, ℕ, ◌+◌, false, List, [], ◌∷◌, ◌++◌, length, drop}
+use Rattle.isotp_receive.specs.declared.TheConstants.{MESSAGE_LIMIT}
+use Rattle.isotp_receive.specs.Trace.{Entry}
+use Rattle.isotp_receive.specs.Verdict.{messages}
+use Rattle.uds_exchange.specs.Decided.{decided, undecided}
+use Rattle.uds_exchange.specs.Meaning.{ItemValue}
+use Rattle.trace_canon.specs.SessionScript.{items_of}
+use Rattle.trace_canon.specs.ListText.{list_text, list_text_from}
+use Rattle.trace_canon.specs.Messages.{HasMeaning}
+use Rattle.trace_canon.specs.Settings.{Settings}
+use Rattle.trace_canon.specs.Told.{Script, told}
+use Rattle.trace_canon.specs.declared.item_lines.ItemStyle.{ItemStyle}
+use Rattle.trace_canon.specs.declared.summary.Summary.{Summary}
+
+-- the items that the frames of a trace decide
+abbrev pub decided_of : List Entry → List ItemValue
+decided_of T = decided (messages MESSAGE_LIMIT T)
+
+-- the items that the frame e decides after the frames T
+abbrev pub decided_by : List Entry → Entry → List ItemValue
+decided_by T e = drop (length (decided_of T)) (decided_of (T ++ e ∷ []))
+
+-- the text of items that come behind those which the frames T decide
+abbrev pub text_behind : ItemStyle → List Entry → List ItemValue → List ℕ
+text_behind style T items = list_text_from style (1 + length (decided_of T)) items
+
+-- of each frame the items that it decides, and at the end those that are not decided
+abbrev pub watching_script : ItemStyle → Script
+watching_script style = record {
+  strict = false;
+  word = λ T e. text_behind style T (decided_by T e);
+  last = λ T summary. text_behind style T (undecided (messages MESSAGE_LIMIT T));
+}
+
+-- what is told of the frames of a trace is the list of the items that they decide
+abbrev pub WatchTellsDecided : Type 0
+WatchTellsDecided = (style : ItemStyle) (T : List Entry)
+    → told ((watching_script style).word) T ≡ list_text style (decided_of T)
+
+-- and with what is told at the end it is the list of the meaning
+abbrev pub WatchTellsTheList : Type 0
+WatchTellsTheList = (style : ItemStyle) (T : List Entry) (summary : Summary)
+    → told ((watching_script style).word) T ++ (watching_script style).last T summary ≡ list_text style (items_of T)
+
+-- the log is legal, and the list of its meaning was written
+abbrev pub WritesTheList : ItemStyle → ℕ → Settings → List ℕ → List ℕ → List ℕ → Type 0
+WritesTheList style limit settings log old new =
+    (items : List ItemValue) × HasMeaning limit settings log items × (new ≡ old ++ list_text style items)

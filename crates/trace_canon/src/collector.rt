@@ -1,0 +1,220 @@
+//! What a log means, with its counts: a machine that says nothing, and collects the items. `list` and `compare` stand on it.
+//!
+//! It lets go of all that it holds once the canonical log is certainly longer than the limit, and takes no more: what
+//! refuses the log earlier may still come, and is told first.
+ghost use Rattle.std.specs.Prelude.{◌≡◌, ◌≢◌, ◌-◌, ℕ, List, [], length, IfErr};
+ghost use Rattle.isotp_receive.specs.declared.TheConstants.{MESSAGE_LIMIT};
+ghost use Rattle.trace_canon.specs.SessionScript.{Collects, has_place};
+ghost use Rattle.trace_canon.specs.Answers.{ReadsWhile, GivesMeaning, GivesSession};
+ghost use Rattle.trace_canon.specs.Devices.{ReadFrom};
+ghost use Rattle.trace_canon.specs.Refusal.{IsNotRefusedWithin};
+ghost use Rattle.trace_io.specs.Counted.{AreLowCounts};
+ghost use Rattle.trace_io.specs.Stream.{Agrees};
+
+use crate::config::Config;
+use crate::driver::run;
+use crate::fault::Fault;
+use crate::length::message_length;
+use crate::machine::{Machine, Stop};
+use crate::nowhere::Nowhere;
+use crate::summary::Summary;
+use crate::text_sink::TextSink;
+use direction::Dir;
+use isotp_receive::{Event, Pair, Verdict};
+use std::alloc::{AllocError, Global};
+use trace_io::Source;
+use uds_exchange::{Meaning, Pairing, Step};
+
+/// What an accepted log means, and what was counted in it.
+#[derive(Debug, Drop)]
+pub struct Session {
+    pub meaning: Meaning,
+    pub summary: Summary,
+}
+
+/// Reads a log, and gives what its messages mean. It accepts the logs that [`normalise`](crate::normalise) accepts, and
+/// refuses every other one in the same way.
+pub fn meaning_of<R: Source>(
+    alloc: Global,
+    config: &Config,
+    reader: &mut R,
+) -> Result<Meaning, Fault>
+    requires reader { AreLowCounts (R.reads reader.old) (length (R.given reader.old)) (R.failures reader.old) }
+
+    // What is answered, for each log with which the bytes that were read agree.
+    ensures answer { (log : List ℕ) → Agrees (R.given reader.old) (R.given reader.new) (R.is_over reader.new) log → GivesMeaning MESSAGE_LIMIT config.now log result }
+
+    // Reading stops within one piece: of all bytes given but the last 4,096 none refuses the log, and of all where a read
+    // failed.
+    ensures near { (log : List ℕ) → Agrees (R.given reader.old) (R.given reader.new) (R.is_over reader.new) log
+        → ReadsWhile (IsNotRefusedWithin MESSAGE_LIMIT config.now log) (length (R.given reader.new) - length (R.given reader.old)) (R.failures reader.old) (R.failures reader.new) }
+
+    // What it did with the source. Nothing is written.
+    ensures read { ReadFrom R.Source Fault.Read config.now.max_bytes result reader.old reader.new }
+    ensures never_write { IfErr result (λ fault. fault ≢ Fault.Write) }
+{
+    match session_of(alloc, config, reader) {
+        Ok(session) => {
+            let Session { meaning, .. } = session;
+            Ok(meaning)
+        }
+        Err(fault) => Err(fault),
+    }
+}
+
+/// The same, with what was counted in the log.
+pub(crate) fn session_of<R: Source>(
+    alloc: Global,
+    config: &Config,
+    reader: &mut R,
+) -> Result<Session, Fault>
+    requires reader { AreLowCounts (R.reads reader.old) (length (R.given reader.old)) (R.failures reader.old) }
+    ensures answer { (log : List ℕ) → Agrees (R.given reader.old) (R.given reader.new) (R.is_over reader.new) log → GivesSession MESSAGE_LIMIT config.now log result }
+    ensures near { (log : List ℕ) → Agrees (R.given reader.old) (R.given reader.new) (R.is_over reader.new) log
+        → ReadsWhile (IsNotRefusedWithin MESSAGE_LIMIT config.now log) (length (R.given reader.new) - length (R.given reader.old)) (R.failures reader.old) (R.failures reader.new) }
+    ensures read { ReadFrom R.Source Fault.Read config.now.max_bytes result reader.old reader.new }
+    ensures never_write { IfErr result (λ fault. fault ≢ Fault.Write) }
+{
+    let machine = start(alloc, config);
+    run(alloc, config, machine, reader, &mut Nowhere::new())
+}
+
+/// A machine before the first message.
+fn start(alloc: Global, config: &Config) -> Collector
+    ensures settings { result.config ≡ config.now }
+    ensures collects { Collects config.now [] result.pairing result.length result.config }
+{
+    Collector {
+        alloc,
+        pairing: Pairing::new(alloc),
+        length: 0,
+        config: *config,
+    }
+}
+
+/// Pairs the messages, and answers with all items at the end.
+#[derive(Drop)]
+pub(crate) struct Collector {
+    alloc: Global,
+    /// What the messages so far mean, or nothing where its canonical log is too long.
+    pub pairing: Pairing,
+    /// How long that canonical log is, or a number above the limit.
+    pub length: u64,
+    pub config: Config,
+}
+
+impl Collector {
+    ghost use Rattle.std.specs.Prelude.{◌≡◌, ◌+◌, ℕ, List, [], ◌∷◌, ◌++◌, OnOk};
+    ghost use Rattle.direction.specs.Dir.{Message};
+    ghost use Rattle.uds_exchange.specs.Meaning.{meaning, flattened};
+    ghost use Rattle.trace_canon.specs.Settings.{Settings};
+    ghost use Rattle.trace_canon.specs.SessionScript.{Collects};
+    ghost use Rattle.trace_canon.specs.proving.Measuring.{HaveLengths};
+
+    /// Takes one more message, while the canonical log is within the limit.
+    fn take(&mut self, dir: Dir, message: &[u8]) -> Result<(), AllocError>
+        ensures { OnOk result ((settings : Settings) (M : List Message) → Collects settings M self.old.pairing self.old.length self.old.config
+            → Collects settings (M ++ (dir, message.now) ∷ []) self.new.pairing self.new.length self.new.config) }
+    {
+        let limit = self.config.max_bytes();
+        if self.length > limit {
+            return Ok(());
+        }
+        let length = self.length.saturating_add(self.added(dir, message));
+        if length > limit {
+            self.pairing = Pairing::new(self.alloc);
+            self.length = length;
+            return Ok(());
+        }
+        match self.pairing.take(dir, message) {
+            Ok(()) => {
+                self.length = length;
+                Ok(())
+            }
+            Err(refused) => Err(refused),
+        }
+    }
+
+    /// By how many bytes one more message makes the canonical log longer.
+    fn added(&self, dir: Dir, message: &[u8]) -> u64
+        ensures { (M : List Message) (size : ℕ) → self.now.pairing ≡ meaning M → HaveLengths self.now.config (flattened (meaning M)) size
+            → HaveLengths self.now.config (flattened (meaning (M ++ (dir, message.now) ∷ []))) (size + result) }
+    {
+        if has_place(self.pairing.step(dir, message)) {
+            message_length(&self.config, dir, message)
+        } else {
+            0
+        }
+    }
+}
+
+/// Whether a message of which this becomes has a place in the meaning.
+fn has_place(step: Step) -> bool
+    ensures { result ≡ has_place step }
+{
+    match step {
+        Step::Removed => false,
+        Step::Request(_) | Step::Answer | Step::Hold | Step::Pass => true,
+    }
+}
+
+impl Machine for Collector {
+    ghost use Rattle.std.specs.Prelude.{⊤};
+    ghost use Rattle.isotp_receive.specs.declared.TheConstants.{MESSAGE_LIMIT};
+    ghost use Rattle.isotp_receive.specs.Verdict.{messages};
+    ghost use Rattle.trace_canon.specs.SessionScript.{Collects, answers_session, silent_script};
+
+    type Answer = Session;
+
+    ghost stands = { λ start T now. Collects start.config (messages MESSAGE_LIMIT T) now.pairing now.length now.config };
+
+    ghost script = { λ start. silent_script };
+
+    ghost answers = { λ start. answers_session start.config };
+
+    ghost needs = { λ start T e. ⊤ };
+
+    #[inline(always)]
+    fn is_strict(&self) -> bool {
+        true
+    }
+
+    #[inline(always)]
+    fn event<S: TextSink>(
+        &mut self,
+        _line: u64,
+        _micros: u64,
+        dir: Dir,
+        event: Event<'_>,
+        _out: &mut S,
+    ) -> Result<(), AllocError> {
+        match event.verdict {
+            Verdict::Message(message) => match self.take(dir, message) {
+                Ok(()) => Ok(()),
+                Err(refused) => Err(refused),
+            },
+            Verdict::Began | Verdict::Stored | Verdict::Flow | Verdict::Dropped(_) => Ok(()),
+        }
+    }
+
+    fn end<S: TextSink>(
+        self,
+        _pair: &Pair,
+        summary: &Summary,
+        _out: &mut S,
+    ) -> Result<Session, Stop> {
+        let Collector {
+            pairing,
+            length,
+            config,
+            ..
+        } = self;
+        if length > config.max_bytes() {
+            return Err(Stop::OutputLimit);
+        }
+        Ok(Session {
+            meaning: pairing.finish(),
+            summary: *summary,
+        })
+    }
+}

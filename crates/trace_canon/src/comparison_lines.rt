@@ -1,0 +1,133 @@
+//! The text of a comparison: in words, and what it shares with that in JSON.
+ghost use Rattle.std.specs.Prelude.{ℕ, ◌+◌, Some, None, slice_get};
+ghost use Rattle.uds_exchange.specs.ItemSeen.{lent_value};
+ghost use Rattle.trace_canon.specs.ComparisonText.{comparison_lines, comparison_text, shown_lines, shown_text};
+ghost use Rattle.trace_canon.specs.Printed.{Prints};
+ghost use Rattle.trace_io.specs.Counted.{IsLowCount};
+
+use crate::comparing::{Compared, Comparison};
+use crate::comparison_objects::say_comparison_object;
+use crate::fault::Fault;
+use crate::item_lines::{Numbering, say_worded};
+use crate::item_objects::say_item_object;
+use crate::notation::Notation;
+use crate::parts::Part;
+use crate::printer::{Printable, print};
+use crate::say::say_parts;
+use crate::text_sink::TextSink;
+use trace_io::Target;
+use uds_exchange::{LentItem, Meaning};
+
+/// How a comparison is written.
+#[derive(Clone, Copy, Debug, PartialEq, Eq)]
+pub struct ComparisonStyle {
+    /// Whether the items are shown at which two logs differ.
+    pub shows_items: bool,
+    pub notation: Notation,
+}
+
+/// Writes how two logs compare, in this style.
+///
+/// The target is not flushed.
+pub fn write_comparison<W: Target>(
+    compared: &Compared,
+    style: ComparisonStyle,
+    target: &mut W,
+) -> Result<(), Fault>
+    requires { IsLowCount (W.failures target.old) }
+
+    // Its text was written, or a front of it where writing failed; and what that did with the target.
+    ensures printed { Prints W.Target (comparison_text style compared.now) target.old result target.new }
+{
+    print(&InStyle { compared, style }, target)
+}
+
+/// A comparison in a style.
+#[derive(Drop)]
+struct InStyle<'a> {
+    compared: &'a Compared,
+    style: ComparisonStyle,
+}
+
+impl<'a> Printable for InStyle<'a> {
+    ghost use Rattle.trace_canon.specs.ComparisonText.{comparison_text};
+
+    ghost text = { λ t. comparison_text t.style t.compared.now };
+
+    fn say<S: TextSink>(&self, out: &mut S) {
+        match self.style.notation {
+            Notation::Text => say_lines(self.compared, self.style.shows_items, out),
+            Notation::Json => say_comparison_object(self.compared, self.style.shows_items, out),
+        }
+    }
+}
+
+/// Says it in words.
+fn say_lines<S: TextSink>(compared: &Compared, shows_items: bool, out: &mut S)
+    ensures { S.says out.old (comparison_lines shows_items compared.now.comparison compared.now.left.meaning compared.now.right.meaning) out.new }
+{
+    match compared.comparison {
+        Comparison::Same => say_parts(out, &[Part::Text("same\n")]),
+        Comparison::Different { item } => {
+            say_parts(
+                out,
+                &[
+                    Part::Text("different at item "),
+                    Part::Place(item),
+                    Part::Text("\n"),
+                ],
+            );
+            if shows_items {
+                say_items_at(compared, item, out);
+            }
+        }
+    }
+}
+
+/// Says the items of both logs at a place.
+fn say_items_at<S: TextSink>(compared: &Compared, place: usize, out: &mut S)
+    ensures { S.says out.old (shown_lines place compared.now.left.meaning compared.now.right.meaning) out.new }
+{
+    say_parts(out, &[Part::Text("left: ")]);
+    say_item_at(&compared.left.meaning, place, Notation::Text, out);
+    say_parts(out, &[Part::Text("right: ")]);
+    say_item_at(&compared.right.meaning, place, Notation::Text, out);
+}
+
+/// Says the item at a place of a meaning, or that there is none.
+pub(crate) fn say_item_at<S: TextSink>(
+    meaning: &Meaning,
+    place: usize,
+    notation: Notation,
+    out: &mut S,
+)
+    ensures { S.says out.old (shown_text notation (place + 1) (slice_get meaning.now place)) out.new }
+{
+    if place >= meaning.len() {
+        say_nothing(notation, out);
+        return;
+    }
+    if let Some(item) = meaning.item(place) {
+        say_shown(place as u64 + 1, item.lent(), notation, out);
+    }
+}
+
+/// Says an item, which has this number.
+fn say_shown<S: TextSink>(number: u64, item: LentItem<'_>, notation: Notation, out: &mut S)
+    ensures { S.says out.old (shown_text notation number (Some (lent_value item.entry))) out.new }
+{
+    match notation {
+        Notation::Text => say_worded(number, Numbering::Shown, item, out),
+        Notation::Json => say_item_object(number, Numbering::Shown, item, out),
+    }
+}
+
+/// Says that there is no item.
+fn say_nothing<S: TextSink>(notation: Notation, out: &mut S)
+    ensures { (number : ℕ) → S.says out.old (shown_text notation number None) out.new }
+{
+    match notation {
+        Notation::Text => say_parts(out, &[Part::Text("nothing\n")]),
+        Notation::Json => say_parts(out, &[Part::Text("null")]),
+    }
+}

@@ -1,0 +1,52 @@
+//! A comparison as an object of JSON.
+ghost use Rattle.trace_canon.specs.ComparisonText.{comparison_members, different_members, shown_members};
+ghost use Rattle.trace_canon.specs.Json.{object_line};
+
+use crate::comparing::{Compared, Comparison};
+use crate::comparison_lines::say_item_at;
+use crate::notation::Notation;
+use crate::parts::Part;
+use crate::say::say_parts;
+use crate::text_sink::TextSink;
+
+/// Says how two logs compare, as an object in a line.
+pub(crate) fn say_comparison_object<S: TextSink>(
+    compared: &Compared,
+    shows_items: bool,
+    out: &mut S,
+)
+    ensures { S.says out.old (object_line (comparison_members shows_items compared.now.comparison compared.now.left.meaning compared.now.right.meaning)) out.new }
+{
+    match compared.comparison {
+        Comparison::Same => say_parts(out, &[Part::Text("{\"same\":true}\n")]),
+        Comparison::Different { item } if shows_items => say_shown_object(compared, item, out),
+        Comparison::Different { item } => {
+            say_parts(
+                out,
+                &[
+                    Part::Text("{\"same\":false,\"item\":"),
+                    Part::Place(item),
+                    Part::Text("}\n"),
+                ],
+            );
+        }
+    }
+}
+
+/// Says the object of two logs that differ at this place, with the items of both there.
+fn say_shown_object<S: TextSink>(compared: &Compared, place: usize, out: &mut S)
+    ensures { S.says out.old (object_line (different_members place (shown_members place compared.now.left.meaning compared.now.right.meaning))) out.new }
+{
+    say_parts(
+        out,
+        &[
+            Part::Text("{\"same\":false,\"item\":"),
+            Part::Place(place),
+            Part::Text(",\"left\":"),
+        ],
+    );
+    say_item_at(&compared.left.meaning, place, Notation::Json, out);
+    say_parts(out, &[Part::Text(",\"right\":")]);
+    say_item_at(&compared.right.meaning, place, Notation::Json, out);
+    say_parts(out, &[Part::Text("}\n")]);
+}

@@ -1,0 +1,100 @@
+//! The texts that logs in memory are answered with, and the counts of the log beside each. No device is asked.
+ghost use Rattle.std.specs.Prelude.{◌≡◌, Ok, Err, MatchResult};
+ghost use Rattle.isotp_receive.specs.declared.TheConstants.{MESSAGE_LIMIT};
+ghost use Rattle.trace_canon.specs.InMemory.{IsCanonicalLogWith, IsExplanationWith, IsFindingWith, IsListWith, IsPlacingWith, IsRefused, IsUnread, fault_in_memory};
+
+use crate::config::Config;
+use crate::explainer::explain;
+use crate::fault::Fault;
+use crate::finding::find;
+use crate::item_lines::ItemStyle;
+use crate::lister::list;
+use crate::normaliser::normalise;
+use crate::notation::Notation;
+use crate::placer::messages;
+use crate::summary::Summary;
+use std::alloc::Global;
+use trace_io::{Bytes, Writing};
+
+/// A text about a log, and the counts of the log.
+#[derive(Debug, Drop)]
+pub struct CountedText {
+    pub text: Vec<u8>,
+    pub summary: Summary,
+}
+
+/// The canonical log of a log, as [`normalise`](crate::normalise) writes it.
+pub fn canonical_log(alloc: Global, config: &Config, log: &[u8]) -> Result<CountedText, Fault>
+    ensures { MatchResult result (λ counted. IsCanonicalLogWith MESSAGE_LIMIT config.now log.now counted.text.items counted.summary) (IsRefused MESSAGE_LIMIT config.now log.now) }
+{
+    let mut writer = Writing::new(Vec::new(alloc));
+    let answer = normalise(alloc, config, &mut Bytes::new(log), &mut writer);
+    counted(answer, writer.into_inner())
+}
+
+/// The list of a log's items, as [`list`](crate::list) writes it.
+pub fn item_list(
+    alloc: Global,
+    config: &Config,
+    style: ItemStyle,
+    log: &[u8],
+) -> Result<CountedText, Fault>
+    ensures { MatchResult result (λ counted. IsListWith style MESSAGE_LIMIT config.now log.now counted.text.items counted.summary) (IsRefused MESSAGE_LIMIT config.now log.now) }
+{
+    let mut writer = Writing::new(Vec::new(alloc));
+    let answer = list(alloc, config, style, &mut Bytes::new(log), &mut writer);
+    counted(answer, writer.into_inner())
+}
+
+/// A line for each message of a log, with its place, as [`messages`](crate::messages) writes them.
+pub fn message_lines(
+    alloc: Global,
+    config: &Config,
+    notation: Notation,
+    log: &[u8],
+) -> Result<CountedText, Fault>
+    ensures { MatchResult result (λ counted. IsPlacingWith notation MESSAGE_LIMIT config.now log.now counted.text.items counted.summary) (IsUnread MESSAGE_LIMIT config.now log.now) }
+{
+    let mut writer = Writing::new(Vec::new(alloc));
+    let answer = messages(alloc, config, notation, &mut Bytes::new(log), &mut writer);
+    counted(answer, writer.into_inner())
+}
+
+/// What each frame of a log did, as [`explain`](crate::explain) writes it.
+pub fn explanation(
+    alloc: Global,
+    config: &Config,
+    notation: Notation,
+    log: &[u8],
+) -> Result<CountedText, Fault>
+    ensures { MatchResult result (λ counted. IsExplanationWith notation MESSAGE_LIMIT config.now log.now counted.text.items counted.summary) (IsUnread MESSAGE_LIMIT config.now log.now) }
+{
+    let mut writer = Writing::new(Vec::new(alloc));
+    let answer = explain(alloc, config, notation, &mut Bytes::new(log), &mut writer);
+    counted(answer, writer.into_inner())
+}
+
+/// The lines of a log's pairs, as [`find`](crate::find) writes them.
+pub fn pair_lines(
+    alloc: Global,
+    config: &Config,
+    notation: Notation,
+    log: &[u8],
+) -> Result<CountedText, Fault>
+    ensures { MatchResult result (λ counted. IsFindingWith notation config.now log.now counted.text.items counted.summary) (IsUnread MESSAGE_LIMIT config.now log.now) }
+{
+    let mut writer = Writing::new(Vec::new(alloc));
+    let answer = find(alloc, config, notation, &mut Bytes::new(log), &mut writer);
+    counted(answer, writer.into_inner())
+}
+
+/// The text that was gathered with its counts, where all is well.
+fn counted(answer: Result<Summary, Fault>, text: Vec<u8>) -> Result<CountedText, Fault>
+    ensures { MatchResult answer (λ summary. result ≡ Ok (record { text = text; summary = summary })) (λ fault. result ≡ Err (fault_in_memory fault)) }
+{
+    match answer {
+        Ok(summary) => Ok(CountedText { text, summary }),
+        Err(Fault::Write) => Err(Fault::Memory),
+        Err(fault) => Err(fault),
+    }
+}

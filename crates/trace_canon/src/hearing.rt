@@ -1,0 +1,148 @@
+//! Which identifiers of a log ask, and which answer them. Every frame is heard, whatever its identifier: so this stands on
+//! the lines of a log, and no machine does it.
+ghost use Rattle.std.specs.Prelude.{◌≡◌, ◌≢◌, ◌-◌, ℕ, List, [], length, IfErr, IfOk, Err, Option};
+ghost use Rattle.can_log.specs.declared.frame.Stamped.{Stamped as StampedValue};
+ghost use Rattle.trace_io.specs.Counted.{AreLowCounts};
+ghost use Rattle.trace_io.specs.Stream.{Agrees};
+ghost use Rattle.trace_canon.specs.Answers.{ReadsWhile};
+ghost use Rattle.trace_canon.specs.Devices.{ReadFrom};
+ghost use Rattle.trace_canon.specs.Found.{GivesFound, IsFoundOf, NeedsMemoryToFind, frames_in, summary_of_lines};
+ghost use Rattle.trace_canon.specs.Refusal.{HasNoBadPlaceWithin};
+ghost use Rattle.trace_canon.specs.Summing.{ends_in_line_feed};
+ghost use Rattle.trace_canon.specs.proving.Hearing.{HasHeard};
+ghost use Rattle.uds_find.specs.Credit.{HasCredit};
+
+use crate::config::Config;
+use crate::fault::Fault;
+use crate::feed::feed_lines;
+use crate::lines::LineTaker;
+use crate::summary::Summary;
+use can_log::{Stamped, Wanted};
+use std::alloc::Global;
+use trace_io::Source;
+use uds_find::{CreditLine, Finder};
+
+/// The pairs of a log, in the order of their lines, and what was counted in it.
+#[derive(Debug, Drop)]
+pub(crate) struct Found {
+    pub pairs: Vec<CreditLine>,
+    pub summary: Summary,
+}
+
+/// Reads a log, and gives its pairs.
+pub(crate) fn found_in<R: Source>(
+    alloc: Global,
+    config: &Config,
+    reader: &mut R,
+) -> Result<Found, Fault>
+    requires reader { AreLowCounts (R.reads reader.old) (length (R.given reader.old)) (R.failures reader.old) }
+    ensures answer { (log : List ℕ) → Agrees (R.given reader.old) (R.given reader.new) (R.is_over reader.new) log → GivesFound config.now log result }
+    ensures memory { (log : List ℕ) → Agrees (R.given reader.old) (R.given reader.new) (R.is_over reader.new) log → result ≡ Err Fault.Memory → NeedsMemoryToFind log }
+    ensures near { (log : List ℕ) → Agrees (R.given reader.old) (R.given reader.new) (R.is_over reader.new) log
+        → ReadsWhile (HasNoBadPlaceWithin log) (length (R.given reader.new) - length (R.given reader.old)) (R.failures reader.old) (R.failures reader.new) }
+    ensures read { ReadFrom R.Source Fault.Read config.now.max_bytes result reader.old reader.new }
+    ensures never_write { IfErr result (λ fault. fault ≢ Fault.Write) }
+{
+    let mut hearing = start(alloc);
+    match feed_lines(config.max_bytes(), reader, &mut hearing, &mut ()) {
+        Ok(ended) => finish(alloc, hearing, ended),
+        Err(fault) => Err(fault),
+    }
+}
+
+/// Before the first line.
+fn start(alloc: Global) -> Hearing
+    ensures { HasHeard [] result.finder result.lines }
+{
+    Hearing {
+        finder: Finder::new(alloc),
+        lines: 0,
+    }
+}
+
+/// The pairs of all that was heard. The log ended in a line feed, or not.
+fn finish(alloc: Global, hearing: Hearing, ended: bool) -> Result<Found, Fault>
+    ensures found { IfOk result (λ found. (log : List ℕ) (meanings : List (Option StampedValue)) → HasHeard meanings hearing.finder hearing.lines
+        → ended ≡ ends_in_line_feed log → IsFoundOf log meanings found.pairs.items found.summary) }
+    ensures fault { IfErr result (λ fault. fault ≡ Fault.Memory) }
+    ensures needs { IfErr result (λ fault. (meanings : List (Option StampedValue)) → HasHeard meanings hearing.finder hearing.lines → HasCredit (frames_in meanings)) }
+{
+    let Hearing { finder, lines } = hearing;
+    match finder.finish(alloc) {
+        Ok(pairs) => Ok(Found {
+            pairs,
+            summary: summary(lines, ended),
+        }),
+        Err(_refused) => Err(Fault::Memory),
+    }
+}
+
+/// What is counted in a log of so many lines. Where nobody told the identifiers, no frame is of a side.
+fn summary(lines: u64, ended: bool) -> Summary
+    ensures { (log : List ℕ) (meanings : List (Option StampedValue)) → lines ≡ length meanings → ended ≡ ends_in_line_feed log → result ≡ summary_of_lines log meanings }
+{
+    Summary {
+        lines,
+        frames: 0,
+        tester_frames: 0,
+        unit_frames: 0,
+        messages: 0,
+        dropped: 0,
+        ended: 0,
+        unfinished: 0,
+        pending: 0,
+        ends_in_line_feed: ended,
+    }
+}
+
+/// What hears every frame of a log.
+#[derive(Drop)]
+pub(crate) struct Hearing {
+    pub finder: Finder,
+    pub lines: u64,
+}
+
+impl LineTaker for Hearing {
+    ghost use Rattle.std.specs.Prelude.{◌≡◌, ⊤, [], ◌∷◌, ◌++◌};
+    ghost use Rattle.trace_canon.specs.Found.{frames_in};
+    ghost use Rattle.trace_canon.specs.declared.fault.Fault.TheVariants.{Memory};
+    ghost use Rattle.trace_canon.specs.proving.Hearing.{HasHeard};
+    ghost use Rattle.uds_find.specs.Credit.{HasCredit};
+
+    type Device = ();
+
+    ghost took = { λ s meanings t. HasHeard [] s.0.finder s.0.lines → HasHeard meanings t.0.finder t.0.lines };
+
+    ghost rested = { λ s meanings t. HasHeard [] s.0.finder s.0.lines → HasHeard meanings t.0.finder t.0.lines };
+
+    ghost broke = { λ s meanings t. ⊥ };
+
+    ghost stopped = { λ s meanings what fault t. HasHeard [] s.0.finder s.0.lines → (fault ≡ Memory) × HasCredit (frames_in (meanings ++ what ∷ [])) };
+
+    ghost sure = { λ s first t. ⊤ };
+
+    ghost wants = { λ s first second. ⊥ };
+
+    fn wanted(&self) -> Option<&Wanted> {
+        None
+    }
+
+    fn pass(&mut self, line: u64) {
+        self.lines = line;
+    }
+
+    fn rest(&mut self, _device: &mut ()) -> bool {
+        true
+    }
+
+    fn take(&mut self, _device: &mut (), line: u64, what: &Option<Stamped>) -> Result<(), Fault> {
+        self.lines = line;
+        match what {
+            Some(stamped) => match self.finder.take(&stamped.frame) {
+                Ok(()) => Ok(()),
+                Err(_refused) => Err(Fault::Memory),
+            },
+            None => Ok(()),
+        }
+    }
+}

@@ -1,0 +1,48 @@
+//! The text of the pairs of a log, said pair by pair.
+ghost use Rattle.trace_canon.specs.Found.{pair_line, pairs_text};
+
+use crate::notation::Notation;
+use crate::parts::Part;
+use crate::say::say_parts;
+use crate::text_sink::TextSink;
+use uds_find::CreditLine;
+
+/// Says the line of each pair, in order.
+pub(crate) fn say_pairs<S: TextSink>(pairs: &[CreditLine], notation: Notation, out: &mut S)
+    ensures { S.says out.old (pairs_text notation pairs.now) out.new }
+{
+    'pairs: for pair in pairs {
+        say_pair(pair, notation, out);
+    }
+}
+
+/// Says the line of a pair.
+fn say_pair<S: TextSink>(pair: &CreditLine, notation: Notation, out: &mut S)
+    ensures { S.says out.old (pair_line notation pair.now) out.new }
+{
+    match notation {
+        Notation::Text => say_parts(
+            out,
+            &[
+                Part::Number(pair.credits.0),
+                Part::Text(" --tester "),
+                Part::Spelled(pair.tester.as_slice()),
+                Part::Text(" --unit "),
+                Part::Spelled(pair.unit.as_slice()),
+                Part::Text("\n"),
+            ],
+        ),
+        Notation::Json => say_parts(
+            out,
+            &[
+                Part::Text("{\"credits\":"),
+                Part::Number(pair.credits.0),
+                Part::Text(",\"tester\":\""),
+                Part::Spelled(pair.tester.as_slice()),
+                Part::Text("\",\"unit\":\""),
+                Part::Spelled(pair.unit.as_slice()),
+                Part::Text("\"}\n"),
+            ],
+        ),
+    }
+}

@@ -1,0 +1,213 @@
+//! `watch`: a machine that says the line of each item as soon as it is decided.
+ghost use Rattle.std.specs.Prelude.{◌≡◌, ◌≢◌, ◌-◌, ℕ, List, [], ◌∷◌, ◌++◌, length, IfErr, OnOk, OnErr, Err};
+ghost use Rattle.direction.specs.Dir.{Message};
+ghost use Rattle.isotp_receive.specs.declared.TheConstants.{MESSAGE_LIMIT};
+ghost use Rattle.uds_exchange.specs.Decided.{undecided};
+ghost use Rattle.uds_exchange.specs.Decider.{decides_after, IsKept};
+ghost use Rattle.trace_canon.specs.Answers.{ReadsWhile};
+ghost use Rattle.trace_canon.specs.Devices.{ReadFrom, WroteTo};
+ghost use Rattle.trace_canon.specs.Needing.{NeedsMemoryToDecide};
+ghost use Rattle.trace_canon.specs.Refusal.{HasNoBadPlaceWithin};
+ghost use Rattle.trace_canon.specs.Told.{AnswersTold, TellsEagerly, answers_counts};
+ghost use Rattle.trace_canon.specs.WatchScript.{watching_script, WritesTheList};
+ghost use Rattle.trace_canon.specs.proving.Watching.{SaysDecided, SaysLines, WatchesItems};
+ghost use Rattle.trace_canon.specs.declared.fault.Fault.TheVariants.{Memory};
+ghost use Rattle.trace_io.specs.Stream.{Agrees};
+ghost use Rattle.trace_io.specs.Counted.{IsLowCount, AreLowCounts};
+
+use crate::config::Config;
+use crate::driver::run;
+use crate::fault::Fault;
+use crate::item_lines::{ItemStyle, say_item};
+use crate::machine::{Machine, Stop};
+use crate::summary::Summary;
+use crate::text_sink::TextSink;
+use direction::Dir;
+use isotp_receive::{Event, Pair, Verdict};
+use std::alloc::{AllocError, Global};
+use trace_io::{Source, Target};
+use uds_exchange::{Decider, ItemSink, LentItem};
+
+/// Reads a log and writes the lines of [`list`](crate::list), each as soon as its item is decided: an exchange when its
+/// answer comes or the next request does, and the strays after it then too. What is not decided is written at the end.
+///
+/// The target is not flushed.
+pub fn watch<R: Source, W: Target>(
+    alloc: Global,
+    config: &Config,
+    style: ItemStyle,
+    reader: &mut R,
+    writer: &mut W,
+) -> Result<Summary, Fault>
+    requires reader { AreLowCounts (R.reads reader.old) (length (R.given reader.old)) (R.failures reader.old) }
+    requires writer { IsLowCount (W.failures writer.old) }
+
+    // What is answered and written, for each log with which the bytes that were read agree.
+    ensures answer { (log : List ℕ) → Agrees (R.given reader.old) (R.given reader.new) (R.is_over reader.new) log
+        → AnswersTold (watching_script style) answers_counts MESSAGE_LIMIT config.now log (length (R.given reader.new) - length (R.given reader.old)) result (W.taken writer.old) (W.taken writer.new) }
+
+    // At the end of the log that is the list of its meaning.
+    ensures whole { (log : List ℕ) → Agrees (R.given reader.old) (R.given reader.new) (R.is_over reader.new) log
+        → OnOk result (WritesTheList style MESSAGE_LIMIT config.now log (W.taken writer.old) (W.taken writer.new)) }
+
+    // Before each read the lines of what is decided by all that was read were written.
+    ensures eager { (log : List ℕ) → Agrees (R.given reader.old) (R.given reader.new) (R.is_over reader.new) log
+        → TellsEagerly (watching_script style) MESSAGE_LIMIT config.now log (length (R.given reader.new) - length (R.given reader.old)) (W.taken writer.old) (W.taken writer.new) }
+
+    // Reading stops within one piece: there is no refused place among all bytes given but the last 4,096, and none among all
+    // where a read failed.
+    ensures near { (log : List ℕ) → Agrees (R.given reader.old) (R.given reader.new) (R.is_over reader.new) log
+        → ReadsWhile (HasNoBadPlaceWithin log) (length (R.given reader.new) - length (R.given reader.old)) (R.failures reader.old) (R.failures reader.new) }
+
+    // No announced length and no canonical log refuses it.
+    ensures never_oversize { IfErr result (λ fault. (line announced : ℕ) → fault ≢ Fault.Oversize line announced) }
+    ensures never_output_limit { IfErr result (λ fault. fault ≢ Fault.OutputLimit) }
+
+    // Memory is refused only for a log that needs it: for a message of several frames, or for one that is kept.
+    ensures memory { (log : List ℕ) → Agrees (R.given reader.old) (R.given reader.new) (R.is_over reader.new) log
+        → result ≡ Err Memory → NeedsMemoryToDecide MESSAGE_LIMIT config.now log }
+
+    // What it did with the devices.
+    ensures read { ReadFrom R.Source Fault.Read config.now.max_bytes result reader.old reader.new }
+    ensures wrote { WroteTo W.Target Fault.Write result writer.old writer.new }
+{
+    let machine = start(alloc, style);
+    run(alloc, config, machine, reader, writer)
+}
+
+/// A machine before the first message.
+fn start(alloc: Global, style: ItemStyle) -> Watcher
+    ensures style { result.style ≡ style }
+    ensures watches { WatchesItems style [] result.decider result.style result.number }
+{
+    Watcher {
+        decider: Decider::new(alloc),
+        style,
+        number: 1,
+    }
+}
+
+/// Says the line of each item as soon as it is decided.
+#[derive(Drop)]
+pub(crate) struct Watcher {
+    pub decider: Decider,
+    pub style: ItemStyle,
+    /// The number of the next item.
+    pub number: u64,
+}
+
+impl Machine for Watcher {
+    ghost use Rattle.isotp_receive.specs.declared.TheConstants.{MESSAGE_LIMIT};
+    ghost use Rattle.trace_canon.specs.Needing.{CompletesKept};
+    ghost use Rattle.trace_canon.specs.Told.{answers_counts};
+    ghost use Rattle.trace_canon.specs.WatchScript.{watching_script};
+    ghost use Rattle.trace_canon.specs.proving.Watching.{WatchesItems};
+
+    type Answer = Summary;
+
+    ghost stands = { λ start T now. WatchesItems start.style T now.decider now.style now.number };
+
+    ghost script = { λ start. watching_script start.style };
+
+    ghost answers = { λ start. answers_counts };
+
+    ghost needs = { λ start. CompletesKept MESSAGE_LIMIT };
+
+    #[inline(always)]
+    fn is_strict(&self) -> bool {
+        false
+    }
+
+    #[inline(always)]
+    fn event<S: TextSink>(
+        &mut self,
+        _line: u64,
+        _micros: u64,
+        dir: Dir,
+        event: Event<'_>,
+        out: &mut S,
+    ) -> Result<(), AllocError> {
+        match event.verdict {
+            Verdict::Message(message) => match decide_to(
+                &mut self.decider,
+                self.style,
+                &mut self.number,
+                out,
+                dir,
+                message,
+            ) {
+                Ok(()) => Ok(()),
+                Err(refused) => Err(refused),
+            },
+            Verdict::Began | Verdict::Stored | Verdict::Flow | Verdict::Dropped(_) => Ok(()),
+        }
+    }
+
+    fn end<S: TextSink>(
+        self,
+        _pair: &Pair,
+        summary: &Summary,
+        out: &mut S,
+    ) -> Result<Summary, Stop> {
+        let Watcher {
+            decider,
+            style,
+            mut number,
+        } = self;
+        finish_to(decider, style, &mut number, out);
+        Ok(*summary)
+    }
+}
+
+/// Says the line of each item that is put, numbered on from those before.
+#[derive(Drop)]
+pub(crate) struct LineSink<'a, S> {
+    pub out: &'a mut S,
+    pub number: &'a mut u64,
+    pub style: ItemStyle,
+}
+
+impl<'a, S: TextSink> ItemSink for LineSink<'a, S> {
+    ghost use Rattle.std.specs.Prelude.{◌≡◌};
+    ghost use Rattle.uds_exchange.specs.Numbering.{one_more};
+    ghost use Rattle.trace_canon.specs.ListText.{item_line};
+
+    ghost takes = { λ s item t. (t.out.ghost_name ≡ s.out.ghost_name) × (t.number.ghost_name ≡ s.number.ghost_name) × (t.style ≡ s.style)
+        × (t.number.now ≡ one_more s.number.now) × S.says s.out.now (item_line s.style s.number.now item) t.out.now };
+
+    fn put(&mut self, item: LentItem<'_>) {
+        say_item(*self.number, self.style, item, self.out);
+        *self.number = self.number.saturating_add(1);
+    }
+}
+
+/// Takes one more message, and says the lines of all items that are now decided.
+fn decide_to<S: TextSink>(
+    decider: &mut Decider,
+    style: ItemStyle,
+    number: &mut u64,
+    out: &mut S,
+    dir: Dir,
+    message: &[u8],
+) -> Result<(), AllocError>
+    ensures stands { OnOk result ((M : List Message) → decider.old ≡ decides_after M → decider.new ≡ decides_after (M ++ (dir, message.now) ∷ [])) }
+    ensures says { OnOk result ((M : List Message) → decider.old ≡ decides_after M
+        → SaysDecided S.says style M (dir, message.now) number.old out.old number.new out.new) }
+    ensures kept { OnErr result ((M : List Message) → decider.old ≡ decides_after M → IsKept M (dir, message.now)) }
+    ensures quiet { OnErr result (S.says out.old [] out.new) }
+{
+    let mut sink = LineSink { out, number, style };
+    match decider.take(dir, message, &mut sink) {
+        Ok(()) => Ok(()),
+        Err(refused) => Err(refused),
+    }
+}
+
+/// Says the lines of the items that are not decided.
+fn finish_to<S: TextSink>(decider: Decider, style: ItemStyle, number: &mut u64, out: &mut S)
+    ensures { (M : List Message) → decider ≡ decides_after M
+        → SaysLines S.says style (undecided M) number.old out.old number.new out.new }
+{
+    let mut sink = LineSink { out, number, style };
+    decider.finish(&mut sink);
+}
