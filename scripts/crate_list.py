@@ -4,15 +4,16 @@ from pathlib import Path
 
 TOP = Path(__file__).resolve().parent.parent
 
-# What is shipped: the program.
+# What is shipped: the program, and the library for C.
 PROGRAM = "udsnorm"
+LIBRARY = "udsnorm_c"
 
 
 def crates_in(text):
     """What each crate stands on, in the order of the file."""
     lines = (line.split("#")[0].strip() for line in text.splitlines())
     rows = (line.split(":") for line in lines if line)
-    return {name.strip(): below.split() for name, below in rows}
+    return {name.split()[0]: below.split() for name, below in rows}
 
 
 def all_crates():

@@ -4,7 +4,7 @@ import sys
 
 import runs
 
-DONE, DIFFERENT, WORDS, REFUSAL, DEVICE, MEMORY = range(6)
+DONE, DIFFERENT, WORDS, REFUSAL, DEVICE, MEMORY, UNCLEAN = range(7)
 
 
 class Cases:

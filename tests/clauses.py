@@ -1,13 +1,15 @@
-"""The clauses of contracts: those that the source has, and those that docs/proved.md cites.
+"""The clauses of contracts: those that the source has, those that a crate's page for callers names, and those that docs/proved.md
+cites.
 
-The last column of a table of promises cites them, in parts between semicolons. Of these are the names in backticks read:
+In the page for callers, each clause of a public function stands in the rows, items and paragraphs that name the function or its
+type. In docs/proved.md the last column of a table of promises cites clauses, in parts between semicolons. Of these are the names
+in backticks read:
 
     `normalise`, `list`: `read`, `wrote`, by `SomeDefinition`       these clauses of each of these calls
     `Pair::new`, `open`: their clauses                             those that have no name; `open` is one of `Pair`, too
     clause `again` of `normalise`, ..                              the same, the other way round
     private `message_bytes::make_room`: `room`                     of a private function, by its module
     laws `one_is_open`, `messages_fit` (`length`, `bytes`)         all clauses of a law, or these; `law .. of `crate`` too
-    member `nothing` of `TextSink`                                 a ghost member of a trait
 """
 
 import re
@@ -21,14 +23,14 @@ Function = namedtuple("Function", "path clauses is_public is_law")
 # None where that is the crate of the section.
 Citation = namedtuple("Citation", "kind names clauses crate")
 
-CALL, PRIVATE, LAW, MEMBER = "call", "private", "law", "member"
+CALL, PRIVATE, LAW = "call", "private", "law"
 
 # --- The source ---------------------------------------------------------------------------------------------------------
 
 COMMENT_OR_TEXT = re.compile(r'//[^\n]*|"(?:\\.|[^"\\\n])*"|\'(?:\\.|[^\'\\\n])\'')
 ARRAY_LENGTH = re.compile(r";(?=[^;{}\[\]\n]*\])")
 BLOCK = re.compile(r"^(pub )?(trait|impl)\b(.*?)\{\n(.*?)^\}", re.M | re.S)
-FUNCTION = re.compile(r"^ *(pub )?(?:pub\(crate\) )?fn (\w+)", re.M)
+FUNCTION = re.compile(r"^ *(pub )?(?:pub\(crate\) )?(?:extern\s+)?fn (\w+)", re.M)
 CLAUSE = re.compile(r"\b(requires|ensures)\*?\s*(\w*)\s*$")
 
 
@@ -81,7 +83,7 @@ def exported(root):
     text = bare(root)
     lists = re.findall(r"^pub use \w+::(?:\{([^}]*)\}|(\w+));", text, re.M)
     names = {name for many, one in lists for name in re.findall(r"\w+", many or one)}
-    names |= set(re.findall(r"^pub (?:fn|struct|enum|trait) (\w+)", text, re.M))
+    names |= set(re.findall(r"^pub (?:(?:extern\s+)?fn|struct|enum|trait) (\w+)", text, re.M))
     return names, set(re.findall(r"^pub mod (\w+);", text, re.M))
 
 
@@ -100,7 +102,39 @@ def functions(crate):
     return found
 
 
-# --- The page -----------------------------------------------------------------------------------------------------------
+# --- The page for callers ------------------------------------------------------------------------------------------------
+
+
+def blocks(page):
+    """The rows, items and paragraphs of a page."""
+    block = []
+    for line in page.splitlines():
+        if block and (not line.strip() or line.startswith(("|", "- ", "#"))):
+            yield "\n".join(block)
+            block = []
+        block += [line] if line.strip() else []
+    yield "\n".join(block)
+
+
+def unnamed(page, function):
+    """The clauses of a public function that the page for callers leaves out; a lone one stands where the function does."""
+    of_type = [part for part in function.path.split("::")[:-1] if part[0].isupper()]
+    names = "|".join([*of_type, function.path.rpartition("::")[2]])
+    about = [block for block in blocks(page) if re.search(rf"`(?:\w+::)*({names})\b", block)]
+    if not about:
+        return [f"{function.path} is not named"]
+    return [f"{function.path}: {clause} is not named" for clause in function.clauses if clause and f"`{clause}`" not in "\n".join(about)]
+
+
+def left_out(folder):
+    """What the page for callers leaves out, for each crate that has one."""
+    for path in sorted(folder.glob("*/CALLING.md")):
+        page = path.read_text()
+        public = [function for function in functions(path.parent) if function.is_public]
+        yield path.parent.name, [missing for function in public for missing in unnamed(page, function)]
+
+
+# --- The page of the proofs ---------------------------------------------------------------------------------------------
 
 # How tables of promises begin; and the crate of the one that stands before the sections of the crates.
 TABLES = ("| Promise | Contract |", "| This | is carried by |")
@@ -125,8 +159,6 @@ def citations(cell):
     for part in (part.strip() for part in cell.split(";") if "`" in part):
         if re.match(r"laws? ", part):
             yield from laws_cited(part)
-        elif member := re.match(r"member `(\w+)` of `(\w+)`$", part):
-            yield Citation(MEMBER, [member[2]], [member[1]], None)
         elif clause := re.match(r"clause `(\w+)` of `([\w:]+)`(?:, by .*)?$", part):
             yield Citation(CALL, [clause[2]], [clause[1]], None)
         else:
@@ -145,32 +177,23 @@ def calls_cited(part):
     return Citation(PRIVATE if part.startswith("private ") else CALL, QUOTED.findall(names) or [part], told, None)
 
 
-# --- The two compared ---------------------------------------------------------------------------------------------------
-
-
 class Contracts:
-    """The contracts of a crate, and what a page cites of them: the clauses that it names, and what is wrong with that."""
+    """The contracts of a crate, and what is wrong with what a page cites of them."""
 
     def __init__(self, crate):
         self.functions = functions(crate)
-        self.text = "\n".join(bare(path.read_text()) for path in sorted((crate / "src").glob("*.rt")))
-        self.calling = (crate / "CALLING.md").read_text()
-        self.cited = {}
         self.wrong = []
 
     def cite(self, citation, owner):
-        """Notes what is cited. A name without a type may be of the type before it, which is answered for the next one."""
+        """Looks up what is cited. A name without a type may be of the type before it, which is answered for the next one."""
         for name in citation.names:
             owner = name.split("::")[-2] if "::" in name and citation.kind == CALL else owner
-            found = self.has_member(name, citation) if citation.kind == MEMBER else self.named(citation.kind, name, owner)
+            found = self.named(citation.kind, name, owner)
             self.wrong += [] if found else [f"there is no {citation.kind} {name}"]
-            for function in found if citation.kind != MEMBER else []:
-                self.note(function, citation)
+            for function in found:
+                missing = [clause for clause in citation.clauses or [] if clause not in function.clauses]
+                self.wrong += [f"{function.path} has no clause {clause}".rstrip() for clause in missing]
         return owner
-
-    def has_member(self, trait, citation):
-        block = re.search(rf"^pub trait {trait}\b.*?^\}}", self.text, re.M | re.S)
-        return block is not None and all(re.search(rf"^    ghost {name}:", block[0], re.M) for name in citation.clauses)
 
     def named(self, kind, name, owner):
         """The functions of this kind that a name stands for, itself or with the type."""
@@ -181,26 +204,13 @@ class Contracts:
                 return found
         return []
 
-    def note(self, function, citation):
-        """A law that is named without its clauses is cited with all of them."""
-        clauses = function.clauses if citation.clauses is None and function.is_law else citation.clauses or []
-        self.cited.setdefault(function.path, set()).update(clauses)
-        self.wrong += [f"{function.path} has no clause {clause}".rstrip() for clause in clauses if clause not in function.clauses]
 
-    def uncited(self):
-        """The clauses of public functions that the page leaves out. It may leave out a law that the page for callers has."""
-        for function in (function for function in self.functions if function.is_public):
-            is_elsewhere = function.is_law and function.path not in self.cited and f"`{function.path.partition('::')[2]}`" in self.calling
-            cited = self.cited.get(function.path, set())
-            yield from (f"{function.path}: {clause or 'its clause'} is not cited" for clause in function.clauses if not is_elsewhere and clause not in cited)
-
-
-def compared(page, folder):
-    """What is wrong with a page for each crate that has contracts for callers."""
+def cited_wrongly(page, folder):
+    """What is wrong with the citations of a page, for each crate that has contracts for callers."""
     crates = {path.parent.name: Contracts(path.parent) for path in sorted(folder.glob("*/CALLING.md"))}
     for crate, cell in cells(page):
         owner = None
         for citation in citations(cell):
             owner = crates[citation.crate or crate].cite(citation, owner)
     for name, contracts in crates.items():
-        yield name, [*contracts.wrong, *contracts.uncited()]
+        yield name, contracts.wrong

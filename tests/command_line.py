@@ -12,17 +12,20 @@ import sys
 import tempfile
 from pathlib import Path
 
-from cases import DEVICE, DIFFERENT, DONE, REFUSAL, WORDS, Cases
+from cases import DEVICE, DIFFERENT, DONE, REFUSAL, UNCLEAN, WORDS, Cases
 from counts import counts_line
+from objects import in_objects
 from told import LONG_CANONICAL, LONG_LOG, READ_FAILED, WRITE_FAILED, oversize, place
 
 VERSION = b"udsnorm " + Path(__file__).resolve().parent.parent.joinpath("VERSION").read_bytes()
 LOG = b"(1700000000.000000) can0 7E0#0322F190\n"
+ANSWER = b"(1700000000.010000) can0 7E8#0462F19001\n"
 CANONICAL = b"(0000000000.000000) can0 7E0#0322F190CCCCCCCC\n"
 LIST = b"1 exchange ReadDataByIdentifier 22F190 -> unanswered\n"
+LIST_JSON = b'{"item":1,"kind":"exchange","service":"ReadDataByIdentifier","request":"22F190","outcome":"unanswered"}\n'
 EXPLANATION = counts_line(LOG, CANONICAL)
 PLACES = b"1 request tester lines 1 to 1 at 1700000000.000000 to 1700000000.000000 22F190\n"
-TEXTS = {"normalise": CANONICAL, "list": LIST, "explain": EXPLANATION, "messages": PLACES}
+TEXTS = {"normalise": CANONICAL, "list": LIST, "watch": LIST, "explain": EXPLANATION, "messages": PLACES, "find": b""}
 
 NO_LOG_LINE = b"(1.000000) can0 7E0#0\n"
 OVERSIZE = b"(1.000000) can0 7E8#1000001000004142\n"
@@ -36,13 +39,15 @@ LIMIT_RANGE = b"limit out of range\n"
 PATH_MAX = 4096
 
 # Words that ask for help, and lines of it, of which the first one begins it.
-FAILED_DEVICE = b"4 a file can't be opened, or reading or writing failed, 5 out of memory."
+FAILED_DEVICE = b"4 a file can't be opened, or reading or writing failed, 5 out of memory"
+NOT_CLEAN = b"6 with `--strict`: it was done, and the log is not clean."
 PROGRAM_HELP = [
-    b"Gives recorded vehicle diagnostic sessions one canonical spelling",
+    b"Compares recorded UDS sessions of an ECU (ISO 14229 over ISO-TP), from candump logs",
     b"Usage: udsnorm <COMMAND>",
     b"  -V, --version  Print version",
     b"  0  done, even if a log holds neither identifier; compare: the logs mean the same",
     b"  4  a file can't be opened, or reading or writing failed",
+    b"  6  with `--strict`: a log is not clean",
     b"Example: udsnorm compare yesterday.log today.log",
 ]
 LIST_HELP = [
@@ -51,7 +56,8 @@ LIST_HELP = [
     b"  [LOG]  The recorded log; without it standard input is read",
     b"A log that holds neither identifier has no such line, and the status is 0. The last line of",
     b"`udsnorm explain` then says `frames 0`.",
-    FAILED_DEVICE,
+    FAILED_DEVICE + b",",
+    NOT_CLEAN,
     b"Example: udsnorm list --tester 7E1 --unit 7E9 recorded.log",
 ]
 NORMALISE_HELP = [
@@ -59,40 +65,61 @@ NORMALISE_HELP = [
     b"Usage: udsnorm normalise [OPTIONS] [LOG]",
     b"A log that holds neither identifier has an empty canonical log, and the status is 0. The last",
     b"line of `udsnorm explain` then says `frames 0`.",
-    FAILED_DEVICE,
+    FAILED_DEVICE + b",",
+    NOT_CLEAN,
     b"Example: udsnorm normalise recorded.log > canonical.log",
+]
+WATCH_HELP = [
+    b"Writes the lines of `list` while the session runs",
+    b"Usage: udsnorm watch [OPTIONS] [LOG]",
+    FAILED_DEVICE + b",",
+    NOT_CLEAN,
+    b"Example: candump -L can0 | udsnorm watch",
 ]
 EXPLAIN_HELP = [
     b"Writes which frames were dropped and which receptions ended early, and why",
     b"Usage: udsnorm explain [OPTIONS] [LOG]",
     b"Where it says `frames 0`, the log holds neither identifier: `normalise` and `list` write",
     b"nothing of it, with status 0.",
-    FAILED_DEVICE,
+    FAILED_DEVICE + b",",
+    NOT_CLEAN,
     b"Example: udsnorm explain recorded.log",
 ]
 MESSAGES_HELP = [
     b"Writes each message with its lines and time stamps",
     b"Usage: udsnorm messages [OPTIONS] [LOG]",
-    FAILED_DEVICE,
+    FAILED_DEVICE + b",",
+    NOT_CLEAN,
     b"Example: udsnorm messages recorded.log | grep '^12 '",
+]
+FIND_HELP = [
+    b"Writes which identifiers ask and which answer, for a log whose identifiers nobody told",
+    b"Usage: udsnorm find [OPTIONS] [LOG]",
+    b"A log in which nothing is answered has no line, and the status is 0.",
+    FAILED_DEVICE + b".",
+    b"Example: udsnorm find recorded.log",
 ]
 COMPARE_HELP = [
     b"Says whether two logs have the same exchanges and stray messages",
     b"Usage: udsnorm compare [OPTIONS] <A> <B>",
     b"  <A>  The left log",
     b"  <B>  The right log",
+    b"      --show           Shows the items at which the logs differ",
     b"Two logs that hold neither identifier mean the same. The last line of `udsnorm explain` says",
     b"`frames 0` of each.",
-    FAILED_DEVICE,
-    b"Example: udsnorm compare yesterday.log today.log",
+    FAILED_DEVICE + b",",
+    b"6 with `--strict`: a log is not clean, and nothing is printed.",
+    b"Example: udsnorm compare --show yesterday.log today.log",
 ]
 HELPS = [
     (["--help"], PROGRAM_HELP),
     (["-h"], PROGRAM_HELP),
     (["normalise", "--help"], NORMALISE_HELP),
     (["list", "--help"], LIST_HELP),
+    (["watch", "--help"], WATCH_HELP),
     (["explain", "-h"], EXPLAIN_HELP),
     (["messages", "--help"], MESSAGES_HELP),
+    (["find", "--help"], FIND_HELP),
     (["compare", "--help"], COMPARE_HELP),
     (["list", "--tester", "7E", "-h"], LIST_HELP),
 ]
@@ -124,13 +151,80 @@ def options(cases):
     cases.case("--limit of the canonical log", cases.run(["normalise", "--limit=46"], LOG), DONE, CANONICAL)
     cases.case("--limit below the canonical log", cases.run(["list", "--limit", "45"], LOG), REFUSAL, b"", LONG_CANONICAL)
     cases.case("--limit below the log", cases.run(["explain", "--limit=37"], LOG), REFUSAL, b"", LONG_LOG)
+    cases.case("find", cases.run(["find", "clean.log"]), DONE, b"1 --tester 7E0 --unit 7E8\n")
+    cases.case("find --json", cases.run(["find", "--json", "clean.log"]), DONE, b'{"credits":1,"tester":"7E0","unit":"7E8"}\n')
+    cases.case("find behind a long announcement", cases.run(["find", "oversize.log"]), DONE, b"")
+    cases.case("find --limit below the log", cases.run(["find", "--limit", "77", "clean.log"]), REFUSAL, b"", LONG_LOG)
     cases.case("the largest limit", cases.run(["list", "--limit=1099511627776"], LOG), DONE, LIST)
+
+
+def strict_runs(cases):
+    """A log has to be clean, which is told after its text; a refusal and a failed device come before that."""
+    lacks_answer = b"not clean: frames 1 dropped 0 ended 0 unfinished 0, no frame of the unit\n"
+    for job, text in TEXTS.items():
+        if job == "find":
+            continue
+        cases.case(f"{job} --strict", cases.run([job, "--strict"], LOG), UNCLEAN, text, lacks_answer)
+        cases.case(f"{job} of a file, --strict", cases.run([job, "clean.log", "--strict"]), DONE, None, b"")
+    cases.case("--strict, a refused log", cases.run(["list", "--strict"], NO_LOG_LINE), REFUSAL, b"", BAD_PLACE)
+    with open("/dev/full", "wb") as full:
+        cases.case("--strict on a full disk", cases.run(["list", "--strict"], LOG, stdout=full), DEVICE, None, WRITE_FAILED)
+
+
+def strict_comparisons(cases):
+    """Both logs have to be clean: each that is not is told, and nothing is written. A refusal and a failed device come before that."""
+    words = ["compare", "--strict"]
+    lacks_answer = b"not clean: frames 1 dropped 0 ended 0 unfinished 0, no frame of the unit\n"
+    both = b"left: " + lacks_answer + b"right: " + lacks_answer
+    for left, right, status, output, error in [
+        ("clean.log", "clean.log", DONE, b"same\n", b""),
+        ("clean.log", "more.log", DIFFERENT, b"different at item 2\n", b""),
+        ("a.log", "clean.log", UNCLEAN, b"", b"left: " + lacks_answer),
+        ("clean.log", "a.log", UNCLEAN, b"", b"right: " + lacks_answer),
+        ("a.log", "a.log", UNCLEAN, b"", both),
+        ("a.log", "refused.log", REFUSAL, b"", b"right: " + BAD_PLACE),
+        ("refused.log", "a.log", REFUSAL, b"", b"left: " + BAD_PLACE),
+        ("a.log", "missing", DEVICE, b"", b"right: " + READ_FAILED),
+        ("a.log", ".", DEVICE, b"", b"right: " + READ_FAILED),
+    ]:
+        cases.case(f"compare --strict {left} {right}", cases.run([*words, left, right]), status, output, error)
+    cases.case("compare --strict behind the files", cases.run(["compare", "a.log", "a.log", "--strict"]), UNCLEAN, b"", both)
+    with open("/dev/full", "wb") as full:
+        cases.case("compare --strict of clean logs on a full disk", cases.run([*words, "clean.log", "clean.log"], stdout=full), DEVICE, None, WRITE_FAILED)
+        cases.case("compare --strict of others, of which nothing is written", cases.run([*words, "a.log", "a.log"], stdout=full), UNCLEAN, None, both)
+        cases.case("compare --strict, and what is told can't be written", cases.run([*words, "a.log", "a.log"], stderr=full), UNCLEAN, b"", None)
+
+
+def shown_comparisons(cases):
+    """The items at which the logs differ, in words and as JSON, beside other options."""
+    shown = b"different at item 2\nleft: nothing\nright: 2 stray unit 62F19001\n"
+    stray = b'{"item":2,"kind":"stray","direction":"unit","message":"62F19001"}'
+    different = b'{"same":false,"item":2'
+    for words, status, output in [
+        (["--show", "clean.log", "more.log"], DIFFERENT, shown),
+        (["clean.log", "--show", "more.log", "--strict"], DIFFERENT, shown),
+        (["--show", "clean.log", "clean.log"], DONE, b"same\n"),
+        (["--json", "clean.log", "clean.log"], DONE, b'{"same":true}\n'),
+        (["--json", "--show", "clean.log", "clean.log"], DONE, b'{"same":true}\n'),
+        (["--json", "clean.log", "more.log"], DIFFERENT, different + b"}\n"),
+        (["--json", "--show", "clean.log", "more.log"], DIFFERENT, different + b',"left":null,"right":' + stray + b"}\n"),
+        (["--json", "--show", "--strict", "more.log", "clean.log"], DIFFERENT, different + b',"left":' + stray + b',"right":null}\n'),
+    ]:
+        cases.case(f"compare {' '.join(words)}", cases.run(["compare", *words]), status, output)
+    lacks = b"right: not clean: frames 1 dropped 0 ended 0 unfinished 0, no frame of the unit\n"
+    cases.case("compare --json --show --strict", cases.run(["compare", "--json", "--show", "--strict", "clean.log", "a.log"]), UNCLEAN, b"", lacks)
+    with open("/dev/full", "wb") as full:
+        cases.case("compare --show on a full disk", cases.run(["compare", "--show", "clean.log", "more.log"], stdout=full), DEVICE, None, WRITE_FAILED)
 
 
 def lists_without_numbers(cases):
     """An exchange more in the middle of 600 is a line more, and changes no other; with numbers it changes each behind it."""
     cases.case("--no-numbers", cases.run(["list", "--no-numbers"], LOG), DONE, LIST.removeprefix(b"1 "))
     cases.case("--no-numbers after the file", cases.run(["list", "a.log", "--no-numbers"]), DONE, LIST.removeprefix(b"1 "))
+    cases.case("--json", cases.run(["list", "--json"], LOG), DONE, LIST_JSON)
+    cases.case("--json and --no-numbers", cases.run(["list", "--json", "a.log", "--no-numbers"]), DONE, LIST_JSON.replace(b'"item":1,', b""))
+    for job in ["explain", "messages"]:
+        cases.case(f"{job} --json", cases.run([job, "--json"], LOG), DONE, in_objects(job, TEXTS[job]))
     requests = [f"(1700000000.{at:06}) can0 7E0#0322{at:04X}\n".encode() for at in range(601)]
     one, other = b"".join(requests[:300] + requests[301:]), b"".join(requests)
     for words, changed in [(["list", "--no-numbers"], ["+"]), (["list"], ["+"] * 301 + ["-"] * 300)]:
@@ -238,7 +332,7 @@ def help_texts(cases):
         wrong += [f"no line {line!r}" for line in lines if line not in told]
         wrong += [] if told[0] == lines[0] else [f"begins with {told[0]!r}"]
         wrong += [] if output.endswith(b"\n") and not output.endswith(b"\n\n") else ["no line feed at the end"]
-        wrong += [] if len(told) <= 30 and max(map(len, told)) <= 100 else ["more than a screen"]
+        wrong += [] if len(told) <= 31 and max(map(len, told)) <= 100 else ["more than a screen"]
         cases.report(f"help by {words}", wrong)
     with open("/dev/full", "wb") as full:
         cases.case("help on a full disk", cases.run(["--help"], stdout=full), DEVICE, None, WRITE_FAILED)
@@ -257,8 +351,8 @@ def wrong_words(cases):
         ["lis"], ["Normalise"], [""], ["help"], ["--version=1"], ["-v"], ["list", "--version"], ["list", "-V"], ["--tester", "7E0"],
         ["--limit", "5", "list"], ["a.log"], ["compare"], ["compare", "a"], ["compare", "--", "a"], ["compare", "--limit", "5", "a"], ["compare", "a", "b", "c"], ["list", "a", "b"],
         ["list", "--limit"], ["list", "--limit", "1", "--limit", "2"], ["list", "--tester=7E0", "--tester=7E0"],
-        ["list", "--limi", "1"], ["list", "--limit=x"], ["list", "--no-numbers=1"], ["list", "--no-numbers", "--no-numbers"], ["normalise", "--no-numbers"], ["explain", "--no-numbers"],
-        ["compare", "--no-numbers", "a", "b"], ["--no-numbers"], ["list", "--limit=-1"], ["list", "--limit=1.5"], ["list", "--limit="],
+        ["list", "--limi", "1"], ["list", "--limit=x"], ["list", "--json=1"], ["list", "--json", "--json"], ["explain", "--json=1"], ["messages", "--json", "--json"], ["normalise", "--json"], ["--json"], ["find", "--tester", "7E0"], ["find", "--unit=7E8"], ["find", "--strict"], ["find", "--no-numbers"], ["find", "--json=1"], ["find", "a", "b"], ["list", "--no-numbers=1"], ["list", "--no-numbers", "--no-numbers"], ["watch", "--no-numbers=1"], ["watch", "--json=1"], ["normalise", "--no-numbers"], ["explain", "--no-numbers"],
+        ["compare", "--no-numbers", "a", "b"], ["compare", "--strict", "a"], ["compare", "--strict=1", "a", "b"], ["compare", "--show=1", "a", "b"], ["compare", "--show", "--show", "a", "b"], ["compare", "--json=1", "a", "b"], ["list", "--show"], ["--show"], ["--strict"], ["list", "--strict=1"], ["--no-numbers"], ["list", "--limit=-1"], ["list", "--limit=1.5"], ["list", "--limit="],
         ["list", "--limit=18446744073709551616"], ["list", "--tester", "7E", "--limit", "x"], ["list", "-x"],
     ]:
         status, output, error = cases.run(words, LOG)
@@ -307,13 +401,13 @@ def main():
     files = {
         "a.log": LOG, "-": LOG, "--limit": LOG, "größe.log": LOG, "empty.log": b"",
         "other.log": LOG.replace(b"7E0", b"7e2"), "-b": LOG + LOG.replace(b"7E0", b"7e2"), "refused.log": NO_LOG_LINE,
-        "oversize.log": OVERSIZE,
+        "oversize.log": OVERSIZE, "clean.log": LOG + ANSWER, "more.log": LOG + 2 * ANSWER,
     }
     with tempfile.TemporaryDirectory() as folder:
         for name, log in files.items():
             Path(folder, name).write_bytes(log)
         os.chdir(folder)
-        for test in [jobs, options, lists_without_numbers, extended_identifiers, comparisons, files_that_fail, paths_of_each_size, words_of_each_size, help_texts, version, wrong_words, wrong_values]:
+        for test in [jobs, options, strict_runs, strict_comparisons, shown_comparisons, lists_without_numbers, extended_identifiers, comparisons, files_that_fail, paths_of_each_size, words_of_each_size, help_texts, version, wrong_words, wrong_values]:
             test(cases)
         os.chdir("/")
     cases.end()

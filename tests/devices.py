@@ -4,7 +4,7 @@ import errno
 import itertools
 from functools import partial
 
-from cases import DEVICE, DONE, REFUSAL
+from cases import DEVICE, DIFFERENT, DONE, REFUSAL
 from counts import counts_line
 from refuser import READ, TAKES_NOTHING, WRITE
 from runs import Ended, differences, files, how, pipe, start
@@ -56,6 +56,7 @@ def devices(program):
     ]:
         yield f"{job} of {len(log)} bytes, a read fails after each byte", partial(telling_fails, program, job, log, told)
     yield "compare, a read of either log fails after each byte", partial(comparing_fails, program)
+    yield "compare --show, a write fails after each byte", partial(showing_fails, program)
     for job, log, text in [
         ("normalise", VIN, VIN_CANONICAL),
         ("list", SESSION, LISTED),
@@ -113,6 +114,17 @@ def comparing_fails(program):
             want = Ended(DEVICE, b"", [b"left: ", b"right: "][side] + READ_FAILED), True
             found = program.run_failing(["compare", *names], READ, side * reads + given + 1, most=1)
             wrong += differences(f"{['left', 'right'][side]}, {given} bytes", found, want)
+    return wrong
+
+
+def showing_fails(program):
+    """So much of the text is written as the output takes, a byte a call; what it fails at is no log of the two."""
+    wrong, text = [], b"different at item 1\nleft: " + KEEP_ALIVE_LISTED + b"right: nothing\n"
+    with files(KEEP_ALIVE, b"") as names:
+        for room in range(len(text) + 1):
+            found = program.run_failing(["compare", "--show", *names], WRITE, room + 1, most=1)
+            want = (Ended(DEVICE, text[:room], WRITE_FAILED), True) if room < len(text) else (Ended(DIFFERENT, text, b""), False)
+            wrong += differences(f"{room} bytes", found, want)
     return wrong
 
 

@@ -4,10 +4,10 @@
     tests/differential.py crates/udsnorm/out/udsnorm [--seconds NUMBER] [--seed NUMBER]
 
 First examples/vin.log, 212 bytes, with each of its bytes replaced by each of seven bytes that a line may and may not have:
-1,484 logs, each through normalise, explain and messages. Each is accepted, or refused at the place that the oracle finds by
+1,484 logs, each through normalise, watch, explain, messages and find. Each is accepted, or refused at the place that the oracle finds by
 trying what could follow. Then, until the seconds are over, random ones: half of them are sessions whose frames are lost,
 repeated, exchanged and late; the others are made of a sample log or a session by changing bytes. Each of these goes through
-one of the five jobs, half of them under a limit about the length of the log. The same seed gives the same runs; it is 1
+one of the jobs, with `--strict` or without it, half of them under a limit about the length of the log. The same seed gives the same runs; it is 1
 where none is given, and the seconds 12.
 Prints the log of each difference, and ends with `N passed, M failed`; its status is 1 where there was a difference.
 """
@@ -32,13 +32,32 @@ BYTES = b"\n\r (#_)RT0123456789ABCDEFabcdf.7E\xff\x00\x21\x7e"
 REPLACEMENTS = b"\0\n\r (F\xff"
 
 NO_NUMBERS = "list --no-numbers"
+LIST_JSON = "list --json"
 ORACLES = {
     "normalise": oracle.outcome,
     "list": oracle.listed,
-    NO_NUMBERS: partial(oracle.listed, has_numbers=False),
+    NO_NUMBERS: partial(oracle.listed, write=partial(oracle.list_text, has_numbers=False)),
+    LIST_JSON: partial(oracle.listed, write=oracle.list_objects),
+    f"{LIST_JSON} --no-numbers": partial(oracle.listed, write=partial(oracle.list_objects, has_numbers=False)),
+    "watch": oracle.watched,
+    "watch --json": partial(oracle.watched, write=oracle.list_objects),
     "explain": oracle.explained,
+    "explain --json": partial(oracle.explained, write=oracle.in_objects),
     "messages": oracle.placed,
+    "messages --json": partial(oracle.placed, write=oracle.in_objects),
 }
+FIND = {"find": oracle.found, "find --json": partial(oracle.found, write=oracle.pairs_objects)}
+ORACLES |= {f"{job} --strict": partial(oracle.strictly, came) for job, came in ORACLES.items()}
+ORACLES |= FIND
+
+# The same over two logs.
+COMPARISONS = {
+    "compare": oracle.compared,
+    "compare --show": partial(oracle.compared, write=partial(oracle.comparison_text, shows_items=True)),
+    "compare --json": partial(oracle.compared, write=oracle.comparison_object),
+    "compare --json --show": partial(oracle.compared, write=partial(oracle.comparison_object, shows_items=True)),
+}
+COMPARISONS |= {f"{job} --strict": partial(came, is_strict=True) for job, came in COMPARISONS.items()}
 
 
 def frames_of(rng, sender, message):
@@ -207,12 +226,12 @@ def difference(program, job, log, limit=oracle.GIBIBYTE):
     return unlike(words, log, run(program, words, log), ORACLES[job](log, limit))
 
 
-def difference_of_two(program, folder, pair, limit):
+def difference_of_two(program, job, folder, pair, limit):
     """The same, for a comparison of these logs."""
-    words, names = words_of("compare", limit), [folder / "left.log", folder / "right.log"]
+    words, names = words_of(job, limit), [folder / "left.log", folder / "right.log"]
     for name, log in zip(names, pair):
         name.write_bytes(log)
-    return unlike(words, pair, run(program, [*words, *names]), oracle.compared(*pair, limit))
+    return unlike(words, pair, run(program, [*words, *names]), COMPARISONS[job](*pair, limit))
 
 
 def unlike(words, log, found, came):
@@ -223,8 +242,8 @@ def unlike(words, log, found, came):
 
 
 def differences(program, logs):
-    """What is found of each of these logs by normalise, by explain and by messages."""
-    return (difference(program, job, log) for log in logs for job in ("normalise", "explain", "messages"))
+    """What is found of each of these logs by normalise, by watch, by explain, by messages and by find."""
+    return (difference(program, job, log) for log in logs for job in ("normalise", "watch", "explain", "messages", "find"))
 
 
 def list_difference(program, log):
@@ -237,14 +256,14 @@ def list_difference(program, log):
 
 
 def random_difference(program, rng, folder, log):
-    """What is found of a log by one of the five jobs."""
+    """What is found of a log by one of the jobs."""
     limit = limit_for(rng, log)
-    job = rng.choice(("normalise", "normalise", "list", NO_NUMBERS, "explain", "explain", "messages", "messages", "compare"))
-    if job != "compare":
+    job = rng.choice((*ORACLES, "normalise", "explain", "messages", "find", *COMPARISONS))
+    if job not in COMPARISONS:
         found = difference(program, job, log, limit)
         return found or (list_difference(program, log) if job == "messages" else None)
     other = rng.choice((oracle.outcome(log).written, mutated(rng, oracle.outcome(log).written), mutated(rng, log)))
-    return difference_of_two(program, folder, rng.sample((log, other), 2), limit)
+    return difference_of_two(program, job, folder, rng.sample((log, other), 2), limit)
 
 
 def main():

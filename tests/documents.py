@@ -8,14 +8,15 @@
 - no line of their prose has more than 120 characters;
 - the source files that documents name are there;
 - each wrong body of must-fail/ and attacks/ can be applied: what it takes away stands once;
-- those that the first table of docs/proved.md names are tried by the gate, one or more for each part of its first sentence;
+- those that the first table of docs/proved.md names are tried by the gate, one or more for each part of the headline;
 - each definition that docs/definitions.md names stands in the file that it names;
 - a line of prose stands above each definition that a public function's contract or a law cites;
 - docs/architecture.md says of each crate of the kit that the program stands on where it is called, and the call stands there;
-- docs/proved.md cites each clause of each public call, and each law that the pages for callers leave out, and no other;
+- the page for callers of each crate names each clause of its public calls, and docs/proved.md cites no other;
 - each fault displays the line that the program tells of it, as the page for callers of udsnorm says;
 - docs/formats.md has the names of services and response codes of tests/rows, which the program is tested with;
-- the number of the version stands in the program's source once, and is that of the file VERSION.
+- the number of the version stands in the program's source once, and is that of the file VERSION;
+- nothing in the project is a symbolic link, what is built included: the gate, which runs last, would take none.
 
 Prints a line for each case and ends with `N passed, M failed`; its status is 1 where a case failed.
 """
@@ -39,6 +40,7 @@ DEFINITIONS = DOCS / "definitions.md"
 FORMATS = DOCS / "formats.md"
 PROVED = DOCS / "proved.md"
 PROGRAM = "udsnorm"
+LIBRARY = "udsnorm_c"
 SVG = "{http://www.w3.org/2000/svg}"
 
 
@@ -65,7 +67,7 @@ def name_of(path):
 def crates():
     """What each crate stands on, by crates.txt."""
     text = re.sub(r"#.*", "", (TOP / "crates.txt").read_text())
-    return {name: below.split() for name, below in re.findall(r"^(\w+):(.*)$", text, re.M)}
+    return {name: below.split() for name, below in re.findall(r"^(\w+)(?: staticlib)?:(.*)$", text, re.M)}
 
 
 def below(table, name):
@@ -82,7 +84,7 @@ def picture(cases):
     table = crates()
     boxes = {group.get("id"): group for group in ElementTree.parse(PICTURE).iter(f"{SVG}g")}
     cases.report("the picture has each crate", [] if set(boxes) == set(table) else [str(sorted(set(boxes) ^ set(table)))])
-    shipped = {PROGRAM, *below(table, PROGRAM)}
+    shipped = {PROGRAM, *below(table, PROGRAM), LIBRARY, *below(table, LIBRARY)}
     for name in sorted(set(boxes) & set(table)):
         words = re.findall(r"\w+", " ".join(text.text for text in boxes[name].iter(f"{SVG}text")))
         kind = boxes[name].find(f"{SVG}rect").get("class")
@@ -185,9 +187,9 @@ def tried_by_the_gate(cases):
 
 
 def definition_rows(page):
-    """The rows of docs/definitions.md that name definitions: their names, and the files of crates/ in which they stand."""
-    for line in page.splitlines():
-        if line.startswith("|") and ".antt`" in line:
+    """The rows and items of docs/definitions.md that name definitions: their names, and the files of crates/ in which they stand."""
+    for line in re.sub(r"\n +", " ", page).splitlines():
+        if line.startswith(("| ", "- ")) and ".antt`" in line:
             words = re.findall(r"`([^`]+)`", line)
             yield [word for word in words if re.fullmatch(r"\w+", word)], [word for word in words if word.endswith(".antt")]
 
@@ -210,7 +212,7 @@ def is_defined(name, text):
 
 def contracts(text):
     """The contracts of the public functions of a source file: what stands between their names and their bodies."""
-    return re.findall(r"^( *)pub fn \w+(.*?)^\1\{", text, re.M | re.S)
+    return re.findall(r"^( *)pub (?:extern \"C\" )?fn \w+(.*?)^\1\{", text, re.M | re.S)
 
 
 def cited(path):
@@ -250,6 +252,13 @@ def table_below(document, title):
     return [line.split(" | ") for line in lines[1:]]
 
 
+def block_below(document, title):
+    """The lines of the first block below a heading of a document."""
+    section = re.search(rf"^#+ {re.escape(title)}\n(.*?)(?=^#|\Z)", document.read_text(), re.M | re.S)
+    block = re.search(r"^```text\n(.*?)^```$", section[1] if section else "", re.M | re.S)
+    return block[1].splitlines() if block else []
+
+
 def stands_in(call, text):
     """A call, in which `..` leaves out anything but a brace, stands in a source file, and not in a comment."""
     pattern = r"[^{}]*".join(re.escape(part) for part in call.split(".."))
@@ -271,9 +280,11 @@ def calls_of_the_kit(cases):
         cases.report(f"`{call}` of {name} stands in {file}", wrong)
 
 
-def cited_clauses(cases):
-    for crate, wrong in clauses.compared(PROVED.read_text(), TOP / "crates"):
-        cases.report(f"{name_of(PROVED)} cites the clauses that callers of {crate} have", wrong)
+def named_clauses(cases):
+    for crate, wrong in clauses.left_out(TOP / "crates"):
+        cases.report(f"the page for callers of {crate} names each clause of its calls", wrong)
+    for crate, wrong in clauses.cited_wrongly(PROVED.read_text(), TOP / "crates"):
+        cases.report(f"{name_of(PROVED)} cites no clause that {crate} has not", wrong)
 
 
 def lines_of_faults(cases):
@@ -282,9 +293,8 @@ def lines_of_faults(cases):
 
 
 def names_of_bytes(cases):
-    """The tables of names, but for that of the one response code that no list has."""
-    told = [cells for title in ("Names of services", "Names of response codes") for cells in table_below(FORMATS, title)]
-    named = {" ".join(cells[:2]) + (", sub-function" if cells[2:] == ["yes"] else "") for cells in told}
+    """The names, but for that of the one response code that no list has."""
+    named = {line for title in ("Names of services", "Names of response codes") for line in block_below(FORMATS, title)}
     rows = [line for name in ("services.txt", "response_codes.txt") for line in (TOP / "tests" / "rows" / name).read_text().splitlines()]
     tested = {line for line in rows if line and not line.startswith("#")} | {"78 requestCorrectlyReceivedResponsePending"}
     wrong = sorted(named ^ tested)
@@ -298,13 +308,18 @@ def version_of_the_source(cases):
     cases.report("the program's source has the number of the version, once", [] if told == [version] else [f"it has {told}, not {version}"])
 
 
+def symbolic_links(cases):
+    """The files of the project that `rt ci` would not take."""
+    cases.report("no file is a symbolic link", [str(path.relative_to(TOP)) for path in TOP.rglob("*") if path.is_symlink()])
+
+
 def main():
     if len(sys.argv) != 1:
         sys.exit(__doc__)
     cases = Cases(None)
     for test in [
         picture, links, lengths_of_lines, named_files, wrong_bodies, tried_by_the_gate, definitions, citations, calls_of_the_kit,
-        cited_clauses, lines_of_faults, names_of_bytes, version_of_the_source,
+        named_clauses, lines_of_faults, names_of_bytes, version_of_the_source, symbolic_links,
     ]:
         test(cases)
     cases.end()

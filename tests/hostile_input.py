@@ -42,6 +42,16 @@ LONGEST_ITEM_OF_ONE_FRAME = "{} exchange DynamicallyDefineDataIdentifier 2C00000
 LONGEST_DROP = "line {}: tester frame dropped: consecutive frame unexpected\n"
 LONGEST_PLACE = "{0} request tester lines {0} to {0} at 0.000000 to 0.000000 2C\n"
 
+# The same as objects.
+LONGEST_ITEM_OBJECT = (
+    '{{"item":{},"kind":"exchange","service":"DynamicallyDefineDataIdentifier","request":"2C","outcome":"unanswered"}}\n'
+)
+LONGEST_DROP_OBJECT = '{{"line":{},"event":"dropped","direction":"tester","reason":"consecutive frame unexpected"}}\n'
+LONGEST_PLACE_OBJECT = (
+    '{{"item":{0},"role":"request","direction":"tester","first_line":{0},"last_line":{0},'
+    '"start":"0.000000","end":"0.000000","message":"2C"}}\n'
+)
+
 # Who sends a message of each role.
 ROLES = {"request tester", "stray tester", "answer unit", "pending unit", "stray unit"}
 
@@ -49,6 +59,7 @@ ROLES = {"request tester", "stray tester", "answer unit", "pending unit", "stray
 ONE_BYTE = b"(0.000000) a 7E8#0111\n"
 FOURTEEN_BYTES = b"(0.000000) a 7E8##0000E" + b"11" * 14 + b"\n"
 REQUEST = b"(0.000000) a 7E0#012C\n"
+ANSWER = b"(0.000000) a 7E8#016C\n"
 LONG_REQUEST = b"(0.000000) a 7E0#072C000000000000\n"
 CONSECUTIVE = b"(0.000000) a 7E0#21\n"
 FIRST = b"(0.000000) a 7E0#10000000FFFF4142\n"
@@ -63,12 +74,18 @@ ONE_BYTE_MORE = [(35, b" "), (50, b"p"), (66, b" "), (206, b"0"), (222, b" ")]
 # The length of the logs whose memory is measured. With a message for 22 bytes there are more than 2^20 of them.
 MEASURED = 24_000_000
 
-# Bytes that the program has without a log, at most; those of the two receptions; and those that it holds for each byte of a
-# log.
+# Bytes that the program has without a log, at most; those of the two receptions; those that it has where it watches requests
+# that are answered; and those that it holds for each byte of a log.
 PROGRAM_BYTES = 2_500_000
 RECEPTION_BYTES = 2 * oracle.MESSAGE_LIMIT
+WATCHED_BYTES = 2**21
 HELD = Fraction(17, 22)
 MEANT = Fraction(96, 22)
+
+FOUND = Fraction(100, 44)
+
+# Those of what a log means for each byte of its canonical log.
+MEANT_CANONICAL = Fraction(96, 46)
 
 # What a job took: its most kilobytes, or none, and its status.
 Peak = namedtuple("Peak", "kilobytes status")
@@ -85,6 +102,8 @@ ANNOUNCED = {
     "explain": b"".join(b"line %d: unit frame dropped: 4294967295 bytes announced\n" % line for line in range(1, 1001))
     + counts_line(REFUSED_LOGS[4], dropped=1000),
     "messages": b"",
+    "find": b"",
+    "watch": b"",
 }
 
 
@@ -141,53 +160,68 @@ def longest_texts(cases):
     cases.report(f"normalise writes {len(text)} bytes of {len(log)}", wrong)
     for job, line, longest in [
         ("list", REQUEST, LONGEST_ITEM),
+        ("watch", REQUEST, LONGEST_ITEM),
         ("list", LONG_REQUEST, LONGEST_ITEM_OF_ONE_FRAME),
         ("explain", CONSECUTIVE, LONGEST_DROP),
         ("messages", REQUEST, LONGEST_PLACE),
+        ("list --json", REQUEST, LONGEST_ITEM_OBJECT),
+        ("watch --json", REQUEST, LONGEST_ITEM_OBJECT),
+        ("explain --json", CONSECUTIVE, LONGEST_DROP_OBJECT),
+        ("messages --json", REQUEST, LONGEST_PLACE_OBJECT),
     ]:
         log = line * 10_000
-        status, text, _ = cases.run([job], log)
+        status, text, _ = cases.run(job.split(), log)
         items = "".join(map(longest.format, range(1, 10_001))).encode()
         wrong = [] if status == DONE and text.startswith(items) else [f"status {status}, {text[:100]!r}"]
         cases.report(f"{job} writes {len(text)} bytes of {len(log)}", wrong)
 
 
 def drops(cases):
+    drops_told(cases, ["explain"], LONGEST_DROP, r"^line .*\n", r"(line )\d+")
+    drops_told(cases, ["explain", "--json"], LONGEST_DROP_OBJECT, r'^\{"line".*\n', r'(line":)\d+')
+
+
+def drops_told(cases, words, longest, line, number):
     """What explain tells of a frame, for each byte of its line, is most for an unexpected consecutive frame: of all frames of
     up to two bytes with each beginning, alone and after a first frame, in lines whose numbers have eight digits."""
-    most = Fraction(len(LONGEST_DROP.format(10**7)), len(CONSECUTIVE))
+    most = Fraction(len(longest.format(10**7)), len(CONSECUTIVE))
     beginnings = (bytes(begun) for size in range(3) for begun in itertools.product((0x00, 0x10, 0x21, 0x22, 0x30, 0x32, 0x33, 0x40), repeat=size))
     frames = [*beginnings, b"\x30\x00\x00", b"\x32\x00\x00", b"\x33\x00\x00", FIRST_DATA, b"\x10\x00" + b"\xff" * 6]
     wrong, found = [], []
     for before, sender, data in itertools.product(((), (("7E0", FIRST_DATA),)), ("7E0", "7E8"), frames):
         log = b"".join(f"(0.000000) a {who}#{what.hex()}\n".encode() for who, what in (*before, (sender, data)))
-        status, text, _ = cases.run(["explain"], log)
-        told = re.findall(r"^line .*\n", text.decode(), re.M)
-        found.append(Fraction(len(re.sub(r"line \d+", "line 10000000", "".join(told))), len(log)))
+        status, text, _ = cases.run(words, log)
+        told = re.findall(line, text.decode(), re.M)
+        found.append(Fraction(len(re.sub(number, r"\g<1>10000000", "".join(told))), len(log)))
         wrong += [repr(log)] if status != DONE or found[-1] > most else []
     wrong += [] if max(found) == most else [f"{max(found)} at most"]
-    cases.report(f"no frame has more told of it than {most} for each byte", wrong)
+    cases.report(f"{' '.join(words)}: no frame has more told of it than {most} for each byte", wrong)
 
 
 FIRST_DATA = b"\x10\x00\x00\x00\xff\xff\x41\x42"
 
 
 def places(cases):
+    places_told(cases, ["messages"], LONGEST_PLACE, r"^\d+ (\w+ \w+)", with_long_numbers)
+    places_told(cases, ["messages", "--json"], LONGEST_PLACE_OBJECT, r'"role":"(\w+)","direction":"(\w+)"', objects_with_long_numbers)
+
+
+def places_told(cases, words, longest, role, lengthened):
     """What messages tells of a message, for each byte of its lines, is most for a request of one byte: of messages of each role
     and of many lengths in their shortest recordings, alone and behind a request, with the shortest stamps and the longest, in
     lines whose numbers have eight digits."""
-    most = Fraction(len(LONGEST_PLACE.format(10**7)), len(REQUEST))
+    most = Fraction(len(longest.format(10**7)), len(REQUEST))
     wrong, found, roles = [], [], set()
     for (sender, message), before, seconds in itertools.product(placed_messages(), (b"", REQUEST), (b"(0.", b"(9999999999.")):
         for recording in shortest_recordings(sender, message):
             log = (before + recording).replace(b"(0.", seconds)
-            status, text, _ = cases.run(["messages"], log)
-            roles |= set(re.findall(r"^\d+ (\w+ \w+)", text.decode(), re.M))
-            found.append(Fraction(len(with_long_numbers(text.decode())), len(log)))
+            status, text, _ = cases.run(words, log)
+            roles |= {" ".join(told.groups()) for told in re.finditer(role, text.decode(), re.M)}
+            found.append(Fraction(len(lengthened(text.decode())), len(log)))
             wrong += [repr(log)] if status != DONE or found[-1] > most else []
     wrong += [] if max(found) == most else [f"{max(found)} at most"]
     wrong += [] if roles == ROLES else [f"{roles}"]
-    cases.report(f"no message of {len(found)} recordings has more told of it than {most} for each byte", wrong)
+    cases.report(f"{' '.join(words)}: no message of {len(found)} recordings has more told of it than {most} for each byte", wrong)
 
 
 def placed_messages():
@@ -203,6 +237,10 @@ def with_long_numbers(text):
     return re.sub(r"^\d+ (\w+ \w+ lines) \d+ to \d+ ", r"10000000 \1 10000000 to 10000000 ", text, flags=re.M)
 
 
+def objects_with_long_numbers(text):
+    return re.sub(r'("item":|_line":)\d+', r"\g<1>10000000", text)
+
+
 def longest_lines(cases):
     """The longest line that is read, and one byte more."""
     cases.case("the longest line, with a carriage return", cases.run(["explain"], LONGEST[:-1] + b"\r\n"), DONE, counts_line(LONGEST, frames=0))
@@ -213,7 +251,7 @@ def longest_lines(cases):
 
 
 def one_line_of_error(cases):
-    for job in ["normalise", "list", "explain", "messages"]:
+    for job in ["normalise", "list", "watch", "explain", "messages", "find"]:
         for number, log in enumerate(REFUSED_LOGS):
             status, text, error = cases.run([job], log)
             is_told = number == 4 and (status, text, error) == (DONE, ANNOUNCED.get(job), b"")
@@ -255,9 +293,17 @@ def memory(cases):
         ("normalise", b"", FOURTEEN_BYTES, 0),
         ("explain", REQUEST, ONE_BYTE, 0),
         ("explain", b"", CONSECUTIVE, 0),
+        ("explain --json", b"", CONSECUTIVE, 0),
         ("explain", b"", LONGEST, 0),
+        ("watch", REQUEST, ONE_BYTE, HELD),
+        ("watch", b"", REQUEST, 0),
+        ("watch", b"", REQUEST + ANSWER, 0),
+        ("watch", b"", ONE_BYTE, 0),
+        ("watch", b"", FIRST, 0),
+        ("watch", b"", LONGEST, 0),
         ("messages", REQUEST, ONE_BYTE, 0),
         ("messages", b"", REQUEST, 0),
+        ("messages --json", b"", REQUEST, 0),
         ("messages", b"", FIRST, 0),
         ("messages", b"", FOURTEEN_BYTES, 0),
         ("messages", b"", LONGEST, 0),
@@ -265,16 +311,39 @@ def memory(cases):
         ("list", b"", REQUEST, MEANT),
     ]:
         log = begun + line * (MEASURED // len(line))
-        holds_at_most(cases, [job], f"{begun!r} and then {line[:40]!r}", log, most * len(log), DONE)
+        holds_at_most(cases, job.split(), f"{begun!r} and then {line[:40]!r}", log, most * len(log), DONE)
+    log = ONE_BYTE * (MEASURED // len(ONE_BYTE))
+    words = ["list", "--limit", str(len(log))]
+    holds_at_most(cases, words, "a canonical log above the limit", log, MEANT_CANONICAL * len(log), REFUSAL)
     log = REQUEST + ONE_BYTE * 500_000
     holds_at_most(cases, ["normalise"], "strays that are held, and as many after the next request", 2 * log, HELD * len(log), DONE)
     log = two_receptions()
     told = UNFINISHED + counts_line(log, unfinished=2)
     cases.case("two of the longest messages lack their last frames", cases.run(["explain"], log), DONE, told)
-    for job in ["normalise", "explain", "messages"]:
+    watched_requests(cases)
+    pairs = many_pairs(MEASURED)
+    holds_at_most(cases, ["find"], "pairs of identifiers, each with one answer", pairs, FOUND * len(pairs), DONE)
+    answered = (REQUEST + ANSWER) * (MEASURED // len(REQUEST + ANSWER))
+    holds_at_most(cases, ["find"], "one pair with many answers", answered, 0, DONE)
+    for job in ["normalise", "watch", "explain", "messages", "find"]:
         holds_at_most(cases, [job], "no log", b"", 0, DONE)
         holds_at_most(cases, [job], "two of the longest messages without their last frames", log, RECEPTION_BYTES, DONE)
     memory_of_two(cases)
+
+
+def many_pairs(size):
+    """The shortest log of so many bytes whose answers are each of another pair: 44 bytes for one."""
+    sides = ((tester, unit) for tester in range(0x800) for unit in range(0x800) if tester != unit)
+    pairs = (b"(0.000000) a %03X#0101\n(0.000000) a %03X#0141\n" % pair for pair in sides)
+    return b"".join(itertools.islice(pairs, size // 44))
+
+
+def watched_requests(cases):
+    """Whoever watches requests that are answered holds no more than one of them, however long the log is."""
+    request, answer = (segmented(side, begun.ljust(4095, bytes(1)), 64) for side, begun in [("7E0", b"\x2C"), ("7E8", b"\x6C")])
+    found = peak(cases.program, ["watch"], (request + answer) * (MEASURED // len(request + answer)))
+    wrong = [] if found.status == DONE and found.kilobytes and found.kilobytes * 1024 <= WATCHED_BYTES else [f"{found}"]
+    cases.report(f"watch of requests that are answered: {found.kilobytes} kB", wrong)
 
 
 def memory_of_two(cases):
@@ -312,7 +381,8 @@ def work(cases):
     ]:
         lines = size // len(line)
         log = REQUEST + line * lines
-        for job, number in zip(["normalise", "list", "explain", "messages"], written):
+        normalised, listed, explained, placed = written
+        for job, number in [("normalise", normalised), ("list", listed), ("watch", listed), ("explain", explained), ("messages", placed)]:
             begun = time.monotonic()
             status, text, _ = cases.run([job], log)
             nanoseconds = (time.monotonic() - begun) * 1e9 / len(log)

@@ -4,7 +4,8 @@
     tests/interop.py crates/udsnorm/out/udsnorm
 
 The tools are can-utils' log2asc and asc2log, python-can, and tshark (Debian: apt-get install can-utils python3-can tshark).
-What is missing is named and skipped. Cells of the page's table, and what its prose says of one version, are compared for tools of that version only.
+What is missing is named and skipped. Cells of the table other_tools.txt, and what the page says of one
+version, are compared for tools of that version only.
 
 Prints a line for each case and ends with `N passed, M failed`; its status is 1 where a case failed.
 """
@@ -24,6 +25,7 @@ from told import place
 
 TOP = Path(__file__).resolve().parent.parent
 PAGE = TOP / "docs" / "interop.md"
+TABLE = TOP / "tests" / "other_tools.txt"
 PACKAGES = {"log2asc": "can-utils", "python-can": "python3-can", "tshark": "tshark"}
 
 # By python-can: reads a log of candump, or writes a file again in the format that the other name ends in.
@@ -277,9 +279,9 @@ def versions_of_page():
 
 
 def rows():
-    """The lines in the table of the page, each with what it says of `udsnorm` and of each tool."""
+    """The lines in the table, each with what it says of `udsnorm` and of each tool."""
     found = []
-    for line in PAGE.read_text().split("\n"):
+    for line in TABLE.read_text().split("\n"):
         cells = [cell.strip() for cell in line.strip("|").split("|")]
         if line.startswith("| `") and len(cells) == 5:
             found.append((line_of(cells[0]), cells[1:]))

@@ -10,6 +10,7 @@ messages. So it keeps no state and is slow, and it is meant to be read.
 """
 
 import itertools
+import json
 import re
 import sys
 from collections import namedtuple
@@ -23,7 +24,7 @@ N_CR = 1_000_000
 
 GIBIBYTE = 1 << 30
 
-DONE, DIFFERENT, REFUSED = 0, 1, 3
+DONE, DIFFERENT, REFUSED, UNCLEAN = 0, 1, 3, 6
 
 # --- Lines ------------------------------------------------------------------------------------------------------------
 
@@ -285,6 +286,14 @@ def early(listed):
     return in_order(items[: waiting[-1] + 1] if is_open else items)
 
 
+def decided(listed):
+    """The items that no later message can change: all before the last exchange, where that has no answer, and else all."""
+    items = meaning(listed)
+    waiting = [n for n, item in enumerate(items) if isinstance(item, Exchange)]
+    is_open = waiting and items[waiting[-1]].answer is None
+    return items[: waiting[-1]] if is_open else items
+
+
 # --- The canonical log --------------------------------------------------------------------------------------------------
 
 
@@ -386,6 +395,25 @@ def list_text(items, has_numbers=True):
     return "".join(f"{number} {item_text(item)}\n" if has_numbers else f"{item_text(item)}\n" for number, item in enumerate(items, 1))
 
 
+def list_objects(items, has_numbers=True):
+    """The same as JSON lines."""
+    numbers = ({"item": number} if has_numbers else {} for number in itertools.count(1))
+    return "".join(object_line({**number, **item_members(item)}) for number, item in zip(numbers, items))
+
+
+def object_line(members):
+    return json.dumps(members, separators=(",", ":")) + "\n"
+
+
+def item_members(item):
+    if isinstance(item, Stray):
+        return {"kind": "stray", "direction": item.direction, "message": digits(item.message)}
+    outcome, *reply = answer_text(item).split(" ")
+    names = {"positive": ["answer"], "negative": ["code", "answer"]}.get(outcome, [])
+    service = SERVICES.get(item.request[0], f"service_{item.request[0]:02X}")
+    return {"kind": "exchange", "service": service, "request": digits(item.request), "outcome": outcome, **dict(zip(names, reply))}
+
+
 def item_text(item):
     if isinstance(item, Stray):
         return f"stray {item.direction} {digits(item.message)}"
@@ -404,26 +432,44 @@ def answer_text(item):
     return f"positive {digits(item.answer)}"
 
 
+# What is told in words, and the same as an object of JSON.
+Told = namedtuple("Told", "words members")
+
+
+def in_words(told):
+    """What is told, a line each."""
+    return "".join(f"{words}\n" for words, _ in told)
+
+
+def in_objects(told):
+    """The same as JSON lines."""
+    return "".join(json.dumps(members, separators=(",", ":")) + "\n" for _, members in told)
+
+
+def named(reason):
+    return Told(reason, {"reason": reason})
+
+
 def verdict(frames, p):
-    """What the frame at p does wrong: the direction whose reception it ends, the cause, and the reason why it is dropped.
-    None for what it doesn't do."""
+    """What the frame at p does wrong: the direction whose reception it ends, the cause, and the reason why it is dropped, in
+    words and as JSON. None for what it doesn't do."""
     entry = frames[p]
     sender, receiver = entry.direction, OTHER[entry.direction]
     own, others = reception(frames, sender, p), reception(frames, receiver, p)
     match entry.layout:
         case Nothing(reason):
-            return None, None, reason
+            return None, None, named(reason)
         case Flow(status) if others is None or (status == OVERFLOW and others[1]):
-            return None, None, "flow control unexpected"
+            return None, None, named("flow control unexpected")
         case Flow(status):
             return (receiver, "overflow", None) if status == OVERFLOW else (None, None, None)
         case Consecutive() if own is None:
-            return None, None, "consecutive frame unexpected"
+            return None, None, named("consecutive frame unexpected")
         case Consecutive():
             cause, reason = consecutive_fault(frames, p, own)
             return sender if cause else None, cause, reason
         case First(announced) if announced > MESSAGE_LIMIT:
-            reason = f"{announced} bytes announced"
+            reason = Told(f"{announced} bytes announced", {"reason": "bytes announced", "announced": announced})
         case _:
             reason = None
     return (sender, "new start", reason) if own else (None, None, reason)
@@ -434,29 +480,37 @@ def consecutive_fault(frames, p, standing):
     i, taken = standing
     expected, found = (len(taken) + 1) % 16, frames[p].layout.number
     if not is_on_time(frames, i, p):
-        return "late", "consecutive frame late"
+        return "late", named("consecutive frame late")
     if found != expected:
-        return "sequence", f"sequence number {expected:X} expected, {found:X} found"
+        words = f"sequence number {expected:X} expected, {found:X} found"
+        return "sequence", Told(words, {"reason": "sequence number", "expected": expected, "found": found})
     if not fits(frames[p], frames[i].layout, len(taken) + 1):
-        return "length", "consecutive frame length"
+        return "length", named("consecutive frame length")
     return None, None
 
 
-def frames_text(frames):
+def told_of(frames):
     """What is told of frames: the receptions that end, and the frames that are dropped."""
     told = []
     for p, entry in enumerate(frames):
         direction, cause, reason = verdict(frames, p)
         if direction:
-            told.append(f"line {entry.line}: {reception_text(frames, direction, p)} ended: {cause}\n")
+            words, members = reception_told(frames, direction, p)
+            event = {"line": entry.line, "event": "ended", **members, "cause": cause}
+            told.append(Told(f"line {entry.line}: {words} ended: {cause}", event))
         if reason:
-            told.append(f"line {entry.line}: {entry.direction} frame dropped: {reason}\n")
-    return "".join(told)
+            event = {"line": entry.line, "event": "dropped", "direction": entry.direction, **reason.members}
+            told.append(Told(f"line {entry.line}: {entry.direction} frame dropped: {reason.words}", event))
+    return told
 
 
-def reception_text(frames, direction, p):
+def reception_told(frames, direction, p):
     first = frames[reception(frames, direction, p)[0]]
-    return f"{direction} reception from line {first.line} of {first.layout.announced} bytes"
+    line, length = first.line, first.layout.announced
+    return Told(
+        f"{direction} reception from line {line} of {length} bytes",
+        {"direction": direction, "begun_line": line, "length": length},
+    )
 
 
 def explanation(lines):
@@ -464,20 +518,40 @@ def explanation(lines):
     there are."""
     frames = trace(lines)
     end = len(frames)
-    unfinished = [direction for direction in (TESTER, UNIT) if reception(frames, direction, end)]
-    told = [f"end: {reception_text(frames, direction, end)} unfinished\n" for direction in unfinished]
+    unfinished = [reception_told(frames, direction, end) for direction in (TESTER, UNIT) if reception(frames, direction, end)]
+    told = [Told(f"end: {words} unfinished", {"event": "unfinished", **members}) for words, members in unfinished]
+    counts = counts_of(lines)
+    words = " ".join(f"{name} {count}" for name, count in counts.items())
+    return [*told_of(frames), *told, Told(words, {"event": "counts", **counts})]
+
+
+def counts_of(lines):
+    """How many there are of each thing."""
+    frames = trace(lines)
+    end = len(frames)
     wrong = [verdict(frames, p) for p in range(end)]
     found = messages(frames)
-    counts = {
+    return {
         "lines": len(lines),
         "frames": end,
         "messages": len(found),
         "dropped": sum(reason is not None for _, _, reason in wrong),
         "ended": sum(direction is not None for direction, _, _ in wrong),
-        "unfinished": len(unfinished),
+        "unfinished": sum(reception(frames, direction, end) is not None for direction in (TESTER, UNIT)),
         "pending": len(found) - len(in_order(meaning(found))),
     }
-    return frames_text(frames) + "".join(told) + " ".join(f"{name} {count}" for name, count in counts.items()) + "\n"
+
+
+def unclean(log):
+    """What is told of a log that is not clean, and nothing of one that is."""
+    counts = counts_of(cut(log))
+    senders = [entry.direction for entry in trace(cut(log))]
+    lacking = [f"frame of the {side}" for side in (TESTER, UNIT) if side not in senders]
+    lacking += ["line feed at the end"] if log and not log.endswith(b"\n") else []
+    if lacking or counts["dropped"] + counts["ended"] + counts["unfinished"]:
+        told = " ".join(f"{name} {counts[name]}" for name in ("frames", "dropped", "ended", "unfinished"))
+        return f"not clean: {told}" + "".join(f", no {what}" for what in lacking)
+    return None
 
 
 # --- The places of messages ---------------------------------------------------------------------------------------------
@@ -510,16 +584,18 @@ def stamp(micros):
     return f"{micros // 1_000_000}.{micros % 1_000_000:06}"
 
 
-def placed_text(frames):
-    """The line of each message that these frames deliver."""
+def places(frames):
+    """What is told of each message that these frames deliver."""
     ends = [p for p in range(len(frames)) if delivered(frames, p) is not None]
     listed = messages(frames)
-    text = ""
+    told = []
     for p, (direction, message), (number, role) in zip(ends, listed, parts_of(listed)):
         first, last = frames[first_position(frames, p)], frames[p]
-        text += f"{number} {role} {direction} lines {first.line} to {last.line}"
-        text += f" at {stamp(first.micros)} to {stamp(last.micros)} {digits(message)}\n"
-    return text
+        start, stop, spelled = stamp(first.micros), stamp(last.micros), digits(message)
+        words = f"{number} {role} {direction} lines {first.line} to {last.line} at {start} to {stop} {spelled}"
+        members = {"item": number, "role": role, "direction": direction, "first_line": first.line, "last_line": last.line}
+        told.append(Told(words, {**members, "start": start, "end": stop, "message": spelled}))
+    return told
 
 
 def listed_again(placed):
@@ -546,6 +622,60 @@ def listed_again(placed):
 
 def is_unanswered(items):
     return [isinstance(item, Exchange) and item.answer is None for item in items] == [True]
+
+
+# --- Who speaks, whatever the identifiers are ---------------------------------------------------------------------------
+
+Said = namedtuple("Said", "identifier answers service")
+
+LARGEST_IDENTIFIER = 0x1FFFFFFF
+
+
+def said_in(lines):
+    """What the frames of these lines say of services, whatever their identifiers: each that asks for one or answers it."""
+    matches = [LINE.fullmatch(without_return(line)) for line in lines]
+    for identifier in sorted({match["identifier"].upper() for match in matches if match}):
+        if int(identifier, 16) <= LARGEST_IDENTIFIER:
+            for entry in trace(lines, {TESTER: identifier.decode()}):
+                message = begun_in(entry)
+                if message:
+                    yield entry.line, Said(identifier.decode(), *message)
+
+
+def begun_in(entry):
+    """Whether the message that a frame begins answers a service, and which one, by the bytes in this frame."""
+    layout = entry.layout
+    if not isinstance(layout, (Single, First)):
+        return None
+    message = layout.message if isinstance(layout, Single) else entry.data[-layout.bytes_in_first :]
+    if message == b"\x3E\x80":
+        return None
+    if message[0] == 0x7F:
+        return (True, message[1]) if len(message) >= 3 and message[2] != 0x78 else None
+    return (True, message[0] - 0x40) if message[0] & 0x40 else (False, message[0])
+
+
+def credited(said):
+    """The pair of each answer that is credited: who asked last for its service, where nobody answered it since."""
+    for place, answer in enumerate(said):
+        before = [other for other in said[:place] if other.service == answer.service]
+        if answer.answers and before and not before[-1].answers and before[-1].identifier != answer.identifier:
+            yield before[-1].identifier, answer.identifier
+
+
+def pairs_in(lines):
+    """Each pair with the number of its credits, in the order in which they are told."""
+    pairs = list(credited([said for _, said in sorted(said_in(lines))]))
+    return sorted((-pairs.count(pair), *pair) for pair in set(pairs))
+
+
+def pairs_text(pairs):
+    return "".join(f"{-credits} --tester {tester} --unit {unit}\n" for credits, tester, unit in pairs)
+
+
+def pairs_objects(pairs):
+    objects = ({"credits": -credits, "tester": tester, "unit": unit} for credits, tester, unit in pairs)
+    return "".join(json.dumps(each, separators=(",", ":")) + "\n" for each in objects)
 
 
 # --- The outcome --------------------------------------------------------------------------------------------------------
@@ -595,39 +725,84 @@ def outcome(log, limit=GIBIBYTE, sides=SIDES):
     return Outcome(DONE, None, "".join(text).encode())
 
 
-def listed(log, limit=GIBIBYTE, has_numbers=True):
+def listed(log, limit=GIBIBYTE, write=list_text):
     """The list of a log, which is accepted and refused as its canonical log is. Nothing is written of a refused log."""
     came = outcome(log, limit)
-    return Outcome(came.status, came.fault, list_text(items_of(cut(log)), has_numbers).encode() if came.status == DONE else b"")
+    return Outcome(came.status, came.fault, write(items_of(cut(log))).encode() if came.status == DONE else b"")
 
 
-def explained(log, limit=GIBIBYTE):
+def watched(log, limit=GIBIBYTE, write=list_text):
+    """The list of a log, however long its canonical log is; where it is refused, that of what its lines before decide."""
+    refused = refusal(log, limit, is_long_refused=False)
+    if refused:
+        return Outcome(REFUSED, refused.fault, write(decided(messages(trace(refused.lines)))).encode())
+    return Outcome(DONE, None, write(items_of(cut(log))).encode())
+
+
+def explained(log, limit=GIBIBYTE, write=in_words):
     """The explanation of a log; where it is refused, that of its frames before the fault."""
     refused = refusal(log, limit, is_long_refused=False)
     if refused:
-        return Outcome(REFUSED, refused.fault, frames_text(trace(refused.lines)).encode())
-    return Outcome(DONE, None, explanation(cut(log)).encode())
+        return Outcome(REFUSED, refused.fault, write(told_of(trace(refused.lines))).encode())
+    return Outcome(DONE, None, write(explanation(cut(log))).encode())
 
 
-def placed(log, limit=GIBIBYTE, sides=SIDES):
+def placed(log, limit=GIBIBYTE, sides=SIDES, write=in_words):
     """The messages of a log with their places; where it is refused, those of its frames before the fault."""
     refused = refusal(log, limit, is_long_refused=False)
-    text = placed_text(trace(refused.lines if refused else cut(log), sides))
+    text = write(places(trace(refused.lines if refused else cut(log), sides)))
     return Outcome(REFUSED if refused else DONE, refused.fault if refused else None, text.encode())
 
 
-def compared(left, right, limit=GIBIBYTE):
-    """How two logs compare: what is told, or which of them is refused first."""
+def found(log, limit=GIBIBYTE, write=pairs_text):
+    """The pairs of a log whose identifiers nobody told. Nothing is written of a refused log."""
+    refused = refusal(log, limit, is_long_refused=False)
+    return Outcome(REFUSED, refused.fault, b"") if refused else Outcome(DONE, None, write(pairs_in(cut(log))).encode())
+
+
+def strictly(job, log, limit=GIBIBYTE):
+    """What a job comes to over a log that has to be clean."""
+    came = job(log, limit)
+    told = unclean(log) if came.status == DONE else None
+    return Outcome(UNCLEAN, told, came.written) if told else came
+
+
+def comparison_text(place, ours, theirs, shows_items=False):
+    """Whether two lists of items are the same, or at which place they first differ, counted from 0; and what stands there."""
+    if place is None:
+        return "same\n"
+    sides = [("left", ours), ("right", theirs)] if shows_items else []
+    shown = [f"{side}: {shown_line(place, items)}\n" for side, items in sides]
+    return "".join([f"different at item {place + 1}\n", *shown])
+
+
+def shown_line(place, items):
+    return f"{place + 1} {item_text(items[place])}" if place < len(items) else "nothing"
+
+
+def comparison_object(place, ours, theirs, shows_items=False):
+    """The same as an object."""
+    if place is None:
+        return object_line({"same": True})
+    sides = {"left": ours, "right": theirs} if shows_items else {}
+    shown = {side: {"item": place + 1, **item_members(items[place])} if place < len(items) else None for side, items in sides.items()}
+    return object_line({"same": False, "item": place + 1, **shown})
+
+
+def compared(left, right, limit=GIBIBYTE, is_strict=False, write=comparison_text):
+    """How two logs compare: what is told, or which of them is refused first, or which are not clean and have to be."""
     for side, log in (("left", left), ("right", right)):
         came = outcome(log, limit)
         if came.status == REFUSED:
             return Outcome(REFUSED, f"{side}: {came.fault}", b"")
+    told = [f"{side}: {unclean(log)}" for side, log in (("left", left), ("right", right)) if is_strict and unclean(log)]
+    if told:
+        return Outcome(UNCLEAN, "\n".join(told), b"")
     ours, theirs = items_of(cut(left)), items_of(cut(right))
-    if ours == theirs:
-        return Outcome(DONE, None, b"same\n")
     is_same = [one == other for one, other in zip(ours, theirs)]
-    item = is_same.index(False) if False in is_same else len(is_same)
-    return Outcome(DIFFERENT, None, f"different at item {item + 1}\n".encode())
+    differing = is_same.index(False) if False in is_same else len(is_same)
+    place = None if ours == theirs else differing
+    return Outcome(DONE if place is None else DIFFERENT, None, write(place, ours, theirs).encode())
 
 
 def main():

@@ -23,7 +23,7 @@ from counts import counts_line
 from refuser import READ, WRITE, Refuser
 from runs import Ended, end, give, peak_kilobytes, start
 from tables import EXAMPLES
-from told import LONG_LOG, READ_FAILED, WRITE_FAILED, oversize, place
+from told import LONG_CANONICAL, LONG_LOG, READ_FAILED, WRITE_FAILED, oversize, place
 
 FIRST_LOG = b"(1700000000.000000) can0 7E0#0322F190"
 FIRST_CANONICAL = b"(0000000000.000000) can0 7E0#0322F190CCCCCCCC\n"
@@ -51,12 +51,21 @@ PLACES = b"""\
 3 stray unit lines 7 to 7 at 1.500000 to 1.500000 50
 """
 
+# Its items, and how many of its lines decide each.
+WATCHED = [
+    (6, b"1 exchange ReadDataByIdentifier 22F190 -> positive 62F1904142434445\n2 stray tester 3E80\n"),
+    (7, b"3 stray unit 50\n"),
+]
+
 # What a job tells of the front of a log, while more of it may come.
 PROMPT = [
     ("normalise", FIRST_LOG + b"\n(1700000000.100000) can0 7E8#0462F19041\n", FIRST_CANONICAL + b"(0000000000.001000) can0 7E8#0462F19041CCCCCC\n"),
     ("explain", b"(1.000000) can0 7E8#2141\n", b"line 1: unit frame dropped: consecutive frame unexpected\n"),
     ("messages", b"(1.000000) can0 7E0#023E80\n", b"1 stray tester lines 1 to 1 at 1.000000 to 1.000000 3E80\n"),
     ("messages", ROLES, PLACES),
+    ("watch", b"(1.000000) can0 7E0#023E80\n", b"1 stray tester 3E80\n"),
+    ("watch", ROLES, b"".join(text for _, text in WATCHED)),
+    ("watch", FIRST_LOG + b"\n(1700000000.100000) can0 7E0#023E00\n", b"1 exchange ReadDataByIdentifier 22F190 -> unanswered\n"),
 ]
 
 # Words with which the program tells something on standard error, and its exit status.
@@ -158,6 +167,9 @@ def examples(cases):
         canonical = log.with_suffix(".canonical")
         came, placed = (job(log.read_bytes(), sides=sides) for job in (oracle.outcome, oracle.placed))
         error = f"{placed.fault}\n".encode() if placed.fault else b""
+        came_of_find = oracle.found(log.read_bytes())
+        found_of_find = cases.run(["find", log])
+        cases.case(f"examples/{log.name}, its pairs", found_of_find, came_of_find.status, came_of_find.written, error)
         cases.case(f"examples/{log.name}, its messages", cases.run(["messages", *options, log]), placed.status, placed.written, error)
         if canonical.exists():
             cases.case(f"examples/{log.name}", found, DONE, canonical.read_bytes())
@@ -220,6 +232,27 @@ def devices(cases):
     os.close(writer)
     broken_pipe(cases)
     slow_pipe(cases)
+    one_stream(cases)
+
+
+def one_stream(cases):
+    """One pipe, socket or terminal for both logs of a comparison is told before a byte of it is read; a file is read twice."""
+    words, told = ["compare", "/dev/stdin", "/dev/fd/0"], b"both logs are the same stream\n"
+    for name, (ours, theirs) in [("pipe", os.pipe()[::-1]), ("terminal", os.openpty())]:
+        os.write(ours, FIRST_LOG + b"\n")
+        cases.case(f"one {name} for both logs", cases.run(words, stdin=theirs), WORDS, b"", told)
+        left = os.read(theirs, len(FIRST_LOG))
+        cases.report(f"what that {name} still has", [] if left.startswith(FIRST_LOG[:20]) else [f"{left!r}"])
+        os.close(ours)
+        os.close(theirs)
+    with open("/dev/null", "rb") as nothing, open(EXAMPLES / "vin.log", "rb") as file:
+        cases.case("/dev/null for both logs", cases.run(words, stdin=nothing), DONE, b"same\n")
+        cases.case("one file for both logs", cases.run(words, stdin=file), DONE, b"same\n")
+    reader, writer = os.pipe()
+    os.close(writer)
+    other = ["compare", "/dev/stdin", f"/dev/fd/{reader}"]
+    cases.case("two pipes for the logs", cases.run(other, b"", pass_fds=[reader]), DONE, b"same\n")
+    os.close(reader)
 
 
 def take_20_bytes():
@@ -234,6 +267,32 @@ def places(cases):
     cases.case("the same behind a long announcement", cases.run(["messages"], ROLES + OVERSIZE), DONE, PLACES)
     cases.case("the same before a refused line", cases.run(["messages"], ROLES + b"x\n"), REFUSAL, PLACES, place(8, 1))
     cases.case("the same where a frame began is longer than the limit", cases.run(["messages", "--limit", "40"], ROLES), REFUSAL, PLACES[:61], LONG_LOG)
+
+
+def watched(cases):
+    """What the lines before a fault decide is written, and no more: not the request that waits."""
+    text, waits = b"".join(text for _, text in WATCHED), b"(2.000000) can0 7E0#023E00\n"
+    rest = b"4 exchange TesterPresent 3E00 -> unanswered\n"
+    cases.case("what is watched, and at the end what waits", cases.run(["watch"], ROLES + waits), DONE, text + rest)
+    cases.case("the same behind a long announcement", cases.run(["watch"], ROLES + OVERSIZE + waits), DONE, text + rest)
+    cases.case("the same before a refused line", cases.run(["watch"], ROLES + waits + b"x\n"), REFUSAL, text, place(9, 1))
+    cases.case("the same where the limit is", cases.run(["watch", "--limit", str(len(ROLES + waits))], ROLES + waits + b"\n"), REFUSAL, text, LONG_LOG)
+    log = b"".join(b"(%d.000000) can0 7E0#0322F190\n" % second for second in range(100))
+    cases.case("a list whose canonical log is too long", cases.run(["list", "--limit", str(len(log))], log), REFUSAL, b"", LONG_CANONICAL)
+    told = b"".join(b"exchange ReadDataByIdentifier 22F190 -> unanswered\n" for _ in range(100))
+    cases.case("the same is watched", cases.run(["watch", "--no-numbers", "--limit", str(len(log))], log), DONE, told)
+
+
+def watched_one_by_one(cases):
+    """The lines of what a frame decides can be read before the frame behind it is given."""
+    program, given, wrong = start(cases.program, ["watch"]), 0, []
+    for last, text in WATCHED:
+        give(program, b"".join(ROLES.splitlines(keepends=True)[given:last]))
+        given = last
+        came = os.read(program.stdout.fileno(), 4096) if select.select([program.stdout], [], [], 30)[0] else b""
+        wrong += [] if came == text else [f"{came!r}, not {text!r}"]
+    cases.report("a log that is watched line by line", wrong)
+    cases.case("nothing more at its end", end(program), DONE)
 
 
 def broken_pipe(cases):
@@ -311,9 +370,14 @@ def device_calls(cases):
             (["normalise", long], [pieces + 1], pieces),
             (["list", vin], [2], 1),
             (["explain", vin], [2], 1),
+            (["watch", blank], [2], 0),
+            (["watch", vin], [2], 1),
+            (["watch", long], [pieces + 1], pieces),
             (["messages", blank], [2], 0),
             (["messages", vin], [2], 1),
             (["messages", long], [pieces + 1], pieces),
+            (["find", blank], [2], 0),
+            (["find", vin], [2], 1),
             (["compare", vin, long], [2, pieces + 1], 1),
         ]:
             sides = [b"left: ", b"right: "] if words[0] == "compare" else [b""]
@@ -344,7 +408,7 @@ def each_fails(cases, refuser, name, words, kind, told, error=errno.EIO):
 def memory(cases):
     """A log of 100 MB through a pipe takes no more memory than a short one."""
     log, _ = long_log(1_000_000)
-    for job in ("normalise", "explain", "messages"):
+    for job in ("normalise", "watch", "explain", "messages", "find"):
         program = start(cases.program, [job], stdout=subprocess.DEVNULL, stderr=None)
         give(program, log, 100)
         peak = peak_kilobytes(program)
@@ -357,7 +421,7 @@ def main():
     if len(sys.argv) != 2:
         sys.exit(__doc__)
     cases = Cases(os.path.abspath(sys.argv[1]))
-    for test in [logs, default_limit, the_longest_message, examples, places, devices, prompt, messages_one_by_one, device_calls, memory]:
+    for test in [logs, default_limit, the_longest_message, examples, places, watched, devices, prompt, messages_one_by_one, watched_one_by_one, device_calls, memory]:
         test(cases)
     cases.end()
 

@@ -1,14 +1,17 @@
 #!/usr/bin/env python3
-"""Tests of docs/recipes.md and docs/formats.md: their commands, taken out of the page itself, print what the page shows.
+"""Tests of README.md, docs/recipes.md and docs/formats.md, and where the folder of the library is given, of docs/python.md:
+their commands, taken out of the page itself, print what it shows.
 
-    tests/recipes.py crates/udsnorm/out/udsnorm
+    tests/recipes.py crates/udsnorm/out/udsnorm [out/lib]
 
-Each section is a session of bash in a folder of its own. Its blocks are:
+Each section is a session of bash in a folder of its own, with the sample logs in its folder examples/. Its blocks are:
 
 - `sh` without a name: the commands that copy sample logs to /tmp/try, done once a section, with the section's folder in its place;
-- `console TOOL...`: commands, each after `$`, and what they print. Where a tool is missing the block is skipped. One of
-  `candump` needs a bus and is always skipped;
-- `sh NAME`: a script, saved as NAME for this section and those after it.
+- `console TOOL...`: commands, each after `$`, and what they print. Where a tool is missing the block is skipped, by the tool's
+  name. One of `candump` needs a bus and is always skipped; `vcan0` is an interface, `pandas` and `python-can` are modules of
+  Python;
+- `sh NAME`, `python NAME`: a script, saved as NAME for this section and those after it;
+- `yaml`: a job of CI, whose commands stand in blocks of its section, too.
 
 Prints a line for each case and ends with `N passed, M failed`; its status is 1 where a case failed.
 """
@@ -23,7 +26,11 @@ from pathlib import Path
 from cases import Cases
 
 TOP = Path(__file__).resolve().parent.parent
-PAGES = [TOP / "docs" / name for name in ("recipes.md", "formats.md")]
+PAGES = [TOP / "README.md", TOP / "docs" / "recipes.md", TOP / "docs" / "formats.md"]
+OF_PYTHON = TOP / "docs" / "python.md"
+
+# Modules of Python that blocks ask for, by the names of the tools.
+MODULES = {"pandas": "pandas", "python-can": "can"}
 
 # Follows what each command prints. The next command still finds the status in $?.
 MARK = "\x01"
@@ -58,21 +65,45 @@ def commands(text):
     return pairs
 
 
+def job_commands(text):
+    """The commands of a job of CI, each an item of a list in YAML."""
+    items = [line.strip().removeprefix("- ") for line in text if line.strip().startswith("- ")]
+    return [item.removeprefix("run: ") for item in items if not item.startswith("uses: ")]
+
+
 def missing_tool(tools):
     for tool in tools:
         if tool == "candump":
             return "a bus"
-        if not shutil.which(tool):
-            return tool
-        if tool == "parallel" and "GNU parallel" not in version_text(tool):
-            return "GNU parallel"
+        if tool == "vcan0":
+            lacks = None if Path("/sys/class/net", tool).exists() else f"the interface {tool}"
+        elif tool in MODULES:
+            lacks = None if python_with(tool) else f"a Python that has {tool}"
+        else:
+            lacks = None if shutil.which(tool) else tool
+        if lacks:
+            return lacks
     return None
 
 
-def version_text(tool):
-    """Another program of the same name may know no such option."""
-    done = subprocess.run([tool, "--version"], stdin=subprocess.DEVNULL, capture_output=True, text=True, timeout=60)
-    return done.stdout
+def python_with(tool):
+    """A Python that has the module of this tool, if there is one: Debian's, where another one comes first."""
+    found = filter(None, map(shutil.which, ("python3", "/usr/bin/python3")))
+    ask = ["-c", f"import {MODULES[tool]}"]
+    return next((python for python in found if subprocess.run([python, *ask], capture_output=True).returncode == 0), None)
+
+
+def use_python(home, tool):
+    """The commands find a Python that has the module of this tool, where there is one."""
+    link = home / "tools" / "python3"
+    link.unlink(missing_ok=True)
+    link.symlink_to(python_with(tool) or sys.executable)
+
+
+def surroundings_of_python(home, library):
+    """What a Python sees that finds the package and its library."""
+    use_python(home, "pandas")
+    return {"PYTHONPATH": str(TOP / "python"), "LD_LIBRARY_PATH": os.path.abspath(library)}
 
 
 def surroundings(home, program):
@@ -80,6 +111,7 @@ def surroundings(home, program):
     tools = home / "tools"
     tools.mkdir()
     (tools / "udsnorm").symlink_to(program)
+    use_python(home, "python-can")
     who = {f"GIT_{role}_{part}": "test@example.com" for role in ("AUTHOR", "COMMITTER") for part in ("NAME", "EMAIL")}
     found = {"PATH": f"{tools}:{os.environ['PATH']}", "HOME": str(home), "LC_ALL": "C", "GIT_CONFIG_NOSYSTEM": "1", **who}
     return found
@@ -104,6 +136,9 @@ def run_section(cases, page, title, blocks, folder, environment):
             print(f"skipped line {line} of {page.name}: it needs {lack}", flush=True)
             continue
         wanted += commands(text)
+    for job in [command for words, _, text in blocks if words == ["yaml"] for command in job_commands(text)]:
+        shown = [command for command, _ in wanted if command.split(";")[0] == job]
+        cases.report(f"{title}: a job runs {job}", [] if shown else ["no block has it"])
     came = answers(folder, [command for command, _ in wanted], environment)
     for at, (command, lines) in enumerate(wanted):
         want = "".join(line + "\n" for line in lines)
@@ -118,7 +153,7 @@ def copy_logs(blocks, folder, environment):
 
 def save_scripts(blocks, folder):
     for words, _, text in blocks:
-        if words[:1] == ["sh"] and len(words) == 2:
+        if words[:1] in (["sh"], ["python"]) and len(words) == 2:
             script = folder / words[1]
             script.write_text("".join(line + "\n" for line in text))
             script.chmod(0o755)
@@ -130,6 +165,7 @@ def run_page(cases, page, home, environment):
     for number, (title, blocks) in enumerate(found):
         folder = home / page.stem / str(number)
         folder.mkdir(parents=True)
+        (folder / "examples").symlink_to(TOP / "examples")
         copy_logs(found[0][1], folder, environment)
         for _, before in found[: number + 1]:
             save_scripts(before, folder)
@@ -137,7 +173,7 @@ def run_page(cases, page, home, environment):
 
 
 def main():
-    if len(sys.argv) != 2:
+    if len(sys.argv) not in (2, 3):
         sys.exit(__doc__)
     cases = Cases(os.path.abspath(sys.argv[1]))
     with tempfile.TemporaryDirectory() as directory:
@@ -145,6 +181,8 @@ def main():
         environment = surroundings(home, cases.program)
         for page in PAGES:
             run_page(cases, page, home, environment)
+        if len(sys.argv) == 3:
+            run_page(cases, OF_PYTHON, home, environment | surroundings_of_python(home, sys.argv[2]))
     cases.report("the pages have commands", [] if cases.passed + cases.failed >= 36 else ["fewer than 36 commands were found"])
     cases.end()
 

@@ -9,6 +9,8 @@ Prints a line for each case and ends with `N passed, M failed`; its status is 1 
 import itertools
 import os
 import re
+import shutil
+import subprocess
 import sys
 import tempfile
 from collections import namedtuple
@@ -17,9 +19,10 @@ from functools import partial
 
 import oracle
 import tables
-from cases import DIFFERENT, DONE, REFUSAL, WORDS, Cases
+from cases import DIFFERENT, DONE, REFUSAL, UNCLEAN, WORDS, Cases
 from counts import counts_in, counts_line
 from devices import devices
+from objects import in_objects
 from recordings import CANONICAL, SIZES, Style, message_of, recorded
 from refuser import Refuser
 from runs import Ended, Program, differences, files, how, pipe
@@ -41,7 +44,7 @@ Taken = namedtuple("Taken", "normalised listed explained placed wrong")
 def taken(program, log, options=()):
     """A log through each job, in one piece and byte by byte, which has to give the same. Listing ends as normalising does, and
     lists nothing where the log is refused. So does explaining, for which no message is too long and which has no canonical
-    log. Telling the messages ends as explaining does."""
+    log. Telling the messages ends as explaining does, and so does watching, which writes the list of a log that is listed."""
     ended, wrong = [], []
     for job in JOBS:
         ended.append(program.run([job, *options], log))
@@ -50,14 +53,27 @@ def taken(program, log, options=()):
     wrong += differences("how list ends", how(listed), how(normalised))
     wrong += differences("what is listed of a refused log", listed.output if listed.status else b"", b"")
     wrong += differences("list --no-numbers", program.run(["list", "--no-numbers", *options], log), without_numbers(listed))
+    for job, found in [("list", listed), ("explain", explained), ("messages", placed)]:
+        wrong += differences(f"{job} --json", program.run([job, "--json", *options], log), found._replace(output=in_objects(job, found.output)))
     if not normalised.error.endswith(ONLY_NORMALISED):
         wrong += differences("how explain ends", how(explained), how(normalised))
     wrong += differences("how messages ends", how(placed), how(explained))
+    wrong += watched_otherwise(program, log, options, listed, explained)
     if explained.status == DONE:
         wrong += differences("how many messages", messages_in(placed), messages_counted(explained))
     if listed.status == DONE:
         wrong += differences("the list by the messages", oracle.listed_again(placed.output.decode()), listed.output.decode())
     return Taken(*ended, wrong)
+
+
+def watched_otherwise(program, log, options, listed, explained):
+    """What is wrong with a log that is watched, in one piece, byte by byte and without numbers."""
+    watched = program.run(["watch", *options], log)
+    wrong = differences("watch byte by byte", program.run_short(["watch", *options], log), watched)
+    wrong += differences("how watch ends", how(watched), how(explained))
+    if listed.status == DONE:
+        wrong += differences("the list of a log that is watched", watched.output, listed.output)
+    return wrong + differences("watch --no-numbers", program.run(["watch", "--no-numbers", *options], log), without_numbers(watched))
 
 
 def messages_in(placed):
@@ -161,6 +177,53 @@ def placed(program, row):
     found, refused = taken(program, row.log(), sides(row)), row.text("refused")
     want = Ended(REFUSAL if refused else DONE, row.text("placed"), refused)
     return found.wrong + differences("messages", found.placed, want)
+
+
+# What reads lines of JSON and writes each again without spaces, where it is there.
+READERS = [["python3", "-m", "json.tool", "--json-lines", "--compact"], ["jq", "-c", "."]]
+
+
+def objects(program):
+    readers = [reader for reader in READERS if shutil.which(reader[0])]
+    for row in tables.table("objects"):
+        yield f"objects: {row.name}", partial(objects_written, program, row, readers)
+
+
+def objects_written(program, row, readers):
+    """The command of a row writes its objects, and each reader of JSON finds them there."""
+    found, refused = program.run(row.texts("with")[0].split(" "), row.log()), row.text("refused")
+    wrong = differences("objects", found, Ended(REFUSAL if refused else DONE, row.text("object"), refused))
+    for reader in readers:
+        again = subprocess.run(reader, input=found.output, stdout=subprocess.PIPE, timeout=60)
+        wrong += differences(f"read by {reader[0]}", again.stdout, found.output)
+    return wrong
+
+
+def decided_items(program):
+    for row in tables.table("decided"):
+        yield f"decided: {row.name}", partial(decided, program, row)
+
+
+def decided(program, row):
+    """Of a log that is refused in its last line the items of its row were written."""
+    log = row.log()
+    want = Ended(REFUSAL, row.text("item"), place(log.count(b"\n"), 1))
+    return taken(program, log).wrong + differences("watch", program.run(["watch"], log), want)
+
+
+def pairs_found(program):
+    for row in tables.table("pairs_found"):
+        yield f"pairs_found: {row.name}", partial(found_pairs, program, row)
+
+
+def found_pairs(program, row):
+    """The pairs of a log are those of its row, also byte by byte and as objects; and none is written where it is refused."""
+    log, pairs = row.log(), Ended(DONE, row.text("found"), b"")
+    wrong = differences("find", program.run(["find"], log), pairs)
+    wrong += differences("find byte by byte", program.run_short(["find"], log), pairs)
+    wrong += differences("find --json", program.run(["find", "--json"], log), pairs._replace(output=in_objects("find", pairs.output)))
+    refused = Ended(REFUSAL, b"", place(log.count(b"\n") + 1, 1))
+    return wrong + differences("find of a refused log", program.run(["find"], log + b"x\n"), refused)
 
 
 def logs_without_message(program):
@@ -349,6 +412,23 @@ def limited(row, limit, ended, text, accepted=""):
     return wrong + differences(f"written under {limit}", ended.output, text[: len(ended.output)])
 
 
+def strict_runs(program):
+    for row in tables.table("unclean_logs"):
+        yield f"unclean_logs: {row.name}", partial(strictly, program, row)
+
+
+def strictly(program, row):
+    """Each job writes of a log that has to be clean what it writes otherwise, and then tells what the row says."""
+    log, wrong = row.log(), []
+    told = b"".join(f"not clean: {text}\n".encode() for text in row.texts("lacks"))
+    for job in [*JOBS, "watch", "list --json", "messages --json", "watch --no-numbers"]:
+        words = job.split(" ")
+        want = Ended(UNCLEAN if told else DONE, program.run(words, log).output, told)
+        wrong += differences(job, program.run([*words, "--strict"], log), want)
+        wrong += differences(f"{job} byte by byte", program.run_short([*words, "--strict"], log), want)
+    return wrong
+
+
 def configurations(program):
     for row in tables.lines("configurations"):
         yield f"configurations: {row}", partial(configured, program, *row.split(" ", 3))
@@ -365,7 +445,7 @@ def configured(program, tester, unit, limit, answer):
 
 
 def comparisons(program):
-    for name in ["comparisons", "refused_comparisons"]:
+    for name in ["comparisons", "refused_comparisons", "strict_comparisons", "shown_comparisons", "comparison_objects"]:
         for row in tables.table(name):
             yield f"{name}: {row.name}", partial(compared, program, row)
     yield "the right log is left alone where the left one is refused", partial(left_alone, program)
@@ -375,7 +455,11 @@ def compared(program, row):
     """Two logs are compared as the row has it. Accepted ones also the other way round, and each with itself."""
     left, right, found = row.side("left"), row.side("right"), row.text("found")
     options = [word for limit in row.texts("limit") for word in ("--limit", limit)]
-    if found == b"same\n" or found.startswith(b"different "):
+    options += [word for text in row.texts("with") for word in text.split(" ")]
+    if row.has("status"):
+        [status], output, error = row.texts("status"), row.text("found"), row.text("told")
+        answers = [(left, right, Ended(int(status), output, error))]
+    elif found == b"same\n" or found.startswith(b"different "):
         pairs = [(left, right, found), (right, left, found), (left, left, b"same\n"), (right, right, b"same\n")]
         answers = [(one, other, Ended(DONE if text == b"same\n" else DIFFERENT, text, b"")) for one, other, text in pairs]
     else:
@@ -515,8 +599,8 @@ def main():
     with tempfile.TemporaryDirectory() as folder, ThreadPoolExecutor() as workers:
         program = Program(cases.program, Refuser(folder))
         kinds = [
-            sessions, places, logs_without_message, frames_without_part, refused_lines, recording_that_breaks_off, names_listed,
-            limits, configurations, comparisons, recordings, long_logs, devices,
+            sessions, places, objects, decided_items, pairs_found, logs_without_message, frames_without_part, refused_lines, recording_that_breaks_off, names_listed,
+            limits, strict_runs, configurations, comparisons, recordings, long_logs, devices,
         ]
         names, checks = zip(*(case for kind in kinds for case in kind(program)))
         cases.report("each table of rows/ is taken", [f"{name} is not" for name in tables.left()])

@@ -1,6 +1,6 @@
 #!/usr/bin/env python3
-"""Tests of what is shipped beside the program: its manual page and its completions name every command and option that its
-help names, `make install` and `make uninstall` know the same files, `make run` and `make build` tell what they do, and `make
+"""Tests of what is shipped beside the program: its manual page names every command and option that its help names, and its
+completions offer them, `make install` and `make uninstall` know the same files, `make run` and `make build` tell what they do, and `make
 check` does what it tells, in the order of crates.txt.
 
     tests/shipped.py crates/udsnorm/out/udsnorm
@@ -10,17 +10,30 @@ Prints a line for each case and ends with `N passed, M failed`; its status is 1 
 
 import os
 import re
+import shutil
 import subprocess
 import sys
 import tempfile
 from pathlib import Path
 
 from cases import DONE, Cases
+from runs import differences
 from tables import EXAMPLES
 
 TOP = Path(__file__).resolve().parent.parent
 MANUAL = TOP / "share" / "man" / "man1" / "udsnorm.1"
-COMPLETIONS = sorted((TOP / "share" / "completions").iterdir())
+TABLE = TOP / "crates" / "udsnorm" / "src" / "commands.rt"
+COMPLETIONS = TOP / "share" / "completions"
+
+# How each shell is asked what it offers for words, of which the last is not complete. The completion of zsh describes it to
+# functions of zsh, which here print it.
+SHELLS = {
+    "bash": 'source "$0/udsnorm.bash"; COMP_WORDS=("$@"); COMP_CWORD=$(($# - 1)); _udsnorm 2> /dev/null; printf "%s\\n" "${COMPREPLY[@]}"',
+    "zsh": """_describe() { print -rl -- ${(P)2%%:*} }
+        _arguments() { print -rl -- ${${@%%\\[*}%%=}; }
+        words=("$@"); CURRENT=$#; source "$0/_udsnorm" """,
+    "fish": 'source "$argv[1]/udsnorm.fish"; complete -C "$argv[2..-1]" | string replace -r "\\t.*" ""',
+}
 
 
 def help_of(cases, *words):
@@ -44,23 +57,24 @@ def missing_in(text, words):
     return [word for word in words if not re.search(rf"(?<![\w-]){re.escape(word)}(?![\w-])", text)]
 
 
+def commands_of_the_table():
+    """The names of the commands, as the program's source has them."""
+    return re.findall(r'^ {8}name: "([\w-]+)",$', TABLE.read_text(), re.M)
+
+
 def names_are_complete(cases):
     commands = named_in(help_of(cases), "Commands")
-    cases.report("the help names five commands", [] if len(commands) == 5 else [str(commands)])
-    texts = {"the manual page": MANUAL.read_text().replace("\\-", "-")}
-    for completion in COMPLETIONS:
-        # A long option of fish is written without its dashes.
-        texts[completion.name] = re.sub(r" -l (\w)", r" --\1", completion.read_text())
-    for name, text in texts.items():
-        wrong = [f"no {word}" for word in missing_in(text, commands)] if commands else ["no commands in the help"]
-        wrong += [f"no {option}" for option in missing_in(text, named_in(help_of(cases), "Options"))]
-        for command in commands:
-            options = named_in(help_of(cases, command), "Options")
-            wrong += ["no options in the help"] if len(options) < 4 else []
-            wrong += [f"no {option} of {command}" for option in missing_in(text, options)]
-        cases.report(f"{name} names every command and option", wrong)
+    cases.report("the help names the commands of the table", [] if commands == commands_of_the_table() else [str(commands)])
+    text = MANUAL.read_text().replace("\\-", "-")
+    wrong = [f"no {word}" for word in missing_in(text, commands)] if commands else ["no commands in the help"]
+    wrong += [f"no {option}" for option in missing_in(text, named_in(help_of(cases), "Options"))]
+    for command in commands:
+        options = named_in(help_of(cases, command), "Options")
+        wrong += ["no options in the help"] if len(options) < 3 else []
+        wrong += [f"no {option} of {command}" for option in missing_in(text, options)]
+    cases.report("the manual page names every command and option", wrong)
     defaults = defaults_in(help_of(cases, "list"))
-    wrong = missing_in(texts["the manual page"], defaults) if len(defaults) == 3 else [f"{len(defaults)} defaults in the help"]
+    wrong = missing_in(text, defaults) if len(defaults) == 3 else [f"{len(defaults)} defaults in the help"]
     cases.report("the manual page has the defaults of the help", wrong)
 
 
@@ -69,21 +83,27 @@ def manual_is_well_formed(cases):
     cases.report("the manual page as groff sees it", [done.stderr] if done.stderr or done.returncode else [])
 
 
-def bash_completes(cases):
-    """What bash offers, by the function of its completion."""
-    script = next(path for path in COMPLETIONS if path.suffix == ".bash")
-    for words, want in [
-        (["udsnorm", ""], ["normalise", "list", "explain", "messages", "compare", "-h", "--help", "-V", "--version"]),
-        (["udsnorm", "co"], ["compare"]),
-        (["udsnorm", "list", "--"], ["--tester", "--unit", "--limit", "--help", "--no-numbers"]),
-        (["udsnorm", "explain", "--"], ["--tester", "--unit", "--limit", "--help"]),
-        (["udsnorm", "list", "--tester", "7"], []),
-    ]:
-        line = " ".join(f"'{word}'" for word in words)
-        ask = f"source {script}; COMP_WORDS=({line}); COMP_CWORD={len(words) - 1}; _udsnorm; printf '%s\\n' \"${{COMPREPLY[@]}}\""
-        done = subprocess.run(["bash", "-c", ask], capture_output=True, text=True, timeout=60)
-        found = done.stdout.split()
-        cases.report(f"bash completes {' '.join(words)!r}", [] if found == want and not done.stderr else [str(found), done.stderr])
+def offered(shell, program, words):
+    """What a shell offers for these words behind the program's name, of that what begins with the last one, sorted."""
+    name = program.name if shell == "fish" else program
+    asked = [shell, *(["--no-config"] if shell == "fish" else []), "-c", SHELLS[shell], COMPLETIONS, name, *words]
+    path = {"PATH": f"{program.parent}:{os.environ['PATH']}"}
+    done = subprocess.run(asked, capture_output=True, text=True, timeout=60, env=os.environ | path)
+    return sorted(word for word in done.stdout.split() if word.startswith(words[-1])) + done.stderr.splitlines()
+
+
+def shells_complete(cases):
+    """What each shell offers: the commands and the options that the help has at that place."""
+    program = Path(cases.program).resolve()
+    for shell in SHELLS:
+        if shutil.which(shell) is None:
+            print(f"skipped {shell}: it is not there", flush=True)
+            continue
+        wrong = differences("commands that begin with co", offered(shell, program, ["co"]), ["compare"])
+        for command in commands_of_the_table():
+            options = [option for option in named_in(help_of(cases, command), "Options") if option.startswith("--")]
+            wrong += differences(f"options of {command}", offered(shell, program, [command, "--"]), sorted(options))
+        cases.report(f"{shell} completes commands and options", wrong)
 
 
 # Also where `make test` runs this, the `make` below is the first one: it takes no words of the other, and its messages have no level.
@@ -102,7 +122,7 @@ def install_is_undone(cases):
         status, told, _ = make("-n", goal, "DESTDIR=/stage", "PREFIX=/usr")
         wrong += [] if status == 0 else [f"{goal} ends with {status}"]
         plan[goal] = set(re.findall(r"/stage/\S+", told))
-    wrong += [] if len(plan["install"]) == 5 else [f"{len(plan['install'])} files"]
+    wrong += [] if len(plan["install"]) == 11 else [f"{len(plan['install'])} files"]
     wrong += sorted(plan["install"] ^ plan["uninstall"])
     cases.report("uninstall removes what install puts somewhere", wrong)
 
@@ -164,7 +184,9 @@ def make_check_goes_upwards(cases):
         (
             "uds_message",
             "udsnorm run",
-            ["uds_message: rt fmt", "uds_message: rt check", "uds_exchange: rt check", "trace_canon: rt check", OF_PROGRAM[0]],
+            ["uds_message: rt fmt", "uds_message: rt check"]
+            + [f"{user}: rt check" for user in ["uds_exchange", "uds_find", "trace_canon"]]
+            + [OF_PROGRAM[0]],
         ),
         ("udsnorm", "udsnorm run", ["udsnorm: rt fmt", "udsnorm: rt check", OF_PROGRAM[0]]),
         ("acceptance", "acceptance test", ["acceptance: rt fmt", "acceptance: rt check", "acceptance: rt test"]),
@@ -172,7 +194,7 @@ def make_check_goes_upwards(cases):
             "isotp_segment",
             "acceptance test",
             ["isotp_segment: rt fmt", "isotp_segment: rt check", "trace_canon: rt check", *OF_PROGRAM]
-            + [f"{user}: rt check" for user in ["layer_bench", "refused_memory", "acceptance"]]
+            + [f"{user}: rt check" for user in ["json_reading", "udsnorm_c", "layer_bench", "refused_memory", "acceptance"]]
             + ["acceptance: rt test"],
         ),
     ]:
@@ -193,7 +215,7 @@ def main():
         sys.exit(__doc__)
     cases = Cases(os.path.abspath(sys.argv[1]))
     for test in [
-        names_are_complete, manual_is_well_formed, bash_completes, install_is_undone, make_run_tells_what_the_program_says,
+        names_are_complete, manual_is_well_formed, shells_complete, install_is_undone, make_run_tells_what_the_program_says,
         make_build_tells_its_begin_and_end, make_check_goes_upwards,
     ]:
         test(cases)

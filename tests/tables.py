@@ -21,7 +21,18 @@ What is told of the log is the lines with the mark `told`, and last its counts:
                          The others are those of its log and its canonical log, or zero: counts.py says which
 
     placed TEXT          the line of a message
+    lacks TEXT           what is told of a log that has to be clean and is not
+
+    with WORDS           a command with its options
+    object TEXT          an object that it writes
+
     between TESTER UNIT  the identifiers, where they are not 7E0 and 7E8
+
+Of two logs, whose lines have the marks `left` and `right`:
+
+    with WORDS      options
+    status NUMBER   the exit status; a row without one is that of logs that are compared also the other way round
+    found TEXT      a line that is written, or told, where the row has no status and the logs are not compared
 """
 
 from pathlib import Path

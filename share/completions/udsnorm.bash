@@ -1,23 +1,24 @@
-# Completions of udsnorm for bash.
+# Completions of udsnorm for bash: the commands and options that its help tells.
 
 _udsnorm()
 {
-    local word=${COMP_WORDS[COMP_CWORD]} before=${COMP_WORDS[COMP_CWORD-1]}
-    local commands="normalise list explain messages compare" options="--tester --unit --limit --help"
+    local word=${COMP_WORDS[COMP_CWORD]} before=${COMP_WORDS[COMP_CWORD-1]} help words
 
     COMPREPLY=()
-    case $before in
-        --tester | --unit | --limit) return ;;
-    esac
     if [[ $COMP_CWORD -eq 1 ]]; then
-        mapfile -t COMPREPLY < <(compgen -W "$commands -h --help -V --version" -- "$word")
-    elif [[ $word == -* ]]; then
-        [[ ${COMP_WORDS[1]} == list ]] && options+=" --no-numbers"
-        mapfile -t COMPREPLY < <(compgen -W "-h $options" -- "$word")
+        help=$("${COMP_WORDS[0]}" --help 2> /dev/null)
+        words=$(sed -nE 's/^  ([a-z]+)  .*/\1/p' <<< "$help")
     else
-        compopt -o filenames
-        mapfile -t COMPREPLY < <(compgen -f -- "$word")
+        help=$("${COMP_WORDS[0]}" "${COMP_WORDS[1]}" --help 2> /dev/null)
+        [[ $before == --* && $help == *" $before <"* ]] && return
+        if [[ $word != -* ]]; then
+            compopt -o filenames
+            mapfile -t COMPREPLY < <(compgen -f -- "$word")
+            return
+        fi
     fi
+    words+=$(sed -nE 's/^ +((-.), )?(--[a-z-]+).*/ \2 \3/p' <<< "$help")
+    mapfile -t COMPREPLY < <(compgen -W "$words" -- "$word")
 }
 
 complete -F _udsnorm udsnorm

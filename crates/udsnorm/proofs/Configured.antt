@@ -1,7 +1,7 @@
 -- The configuration that the values of options ask for.
 use Rattle.std.proofs.Common.{◌≡◌, ℕ, List, Bool, true, false, arith, refl, ap, sym, subst, ◌∙◌, Option, Some, None, Result, Ok, Err}
 use Rattle.std.specs.Borrow.{Bor}
-use Rattle.std.specs.Prelude.{option_map, unwrap_or, codes, ⊤, IfErr, IsErrAnd}
+use Rattle.std.specs.Prelude.{option_map, unwrap_or, ⊤, IfErr, IsErrAnd}
 use Rattle.can_log.specs.declared.frame.Id.{Id}
 use Rattle.std.specs.Str.Parse.{ExplainsUnsignedError, HasUnsignedDigitsIfOk, ParsesUnsigned}
 use Rattle.std.specs.declared.num.ParseIntError.{ParseIntError}
@@ -13,12 +13,13 @@ use Rattle.clap.specs.declared.parser.matches.Found.{Found}
 use Rattle.clap.proofs.ValueTestLemmas.{Accepts-accepts, accepts-Accepts}
 use Rattle.clap.proofs.WalkLemmas.{one_text-rows}
 use Rattle.trace_canon.specs.Settings.{Settings}
-use Rattle.udsnorm.specs.declared.job.Job.{Job}
+use Rattle.udsnorm.specs.declared.commands.Job.{Job}
 use Rattle.udsnorm.specs.declared.job.Plan.{Plan}
 use Rattle.udsnorm.specs.declared.job.WordsFault.{WordsFault}
 use Rattle.udsnorm.specs.declared.job.WordsFault.TheVariants.{Help, Words, Identifier, Config, Memory}
 use Rattle.udsnorm.specs.Identifiers.{identifier_of}
-use Rattle.udsnorm.specs.Words.{IsConfiguredBy, IsConfiguredIn, IsRefusedFor, identifier_in, limit_in, number_of}
+use Rattle.udsnorm.specs.Values.{limit_in, number_of, tester_in, unit_in}
+use Rattle.udsnorm.specs.Words.{IsConfiguredBy, IsConfiguredIn, IsRefusedFor}
 
 -- what a text with a default holds
 text_or : (text : Option (Bor Text)) (default : Bor Text) → (unwrap_or text default).now ≡ unwrap_or (option_map (λ t. t.now) text) default.now
@@ -90,8 +91,8 @@ of_fault None unit limit fault by =
 
 -- why there is no configuration is why there is no plan
 pub refused_for : (job : Option Job) (rows : List Row) (fault : WordsFault) → IsConfiguredIn rows (Err fault) → IsRefusedFor job rows fault
-refused_for job rows (Help text) by = of_fault (identifier_in rows (codes "tester")) (identifier_in rows (codes "unit")) (limit_in rows) (Help text) by
-refused_for job rows (Words text) by = absurd (of_fault (identifier_in rows (codes "tester")) (identifier_in rows (codes "unit")) (limit_in rows) (Words text) by)
+refused_for job rows (Help text) by = of_fault (tester_in rows) (unit_in rows) (limit_in rows) (Help text) by
+refused_for job rows (Words text) by = absurd (of_fault (tester_in rows) (unit_in rows) (limit_in rows) (Words text) by)
 refused_for job rows Identifier by = by
 refused_for job rows (Config fault) by = by
 refused_for job rows Memory by = tt

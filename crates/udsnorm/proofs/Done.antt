@@ -1,21 +1,26 @@
 -- What was done where the exit status is 0.
-use Rattle.std.proofs.Common.{◌≡◌, ◌≤◌, ◌+◌, ℕ, inl, inr, List, ◌++◌, Some, None, Result, Ok, Err, arith, ap, sym, subst, ◌∙◌}
+use Rattle.std.proofs.Common.{◌≡◌, ◌≤◌, ◌+◌, ℕ, inl, inr, List, [], ◌++◌, Option, Some, None, Result, Ok, Err, arith, ap, refl, sym, subst, ◌∙◌, Bool, true, false}
+use Rattle.std.specs.Prelude.{if◌then◌else◌}
 use Rattle.isotp_receive.specs.declared.TheConstants.{MESSAGE_LIMIT}
 use Rattle.clap.specs.Walk.{Text}
 use Rattle.trace_canon.specs.Compared.{Compares, fault_in}
+use Rattle.trace_canon.specs.ComparisonText.{comparison_text}
 use Rattle.trace_canon.specs.Settings.{Settings}
+use Rattle.trace_canon.specs.declared.comparing.Compared.{Compared}
 use Rattle.trace_canon.specs.declared.comparing.Comparison.{Comparison}
 use Rattle.trace_canon.specs.declared.comparing.Comparison.TheVariants.{Same, Different}
+use Rattle.trace_canon.specs.declared.comparison_lines.ComparisonStyle.{ComparisonStyle}
 use Rattle.trace_canon.specs.declared.fault.CompareFault.{CompareFault}
 use Rattle.trace_canon.specs.declared.fault.Fault.{Fault}
 use Rattle.trace_canon.specs.declared.summary.Summary.{Summary}
 use Rattle.trace_io.specs.declared.device.Source.{Ghosts as SourceGhosts}
 use Rattle.trace_io.specs.declared.device.Target.{Ghosts as TargetGhosts}
 use Rattle.udsnorm.specs.Asked.{Did, DidAsked, DidWords, IsDone, IsDoneBy, ToldWords}
-use Rattle.udsnorm.specs.Comparisons.{comparison_line}
-use Rattle.udsnorm.specs.Ending.{flushes}
-use Rattle.udsnorm.specs.Run.{EngineAnswers, IsStatusOfTwo, TookLine}
-use Rattle.udsnorm.specs.declared.job.Job.{Job}
+use Rattle.udsnorm.specs.Ending.{flushes, has_unclean, is_unclean, status_of_comparison}
+use Rattle.udsnorm.specs.Commands.{EngineAnswers}
+use Rattle.udsnorm.specs.Run.{IsStatusOfTwo, TookComparison}
+use Rattle.udsnorm.specs.declared.commands.Job.{Job}
+use Rattle.udsnorm.specs.declared.ended.Known.{Known}
 use Rattle.udsnorm.specs.declared.job.Plan.{Plan}
 use Rattle.udsnorm.specs.declared.job.Plan.TheVariants.{One, Two}
 use Rattle.udsnorm.specs.declared.job.WordsFault.{WordsFault}
@@ -25,70 +30,85 @@ use Rattle.udsnorm.proofs.Statuses.{agrees_from_start, answers_from_start, answe
 is_not_four : (status : ℕ) → status ≡ 0 → status ≡ 4 → ⊥
 is_not_four status zero four = absurd (omega (arith, zero, four))
 
--- the logs are the same, and the output took that line
-same_of_done : (settings : Settings) (one other : List ℕ) (answer : Result Comparison CompareFault) (status : ℕ) (old new : List ℕ)
-    → Compares MESSAGE_LIMIT settings one other answer → IsStatusOfTwo answer status → TookLine answer status old new → status ≡ 0
-    → Compares MESSAGE_LIMIT settings one other (Ok Same) × (new ≡ old ++ comparison_line Same)
-same_of_done settings one other (Ok Same) status old new compares is line zero = (compares, line.1 (is_not_four status zero))
-same_of_done settings one other (Ok (Different item)) status old new compares (inl is) line zero = absurd (omega (arith, is, zero))
-same_of_done settings one other (Ok (Different item)) status old new compares (inr is) line zero = absurd (is_not_four status zero is)
-same_of_done settings one other (Err fault) status old new compares is line zero = absurd (faults_are_told (fault_in fault) (sym is ∙ zero))
+same_by_status : (unclean : Bool) (comparison : Comparison) → ◌≡◌ {A = ℕ} (if unclean then 6 else status_of_comparison comparison) 0 → (unclean ≡ false) × (comparison ≡ Same)
+same_by_status true comparison zero = absurd (omega (arith, zero))
+same_by_status false Same zero = (refl, refl)
+same_by_status false (Different item) zero = absurd (omega (arith, zero))
 
-accepted : (job : Job) (settings : Settings) (log : List ℕ) (n : ℕ) (answer : Result Summary Fault) (old new : List ℕ) → EngineAnswers job MESSAGE_LIMIT settings log n answer old new
-    → (summary : Summary) × (answer ≡ Ok summary) → (summary : Summary) × EngineAnswers job MESSAGE_LIMIT settings log n (Ok summary) old new
-accepted job settings log n answer old new engine is = (is.0, subst (λ a. EngineAnswers job MESSAGE_LIMIT settings log n a old new) is.1 engine)
+-- the logs are the same, and clean where they have to be, and the output took that text
+same_of_done : (strict : Bool) (style : ComparisonStyle) (settings : Settings) (one other : List ℕ) (answer : Result Compared CompareFault) (status : ℕ) (old new : List ℕ)
+    → Compares MESSAGE_LIMIT settings one other answer → IsStatusOfTwo strict answer status → TookComparison strict style answer status old new → status ≡ 0
+    → (compared : Compared) × Compares MESSAGE_LIMIT settings one other (Ok compared) × (has_unclean strict compared ≡ false) × (compared.comparison ≡ Same) × (new ≡ old ++ comparison_text style compared)
+same_of_done strict style settings one other (Ok compared) status old new compares (inl is) text zero =
+    let same = same_by_status (has_unclean strict compared) compared.comparison (sym is ∙ zero) in (
+      compared,
+      compares,
+      same.0,
+      same.1,
+      text.1 (is_not_four status zero) ∙ ap (λ unclean. old ++ (if unclean then [] else comparison_text style compared)) same.0,
+    )
+same_of_done strict style settings one other (Ok compared) status old new compares (inr is) text zero = absurd (is_not_four status zero is)
+same_of_done strict style settings one other (Err fault) status old new compares is text zero = absurd (faults_are_told (fault_in fault) (sym is ∙ zero))
+
+accepted : (job : Job) (strict : Bool) (settings : Settings) (log : List ℕ) (n : ℕ) (answer : Result Summary Fault) (old new : List ℕ)
+    → EngineAnswers job MESSAGE_LIMIT settings log n answer old new → (summary : Summary) × (answer ≡ Ok summary) × (is_unclean strict summary ≡ false)
+    → (summary : Summary) × (is_unclean strict summary ≡ false) × EngineAnswers job MESSAGE_LIMIT settings log n (Ok summary) old new
+accepted job strict settings log n answer old new engine is = (is.0, is.2, subst (λ a. EngineAnswers job MESSAGE_LIMIT settings log n a old new) is.1 engine)
 
 done_by : {F R W E : Type 0} (file : SourceGhosts F) (source : SourceGhosts R) (output : TargetGhosts W) (errors : TargetGhosts E) (asked : Result Plan WordsFault)
-    (before : R) (old : W) (unsaid : E) (status : ℕ) (after : R) (new : W) (said : E) (log : List ℕ) → DidAsked file source output errors asked before old unsaid status after new said
+    (before : R) (old : W) (unsaid : E) (status : ℕ) (known : Option Known) (after : R) (new : W) (said : E) (log : List ℕ)
+    → DidAsked file source output errors asked before old unsaid status known after new said
     → status ≡ 0 → source.given after ≡ source.given before ++ log → IsDoneBy asked log (output.taken old) (output.taken new)
-done_by file source output errors (Ok (One job settings None)) before old unsaid status after new said log ran zero grown =
-    let is = summary_of_done (flushes ran.answer (output.taken new)) ran.answer ran.outcome status ran.comes ran.status_is zero in
-    accepted job settings log _ ran.answer (output.taken old) (output.taken new)
+done_by file source output errors (Ok (One job strict settings None)) before old unsaid status known after new said log (outcome, ran, known_is) zero grown =
+    let is = summary_of_done strict (flushes ran.answer (output.taken new)) ran.answer outcome status ran.comes ran.status_is zero in
+    accepted job strict settings log _ ran.answer (output.taken old) (output.taken new)
     (answers_on_more job MESSAGE_LIMIT settings (source.given before) (source.given after) log (source.is_over after) ran.answer (output.taken old) (output.taken new) grown ran.engine) is
-done_by file source output errors (Ok (One job settings (Some name))) before old unsaid status after new said log (same, inl found) zero grown =
+done_by file source output errors (Ok (One job strict settings (Some name))) before old unsaid status known after new said log (same, inl found) zero grown =
     let ran = found.ran in
     let log = file.given found.left in
-    let is = summary_of_done (flushes ran.answer (output.taken new)) ran.answer ran.outcome status ran.comes ran.status_is zero in
-    let done = accepted job settings log _ ran.answer (output.taken old) (output.taken new)
+    let is = summary_of_done strict (flushes ran.answer (output.taken new)) ran.answer found.outcome status ran.comes ran.status_is zero in
+    let done = accepted job strict settings log _ ran.answer (output.taken old) (output.taken new)
     (answers_from_start job MESSAGE_LIMIT settings (file.given found.opened) log (file.is_over found.left) ran.answer (output.taken old) (output.taken new) found.from_start ran.engine) is in
-    (log, done.0, done.1)
-done_by file source output errors (Ok (One job settings (Some name))) before old unsaid status after new said log (same, inr unopened) zero grown =
+    (log, done.0, done.1, done.2)
+done_by file source output errors (Ok (One job strict settings (Some name))) before old unsaid status known after new said log (same, inr unopened) zero grown =
     absurd (is_not_four status zero unopened.0)
-done_by file source output errors (Ok (Two settings left right)) before old unsaid status after new said log (same, inl found) zero grown =
+done_by file source output errors (Ok (Two strict style settings left right)) before old unsaid status known after new said log (same, inl found) zero grown =
     let ran = found.ran in
     let one = file.given found.one_left in
     let other = file.given found.other_left in
     let compares = ran.compares one other (agrees_from_start (file.given found.one) one (file.is_over found.one_left) found.from_start)
     (agrees_from_start (file.given found.other) other (file.is_over found.other_left) found.from_start_too) in
-    let done = same_of_done settings one other ran.answer status (output.taken old) (output.taken new) compares ran.status_is ran.line zero in
-    (one, other, done.0, done.1)
-done_by file source output errors (Ok (Two settings left right)) before old unsaid status after new said log (same, inr (inl unopened)) zero grown =
+    let done = same_of_done strict style settings one other ran.answer status (output.taken old) (output.taken new) compares ran.status_is ran.text zero in
+    (one, other, done.0, done.1, done.2, done.3, done.4)
+done_by file source output errors (Ok (Two strict style settings left right)) before old unsaid status known after new said log (same, inr (inl unopened)) zero grown =
     absurd (is_not_four status zero unopened.0)
-done_by file source output errors (Ok (Two settings left right)) before old unsaid status after new said log (same, inr (inr unopened)) zero grown =
+done_by file source output errors (Ok (Two strict style settings left right)) before old unsaid status known after new said log (same, inr (inr (inl unopened))) zero grown =
     absurd (is_not_four status zero unopened.0)
-done_by file source output errors (Err (words.Help text)) before old unsaid status after new said log (same, inl told) zero grown = told.1
-done_by file source output errors (Err (words.Help text)) before old unsaid status after new said log (same, inr failed) zero grown =
+done_by file source output errors (Ok (Two strict style settings left right)) before old unsaid status known after new said log (same, inr (inr (inr one))) zero grown =
+    absurd (omega (arith, one.0, zero))
+done_by file source output errors (Err (words.Help text)) before old unsaid status known after new said log (same, known_is, inl told) zero grown = told.1
+done_by file source output errors (Err (words.Help text)) before old unsaid status known after new said log (same, known_is, inr failed) zero grown =
     absurd (is_not_four status zero failed.0)
-done_by file source output errors (Err (words.Words text)) before old unsaid status after new said log did zero grown = absurd (omega (arith, did.1, zero))
-done_by file source output errors (Err words.Identifier) before old unsaid status after new said log did zero grown = absurd (omega (arith, did.1, zero))
-done_by file source output errors (Err (words.Config reason)) before old unsaid status after new said log did zero grown = absurd (omega (arith, did.1, zero))
-done_by file source output errors (Err words.Memory) before old unsaid status after new said log did zero grown = absurd (omega (arith, did.1, zero))
+done_by file source output errors (Err (words.Words text)) before old unsaid status known after new said log (same, known_is, did) zero grown = absurd (omega (arith, did.0, zero))
+done_by file source output errors (Err words.Identifier) before old unsaid status known after new said log (same, known_is, did) zero grown = absurd (omega (arith, did.0, zero))
+done_by file source output errors (Err (words.Config reason)) before old unsaid status known after new said log (same, known_is, did) zero grown = absurd (omega (arith, did.0, zero))
+done_by file source output errors (Err words.Memory) before old unsaid status known after new said log (same, known_is, did) zero grown = absurd (omega (arith, did.0, zero))
 
 -- what was done of a plan was done of its equal
 pub did_of_equal : {F R W E : Type 0} (file : SourceGhosts F) (source : SourceGhosts R) (output : TargetGhosts W) (errors : TargetGhosts E) (plan other : Plan)
-    (before : R) (old : W) (unsaid : E) (status : ℕ) (after : R) (new : W) (said : E) → plan ≡ other → Did file source output errors other before old unsaid status after new said
-    → Did file source output errors plan before old unsaid status after new said
-did_of_equal file source output errors plan other before old unsaid status after new said same did =
-    subst (λ (p : Plan). Did file source output errors p before old unsaid status after new said) (sym same) did
+    (before : R) (old : W) (unsaid : E) (status : ℕ) (known : Option Known) (after : R) (new : W) (said : E) → plan ≡ other
+    → Did file source output errors other before old unsaid status known after new said → Did file source output errors plan before old unsaid status known after new said
+did_of_equal file source output errors plan other before old unsaid status known after new said same did =
+    subst (λ (p : Plan). Did file source output errors p before old unsaid status known after new said) (sym same) did
 
 -- what was done of the words
-pub is_done : {F R W E : Type 0} (file : SourceGhosts F) (source : SourceGhosts R) (output : TargetGhosts W) (errors : TargetGhosts E) (given : List Text)
-    (before : R) (old : W) (unsaid : E) (status : ℕ) (after : R) (new : W) (said : E) → DidWords file source output errors given before old unsaid status after new said
+pub is_done : {F R W E : Type 0} (file : SourceGhosts F) (source : SourceGhosts R) (output : TargetGhosts W) (errors : TargetGhosts E) (given : List Text) (asked : Result Plan WordsFault)
+    (before : R) (old : W) (unsaid : E) (status : ℕ) (known : Option Known) (after : R) (new : W) (said : E) → DidWords file source output errors given asked before old unsaid status known after new said
     → status ≡ 0 → (log : List ℕ) → source.given after ≡ source.given before ++ log → IsDone given log (output.taken old) (output.taken new)
-is_done file source output errors given before old unsaid status after new said did zero log grown = record {
-  asked = did.asked;
+is_done file source output errors given asked before old unsaid status known after new said did zero log grown = record {
+  asked = asked;
   planned = did.planned;
-  done = done_by file source output errors did.asked before old unsaid status after new said log did.did zero grown;
+  done = done_by file source output errors asked before old unsaid status known after new said log did.did zero grown;
 }
 
 -- ---- of words that ask for nothing

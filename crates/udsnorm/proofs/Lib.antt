@@ -1,8 +1,9 @@
 pub mod Statuses
+pub mod Certificates
 pub mod Done
 pub mod Configured
 pub mod Built
 pub mod Taken
 pub mod SpelledIdentifiers
 pub mod LineParts
-mod CommandJobs
+pub mod ToldTexts

@@ -1,18 +1,22 @@
 -- What a run comes to, by what an engine answered and which devices failed.
 use Rattle.std.proofs.Common.{◌≡◌, ◌≢◌, ◌≤◌, ◌⊎◌, ◌+◌, ◌-◌, ℕ, inl, inr, Bool, true, false, true≢false, List, [], ◌++◌, length, length-append, append-nil, Option, Some, None, Result, Ok, Err, arith, refl, ap, sym, subst, ◌∙◌}
+use Rattle.std.specs.Prelude.{if◌then◌else◌, ◌&&◌, not, IfOk}
 use Rattle.std.specs.Io.KnownBytes.{Appends, Keeps}
 use Rattle.trace_canon.specs.Failing.{FailedIf}
-use Rattle.trace_canon.specs.declared.comparing.Comparison.{Comparison}
+use Rattle.trace_canon.specs.declared.comparing.Compared.{Compared}
+use Rattle.trace_canon.specs.Laws.{IsCertified}
+use Rattle.trace_canon.specs.Summing.{is_clean}
 use Rattle.trace_canon.specs.declared.fault.CompareFault.{CompareFault}
 use Rattle.trace_canon.specs.declared.fault.Fault.{Fault}
 use Rattle.trace_canon.specs.declared.fault.Fault.TheVariants as fault
 use Rattle.trace_canon.specs.Settings.{Settings}
 use Rattle.trace_canon.specs.declared.summary.Summary.{Summary}
 use Rattle.trace_io.specs.Stream.{Agrees, Took}
-use Rattle.udsnorm.specs.Ending.{ComesTo, EndsAs, EndsTwoWith, flushes, status_of_run}
-use Rattle.udsnorm.specs.Run.{EngineAnswers, IsStatusOfTwo}
+use Rattle.udsnorm.specs.Ending.{ComesTo, EndsAs, EndsTwoWith, flushes, is_unclean, status_of_run}
+use Rattle.udsnorm.specs.Commands.{EngineAnswers}
+use Rattle.udsnorm.specs.Run.{IsStatusOfTwo}
 use Rattle.udsnorm.specs.Status.{status_of}
-use Rattle.udsnorm.specs.declared.job.Job.{Job}
+use Rattle.udsnorm.specs.declared.commands.Job.{Job}
 
 -- ---- after the flush
 
@@ -95,10 +99,10 @@ took_still first old new held held_then held_now took same kept = record {
 
 -- ---- over two logs
 
-pub status_of_end_of_two : (answer : Result Comparison CompareFault) (old new status : ℕ) → EndsTwoWith answer old new status → IsStatusOfTwo answer status
-status_of_end_of_two (Ok comparison) old new status (inl done) = inl done.0
-status_of_end_of_two (Ok comparison) old new status (inr failed) = inr failed.0
-status_of_end_of_two (Err why) old new status ends = ends.0
+pub status_of_end_of_two : (strict : Bool) (answer : Result Compared CompareFault) (old new status : ℕ) → EndsTwoWith strict answer old new status → IsStatusOfTwo strict answer status
+status_of_end_of_two strict (Ok compared) old new status (inl done) = inl done.0
+status_of_end_of_two strict (Ok compared) old new status (inr failed) = inr failed.0
+status_of_end_of_two strict (Err why) old new status ends = ends.0
 
 -- ---- what a source that was read from its start gave
 
@@ -144,18 +148,37 @@ faults_are_told fault.Memory none = absurd (omega (arith, none))
 never_ok : (summary : Summary) → Ok summary ≡ Err fault.Write → ⊥
 never_ok summary is = cc
 
--- where it is done, the log was accepted
-pub summary_of_done : (due : Bool) (answer outcome : Result Summary Fault) (status : ℕ) → ComesTo due answer outcome → status ≡ status_of_run outcome → status ≡ 0
-    → (summary : Summary) × (answer ≡ Ok summary)
-summary_of_done due answer (Ok summary) status (inl same) is zero = (summary, sym same)
-summary_of_done due answer (Ok summary) status (inr failed) is zero = absurd (never_ok summary failed.1)
-summary_of_done due answer (Err why) status comes is zero = absurd (faults_are_told why (sym is ∙ zero))
+-- a log that has to be clean and is not has a status of its own
+no_six : (unclean : Bool) → ◌≡◌ {A = ℕ} (if unclean then 6 else 0) 0 → unclean ≡ false
+no_six true six = absurd (omega (arith, six))
+no_six false none = refl
+
+-- where it is done, the log was accepted, and is clean where it has to be
+pub summary_of_done : (strict due : Bool) (answer outcome : Result Summary Fault) (status : ℕ) → ComesTo due answer outcome → status ≡ status_of_run strict outcome → status ≡ 0
+    → (summary : Summary) × (answer ≡ Ok summary) × (is_unclean strict summary ≡ false)
+summary_of_done strict due answer (Ok summary) status (inl same) is zero = (summary, sym same, no_six (is_unclean strict summary) (sym is ∙ zero))
+summary_of_done strict due answer (Ok summary) status (inr failed) is zero = absurd (never_ok summary failed.1)
+summary_of_done strict due answer (Err why) status comes is zero = absurd (faults_are_told why (sym is ∙ zero))
 
 -- and the output was flushed once
-pub done_once : (answer outcome : Result Summary Fault) (taken : List ℕ) (old new times times_now : ℕ) (is_flushed : Bool) (status : ℕ)
-    → EndsAs (flushes answer taken) answer old new times times_now is_flushed outcome → status ≡ status_of_run outcome → status ≡ 0 → times_now ≡ times + 1
-done_once answer outcome taken old new times times_now is_flushed status ends is zero =
-    let accepted = summary_of_done (flushes answer taken) answer outcome status (comes_to (flushes answer taken) answer outcome old new times times_now is_flushed ends) is zero in
+pub done_once : (strict : Bool) (answer outcome : Result Summary Fault) (taken : List ℕ) (old new times times_now : ℕ) (is_flushed : Bool) (status : ℕ)
+    → EndsAs (flushes answer taken) answer old new times times_now is_flushed outcome → status ≡ status_of_run strict outcome → status ≡ 0 → times_now ≡ times + 1
+done_once strict answer outcome taken old new times times_now is_flushed status ends is zero =
+    let accepted = summary_of_done strict (flushes answer taken) answer outcome status (comes_to (flushes answer taken) answer outcome old new times times_now is_flushed ends) is zero in
     let due : flushes answer taken ≡ true = ap (λ (a : Result Summary Fault). flushes a taken) accepted.1 in
     flushed_once_then (flushes answer taken) answer outcome old new times times_now is_flushed ends due
-    (λ failed. faults_are_told fault.Write (ap status_of_run (sym failed) ∙ sym is ∙ zero))
+    (λ failed. faults_are_told fault.Write (ap (status_of_run strict) (sym failed) ∙ sym is ∙ zero))
+
+-- where a strict run is done, its log is clean, and so what its summary certifies
+clean_then : (strict clean : Bool) → strict ≡ true → (strict && not clean) ≡ false → clean ≡ true
+clean_then true true is none = refl
+clean_then true false is none = absurd (true≢false none)
+clean_then false clean is none = absurd (true≢false (sym is))
+
+pub recorded_then : (strict due : Bool) (answer outcome : Result Summary Fault) (status limit : ℕ) (settings : Settings) (log : List ℕ) → ComesTo due answer outcome
+    → status ≡ status_of_run strict outcome → status ≡ 0 → strict ≡ true → IfOk answer (λ summary. is_clean summary ≡ true → IsCertified limit settings log)
+    → IsCertified limit settings log
+recorded_then strict due answer outcome status limit settings log comes is zero has_to certifies =
+    let done = summary_of_done strict due answer outcome status comes is zero in
+    subst (λ (a : Result Summary Fault). IfOk a (λ summary. is_clean summary ≡ true → IsCertified limit settings log)) done.1 certifies
+    (clean_then strict (is_clean done.0) has_to done.2)

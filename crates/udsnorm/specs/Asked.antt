@@ -1,22 +1,32 @@
 -- What the program did of what the words ask for.
-use Rattle.std.specs.Prelude.{◌≡◌, ℕ, ◌+◌, ◌⊎◌, List, [], ◌++◌, length, true, Some, None, Result, Ok, Err, string_bytes}
+use Rattle.std.specs.Prelude.{◌≡◌, ℕ, ◌+◌, ◌⊎◌, Bool, List, [], ◌++◌, length, true, false, Option, Some, None, Result, Ok, Err, string_bytes}
 use Rattle.isotp_receive.specs.declared.TheConstants.{MESSAGE_LIMIT}
 use Rattle.clap.specs.Walk.{Text}
 use Rattle.trace_canon.specs.Compared.{Compares}
+use Rattle.trace_canon.specs.ComparisonText.{comparison_text}
 use Rattle.trace_canon.specs.Settings.{Settings}
+use Rattle.trace_canon.specs.declared.comparing.Compared.{Compared}
 use Rattle.trace_canon.specs.declared.comparing.Comparison.TheVariants.{Same}
+use Rattle.trace_canon.specs.declared.comparison_lines.ComparisonStyle.{ComparisonStyle}
+use Rattle.trace_canon.specs.declared.fault.CompareFault.{CompareFault}
 use Rattle.trace_canon.specs.declared.fault.CompareFault.TheVariants.{Left, Right}
+use Rattle.trace_canon.specs.declared.fault.Fault.{Fault}
 use Rattle.trace_canon.specs.declared.fault.Fault.TheVariants.{Read, Write}
 use Rattle.trace_canon.specs.declared.summary.Summary.{Summary}
 use Rattle.trace_io.specs.Written.{HasFront}
 use Rattle.trace_io.specs.declared.device.Source.{Ghosts as SourceGhosts}
 use Rattle.trace_io.specs.declared.device.Target.{Ghosts as TargetGhosts}
-use Rattle.udsnorm.specs.Comparisons.{comparison_line}
-use Rattle.udsnorm.specs.FaultLines.{fault_line, side_line, words_text}
-use Rattle.udsnorm.specs.Run.{EngineAnswers, RanOne, RanTwo}
+use Rattle.udsnorm.specs.Commands.{EngineAnswers}
+use Rattle.udsnorm.specs.FaultLines.{fault_line, one_stream_line, side_line, words_text}
+use Rattle.udsnorm.specs.Ending.{has_unclean, is_unclean}
+use Rattle.udsnorm.specs.Known.{IsKnownBy, IsKnownByTwo, IsKnownUnopened}
+use Rattle.udsnorm.specs.Run.{RanOne, RanTwo}
 use Rattle.udsnorm.specs.Telling.{TookText}
 use Rattle.udsnorm.specs.Words.{IsPlanned}
-use Rattle.udsnorm.specs.declared.job.Job.{Job}
+use Rattle.udsnorm.specs.declared.commands.Job.{Job}
+use Rattle.udsnorm.specs.declared.ended.Known.{Known}
+use Rattle.udsnorm.specs.declared.ended.Which.{Which}
+use Rattle.udsnorm.specs.declared.ended.Which.TheVariants.{First, Second}
 use Rattle.udsnorm.specs.declared.job.Plan.{Plan}
 use Rattle.udsnorm.specs.declared.job.Plan.TheVariants.{One, Two}
 use Rattle.udsnorm.specs.declared.job.WordsFault.{WordsFault}
@@ -45,59 +55,72 @@ ToldWords output errors (words.Config reason) old unsaid status new said = (stat
 ToldWords output errors words.Memory old unsaid status new said = (status ≡ 5) × (new ≡ old) × Took errors (words_text words.Memory) unsaid said
 
 -- A run over the log of a file, from its first byte: all that a run over an input did.
-pub record RanFile {F W E : Type 0} (file : SourceGhosts F) (output : TargetGhosts W) (errors : TargetGhosts E) (job : Job) (limit : ℕ) (settings : Settings)
-    (old : W) (unsaid : E) (status : ℕ) (new : W) (said : E) : Type 0 where
+pub record RanFile {F W E : Type 0} (file : SourceGhosts F) (output : TargetGhosts W) (errors : TargetGhosts E) (job : Job) (strict : Bool) (limit : ℕ) (settings : Settings)
+    (old : W) (unsaid : E) (status : ℕ) (known : Option Known) (new : W) (said : E) : Type 0 where
   pub opened : F
   pub left : F
   pub from_start : file.given opened ≡ []
-  pub ran : RanOne file output errors job limit settings opened old unsaid status left new said
+  pub outcome : Result Summary Fault
+  pub ran : RanOne file output errors job strict limit settings opened old unsaid status outcome left new said
+  pub known_is : IsKnownBy First settings outcome known
 
--- a file can't be opened: that is told, and the output is left alone
-abbrev pub Unopened : {W E : Type 0} → TargetGhosts E → List ℕ → W → E → ℕ → W → E → Type 0
-Unopened errors line old unsaid status new said = (status ≡ 4) × (new ≡ old) × Took errors line unsaid said
+-- a file can't be opened: that is told, why is known, and the output is left alone
+abbrev pub Unopened : {W E : Type 0} → TargetGhosts E → List ℕ → Which → W → E → ℕ → Option Known → W → E → Type 0
+Unopened errors line which old unsaid status known new said = (status ≡ 4) × (new ≡ old) × Took errors line unsaid said × IsKnownUnopened which known
+
+-- both logs are one pipe, socket or terminal, of which each byte is read once: that is told, no more is known, and the output
+-- is left alone
+abbrev pub OneStream : {W E : Type 0} → TargetGhosts E → W → E → ℕ → Option Known → W → E → Type 0
+OneStream errors old unsaid status known new said = (status ≡ 2) × (new ≡ old) × Took errors one_stream_line unsaid said × (known ≡ None)
 
 -- A run over the logs of two files, each from its first byte.
-pub record RanFiles {F W E : Type 0} (file : SourceGhosts F) (output : TargetGhosts W) (errors : TargetGhosts E) (limit : ℕ) (settings : Settings)
-    (old : W) (unsaid : E) (status : ℕ) (new : W) (said : E) : Type 0 where
+pub record RanFiles {F W E : Type 0} (file : SourceGhosts F) (output : TargetGhosts W) (errors : TargetGhosts E) (strict : Bool) (style : ComparisonStyle) (limit : ℕ) (settings : Settings)
+    (old : W) (unsaid : E) (status : ℕ) (known : Option Known) (new : W) (said : E) : Type 0 where
   pub one : F
   pub other : F
   pub one_left : F
   pub other_left : F
   pub from_start : file.given one ≡ []
   pub from_start_too : file.given other ≡ []
-  pub ran : RanTwo file file output errors limit settings one other old unsaid status one_left other_left new said
+  pub fault : Option CompareFault
+  pub ran : RanTwo file file output errors strict style limit settings one other old unsaid status fault one_left other_left new said
+  pub known_is : IsKnownByTwo settings fault known
 
--- What was done of a plan: over the input where it names no file, and the input was left alone where it names one.
-abbrev pub Did : {F R W E : Type 0} → SourceGhosts F → SourceGhosts R → TargetGhosts W → TargetGhosts E → Plan → R → W → E → ℕ → R → W → E → Type 0
-Did file source output errors (One job settings None) before old unsaid status after new said =
-    RanOne source output errors job MESSAGE_LIMIT settings before old unsaid status after new said
-Did file source output errors (One job settings (Some name)) before old unsaid status after new said =
-    (after ≡ before) × (RanFile file output errors job MESSAGE_LIMIT settings old unsaid status new said ⊎ Unopened errors (fault_line Read) old unsaid status new said)
-Did file source output errors (Two settings left right) before old unsaid status after new said =
-    (after ≡ before) × (RanFiles file output errors MESSAGE_LIMIT settings old unsaid status new said
-    ⊎ (Unopened errors (side_line (Left Read)) old unsaid status new said ⊎ Unopened errors (side_line (Right Read)) old unsaid status new said))
+-- What was done of a plan, and what is known of that: over the input where it names no file, and the input was left alone where
+-- it names one.
+abbrev pub Did : {F R W E : Type 0} → SourceGhosts F → SourceGhosts R → TargetGhosts W → TargetGhosts E → Plan → R → W → E → ℕ → Option Known → R → W → E → Type 0
+Did file source output errors (One job strict settings None) before old unsaid status known after new said =
+    (outcome : Result Summary Fault) × RanOne source output errors job strict MESSAGE_LIMIT settings before old unsaid status outcome after new said × IsKnownBy First settings outcome known
+Did file source output errors (One job strict settings (Some name)) before old unsaid status known after new said =
+    (after ≡ before) × (RanFile file output errors job strict MESSAGE_LIMIT settings old unsaid status known new said
+    ⊎ Unopened errors (fault_line Read) First old unsaid status known new said)
+Did file source output errors (Two strict style settings left right) before old unsaid status known after new said =
+    (after ≡ before) × (RanFiles file output errors strict style MESSAGE_LIMIT settings old unsaid status known new said
+    ⊎ (Unopened errors (side_line (Left Read)) First old unsaid status known new said ⊎ (Unopened errors (side_line (Right Read)) Second old unsaid status known new said
+    ⊎ OneStream errors old unsaid status known new said)))
 
--- what was done of what was asked for
-abbrev pub DidAsked : {F R W E : Type 0} → SourceGhosts F → SourceGhosts R → TargetGhosts W → TargetGhosts E → Result Plan WordsFault → R → W → E → ℕ → R → W → E → Type 0
-DidAsked file source output errors (Ok plan) before old unsaid status after new said = Did file source output errors plan before old unsaid status after new said
-DidAsked file source output errors (Err fault) before old unsaid status after new said =
-    (after ≡ before) × ToldWords output errors fault old unsaid status new said
+-- what was done of what was asked for; nothing is known of words that ask for nothing
+abbrev pub DidAsked : {F R W E : Type 0} → SourceGhosts F → SourceGhosts R → TargetGhosts W → TargetGhosts E → Result Plan WordsFault → R → W → E → ℕ → Option Known → R → W → E → Type 0
+DidAsked file source output errors (Ok plan) before old unsaid status known after new said = Did file source output errors plan before old unsaid status known after new said
+DidAsked file source output errors (Err fault) before old unsaid status known after new said =
+    (after ≡ before) × (known ≡ None) × ToldWords output errors fault old unsaid status new said
 
--- What was done of what the words ask for.
+-- What was done of what the words ask for, and what is known of that.
 pub record DidWords {F R W E : Type 0} (file : SourceGhosts F) (source : SourceGhosts R) (output : TargetGhosts W) (errors : TargetGhosts E) (given : List Text)
-    (before : R) (old : W) (unsaid : E) (status : ℕ) (after : R) (new : W) (said : E) : Type 0 where
-  pub asked : Result Plan WordsFault
+    (asked : Result Plan WordsFault) (before : R) (old : W) (unsaid : E) (status : ℕ) (known : Option Known) (after : R) (new : W) (said : E) : Type 0 where
   pub planned : IsPlanned given asked
-  pub did : DidAsked file source output errors asked before old unsaid status after new said
+  pub did : DidAsked file source output errors asked before old unsaid status known after new said
 
--- where the plan is for one log and names no file, the output took all that the job writes of this log
+-- where the plan is for one log and names no file, the output took all that the job writes of this log; each log is clean
+-- where it has to be
 abbrev pub IsDoneBy : Result Plan WordsFault → List ℕ → List ℕ → List ℕ → Type 0
-IsDoneBy (Ok (One job settings None)) log before after =
-    (summary : Summary) × EngineAnswers job MESSAGE_LIMIT settings log (length log) (Ok summary) before after
-IsDoneBy (Ok (One job settings (Some name))) log before after =
-    (one : List ℕ) × (summary : Summary) × EngineAnswers job MESSAGE_LIMIT settings one (length one) (Ok summary) before after
-IsDoneBy (Ok (Two settings left right)) log before after =
-    (one other : List ℕ) × Compares MESSAGE_LIMIT settings one other (Ok Same) × (after ≡ before ++ comparison_line Same)
+IsDoneBy (Ok (One job strict settings None)) log before after =
+    (summary : Summary) × (is_unclean strict summary ≡ false) × EngineAnswers job MESSAGE_LIMIT settings log (length log) (Ok summary) before after
+IsDoneBy (Ok (One job strict settings (Some name))) log before after =
+    (one : List ℕ) × (summary : Summary) × (is_unclean strict summary ≡ false) × EngineAnswers job MESSAGE_LIMIT settings one (length one) (Ok summary) before after
+IsDoneBy (Ok (Two strict style settings left right)) log before after =
+    (one other : List ℕ) × (compared : Compared) × Compares MESSAGE_LIMIT settings one other (Ok compared) × (has_unclean strict compared ≡ false) × (compared.comparison ≡ Same)
+    × (after ≡ before ++ comparison_text style compared)
 IsDoneBy (Err (words.Help text)) log before after = after ≡ before ++ string_bytes text
 IsDoneBy (Err (words.Words text)) log before after = ⊥
 IsDoneBy (Err words.Identifier) log before after = ⊥

@@ -1,22 +1,33 @@
--- The commands of the program with their options and files, as the parser takes them.
-use Rattle.std.specs.Prelude.{true, false, List, [], ◌∷◌, ◌++◌, Some, Option, codes}
+-- The commands of the program: the options and files of each, as the parser takes them, the job that it asks for, and
+-- what the engine answers and reads that does the job. A command is one entry of `command_entries`, and its job a case
+-- of `EngineAnswers` and of `IsReadFor`.
+use Rattle.std.specs.Prelude.{ℕ, Bool, true, false, List, [], ◌∷◌, ◌++◌, map, Some, None, Option, Result, codes, bytes_eq, if◌then◌else◌}
 use Rattle.clap.specs.Faults.{fault_of}
 use Rattle.clap.specs.Kinds.{Kinds}
 use Rattle.clap.specs.Simple.{App, Shape, new_rule, new_shape, subcommand_of}
 use Rattle.clap.specs.Walk.{Row, Rule, Text}
 use Rattle.clap.specs.declared.builder.action.ArgAction.TheVariants.{SetTrue}
 use Rattle.clap.specs.declared.builder.value_parser.ValueParser.TheVariants.{Unsigned}
+use Rattle.trace_canon.specs.Answers.{Answers, ReadsWhile}
+use Rattle.trace_canon.specs.ExplainAnswers.{AnswersExplain}
+use Rattle.trace_canon.specs.Found.{Finds}
+use Rattle.trace_canon.specs.Listed.{Lists}
+use Rattle.trace_canon.specs.MessageLines.{placing_script}
+use Rattle.trace_canon.specs.Refusal.{HasNoBadPlaceWithin, IsNotRefusedWithin}
+use Rattle.trace_canon.specs.Settings.{Settings}
+use Rattle.trace_canon.specs.Told.{AnswersTold, answers_counts}
+use Rattle.trace_canon.specs.WatchScript.{watching_script}
+use Rattle.trace_canon.specs.declared.fault.Fault.{Fault}
+use Rattle.trace_canon.specs.declared.summary.Summary.{Summary}
+use Rattle.udsnorm.specs.Values.{notation_in, style_in}
+use Rattle.udsnorm.specs.declared.commands.Job.{Job}
+use Rattle.udsnorm.specs.declared.commands.Job.TheVariants as job
+
+-- ---- options and files
 
 -- an option of one value, with the value that it has where it is not given
 abbrev pub option : Text → Text → Rule
 option name default = record (new_rule name) { long = Some name; value_names = 1; defaults = default ∷ [] }
-
--- the limits that there are where none is given: a gibibyte, and the largest limit
-abbrev pub usual : Text
-usual = codes "1073741824"
-
-abbrev pub largest : Text
-largest = codes "1099511627776"
 
 -- the option of the limit, a number of 64 bits, with what it is where it is not given
 abbrev pub limit : Text → Rule
@@ -26,26 +37,97 @@ limit default = record (option (codes "limit") default) { parser = Some (Unsigne
 abbrev pub flag : Text → Rule
 flag name = record (new_rule name) { long = Some name; action = Some SetTrue }
 
--- the options that every command takes
-abbrev pub options : Text → List Rule
-options default = option (codes "tester") (codes "7E0") ∷ option (codes "unit") (codes "7E8") ∷ limit default ∷ []
+-- a file, which has to be named or may be
+abbrev pub file : Text → Bool → Rule
+file name is_required = record (new_rule name) { required = is_required }
 
--- a command with this limit and these files
-abbrev pub with_files : Text → Text → List Rule → Shape
-with_files name default files = record (new_shape name) { rules = options default ++ files }
+-- the identifiers of both sides
+abbrev pub sides : List Rule
+sides = option (codes "tester") (codes "7E0") ∷ option (codes "unit") (codes "7E8") ∷ []
 
--- the files of a command: a log that may be given, or two that have to be
+-- the limit, which is a gibibyte where none is given
+abbrev pub usual_limit : List Rule
+usual_limit = limit (codes "1073741824") ∷ []
+
+-- the limit, which is the largest one where none is given
+abbrev pub largest_limit : List Rule
+largest_limit = limit (codes "1099511627776") ∷ []
+
+-- that lines have no numbers
+abbrev pub without_numbers : List Rule
+without_numbers = flag (codes "no-numbers") ∷ []
+
+-- that a log has to be clean
+abbrev pub strictly : List Rule
+strictly = flag (codes "strict") ∷ []
+
+-- that the items are shown at which two logs differ
+abbrev pub showing : List Rule
+showing = flag (codes "show") ∷ []
+
+-- that each line is an object of JSON
+abbrev pub as_json : List Rule
+as_json = flag (codes "json") ∷ []
+
+-- a log that may be named
 abbrev pub one_log : List Rule
-one_log = new_rule (codes "LOG") ∷ []
+one_log = file (codes "LOG") false ∷ []
 
-abbrev pub required : Text → Rule
-required name = record (new_rule name) { required = true }
-
+-- two logs that have to be named
 abbrev pub two_logs : List Rule
-two_logs = required (codes "A") ∷ required (codes "B") ∷ []
+two_logs = file (codes "A") true ∷ file (codes "B") true ∷ []
 
--- the program before its commands: it has no options but those that ask for help and for its version, and one command has to
--- be named
+-- ---- the commands
+
+-- a command: its name, its options and files, and its job over one log, by what they are given; a command over two logs
+-- has none
+pub record CommandEntry : Type 0 where
+  pub name : Text
+  pub rules : List Rule
+  pub job : List Row → Option Job
+
+-- all of them, in the order of the program's help
+abbrev pub command_entries : List CommandEntry
+command_entries =
+    record { name = codes "normalise"; rules = sides ++ usual_limit ++ one_log ++ strictly; job = λ rows. Some job.Normalise }
+    ∷ record { name = codes "list"; rules = sides ++ usual_limit ++ one_log ++ without_numbers ++ as_json ++ strictly; job = λ rows. Some (job.List (style_in rows)) }
+    ∷ record { name = codes "watch"; rules = sides ++ largest_limit ++ one_log ++ without_numbers ++ as_json ++ strictly; job = λ rows. Some (job.Watch (style_in rows)) }
+    ∷ record { name = codes "explain"; rules = sides ++ usual_limit ++ one_log ++ as_json ++ strictly; job = λ rows. Some (job.Explain (notation_in rows)) }
+    ∷ record { name = codes "messages"; rules = sides ++ largest_limit ++ one_log ++ as_json ++ strictly; job = λ rows. Some (job.Messages (notation_in rows)) }
+    ∷ record { name = codes "find"; rules = usual_limit ++ one_log ++ as_json; job = λ rows. Some (job.Find (notation_in rows)) }
+    ∷ record { name = codes "compare"; rules = sides ++ usual_limit ++ two_logs ++ showing ++ as_json ++ strictly; job = λ rows. None }
+    ∷ []
+
+-- what the engine that does this job over one log answers, and what it writes
+abbrev pub EngineAnswers : Job → ℕ → Settings → List ℕ → ℕ → Result Summary Fault → List ℕ → List ℕ → Type 0
+EngineAnswers job.Normalise limit settings log given answer old new = Answers limit settings log given answer old new
+EngineAnswers (job.List style) limit settings log given answer old new = Lists style limit settings log answer old new
+EngineAnswers (job.Watch style) limit settings log given answer old new = AnswersTold (watching_script style) answers_counts limit settings log given answer old new
+EngineAnswers (job.Explain notation) limit settings log given answer old new = AnswersExplain notation limit settings log given answer old new
+EngineAnswers (job.Messages notation) limit settings log given answer old new = AnswersTold (placing_script notation limit) answers_counts limit settings log given answer old new
+EngineAnswers (job.Find notation) limit settings log given answer old new = Finds notation settings log answer old new
+
+-- of so many bytes of the log nothing refuses it for the engine that does this job
+abbrev pub IsReadFor : Job → ℕ → Settings → List ℕ → ℕ → Type 0
+IsReadFor job.Normalise limit settings log given = IsNotRefusedWithin limit settings log given
+IsReadFor (job.List style) limit settings log given = IsNotRefusedWithin limit settings log given
+IsReadFor (job.Watch style) limit settings log given = HasNoBadPlaceWithin log given
+IsReadFor (job.Explain notation) limit settings log given = HasNoBadPlaceWithin log given
+IsReadFor (job.Messages notation) limit settings log given = HasNoBadPlaceWithin log given
+IsReadFor (job.Find notation) limit settings log given = HasNoBadPlaceWithin log given
+
+-- how near to what refuses the log the engine that does this job stops reading
+abbrev pub EngineReads : Job → ℕ → Settings → List ℕ → ℕ → ℕ → ℕ → Type 0
+EngineReads job limit settings log given failures failures_now = ReadsWhile (IsReadFor job limit settings log) given failures failures_now
+
+-- ---- the program
+
+-- a command as the parser takes it
+abbrev pub shape_of : CommandEntry → Shape
+shape_of entry = record (new_shape entry.name) { rules = entry.rules }
+
+-- the program before its commands: it has no options but those that ask for help and for its version, and one command
+-- has to be named
 abbrev pub program : Shape
 program = record (new_shape (codes "udsnorm")) {
   no_binary_name = true;
@@ -56,15 +138,16 @@ program = record (new_shape (codes "udsnorm")) {
 
 -- the program
 abbrev pub commands : App
-commands = record {
-  top = record program { is_leaf = false };
-  subs = with_files (codes "normalise") usual one_log
-      ∷ with_files (codes "list") usual (one_log ++ flag (codes "no-numbers") ∷ [])
-      ∷ with_files (codes "explain") usual one_log
-      ∷ with_files (codes "messages") largest one_log
-      ∷ with_files (codes "compare") usual two_logs
-      ∷ [];
-}
+commands = record { top = record program { is_leaf = false }; subs = map shape_of command_entries }
+
+-- the job of the command of this name among these; what is none of them is `normalise`
+abbrev pub job_in : List CommandEntry → Text → List Row → Option Job
+job_in [] name rows = Some job.Normalise
+job_in (entry ∷ below) name rows = if bytes_eq name entry.name then entry.job rows else job_in below name rows
+
+-- the same among all
+abbrev pub job_named : Text → List Row → Option Job
+job_named = job_in command_entries
 
 -- the words, or what stands for none
 abbrev pub words_or_normalise : List Text → List Text

@@ -1,6 +1,8 @@
 -- How a run ends: what was written is flushed, and only then a fault is told.
-use Rattle.std.specs.Prelude.{◌≡◌, ℕ, ◌+◌, ◌&&◌, nat_lt, ◌⊎◌, Bool, true, false, List, length, Result, Ok, Err}
+use Rattle.std.specs.Prelude.{◌≡◌, ℕ, ◌+◌, ◌&&◌, not, nat_lt, ◌⊎◌, Bool, true, false, List, length, Result, Ok, Err, if◌then◌else◌}
 use Rattle.trace_canon.specs.Compared.{fault_in}
+use Rattle.trace_canon.specs.declared.comparing.Compared.{Compared}
+use Rattle.trace_canon.specs.Summing.{is_clean}
 use Rattle.trace_canon.specs.declared.comparing.Comparison.{Comparison}
 use Rattle.trace_canon.specs.declared.comparing.Comparison.TheVariants.{Same, Different}
 use Rattle.trace_canon.specs.declared.fault.CompareFault.{CompareFault}
@@ -27,15 +29,27 @@ EndsAs true answer failures failures_now times times_now is_flushed outcome =
 abbrev pub ComesTo : {A : Type 0} → Bool → Result A Fault → Result A Fault → Type 0
 ComesTo flushes answer outcome = (outcome ≡ answer) ⊎ ((flushes ≡ true) × (outcome ≡ Err Write))
 
--- the exit status of what a run over one log comes to
-abbrev pub status_of_run : Result Summary Fault → ℕ
-status_of_run (Ok summary) = 0
-status_of_run (Err fault) = status_of fault
+-- the log with this summary has to be clean, and is not
+abbrev pub is_unclean : Bool → Summary → Bool
+is_unclean strict summary = strict && not (is_clean summary)
+
+-- the exit status of what a run over one log comes to, which has to be clean where the run is strict
+abbrev pub status_of_run : Bool → Result Summary Fault → ℕ
+status_of_run strict (Ok summary) = if is_unclean strict summary then 6 else 0
+status_of_run strict (Err fault) = status_of fault
 
 -- 0 for logs that mean the same, and 1 for others
 abbrev pub status_of_comparison : Comparison → ℕ
 status_of_comparison Same = 0
 status_of_comparison (Different item) = 1
+
+-- one of two logs has to be clean, and is not
+abbrev pub has_unclean : Bool → Compared → Bool
+has_unclean strict compared = strict && not (is_clean compared.left.summary && is_clean compared.right.summary)
+
+-- the exit status of an answer about two logs, which have to be clean where the run is strict
+abbrev pub status_of_compared : Bool → Compared → ℕ
+status_of_compared strict compared = if has_unclean strict compared then 6 else status_of_comparison compared.comparison
 
 -- the output did not fail and the status is this, or it failed once and the status is 4
 abbrev pub EndsWell : ℕ → ℕ → ℕ → ℕ → Type 0
@@ -43,6 +57,6 @@ EndsWell well failures failures_after status =
     ((status ≡ well) × (failures_after ≡ failures)) ⊎ ((status ≡ 4) × (failures_after ≡ failures + 1))
 
 -- over two logs
-abbrev pub EndsTwoWith : Result Comparison CompareFault → ℕ → ℕ → ℕ → Type 0
-EndsTwoWith (Ok comparison) failures failures_after status = EndsWell (status_of_comparison comparison) failures failures_after status
-EndsTwoWith (Err fault) failures failures_after status = (status ≡ status_of (fault_in fault)) × (failures_after ≡ failures)
+abbrev pub EndsTwoWith : Bool → Result Compared CompareFault → ℕ → ℕ → ℕ → Type 0
+EndsTwoWith strict (Ok compared) failures failures_after status = EndsWell (status_of_compared strict compared) failures failures_after status
+EndsTwoWith strict (Err fault) failures failures_after status = (status ≡ status_of (fault_in fault)) × (failures_after ≡ failures)

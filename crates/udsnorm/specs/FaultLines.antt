@@ -1,7 +1,7 @@
 -- What is told of each fault, as bytes.
-use Rattle.std.specs.Prelude.{ℕ, ◌==◌, List, [], ◌++◌, codes, Result, Ok, Err, string_bytes, if◌then◌else◌}
+use Rattle.std.specs.Prelude.{ℕ, ◌==◌, ◌&&◌, not, nat_lt, Bool, List, [], ◌++◌, codes, Result, Ok, Err, string_bytes, if◌then◌else◌}
 use Rattle.std.specs.Fmt.{decimal}
-use Rattle.trace_canon.specs.declared.comparing.Comparison.{Comparison}
+use Rattle.trace_canon.specs.declared.comparing.Compared.{Compared}
 use Rattle.trace_canon.specs.declared.fault.CompareFault.{CompareFault}
 use Rattle.trace_canon.specs.declared.fault.CompareFault.TheVariants.{Left, Right}
 use Rattle.trace_canon.specs.declared.fault.ConfigFault.{ConfigFault}
@@ -9,6 +9,8 @@ use Rattle.trace_canon.specs.declared.fault.ConfigFault.TheVariants as config
 use Rattle.trace_canon.specs.declared.fault.Fault.{Fault}
 use Rattle.trace_canon.specs.declared.fault.Fault.TheVariants as fault
 use Rattle.trace_canon.specs.declared.summary.Summary.{Summary}
+use Rattle.trace_canon.specs.Summing.{is_clean}
+use Rattle.udsnorm.specs.Ending.{has_unclean, is_unclean}
 use Rattle.udsnorm.specs.declared.job.WordsFault.{WordsFault}
 use Rattle.udsnorm.specs.declared.job.WordsFault.TheVariants as words
 
@@ -34,6 +36,10 @@ config_line config.IdRange = codes "identifier out of range\n"
 config_line config.SameId = codes "tester and unit have the same identifier\n"
 config_line config.LimitRange = codes "limit out of range\n"
 
+-- the line of two logs that are one stream
+abbrev pub one_stream_line : List ℕ
+one_stream_line = codes "both logs are the same stream\n"
+
 -- the text of words that ask for nothing: the parser's, as it is, or a line
 abbrev pub words_text : WordsFault → List ℕ
 words_text (words.Help text) = string_bytes text
@@ -42,13 +48,37 @@ words_text words.Identifier = codes "identifier is not three or eight hexadecima
 words_text (words.Config reason) = config_line reason
 words_text words.Memory = fault_line fault.Memory
 
--- what the error output takes of a run over one log that comes to this: the line of the fault, and else nothing
-abbrev pub run_text : Result Summary Fault → List ℕ
-run_text (Ok summary) = []
-run_text (Err fault) = fault_line fault
+-- a clause of a line, where it is so
+abbrev pub clause : Bool → List ℕ → List ℕ
+clause holds text = if holds then text else []
+
+-- the log has bytes, the last of which is no line feed; one without bytes has no lines
+abbrev pub lacks_line_feed : Summary → Bool
+lacks_line_feed summary = nat_lt 0 summary.lines && not summary.ends_in_line_feed
+
+-- the line of a log that is not clean: what was lost of its frames, and what it lacks
+abbrev pub unclean_line : Summary → List ℕ
+unclean_line s =
+    codes "not clean: frames " ++ (decimal s.frames ++ (codes " dropped " ++ (decimal s.dropped ++ (codes " ended " ++ (decimal s.ended ++ (codes " unfinished " ++ (decimal s.unfinished
+    ++ (clause (s.tester_frames == 0) (codes ", no frame of the tester") ++ (clause (s.unit_frames == 0) (codes ", no frame of the unit")
+    ++ (clause (lacks_line_feed s) (codes ", no line feed at the end") ++ codes "\n"))))))))))
+
+-- the line of one of two logs, where that is not clean, which names the log
+abbrev pub unclean_side : List ℕ → Summary → List ℕ
+unclean_side log summary = clause (not (is_clean summary)) (log ++ unclean_line summary)
+
+-- those of both
+abbrev pub unclean_sides : Compared → List ℕ
+unclean_sides compared = unclean_side (codes "left: ") compared.left.summary ++ unclean_side (codes "right: ") compared.right.summary
+
+-- What the error output takes of a run over one log that comes to this: the line of the fault, or that of a log which has
+-- to be clean and is not, and else nothing.
+abbrev pub run_text : Bool → Result Summary Fault → List ℕ
+run_text strict (Ok summary) = if is_unclean strict summary then unclean_line summary else []
+run_text strict (Err fault) = fault_line fault
 
 -- What it takes of a run over two logs that ends with this status: the line of the fault; after an answer that of the output,
--- where the status says that it failed, and else nothing.
-abbrev pub run_two_text : Result Comparison CompareFault → ℕ → List ℕ
-run_two_text (Ok comparison) status = if status == 4 then fault_line fault.Write else []
-run_two_text (Err fault) status = side_line fault
+-- where the status says that it failed, or those of the logs that have to be clean and are not, and else nothing.
+abbrev pub run_two_text : Bool → Result Compared CompareFault → ℕ → List ℕ
+run_two_text strict (Ok compared) status = if status == 4 then fault_line fault.Write else clause (has_unclean strict compared) (unclean_sides compared)
+run_two_text strict (Err fault) status = side_line fault

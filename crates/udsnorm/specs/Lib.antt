@@ -1,11 +1,13 @@
 pub mod Identifiers
+pub mod Values
 pub mod Commands
 pub mod Words
 pub mod Status
 pub mod FaultLines
 pub mod Telling
-pub mod Comparisons
 pub mod Ending
 pub mod Run
+pub mod Known
 pub mod Asked
+pub mod Hints
 pub mod proving

@@ -1,16 +1,14 @@
 -- What a run over logs answers, what it takes from its input, and what its output takes.
-use Rattle.std.specs.Prelude.{◌≡◌, ◌≢◌, ℕ, ◌+◌, ◌-◌, ◌<◌, ◌⊎◌, List, ◌++◌, length, true, false, Result, Ok, Err, OnOk}
+use Rattle.std.specs.Prelude.{◌≡◌, ◌≢◌, ℕ, ◌+◌, ◌-◌, ◌<◌, ◌⊎◌, Bool, List, [], ◌++◌, length, true, false, Option, Some, None, Result, Ok, Err, OnOk, if◌then◌else◌}
 use Rattle.trace_canon.specs.Settings.{Settings}
-use Rattle.trace_canon.specs.Answers.{Answers, ReadsWhile}
+use Rattle.trace_canon.specs.Answers.{ReadsWhile}
 use Rattle.trace_canon.specs.Devices.{ReadFrom}
 use Rattle.trace_canon.specs.Failing.{FailedIf}
-use Rattle.trace_canon.specs.Listed.{Lists}
-use Rattle.trace_canon.specs.ExplainAnswers.{AnswersExplain}
 use Rattle.trace_canon.specs.Compared.{Compares, fault_in}
-use Rattle.trace_canon.specs.MessageLines.{placing_script}
-use Rattle.trace_canon.specs.Told.{AnswersTold, answers_counts}
-use Rattle.trace_canon.specs.Refusal.{HasNoBadPlaceWithin, IsNotRefusedWithin}
-use Rattle.trace_canon.specs.declared.comparing.Comparison.{Comparison}
+use Rattle.trace_canon.specs.ComparisonText.{comparison_text}
+use Rattle.trace_canon.specs.Refusal.{IsNotRefusedWithin}
+use Rattle.trace_canon.specs.declared.comparing.Compared.{Compared}
+use Rattle.trace_canon.specs.declared.comparison_lines.ComparisonStyle.{ComparisonStyle}
 use Rattle.trace_canon.specs.declared.fault.CompareFault.{CompareFault}
 use Rattle.trace_canon.specs.declared.fault.CompareFault.TheVariants.{Left, Right}
 use Rattle.trace_canon.specs.declared.fault.Fault.{Fault}
@@ -20,31 +18,17 @@ use Rattle.trace_io.specs.Stream.{Agrees, Took}
 use Rattle.trace_io.specs.Written.{HasFront}
 use Rattle.trace_io.specs.declared.device.Source.{Ghosts as SourceGhosts}
 use Rattle.trace_io.specs.declared.device.Target.{Ghosts as TargetGhosts}
-use Rattle.udsnorm.specs.Comparisons.{comparison_line}
-use Rattle.udsnorm.specs.Ending.{ComesTo, flushes, status_of_comparison, status_of_run}
+use Rattle.udsnorm.specs.Commands.{EngineAnswers, EngineReads}
+use Rattle.udsnorm.specs.Ending.{ComesTo, flushes, has_unclean, status_of_compared, status_of_run}
 use Rattle.udsnorm.specs.FaultLines.{run_text, run_two_text}
 use Rattle.udsnorm.specs.Status.{status_of}
 use Rattle.udsnorm.specs.Telling.{TookText}
-use Rattle.udsnorm.specs.declared.job.Job.{Job}
-use Rattle.udsnorm.specs.declared.job.Job.TheVariants as job
+use Rattle.udsnorm.specs.declared.commands.Job.{Job}
 
--- what the engine that does this job over one log answers, and what it writes
-abbrev pub EngineAnswers : Job → ℕ → Settings → List ℕ → ℕ → Result Summary Fault → List ℕ → List ℕ → Type 0
-EngineAnswers job.Normalise limit settings log given answer old new = Answers limit settings log given answer old new
-EngineAnswers (job.List numbering) limit settings log given answer old new = Lists numbering limit settings log answer old new
-EngineAnswers job.Explain limit settings log given answer old new = AnswersExplain limit settings log given answer old new
-EngineAnswers job.Messages limit settings log given answer old new = AnswersTold (placing_script limit) answers_counts limit settings log given answer old new
-
--- how near to what refuses the log the engine that does this job stops reading
-abbrev pub EngineReads : Job → ℕ → Settings → List ℕ → ℕ → ℕ → ℕ → Type 0
-EngineReads job.Normalise limit settings log given failures failures_now = ReadsWhile (IsNotRefusedWithin limit settings log) given failures failures_now
-EngineReads (job.List numbering) limit settings log given failures failures_now = ReadsWhile (IsNotRefusedWithin limit settings log) given failures failures_now
-EngineReads job.Explain limit settings log given failures failures_now = ReadsWhile (HasNoBadPlaceWithin log) given failures failures_now
-EngineReads job.Messages limit settings log given failures failures_now = ReadsWhile (HasNoBadPlaceWithin log) given failures failures_now
-
--- What a run over one log did, from its input to its output and its error output, and its exit status.
-pub record RanOne {R W E : Type 0} (source : SourceGhosts R) (output : TargetGhosts W) (errors : TargetGhosts E) (job : Job) (limit : ℕ) (settings : Settings)
-    (before : R) (old : W) (unsaid : E) (status : ℕ) (after : R) (new : W) (said : E) : Type 0 where
+-- What a run over one log did, which has to be clean where the run is strict: from its input to its output and its error
+-- output, its exit status, and the outcome that this is of.
+pub record RanOne {R W E : Type 0} (source : SourceGhosts R) (output : TargetGhosts W) (errors : TargetGhosts E) (job : Job) (strict : Bool) (limit : ℕ) (settings : Settings)
+    (before : R) (old : W) (unsaid : E) (status : ℕ) (outcome : Result Summary Fault) (after : R) (new : W) (said : E) : Type 0 where
   -- what the engine answered, and what the output took, for each log with which the bytes that were read agree
   pub answer : Result Summary Fault
   pub engine : (log : List ℕ) → Agrees (source.given before) (source.given after) (source.is_over after) log
@@ -53,10 +37,9 @@ pub record RanOne {R W E : Type 0} (source : SourceGhosts R) (output : TargetGho
   pub near : (log : List ℕ) → Agrees (source.given before) (source.given after) (source.is_over after) log
       → EngineReads job limit settings log (length (source.given after) - length (source.given before)) (source.failures before) (source.failures after)
   pub read : ReadFrom source Read settings.max_bytes answer before after
-  -- what the run came to: the answer, or a failed write where a flush was due and failed
-  pub outcome : Result Summary Fault
+  -- the outcome: the answer, or a failed write where a flush was due and failed
   pub comes : ComesTo (flushes answer (output.taken new)) answer outcome
-  pub status_is : status ≡ status_of_run outcome
+  pub status_is : status ≡ status_of_run strict outcome
   -- where a flush was due and did not fail, the output is flushed, by one flush; else there was none
   pub flushed : flushes answer (output.taken new) ≡ true → outcome ≢ Err Write → output.is_flushed new ≡ true
   pub flushed_once : flushes answer (output.taken new) ≡ true → outcome ≢ Err Write → output.flushes new ≡ output.flushes old + 1
@@ -66,28 +49,40 @@ pub record RanOne {R W E : Type 0} (source : SourceGhosts R) (output : TargetGho
   pub took : Took (output.taken old) (output.taken new) (output.contents old) (output.contents new)
   pub no_empty_write : output.had_empty_write new ≡ output.had_empty_write old
   -- the error output took the text of what it came to
-  pub told : TookText (run_text outcome) (errors.failures unsaid) (errors.failures said) (errors.taken unsaid) (errors.taken said)
+  pub told : TookText (run_text strict outcome) (errors.failures unsaid) (errors.failures said) (errors.taken unsaid) (errors.taken said)
 
--- the exit status of a run over two logs of which this was answered: the fault's; and else the comparison's, or 4 where the
+-- the exit status of a run over two logs of which this was answered: the fault's; and else the answer's, or 4 where the
 -- output failed
-abbrev pub IsStatusOfTwo : Result Comparison CompareFault → ℕ → Type 0
-IsStatusOfTwo (Ok comparison) status = (status ≡ status_of_comparison comparison) ⊎ (status ≡ 4)
-IsStatusOfTwo (Err fault) status = status ≡ status_of (fault_in fault)
+abbrev pub IsStatusOfTwo : Bool → Result Compared CompareFault → ℕ → Type 0
+IsStatusOfTwo strict (Ok compared) status = (status ≡ status_of_compared strict compared) ⊎ (status ≡ 4)
+IsStatusOfTwo strict (Err fault) status = status ≡ status_of (fault_in fault)
 
--- what the output took of it: the line of the comparison, of which a front where the output failed; and nothing of a fault
-abbrev pub TookLine : Result Comparison CompareFault → ℕ → List ℕ → List ℕ → Type 0
-TookLine (Ok comparison) status old new = HasFront old (comparison_line comparison) new × (status ≢ 4 → new ≡ old ++ comparison_line comparison)
-TookLine (Err fault) status old new = new ≡ old
+-- what is written of an answer: the text of the comparison, and nothing where a log has to be clean and is not
+abbrev pub text_of_compared : Bool → ComparisonStyle → Compared → List ℕ
+text_of_compared strict style compared = if has_unclean strict compared then [] else comparison_text style compared
 
--- What a run over two logs did, from its inputs to its output and its error output, and its exit status.
-pub record RanTwo {A B W E : Type 0} (left : SourceGhosts A) (right : SourceGhosts B) (output : TargetGhosts W) (errors : TargetGhosts E) (limit : ℕ) (settings : Settings)
-    (one : A) (other : B) (old : W) (unsaid : E) (status : ℕ) (one_now : A) (other_now : B) (new : W) (said : E) : Type 0 where
+-- what the output took of it: that text, of which a front where the output failed; and nothing of a fault
+abbrev pub TookComparison : Bool → ComparisonStyle → Result Compared CompareFault → ℕ → List ℕ → List ℕ → Type 0
+TookComparison strict style (Ok compared) status old new =
+    HasFront old (text_of_compared strict style compared) new × (status ≢ 4 → new ≡ old ++ text_of_compared strict style compared)
+TookComparison strict style (Err fault) status old new = new ≡ old
+
+-- the fault of an answer about two logs, if that is one
+abbrev pub fault_of : Result Compared CompareFault → Option CompareFault
+fault_of (Ok compared) = None
+fault_of (Err fault) = Some fault
+
+-- What a run over two logs did, which have to be clean where the run is strict: from its inputs to its output and its error
+-- output, its exit status, and the fault of a log, if there is one.
+pub record RanTwo {A B W E : Type 0} (left : SourceGhosts A) (right : SourceGhosts B) (output : TargetGhosts W) (errors : TargetGhosts E) (strict : Bool) (style : ComparisonStyle) (limit : ℕ) (settings : Settings)
+    (one : A) (other : B) (old : W) (unsaid : E) (status : ℕ) (fault : Option CompareFault) (one_now : A) (other_now : B) (new : W) (said : E) : Type 0 where
   -- how the logs compare with which the bytes that were read agree
-  pub answer : Result Comparison CompareFault
+  pub answer : Result Compared CompareFault
   pub compares : (a b : List ℕ) → Agrees (left.given one) (left.given one_now) (left.is_over one_now) a → Agrees (right.given other) (right.given other_now) (right.is_over other_now) b
       → Compares limit settings a b answer
   -- after a fault of the left log nothing of the right one was read
   pub unread : (fault : Fault) → answer ≡ Err (Left fault) → other_now ≡ other
+  pub fault_is : fault ≡ fault_of answer
   -- reading stopped within one piece of what refuses a log
   pub left_near : (a : List ℕ) → Agrees (left.given one) (left.given one_now) (left.is_over one_now) a
       → ReadsWhile (IsNotRefusedWithin limit settings a) (length (left.given one_now) - length (left.given one)) (left.failures one) (left.failures one_now)
@@ -96,8 +91,8 @@ pub record RanTwo {A B W E : Type 0} (left : SourceGhosts A) (right : SourceGhos
   pub left_read : ReadFrom left (Left Read) settings.max_bytes answer one one_now
   pub right_read : ReadFrom right (Right Read) settings.max_bytes answer other other_now
   -- the status is the answer's, and after an `Ok` 4 only where the output failed
-  pub status_is : IsStatusOfTwo answer status
+  pub status_is : IsStatusOfTwo strict answer status
   pub failed : OnOk answer (status ≡ 4 → output.failures old < output.failures new)
-  -- the output took the line of the answer, and the error output the text of a fault
-  pub line : TookLine answer status (output.taken old) (output.taken new)
-  pub told : TookText (run_two_text answer status) (errors.failures unsaid) (errors.failures said) (errors.taken unsaid) (errors.taken said)
+  -- the output took the text of the answer, and the error output that of a fault, or of the logs that are not clean
+  pub text : TookComparison strict style answer status (output.taken old) (output.taken new)
+  pub told : TookText (run_two_text strict answer status) (errors.failures unsaid) (errors.failures said) (errors.taken unsaid) (errors.taken said)

@@ -1,19 +1,14 @@
 -- What the commands and the texts of their options ask for.
-use Rattle.std.specs.Prelude.{◌≡◌, ◌≢◌, ◌⊎◌, ℕ, Bool, List, [], codes, Option, Some, None, option_map, unwrap_or, Result, Ok, Err, ⊤, string_bytes, bytes_eq, IsErrAnd, if◌then◌else◌}
-use Rattle.std.specs.Str.Parse.{digits_value, without_leading_plus}
+use Rattle.std.specs.Prelude.{◌≡◌, ◌≢◌, ◌⊎◌, ℕ, List, [], codes, Option, Some, None, option_map, Result, Ok, Err, ⊤, string_bytes, IsErrAnd}
 use Rattle.clap.specs.Kinds.{IsAmong, Kinds}
-use Rattle.clap.specs.ValueTests.{is_unsigned_in}
-use Rattle.clap.specs.Walk.{Row, Text, first_of, one_of}
+use Rattle.clap.specs.Walk.{Row, Text, first_of}
 use Rattle.clap.specs.declared.error.kind.ErrorKind.{ErrorKind}
 use Rattle.clap.specs.declared.error.kind.ErrorKind.TheVariants.{DisplayHelp, DisplayVersion, OutOfMemory}
 use Rattle.can_log.specs.declared.frame.Id.{Id}
 use Rattle.trace_canon.specs.Settings.{Settings, Configures}
-use Rattle.trace_canon.specs.declared.item_lines.Numbering.{Numbering}
-use Rattle.trace_canon.specs.declared.item_lines.Numbering.TheVariants.{Shown, Hidden}
-use Rattle.udsnorm.specs.Commands.{command_in, refusals}
-use Rattle.udsnorm.specs.Identifiers.{identifier_of}
-use Rattle.udsnorm.specs.declared.job.Job.{Job}
-use Rattle.udsnorm.specs.declared.job.Job.TheVariants as job
+use Rattle.udsnorm.specs.Commands.{command_in, job_named, refusals}
+use Rattle.udsnorm.specs.Values.{comparison_style_in, is_strict, limit_in, tester_in, unit_in}
+use Rattle.udsnorm.specs.declared.commands.Job.{Job}
 use Rattle.udsnorm.specs.declared.job.Plan.{Plan}
 use Rattle.udsnorm.specs.declared.job.Plan.TheVariants.{One, Two}
 use Rattle.udsnorm.specs.declared.job.WordsFault.{WordsFault}
@@ -34,51 +29,19 @@ IsConfiguredBy (Some tester) (Some unit) limit result = IsConfiguredAs tester un
 IsConfiguredBy (Some tester) None limit result = result ≡ Err Identifier
 IsConfiguredBy None unit limit result = result ≡ Err Identifier
 
--- whether an option without a value is given: the parser has the text `true` for it then, and else `false`
-abbrev pub is_given : Text → List Row → Bool
-is_given option rows = bytes_eq (unwrap_or (first_of option rows) []) (codes "true")
-
--- whether a list has numbers, by `--no-numbers`
-abbrev pub numbering_in : List Row → Numbering
-numbering_in rows = if is_given (codes "no-numbers") rows then Hidden else Shown
-
--- the job of a command over one log, with its own options; what is none of the others is `normalise`. `compare` has none: it
--- is over two
-abbrev pub job_named : List ℕ → List Row → Option Job
-job_named name rows =
-    if bytes_eq name (codes "list") then Some (job.List (numbering_in rows))
-    else if bytes_eq name (codes "explain") then Some job.Explain
-    else if bytes_eq name (codes "messages") then Some job.Messages
-    else if bytes_eq name (codes "compare") then None
-    else Some job.Normalise
-
--- the identifier that the value of this option spells
-abbrev pub identifier_in : List Row → Text → Option Id
-identifier_in rows option = identifier_of (unwrap_or (first_of option rows) [])
-
--- The number of 64 bits that a text spells in decimal digits, with a plus before them or without. Where it spells none,
--- which the parser takes for no limit, 0.
-abbrev pub number_of : Option Text → ℕ
-number_of None = 0
-number_of (Some text) = if is_unsigned_in 0 18446744073709551615 text then digits_value 10 (without_leading_plus text) else 0
-
--- the number that the value of `--limit` spells
-abbrev pub limit_in : List Row → ℕ
-limit_in rows = number_of (one_of (codes "limit") rows)
-
 -- the configuration of the values of `--tester`, `--unit` and `--limit`
 abbrev pub IsConfiguredIn : List Row → Result Settings WordsFault → Type 0
-IsConfiguredIn rows result = IsConfiguredBy (identifier_in rows (codes "tester")) (identifier_in rows (codes "unit")) (limit_in rows) result
+IsConfiguredIn rows result = IsConfiguredBy (tester_in rows) (unit_in rows) (limit_in rows) result
 
 -- the plan that the options and files of a command ask for: of this job over LOG, if it is there; or, where there is none, of
 -- a comparison of A and B
 abbrev pub IsPlanOf : Option Job → List Row → Plan → Type 0
-IsPlanOf (Some named) rows (One job config log) =
-    (job ≡ named) × IsConfiguredIn rows (Ok config) × (option_map string_bytes log ≡ first_of (codes "LOG") rows)
-IsPlanOf None rows (Two config left right) =
-    IsConfiguredIn rows (Ok config) × (Some (string_bytes left) ≡ first_of (codes "A") rows) × (Some (string_bytes right) ≡ first_of (codes "B") rows)
-IsPlanOf (Some named) rows (Two config left right) = ⊥
-IsPlanOf None rows (One job config log) = ⊥
+IsPlanOf (Some named) rows (One job strict config log) =
+    (job ≡ named) × (strict ≡ is_strict rows) × IsConfiguredIn rows (Ok config) × (option_map string_bytes log ≡ first_of (codes "LOG") rows)
+IsPlanOf None rows (Two strict style config left right) =
+    (strict ≡ is_strict rows) × (style ≡ comparison_style_in rows) × IsConfiguredIn rows (Ok config) × (Some (string_bytes left) ≡ first_of (codes "A") rows) × (Some (string_bytes right) ≡ first_of (codes "B") rows)
+IsPlanOf (Some named) rows (Two strict style config left right) = ⊥
+IsPlanOf None rows (One job strict config log) = ⊥
 
 -- a comparison of which a file is not named
 abbrev pub LacksFile : Option Job → List Row → Type 0

@@ -1,2 +1,4 @@
 -- Devices of proof, apart from the definitions that the promises are made of.
 pub mod Parts
+pub mod Pieces
+pub mod Rows

@@ -1,34 +1,16 @@
-//! The commands and their options, for the parser, with their help.
+//! The parser's command, of the rows that stand for each command.
 
-ghost use Rattle.std.specs.Prelude.{◌≡◌, [], ◌∷◌, ◌++◌, codes, false, IfOk};
-ghost use Rattle.clap.specs.Words.{app_of, new_rule, rule_of};
-ghost use Rattle.udsnorm.specs.Commands.{commands, flag, limit, one_log, option, program, required, two_logs, usual, with_files};
+ghost use Rattle.std.specs.Prelude.{◌≡◌, [], ◌∷◌, IfOk, false};
+ghost use Rattle.clap.specs.Words.{app_of, rule_of, with_subcommand};
+ghost use Rattle.udsnorm.specs.Commands.{commands, file, flag, limit, option, program};
+ghost use Rattle.udsnorm.specs.proving.Rows.{rules_of_group, rule_of_argument, shape_of_row, with_rows, with_rules};
 
+use crate::commands::{Argument, COMMANDS, CommandRow, LIMIT};
 use clap::{Arg, ArgAction, Command, value_parser};
 use std::alloc::{AllocError, Global};
 
-/// The options of every command, that of `list`, and the files of logs, by their names in the parser's matches.
-pub(crate) const TESTER: &str = "tester";
-
-pub(crate) const UNIT: &str = "unit";
-
-pub(crate) const LIMIT: &str = "limit";
-
-pub(crate) const NO_NUMBERS: &str = "no-numbers";
-
-pub(crate) const LOG: &str = "LOG";
-
-pub(crate) const LEFT: &str = "A";
-
-pub(crate) const RIGHT: &str = "B";
-
 /// The number of this version, as the file `VERSION` has it.
 const VERSION: &str = "0.1.0";
-
-/// The limits that there are where none is given: a gibibyte, and the largest limit.
-const USUAL: &str = "1073741824";
-
-const LARGEST: &str = "1099511627776";
 
 /// What follows the list of commands in the program's help.
 const OF_THE_PROGRAM: &str = "\
@@ -42,64 +24,7 @@ Exit status:
   3  a log is refused
   4  a file can't be opened, or reading or writing failed
   5  out of memory
-
-Example: udsnorm compare yesterday.log today.log";
-
-const OF_NORMALISE: &str = "\
-The canonical log has each message in frames of 8 bytes, a millisecond apart. Two logs have
-the same canonical log exactly if they have the same exchanges and stray messages.
-
-A log that holds neither identifier has an empty canonical log, and the status is 0. The last
-line of `udsnorm explain` then says `frames 0`.
-
-Exit status: 0 done, 2 wrong words, 3 the log is refused,
-4 a file can't be opened, or reading or writing failed, 5 out of memory.
-
-Example: udsnorm normalise recorded.log > canonical.log";
-
-const OF_LIST: &str = "\
-A line is an exchange (a request of the tester, and the unit's answer if there is one) or a
-stray message outside of any exchange. It begins with its number; with `--no-numbers` it is the
-same wherever it stands, so that `diff` and `git diff` of two lists show what is new alone.
-
-A log that holds neither identifier has no such line, and the status is 0. The last line of
-`udsnorm explain` then says `frames 0`.
-
-Exit status: 0 done, 2 wrong words, 3 the log is refused,
-4 a file can't be opened, or reading or writing failed, 5 out of memory.
-
-Example: udsnorm list --tester 7E1 --unit 7E9 recorded.log";
-
-const OF_EXPLAIN: &str = "\
-Each line names the line of the log. The last line counts what the log has.
-
-Where it says `frames 0`, the log holds neither identifier: `normalise` and `list` write
-nothing of it, with status 0.
-
-Exit status: 0 done, 2 wrong words, 3 the log is refused,
-4 a file can't be opened, or reading or writing failed, 5 out of memory.
-
-Example: udsnorm explain recorded.log";
-
-const OF_MESSAGES: &str = "\
-A line has twelve fields: the number that `list` gives the item, what the message is to it
-(`request`, `answer`, `pending` for a reply that is left out, `stray`), who sent it, the lines
-of its first and its last frame, their time stamps, and its bytes. It is written as soon as
-the message is complete.
-
-Exit status: 0 done, 2 wrong words, 3 the log is refused,
-4 a file can't be opened, or reading or writing failed, 5 out of memory.
-
-Example: udsnorm messages recorded.log | grep '^12 '";
-
-const OF_COMPARE: &str = "\
-Prints `same`, or `different at item N`, where N is the number that `list` gives the item.
-
-Two logs that hold neither identifier mean the same. The last line of `udsnorm explain` says
-`frames 0` of each.
-
-Exit status: 0 the logs mean the same, 1 they differ, 2 wrong words, 3 a log is refused,
-4 a file can't be opened, or reading or writing failed, 5 out of memory.
+  6  with `--strict`: a log is not clean
 
 Example: udsnorm compare yesterday.log today.log";
 
@@ -107,30 +32,22 @@ Example: udsnorm compare yesterday.log today.log";
 pub(crate) fn command<'a>(alloc: Global) -> Result<Command<'a>, AllocError>
     ensures { IfOk result (λ c. app_of c ≡ commands) }
 {
-    program(alloc)?
-        .subcommand(over_one_log(
-            alloc,
-            "normalise",
-            "Writes the canonical log",
-            OF_NORMALISE,
-            USUAL,
-        )?)?
-        .subcommand(list(alloc)?)?
-        .subcommand(over_one_log(
-            alloc,
-            "explain",
-            "Writes which frames were dropped and which receptions ended early, and why",
-            OF_EXPLAIN,
-            USUAL,
-        )?)?
-        .subcommand(over_one_log(
-            alloc,
-            "messages",
-            "Writes each message with its lines and time stamps",
-            OF_MESSAGES,
-            LARGEST,
-        )?)?
-        .subcommand(compare(alloc)?)
+    with_rows(alloc, program(alloc)?, COMMANDS)
+}
+
+/// The program with more commands.
+fn with_rows<'a>(
+    alloc: Global,
+    program: Command<'a>,
+    rows: &[CommandRow],
+) -> Result<Command<'a>, AllocError>
+    ensures { IfOk result (λ c. app_of c ≡ with_rows (app_of program.entry) rows.now) }
+{
+    let mut command = program;
+    'rows: for row in rows {
+        command = with_row(alloc, command, row)?;
+    }
+    Ok(command)
 }
 
 /// The program before its commands, one of which has to be named.
@@ -142,79 +59,82 @@ fn program<'a>(alloc: Global) -> Result<Command<'a>, AllocError>
         .disable_help_subcommand(true)
         .subcommand_required(true)
         .version(VERSION)
-        .about("Gives recorded vehicle diagnostic sessions one canonical spelling")
+        .about(
+            "Compares recorded UDS sessions of an ECU (ISO 14229 over ISO-TP), from candump logs",
+        )
         .after_help(OF_THE_PROGRAM)
         .bin_name("udsnorm")
 }
 
-/// A command over one log.
-fn over_one_log<'a>(
+/// The program with one command more.
+fn with_row<'a>(
     alloc: Global,
-    name: &'a str,
-    about: &'a str,
-    after_help: &'a str,
-    most: &'a str,
+    program: Command<'a>,
+    row: &CommandRow,
 ) -> Result<Command<'a>, AllocError>
-    ensures { IfOk result (λ c. app_of c ≡ record { top = with_files name.entry.now most.entry.now one_log; subs = [] }) }
+    ensures { IfOk result (λ c. app_of c ≡ with_subcommand (app_of program.entry) (shape_of_row row.now)) }
 {
-    with_options(alloc, name, about, after_help, most)?.arg(log(alloc))
+    program.subcommand(command_of_row(alloc, row)?)
 }
 
-/// The command that lists items.
-fn list<'a>(alloc: Global) -> Result<Command<'a>, AllocError>
-    ensures { IfOk result (λ c. app_of c ≡ record { top = with_files (codes "list") usual (one_log ++ flag (codes "no-numbers") ∷ []); subs = [] }) }
+/// A command.
+fn command_of_row<'a>(alloc: Global, row: &CommandRow) -> Result<Command<'a>, AllocError>
+    ensures { IfOk result (λ c. app_of c ≡ record { top = shape_of_row row.now; subs = [] }) }
 {
-    over_one_log(
-        alloc,
-        "list",
-        "Writes the exchanges and stray messages",
-        OF_LIST,
-        USUAL,
-    )?
-    .arg(flag(alloc, NO_NUMBERS, "Leaves out the number of each line"))
+    let mut command = Command::new(alloc, row.name)
+        .about(row.about)
+        .after_help(row.after_help);
+    'groups: for group in row.arguments {
+        command = with_group(alloc, command, group)?;
+    }
+    Ok(command)
 }
 
-/// The command over two logs.
-fn compare<'a>(alloc: Global) -> Result<Command<'a>, AllocError>
-    ensures { IfOk result (λ c. app_of c ≡ record { top = with_files (codes "compare") usual two_logs; subs = [] }) }
-{
-    with_options(
-        alloc,
-        "compare",
-        "Says whether two logs have the same exchanges and stray messages",
-        OF_COMPARE,
-        USUAL,
-    )?
-    .arg(required_log(alloc, LEFT, "The left log"))?
-    .arg(required_log(alloc, RIGHT, "The right log"))
-}
-
-/// A command with the options that every command has.
-fn with_options<'a>(
+/// A command with more options and files.
+fn with_group<'a>(
     alloc: Global,
-    name: &'a str,
-    about: &'a str,
-    after_help: &'a str,
-    most: &'a str,
+    command: Command<'a>,
+    group: &[Argument],
 ) -> Result<Command<'a>, AllocError>
-    ensures { IfOk result (λ c. app_of c ≡ record { top = with_files name.entry.now most.entry.now []; subs = [] }) }
+    ensures { IfOk result (λ c. app_of c ≡ with_rules (app_of command.entry) (rules_of_group group.now)) }
 {
-    Command::new(alloc, name)
-        .about(about)
-        .after_help(after_help)
-        .arg(identifier(
-            alloc,
-            TESTER,
-            "7E0",
-            "Identifier of the tester, 3 or 8 hexadecimal digits",
-        ))?
-        .arg(identifier(
-            alloc,
-            UNIT,
-            "7E8",
-            "Identifier of the control unit, 3 or 8 hexadecimal digits",
-        ))?
-        .arg(limit(alloc, most))
+    let mut command = command;
+    'arguments: for argument in group {
+        command = with_argument(alloc, command, *argument)?;
+    }
+    Ok(command)
+}
+
+/// A command with one option or file more.
+fn with_argument<'a>(
+    alloc: Global,
+    command: Command<'a>,
+    argument: Argument,
+) -> Result<Command<'a>, AllocError>
+    ensures { IfOk result (λ c. app_of c ≡ with_rules (app_of command.entry) (rule_of_argument argument ∷ [])) }
+{
+    command.arg(arg(alloc, argument))
+}
+
+/// An option or a file.
+fn arg<'a>(alloc: Global, argument: Argument) -> Arg<'a>
+    ensures rule { rule_of result ≡ rule_of_argument argument }
+    ensures local { result.global ≡ false }
+{
+    match argument {
+        Argument::Identifier {
+            name,
+            default,
+            help,
+        } => identifier(alloc, name, default, help),
+        Argument::Limit(default) => limit(alloc, default),
+        Argument::Flag { name, help } => flag(alloc, name, help),
+        Argument::File {
+            name,
+            is_required,
+            help,
+        } => file(alloc, name, is_required, help),
+    }
 }
 
 /// The option of an identifier.
@@ -253,18 +173,10 @@ fn flag<'a>(alloc: Global, name: &'a str, help: &'a str) -> Arg<'a>
         .help(help)
 }
 
-/// The log to read.
-fn log<'a>(alloc: Global) -> Arg<'a>
-    ensures rule { rule_of result ≡ new_rule (codes "LOG") }
+/// A file.
+fn file<'a>(alloc: Global, name: &'a str, is_required: bool, help: &'a str) -> Arg<'a>
+    ensures rule { rule_of result ≡ file name.entry.now is_required }
     ensures local { result.global ≡ false }
 {
-    Arg::new(alloc, LOG).help("The recorded log; without it standard input is read")
-}
-
-/// One of the two logs to compare.
-fn required_log<'a>(alloc: Global, name: &'a str, help: &'a str) -> Arg<'a>
-    ensures rule { rule_of result ≡ required name.entry.now }
-    ensures local { result.global ≡ false }
-{
-    Arg::new(alloc, name).required(true).help(help)
+    Arg::new(alloc, name).required(is_required).help(help)
 }

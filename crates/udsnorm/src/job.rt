@@ -3,34 +3,25 @@
 ghost use Rattle.std.specs.Prelude.{◌≡◌};
 ghost use Rattle.udsnorm.specs.declared.job.WordsFault.TheVariants as words_fault;
 
+use crate::commands::Job;
 use std::alloc::AllocError;
 use thiserror::Error;
-use trace_canon::{Config, ConfigFault, Numbering};
-
-/// What the program does with one log.
-#[derive(Clone, Copy, PartialEq, Eq)]
-pub enum Job {
-    /// Writes the canonical log.
-    Normalise,
-    /// Writes the exchanges and stray messages, with their numbers or without.
-    List(Numbering),
-    /// Writes which frames were dropped, and which receptions ended early, and why.
-    Explain,
-    /// Writes each message with its place in the log.
-    Messages,
-}
+use trace_canon::{ComparisonStyle, Config, ConfigFault};
 
 /// What a command line asks for.
 #[derive(Drop)]
 pub enum Plan {
-    /// Does a job over one log: that of this file, or else of standard input.
+    /// Does a job over one log: that of this file, or else of standard input. Where it is strict, the log has to be clean.
     One {
         job: Job,
+        strict: bool,
         config: Config,
         log: Option<String>,
     },
-    /// Says whether the logs of two files have the same meaning.
+    /// Says whether the logs of two files have the same meaning. Where it is strict, both have to be clean.
     Two {
+        strict: bool,
+        style: ComparisonStyle,
         config: Config,
         left: String,
         right: String,

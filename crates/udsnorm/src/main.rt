@@ -1,4 +1,4 @@
-//! Gives recorded vehicle diagnostic sessions one canonical spelling, and tells what is in them.
+//! Compares recorded UDS sessions (ISO 14229 over ISO-TP), gives them one canonical spelling, and tells what is in them.
 //!
 //! ```text
 //! $ udsnorm normalise recorded.log > canonical.log
@@ -9,36 +9,44 @@
 //!
 //! Without words it writes the canonical log of standard input. The exit status tells how it went: 0 done or the same,
 //! 1 different, 2 wrong words, 3 a log is refused, 4 a file can't be opened, or reading or writing failed, 5 memory was
-//! refused.
+//! refused, 6 with `--strict` the log is not clean.
 #![tactic(auto)]
 
 ghost use Rattle.std.specs.Prelude.{◌≡◌, ◌+◌, ◌≤◌, ◌⊎◌, ℕ, List, ◌++◌, length, true, map, string_bytes};
 ghost use Rattle.trace_io.specs.Counted.{AreLowCounts, IsLowCount};
-ghost use Rattle.udsnorm.specs.Asked.{Did, DidWords, IsDone, RanFile, RanFiles, Unopened};
+ghost use Rattle.udsnorm.specs.Asked.{Did, DidWords, IsDone, OneStream, RanFile, RanFiles, Unopened};
 ghost use Rattle.isotp_receive.specs.declared.TheConstants.{MESSAGE_LIMIT};
 ghost use Rattle.udsnorm.specs.FaultLines.{fault_line, side_line};
 ghost use Rattle.udsnorm.specs.Commands.{words_or_normalise};
 
 mod command;
-mod comparison;
+mod commands;
+mod ended;
 mod fault_lines;
+mod hints;
 mod identifiers;
 mod job;
 mod run;
+mod stream;
 mod tell;
 mod text;
+mod values;
 mod words;
 
-use crate::job::{Job, Plan, WordsFault};
+use crate::commands::Job;
+use crate::ended::{End, Run, Which, known_of_file, known_of_files, known_of_input, unopened};
+use crate::hints::give_hint;
+use crate::job::{Plan, WordsFault};
 use crate::run::{run_one, run_two};
-use crate::tell::{tell, tell_fault, tell_side};
+use crate::stream::is_one_stream;
+use crate::tell::{tell, tell_fault, tell_one_stream, tell_side};
 use crate::words::plan;
 use std::env::Env;
-use std::io::{ErrorKind, Input, Print};
+use std::io::{ErrorKind, Input, IsTerminal, Print};
 use std::process::ExitCode;
 use std::rt::Files;
 use std::{env, fs, io};
-use trace_canon::{CompareFault, Config, Fault};
+use trace_canon::{CompareFault, ComparisonStyle, Config, Fault};
 use trace_io::{Reading, Source, Target, Writing};
 
 /// What is told of a command line that is no text.
@@ -50,7 +58,14 @@ fn main(rt: HostRuntime) -> ExitCode {
     let mut out = Writing::new(io::writer(&rt));
     let mut err = Writing::new(io::writer(&stderr));
     let status = match given_words(&rt) {
-        Ok(words) => run_words(&rt, words.as_slice(), &mut input, &mut out, &mut err),
+        Ok(words) => {
+            let run = run_words(&rt, words.as_slice(), &mut input, &mut out, &mut err);
+            if stderr.is_terminal() {
+                // Where memory is refused there is none.
+                let _ = give_hint(&rt, words.as_slice(), &run, &mut err);
+            }
+            run.end.status
+        }
         Err(fault) => tell(&fault, &mut out, &mut err),
     };
     ExitCode::from(status)
@@ -66,61 +81,93 @@ fn given_words<R: AllocGlobal + Env>(rt: &R) -> Result<Vec<String>, WordsFault> 
     }
 }
 
-/// Does what the words ask for, over the input where they name no file. Answers the exit status.
+/// Does what the words ask for, over the input where they name no file. Answers that, and how it ended.
 fn run_words<R: AllocGlobal + Files, I: Source, W: Target, E: Target>(
     rt: &R,
     words: &[String],
     input: &mut I,
     out: &mut W,
     err: &mut E,
-) -> u8
+) -> Run
+where
+    R::File: IsTerminal,
     requires input { AreLowCounts (I.reads input.old) (length (I.given input.old)) (I.failures input.old) }
     requires out { IsLowCount (W.failures out.old) }
     requires err { IsLowCount (E.failures err.old) }
 
-    // For each status: what the words ask for, and what was done of it, from the input's reads to the output's writes and the
-    // error output's.
-    ensures run { DidWords ⟦<Reading<R::File> as Source>⟧ I.Source W.Target E.Target (words_or_normalise (map string_bytes words.now)) input.old out.old err.old result input.new out.new err.new }
+    // For each status: what the words ask for, what was done of it, from the input's reads to the output's writes and the
+    // error output's, and what is then known for a hint.
+    ensures run { DidWords ⟦<Reading<R::File> as Source>⟧ I.Source W.Target E.Target (words_or_normalise (map string_bytes words.now)) result.asked input.old out.old err.old result.end.status result.end.known input.new out.new err.new }
 
     // With status 0 it is done: the output's writes took what is asked for, of the bytes that the input's reads gave.
-    ensures done { result ≡ 0 → (log : List ℕ) → I.given input.new ≡ I.given input.old ++ log
+    ensures done { result.end.status ≡ 0 → (log : List ℕ) → I.given input.new ≡ I.given input.old ++ log
         → IsDone (words_or_normalise (map string_bytes words.now)) log (W.taken out.old) (W.taken out.new) }
-    ensures flushed { result ≡ 0 → W.is_flushed out.new ≡ true }
-    ensures once { result ≡ 0 → W.flushes out.new ≡ W.flushes out.old + 1 }
+    ensures flushed { result.end.status ≡ 0 → W.is_flushed out.new ≡ true }
+    ensures once { result.end.status ≡ 0 → W.flushes out.new ≡ W.flushes out.old + 1 }
     ensures flushes { W.flushes out.new ≤ W.flushes out.old + 1 }
 {
     match plan(rt.alloc(), words) {
-        Ok(plan) => carry_out(rt, &plan, input, out, err),
-        Err(fault) => tell(&fault, out, err),
+        Ok(plan) => {
+            let end = carry_out(rt, &plan, input, out, err);
+            Run {
+                asked: Ok(plan),
+                end,
+            }
+        }
+        Err(fault) => {
+            let status = tell(&fault, out, err);
+            Run {
+                asked: Err(fault),
+                end: End {
+                    status,
+                    known: None,
+                },
+            }
+        }
     }
 }
 
-/// Does what is planned, over the files that are named or the input. Answers the exit status.
+/// Does what is planned, over the files that are named or the input. Answers how it ended.
 fn carry_out<R: AllocGlobal + Files, I: Source, W: Target, E: Target>(
     rt: &R,
     plan: &Plan,
     input: &mut I,
     out: &mut W,
     err: &mut E,
-) -> u8
+) -> End
+where
+    R::File: IsTerminal,
     requires input { AreLowCounts (I.reads input.old) (length (I.given input.old)) (I.failures input.old) }
     requires out { IsLowCount (W.failures out.old) }
     requires err { IsLowCount (E.failures err.old) }
-    ensures did { Did ⟦<Reading<R::File> as Source>⟧ I.Source W.Target E.Target plan.now input.old out.old err.old result input.new out.new err.new }
-    ensures flushed { result ≡ 0 → W.is_flushed out.new ≡ true }
-    ensures once { result ≡ 0 → W.flushes out.new ≡ W.flushes out.old + 1 }
+    ensures did { Did ⟦<Reading<R::File> as Source>⟧ I.Source W.Target E.Target plan.now input.old out.old err.old result.status result.known input.new out.new err.new }
+    ensures flushed { result.status ≡ 0 → W.is_flushed out.new ≡ true }
+    ensures once { result.status ≡ 0 → W.flushes out.new ≡ W.flushes out.old + 1 }
     ensures flushes { W.flushes out.new ≤ W.flushes out.old + 1 }
 {
     match plan {
-        Plan::One { job, config, log } => match log {
-            None => run_one(rt.alloc(), *job, config, input, out, err),
-            Some(name) => run_file(rt, *job, config, name, out, err),
+        Plan::One {
+            job,
+            strict,
+            config,
+            log,
+        } => match log {
+            None => {
+                let end = run_one(rt.alloc(), *job, *strict, config, input, out, err);
+                End {
+                    status: end.status,
+                    known: known_of_input(config, end.outcome),
+                }
+            }
+            Some(name) => run_file(rt, *job, *strict, config, name, out, err),
         },
         Plan::Two {
+            strict,
+            style,
             config,
             left,
             right,
-        } => run_files(rt, config, left, right, out, err),
+        } => run_files(rt, *strict, *style, config, left, right, out, err),
     }
 }
 
@@ -128,50 +175,97 @@ fn carry_out<R: AllocGlobal + Files, I: Source, W: Target, E: Target>(
 fn run_file<R: AllocGlobal + Files, W: Target, E: Target>(
     rt: &R,
     job: Job,
+    strict: bool,
     config: &Config,
     name: &String,
     out: &mut W,
     err: &mut E,
-) -> u8
+) -> End
     requires out { IsLowCount (W.failures out.old) }
     requires err { IsLowCount (E.failures err.old) }
-    ensures ran { RanFile ⟦<Reading<R::File> as Source>⟧ W.Target E.Target job MESSAGE_LIMIT config.now out.old err.old result out.new err.new
-        ⊎ Unopened E.Target (fault_line Fault.Read) out.old err.old result out.new err.new }
-    ensures flushed { result ≡ 0 → W.is_flushed out.new ≡ true }
-    ensures once { result ≡ 0 → W.flushes out.new ≡ W.flushes out.old + 1 }
+    ensures ran { RanFile ⟦<Reading<R::File> as Source>⟧ W.Target E.Target job strict MESSAGE_LIMIT config.now out.old err.old result.status result.known out.new err.new
+        ⊎ Unopened E.Target (fault_line Fault.Read) Which.First out.old err.old result.status result.known out.new err.new }
+    ensures flushed { result.status ≡ 0 → W.is_flushed out.new ≡ true }
+    ensures once { result.status ≡ 0 → W.flushes out.new ≡ W.flushes out.old + 1 }
     ensures flushes { W.flushes out.new ≤ W.flushes out.old + 1 }
 {
     match fs::open(rt, name.as_str()) {
-        Ok(file) => run_one(rt.alloc(), job, config, &mut Reading::new(file), out, err),
-        Err(_) => tell_fault(Fault::Read, err),
+        Ok(file) => {
+            let mut log = Reading::new(file);
+            let end = run_one(rt.alloc(), job, strict, config, &mut log, out, err);
+            End {
+                status: end.status,
+                known: known_of_file(config, end.outcome, &log.into_inner()),
+            }
+        }
+        Err(error) => End {
+            status: tell_fault(Fault::Read, err),
+            known: unopened(Which::First, &error),
+        },
     }
 }
 
-/// Compares the logs of two files. Both are opened before either is read.
+/// Compares the logs of two files. Both are opened before either is read, and neither is where they are one stream.
 fn run_files<R: AllocGlobal + Files, W: Target, E: Target>(
     rt: &R,
+    strict: bool,
+    style: ComparisonStyle,
     config: &Config,
     left: &String,
     right: &String,
     out: &mut W,
     err: &mut E,
-) -> u8
+) -> End
+where
+    R::File: IsTerminal,
     requires out { IsLowCount (W.failures out.old) }
     requires err { IsLowCount (E.failures err.old) }
-    ensures ran { RanFiles ⟦<Reading<R::File> as Source>⟧ W.Target E.Target MESSAGE_LIMIT config.now out.old err.old result out.new err.new
-        ⊎ (Unopened E.Target (side_line (CompareFault.Left Fault.Read)) out.old err.old result out.new err.new
-        ⊎ Unopened E.Target (side_line (CompareFault.Right Fault.Read)) out.old err.old result out.new err.new) }
-    ensures flushed { result ≡ 0 → W.is_flushed out.new ≡ true }
-    ensures once { result ≡ 0 → W.flushes out.new ≡ W.flushes out.old + 1 }
+    ensures ran { RanFiles ⟦<Reading<R::File> as Source>⟧ W.Target E.Target strict style MESSAGE_LIMIT config.now out.old err.old result.status result.known out.new err.new
+        ⊎ (Unopened E.Target (side_line (CompareFault.Left Fault.Read)) Which.First out.old err.old result.status result.known out.new err.new
+        ⊎ (Unopened E.Target (side_line (CompareFault.Right Fault.Read)) Which.Second out.old err.old result.status result.known out.new err.new
+        ⊎ OneStream E.Target out.old err.old result.status result.known out.new err.new)) }
+    ensures flushed { result.status ≡ 0 → W.is_flushed out.new ≡ true }
+    ensures once { result.status ≡ 0 → W.flushes out.new ≡ W.flushes out.old + 1 }
     ensures flushes { W.flushes out.new ≤ W.flushes out.old + 1 }
 {
-    let Ok(left) = fs::open(rt, left.as_str()) else {
-        return tell_side(CompareFault::Left(Fault::Read), err);
+    let left = match fs::open(rt, left.as_str()) {
+        Ok(file) => file,
+        Err(error) => {
+            return End {
+                status: tell_side(CompareFault::Left(Fault::Read), err),
+                known: unopened(Which::First, &error),
+            };
+        }
     };
-    let Ok(right) = fs::open(rt, right.as_str()) else {
-        return tell_side(CompareFault::Right(Fault::Read), err);
+    let right = match fs::open(rt, right.as_str()) {
+        Ok(file) => file,
+        Err(error) => {
+            return End {
+                status: tell_side(CompareFault::Right(Fault::Read), err),
+                known: unopened(Which::Second, &error),
+            };
+        }
     };
+    if is_one_stream(&left, &right) {
+        return End {
+            status: tell_one_stream(err),
+            known: None,
+        };
+    }
     let mut left = Reading::new(left);
     let mut right = Reading::new(right);
-    run_two(rt.alloc(), config, &mut left, &mut right, out, err)
+    let end = run_two(
+        rt.alloc(),
+        strict,
+        style,
+        config,
+        &mut left,
+        &mut right,
+        out,
+        err,
+    );
+    End {
+        status: end.status,
+        known: known_of_files(config, end.fault, &left.into_inner(), &right.into_inner()),
+    }
 }

@@ -3,79 +3,64 @@
 ghost use Rattle.std.specs.Prelude.{◌≡◌, ℕ, ◌+◌, ◌-◌, ◌^◌, ◌<◌, ◌≤◌, ◌⊎◌, ◌↔◌, List, ◌++◌, true, OnOk, IfErr, MatchResult, length};
 ghost use Rattle.std.specs.Io.KnownBytes.{Keeps};
 ghost use Rattle.isotp_receive.specs.declared.TheConstants.{MESSAGE_LIMIT};
-ghost use Rattle.trace_canon.specs.Devices.{ReadFrom, WroteTo};
+ghost use Rattle.trace_canon.specs.ComparisonText.{comparison_text};
+ghost use Rattle.trace_canon.specs.Laws.{IsCertified};
 ghost use Rattle.trace_io.specs.Counted.{AreLowCounts, IsLowCount};
 ghost use Rattle.trace_io.specs.Stream.{Agrees};
 ghost use Rattle.trace_io.specs.Written.{HasFront};
-ghost use Rattle.udsnorm.specs.Comparisons.{comparison_line};
-ghost use Rattle.udsnorm.specs.Ending.{EndsAs, EndsTwoWith, flushes, status_of_comparison, status_of_run};
+ghost use Rattle.udsnorm.specs.Ending.{EndsAs, EndsTwoWith, flushes, has_unclean, status_of_comparison, status_of_run};
 ghost use Rattle.udsnorm.specs.FaultLines.{run_text, run_two_text};
-ghost use Rattle.udsnorm.specs.Run.{EngineAnswers, EngineReads, RanOne, RanTwo, TookLine};
+ghost use Rattle.udsnorm.specs.Run.{RanOne, RanTwo, TookComparison, fault_of};
 ghost use Rattle.udsnorm.specs.Telling.{TookText};
 
-use crate::comparison::comparison_line;
-use crate::job::Job;
-use crate::tell::{is_refusal, tell_fault, tell_side};
+use crate::commands::{Job, do_job};
+use crate::ended::{OneEnd, TwoEnd};
+use crate::tell::{is_refusal, tell_fault, tell_side, tell_unclean, tell_unclean_sides};
 use std::alloc::Global;
 use trace_canon::{
-    CompareFault, Comparison, Config, Fault, Summary, compare, explain, list, messages, normalise,
+    CompareFault, Compared, Comparison, ComparisonStyle, Config, Fault, Summary, compare,
+    write_comparison,
 };
 use trace_io::{Source, Target, write_all};
 
-/// Does a job over one log, and answers the exit status. The text goes to the output, which is flushed before a fault of the
-/// log is told, and the text of the fault to the error output, as far as that takes it.
+/// Does a job over one log, and answers how that ended. The text goes to the output, which is flushed before a fault of the
+/// log is told, or that it is not clean, where the run is strict; and what is told to the error output, as far as that takes
+/// it.
 pub fn run_one<R: Source, W: Target, E: Target>(
     alloc: Global,
     job: Job,
+    strict: bool,
     config: &Config,
     input: &mut R,
     out: &mut W,
     err: &mut E,
-) -> u8
+) -> OneEnd
     requires input { AreLowCounts (R.reads input.old) (length (R.given input.old)) (R.failures input.old) }
     requires out { IsLowCount (W.failures out.old) }
     requires err { IsLowCount (E.failures err.old) }
 
     // What the engine answered, what was read and written, and what the run came to: its status and what is told of it.
-    ensures ran { RanOne R.Source W.Target E.Target job MESSAGE_LIMIT config.now input.old out.old err.old result input.new out.new err.new }
+    ensures ran { RanOne R.Source W.Target E.Target job strict MESSAGE_LIMIT config.now input.old out.old err.old result.status result.outcome input.new out.new err.new }
 
     // Where it is done, the input was read to its end, the output was flushed last and once, and nothing was told.
-    ensures over { result ≡ 0 → R.is_over input.new ≡ true }
-    ensures flushed { result ≡ 0 → W.is_flushed out.new ≡ true }
-    ensures once { result ≡ 0 → W.flushes out.new ≡ W.flushes out.old + 1 }
+    ensures over { result.status ≡ 0 → R.is_over input.new ≡ true }
+    ensures flushed { result.status ≡ 0 → W.is_flushed out.new ≡ true }
+    ensures once { result.status ≡ 0 → W.flushes out.new ≡ W.flushes out.old + 1 }
     ensures flushes { W.flushes out.new ≤ W.flushes out.old + 1 }
-    ensures quiet { result ≡ 0 → err.new ≡ err.old }
+    ensures quiet { result.status ≡ 0 → err.new ≡ err.old }
+
+    // Where a strict run is done, the log is a recording of exactly the messages that it delivers.
+    ensures recording { strict ≡ true → result.status ≡ 0 → (log : List ℕ)
+        → Agrees (R.given input.old) (R.given input.new) (R.is_over input.new) log → IsCertified MESSAGE_LIMIT config.now log }
 
     // The status is 4 exactly where a device failed.
-    ensures device { (result ≡ 4) ↔ ((R.failures input.old < R.failures input.new) ⊎ (W.failures out.old < W.failures out.new)) }
+    ensures device { (result.status ≡ 4) ↔ ((R.failures input.old < R.failures input.new) ⊎ (W.failures out.old < W.failures out.new)) }
 {
     let answer = do_job(alloc, job, config, input, out);
     let outcome = flushed_one(answer, out);
-    tell_outcome(outcome, err)
-}
-
-/// What the engine answers that does the job.
-fn do_job<R: Source, W: Target>(
-    alloc: Global,
-    job: Job,
-    config: &Config,
-    input: &mut R,
-    out: &mut W,
-) -> Result<Summary, Fault>
-    requires input { AreLowCounts (R.reads input.old) (length (R.given input.old)) (R.failures input.old) }
-    requires out { IsLowCount (W.failures out.old) }
-    ensures engine { (log : List ℕ) → Agrees (R.given input.old) (R.given input.new) (R.is_over input.new) log
-        → EngineAnswers job MESSAGE_LIMIT config.now log (length (R.given input.new) - length (R.given input.old)) result (W.taken out.old) (W.taken out.new) }
-    ensures near { (log : List ℕ) → Agrees (R.given input.old) (R.given input.new) (R.is_over input.new) log
-        → EngineReads job MESSAGE_LIMIT config.now log (length (R.given input.new) - length (R.given input.old)) (R.failures input.old) (R.failures input.new) }
-    ensures read { ReadFrom R.Source Fault.Read config.now.max_bytes result input.old input.new }
-    ensures wrote { WroteTo W.Target Fault.Write result out.old out.new }
-{
-    match job {
-        Job::Normalise => normalise(alloc, config, input, out),
-        Job::List(numbering) => list(alloc, config, numbering, input, out),
-        Job::Explain => explain(alloc, config, input, out),
-        Job::Messages => messages(alloc, config, input, out),
+    OneEnd {
+        status: tell_outcome(outcome, strict, err),
+        outcome,
     }
 }
 
@@ -107,78 +92,143 @@ fn is_flushed_after<W: Target>(answer: Result<Summary, Fault>, out: &W) -> bool
     }
 }
 
-/// Tells what a run over one log came to, where that is a fault. Answers the exit status.
-fn tell_outcome<E: Target>(outcome: Result<Summary, Fault>, err: &mut E) -> u8
+/// Tells what a run over one log came to, where that is a fault, or a log that has to be clean and is not. Answers the exit
+/// status.
+fn tell_outcome<E: Target>(outcome: Result<Summary, Fault>, strict: bool, err: &mut E) -> u8
     requires { IsLowCount (E.failures err.old) }
-    ensures status { result ≡ status_of_run outcome }
+    ensures status { result ≡ status_of_run strict outcome }
     ensures quiet { result ≡ 0 → err.new ≡ err.old }
-    ensures told { TookText (run_text outcome) (E.failures err.old) (E.failures err.new) (E.taken err.old) (E.taken err.new) }
+    ensures told { TookText (run_text strict outcome) (E.failures err.old) (E.failures err.new) (E.taken err.old) (E.taken err.new) }
 {
     match outcome {
-        Ok(_) => 0,
+        Ok(summary) => {
+            if strict && !summary.is_clean() {
+                tell_unclean(&summary, err)
+            } else {
+                0
+            }
+        }
         Err(fault) => tell_fault(fault, err),
     }
 }
 
-/// Compares two logs, the left one read whole before the right one, and answers the exit status. The line goes to the
-/// output, which is flushed, and the text of a fault to the error output, as far as that takes it.
+/// Compares two logs, the left one read whole before the right one, and answers how that ended. The text goes to the
+/// output, which is flushed, and that of a fault to the error output, as far as that takes it. Where the run is strict and a log
+/// is not clean, that is told, and nothing is written.
 pub fn run_two<A: Source, B: Source, W: Target, E: Target>(
     alloc: Global,
+    strict: bool,
+    style: ComparisonStyle,
     config: &Config,
     left: &mut A,
     right: &mut B,
     out: &mut W,
     err: &mut E,
-) -> u8
+) -> TwoEnd
     requires left { AreLowCounts (A.reads left.old) (length (A.given left.old)) (A.failures left.old) }
     requires right { AreLowCounts (B.reads right.old) (length (B.given right.old)) (B.failures right.old) }
     requires out { IsLowCount (W.failures out.old) }
     requires err { IsLowCount (E.failures err.old) }
 
     // How the logs compare, what was read and written, and what the run came to: its status and what is told of it.
-    ensures ran { RanTwo A.Source B.Source W.Target E.Target MESSAGE_LIMIT config.now left.old right.old out.old err.old result left.new right.new out.new err.new }
+    ensures ran { RanTwo A.Source B.Source W.Target E.Target strict style MESSAGE_LIMIT config.now left.old right.old out.old err.old result.status result.fault left.new right.new out.new err.new }
 
     // Where the logs were compared, the output was flushed last and once, and nothing was told.
-    ensures flushed { result ≤ 1 → W.is_flushed out.new ≡ true }
-    ensures once { result ≤ 1 → W.flushes out.new ≡ W.flushes out.old + 1 }
+    ensures flushed { result.status ≤ 1 → W.is_flushed out.new ≡ true }
+    ensures once { result.status ≤ 1 → W.flushes out.new ≡ W.flushes out.old + 1 }
     ensures flushes { W.flushes out.new ≤ W.flushes out.old + 1 }
-    ensures quiet { result ≤ 1 → err.new ≡ err.old }
+    ensures quiet { result.status ≤ 1 → err.new ≡ err.old }
+
+    // Where a strict run compared the logs, each is a recording of exactly the messages that it delivers.
+    ensures recording { strict ≡ true → result.status ≤ 1 → (one other : List ℕ)
+        → Agrees (A.given left.old) (A.given left.new) (A.is_over left.new) one → Agrees (B.given right.old) (B.given right.new) (B.is_over right.new) other
+        → IsCertified MESSAGE_LIMIT config.now one × IsCertified MESSAGE_LIMIT config.now other }
 
     // No write to the output is empty.
     ensures no_empty_write { W.had_empty_write out.new ≡ W.had_empty_write out.old }
 
     // The status is 4 exactly where a device failed.
-    ensures device { (result ≡ 4) ↔ ((A.failures left.old < A.failures left.new)
+    ensures device { (result.status ≡ 4) ↔ ((A.failures left.old < A.failures left.new)
         ⊎ ((B.failures right.old < B.failures right.new) ⊎ (W.failures out.old < W.failures out.new))) }
 {
     let answer = compare(alloc, config, left, right);
-    end_comparison(answer, out, err)
+    let fault = fault_of(&answer);
+    TwoEnd {
+        status: end_comparison(answer, strict, style, out, err),
+        fault,
+    }
 }
 
-/// Ends a comparison: writes its line, or tells the fault. Answers the exit status.
+/// The fault of an answer about two logs, if that is one.
+fn fault_of(answer: &Result<Compared, CompareFault>) -> Option<CompareFault>
+    ensures { result ≡ fault_of answer.now }
+{
+    match answer {
+        Ok(_) => None,
+        Err(fault) => Some(*fault),
+    }
+}
+
+/// Ends a comparison: writes its text, or tells the fault, or which log has to be clean and is not. Answers the exit status.
 fn end_comparison<W: Target, E: Target>(
-    answer: Result<Comparison, CompareFault>,
+    answer: Result<Compared, CompareFault>,
+    strict: bool,
+    style: ComparisonStyle,
     out: &mut W,
     err: &mut E,
 ) -> u8
     requires out { IsLowCount (W.failures out.old) }
     requires err { IsLowCount (E.failures err.old) }
-    ensures status { EndsTwoWith answer (W.failures out.old) (W.failures out.new) result }
+    ensures status { EndsTwoWith strict answer (W.failures out.old) (W.failures out.new) result }
     ensures failed { OnOk answer (result ≡ 4 → W.failures out.old < W.failures out.new) }
-    ensures line { TookLine answer result (W.taken out.old) (W.taken out.new) }
+    ensures text { TookComparison strict style answer result (W.taken out.old) (W.taken out.new) }
     ensures flushed { result ≤ 1 → W.is_flushed out.new ≡ true }
     ensures once { result ≤ 1 → W.flushes out.new ≡ W.flushes out.old + 1 }
     ensures flushes { W.flushes out.new ≤ W.flushes out.old + 1 }
     ensures quiet { result ≤ 1 → err.new ≡ err.old }
-    ensures told { TookText (run_two_text answer result) (E.failures err.old) (E.failures err.new) (E.taken err.old) (E.taken err.new) }
+    ensures told { TookText (run_two_text strict answer result) (E.failures err.old) (E.failures err.new) (E.taken err.old) (E.taken err.new) }
     ensures no_empty_write { W.had_empty_write out.new ≡ W.had_empty_write out.old }
 {
     match answer {
-        Ok(comparison) => match write_flushed(comparison_line(comparison).as_slice(), out) {
-            Ok(()) => comparison_status(comparison),
+        Ok(compared) if has_unclean(strict, &compared) => tell_unclean_sides(&compared, err),
+        Ok(compared) => match write_comparison_flushed(&compared, style, out) {
+            Ok(()) => comparison_status(compared.comparison),
             Err(fault) => tell_fault(fault, err),
         },
         Err(fault) => tell_side(fault, err),
+    }
+}
+
+/// Whether one of two logs has to be clean, and is not.
+fn has_unclean(strict: bool, compared: &Compared) -> bool
+    ensures { result ≡ has_unclean strict compared.now }
+{
+    strict && !(compared.left.summary.is_clean() && compared.right.summary.is_clean())
+}
+
+/// Writes how two logs compare, and flushes it.
+fn write_comparison_flushed<W: Target>(
+    compared: &Compared,
+    style: ComparisonStyle,
+    out: &mut W,
+) -> Result<(), Fault>
+    requires { IsLowCount (W.failures out.old) }
+    ensures taken { HasFront (W.taken out.old) (comparison_text style compared.now) (W.taken out.new) }
+    ensures whole { OnOk result (W.taken out.new ≡ W.taken out.old ++ comparison_text style compared.now) }
+    ensures fault { IfErr result (λ fault. fault ≡ Fault.Write) }
+    ensures flushed { OnOk result (W.is_flushed out.new ≡ true) }
+    ensures flushes { MatchResult result
+        (λ _. W.flushes out.new ≡ W.flushes out.old + 1) (λ _. W.flushes out.new ≡ W.flushes out.old) }
+    ensures failures { MatchResult result
+        (λ _. W.failures out.new ≡ W.failures out.old) (λ _. W.failures out.new ≡ W.failures out.old + 1) }
+    ensures no_empty_write { W.had_empty_write out.new ≡ W.had_empty_write out.old }
+{
+    match write_comparison(compared, style, out) {
+        Ok(()) => match out.flush() {
+            Ok(()) => Ok(()),
+            Err(_) => Err(Fault::Write),
+        },
+        Err(_) => Err(Fault::Write),
     }
 }
 

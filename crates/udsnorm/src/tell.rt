@@ -4,14 +4,14 @@ ghost use Rattle.std.specs.Prelude.{◌≡◌, ◌≤◌};
 ghost use Rattle.trace_canon.specs.Compared.{fault_in};
 ghost use Rattle.trace_io.specs.Counted.{IsLowCount};
 ghost use Rattle.udsnorm.specs.Asked.{ToldHelp, ToldWords};
-ghost use Rattle.udsnorm.specs.FaultLines.{fault_line, side_line};
+ghost use Rattle.udsnorm.specs.FaultLines.{fault_line, one_stream_line, side_line, unclean_line, unclean_sides};
 ghost use Rattle.udsnorm.specs.Status.{is_refusal as refuses, status_of};
 ghost use Rattle.udsnorm.specs.Telling.{TookText};
 
-use crate::fault_lines::{fault_line, side_line, words_text};
+use crate::fault_lines::{fault_line, side_line, unclean_line, unclean_side, words_text};
 use crate::job::WordsFault;
 use crate::run::write_flushed;
-use trace_canon::{CompareFault, Fault};
+use trace_canon::{CompareFault, Compared, Fault, Summary};
 use trace_io::{Target, write_all};
 
 /// Tells why the words ask for nothing that the program does: help or the version on the output, which is flushed, anything
@@ -71,8 +71,42 @@ pub(crate) fn tell_side<E: Target>(fault: CompareFault, err: &mut E) -> u8
     }
 }
 
+/// Tells that both logs are one stream, and answers the exit status.
+pub(crate) fn tell_one_stream<E: Target>(err: &mut E) -> u8
+    requires { IsLowCount (E.failures err.old) }
+    ensures status { result ≡ 2 }
+    ensures told { TookText one_stream_line (E.failures err.old) (E.failures err.new) (E.taken err.old) (E.taken err.new) }
+{
+    tell_text("both logs are the same stream\n".as_bytes(), err);
+    2
+}
+
+/// Tells that a log is not clean, and answers the exit status.
+pub(crate) fn tell_unclean<E: Target>(summary: &Summary, err: &mut E) -> u8
+    requires { IsLowCount (E.failures err.old) }
+    ensures status { result ≡ 6 }
+    ensures told { TookText (unclean_line summary.now) (E.failures err.old) (E.failures err.new) (E.taken err.old) (E.taken err.new) }
+{
+    tell_text(unclean_line("", summary).as_slice(), err);
+    6
+}
+
+/// Tells which of two logs are not clean, a line each, and answers the exit status.
+pub(crate) fn tell_unclean_sides<E: Target>(compared: &Compared, err: &mut E) -> u8
+    requires { IsLowCount (E.failures err.old) }
+    ensures status { result ≡ 6 }
+    ensures told { TookText (unclean_sides compared.now) (E.failures err.old) (E.failures err.new) (E.taken err.old) (E.taken err.new) }
+{
+    let left = unclean_side("left: ", &compared.left.summary);
+    let right = unclean_side("right: ", &compared.right.summary);
+    if let Ok(()) = write_all(err, left.as_slice()) {
+        tell_text(right.as_slice(), err);
+    }
+    6
+}
+
 /// Writes a text, as far as the device takes it.
-fn tell_text<W: Target>(text: &[u8], device: &mut W)
+pub(crate) fn tell_text<W: Target>(text: &[u8], device: &mut W)
     requires { IsLowCount (W.failures device.old) }
     ensures { TookText text.now (W.failures device.old) (W.failures device.new) (W.taken device.old) (W.taken device.new) }
 {

@@ -8,8 +8,8 @@ ghost use Rattle.udsnorm.specs.declared.text.TheConstants.{LONGEST_LINE};
 use arrayvec::ArrayVec;
 use itoa::Buffer;
 
-/// The length of the longest line: an announcement that is too long, in the right log.
-pub(crate) const LONGEST_LINE: usize = 83;
+/// The length of the longest line: the right one of two logs is not clean in any way, with the largest counts.
+pub(crate) const LONGEST_LINE: usize = 205;
 
 /// A line as it is made.
 pub(crate) type Line = ArrayVec<u8, LONGEST_LINE>;

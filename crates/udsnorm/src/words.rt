@@ -1,18 +1,22 @@
 //! What the words of a command line ask for.
 
 ghost use Rattle.std.specs.Prelude.{◌≡◌, Some, None, IfOk, IfErr, IsSome, map, option_map, string_bytes};
-ghost use Rattle.clap.specs.Words.{FailsBy, first_of, found_of, kind_of, rows_of, subcommand_rows_of};
+ghost use Rattle.clap.specs.Words.{FailsBy, found_of, kind_of, rows_of, subcommand_rows_of};
 ghost use Rattle.udsnorm.specs.Commands.{command_in, refusals, words_or_normalise};
 ghost use Rattle.udsnorm.specs.Identifiers.{identifier_of};
-ghost use Rattle.udsnorm.specs.Words.{IsCalled, IsConfiguredBy, IsConfiguredIn, IsPlanOf, IsPlanned, IsPlannedFrom, IsRefusedFor, is_given, job_named, numbering_in};
+ghost use Rattle.udsnorm.specs.Words.{IsCalled, IsConfiguredBy, IsConfiguredIn, IsPlanOf, IsPlanned, IsPlannedFrom, IsRefusedFor};
 
-use crate::command::{LEFT, LIMIT, LOG, NO_NUMBERS, RIGHT, TESTER, UNIT, command};
+use crate::command::command;
+use crate::commands::{
+    Job, LEFT, LIMIT, LOG, RIGHT, TESTER, UNIT, USUAL_TESTER, USUAL_UNIT, job_named,
+};
 use crate::identifiers::identifier;
-use crate::job::{Job, Plan, WordsFault};
+use crate::job::{Plan, WordsFault};
+use crate::values::{comparison_style, is_strict, text_of};
 use clap::error::ErrorKind;
 use clap::{ArgMatches, Error};
 use std::alloc::{AllocError, Global};
-use trace_canon::{Config, Numbering};
+use trace_canon::Config;
 
 /// What is meant where there are no words.
 static NO_WORDS: [&str; 1] = ["normalise"];
@@ -68,37 +72,6 @@ fn planned(alloc: Global, matches: &ArgMatches<'_>) -> Result<Plan, WordsFault>
     }
 }
 
-/// The job of a command over one log, with its own options. The one over two has none.
-fn job_named(name: &str, found: &ArgMatches<'_>) -> Option<Job>
-    ensures { result ≡ job_named name.now (rows_of (found_of found.now)) }
-{
-    match name {
-        "list" => Some(Job::List(numbering(found))),
-        "explain" => Some(Job::Explain),
-        "messages" => Some(Job::Messages),
-        "compare" => None,
-        _ => Some(Job::Normalise),
-    }
-}
-
-/// Whether a list has numbers.
-fn numbering(found: &ArgMatches<'_>) -> Numbering
-    ensures { result ≡ numbering_in (rows_of (found_of found.now)) }
-{
-    if is_given(found, NO_NUMBERS) {
-        Numbering::Hidden
-    } else {
-        Numbering::Shown
-    }
-}
-
-/// Whether an option without a value is given.
-fn is_given(found: &ArgMatches<'_>, name: &str) -> bool
-    ensures { result ≡ is_given name.now (rows_of (found_of found.now)) }
-{
-    text_of(found, name).unwrap_or("") == "true"
-}
-
 /// The plan of a job over one log, by the options and the file of its command.
 fn plan_of_one(alloc: Global, job: Job, found: &ArgMatches<'_>) -> Result<Plan, WordsFault>
     ensures plan { IfOk result (IsPlanOf (Some job) (rows_of (found_of found.now))) }
@@ -106,7 +79,12 @@ fn plan_of_one(alloc: Global, job: Job, found: &ArgMatches<'_>) -> Result<Plan, 
 {
     let config = configuration(found)?;
     let log = copied(alloc, text_of(found, LOG))?;
-    Ok(Plan::One { job, config, log })
+    Ok(Plan::One {
+        job,
+        strict: is_strict(found),
+        config,
+        log,
+    })
 }
 
 /// The plan of a comparison, by the options and the files of its command.
@@ -122,18 +100,20 @@ fn plan_of_two(alloc: Global, found: &ArgMatches<'_>) -> Result<Plan, WordsFault
     let left = String::from_str(alloc, left)?;
     let right = String::from_str(alloc, right)?;
     Ok(Plan::Two {
+        strict: is_strict(found),
+        style: comparison_style(found),
         config,
         left,
         right,
     })
 }
 
-/// The configuration that the options ask for. Each of them has a default.
+/// The configuration that the options ask for. A command that has no identifiers has the usual ones.
 fn configuration(found: &ArgMatches<'_>) -> Result<Config, WordsFault>
     ensures { IsConfiguredIn (rows_of (found_of found.now)) result }
 {
-    let tester = text_of(found, TESTER).unwrap_or("");
-    let unit = text_of(found, UNIT).unwrap_or("");
+    let tester = text_of(found, TESTER).unwrap_or(USUAL_TESTER);
+    let unit = text_of(found, UNIT).unwrap_or(USUAL_UNIT);
     let limit = found.get_one::<u64>(LIMIT).unwrap_or(0);
     configured(tester, unit, limit)
 }
@@ -146,13 +126,6 @@ fn configured(tester: &str, unit: &str, limit: u64) -> Result<Config, WordsFault
         return Err(WordsFault::Identifier);
     };
     Config::new(tester, unit, limit).map_err(WordsFault::Config)
-}
-
-/// The text of an option or a file, if it has one.
-fn text_of<'a>(found: &ArgMatches<'a>, name: &str) -> Option<&'a str>
-    ensures { option_map (λ t. t.now) result ≡ first_of name.now (rows_of (found_of found.now)) }
-{
-    found.get_str(name)
 }
 
 /// A text of its own, if there is one.

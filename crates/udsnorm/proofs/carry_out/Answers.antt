@@ -5,4 +5,7 @@ use Rattle.udsnorm.proofs.carry_out.Goals as goal
 
 pub returns-in-Some-clause-did : goal.returns-in-Some-clause-did
 returns-in-Some-clause-did g c =
-    did_of_equal _ _ _ _ _ _ _ _ _ _ _ _ _ (c.in-One.is ∙ ap (λ log. One c.in-One.job c.in-One.config log) c.in-Some.is) (refl, c.run_file.ensures.ran)
+    did_of_equal _ _ _ _ _ _ _ _ _ _ _ _ _ _ (c.in-One.is ∙ ap (λ log. One c.in-One.job c.in-One.strict c.in-One.config log) c.in-Some.is) (refl, c.run_file.ensures.ran)
+
+pub returns-in-Two-clause-did : goal.returns-in-Two-clause-did
+returns-in-Two-clause-did g c = did_of_equal _ _ _ _ _ _ _ _ _ _ _ _ _ _ c.in-Two.is (refl, c.run_files.ensures.ran)

@@ -7,8 +7,10 @@ given_by r = r.given
 
 pub returns-in-Ok-clause-ran : goal.returns-in-Ok-clause-ran
 returns-in-Ok-clause-ran g c = inl (record {
-  opened = c.new.result;
-  left = c.run_one.new.input;
-  from_start = ap given_by c.new.ensures;
-  ran = c.run_one.ensures.ran;
+  opened = c.new-log.result;
+  left = c.run_one-end.new.input;
+  from_start = ap given_by c.new-log.ensures;
+  outcome = c.run_one-end.result.outcome;
+  ran = c.run_one-end.ensures.ran;
+  known_is = c.known_of_file.ensures;
 })

@@ -11,7 +11,7 @@ line_of-requires c =
     let column : length (decimal c.in-BadLine.column) ≤ 10 = length-decimal-le 10 c.in-BadLine.column (omega arith) (omega arith) (omega arith) in
     let log : length c.args.log.now ≤ 7 = c.requires in
     let text = c.args.log.now ++ (codes "line " ++ (decimal c.in-BadLine.line ++ (codes " column " ++ (decimal c.in-BadLine.column ++ codes ": not a log line\n")))) in
-    let fits : length text ≤ 83 =
+    let fits : length text ≤ 205 =
     omega (arith, line, column, log, length_of_two_numbers c.args.log.now (codes "line ") (decimal c.in-BadLine.line) (codes " column ") (decimal c.in-BadLine.column) (codes ": not a log line\n")) in
     fits
 
@@ -21,7 +21,7 @@ line_of-requires-in-Oversize c =
     let announced : length (decimal c.in-Oversize.announced) ≤ 10 = length-decimal-le 10 c.in-Oversize.announced (omega arith) (omega arith) (omega arith) in
     let log : length c.args.log.now ≤ 7 = c.requires in
     let text = c.args.log.now ++ (codes "line " ++ (decimal c.in-Oversize.line ++ (codes ": " ++ (decimal c.in-Oversize.announced ++ codes " bytes announced, the limit is 1048575\n")))) in
-    let fits : length text ≤ 83 =
+    let fits : length text ≤ 205 =
     omega (arith, line, announced, log, length_of_two_numbers c.args.log.now (codes "line ") (decimal c.in-Oversize.line) (codes ": ") (decimal c.in-Oversize.announced) (codes " bytes announced, the limit is 1048575\n")) in
     fits
 

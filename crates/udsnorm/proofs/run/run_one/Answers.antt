@@ -1,6 +1,7 @@
 use Rattle.std.proofs.Common.{◌≤◌, ◌+◌, ap, ◌∙◌, sym, subst}
 use Rattle.udsnorm.specs.Ending.{EndsAs, flushes}
-use Rattle.udsnorm.proofs.Statuses.{comes_to, done_once, failed_once, flushed_at_most_once, flushed_once_then, is_flushed_then, not_flushed_then, took_still}
+use Rattle.udsnorm.proofs.Certificates.{answer_certifies}
+use Rattle.udsnorm.proofs.Statuses.{comes_to, done_once, failed_once, flushed_at_most_once, flushed_once_then, is_flushed_then, not_flushed_then, recorded_then, took_still}
 use Rattle.udsnorm.proofs.run.run_one.Goals as goal
 
 pub returns-clause-ran : goal.returns-clause-ran
@@ -22,7 +23,6 @@ returns-clause-ran g c =
       engine = λ log agrees. rw kept (c.do_job-answer.ensures.engine log agrees);
       near = c.do_job-answer.ensures.near;
       read = c.do_job-answer.ensures.read;
-      outcome = outcome;
       comes = comes_to (flushes answer taken) answer outcome old new times times_now is_flushed ends;
       status_is = c.tell_outcome.ensures.status;
       flushed = is_flushed_then (flushes answer taken) answer outcome old new times times_now is_flushed ends;
@@ -34,12 +34,24 @@ returns-clause-ran g c =
       told = c.tell_outcome.ensures.told;
     }
 
+pub returns-clause-recording : goal.returns-clause-recording
+returns-clause-recording g c = λ strict zero log agrees.
+    let W = g.W.Target in
+    let out = c.do_job-answer.new.out in
+    let now = c.flushed_one-outcome.new.out in
+    let answer = c.do_job-answer.result in
+    let outcome = c.flushed_one-outcome.result in
+    let due = flushes answer (W.taken out) in
+    recorded_then c.args.strict due answer outcome c.tell_outcome.result _ _ log
+    (comes_to due answer outcome (W.failures out) (W.failures now) (W.flushes out) (W.flushes now) (W.is_flushed now) c.flushed_one-outcome.ensures.ends)
+    c.tell_outcome.ensures.status zero strict (answer_certifies c.args.job _ log _ answer _ _ (c.do_job-answer.ensures.engine log agrees))
+
 pub returns-clause-once : goal.returns-clause-once
 returns-clause-once g c = λ zero.
     let W = g.W.Target in
     let out = c.do_job-answer.new.out in
     let now = c.flushed_one-outcome.new.out in
-    done_once c.do_job-answer.result c.flushed_one-outcome.result (W.taken out) (W.failures out) (W.failures now) (W.flushes out) (W.flushes now) (W.is_flushed now) c.tell_outcome.result
+    done_once c.args.strict c.do_job-answer.result c.flushed_one-outcome.result (W.taken out) (W.failures out) (W.failures now) (W.flushes out) (W.flushes now) (W.is_flushed now) c.tell_outcome.result
     c.flushed_one-outcome.ensures.ends c.tell_outcome.ensures.status zero ∙ ap (λ n. n + 1) c.do_job-answer.ensures.wrote.flushes
 
 pub returns-clause-flushes : goal.returns-clause-flushes

@@ -1,0 +1,100 @@
+-- What is certified of a log by the counts that an engine answered.
+use Rattle.std.proofs.Common.{◌≡◌, ℕ, ◌≤◌, inl, inr, List, Option, Result, Ok, Err, true, false, true≢false, refl, ap, sym, subst, ◌∙◌, Bool, arith}
+use Rattle.std.specs.Prelude.{IfOk, ◌&&◌, not, if◌then◌else◌}
+use Rattle.can_log.specs.Log.{LogMeans}
+use Rattle.can_log.specs.declared.frame.Stamped.{Stamped}
+use Rattle.isotp_receive.specs.declared.TheConstants.{MESSAGE_LIMIT}
+use Rattle.trace_canon.specs.Answers.{GivesSession}
+use Rattle.trace_canon.specs.Compared.{Compares, fault_in}
+use Rattle.trace_canon.specs.Laws.{Certifies, IsCertified}
+use Rattle.trace_canon.specs.Outcome.{Accepted, IsOutcome}
+use Rattle.trace_canon.specs.Settings.{Settings}
+use Rattle.trace_canon.specs.Summing.{is_clean, summary_of}
+use Rattle.trace_canon.specs.declared.collector.Session.{Session}
+use Rattle.trace_canon.specs.declared.comparing.Compared.{Compared}
+use Rattle.trace_canon.specs.declared.comparing.Comparison.{Comparison}
+use Rattle.trace_canon.specs.declared.fault.CompareFault.{CompareFault}
+use Rattle.trace_canon.specs.declared.fault.Fault.{Fault}
+use Rattle.trace_canon.specs.declared.fault.Fault.TheVariants as fault
+use Rattle.trace_canon.specs.declared.machine.Stop.{Stop}
+use Rattle.trace_canon.specs.declared.summary.Summary.{Summary}
+use Rattle.trace_canon.proofs.Promises.{clean_log_is_recording, clean_summary_is_certificate, summary_certifies}
+use Rattle.udsnorm.specs.Commands.{EngineAnswers}
+use Rattle.udsnorm.specs.Ending.{has_unclean, status_of_comparison}
+use Rattle.udsnorm.specs.Run.{IsStatusOfTwo}
+use Rattle.udsnorm.specs.Status.{status_of}
+use Rattle.udsnorm.specs.declared.commands.Job.{Job}
+use Rattle.udsnorm.specs.declared.commands.Job.TheVariants as job
+
+-- the counts of a log whose lines mean this
+of_lines : (settings : Settings) (log : List ℕ) (meanings : List (Option Stamped)) → LogMeans log meanings → Certifies MESSAGE_LIMIT settings log (summary_of MESSAGE_LIMIT settings log meanings)
+of_lines settings log meanings means none_dropped no_end none_open =
+    let certificate = clean_summary_is_certificate MESSAGE_LIMIT settings log meanings (omega arith) none_dropped no_end none_open in
+    record { meanings = meanings; means = means; recording = certificate.0; own_frames = certificate.1; once = certificate.2 }
+
+-- those of a log that is accepted
+pub of_accepted : (settings : Settings) (log : List ℕ) (accepted : Accepted) (summary : Summary) → IsOutcome MESSAGE_LIMIT settings log (Ok accepted) → accepted.summary ≡ summary
+    → Certifies MESSAGE_LIMIT settings log summary
+of_accepted settings log accepted summary outcome counted =
+    subst (Certifies MESSAGE_LIMIT settings log) counted (summary_certifies MESSAGE_LIMIT settings log accepted (omega arith) outcome)
+
+-- what is answered is one thing
+same_counts : (one other : Summary) → ◌≡◌ {A = Result Summary Stop} (Ok one) (Ok other) → one ≡ other
+same_counts one other is = cc
+
+-- where a summary certifies so, a clean log is a recording
+of_clean : (settings : Settings) (log : List ℕ) (summary : Summary) → Certifies MESSAGE_LIMIT settings log summary → is_clean summary ≡ true → IsCertified MESSAGE_LIMIT settings log
+of_clean settings log summary = clean_log_is_recording MESSAGE_LIMIT settings log summary
+
+-- `find` counts no frames of either side, so no log is clean by its counts
+of_job : (job : Job) (settings : Settings) (log : List ℕ) (given : ℕ) (summary : Summary) (old new : List ℕ) → EngineAnswers job MESSAGE_LIMIT settings log given (Ok summary) old new
+    → is_clean summary ≡ true → IsCertified MESSAGE_LIMIT settings log
+of_job job.Normalise settings log given summary old new (accepted, outcome, counted, wrote) = of_clean settings log summary (of_accepted settings log accepted summary outcome counted)
+of_job (job.List style) settings log given summary old new (items, is, wrote) = of_clean settings log summary (of_accepted settings log is.accepted summary is.outcome is.counted)
+of_job (job.Watch style) settings log given summary old new (within, meanings, read, counted, wrote) =
+    of_clean settings log summary (subst (Certifies MESSAGE_LIMIT settings log) (sym (same_counts _ _ counted)) (of_lines settings log meanings read.1))
+of_job (job.Explain notation) settings log given summary old new (meanings, read, counted, wrote) =
+    of_clean settings log summary (subst (Certifies MESSAGE_LIMIT settings log) (sym counted) (of_lines settings log meanings read.1))
+of_job (job.Messages notation) settings log given summary old new (within, meanings, read, counted, wrote) =
+    of_clean settings log summary (subst (Certifies MESSAGE_LIMIT settings log) (sym (same_counts _ _ counted)) (of_lines settings log meanings read.1))
+of_job (job.Find notation) settings log given summary old new (pairs, (meanings, read, found), wrote) = λ clean. absurd (true≢false (sym clean ∙ ap is_clean found.1))
+
+-- whatever the job
+pub answer_certifies : (job : Job) (settings : Settings) (log : List ℕ) (given : ℕ) (answer : Result Summary Fault) (old new : List ℕ)
+    → EngineAnswers job MESSAGE_LIMIT settings log given answer old new → IfOk answer (λ summary. is_clean summary ≡ true → IsCertified MESSAGE_LIMIT settings log)
+answer_certifies job settings log given (Ok summary) old new engine = of_job job settings log given summary old new engine
+answer_certifies job settings log given (Err fault) old new engine = tt
+
+-- both logs of a comparison are clean where they have to be
+are_clean : (strict one other : Bool) → strict ≡ true → (strict && not (one && other)) ≡ false → (one ≡ true) × (other ≡ true)
+are_clean true true true is none = (refl, refl)
+are_clean true true false is none = absurd (true≢false none)
+are_clean true false other is none = absurd (true≢false none)
+are_clean false one other is none = absurd (true≢false (sym is))
+
+-- a log is clean
+pub is_certified : (settings : Settings) (log : List ℕ) (session : Session) → GivesSession MESSAGE_LIMIT settings log (Ok session) → is_clean session.summary ≡ true → IsCertified MESSAGE_LIMIT settings log
+is_certified settings log session gives clean =
+    clean_log_is_recording MESSAGE_LIMIT settings log session.summary (of_accepted settings log gives.accepted session.summary gives.outcome gives.counted) clean
+
+no_more : (unclean : Bool) (comparison : Comparison) (status : ℕ) → status ≡ (if unclean then 6 else status_of_comparison comparison) → status ≤ 1 → unclean ≡ false
+no_more true comparison status is low = absurd (omega (arith, is, low))
+no_more false comparison status is low = refl
+
+refused_high : (why : Fault) (status : ℕ) → status ≡ status_of why → status ≤ 1 → ⊥
+refused_high (fault.BadLine line column) status is low = absurd (omega (arith, is, low))
+refused_high (fault.Oversize line announced) status is low = absurd (omega (arith, is, low))
+refused_high fault.LogLimit status is low = absurd (omega (arith, is, low))
+refused_high fault.OutputLimit status is low = absurd (omega (arith, is, low))
+refused_high fault.Read status is low = absurd (omega (arith, is, low))
+refused_high fault.Write status is low = absurd (omega (arith, is, low))
+refused_high fault.Memory status is low = absurd (omega (arith, is, low))
+
+-- so where a strict comparison has an answer, each log is a recording
+pub both_certified : (strict : Bool) (settings : Settings) (one other : List ℕ) (answer : Result Compared CompareFault) (status : ℕ) → Compares MESSAGE_LIMIT settings one other answer
+    → IsStatusOfTwo strict answer status → strict ≡ true → status ≤ 1 → IsCertified MESSAGE_LIMIT settings one × IsCertified MESSAGE_LIMIT settings other
+both_certified strict settings one other (Ok compared) status compares (inl is) so low =
+    let clean = are_clean strict (is_clean compared.left.summary) (is_clean compared.right.summary) so (no_more (has_unclean strict compared) compared.comparison status is low) in
+    (is_certified settings one compared.left compares.0 clean.0, is_certified settings other compared.right compares.1 clean.1)
+both_certified strict settings one other (Ok compared) status compares (inr is) so low = absurd (omega (arith, is, low))
+both_certified strict settings one other (Err fault) status compares is so low = absurd (refused_high (fault_in fault) status is low)

@@ -1,0 +1,345 @@
+//! The commands: the words and the help of each, the job that it asks for, and the engine that does it. What is said of
+//! a command stands here and in `specs/Commands.antt`, in the same order.
+
+ghost use Rattle.std.specs.Prelude.{◌≡◌, ◌-◌, ℕ, List, length};
+ghost use Rattle.isotp_receive.specs.declared.TheConstants.{MESSAGE_LIMIT};
+ghost use Rattle.trace_canon.specs.Devices.{ReadFrom, WroteTo};
+ghost use Rattle.trace_io.specs.Counted.{AreLowCounts, IsLowCount};
+ghost use Rattle.trace_io.specs.Stream.{Agrees};
+ghost use Rattle.clap.specs.Words.{found_of, rows_of};
+ghost use Rattle.udsnorm.specs.Commands.{EngineAnswers, EngineReads, job_named};
+
+use crate::values::{notation, style};
+use clap::ArgMatches;
+use std::alloc::Global;
+use trace_canon::{
+    Config, Fault, ItemStyle, Notation, Summary, explain, find, list, messages, normalise, watch,
+};
+use trace_io::{Source, Target};
+
+/// What the program does with one log.
+#[derive(Clone, Copy, PartialEq, Eq)]
+pub enum Job {
+    /// Writes the canonical log.
+    Normalise,
+    /// Writes the exchanges and stray messages, in this style.
+    List(ItemStyle),
+    /// Writes the same while the log comes, each line as soon as its item is decided.
+    Watch(ItemStyle),
+    /// Writes which frames were dropped, and which receptions ended early, and why, in this notation.
+    Explain(Notation),
+    /// Writes each message with its place in the log, in this notation.
+    Messages(Notation),
+    /// Writes the pairs of identifiers that ask and answer, in this notation.
+    Find(Notation),
+}
+
+/// A command as the parser and its help have it.
+#[derive(Clone, Copy)]
+pub(crate) struct CommandRow {
+    pub(crate) name: &'static str,
+    pub(crate) about: &'static str,
+    /// What follows the options in its help: more about it, its statuses, and last an example.
+    pub(crate) after_help: &'static str,
+    /// Its options and files, in groups that other commands have, too.
+    pub(crate) arguments: &'static [&'static [Argument]],
+}
+
+/// An option or a file of a command.
+#[derive(Clone, Copy)]
+pub(crate) enum Argument {
+    /// An option that takes an identifier, and which one that is where none is given.
+    Identifier {
+        name: &'static str,
+        default: &'static str,
+        help: &'static str,
+    },
+    /// The option of the limit, which is this where none is given.
+    Limit(&'static str),
+    /// An option without a value.
+    Flag {
+        name: &'static str,
+        help: &'static str,
+    },
+    /// A file, which has to be named or may be.
+    File {
+        name: &'static str,
+        is_required: bool,
+        help: &'static str,
+    },
+}
+
+/// The commands, in the order of the program's help.
+pub(crate) const COMMANDS: &[CommandRow] = &[
+    CommandRow {
+        name: "normalise",
+        about: "Writes the canonical log",
+        after_help: OF_NORMALISE,
+        arguments: &[SIDES, USUAL_LIMIT, ONE_LOG, STRICTLY],
+    },
+    CommandRow {
+        name: "list",
+        about: "Writes the exchanges and stray messages",
+        after_help: OF_LIST,
+        arguments: &[
+            SIDES,
+            USUAL_LIMIT,
+            ONE_LOG,
+            WITHOUT_NUMBERS,
+            AS_JSON,
+            STRICTLY,
+        ],
+    },
+    CommandRow {
+        name: "watch",
+        about: "Writes the lines of `list` while the session runs",
+        after_help: OF_WATCH,
+        arguments: &[
+            SIDES,
+            LARGEST_LIMIT,
+            ONE_LOG,
+            WITHOUT_NUMBERS,
+            AS_JSON,
+            STRICTLY,
+        ],
+    },
+    CommandRow {
+        name: "explain",
+        about: "Writes which frames were dropped and which receptions ended early, and why",
+        after_help: OF_EXPLAIN,
+        arguments: &[SIDES, USUAL_LIMIT, ONE_LOG, AS_JSON, STRICTLY],
+    },
+    CommandRow {
+        name: "messages",
+        about: "Writes each message with its lines and time stamps",
+        after_help: OF_MESSAGES,
+        arguments: &[SIDES, LARGEST_LIMIT, ONE_LOG, AS_JSON, STRICTLY],
+    },
+    CommandRow {
+        name: "find",
+        about: "Writes which identifiers ask and which answer, for a log whose identifiers nobody told",
+        after_help: OF_FIND,
+        arguments: &[USUAL_LIMIT, ONE_LOG, AS_JSON],
+    },
+    CommandRow {
+        name: "compare",
+        about: "Says whether two logs have the same exchanges and stray messages",
+        after_help: OF_COMPARE,
+        arguments: &[SIDES, USUAL_LIMIT, TWO_LOGS, SHOWING, AS_JSON, STRICTLY],
+    },
+];
+
+/// The names of options and files in the parser's matches.
+pub(crate) const TESTER: &str = "tester";
+
+pub(crate) const UNIT: &str = "unit";
+
+pub(crate) const LIMIT: &str = "limit";
+
+pub(crate) const NO_NUMBERS: &str = "no-numbers";
+
+pub(crate) const STRICT: &str = "strict";
+
+pub(crate) const JSON: &str = "json";
+
+pub(crate) const SHOW: &str = "show";
+
+pub(crate) const LOG: &str = "LOG";
+
+pub(crate) const LEFT: &str = "A";
+
+pub(crate) const RIGHT: &str = "B";
+
+/// The identifiers that are meant where none are given.
+pub(crate) const USUAL_TESTER: &str = "7E0";
+
+pub(crate) const USUAL_UNIT: &str = "7E8";
+
+/// The options and files of commands.
+const SIDES: &[Argument] = &[
+    Argument::Identifier {
+        name: TESTER,
+        default: USUAL_TESTER,
+        help: "Identifier of the tester, 3 or 8 hexadecimal digits",
+    },
+    Argument::Identifier {
+        name: UNIT,
+        default: USUAL_UNIT,
+        help: "Identifier of the control unit, 3 or 8 hexadecimal digits",
+    },
+];
+
+const USUAL_LIMIT: &[Argument] = &[Argument::Limit("1073741824")];
+
+const LARGEST_LIMIT: &[Argument] = &[Argument::Limit("1099511627776")];
+
+const WITHOUT_NUMBERS: &[Argument] = &[Argument::Flag {
+    name: NO_NUMBERS,
+    help: "Leaves out the number of each line",
+}];
+
+const STRICTLY: &[Argument] = &[Argument::Flag {
+    name: STRICT,
+    help: "Ends with status 6 where a frame was lost that can be seen",
+}];
+
+const SHOWING: &[Argument] = &[Argument::Flag {
+    name: SHOW,
+    help: "Shows the items at which the logs differ",
+}];
+
+const AS_JSON: &[Argument] = &[Argument::Flag {
+    name: JSON,
+    help: "Writes an object of JSON in each line",
+}];
+
+const ONE_LOG: &[Argument] = &[Argument::File {
+    name: LOG,
+    is_required: false,
+    help: "The recorded log; without it standard input is read",
+}];
+
+const TWO_LOGS: &[Argument] = &[
+    Argument::File {
+        name: LEFT,
+        is_required: true,
+        help: "The left log",
+    },
+    Argument::File {
+        name: RIGHT,
+        is_required: true,
+        help: "The right log",
+    },
+];
+
+/// The job of a command over one log, with its own options. The one over two has none.
+pub(crate) fn job_named(name: &str, found: &ArgMatches<'_>) -> Option<Job>
+    ensures { result ≡ job_named name.now (rows_of (found_of found.now)) }
+{
+    match name {
+        "normalise" => Some(Job::Normalise),
+        "list" => Some(Job::List(style(found))),
+        "watch" => Some(Job::Watch(style(found))),
+        "explain" => Some(Job::Explain(notation(found))),
+        "messages" => Some(Job::Messages(notation(found))),
+        "find" => Some(Job::Find(notation(found))),
+        "compare" => None,
+        _ => Some(Job::Normalise),
+    }
+}
+
+/// What the engine answers that does the job.
+pub(crate) fn do_job<R: Source, W: Target>(
+    alloc: Global,
+    job: Job,
+    config: &Config,
+    input: &mut R,
+    out: &mut W,
+) -> Result<Summary, Fault>
+    requires input { AreLowCounts (R.reads input.old) (length (R.given input.old)) (R.failures input.old) }
+    requires out { IsLowCount (W.failures out.old) }
+    ensures engine { (log : List ℕ) → Agrees (R.given input.old) (R.given input.new) (R.is_over input.new) log
+        → EngineAnswers job MESSAGE_LIMIT config.now log (length (R.given input.new) - length (R.given input.old)) result (W.taken out.old) (W.taken out.new) }
+    ensures near { (log : List ℕ) → Agrees (R.given input.old) (R.given input.new) (R.is_over input.new) log
+        → EngineReads job MESSAGE_LIMIT config.now log (length (R.given input.new) - length (R.given input.old)) (R.failures input.old) (R.failures input.new) }
+    ensures read { ReadFrom R.Source Fault.Read config.now.max_bytes result input.old input.new }
+    ensures wrote { WroteTo W.Target Fault.Write result out.old out.new }
+{
+    match job {
+        Job::Normalise => normalise(alloc, config, input, out),
+        Job::List(style) => list(alloc, config, style, input, out),
+        Job::Watch(style) => watch(alloc, config, style, input, out),
+        Job::Explain(notation) => explain(alloc, config, notation, input, out),
+        Job::Messages(notation) => messages(alloc, config, notation, input, out),
+        Job::Find(notation) => find(alloc, config, notation, input, out),
+    }
+}
+
+const OF_NORMALISE: &str = "\
+The canonical log has each message in frames of 8 bytes, a millisecond apart. Two logs have
+the same canonical log exactly if they have the same exchanges and stray messages.
+
+A log that holds neither identifier has an empty canonical log, and the status is 0. The last
+line of `udsnorm explain` then says `frames 0`.
+
+Exit status: 0 done, 2 wrong words, 3 the log is refused,
+4 a file can't be opened, or reading or writing failed, 5 out of memory,
+6 with `--strict`: it was done, and the log is not clean.
+
+Example: udsnorm normalise recorded.log > canonical.log";
+
+const OF_LIST: &str = "\
+A line is an exchange (a request of the tester, and the unit's answer if there is one) or a
+stray message outside of any exchange. It begins with its number; with `--no-numbers` it is the
+same wherever it stands, so that `diff` and `git diff` of two lists show what is new alone.
+
+A log that holds neither identifier has no such line, and the status is 0. The last line of
+`udsnorm explain` then says `frames 0`.
+
+Exit status: 0 done, 2 wrong words, 3 the log is refused,
+4 a file can't be opened, or reading or writing failed, 5 out of memory,
+6 with `--strict`: it was done, and the log is not clean.
+
+Example: udsnorm list --tester 7E1 --unit 7E9 recorded.log";
+
+const OF_WATCH: &str = "\
+A line is written as soon as nothing that follows can change it: an exchange when its answer
+is complete or the next request is, a stray message behind it then too, and the rest at the end
+of the log. A unit that is dead shows nothing until the next request; `messages` shows each
+message at once.
+
+Exit status: 0 done, 2 wrong words, 3 the log is refused,
+4 a file can't be opened, or reading or writing failed, 5 out of memory,
+6 with `--strict`: it was done, and the log is not clean.
+
+Example: candump -L can0 | udsnorm watch";
+
+const OF_EXPLAIN: &str = "\
+Each line names the line of the log. The last line counts what the log has.
+
+Where it says `frames 0`, the log holds neither identifier: `normalise` and `list` write
+nothing of it, with status 0.
+
+Exit status: 0 done, 2 wrong words, 3 the log is refused,
+4 a file can't be opened, or reading or writing failed, 5 out of memory,
+6 with `--strict`: it was done, and the log is not clean.
+
+Example: udsnorm explain recorded.log";
+
+const OF_MESSAGES: &str = "\
+A line has twelve fields: the number that `list` gives the item, what the message is to it
+(`request`, `answer`, `pending` for a reply that is left out, `stray`), who sent it, the lines
+of its first and its last frame, their time stamps, and its bytes. It is written as soon as
+the message is complete.
+
+Exit status: 0 done, 2 wrong words, 3 the log is refused,
+4 a file can't be opened, or reading or writing failed, 5 out of memory,
+6 with `--strict`: it was done, and the log is not clean.
+
+Example: udsnorm messages recorded.log | grep '^12 '";
+
+const OF_FIND: &str = "\
+A line is a pair of identifiers and how often the second answered a request of the first, the
+most first. The words behind the number can be handed to the other commands. It is written at
+the end of the log. Only frames that begin a message are looked at.
+
+A log in which nothing is answered has no line, and the status is 0.
+
+Exit status: 0 done, 2 wrong words, 3 the log is refused,
+4 a file can't be opened, or reading or writing failed, 5 out of memory.
+
+Example: udsnorm find recorded.log";
+
+const OF_COMPARE: &str = "\
+Prints `same`, or `different at item N`, where N is the number that `list` gives the item; with
+`--show` also the lines that `list` has for it, `left: ` and `right: ` before them, or `nothing`
+where a log has fewer items.
+
+Two logs that hold neither identifier mean the same. The last line of `udsnorm explain` says
+`frames 0` of each.
+
+Exit status: 0 the logs mean the same, 1 they differ, 2 wrong words, 3 a log is refused,
+4 a file can't be opened, or reading or writing failed, 5 out of memory,
+6 with `--strict`: a log is not clean, and nothing is printed.
+
+Example: udsnorm compare --show yesterday.log today.log";

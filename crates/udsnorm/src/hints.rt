@@ -1,0 +1,258 @@
+//! Hints: a line behind the text of a run, for the person at the terminal.
+
+ghost use Rattle.std.specs.Prelude.{◌≡◌, ◌<◌, ◌++◌, IfOk, OnOk, IfErr, map, option_map, string_bytes};
+ghost use Rattle.std.specs.List.{flat_map, list_all};
+ghost use Rattle.can_log.specs.Digits.{digit};
+ghost use Rattle.udsnorm.specs.Hints.{GaveHint, IsSubject, hint_line, is_plain, is_plain_name, is_printable, quoted, quoted_byte, subject_seen};
+ghost use Rattle.udsnorm.specs.proving.Pieces.{piece_text, pieces_text};
+
+use crate::commands::COMMANDS;
+use crate::ended::{Matter, Run, name_of};
+use crate::job::WordsFault;
+use crate::tell::tell_text;
+use itoa::Buffer;
+use std::alloc::{AllocError, Global};
+use std::fs;
+use std::rt::Files;
+use trace_io::Target;
+
+/// A piece of a hint.
+#[derive(Clone, Copy)]
+pub(crate) enum Piece<'a> {
+    /// The text as it is.
+    Words(&'static str),
+    /// The number in decimal.
+    Number(u64),
+    /// The name of a log, which has none if it is standard input.
+    Log(Option<&'a str>),
+}
+
+/// What a hint is about, and of which log.
+#[derive(Clone, Copy)]
+pub(crate) struct Subject<'a> {
+    pub(crate) matter: Matter,
+    pub(crate) log: Option<&'a str>,
+}
+
+/// Tells the hint of a run, where there is one. Where the text of the run could not be told, or memory is refused, it is left
+/// out.
+pub fn give_hint<R: AllocGlobal + Files, E: Target>(
+    rt: &R,
+    words: &[String],
+    run: &Run,
+    err: &mut E,
+) -> Result<(), AllocError>
+    ensures hint { OnOk result (E.failures err.old ≡ 0 → GaveHint E.Target run.now.asked (map string_bytes words.now) run.now.end.known err.old err.new) }
+    ensures failed { 0 < E.failures err.old → err.new ≡ err.old }
+    ensures memory { IfErr result (λ _. err.new ≡ err.old) }
+{
+    if err.failures() > 0 {
+        return Ok(());
+    }
+    match subject_of(rt, words, run) {
+        Some(subject) => {
+            let line = line(rt.alloc(), subject.matter, subject.log)?;
+            tell_text(line.as_slice(), err);
+            Ok(())
+        }
+        None => Ok(()),
+    }
+}
+
+/// What the hint of a run is about, if it has one.
+fn subject_of<'a, R: Files>(rt: &R, words: &'a [String], run: &'a Run) -> Option<Subject<'a>>
+    ensures { IsSubject run.now.asked (map string_bytes words.now) run.now.end.known (option_map subject_seen result) }
+{
+    match &run.asked {
+        Ok(plan) => match run.end.known {
+            Some(known) => Some(Subject {
+                matter: known.matter,
+                log: name_of(plan, known.which),
+            }),
+            None => None,
+        },
+        Err(WordsFault::Words(_)) => match words.first() {
+            Some(word) if names_a_file(rt, word.as_str()) => Some(Subject {
+                matter: Matter::NoCommand,
+                log: Some(word.as_str()),
+            }),
+            _ => None,
+        },
+        Err(_) => None,
+    }
+}
+
+/// Whether a word names a file, where the parser looks for a command.
+fn names_a_file<R: Files>(rt: &R, word: &str) -> bool {
+    if word.starts_with("-") || is_command(word) {
+        return false;
+    }
+    match fs::metadata(rt, word) {
+        Ok(found) => !found.is_dir(),
+        Err(_) => false,
+    }
+}
+
+/// Whether a word is a command.
+fn is_command(word: &str) -> bool {
+    COMMANDS.iter().any(|row| row.name == word)
+}
+
+/// The line of a hint about a log.
+fn line(alloc: Global, matter: Matter, log: Option<&str>) -> Result<Vec<u8>, AllocError>
+    ensures { IfOk result (λ line. line.items ≡ hint_line matter (option_map (λ t. t.now) log.entry)) }
+{
+    let log = Piece::Log(log);
+    let end = Piece::Words("\n");
+    match matter {
+        Matter::Missing => line_of(alloc, &[Piece::Words("hint: there is no file "), log, end]),
+        Matter::Folder => line_of(
+            alloc,
+            &[Piece::Words("hint: "), log, Piece::Words(" is a folder\n")],
+        ),
+        Matter::Denied => line_of(
+            alloc,
+            &[Piece::Words("hint: no permission to read "), log, end],
+        ),
+        Matter::Unopened => line_of(
+            alloc,
+            &[
+                Piece::Words("hint: "),
+                log,
+                Piece::Words(" can't be opened\n"),
+            ],
+        ),
+        Matter::Unread => line_of(
+            alloc,
+            &[
+                Piece::Words("hint: reading "),
+                log,
+                Piece::Words(" failed\n"),
+            ],
+        ),
+        Matter::Limit(limit) => line_of(
+            alloc,
+            &[
+                Piece::Words("hint: the limit is "),
+                Piece::Number(limit),
+                Piece::Words(" bytes; --limit sets it, up to 1099511627776\n"),
+            ],
+        ),
+        Matter::NoCommand => line_of(
+            alloc,
+            &[
+                Piece::Words("hint: "),
+                log,
+                Piece::Words(" is a file: udsnorm list "),
+                log,
+                end,
+            ],
+        ),
+    }
+}
+
+/// The line of these pieces, one after another.
+fn line_of(alloc: Global, pieces: &[Piece<'_>]) -> Result<Vec<u8>, AllocError>
+    ensures { IfOk result (λ line. line.items ≡ pieces_text pieces.entry.now) }
+{
+    let mut line = Vec::new(alloc);
+    'pieces: for piece in pieces {
+        push_piece(&mut line, *piece)?;
+    }
+    Ok(line)
+}
+
+/// Puts a piece at the end of the line.
+fn push_piece(line: &mut Vec<u8>, piece: Piece<'_>) -> Result<(), AllocError>
+    ensures { OnOk result (line.new.items ≡ line.old.items ++ piece_text piece.entry) }
+{
+    match piece {
+        Piece::Words(text) => line.extend_from_slice(text.as_bytes()),
+        Piece::Number(number) => line.extend_from_slice(Buffer::new().format(number).as_bytes()),
+        Piece::Log(None) => line.extend_from_slice(b"standard input"),
+        Piece::Log(Some(name)) => push_quoted(line, name.as_bytes()),
+    }
+}
+
+/// Puts a name at the end of the line, quoted where it needs that.
+fn push_quoted(line: &mut Vec<u8>, name: &[u8]) -> Result<(), AllocError>
+    ensures { OnOk result (line.new.items ≡ line.old.items ++ quoted name.now) }
+{
+    if is_plain_name(name) {
+        return line.extend_from_slice(name);
+    }
+    line.extend_from_slice(b"$'")?;
+    push_bytes(line, name)?;
+    line.extend_from_slice(b"'")
+}
+
+/// Puts the bytes of a name between its quotes.
+fn push_bytes(line: &mut Vec<u8>, name: &[u8]) -> Result<(), AllocError>
+    ensures { OnOk result (line.new.items ≡ line.old.items ++ flat_map quoted_byte name.now) }
+{
+    'bytes: for byte in name {
+        push_byte(line, *byte)?;
+    }
+    Ok(())
+}
+
+/// Puts a byte of a name between its quotes.
+fn push_byte(line: &mut Vec<u8>, byte: u8) -> Result<(), AllocError>
+    ensures { OnOk result (line.new.items ≡ line.old.items ++ quoted_byte byte) }
+{
+    if is_printable(byte) {
+        line.extend_from_slice(&[byte])
+    } else {
+        line.extend_from_slice(&[b'\\', b'x', digit(byte / 16), digit(byte % 16)])
+    }
+}
+
+/// The digit of a number below 16.
+fn digit(number: u8) -> u8
+    requires { number < 16 }
+    ensures { result ≡ digit number }
+{
+    if number < 10 {
+        b'0' + number
+    } else {
+        b'A' + (number - 10)
+    }
+}
+
+/// Whether a name needs no quotes.
+fn is_plain_name(name: &[u8]) -> bool
+    ensures { result ≡ is_plain_name name.now }
+{
+    !name.is_empty() && are_plain(name)
+}
+
+/// Whether bytes stand as they are, each of them.
+fn are_plain(bytes: &[u8]) -> bool
+    ensures { result ≡ list_all is_plain bytes.now }
+{
+    bytes.iter().all(|byte| is_plain(*byte))
+}
+
+/// Whether a byte stands as it is in a name without quotes.
+fn is_plain(byte: u8) -> bool
+    ensures { result ≡ is_plain byte }
+{
+    byte.is_ascii_alphanumeric()
+        || byte == b'.'
+        || byte == b'/'
+        || byte == b'_'
+        || byte == b'-'
+        || byte == b'+'
+        || byte == b':'
+        || byte == b'@'
+        || byte == b'%'
+        || byte == b','
+        || byte == b'='
+}
+
+/// Whether a byte stands as it is between quotes.
+fn is_printable(byte: u8) -> bool
+    ensures { result ≡ is_printable byte }
+{
+    b' ' <= byte && byte <= b'~' && byte != b'\'' && byte != b'\\'
+}

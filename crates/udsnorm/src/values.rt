@@ -1,0 +1,72 @@
+//! What the words give the options and the files of a command.
+
+ghost use Rattle.std.specs.Prelude.{◌≡◌, option_map};
+ghost use Rattle.clap.specs.Words.{first_of, found_of, rows_of};
+ghost use Rattle.udsnorm.specs.Values.{comparison_style_in, is_given, is_strict as strict_in, notation_in, numbering_in, style_in};
+
+use crate::commands::{JSON, NO_NUMBERS, SHOW, STRICT};
+use clap::ArgMatches;
+use trace_canon::{ComparisonStyle, ItemStyle, Notation, Numbering};
+
+/// How the lines of items are written.
+pub(crate) fn style(found: &ArgMatches<'_>) -> ItemStyle
+    ensures { result ≡ style_in (rows_of (found_of found.now)) }
+{
+    ItemStyle {
+        numbering: numbering(found),
+        notation: notation(found),
+    }
+}
+
+/// How a comparison is written.
+pub(crate) fn comparison_style(found: &ArgMatches<'_>) -> ComparisonStyle
+    ensures { result ≡ comparison_style_in (rows_of (found_of found.now)) }
+{
+    ComparisonStyle {
+        shows_items: is_given(found, SHOW),
+        notation: notation(found),
+    }
+}
+
+/// Whether lines are objects of JSON.
+pub(crate) fn notation(found: &ArgMatches<'_>) -> Notation
+    ensures { result ≡ notation_in (rows_of (found_of found.now)) }
+{
+    if is_given(found, JSON) {
+        Notation::Json
+    } else {
+        Notation::Text
+    }
+}
+
+/// Whether a list has numbers.
+fn numbering(found: &ArgMatches<'_>) -> Numbering
+    ensures { result ≡ numbering_in (rows_of (found_of found.now)) }
+{
+    if is_given(found, NO_NUMBERS) {
+        Numbering::Hidden
+    } else {
+        Numbering::Shown
+    }
+}
+
+/// Whether a log has to be clean.
+pub(crate) fn is_strict(found: &ArgMatches<'_>) -> bool
+    ensures { result ≡ strict_in (rows_of (found_of found.now)) }
+{
+    is_given(found, STRICT)
+}
+
+/// Whether an option without a value is given.
+pub(crate) fn is_given(found: &ArgMatches<'_>, name: &str) -> bool
+    ensures { result ≡ is_given name.now (rows_of (found_of found.now)) }
+{
+    text_of(found, name).unwrap_or("") == "true"
+}
+
+/// The text of an option or a file, if it has one.
+pub(crate) fn text_of<'a>(found: &ArgMatches<'a>, name: &str) -> Option<&'a str>
+    ensures { option_map (λ t. t.now) result ≡ first_of name.now (rows_of (found_of found.now)) }
+{
+    found.get_str(name)
+}
