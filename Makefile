@@ -7,12 +7,20 @@ PROGRAM := $(PROGRAM_CRATE)/out/udsnorm
 BUILD_LOG := $(PROGRAM_CRATE)/out/build.txt
 VERSION := $(shell cat VERSION)
 
+LIBRARY_CRATE := crates/udsnorm_c
+LIBRARY := out/lib
+LIBRARY_LOG := $(LIBRARY)/build.txt
+SONAME := libudsnorm.so.$(shell cat library/SONAME)
+LIBDIR ?= $(PREFIX)/lib
+HEADER := $(PREFIX)/include/udsnorm.h
+PKG_CONFIG := $(LIBDIR)/pkgconfig/udsnorm.pc
+
 MAN := $(PREFIX)/share/man/man1/udsnorm.1
 BASH := $(PREFIX)/share/bash-completion/completions/udsnorm
 ZSH := $(PREFIX)/share/zsh/site-functions/_udsnorm
 FISH := $(PREFIX)/share/fish/vendor_completions.d/udsnorm.fish
 
-.PHONY: build run check attack test install install-built uninstall dist deb interop bench rival
+.PHONY: build lib run check attack test install install-built install-lib install-built-lib uninstall dist deb wheel interop bench rival
 
 # Proves the program and what it stands on, and builds it. It says when it starts and when it ends on standard error; what
 # `rt` says is in a file, and shown where the build fails.
@@ -27,6 +35,14 @@ build:
 		echo "udsnorm: not built, after $$(($$(date +%s) - begun)) s" >&2; \
 		exit 1; \
 	fi
+
+# Proves the library for C, and builds it, static and shared, into out/lib.
+lib:
+	@mkdir -p $(LIBRARY)
+	@echo 'udsnorm: proving and building the library; what rt says goes to $(LIBRARY_LOG)' >&2; \
+	(cd $(LIBRARY_CRATE) && rt lib < /dev/null) > $(LIBRARY_LOG) 2>&1 || { cat $(LIBRARY_LOG) >&2; exit 1; }
+	@scripts/build-library $(LIBRARY_CRATE)/out/libudsnorm_c.a $(LIBRARY)
+	@echo 'udsnorm: built the library: $(LIBRARY)' >&2
 
 # Prints the canonical log of LOG, and nothing else, on standard output. Where the log has none, the program says why, and
 # then its exit status is told: make itself ends with 2 whatever it is, since it has no other status for a failure.
@@ -44,23 +60,32 @@ attack:
 
 # The tests of the built program and of the documents, random and hostile logs through it, memory that is ample and each growth
 # of it refused in turn, and then the gate: every proof from nothing, every test, every wrong body refused.
-test: build
+test: build lib
 	@python3 tests/command_line.py $(PROGRAM)
 	@python3 tests/program.py $(PROGRAM)
+	@python3 tests/hints.py $(PROGRAM)
 	@python3 tests/sessions.py $(PROGRAM)
 	@python3 tests/documents.py
 	@python3 tests/shipped.py $(PROGRAM)
-	@python3 tests/recipes.py $(PROGRAM)
-	@python3 tests/release.py $(PROGRAM)
+	@python3 tests/recipes.py $(PROGRAM) $(LIBRARY)
+	@python3 tests/release.py $(PROGRAM) $(LIBRARY)
 	@python3 tests/differential.py $(PROGRAM)
+	@python3 tests/library.py $(PROGRAM) $(LIBRARY)
+	@python3 tests/python_package.py $(PROGRAM) $(LIBRARY)
+	@python3 tests/many_sessions.py $(PROGRAM) $(LIBRARY)
 	@python3 tests/hostile_input.py $(PROGRAM)
 	@python3 tests/ample_memory.py $(PROGRAM)
 	@python3 tests/refused_memory.py $(PROGRAM)
 	@rt ci
 
-# The program with its manual page and its completions for bash, zsh and fish. DESTDIR is put in front of each path.
-install: build
-	@$(MAKE) --no-print-directory install-built
+# The program with its manual page and its completions for bash, zsh and fish, and the library for C. DESTDIR is put in
+# front of each path.
+install: build lib
+	@$(MAKE) --no-print-directory install-built install-built-lib
+
+# The library alone.
+install-lib: lib
+	@$(MAKE) --no-print-directory install-built-lib
 
 # The same of the program as it was built before. The manual page gets the version into its footer.
 install-built:
@@ -70,19 +95,35 @@ install-built:
 	install -D -m 644 share/completions/_udsnorm $(DESTDIR)$(ZSH)
 	install -D -m 644 share/completions/udsnorm.fish $(DESTDIR)$(FISH)
 
+# The library as it was built before, with its header and what pkg-config reads.
+install-built-lib:
+	install -D -m 644 library/udsnorm.h $(DESTDIR)$(HEADER)
+	install -D -m 644 $(LIBRARY)/libudsnorm.a $(DESTDIR)$(LIBDIR)/libudsnorm.a
+	install -D -m 644 $(LIBRARY)/libudsnorm.so.$(VERSION) $(DESTDIR)$(LIBDIR)/libudsnorm.so.$(VERSION)
+	ln -sf libudsnorm.so.$(VERSION) $(DESTDIR)$(LIBDIR)/$(SONAME)
+	ln -sf $(SONAME) $(DESTDIR)$(LIBDIR)/libudsnorm.so
+	sed 's|@PREFIX@|$(PREFIX)|; s|@LIBDIR@|$(LIBDIR)|; s|@VERSION@|$(VERSION)|' library/udsnorm.pc.in | install -D -m 644 /dev/stdin $(DESTDIR)$(PKG_CONFIG)
+
 uninstall:
 	rm -f $(DESTDIR)$(PREFIX)/bin/udsnorm $(DESTDIR)$(MAN) $(DESTDIR)$(BASH) $(DESTDIR)$(ZSH) $(DESTDIR)$(FISH)
+	rm -f $(DESTDIR)$(HEADER) $(DESTDIR)$(PKG_CONFIG) $(DESTDIR)$(LIBDIR)/libudsnorm.a
+	rm -f $(DESTDIR)$(LIBDIR)/libudsnorm.so $(DESTDIR)$(LIBDIR)/$(SONAME) $(DESTDIR)$(LIBDIR)/libudsnorm.so.$(VERSION)
 
-# A release for other machines, as a tarball and as a Debian package: each prints its path.
+# A release for other machines, as a tarball and as Debian packages: each prints its path.
 dist: build
 	@packaging/dist $(PROGRAM) out
 
-deb: build
+deb: build lib
 	@packaging/deb $(PROGRAM) out
+	@packaging/deb-library $(LIBRARY) out
 
 # What other tools make of canonical logs, and the program of theirs. No part of `test`, since it needs these tools.
 interop: build
 	@python3 tests/interop.py $(PROGRAM)
+
+# The Python package as a wheel, with the library inside: prints its path.
+wheel: lib
+	@packaging/wheel $(LIBRARY) out
 
 # How fast it is, beside other programs: a table, and no test.
 bench: build

@@ -56,16 +56,16 @@ def name_of(log):
     return f"{mix}, {foreign} % foreign"
 
 
-def run(words, log=None):
-    """Run to the end, the log as standard input; what is written to standard output is thrown away."""
-    with open(log or "/dev/null", "rb") as given:
-        subprocess.run(words, stdin=given, stdout=subprocess.DEVNULL, stderr=subprocess.DEVNULL, check=True)
+def run(words, log=None, kept="/dev/null"):
+    """Run to the end, the log as standard input; what is written to standard output is thrown away, or kept in a file."""
+    with open(log or "/dev/null", "rb") as given, open(kept, "wb") as written:
+        subprocess.run(words, stdin=given, stdout=written, stderr=subprocess.DEVNULL, check=True)
 
 
-def seconds(words, log=None):
+def seconds(words, log=None, kept="/dev/null"):
     """The processor time of one run, user and system."""
     begun = resource.getrusage(resource.RUSAGE_CHILDREN)
-    run(words, log)
+    run(words, log, kept)
     ended = resource.getrusage(resource.RUSAGE_CHILDREN)
     return ended.ru_utime - begun.ru_utime + ended.ru_stime - begun.ru_stime
 

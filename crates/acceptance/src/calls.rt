@@ -9,11 +9,23 @@ use std::io::{ErrorKind, Read, Write};
 use std::process::Abort;
 use std::test::Fail;
 use trace_canon::{
-    CompareFault, Comparison, Config, ConfigFault, Fault, Numbering, Summary, compare, explain,
-    in_memory, list, meaning_of, normalise,
+    CompareFault, Comparison, Config, ConfigFault, Fault, ItemStyle, Notation, Numbering, Summary,
+    compare, counted, explain, in_memory, list, meaning_of, normalise,
 };
 use trace_io::{FailsAfter, FailsAt, Reading, Short, Source, Target, Writing};
 use uds_exchange::Meaning;
+
+/// Lines in words, with their numbers.
+const NUMBERED: ItemStyle = ItemStyle {
+    numbering: Numbering::Shown,
+    notation: Notation::Text,
+};
+
+/// The same without them.
+const UNNUMBERED: ItemStyle = ItemStyle {
+    numbering: Numbering::Hidden,
+    notation: Notation::Text,
+};
 
 /// A vehicle identification number, read in five classic frames.
 const LOG: &str = "\
@@ -35,6 +47,11 @@ const CANONICAL: &str = "\
 
 const LISTED: &str =
     "1 exchange ReadDataByIdentifier 22F190 -> positive 62F1905742413341354335304546313233343536\n";
+
+const PLACED: &str = "\
+1 request tester lines 1 to 1 at 1700000000.000000 to 1700000000.000000 22F190
+1 answer unit lines 2 to 5 at 1700000000.012000 to 1700000000.030000 62F1905742413341354335304546313233343536
+";
 
 const EXPLAINED: &str = "lines 5 frames 5 messages 2 dropped 0 ended 0 unfinished 0 pending 0\n";
 
@@ -64,8 +81,8 @@ pub(crate) fn answer_of<R: Read + Drop, W: Write + Drop>(
     let (mut reader, mut writer) = (Reading::new(reader), Writing::new(writer));
     let answer = match call {
         Call::Normalise => normalise(alloc, &config, &mut reader, &mut writer),
-        Call::List => list(alloc, &config, Numbering::Shown, &mut reader, &mut writer),
-        Call::Explain => explain(alloc, &config, &mut reader, &mut writer),
+        Call::List => list(alloc, &config, NUMBERED, &mut reader, &mut writer),
+        Call::Explain => explain(alloc, &config, Notation::Text, &mut reader, &mut writer),
     };
     Ok((answer, writer))
 }
@@ -178,7 +195,10 @@ pub(crate) fn compared<A: Read + Drop, B: Read + Drop>(
     right: B,
 ) -> Result<(Result<Comparison, CompareFault>, u64), ConfigFault> {
     let (mut left, mut right) = (Reading::new(left), Reading::new(right));
-    let found = compare(alloc, &sides()?, &mut left, &mut right);
+    let found = match compare(alloc, &sides()?, &mut left, &mut right) {
+        Ok(compared) => Ok(compared.comparison),
+        Err(fault) => Err(fault),
+    };
     Ok((found, right.reads()))
 }
 
@@ -200,9 +220,11 @@ fn a_session_in_memory_goes_through_each_call(rt: HostRuntime) -> Result<(), Fai
     let log = LOG.as_bytes();
     let text = in_memory::canonical_log(alloc, &config, log)?;
     assert!(rt; text.as_slice() == CANONICAL.as_bytes());
-    let text = in_memory::item_list(alloc, &config, Numbering::Shown, log)?;
+    let text = in_memory::item_list(alloc, &config, NUMBERED, log)?;
     assert!(rt; text.as_slice() == LISTED.as_bytes());
-    let text = in_memory::explanation(alloc, &config, log)?;
+    let text = in_memory::message_lines(alloc, &config, Notation::Text, log)?;
+    assert!(rt; text.as_slice() == PLACED.as_bytes());
+    let text = in_memory::explanation(alloc, &config, Notation::Text, log)?;
     assert!(rt; text.as_slice() == EXPLAINED.as_bytes());
     let items = items_text(alloc, &in_memory::meaning(alloc, &config, log)?)?;
     assert_text(&rt, "session", &items, ITEM);
@@ -215,6 +237,21 @@ fn a_session_in_memory_goes_through_each_call(rt: HostRuntime) -> Result<(), Fai
             column: 10
         })
     );
+    Ok(())
+}
+
+#[test]
+fn a_session_in_memory_has_its_counts(rt: HostRuntime) -> Result<(), Fail> {
+    let (alloc, config) = (rt.alloc(), sides()?);
+    let log = LOG.as_bytes();
+    let found = counted::canonical_log(alloc, &config, log)?;
+    assert!(rt; found.text.as_slice() == CANONICAL.as_bytes() && found.summary.messages == 2);
+    let found = counted::item_list(alloc, &config, UNNUMBERED, log)?;
+    assert!(rt; found.summary.frames == 5);
+    let found = counted::message_lines(alloc, &config, Notation::Text, log)?;
+    assert!(rt; found.text.as_slice() == PLACED.as_bytes() && found.summary.messages == 2);
+    let found = counted::explanation(alloc, &config, Notation::Text, log)?;
+    assert!(rt; found.text.as_slice() == EXPLAINED.as_bytes() && found.summary.lines == 5);
     Ok(())
 }
 

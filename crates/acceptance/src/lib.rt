@@ -2,7 +2,7 @@
 //!
 //! Each crate below is proved by itself, without a test: the gate would prove it again with them. That its definitions say
 //! what was meant is shown here, layer by layer, by worked values: `log_lines`, `device_calls`, `frame_layouts`,
-//! `frame_verdicts`, `message_frames`, `message_kinds`, `pairings`.
+//! `frame_verdicts`, `message_frames`, `message_kinds`, `pairings`, `credited_answers`.
 //!
 //! `message_frames` also tries the lengths at which a message has a frame more, and `sizes` those at which a buffer may grow.
 //!
@@ -14,6 +14,8 @@
 mod ample_memory;
 #[cfg(test)]
 mod calls;
+#[cfg(test)]
+mod credited_answers;
 #[cfg(test)]
 mod device_calls;
 #[cfg(test)]

@@ -7,7 +7,7 @@ use isotp_receive::{Pair, Verdict};
 use std::alloc::Global;
 use std::io::{Error, ErrorKind, Result as IoResult, Write};
 use std::test::Fail;
-use trace_canon::{CompareFault, Comparison, Config, Fault, Numbering};
+use trace_canon::{CompareFault, Comparison, Config, Fault, ItemStyle, Notation, Numbering};
 use trace_io::{Reading, Writing};
 use uds_exchange::{Item, Meaning, MessageSink, OrderFault, Orderer, Pairing};
 
@@ -17,6 +17,12 @@ enum Made {
     Once,
     Again,
 }
+
+/// Lines in words, with their numbers.
+const NUMBERED: ItemStyle = ItemStyle {
+    numbering: Numbering::Shown,
+    notation: Notation::Text,
+};
 
 const TRIES: [Made; 2] = [Made::Once, Made::Again];
 
@@ -184,7 +190,7 @@ fn listed(alloc: Global, session: Session) -> Result<Made, Fail> {
     written!(
         trace_canon::list,
         alloc,
-        [Numbering::Shown],
+        [NUMBERED],
         session.log,
         session.listed
     )
@@ -202,9 +208,27 @@ fn explained(alloc: Global, session: Session) -> Result<Made, Fail> {
     written!(
         trace_canon::explain,
         alloc,
-        [],
+        [Notation::Text],
         session.log,
         session.explained
+    )
+}
+
+#[test]
+fn find(rt: HostRuntime) -> Result<(), Fail> {
+    for session in SESSIONS {
+        tell(found(rt.alloc(), session)?, session)?;
+    }
+    Ok(())
+}
+
+fn found(alloc: Global, session: Session) -> Result<Made, Fail> {
+    written!(
+        trace_canon::find,
+        alloc,
+        [Notation::Text],
+        session.log,
+        session.found
     )
 }
 
@@ -223,7 +247,7 @@ fn compared(alloc: Global, session: Session) -> Result<Made, Fail> {
         let mut canonical = Reading::new(session.canonical);
         match trace_canon::compare(alloc, &config()?, &mut log, &mut canonical) {
             Err(CompareFault::Left(Fault::Memory) | CompareFault::Right(Fault::Memory)) => {}
-            Ok(Comparison::Same) => return Ok(made),
+            Ok(compared) if compared.comparison == Comparison::Same => return Ok(made),
             _ => Err("not the same")?,
         }
     }

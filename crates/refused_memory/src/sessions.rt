@@ -19,6 +19,7 @@ pub(crate) struct Session {
     pub(crate) canonical: &'static [u8],
     pub(crate) listed: &'static [u8],
     pub(crate) explained: &'static [u8],
+    pub(crate) found: &'static [u8],
 }
 
 pub(crate) const SESSIONS: [Session; 3] = [VIN, STRAY, BOTH];
@@ -47,6 +48,7 @@ const VIN: Session = Session {
     (0000000000.004000) can0 7E8#2246313233343536\n",
     listed: b"1 exchange ReadDataByIdentifier 22F190 -> positive 62F1905742413341354335304546313233343536\n",
     explained: b"lines 5 frames 5 messages 2 dropped 0 ended 0 unfinished 0 pending 0\n",
+    found: b"1 --tester 7E0 --unit 7E8\n",
 };
 
 const VIN_MESSAGES: [Message; 2] = [
@@ -81,6 +83,7 @@ const STRAY: Session = Session {
     listed: b"1 exchange ReadDataByIdentifier 22F190 -> positive 62F19041\n\
     2 stray tester 3E80\n",
     explained: b"lines 3 frames 3 messages 3 dropped 0 ended 0 unfinished 0 pending 0\n",
+    found: b"1 --tester 7E0 --unit 7E8\n",
 };
 
 /// Messages of several frames of both sides at once: 10 bytes of the tester, 100 of the unit.
@@ -124,6 +127,7 @@ const BOTH: Session = Session {
     listed: b"1 stray unit 000102030405060708090A0B0C0D0E0F101112131415161718191A1B1C1D1E1F202122232425262728292A2B2C2D2E2F303132333435363738393A3B3C3D3E3F404142434445464748494A4B4C4D4E4F505152535455565758595A5B5C5D5E5F60616263\n\
     2 exchange WriteDataByIdentifier 2EF19041424344454647 -> unanswered\n",
     explained: b"lines 6 frames 6 messages 2 dropped 0 ended 0 unfinished 0 pending 0\n",
+    found: b"",
 };
 
 const BOTH_MESSAGES: [Message; 2] = [(Unit, HUNDRED), (Tester, b"\x2E\xF1\x90ABCDEFG")];

@@ -1,0 +1,39 @@
+-- How numbers and texts cross from C and back.
+use Rattle.std.specs.Prelude.{ℕ, ◌-◌, ◌==◌, List, ◌++◌, length, drop, nat_le, Option, Some, None, if◌then◌else◌}
+use Rattle.can_log.specs.declared.frame.Id.{Id}
+use Rattle.can_log.specs.declared.frame.Id.TheVariants as id
+use Rattle.trace_canon.specs.declared.item_lines.ItemStyle.{ItemStyle}
+use Rattle.trace_canon.specs.declared.item_lines.Numbering.{Numbering}
+use Rattle.trace_canon.specs.declared.item_lines.Numbering.TheVariants.{Shown, Hidden}
+use Rattle.trace_canon.specs.declared.notation.Notation.{Notation}
+use Rattle.trace_canon.specs.declared.notation.Notation.TheVariants.{Text, Json}
+
+-- An identifier as Linux's `canid_t` has it: with the highest bit an extended one. A number of more than 16 bits
+-- without that bit is taken for 0xFFFF, which is no base identifier either.
+abbrev pub identifier_of : ℕ → Id
+identifier_of number =
+    if nat_le 0x80000000 number then id.Ext (number - 0x80000000) else if nat_le number 0xFFFF then id.Std number else id.Std 0xFFFF
+
+abbrev pub written : Notation → Numbering → ItemStyle
+written notation numbering = record { numbering = numbering; notation = notation }
+
+-- the style of a list: lines in words or objects of JSON, with the numbers of the items or without, and no other
+abbrev pub list_style : ℕ → Option ItemStyle
+list_style style =
+    if style == 0 then Some (written Text Shown)
+    else if style == 1 then Some (written Text Hidden)
+    else if style == 2 then Some (written Json Shown)
+    else if style == 3 then Some (written Json Hidden)
+    else None
+
+-- the notation of another text: words or objects of JSON, and no other
+abbrev pub notation_of : ℕ → Option Notation
+notation_of style = if style == 0 then Some Text else if style == 2 then Some Json else None
+
+-- A text at the front of a buffer, where it has room, and the buffer as it was, where it has not.
+abbrev pub put_at_front : List ℕ → List ℕ → List ℕ
+put_at_front text old = if nat_le (length text) (length old) then text ++ drop (length text) old else old
+
+-- the version: its three numbers, a byte for each
+abbrev pub version : ℕ
+version = 0x000100

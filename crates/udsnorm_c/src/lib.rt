@@ -1,0 +1,176 @@
+//! The canonical form for C: logs in memory, and texts about them in memory of the caller.
+//!
+//! A call is handed the identifiers of the two sides, as Linux's `canid_t` has them, the limit of a log and of its
+//! canonical log in bytes, a log, and room for a text. What came of it stands in the answer, and its status is the
+//! result too. Where the room is too small, nothing is put there, and the answer says how much is wanted. `udsnorm.h`
+//! has the calls for C.
+//!
+//! A text is gathered in memory that the call takes and gives back. Nothing else is kept, so calls may run at once.
+#![tactic(auto)]
+
+ghost use Rattle.std.specs.Prelude.{◌≡◌};
+ghost use Rattle.isotp_receive.specs.declared.TheConstants.{MESSAGE_LIMIT};
+ghost use Rattle.udsnorm_c.specs.Answered.{CompareAnswers, ExplainAnswers, FindAnswers, ListAnswers, MessagesAnswers, NormaliseAnswers};
+ghost use Rattle.udsnorm_c.specs.Spelled.{version};
+
+mod answer;
+mod room;
+mod sides;
+
+use crate::answer::{comparison_answer, no_style, refusal_of};
+use crate::room::put;
+use crate::sides::{USUAL_TESTER, USUAL_UNIT, config_of, notation_of, style_of};
+pub use answer::UdsnormAnswer;
+use std::alloc::Global;
+use trace_canon::{counted, in_memory};
+
+/// The numbers of the version, a byte for each: that of `VERSION` at the top.
+const VERSION: u32 = 0x00_01_00;
+
+/// The canonical log of a log.
+#[unsafe(no_mangle)]
+pub extern "C" fn udsnorm_normalise(
+    alloc: Global,
+    tester: u32,
+    unit: u32,
+    limit: u64,
+    log: &[u8],
+    out: &mut [u8],
+    answer: &mut UdsnormAnswer,
+) -> u32
+    ensures answers { NormaliseAnswers MESSAGE_LIMIT tester unit limit log.now out.old out.new answer.new }
+    ensures status { result ≡ answer.new.status }
+{
+    *answer = match config_of(tester, unit, limit) {
+        Ok(config) => put(counted::canonical_log(alloc, &config, log), out),
+        Err(fault) => refusal_of(fault),
+    };
+    answer.status
+}
+
+/// The list of the items of a log, in this style.
+#[unsafe(no_mangle)]
+pub extern "C" fn udsnorm_list(
+    alloc: Global,
+    tester: u32,
+    unit: u32,
+    limit: u64,
+    style: u32,
+    log: &[u8],
+    out: &mut [u8],
+    answer: &mut UdsnormAnswer,
+) -> u32
+    ensures answers { ListAnswers MESSAGE_LIMIT tester unit limit style log.now out.old out.new answer.new }
+    ensures status { result ≡ answer.new.status }
+{
+    *answer = match config_of(tester, unit, limit) {
+        Ok(config) => match style_of(style) {
+            Some(style) => put(counted::item_list(alloc, &config, style, log), out),
+            None => no_style(),
+        },
+        Err(fault) => refusal_of(fault),
+    };
+    answer.status
+}
+
+/// A line for each message of a log, with its place, in this style.
+#[unsafe(no_mangle)]
+pub extern "C" fn udsnorm_messages(
+    alloc: Global,
+    tester: u32,
+    unit: u32,
+    limit: u64,
+    style: u32,
+    log: &[u8],
+    out: &mut [u8],
+    answer: &mut UdsnormAnswer,
+) -> u32
+    ensures answers { MessagesAnswers MESSAGE_LIMIT tester unit limit style log.now out.old out.new answer.new }
+    ensures status { result ≡ answer.new.status }
+{
+    *answer = match config_of(tester, unit, limit) {
+        Ok(config) => match notation_of(style) {
+            Some(notation) => put(counted::message_lines(alloc, &config, notation, log), out),
+            None => no_style(),
+        },
+        Err(fault) => refusal_of(fault),
+    };
+    answer.status
+}
+
+/// What each frame of a log did, in this style.
+#[unsafe(no_mangle)]
+pub extern "C" fn udsnorm_explain(
+    alloc: Global,
+    tester: u32,
+    unit: u32,
+    limit: u64,
+    style: u32,
+    log: &[u8],
+    out: &mut [u8],
+    answer: &mut UdsnormAnswer,
+) -> u32
+    ensures answers { ExplainAnswers MESSAGE_LIMIT tester unit limit style log.now out.old out.new answer.new }
+    ensures status { result ≡ answer.new.status }
+{
+    *answer = match config_of(tester, unit, limit) {
+        Ok(config) => match notation_of(style) {
+            Some(notation) => put(counted::explanation(alloc, &config, notation, log), out),
+            None => no_style(),
+        },
+        Err(fault) => refusal_of(fault),
+    };
+    answer.status
+}
+
+/// A line for each pair of identifiers of which one answered the other, in this style. No identifier is asked for.
+#[unsafe(no_mangle)]
+pub extern "C" fn udsnorm_find(
+    alloc: Global,
+    limit: u64,
+    style: u32,
+    log: &[u8],
+    out: &mut [u8],
+    answer: &mut UdsnormAnswer,
+) -> u32
+    ensures answers { FindAnswers MESSAGE_LIMIT limit style log.now out.old out.new answer.new }
+    ensures status { result ≡ answer.new.status }
+{
+    *answer = match config_of(USUAL_TESTER, USUAL_UNIT, limit) {
+        Ok(config) => match notation_of(style) {
+            Some(notation) => put(counted::pair_lines(alloc, &config, notation, log), out),
+            None => no_style(),
+        },
+        Err(fault) => refusal_of(fault),
+    };
+    answer.status
+}
+
+/// What two logs are to each other.
+#[unsafe(no_mangle)]
+pub extern "C" fn udsnorm_compare(
+    alloc: Global,
+    tester: u32,
+    unit: u32,
+    limit: u64,
+    left: &[u8],
+    right: &[u8],
+    answer: &mut UdsnormAnswer,
+) -> u32
+    ensures answers { CompareAnswers MESSAGE_LIMIT tester unit limit left.now right.now answer.new }
+    ensures status { result ≡ answer.new.status }
+{
+    *answer = match config_of(tester, unit, limit) {
+        Ok(config) => comparison_answer(in_memory::comparison(alloc, &config, left, right)),
+        Err(fault) => refusal_of(fault),
+    };
+    answer.status
+}
+
+/// The version of the library.
+#[unsafe(no_mangle)]
+pub extern "C" fn udsnorm_version() -> u32
+    ensures { result ≡ version }
+{
+    VERSION
+}

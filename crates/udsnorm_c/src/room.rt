@@ -1,0 +1,30 @@
+//! Memory of the caller, into which a text is put.
+ghost use Rattle.std.specs.Prelude.{◌≡◌};
+ghost use Rattle.udsnorm_c.specs.Answered.{IsPut};
+ghost use Rattle.udsnorm_c.specs.Spelled.{put_at_front};
+
+use crate::answer::{UdsnormAnswer, fault_answer, text_answer};
+use trace_canon::Fault;
+use trace_canon::counted::CountedText;
+
+/// Puts what was told of a log at the front of a buffer, where it has room, and answers what is known of it.
+pub(crate) fn put(told: Result<CountedText, Fault>, out: &mut [u8]) -> UdsnormAnswer
+    ensures { IsPut told out.old out.new result }
+{
+    match told {
+        Ok(CountedText { text, summary }) => {
+            put_front(text.as_slice(), out);
+            text_answer(text.len(), summary, out.len())
+        }
+        Err(fault) => fault_answer(fault),
+    }
+}
+
+/// Puts a text at the front of a buffer, where it has room.
+fn put_front(text: &[u8], out: &mut [u8])
+    ensures { out.new ≡ put_at_front text.now out.old }
+{
+    if text.len() <= out.len() {
+        out[..text.len()].copy_from_slice(text);
+    }
+}

@@ -1,0 +1,141 @@
+/* The canonical form of recorded UDS sessions (ISO 14229 over ISO-TP, ISO 15765-2), from candump logs, as a library.
+ *
+ * A call is handed a log of `candump -l` or `-L` in memory, and puts a text about it into memory of the caller. It
+ * reads no file, prints nothing, keeps nothing from call to call and has no global state: any number of threads may
+ * call at once.
+ * What the texts are is said in docs/formats.md, what is proved of the calls in docs/library.md.
+ *
+ * Written by hand. tests/library.py compares it with the crate udsnorm_c.
+ */
+#ifndef UDSNORM_H
+#define UDSNORM_H
+
+#include <stddef.h>
+#include <stdint.h>
+
+#ifdef __cplusplus
+extern "C" {
+#endif
+
+/* The version of this header. udsnorm_version() answers that of the library that is linked. */
+#define UDSNORM_VERSION_MAJOR 0
+#define UDSNORM_VERSION_MINOR 1
+#define UDSNORM_VERSION_PATCH 0
+#define UDSNORM_VERSION ((UDSNORM_VERSION_MAJOR << 16) | (UDSNORM_VERSION_MINOR << 8) | UDSNORM_VERSION_PATCH)
+
+/* The identifiers and the limit that the program has where none are given: tester 7E0, unit 7E8, 2^30 bytes. (For
+ * `messages`, which keeps less, the program has the largest limit, 2^40.) */
+#define UDSNORM_TESTER UINT32_C(0x7E0)
+#define UDSNORM_UNIT UINT32_C(0x7E8)
+#define UDSNORM_LIMIT (UINT64_C(1) << 30)
+
+/* The flag of an identifier of 29 bits, as in canid_t of <linux/can.h>. */
+#define UDSNORM_EXTENDED UINT32_C(0x80000000)
+
+/* What a call answers. Further numbers may come with a later version. */
+enum udsnorm_status {
+    UDSNORM_DONE = 0,         /* the text is in `out`; of udsnorm_compare: the logs were compared */
+    UDSNORM_ID_RANGE = 1,     /* an identifier above 7FF, or with UDSNORM_EXTENDED above 1FFFFFFF */
+    UDSNORM_SAME_ID = 2,      /* the tester and the unit have one identifier */
+    UDSNORM_LIMIT_RANGE = 3,  /* the limit is 0 or above 2^40 */
+    UDSNORM_BAD_LINE = 4,     /* no log: the refused place is in `line` and `column` */
+    UDSNORM_OVERSIZE = 5,     /* the frame in `line` announces a message of `announced` bytes; 1,048,575 is the most */
+    UDSNORM_LOG_LIMIT = 6,    /* the log has more bytes than the limit */
+    UDSNORM_OUTPUT_LIMIT = 7, /* its canonical log has */
+    UDSNORM_MEMORY = 8,       /* malloc or realloc answered a null pointer */
+    UDSNORM_ROOM = 9,         /* the text has `length` bytes, more than there is room for */
+    UDSNORM_STYLE = 10        /* there is no such style of this text */
+};
+
+/* What a `style` may be. */
+enum udsnorm_style {
+    UDSNORM_TEXT = 0,           /* as the program writes it */
+    UDSNORM_NO_NUMBERS = 1,     /* of udsnorm_list: the lines without the numbers of their items */
+    UDSNORM_JSON = 2,           /* an object of JSON in each line */
+    UDSNORM_JSON_NO_NUMBERS = 3 /* of udsnorm_list: the same without the numbers */
+};
+
+/* What came of a call. A call writes every field; those that say nothing of its status are 0. */
+struct udsnorm_answer {
+    uint32_t status;    /* one of enum udsnorm_status */
+    uint32_t column;    /* UDSNORM_BAD_LINE: the byte in its line, from 1 */
+    uint64_t line;      /* UDSNORM_BAD_LINE, UDSNORM_OVERSIZE: the line of the log, from 1 */
+    uint64_t announced; /* UDSNORM_OVERSIZE: bytes */
+    uint64_t length;    /* UDSNORM_DONE, UDSNORM_ROOM: the bytes of the text */
+    uint64_t item;      /* of udsnorm_compare, UDSNORM_DONE: the first item that differs, from 1; 0: none does */
+    uint32_t side;      /* of udsnorm_compare, any fault of a log: 1 the left one, 2 the right one */
+    uint32_t reserved;  /* 0 */
+    /* UDSNORM_DONE, UDSNORM_ROOM, but of udsnorm_compare: the counts of the log. */
+    uint64_t lines;      /* its lines, blank and foreign ones included */
+    uint64_t frames;     /* the frames with the identifier of the tester or the unit */
+    uint64_t messages;   /* the messages that were received whole */
+    uint64_t dropped;    /* those of `frames` that were dropped */
+    uint64_t ended;      /* the receptions that ended without a message before the log did */
+    uint64_t unfinished; /* the receptions that were open at the end: 0 to 2 */
+    uint64_t pending;    /* the responses that only announce a later one, which the canonical log leaves out */
+};
+
+/* All calls but udsnorm_version take these, but that udsnorm_find has no tester and no unit:
+ *
+ *   tester, unit   the identifiers of the frames that the tester and the unit send, as canid_t has them: 0 to 7FF, or
+ *                  UDSNORM_EXTENDED with 0 to 1FFFFFFF. They have to be different.
+ *   limit          the most bytes of a log, and of its canonical log: 1 to 2^40. A call takes memory for what a log
+ *                  means, which this bounds.
+ *   log, length    the bytes of a log: that many may be read at `log`, and nobody writes them during the call. They
+ *                  stay the caller's. With a length of 0 any pointer is allowed, also a null pointer.
+ *   answer         where the answer goes. It is not null, and nothing else uses it during the call.
+ *
+ * and all but udsnorm_compare:
+ *
+ *   out, room      memory of the caller for the text: that many bytes may be written at `out`, and nothing else uses
+ *                  them during the call. They lie apart from the log and the answer. With a room of 0 any pointer is
+ *                  allowed.
+ *
+ * They return the status. With UDSNORM_DONE the text is the first answer->length bytes of `out`, with no 0 behind it,
+ * and the bytes behind it are as they were. With every other status all of `out` is as it was. Where the room was too
+ * small, the status is UDSNORM_ROOM, and answer->length says how much is wanted. A room of 4 * length + 512 bytes is
+ * enough for each text, and one of 8 * length + 512 for objects of JSON, of logs with up to 10^11 lines.
+ *
+ * A length is at most PTRDIFF_MAX. No call is made from a signal handler, or from the forked child of a process with
+ * threads. Memory comes from malloc and realloc and goes back to free, which have to be of one allocator.
+ */
+
+/* The canonical log. Two logs have the same meaning exactly where their canonical logs are equal byte for byte.
+ * Every status but UDSNORM_STYLE. */
+uint32_t udsnorm_normalise(uint32_t tester, uint32_t unit, uint64_t limit, const uint8_t *log, size_t length,
+                           uint8_t *out, size_t room, struct udsnorm_answer *answer);
+
+/* A line for each exchange and each stray message. `style` is one of enum udsnorm_style. Every status. */
+uint32_t udsnorm_list(uint32_t tester, uint32_t unit, uint64_t limit, uint32_t style, const uint8_t *log, size_t length,
+                      uint8_t *out, size_t room, struct udsnorm_answer *answer);
+
+/* A line for each message that was received whole, with its lines and time stamps. `style` is UDSNORM_TEXT or UDSNORM_JSON.
+ * Every status but UDSNORM_OVERSIZE and UDSNORM_OUTPUT_LIMIT. */
+uint32_t udsnorm_messages(uint32_t tester, uint32_t unit, uint64_t limit, uint32_t style, const uint8_t *log,
+                          size_t length, uint8_t *out, size_t room, struct udsnorm_answer *answer);
+
+/* What was dropped and why, and the counts. `style` is UDSNORM_TEXT or UDSNORM_JSON.
+ * Every status but UDSNORM_OVERSIZE and UDSNORM_OUTPUT_LIMIT. */
+uint32_t udsnorm_explain(uint32_t tester, uint32_t unit, uint64_t limit, uint32_t style, const uint8_t *log,
+                         size_t length, uint8_t *out, size_t room, struct udsnorm_answer *answer);
+
+/* A line for each pair of identifiers of which one answered the other, whatever they are: it takes no tester and no unit.
+ * `style` is UDSNORM_TEXT or UDSNORM_JSON. Of the counts `lines` alone is told.
+ * Every status but UDSNORM_ID_RANGE, UDSNORM_SAME_ID, UDSNORM_OVERSIZE and UDSNORM_OUTPUT_LIMIT. */
+uint32_t udsnorm_find(uint64_t limit, uint32_t style, const uint8_t *log, size_t length, uint8_t *out, size_t room,
+                      struct udsnorm_answer *answer);
+
+/* Whether two logs have the same meaning: answer->item is 0 where they do, else the number of the first item that
+ * differs, as udsnorm_list numbers it. The right log is read only where the left one is accepted. The two may lie in
+ * the same bytes. Every status but UDSNORM_ROOM and UDSNORM_STYLE. */
+uint32_t udsnorm_compare(uint32_t tester, uint32_t unit, uint64_t limit, const uint8_t *left, size_t left_length,
+                         const uint8_t *right, size_t right_length, struct udsnorm_answer *answer);
+
+/* The version of the library, as UDSNORM_VERSION is made. */
+uint32_t udsnorm_version(void);
+
+#ifdef __cplusplus
+}
+#endif
+
+#endif

@@ -1,0 +1,82 @@
+"""The header of the library beside the crate that it stands for: statuses, the answer, the calls and the version.
+
+What C has to see of the crate is made of its source: the statuses, the fields of the answer with their types and, by
+the rules of C, their places, and the types of the calls. A compiler then takes that beside the header, and refuses what
+differs.
+"""
+
+import re
+from pathlib import Path
+
+TOP = Path(__file__).resolve().parent.parent
+CRATE = TOP / "crates" / "udsnorm_c" / "src"
+HEADER = TOP / "library" / "udsnorm.h"
+
+# How C writes the type of a parameter. A slice is a pointer and a length; the allocator takes no bytes.
+IN_C = {
+    "Global": [],
+    "u32": ["uint32_t"],
+    "u64": ["uint64_t"],
+    "&[u8]": ["const uint8_t *", "size_t"],
+    "&mut [u8]": ["uint8_t *", "size_t"],
+    "&mut UdsnormAnswer": ["struct udsnorm_answer *"],
+}
+SIZES = {"u32": 4, "u64": 8}
+
+
+def statuses():
+    """The names and numbers of the statuses in the crate."""
+    return {name: int(number) for name, number in re.findall(r"^const (\w+): u32 = (\d+);$", (CRATE / "answer.rt").read_text(), re.M)}
+
+
+def fields():
+    """The fields of the answer in the crate: name and type, in order."""
+    body = re.search(r"pub struct UdsnormAnswer \{\n(.*?)^\}", (CRATE / "answer.rt").read_text(), re.M | re.S)[1]
+    return re.findall(r"^    pub (\w+): (\w+),$", body, re.M)
+
+
+def calls():
+    """The calls of the crate: their names, and the types of their parameters as C writes them."""
+    source = (CRATE / "lib.rt").read_text()
+    for name, parameters in re.findall(r'#\[unsafe\(no_mangle\)\]\npub extern "C" fn (\w+)\(([^)]*)\) -> u32\b', source):
+        types = [part.split(":", 1)[1].strip() for part in parameters.split(",") if ":" in part]
+        yield name, [c for of in types for c in IN_C[of]]
+
+
+def version():
+    major, minor, patch = map(int, (TOP / "VERSION").read_text().split("."))
+    return major << 16 | minor << 8 | patch
+
+
+def declared():
+    """The calls that the header declares."""
+    return set(re.findall(r"^uint32_t (udsnorm_\w+)\(", HEADER.read_text(), re.M))
+
+
+def beside():
+    """A C file that is compiled only where the header says what the crate says."""
+    lines = ["#include <stddef.h>", '#include "udsnorm.h"', "#define SAME(name, a, b) typedef char name[(a) == (b) ? 1 : -1]"]
+    lines += [f"SAME(status_{name.lower()}, UDSNORM_{name}, {number});" for name, number in statuses().items()]
+    place = 0
+    for name, of in fields():
+        lines.append(f"SAME(place_{name}, offsetof(struct udsnorm_answer, {name}), {place});")
+        lines.append(f"SAME(size_{name}, sizeof(((struct udsnorm_answer *)0)->{name}), {SIZES[of]});")
+        if place % SIZES[of]:
+            raise ValueError(f"{name} has a gap before it")
+        place += SIZES[of]
+    lines.append(f"SAME(size_of_the_answer, sizeof(struct udsnorm_answer), {place});")
+    lines.append(f"SAME(version, UDSNORM_VERSION, {version()});")
+    for name, types in calls():
+        pointer = f"uint32_t (*const at_{name})({', '.join(types) or 'void'})"
+        lines += [f"extern {pointer};", f"{pointer} = {name};"]
+    return "\n".join(lines) + "\n"
+
+
+def differences():
+    """What no compiler sees: calls of one side alone, values of the header that the crate has not, and the version."""
+    ours = {name for name, _ in calls()}
+    wrong = [f"{name} stands on one side" for name in sorted(ours ^ declared())]
+    names = set(re.findall(r"^    UDSNORM_(\w+) = \d+,? ", re.search(r"enum udsnorm_status \{(.*?)\};", HEADER.read_text(), re.S)[1], re.M))
+    wrong += [f"the status {name} stands on one side" for name in sorted(names ^ set(statuses()))]
+    number = int(re.search(r"^const VERSION: u32 = (\w+);$", (CRATE / "lib.rt").read_text(), re.M)[1], 16)
+    return wrong + ([] if number == version() else [f"the version of the crate is {number:#x}"])
