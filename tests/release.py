@@ -1,9 +1,9 @@
 #!/usr/bin/env python3
-"""Tests of what a release is made of: the version, the tarball and the Debian package, each installed somewhere, run and
-removed again. The package is tried only where dpkg-deb and strip are installed, by dpkg itself only for root, and by Debian's
-checker only where lintian is installed.
+"""Tests of what a release is made of: the version, the tarball and the Debian packages, each installed somewhere, run and
+removed again. The packages are tried only where dpkg-deb and strip are installed, by dpkg itself only for root, and by
+Debian's checker only where lintian is installed. Those of the library, only where its folder is given.
 
-    tests/release.py crates/udsnorm/out/udsnorm
+    tests/release.py crates/udsnorm/out/udsnorm [out/lib]
 
 Prints a line for each case and ends with `N passed, M failed`; its status is 1 where a case failed.
 """
@@ -40,6 +40,24 @@ PACKAGED = {
     "usr/share/doc/udsnorm/changelog.gz",
     "usr/share/doc/udsnorm/changelog.Debian.gz",
 }
+
+# The folder of libraries, and what each package of the library has beside its papers.
+LIBRARIES = "usr/lib/x86_64-linux-gnu"
+NUMBER = (TOP / "library" / "SONAME").read_text().strip()
+PYTHON = "usr/lib/python3/dist-packages"
+OF_THE_LIBRARY = {
+    f"libudsnorm{NUMBER}": {f"{LIBRARIES}/libudsnorm.so.{NUMBER}", f"{LIBRARIES}/libudsnorm.so.{VERSION}"},
+    "libudsnorm-dev": {
+        "usr/include/udsnorm.h",
+        f"{LIBRARIES}/libudsnorm.a",
+        f"{LIBRARIES}/libudsnorm.so",
+        f"{LIBRARIES}/pkgconfig/udsnorm.pc",
+        "usr/share/doc/libudsnorm-dev/examples/normalise.c",
+        "usr/share/doc/libudsnorm-dev/examples/compare.cpp",
+    },
+    "python3-udsnorm": {f"{PYTHON}/udsnorm/{name}" for name in ("__init__.py", "_library.py", "_lines.py", "py.typed")},
+}
+PAPERS = ("copyright", "changelog.gz", "changelog.Debian.gz")
 
 
 def output(*words, **options):
@@ -107,10 +125,6 @@ def tarball(cases, folder):
 
 
 def package(cases, folder):
-    missing = [tool for tool in ("dpkg-deb", "strip") if not shutil.which(tool)]
-    if missing:
-        print(f"skipped the Debian package: no {' and no '.join(missing)} is installed", flush=True)
-        return
     file = is_repeatable(cases, "deb", cases.program, folder)
     fields = output("dpkg-deb", "--field", file, "Package", "Version", "Depends")
     want = rf"Package: udsnorm\nVersion: {re.escape(VERSION)}-0upstream1\nDepends: libc6 \(>= \d+\.\d+\)\n"
@@ -119,45 +133,84 @@ def package(cases, folder):
     output("dpkg-deb", "--extract", file, root)
     cases.report("the files of the package", difference(files_below(root), PACKAGED))
     runs(cases, "its program", root / "usr" / "bin" / "udsnorm")
-    checked(cases, file)
-    if os.geteuid() == 0:
-        installed(cases, file, folder / "root")
-    else:
-        print("skipped the installation of the package: only root may", flush=True)
+    checked(cases, [file])
+    installed(cases, [file], PACKAGED, folder / "root", lambda root: runs(cases, "the installed program", root / "usr" / "bin" / "udsnorm"))
 
 
-def checked(cases, file):
-    """Debian's own checker has no error and no warning for the package."""
+def packages_of_the_library(cases, library, folder):
+    """Each has its files, dpkg installs all of them, and there the examples and the Python package answer a sample log."""
+    first, again = (output(TOP / "packaging" / "deb-library", library, folder / name).split() for name in ("one", "other"))
+    same = [Path(one).read_bytes() == Path(other).read_bytes() for one, other in zip(first, again)]
+    cases.report("the packages of the library made twice are the same", [] if same == [True] * 3 else [str(same)])
+    everything = set()
+    for file, (name, files) in zip(first, OF_THE_LIBRARY.items()):
+        root = folder / name
+        output("dpkg-deb", "--extract", file, root)
+        files = files | {f"usr/share/doc/{name}/{paper}" for paper in PAPERS}
+        cases.report(f"the files of {name}", difference(files_below(root), files))
+        everything |= files
+    checked(cases, first)
+    installed(cases, first, everything, folder / "library-root", lambda root: works(cases, root))
+
+
+def works(cases, root):
+    """What is installed below a root is compiled against, linked to and imported."""
+    found = {"LD_LIBRARY_PATH": str(root / LIBRARIES), "PATH": os.environ["PATH"]}
+    program = "import sys, udsnorm; sys.stdout.buffer.write(udsnorm.normalise(sys.argv[1]))"
+    python = run(sys.executable, ["-B", "-c", program, LOG], env=found | {"PYTHONPATH": str(root / PYTHON)})
+    cases.case("the Python package that dpkg installed", python, DONE, CANONICAL.read_bytes())
+    if not shutil.which("cc"):
+        print("skipped the example in C: no cc is installed", flush=True)
+        return
+    built = root.parent / "normalise"
+    example = root / "usr/share/doc/libudsnorm-dev/examples/normalise.c"
+    output("cc", example, f"-I{root / 'usr/include'}", f"-L{root / LIBRARIES}", "-ludsnorm", "-o", built)
+    cases.case("the example in C, with what dpkg installed", run(built, [LOG], env=found), DONE, CANONICAL.read_bytes())
+
+
+def checked(cases, files):
+    """Debian's own checker has no error and no warning for the packages."""
     if not shutil.which("lintian"):
         print("skipped the checks of lintian: it is not installed", flush=True)
         return
-    told = subprocess.run(["lintian", "--allow-root", file], stdout=subprocess.PIPE, text=True, timeout=120).stdout
+    told = subprocess.run(["lintian", "--allow-root", *files], stdout=subprocess.PIPE, text=True, timeout=120).stdout
     cases.report("lintian finds no error and no warning", re.findall(r"^[EW]: .*", told, re.M))
 
 
-def installed(cases, file, root):
-    """dpkg installs the package into a root directory of its own, in which no C library is installed, and removes it."""
+def installed(cases, files, names, root, tried):
+    """dpkg installs packages into a root directory of its own, in which no C library is installed; they are tried there, and
+    removed."""
+    if os.geteuid() != 0:
+        print("skipped the installation of packages: only root may", flush=True)
+        return
     (root / "var/lib/dpkg/info").mkdir(parents=True)
     (root / "var/lib/dpkg/updates").mkdir()
     (root / "var/lib/dpkg/status").touch()
     dpkg = ["dpkg", f"--root={root}", "--force-depends"]
-    output(*dpkg, "--install", file, stderr=subprocess.DEVNULL)
+    output(*dpkg, "--install", *files, stderr=subprocess.DEVNULL)
     outside = {name for name in files_below(root) if not name.startswith("var/lib/dpkg/")}
-    cases.report("installed by dpkg", difference(outside, PACKAGED))
-    runs(cases, "the program that dpkg installed", root / "usr" / "bin" / "udsnorm")
-    output(*dpkg, "--purge", "udsnorm")
+    cases.report("installed by dpkg", difference(outside, names))
+    tried(root)
+    output(*dpkg, "--purge", *(Path(file).name.split("_")[0] for file in files), stderr=subprocess.DEVNULL)
     outside = {name for name in files_below(root) if not name.startswith("var/lib/dpkg/")}
     cases.report("removed by dpkg", difference(outside, set()))
 
 
 def main():
-    if len(sys.argv) != 2:
+    if len(sys.argv) not in (2, 3):
         sys.exit(__doc__)
     cases = Cases(os.path.abspath(sys.argv[1]))
     version_is_one(cases)
+    missing = [tool for tool in ("dpkg-deb", "strip") if not shutil.which(tool)]
     with tempfile.TemporaryDirectory() as directory:
-        tarball(cases, Path(directory))
-        package(cases, Path(directory))
+        folder = Path(directory)
+        tarball(cases, folder)
+        if missing:
+            print(f"skipped the Debian packages: no {' and no '.join(missing)} is installed", flush=True)
+        else:
+            package(cases, folder)
+        if len(sys.argv) == 3 and not missing:
+            packages_of_the_library(cases, Path(sys.argv[2]).resolve(), folder)
     cases.end()
 
 

@@ -1,0 +1,127 @@
+"""The shared library libudsnorm and its calls, as docs/library.md and udsnorm.h say them."""
+
+from __future__ import annotations
+
+import ctypes
+from pathlib import Path
+from typing import Any, List, NamedTuple, Tuple
+
+# The name of the shared library, and the version of it that this package is made for.
+SONAME = "libudsnorm.so.0"
+VERSION = "0.1.0"
+
+# The values of `status`, but that of a style that there is not.
+DONE, ID_RANGE, SAME_ID, LIMIT_RANGE, BAD_LINE, OVERSIZE, LOG_LIMIT, OUTPUT_LIMIT, MEMORY, ROOM = range(10)
+
+# The styles of a text.
+TEXT, NO_NUMBERS = 0, 1
+
+
+class Answer(ctypes.Structure):
+    """What came of a call: struct udsnorm_answer."""
+
+    status: int
+    column: int
+    line: int
+    announced: int
+    length: int
+    item: int
+    side: int
+    lines: int
+    frames: int
+    messages: int
+    dropped: int
+    ended: int
+    unfinished: int
+    pending: int
+
+    _fields_ = [
+        ("status", ctypes.c_uint32),
+        ("column", ctypes.c_uint32),
+        ("line", ctypes.c_uint64),
+        ("announced", ctypes.c_uint64),
+        ("length", ctypes.c_uint64),
+        ("item", ctypes.c_uint64),
+        ("side", ctypes.c_uint32),
+        ("reserved", ctypes.c_uint32),
+        ("lines", ctypes.c_uint64),
+        ("frames", ctypes.c_uint64),
+        ("messages", ctypes.c_uint64),
+        ("dropped", ctypes.c_uint64),
+        ("ended", ctypes.c_uint64),
+        ("unfinished", ctypes.c_uint64),
+        ("pending", ctypes.c_uint64),
+    ]
+
+
+class Settings(NamedTuple):
+    """The identifiers of the two sides, as Linux's canid_t has them, and the limit in bytes."""
+
+    tester: int
+    unit: int
+    limit: int
+
+
+def _loaded() -> ctypes.CDLL:
+    """The library that lies beside this file, else that of the system. It has to be of the package's version."""
+    beside = Path(__file__).with_name(SONAME)
+    library = ctypes.CDLL(str(beside) if beside.exists() else SONAME)
+    library.udsnorm_version.restype = ctypes.c_uint32
+    number: int = library.udsnorm_version()
+    found = f"{number >> 16}.{number >> 8 & 0xFF}.{number & 0xFF}"
+    if found != VERSION:
+        raise ImportError(f"udsnorm {VERSION} needs {SONAME} of that version, and found {found}")
+    return library
+
+
+_library = _loaded()
+
+# The C library, for memory that is not cleared: of the room for a text most is never used.
+_process = ctypes.CDLL(None)
+_process.malloc.argtypes = [ctypes.c_size_t]
+_process.malloc.restype = ctypes.c_void_p
+_process.free.argtypes = [ctypes.c_void_p]
+_process.free.restype = None
+
+# The types of the parameters, as udsnorm.h has them.
+_SETTINGS: List[Any] = [ctypes.c_uint32, ctypes.c_uint32, ctypes.c_uint64]
+_STYLE: List[Any] = [ctypes.c_uint32]
+_LOG: List[Any] = [ctypes.c_char_p, ctypes.c_size_t]
+_OUT: List[Any] = [ctypes.c_void_p, ctypes.c_size_t]
+_ANSWER: List[Any] = [ctypes.POINTER(Answer)]
+
+_library.udsnorm_normalise.argtypes = [*_SETTINGS, *_LOG, *_OUT, *_ANSWER]
+_library.udsnorm_list.argtypes = [*_SETTINGS, *_STYLE, *_LOG, *_OUT, *_ANSWER]
+_library.udsnorm_messages.argtypes = [*_SETTINGS, *_STYLE, *_LOG, *_OUT, *_ANSWER]
+_library.udsnorm_explain.argtypes = [*_SETTINGS, *_STYLE, *_LOG, *_OUT, *_ANSWER]
+_library.udsnorm_find.argtypes = [ctypes.c_uint64, *_STYLE, *_LOG, *_OUT, *_ANSWER]
+_library.udsnorm_compare.argtypes = [*_SETTINGS, *_LOG, *_LOG, *_ANSWER]
+
+
+def text(name: str, settings: Settings, log: bytes, *style: int) -> Tuple[Answer, bytes]:
+    """The answer of the call of this name, and its text: none where the answer says why there is none. The interpreter's
+    lock is given up during the call."""
+    call, answer, room = getattr(_library, f"udsnorm_{name}"), Answer(), 4 * len(log) + 512
+    while True:
+        out = _process.malloc(room)
+        if not out:
+            raise MemoryError
+        try:
+            call(*(settings[2:] if name == "find" else settings), *style, log, len(log), out, room, ctypes.byref(answer))
+            if answer.status != ROOM:
+                return answer, _bytes_at(out, answer.length)
+        finally:
+            _process.free(out)
+        room = answer.length
+
+
+def compare(settings: Settings, left: bytes, right: bytes) -> Answer:
+    """What two logs are to each other. The interpreter's lock is given up during the call."""
+    answer = Answer()
+    _library.udsnorm_compare(*settings, left, len(left), right, len(right), ctypes.byref(answer))
+    return answer
+
+
+def _bytes_at(address: int, size: int) -> bytes:
+    """A copy of so many bytes there. Of these, string_at takes no more than a C int counts."""
+    return ctypes.string_at(address, size) if size < 1 << 31 else (ctypes.c_char * size).from_address(address).raw

@@ -1,0 +1,77 @@
+"""Makes the wheel of the package udsnorm, with the shared library inside: what `packaging/wheel` and `pip` call.
+
+A wheel is a zip file of the package and of what installers read (PEP 427, PEP 517). Equal files give equal wheels.
+"""
+
+import base64
+import hashlib
+import os
+import time
+import zipfile
+from pathlib import Path
+
+HERE = Path(__file__).resolve().parent
+TOP = HERE.parent
+VERSION = (TOP / "VERSION").read_text().strip()
+TAG = "py3-none-linux_x86_64"
+INFORMATION = f"udsnorm-{VERSION}.dist-info"
+
+METADATA = f"""Metadata-Version: 2.1
+Name: udsnorm
+Version: {VERSION}
+Summary: Compares recorded UDS sessions (ISO 14229, ISO-TP ISO 15765-2) from candump logs of CAN and CAN FD
+License: MIT
+Classifier: License :: OSI Approved :: MIT License
+Classifier: Operating System :: POSIX :: Linux
+Classifier: Programming Language :: Python :: 3
+Classifier: Typing :: Typed
+Requires-Python: >=3.9
+"""
+WHEEL = f"Wheel-Version: 1.0\nGenerator: udsnorm wheel_builder\nRoot-Is-Purelib: false\nTag: {TAG}\n"
+
+
+def library_folder():
+    """Where `make lib` puts the library, or what the environment says."""
+    return Path(os.environ.get("UDSNORM_LIBRARY", TOP / "out" / "lib"))
+
+
+def soname():
+    return f"libudsnorm.so.{(TOP / 'library' / 'SONAME').read_text().strip()}"
+
+
+def files():
+    """What the wheel holds, but the list of it: names and bytes."""
+    package = HERE / "udsnorm"
+    for path in sorted([*package.glob("*.py"), package / "py.typed"]):
+        yield f"udsnorm/{path.name}", path.read_bytes()
+    yield f"udsnorm/{soname()}", (library_folder() / soname()).read_bytes()
+    yield f"{INFORMATION}/METADATA", METADATA.encode()
+    yield f"{INFORMATION}/WHEEL", WHEEL.encode()
+    yield f"{INFORMATION}/LICENSE", (TOP / "LICENSE").read_bytes()
+
+
+def row(name, content):
+    """The line of a file in the list of the wheel."""
+    digest = base64.urlsafe_b64encode(hashlib.sha256(content).digest()).rstrip(b"=").decode()
+    return f"{name},sha256={digest},{len(content)}\n"
+
+
+def entry(name):
+    """A file of the zip, with a date that does not change from build to build."""
+    date = time.gmtime(int(os.environ.get("SOURCE_DATE_EPOCH", 315532800)))[:6]
+    found = zipfile.ZipInfo(name, date)
+    found.external_attr = (0o755 if ".so" in name else 0o644) << 16
+    found.compress_type = zipfile.ZIP_DEFLATED
+    return found
+
+
+def build_wheel(wheel_directory, config_settings=None, metadata_directory=None):
+    """Makes the wheel in a folder, and answers its name."""
+    name = f"udsnorm-{VERSION}-{TAG}.whl"
+    record = ""
+    with zipfile.ZipFile(Path(wheel_directory) / name, "w") as wheel:
+        for path, content in files():
+            wheel.writestr(entry(path), content)
+            record += row(path, content)
+        wheel.writestr(entry(f"{INFORMATION}/RECORD"), f"{record}{INFORMATION}/RECORD,,\n")
+    return name

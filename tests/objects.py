@@ -1,0 +1,82 @@
+"""The JSON lines of a text, told from the same text in words: each line is read, and written again as an object."""
+
+import json
+import re
+
+ENDED = re.compile(r"line (\d+): (tester|unit) reception from line (\d+) of (\d+) bytes ended: (.+)")
+DROPPED = re.compile(r"line (\d+): (tester|unit) frame dropped: (.+)")
+UNFINISHED = re.compile(r"end: (tester|unit) reception from line (\d+) of (\d+) bytes unfinished")
+SEQUENCE = re.compile(r"(sequence number) ([0-9A-F]) expected, ([0-9A-F]) found")
+ANNOUNCED = re.compile(r"(\d+) (bytes announced)")
+DIFFERENT = re.compile(r"different at item (\d+)")
+
+
+def in_objects(job, text):
+    """The text that a job writes with `--json`, by the one that it writes without."""
+    return "".join(map(object_line, map(OBJECTS[job], text.decode().splitlines()))).encode()
+
+
+def object_line(members):
+    return json.dumps(members, separators=(",", ":")) + "\n"
+
+
+def item_object(line):
+    words = line.split(" ")
+    number = {"item": int(words.pop(0))} if words[0].isdigit() else {}
+    if words[0] == "stray":
+        return {**number, **named("kind direction message", words)}
+    kind, service, request, _, *outcome = words
+    came_of_it = "outcome code answer" if len(outcome) == 3 else "outcome answer"
+    return {**number, **named("kind service request", [kind, service, request]), **named(came_of_it, outcome)}
+
+
+def message_object(line):
+    number, role, direction, _, first, _, last, _, start, _, end, message = line.split(" ")
+    item = {"item": int(number), "role": role, "direction": direction, "first_line": int(first), "last_line": int(last)}
+    return {**item, "start": start, "end": end, "message": message}
+
+
+def event_object(line):
+    if found := ENDED.fullmatch(line):
+        return {"line": int(found[1]), "event": "ended", "direction": found[2], **begun(found[3], found[4]), "cause": found[5]}
+    if found := DROPPED.fullmatch(line):
+        return {"line": int(found[1]), "event": "dropped", "direction": found[2], **reason(found[3])}
+    if found := UNFINISHED.fullmatch(line):
+        return {"event": "unfinished", "direction": found[1], **begun(found[2], found[3])}
+    words = line.split(" ")
+    return {"event": "counts", **{name: int(number) for name, number in zip(words[::2], words[1::2])}}
+
+
+def begun(line, length):
+    return {"begun_line": int(line), "length": int(length)}
+
+
+def reason(text):
+    if found := SEQUENCE.fullmatch(text):
+        return {"reason": found[1], "expected": int(found[2], 16), "found": int(found[3], 16)}
+    if found := ANNOUNCED.fullmatch(text):
+        return {"reason": found[2], "announced": int(found[1])}
+    return {"reason": text}
+
+
+def comparison_object(line):
+    found = DIFFERENT.fullmatch(line)
+    return {"same": False, "item": int(found[1])} if found else {"same": line == "same"}
+
+
+def pair_object(line):
+    number, _, tester, _, unit = line.split(" ")
+    return {"credits": int(number), "tester": tester, "unit": unit}
+
+
+def named(names, words):
+    return dict(zip(names.split(" "), words))
+
+
+OBJECTS = {
+    "list": item_object,
+    "explain": event_object,
+    "messages": message_object,
+    "find": pair_object,
+    "compare": comparison_object,
+}

@@ -1,0 +1,320 @@
+#!/usr/bin/env python3
+"""Tests of the Python package udsnorm beside the program.
+
+    tests/python_package.py crates/udsnorm/out/udsnorm out/lib [--logs NUMBER] [--seed NUMBER]
+
+Where `python3 -m pip` is there, the wheel is installed into a fresh environment and used there; where mypy is, the
+package and typed code that uses it are checked. What is missing is named. The status is 1 where a test failed.
+"""
+
+import argparse
+import array
+import ctypes
+import importlib
+import os
+import random
+import re
+import shutil
+import subprocess
+import sys
+import tempfile
+import threading
+import time
+import unittest
+from pathlib import Path
+
+import differential
+import tables
+from cases import DIFFERENT, DONE, REFUSAL
+from runs import files, run
+
+TOP = Path(__file__).resolve().parent.parent
+PACKAGE = TOP / "python"
+EXAMPLES = TOP / "examples"
+VIN = EXAMPLES / "vin.log"
+CANONICAL = EXAMPLES / "vin.canonical"
+EXTENDED = 1 << 31
+
+sys.path.insert(0, str(PACKAGE))
+
+# What the tests are given: the program, the folder of the library, how many random logs, and from where.
+given = argparse.Namespace()
+
+
+def imported(folder):
+    """The package over the library of a folder: one that is loaded is found by its name."""
+    ctypes.CDLL(str(folder / "libudsnorm.so"))
+    return importlib.import_module("udsnorm")
+
+
+def sides_of(session):
+    """The settings of a row, for the package and for the program."""
+    sides = dict(zip(("tester", "unit"), session.sides()))
+    numbers = {name: int(digits, 16) | (EXTENDED if len(digits) == 8 else 0) for name, digits in sides.items()}
+    return numbers, [word for name, digits in sides.items() for word in (f"--{name}", digits)]
+
+
+def listed(item):
+    """The line of `list --no-numbers` for an item."""
+    if isinstance(item, udsnorm.Stray):
+        return f"stray {item.direction} {item.message.hex().upper()}"
+    words = ["exchange", item.service, item.request.hex().upper(), "->", item.outcome]
+    return " ".join([*words, *filter(None, [item.code]), *([item.answer.hex().upper()] if item.answer else [])])
+
+
+def placed(message):
+    """The line of `messages` for a message."""
+    begin, end = (f"{time // 10**6}.{time % 10**6:06}" for time in (message.begin, message.end))
+    lines = f"lines {message.first_line} to {message.last_line}"
+    return f"{message.item} {message.role} {message.direction} {lines} at {begin} to {end} {message.message.hex().upper()}"
+
+
+def paired(pair):
+    """The line of `find` for a pair."""
+    tester, unit = (f"{side & ~EXTENDED:0{8 if side & EXTENDED else 3}X}" for side in (pair.tester, pair.unit))
+    return f"{pair.credits} --tester {tester} --unit {unit}"
+
+
+CALLS = {
+    "normalise": (["normalise"], lambda log, **settings: udsnorm.normalise(log, **settings).decode()),
+    "list": (["list", "--no-numbers"], lambda log, **settings: "".join(f"{listed(item)}\n" for item in udsnorm.items(log, **settings))),
+    "messages": (["messages"], lambda log, **settings: "".join(f"{placed(one)}\n" for one in udsnorm.messages(log, **settings))),
+    "explain": (["explain"], lambda log, **settings: udsnorm.explain(log, **settings).text),
+}
+
+
+class BesideTheProgram(unittest.TestCase):
+    """What the program writes and tells of a log, and what the package answers."""
+
+    def same(self, log, settings, words):
+        for name, (command, call) in CALLS.items():
+            found = run(given.program, [*command, *words], log)
+            with self.subTest(call=name, log=log[:200]):
+                try:
+                    text = call(log, **settings)
+                except udsnorm.Refused as refused:
+                    self.assertEqual((REFUSAL, f"{refused}\n"), (found.status, found.error.decode()))
+                else:
+                    self.assertEqual((DONE, text), (found.status, found.output.decode()))
+
+    def same_difference(self, left, right, settings, words):
+        with files(left, right) as names:
+            found = run(given.program, ["compare", *words, *names])
+        try:
+            difference = udsnorm.compare(left, right, **settings)
+        except udsnorm.Refused as refused:
+            self.assertEqual((REFUSAL, f"{refused}\n"), (found.status, found.error.decode()))
+            return
+        want = f"different at item {difference.item}\n" if difference else "same\n"
+        self.assertEqual((DIFFERENT if difference else DONE, want), (found.status, found.output.decode()))
+        if difference:
+            self.assertNotEqual(difference.left, difference.right)
+
+    def test_samples(self):
+        for path in sorted(EXAMPLES.glob("*.log")):
+            is_extended = "extended" in path.name
+            settings = {"tester": EXTENDED | 0x18DA10F1, "unit": EXTENDED | 0x18DAF110} if is_extended else {}
+            words = ["--tester", "18DA10F1", "--unit", "18DAF110"] if is_extended else []
+            self.same(path.read_bytes(), settings, words)
+
+    def test_rows(self):
+        for name in ("one_session", "sessions", "equal_numbers", "lost_frames", "late_frames", "long_announcements", "places"):
+            for row in tables.table(name):
+                self.same(row.log(), *sides_of(row))
+
+    def test_pairs(self):
+        logs = [path.read_bytes() for path in sorted(EXAMPLES.glob("*.log"))]
+        for log in [*logs, *(row.log() for row in tables.table("pairs_found"))]:
+            found = run(given.program, ["find"], log)
+            with self.subTest(log=log[:200]):
+                try:
+                    text = "".join(f"{paired(pair)}\n" for pair in udsnorm.find(log))
+                except udsnorm.Refused as refused:
+                    self.assertEqual((REFUSAL, f"{refused}\n"), (found.status, found.error.decode()))
+                else:
+                    self.assertEqual((DONE, text), (found.status, found.output.decode()))
+
+    def test_comparisons(self):
+        for row in tables.table("comparisons"):
+            limit = (row.texts("limit") or [None])[0]
+            settings, words = ({"limit": int(limit)}, ["--limit", limit]) if limit else ({}, [])
+            self.same_difference(row.side("left"), row.side("right"), settings, words)
+
+    def test_random_logs(self):
+        rng = random.Random(given.seed)
+        for log, _ in zip(differential.random_logs(given.seed), range(given.logs)):
+            limit = differential.limit_for(rng, log)
+            self.same(log, {"limit": limit}, ["--limit", str(limit)])
+            self.same_difference(log, differential.mutated(rng, log), {"limit": limit}, ["--limit", str(limit)])
+
+
+class Arguments(unittest.TestCase):
+    """Logs in every form, and settings that there are and are not."""
+
+    def test_any_buffer_and_any_path(self):
+        log = VIN.read_bytes()
+        want = udsnorm.normalise(log)
+        self.assertEqual(want, CANONICAL.read_bytes())
+        spread = memoryview(bytes(byte for one in log for byte in (one, 0)))[::2]
+        for form in (bytearray(log), memoryview(log), spread, array.array("B", log), str(VIN), VIN):
+            self.assertEqual(udsnorm.normalise(form), want)
+
+    def test_no_log_at_all(self):
+        self.assertEqual((udsnorm.normalise(b""), udsnorm.items(b""), udsnorm.messages(b"")), (b"", [], []))
+        self.assertIsNone(udsnorm.compare(b"", b""))
+        self.assertEqual(udsnorm.explain(b"").counts, udsnorm.Counts(0, 0, 0, 0, 0, 0, 0))
+        with self.assertRaises(TypeError):
+            udsnorm.normalise(None)
+        with self.assertRaises(FileNotFoundError):
+            udsnorm.normalise(EXAMPLES / "none.log")
+
+    def test_refused(self):
+        with self.assertRaises(udsnorm.Refused) as caught:
+            udsnorm.normalise(b"\nx")
+        self.assertEqual((caught.exception.reason, caught.exception.line, caught.exception.column), ("bad line", 2, 1))
+        with self.assertRaises(udsnorm.Refused) as caught:
+            udsnorm.compare(b"", b"(0.000000) a 7E0#1000FFFFFFFF0000\n")
+        found = caught.exception
+        self.assertEqual((found.reason, found.line, found.column, found.side), ("oversize", 1, None, "right"))
+
+    def test_limits(self):
+        short = b"(0.000000) a 7E0#0110\n"
+        for log, limit, reason in ((CANONICAL, 229, "log limit"), (short, 21, "log limit"), (short, 45, "output limit")):
+            with self.subTest(limit=limit), self.assertRaises(udsnorm.Refused) as caught:
+                udsnorm.normalise(log, limit=limit)
+            self.assertEqual(caught.exception.reason, reason)
+        self.assertEqual((len(udsnorm.normalise(CANONICAL, limit=230)), len(udsnorm.normalise(short, limit=46))), (230, 46))
+
+    def test_settings(self):
+        wrong = [
+            ({"tester": 0x800}, "identifier out of range"), ({"unit": -1}, "identifier out of range"),
+            ({"tester": 1 << 32}, "identifier out of range"), ({"unit": EXTENDED | 1 << 29}, "identifier out of range"),
+            ({"tester": 0x7E8}, "tester and unit have the same identifier"),
+            ({"limit": 0}, "limit out of range"), ({"limit": -1}, "limit out of range"), ({"limit": 1 << 64}, "limit out of range"),
+        ]
+        for settings, text in wrong:
+            for call in (udsnorm.normalise, udsnorm.items, udsnorm.messages, udsnorm.explain):
+                with self.subTest(settings=settings), self.assertRaisesRegex(ValueError, f"^{text}$"):
+                    call(b"", **settings)
+            with self.assertRaisesRegex(ValueError, f"^{text}$"):
+                udsnorm.compare(b"", b"", **settings)
+
+    def test_refused_memory(self):
+        """Once by the library, and once where a process has no room for a text."""
+        self.assertIsInstance(udsnorm._fault(udsnorm.Answer(status=udsnorm._library.MEMORY)), MemoryError)
+        ask = f"import resource, udsnorm; resource.setrlimit(resource.RLIMIT_AS, ({1 << 28},) * 2); udsnorm.normalise(bytes({1 << 26}))"
+        environment = {**os.environ, "PYTHONPATH": str(PACKAGE), "LD_LIBRARY_PATH": str(given.library.resolve())}
+        found = run(sys.executable, ["-c", ask], env=environment)
+        self.assertEqual((found.status, found.error.splitlines()[-1]), (1, b"MemoryError"))
+
+
+class Threads(unittest.TestCase):
+    """Calls from threads side by side."""
+
+    def test_the_lock_is_given_up(self):
+        """With no switch of threads but where the lock is given up, another thread runs while a call does."""
+        log = VIN.read_bytes() * 20_000
+        inside, seen, interval = threading.Event(), [], sys.getswitchinterval()
+
+        def call():
+            inside.set()
+            udsnorm.normalise(log)
+            inside.clear()
+
+        sys.setswitchinterval(1000)
+        try:
+            running = threading.Thread(target=call)
+            running.start()
+            while running.is_alive() and not seen:
+                seen += [True] if inside.is_set() else []
+                time.sleep(0.0001)
+            running.join()
+        finally:
+            sys.setswitchinterval(interval)
+        self.assertTrue(seen)
+
+    def test_sixteen_threads(self):
+        logs = [path.read_bytes() for path in sorted(EXAMPLES.glob("*.canonical"))]
+        want = [udsnorm.items(log) for log in logs]
+        found = []
+        threads = [threading.Thread(target=lambda: found.append([[udsnorm.items(log) for log in logs] for _ in range(20)])) for _ in range(16)]
+        for thread in threads:
+            thread.start()
+        for thread in threads:
+            thread.join()
+        self.assertEqual(found, [[want] * 20] * 16)
+
+
+class Shipped(unittest.TestCase):
+    """The package as it is installed, and its types."""
+
+    def test_version_and_name_of_the_library(self):
+        library = udsnorm._library
+        self.assertEqual(udsnorm.__version__, (TOP / "VERSION").read_text().strip())
+        self.assertEqual(library.SONAME, f"libudsnorm.so.{(TOP / 'library' / 'SONAME').read_text().strip()}")
+        statuses = re.findall(r"^    UDSNORM_(\w+) = (\d+)", (TOP / "library" / "udsnorm.h").read_text(), re.M)
+        known = {name: getattr(library, name) for name, _ in statuses if hasattr(library, name)}
+        self.assertEqual(known, {name: int(number) for name, number in statuses if name in known})
+
+    def test_wheel_in_a_fresh_environment(self):
+        if subprocess.run([sys.executable, "-m", "pip", "--version"], stdout=subprocess.DEVNULL, stderr=subprocess.DEVNULL).returncode:
+            self.skipTest("no pip is installed")
+        with tempfile.TemporaryDirectory() as folder:
+            first, again = (built_wheel(Path(folder) / name) for name in ("first", "again"))
+            self.assertEqual(first.read_bytes(), again.read_bytes())
+            environment = Path(folder) / "environment"
+            subprocess.run([sys.executable, "-m", "venv", environment], check=True)
+            python = environment / "bin" / "python"
+            subprocess.run([python, "-m", "pip", "install", "--quiet", "--no-index", "--disable-pip-version-check", first], check=True)
+            program = f"import udsnorm, sys; sys.stdout.buffer.write(udsnorm.normalise({str(VIN)!r}))"
+            found = run(python, ["-I", "-c", program], cwd=folder)
+            self.assertEqual((0, CANONICAL.read_bytes(), b""), tuple(found))
+
+    def test_types(self):
+        if not shutil.which("mypy"):
+            self.skipTest("no mypy is installed")
+        with tempfile.TemporaryDirectory() as folder:
+            typed = Path(folder) / "typed.py"
+            typed.write_text(TYPED)
+            words = ["--strict", "--cache-dir", folder, PACKAGE / "udsnorm", typed]
+            found = run("mypy", words, env={**os.environ, "MYPYPATH": str(PACKAGE)})
+            self.assertEqual(found.status, 0, found.output.decode())
+
+
+# Code that a user may write, with its types.
+TYPED = '''
+from typing import List, Optional
+import udsnorm
+
+text: bytes = udsnorm.normalise("a.log", tester=udsnorm.EXTENDED | 0x18DA10F1)
+requests: List[bytes] = [item.request for item in udsnorm.items(b"") if isinstance(item, udsnorm.Exchange)]
+first: Optional[udsnorm.Difference] = udsnorm.compare(bytearray(), memoryview(b""))
+dropped: int = udsnorm.explain("a.log").counts.dropped
+seconds: List[float] = [(message.end - message.begin) / 1e6 for message in udsnorm.messages("a.log")]
+'''
+
+
+def built_wheel(folder):
+    """The wheel, made in a folder."""
+    words = [TOP / "packaging" / "wheel", given.library, folder]
+    return Path(subprocess.run(words, check=True, stdout=subprocess.PIPE, text=True).stdout.strip())
+
+
+def main():
+    words = argparse.ArgumentParser(description=__doc__, formatter_class=argparse.RawDescriptionHelpFormatter)
+    words.add_argument("program", type=os.path.abspath)
+    words.add_argument("library", type=Path)
+    words.add_argument("--logs", type=int, default=200)
+    words.add_argument("--seed", type=int, default=1)
+    words.parse_args(namespace=given)
+    global udsnorm
+    udsnorm = imported(given.library.resolve())
+    ended = unittest.main(argv=[sys.argv[0]], exit=False, verbosity=1).result
+    for test, reason in ended.skipped:
+        print(f"skipped {test.id().rpartition('.')[2]}: {reason}", flush=True)
+    failed = len(ended.failures) + len(ended.errors)
+    print(f"{ended.testsRun - failed - len(ended.skipped)} passed, {failed} failed")
+    sys.exit(1 if failed else 0)
+
+
+main()
