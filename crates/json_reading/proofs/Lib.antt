@@ -1,0 +1,3 @@
+pub mod PlainTexts
+pub mod ReadTrees
+pub mod PlainObjects

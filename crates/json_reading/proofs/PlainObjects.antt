@@ -1,0 +1,342 @@
+-- The objects that are told have plain texts.
+use Rattle.std.proofs.Common.{◌≡◌, ℕ, ◌+◌, Bool, true, false, List, Option, Some, None, refl, codes}
+use Rattle.std.specs.Prelude.{slice_get}
+use Rattle.direction.specs.declared.Dir.{Dir}
+use Rattle.direction.specs.declared.Dir.TheVariants as dir
+use Rattle.isotp_pdu.specs.declared.PduFault.{PduFault}
+use Rattle.isotp_pdu.specs.declared.PduFault.TheVariants as pdu
+use Rattle.isotp_receive.specs.declared.event.Cause.{Cause}
+use Rattle.isotp_receive.specs.declared.event.Cause.TheVariants as cause
+use Rattle.isotp_receive.specs.declared.event.Reason.{Reason}
+use Rattle.isotp_receive.specs.declared.event.Reason.TheVariants as reason
+use Rattle.uds_exchange.specs.Meaning.{ItemValue, exchange, stray}
+use Rattle.uds_exchange.specs.declared.step.Step.{Step}
+use Rattle.uds_exchange.specs.declared.step.Step.TheVariants as becomes
+use Rattle.uds_find.specs.Finding.{credit_line}
+use Rattle.uds_message.specs.Message.{sid, is_negative_response, response_code, is_suppressing}
+use Rattle.trace_canon.specs.declared.comparing.Comparison.{Comparison}
+use Rattle.trace_canon.specs.declared.comparing.Comparison.TheVariants.{Same, Different}
+use Rattle.trace_canon.specs.declared.item_lines.Numbering.{Numbering}
+use Rattle.trace_canon.specs.declared.item_lines.Numbering.TheVariants.{Shown, Hidden}
+use Rattle.trace_canon.specs.declared.remark.Remark.{Remark}
+use Rattle.trace_canon.specs.declared.remark.Remark.TheVariants as remark
+use Rattle.trace_canon.specs.ComparisonText.{shown_members, shown_value, comparison_members}
+use Rattle.trace_canon.specs.ExplainText.{cause_text, layout_fault_text, reason_members, remark_members}
+use Rattle.trace_canon.specs.Found.{pair_object}
+use Rattle.trace_canon.specs.ListText.{answer_members, outcome_members, item_members, item_object}
+use Rattle.trace_canon.specs.MessageLines.{PlacedMessage, placed_members, role_text, stamp_text}
+use Rattle.trace_canon.specs.Words.{bytes_text, direction_text, service_text, code_text}
+use Rattle.trace_canon.proofs.Promises.{bytes_word, service_word, code_word}
+use Rattle.json_reading.specs.Laws.{ItemsAreReadAsMeant, MessagesAreReadAsMeant, RemarksAreReadAsMeant, ComparisonsAreReadAsMeant, PairsAreReadAsMeant}
+use Rattle.json_reading.proofs.PlainTexts.{IsPlain, plain, word_plain, identifier_plain, stamp_plain}
+use Rattle.json_reading.proofs.ReadTrees.{IsPlainValue, ArePlain, read_as_meant}
+
+-- ---- the words between quotes
+
+bytes_plain : (bytes : List ℕ) → IsPlain (bytes_text bytes)
+bytes_plain bytes = word_plain (bytes_text bytes) (bytes_word bytes)
+
+direction_plain : (d : Dir) → IsPlain (direction_text d)
+direction_plain dir.Tester = plain (codes "tester") refl
+direction_plain dir.Unit = plain (codes "unit") refl
+
+cause_plain : (c : Cause) → IsPlain (cause_text c)
+cause_plain cause.NewStart = plain (codes "new start") refl
+cause_plain cause.Overflow = plain (codes "overflow") refl
+cause_plain cause.Late = plain (codes "late") refl
+cause_plain cause.Sequence = plain (codes "sequence") refl
+cause_plain cause.Length = plain (codes "length") refl
+
+layout_fault_plain : (fault : PduFault) → IsPlain (layout_fault_text fault)
+layout_fault_plain pdu.Remote = plain (codes "remote frame") refl
+layout_fault_plain pdu.FrameLength = plain (codes "frame length") refl
+layout_fault_plain pdu.Empty = plain (codes "empty frame") refl
+layout_fault_plain pdu.UnknownKind = plain (codes "unknown kind") refl
+layout_fault_plain pdu.SingleLength = plain (codes "single frame length") refl
+layout_fault_plain pdu.FirstLength = plain (codes "first frame length") refl
+layout_fault_plain pdu.FlowShort = plain (codes "flow control too short") refl
+layout_fault_plain pdu.FlowStatus = plain (codes "flow control status") refl
+
+-- ---- items
+
+answer_plain : (deep : ℕ) (b : Bool) (reply : List ℕ) → is_negative_response reply ≡ b → ArePlain deep (answer_members reply)
+answer_plain deep true reply so =
+    rw so (
+      plain (codes "outcome") refl,
+      plain (codes "negative") refl,
+      (
+        plain (codes "code") refl,
+        word_plain (code_text (response_code reply)) (code_word (response_code reply)),
+        (
+          plain (codes "answer") refl,
+          bytes_plain reply,
+          tt,
+        ),
+      ),
+    )
+answer_plain deep false reply so =
+    rw so (plain (codes "outcome") refl, plain (codes "positive") refl, (plain (codes "answer") refl, bytes_plain reply, tt))
+
+none_plain : (deep : ℕ) (b : Bool) (request : List ℕ) → is_suppressing request ≡ b → ArePlain deep (outcome_members request None)
+none_plain deep true request so = rw so (plain (codes "outcome") refl, plain (codes "silent") refl, tt)
+none_plain deep false request so = rw so (plain (codes "outcome") refl, plain (codes "unanswered") refl, tt)
+
+outcome_plain : (deep : ℕ) (request : List ℕ) (reply : Option (List ℕ)) → ArePlain deep (outcome_members request reply)
+outcome_plain deep request (Some reply) = answer_plain deep (is_negative_response reply) reply refl
+outcome_plain deep request None = none_plain deep (is_suppressing request) request refl
+
+item_plain : (deep : ℕ) (item : ItemValue) → ArePlain deep (item_members item)
+item_plain deep (exchange request reply) = (
+  plain (codes "kind") refl,
+  plain (codes "exchange") refl,
+  (
+    plain (codes "service") refl,
+    word_plain (service_text (sid request)) (service_word (sid request)),
+    (
+      plain (codes "request") refl,
+      bytes_plain request,
+      outcome_plain deep request reply,
+    ),
+  ),
+)
+item_plain deep (stray d bytes) = (
+  plain (codes "kind") refl,
+  plain (codes "stray") refl,
+  (
+    plain (codes "direction") refl,
+    direction_plain d,
+    (
+      plain (codes "message") refl,
+      bytes_plain bytes,
+      tt,
+    ),
+  ),
+)
+
+numbered_plain : (deep : ℕ) (numbering : Numbering) (n : ℕ) (item : ItemValue) → ArePlain deep (item_object numbering n item)
+numbered_plain deep Shown n item = (plain (codes "item") refl, tt, item_plain deep item)
+numbered_plain deep Hidden n item = item_plain deep item
+
+pub items_are_read_as_meant : ItemsAreReadAsMeant
+items_are_read_as_meant numbering n item = read_as_meant (item_object numbering n item) (numbered_plain 1 numbering n item)
+
+-- ---- messages with their places
+
+role_plain : (step : Step) → IsPlain (role_text step)
+role_plain (becomes.Request service) = plain (codes "request") refl
+role_plain becomes.Answer = plain (codes "answer") refl
+role_plain becomes.Removed = plain (codes "pending") refl
+role_plain becomes.Hold = plain (codes "stray") refl
+role_plain becomes.Pass = plain (codes "stray") refl
+
+pub messages_are_read_as_meant : MessagesAreReadAsMeant
+messages_are_read_as_meant placed =
+    read_as_meant (placed_members placed) (
+      plain (codes "item") refl,
+      tt,
+      (
+        plain (codes "role") refl,
+        role_plain placed.step,
+        (
+          plain (codes "direction") refl,
+          direction_plain placed.sent.0,
+          (
+            plain (codes "first_line") refl,
+            tt,
+            (
+              plain (codes "last_line") refl,
+              tt,
+              (
+                plain (codes "start") refl,
+                stamp_plain placed.start.micros,
+                (
+                  plain (codes "end") refl,
+                  stamp_plain placed.end.micros,
+                  (
+                    plain (codes "message") refl,
+                    bytes_plain placed.sent.1,
+                    tt,
+                  ),
+                ),
+              ),
+            ),
+          ),
+        ),
+      ),
+    )
+
+-- ---- remarks
+
+reason_plain : (why : Reason) → ArePlain 1 (reason_members why)
+reason_plain (reason.Pdu fault) = (plain (codes "reason") refl, layout_fault_plain fault, tt)
+reason_plain reason.FlowUnexpected = (plain (codes "reason") refl, plain (codes "flow control unexpected") refl, tt)
+reason_plain reason.NextUnexpected = (plain (codes "reason") refl, plain (codes "consecutive frame unexpected") refl, tt)
+reason_plain reason.NextLate = (plain (codes "reason") refl, plain (codes "consecutive frame late") refl, tt)
+reason_plain (reason.NextSequence expected found) = (
+  plain (codes "reason") refl,
+  plain (codes "sequence number") refl,
+  (
+    plain (codes "expected") refl,
+    tt,
+    (
+      plain (codes "found") refl,
+      tt,
+      tt,
+    ),
+  ),
+)
+reason_plain reason.NextLength = (plain (codes "reason") refl, plain (codes "consecutive frame length") refl, tt)
+reason_plain (reason.TooLong announced) = (
+  plain (codes "reason") refl,
+  plain (codes "bytes announced") refl,
+  (
+    plain (codes "announced") refl,
+    tt,
+    tt,
+  ),
+)
+
+remark_plain : (told : Remark) → ArePlain 1 (remark_members told)
+remark_plain (remark.Ended line ended) = (
+  plain (codes "line") refl,
+  tt,
+  (
+    plain (codes "event") refl,
+    plain (codes "ended") refl,
+    (
+      plain (codes "direction") refl,
+      direction_plain ended.dir,
+      (
+        plain (codes "begun_line") refl,
+        tt,
+        (
+          plain (codes "length") refl,
+          tt,
+          (
+            plain (codes "cause") refl,
+            cause_plain ended.cause,
+            tt,
+          ),
+        ),
+      ),
+    ),
+  ),
+)
+remark_plain (remark.Dropped line d why) = (
+  plain (codes "line") refl,
+  tt,
+  (
+    plain (codes "event") refl,
+    plain (codes "dropped") refl,
+    (
+      plain (codes "direction") refl,
+      direction_plain d,
+      reason_plain why,
+    ),
+  ),
+)
+remark_plain (remark.Unfinished d line len) = (
+  plain (codes "event") refl,
+  plain (codes "unfinished") refl,
+  (
+    plain (codes "direction") refl,
+    direction_plain d,
+    (
+      plain (codes "begun_line") refl,
+      tt,
+      (
+        plain (codes "length") refl,
+        tt,
+        tt,
+      ),
+    ),
+  ),
+)
+remark_plain (remark.Counts summary) = (
+  plain (codes "event") refl,
+  plain (codes "counts") refl,
+  (
+    plain (codes "lines") refl,
+    tt,
+    (
+      plain (codes "frames") refl,
+      tt,
+      (
+        plain (codes "messages") refl,
+        tt,
+        (
+          plain (codes "dropped") refl,
+          tt,
+          (
+            plain (codes "ended") refl,
+            tt,
+            (
+              plain (codes "unfinished") refl,
+              tt,
+              (
+                plain (codes "pending") refl,
+                tt,
+                tt,
+              ),
+            ),
+          ),
+        ),
+      ),
+    ),
+  ),
+)
+
+pub remarks_are_read_as_meant : RemarksAreReadAsMeant
+remarks_are_read_as_meant told = read_as_meant (remark_members told) (remark_plain told)
+
+-- ---- comparisons
+
+shown_plain : (n : ℕ) (item : Option ItemValue) → IsPlainValue 1 (shown_value n item)
+shown_plain n (Some item) = numbered_plain 0 Shown n item
+shown_plain n None = tt
+
+both_plain : (place : ℕ) (left right : List ItemValue) → ArePlain 1 (shown_members place left right)
+both_plain place left right = (
+  plain (codes "left") refl,
+  shown_plain (place + 1) (slice_get left place),
+  (
+    plain (codes "right") refl,
+    shown_plain (place + 1) (slice_get right place),
+    tt,
+  ),
+)
+
+comparison_plain : (shows : Bool) (comparison : Comparison) (left right : List ItemValue) → ArePlain 1 (comparison_members shows comparison left right)
+comparison_plain shows Same left right = (plain (codes "same") refl, tt, tt)
+comparison_plain true (Different place) left right = (
+  plain (codes "same") refl,
+  tt,
+  (
+    plain (codes "item") refl,
+    tt,
+    both_plain place left right,
+  ),
+)
+comparison_plain false (Different place) left right = (plain (codes "same") refl, tt, (plain (codes "item") refl, tt, tt))
+
+pub comparisons_are_read_as_meant : ComparisonsAreReadAsMeant
+comparisons_are_read_as_meant shows comparison left right =
+    read_as_meant (comparison_members shows comparison left right) (comparison_plain shows comparison left right)
+
+-- ---- pairs
+
+pub pairs_are_read_as_meant : PairsAreReadAsMeant
+pairs_are_read_as_meant counted =
+    read_as_meant (pair_object (credit_line counted)) (
+      plain (codes "credits") refl,
+      tt,
+      (
+        plain (codes "tester") refl,
+        identifier_plain counted.0.tester,
+        (
+          plain (codes "unit") refl,
+          identifier_plain counted.0.unit,
+          tt,
+        ),
+      ),
+    )

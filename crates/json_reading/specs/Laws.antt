@@ -1,0 +1,35 @@
+-- What is told as JSON is read as it is meant.
+use Rattle.std.specs.Prelude.{ℕ, Bool, List}
+use Rattle.json_reading.specs.ReadBack.{IsReadAsMeant}
+use Rattle.trace_canon.specs.declared.comparing.Comparison.{Comparison}
+use Rattle.trace_canon.specs.declared.item_lines.Numbering.{Numbering}
+use Rattle.trace_canon.specs.declared.remark.Remark.{Remark}
+use Rattle.trace_canon.specs.ComparisonText.{comparison_members}
+use Rattle.trace_canon.specs.ExplainText.{remark_members}
+use Rattle.trace_canon.specs.Found.{pair_object}
+use Rattle.trace_canon.specs.ListText.{item_object}
+use Rattle.trace_canon.specs.MessageLines.{PlacedMessage, placed_members}
+use Rattle.uds_exchange.specs.Meaning.{ItemValue}
+use Rattle.uds_find.specs.Finding.{credit_line}
+use Rattle.uds_find.specs.declared.pair.Pair.{Pair}
+
+-- an item of a list, with its number or without
+abbrev pub ItemsAreReadAsMeant : Type 0
+ItemsAreReadAsMeant = (numbering : Numbering) (n : ℕ) (item : ItemValue) → IsReadAsMeant (item_object numbering n item)
+
+-- a message with its place
+abbrev pub MessagesAreReadAsMeant : Type 0
+MessagesAreReadAsMeant = (placed : PlacedMessage) → IsReadAsMeant (placed_members placed)
+
+-- a remark that explains a log
+abbrev pub RemarksAreReadAsMeant : Type 0
+RemarksAreReadAsMeant = (told : Remark) → IsReadAsMeant (remark_members told)
+
+-- a comparison, with the items that differ or without
+abbrev pub ComparisonsAreReadAsMeant : Type 0
+ComparisonsAreReadAsMeant =
+    (shows : Bool) (comparison : Comparison) (left right : List ItemValue) → IsReadAsMeant (comparison_members shows comparison left right)
+
+-- a pair of identifiers, with the number of its credits
+abbrev pub PairsAreReadAsMeant : Type 0
+PairsAreReadAsMeant = (counted : Pair × ℕ) → IsReadAsMeant (pair_object (credit_line counted))
