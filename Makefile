@@ -87,10 +87,11 @@ install: build lib
 install-lib: lib
 	@$(MAKE) --no-print-directory install-built-lib
 
-# The same of the program as it was built before. The manual page gets the version into its footer.
+# The same of the program as it was built before. The manual page has each command as the program's help tells it.
 install-built:
 	install -D -m 755 $(PROGRAM) $(DESTDIR)$(PREFIX)/bin/udsnorm
-	sed '1s/"udsnorm"/"udsnorm $(VERSION)"/' share/man/man1/udsnorm.1 | install -D -m 644 /dev/stdin $(DESTDIR)$(MAN)
+	install -D -m 644 /dev/null $(DESTDIR)$(MAN)
+	packaging/manual $(PROGRAM) > $(DESTDIR)$(MAN)
 	install -D -m 644 share/completions/udsnorm.bash $(DESTDIR)$(BASH)
 	install -D -m 644 share/completions/_udsnorm $(DESTDIR)$(ZSH)
 	install -D -m 644 share/completions/udsnorm.fish $(DESTDIR)$(FISH)

@@ -21,7 +21,7 @@ from runs import differences
 from tables import EXAMPLES
 
 TOP = Path(__file__).resolve().parent.parent
-MANUAL = TOP / "share" / "man" / "man1" / "udsnorm.1"
+MANUAL = TOP / "packaging" / "manual"
 TABLE = TOP / "crates" / "udsnorm" / "src" / "commands.rt"
 COMPLETIONS = TOP / "share" / "completions"
 
@@ -65,7 +65,7 @@ def commands_of_the_table():
 def names_are_complete(cases):
     commands = named_in(help_of(cases), "Commands")
     cases.report("the help names the commands of the table", [] if commands == commands_of_the_table() else [str(commands)])
-    text = MANUAL.read_text().replace("\\-", "-")
+    text = manual_of(cases).replace("\\-", "-")
     wrong = [f"no {word}" for word in missing_in(text, commands)] if commands else ["no commands in the help"]
     wrong += [f"no {option}" for option in missing_in(text, named_in(help_of(cases), "Options"))]
     for command in commands:
@@ -78,8 +78,12 @@ def names_are_complete(cases):
     cases.report("the manual page has the defaults of the help", wrong)
 
 
+def manual_of(cases):
+    return subprocess.run([MANUAL, cases.program], stdout=subprocess.PIPE, text=True, check=True, timeout=60).stdout
+
+
 def manual_is_well_formed(cases):
-    done = subprocess.run(["groff", "-man", "-Tutf8", "-ww", MANUAL], capture_output=True, text=True, timeout=60)
+    done = subprocess.run(["groff", "-man", "-Tutf8", "-ww"], input=manual_of(cases), capture_output=True, text=True, timeout=60)
     cases.report("the manual page as groff sees it", [done.stderr] if done.stderr or done.returncode else [])
 
 
@@ -99,7 +103,8 @@ def shells_complete(cases):
         if shutil.which(shell) is None:
             print(f"skipped {shell}: it is not there", flush=True)
             continue
-        wrong = differences("commands that begin with co", offered(shell, program, ["co"]), ["compare"])
+        begin = sorted(command for command in commands_of_the_table() if command.startswith("co"))
+        wrong = differences("commands that begin with co", offered(shell, program, ["co"]), begin)
         for command in commands_of_the_table():
             options = [option for option in named_in(help_of(cases, command), "Options") if option.startswith("--")]
             wrong += differences(f"options of {command}", offered(shell, program, [command, "--"]), sorted(options))
