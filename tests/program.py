@@ -421,6 +421,8 @@ def main():
     if len(sys.argv) != 2:
         sys.exit(__doc__)
     cases = Cases(os.path.abspath(sys.argv[1]))
+    # What a shell starts in the background ignores interrupts, and so would each program that is started here.
+    signal.signal(signal.SIGINT, signal.default_int_handler)
     for test in [logs, default_limit, the_longest_message, examples, places, watched, devices, prompt, messages_one_by_one, watched_one_by_one, device_calls, memory]:
         test(cases)
     cases.end()
