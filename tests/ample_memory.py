@@ -15,6 +15,7 @@ from pathlib import Path
 
 import oracle
 from cases import DEVICE, DONE, WORDS, Cases
+from counts import counts_line
 
 TESTER, UNIT = "7E0", "7E8"
 REQUEST, ANSWER, STRAY = 0x22, 0x62, 0x59
@@ -66,9 +67,7 @@ def listed(*items):
 
 def taken_by_each_job(cases, name, log, messages, text):
     """Each job takes this log, with its count of messages and its list. Its canonical log has the same list."""
-    lines = log.count(b"\n")
-    counts = f"lines {lines} frames {lines} messages {messages} dropped 0 ended 0 unfinished 0 pending 0\n".encode()
-    cases.case(f"explain: {name}", cases.run(["explain"], log), DONE, counts)
+    cases.case(f"explain: {name}", cases.run(["explain"], log), DONE, counts_line(log, messages=messages))
     cases.case(f"list: {name}", cases.run(["list"], log), DONE, text)
     placed = cases.run(["messages"], log)
     cases.case(f"messages: {name}", placed._replace(output=b"%d" % placed.output.count(b"\n")), DONE, b"%d" % messages)

@@ -190,9 +190,10 @@ def objects(program):
 
 
 def objects_written(program, row, readers):
-    """The command of a row writes its objects, and each reader of JSON finds them there."""
+    """The command of a row writes its objects and its counts, and each reader of JSON finds them there."""
     found, refused = program.run(row.texts("with")[0].split(" "), row.log()), row.text("refused")
-    wrong = differences("objects", found, Ended(REFUSAL if refused else DONE, row.text("object"), refused))
+    counts = in_objects("explain", row.counts()) if row.has("counts") else b""
+    wrong = differences("objects", found, Ended(REFUSAL if refused else DONE, row.text("object") + counts, refused))
     for reader in readers:
         again = subprocess.run(reader, input=found.output, stdout=subprocess.PIPE, timeout=60)
         wrong += differences(f"read by {reader[0]}", again.stdout, found.output)

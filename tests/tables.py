@@ -24,7 +24,7 @@ What is told of the log is the lines with the mark `told`, and last its counts:
     lacks TEXT           what is told of a log that has to be clean and is not
 
     with WORDS           a command with its options
-    object TEXT          an object that it writes
+    object TEXT          an object that it writes; where the row has counts, too, their object comes last
 
     between TESTER UNIT  the identifiers, where they are not 7E0 and 7E8
 
