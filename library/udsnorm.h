@@ -109,8 +109,8 @@ uint32_t udsnorm_normalise(uint32_t tester, uint32_t unit, uint64_t limit, const
 uint32_t udsnorm_list(uint32_t tester, uint32_t unit, uint64_t limit, uint32_t style, const uint8_t *log, size_t length,
                       uint8_t *out, size_t room, struct udsnorm_answer *answer);
 
-/* A line for each message that was received whole, with its lines and time stamps. `style` is UDSNORM_TEXT or UDSNORM_JSON.
- * Every status but UDSNORM_OVERSIZE and UDSNORM_OUTPUT_LIMIT. */
+/* A line for each message that was received whole, with its lines and time stamps. `style` is UDSNORM_TEXT or
+ * UDSNORM_JSON. Every status but UDSNORM_OVERSIZE and UDSNORM_OUTPUT_LIMIT. */
 uint32_t udsnorm_messages(uint32_t tester, uint32_t unit, uint64_t limit, uint32_t style, const uint8_t *log,
                           size_t length, uint8_t *out, size_t room, struct udsnorm_answer *answer);
 
@@ -119,8 +119,8 @@ uint32_t udsnorm_messages(uint32_t tester, uint32_t unit, uint64_t limit, uint32
 uint32_t udsnorm_explain(uint32_t tester, uint32_t unit, uint64_t limit, uint32_t style, const uint8_t *log,
                          size_t length, uint8_t *out, size_t room, struct udsnorm_answer *answer);
 
-/* A line for each pair of identifiers of which one answered the other, whatever they are: it takes no tester and no unit.
- * `style` is UDSNORM_TEXT or UDSNORM_JSON. Of the counts `lines` alone is told.
+/* A line for each pair of identifiers of which one answered the other, whatever they are: it takes no tester and no
+ * unit. `style` is UDSNORM_TEXT or UDSNORM_JSON. Of the counts `lines` alone is told; the others are 0.
  * Every status but UDSNORM_ID_RANGE, UDSNORM_SAME_ID, UDSNORM_OVERSIZE and UDSNORM_OUTPUT_LIMIT. */
 uint32_t udsnorm_find(uint64_t limit, uint32_t style, const uint8_t *log, size_t length, uint8_t *out, size_t room,
                       struct udsnorm_answer *answer);

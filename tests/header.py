@@ -1,8 +1,8 @@
-"""The header of the library beside the crate that it stands for: statuses, the answer, the calls and the version.
+"""The header of the library beside the crate that it stands for: statuses, styles, the answer, the calls and the version.
 
-What C has to see of the crate is made of its source: the statuses, the fields of the answer with their types and, by
-the rules of C, their places, and the types of the calls. A compiler then takes that beside the header, and refuses what
-differs.
+What C has to see of the crate is made of its source: the statuses and the styles, the usual identifiers, the fields of
+the answer with their types and, by the rules of C, their places, and the types of the calls. A compiler then takes that
+beside the header, and refuses what differs.
 """
 
 import re
@@ -23,10 +23,29 @@ IN_C = {
 }
 SIZES = {"u32": 4, "u64": 8}
 
+# The names that the header gives to the styles of the crate, and to constants of it.
+STYLES = {
+    ("Text", "Shown"): "TEXT", ("Text", "Hidden"): "NO_NUMBERS",
+    ("Json", "Shown"): "JSON", ("Json", "Hidden"): "JSON_NO_NUMBERS",
+}
+CONSTANTS = {"USUAL_TESTER": "TESTER", "USUAL_UNIT": "UNIT", "EXTENDED": "EXTENDED"}
+
 
 def statuses():
     """The names and numbers of the statuses in the crate."""
     return {name: int(number) for name, number in re.findall(r"^const (\w+): u32 = (\d+);$", (CRATE / "answer.rt").read_text(), re.M)}
+
+
+def styles():
+    """The names of the header and the numbers of the crate: of the styles of a list."""
+    found = re.findall(r"^        (\d+) => Some\(written\(Notation::(\w+), Numbering::(\w+)\)\),$", (CRATE / "sides.rt").read_text(), re.M)
+    return {STYLES[notation, numbering]: int(number) for number, notation, numbering in found}
+
+
+def constants():
+    """The same of identifiers and their flag."""
+    found = re.findall(r"^(?:pub\(crate\) )?const (\w+): u32 = (0x\w+);$", (CRATE / "sides.rt").read_text(), re.M)
+    return {CONSTANTS[name]: int(number, 16) for name, number in found}
 
 
 def fields():
@@ -56,7 +75,8 @@ def declared():
 def beside():
     """A C file that is compiled only where the header says what the crate says."""
     lines = ["#include <stddef.h>", '#include "udsnorm.h"', "#define SAME(name, a, b) typedef char name[(a) == (b) ? 1 : -1]"]
-    lines += [f"SAME(status_{name.lower()}, UDSNORM_{name}, {number});" for name, number in statuses().items()]
+    numbers = [*statuses().items(), *styles().items(), *constants().items()]
+    lines += [f"SAME(number_{name.lower()}, UDSNORM_{name}, {number});" for name, number in numbers]
     place = 0
     for name, of in fields():
         lines.append(f"SAME(place_{name}, offsetof(struct udsnorm_answer, {name}), {place});")
@@ -76,7 +96,8 @@ def differences():
     """What no compiler sees: calls of one side alone, values of the header that the crate has not, and the version."""
     ours = {name for name, _ in calls()}
     wrong = [f"{name} stands on one side" for name in sorted(ours ^ declared())]
-    names = set(re.findall(r"^    UDSNORM_(\w+) = \d+,? ", re.search(r"enum udsnorm_status \{(.*?)\};", HEADER.read_text(), re.S)[1], re.M))
-    wrong += [f"the status {name} stands on one side" for name in sorted(names ^ set(statuses()))]
+    for kind, known in (("status", statuses()), ("style", styles())):
+        names = re.findall(r"^    UDSNORM_(\w+) = \d+,? ", re.search(rf"enum udsnorm_{kind} \{{(.*?)\}};", HEADER.read_text(), re.S)[1], re.M)
+        wrong += [f"the {kind} {name} stands on one side" for name in sorted(set(names) ^ set(known))]
     number = int(re.search(r"^const VERSION: u32 = (\w+);$", (CRATE / "lib.rt").read_text(), re.M)[1], 16)
     return wrong + ([] if number == version() else [f"the version of the crate is {number:#x}"])

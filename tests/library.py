@@ -3,7 +3,7 @@
 
     tests/library.py crates/udsnorm/out/udsnorm out/lib [--logs NUMBER] [--seed NUMBER]
 
-- the header says of statuses, answer, calls and version what the crate has, for each compiler (header.py);
+- the header says of statuses, styles, answer, calls and version what the crate has, for each compiler (header.py);
 - no symbol but its calls leaves the shared library, and it has its name; the static one shows no other either;
 - the examples are compiled, and do what they say;
 - over the sample logs and those of tests/rows, each call answers what the program writes and tells;
@@ -66,7 +66,13 @@ STYLES = {"unnumbered": 1, "objects": 2, "unnumbered objects": 3, "message objec
 COUNTS = ["lines", "frames", "messages", "dropped", "ended", "unfinished", "pending"]
 TABLES = [
     "one_session", "sessions", "examples", "equal_numbers", "lost_frames", "late_frames", "long_announcements",
-    "long_announcements_told", "written_before_a_refused_line", "places",
+    "long_announcements_told", "written_before_a_refused_line", "places", "decided", "frames_without_part",
+    "lines_without_message", "objects", "pairs_found", "unclean_logs",
+]
+# Tables whose rows have limits, each with what comes of it.
+OF_LIMITS = [
+    "limits_written", "limits_nothing_written", "limits_of_extended_identifiers", "explained_under_limits",
+    "placed_under_limits",
 ]
 STATUSES = header.statuses()
 LIMIT = 1 << 30
@@ -174,6 +180,9 @@ def sessions():
     for name in TABLES:
         for row in tables.table(name):
             yield Session(f"{name}: {row.name}", row.log(), *map(identifier, row.sides()), LIMIT)
+    for row in (row for name in OF_LIMITS for row in tables.table(name)):
+        for limit in sorted({int(text.split(",")[0]) for text in row.texts("limit")}):
+            yield Session(f"{row.name}, with a limit of {limit}", row.log(), *map(identifier, row.sides()), limit)
     for line in tables.lines("refused_lines"):
         column, _, text = line.partition(" ")
         yield Session(f"refused_lines: {column} {text}", text.encode(), 0x7E0, 0x7E8, LIMIT)
@@ -194,7 +203,6 @@ def lines_of(folder, chosen):
 
 def calls_from_c(cases, folder, library, compilers, chosen):
     everything = lines_of(folder, chosen)
-    short = lines_of(folder, [session for session in chosen if len(session.log) < 20_000])
     accepted = lines_of(folder, [session for session in chosen if session.name.endswith(".log")])
     link = [library / "libudsnorm.a", "-pthread"]
     texts = {}
@@ -205,7 +213,7 @@ def calls_from_c(cases, folder, library, compilers, chosen):
                 cases.report(f"library_calls by {compiler}{kind}", wrong)
                 continue
             texts[compiler + kind] = run(built, ["answers"], everything)
-            for mode, given in (("rooms", short), ("edges", everything), ("threads", accepted)):
+            for mode, given in (("rooms", everything), ("edges", everything), ("threads", accepted)):
                 found = run(built, [mode], given)
                 cases.report(f"{mode} by {compiler}{kind}", differences(mode, found, (0, b"", b"")))
         built, wrong = compiled(folder, "refusing", compiler, CALLS, *REFUSING, *link)

@@ -19,7 +19,6 @@
 
 #include "udsnorm.h"
 
-#define CALLS 7
 #define THREADS 16
 #define ROUNDS 10
 #define GUARD 64
@@ -32,7 +31,28 @@ struct session {
     size_t length;
 };
 
-static const char *const names[CALLS] = {"normalise", "list", "unnumbered", "messages", "explain", "find", "compare"};
+/* Each text with its call, its style, and the bytes that the header says are enough for a byte of the log. */
+enum kind { NORMALISE, LIST, MESSAGES, EXPLAIN, FIND, COMPARE };
+static const struct {
+    const char *name;
+    enum kind kind;
+    uint32_t style;
+    size_t growth;
+} texts[] = {
+    {"normalise", NORMALISE, UDSNORM_TEXT, 4},
+    {"list", LIST, UDSNORM_TEXT, 4},
+    {"unnumbered", LIST, UDSNORM_NO_NUMBERS, 4},
+    {"objects", LIST, UDSNORM_JSON, 8},
+    {"unnumbered objects", LIST, UDSNORM_JSON_NO_NUMBERS, 8},
+    {"messages", MESSAGES, UDSNORM_TEXT, 4},
+    {"message objects", MESSAGES, UDSNORM_JSON, 8},
+    {"explain", EXPLAIN, UDSNORM_TEXT, 4},
+    {"explain objects", EXPLAIN, UDSNORM_JSON, 8},
+    {"find", FIND, UDSNORM_TEXT, 4},
+    {"find objects", FIND, UDSNORM_JSON, 8},
+    {"compare", COMPARE, UDSNORM_TEXT, 0},
+};
+#define TEXTS ((int)(sizeof texts / sizeof *texts))
 
 static void fail(const char *what, const char *call, unsigned long long number)
 {
@@ -54,30 +74,35 @@ static uint8_t *memory(size_t size)
     return at;
 }
 
-/* One of the calls over a log; that of a comparison has no text, and compares the log with itself. */
+/* One of the texts of a log; a comparison has none, and compares the log with itself. */
 static uint32_t text(int call, const struct session *s, const uint8_t *log, uint8_t *out, size_t room,
                      struct udsnorm_answer *answer)
 {
+    uint32_t style = texts[call].style;
     memset(answer, FILLED, sizeof *answer);
-    switch (call) {
-    case 0: return udsnorm_normalise(s->tester, s->unit, s->limit, log, s->length, out, room, answer);
-    case 1: return udsnorm_list(s->tester, s->unit, s->limit, UDSNORM_TEXT, log, s->length, out, room, answer);
-    case 2: return udsnorm_list(s->tester, s->unit, s->limit, UDSNORM_NO_NUMBERS, log, s->length, out, room, answer);
-    case 3: return udsnorm_messages(s->tester, s->unit, s->limit, UDSNORM_TEXT, log, s->length, out, room, answer);
-    case 4: return udsnorm_explain(s->tester, s->unit, s->limit, UDSNORM_TEXT, log, s->length, out, room, answer);
-    case 5: return udsnorm_find(s->limit, UDSNORM_TEXT, log, s->length, out, room, answer);
+    switch (texts[call].kind) {
+    case NORMALISE: return udsnorm_normalise(s->tester, s->unit, s->limit, log, s->length, out, room, answer);
+    case LIST: return udsnorm_list(s->tester, s->unit, s->limit, style, log, s->length, out, room, answer);
+    case MESSAGES: return udsnorm_messages(s->tester, s->unit, s->limit, style, log, s->length, out, room, answer);
+    case EXPLAIN: return udsnorm_explain(s->tester, s->unit, s->limit, style, log, s->length, out, room, answer);
+    case FIND: return udsnorm_find(s->limit, style, log, s->length, out, room, answer);
     default: return udsnorm_compare(s->tester, s->unit, s->limit, log, s->length, log, s->length, answer);
     }
 }
 
-/* The text of a call in memory that has room for it by what the header says, and what was answered. */
+static size_t enough(int call, const struct session *s)
+{
+    return texts[call].growth * s->length + 512;
+}
+
+/* A text in memory that has room for it by what the header says, and what was answered. */
 static uint8_t *whole(int call, const struct session *s, struct udsnorm_answer *answer)
 {
-    size_t room = 4 * s->length + 512;
+    size_t room = enough(call, s);
     uint8_t *out = memory(room);
     uint32_t status = text(call, s, s->log, out, room, answer);
-    need(status == answer->status, "another status", names[call], status);
-    need(status != UDSNORM_ROOM, "a larger room is wanted", names[call], answer->length);
+    need(status == answer->status, "another status", texts[call].name, status);
+    need(status != UDSNORM_ROOM, "a larger room is wanted", texts[call].name, answer->length);
     return out;
 }
 
@@ -92,10 +117,10 @@ static int is_filled(const uint8_t *from, size_t size)
 static void answers(const struct session *s)
 {
     int call;
-    for (call = 0; call < CALLS; call++) {
+    for (call = 0; call < TEXTS; call++) {
         struct udsnorm_answer a;
         uint8_t *out = whole(call, s, &a);
-        printf("%s %u %llu %u %llu %llu %llu %llu %llu %llu %llu %llu %llu %llu %u %u\n", names[call], (unsigned)a.status,
+        printf("%s %u %llu %u %llu %llu %llu %llu %llu %llu %llu %llu %llu %llu %u %u\n", texts[call].name, (unsigned)a.status,
                (unsigned long long)a.line, (unsigned)a.column, (unsigned long long)a.announced, (unsigned long long)a.length,
                (unsigned long long)a.lines, (unsigned long long)a.frames, (unsigned long long)a.messages,
                (unsigned long long)a.dropped, (unsigned long long)a.ended, (unsigned long long)a.unfinished,
@@ -105,30 +130,27 @@ static void answers(const struct session *s)
     }
 }
 
-/* With each room up to the length of the text and one more, what lies behind the room stays, and behind the text too.
- * Of a long text these are the smallest rooms, and those about its length. */
+/* With each room up to the length of the text and one more, what lies behind the room stays, and behind the text too. */
 static void rooms(const struct session *s)
 {
     int call;
-    for (call = 0; call < CALLS; call++) {
+    for (call = 0; call < TEXTS; call++) {
         struct udsnorm_answer want, a;
         uint8_t *whole_text = whole(call, s, &want), *out = memory((size_t)want.length + 1 + GUARD);
         size_t room, size = (size_t)want.length;
         for (room = 0; room <= size + 1; room++) {
-            if (room == 800 && size > 1600)
-                room = size - 800;
             memset(out, FILLED, size + 1 + GUARD);
             text(call, s, s->log, room ? out : NULL, room, &a);
             if (want.status == UDSNORM_DONE && room >= size) {
-                need(memcmp(&a, &want, sizeof a) == 0, "another answer with room", names[call], room);
-                need(memcmp(out, whole_text, size) == 0, "another text", names[call], room);
-                need(is_filled(out + size, 1 + GUARD), "a byte behind the text", names[call], room);
+                need(memcmp(&a, &want, sizeof a) == 0, "another answer with room", texts[call].name, room);
+                need(memcmp(out, whole_text, size) == 0, "another text", texts[call].name, room);
+                need(is_filled(out + size, 1 + GUARD), "a byte behind the text", texts[call].name, room);
             } else {
                 struct udsnorm_answer small = want;
                 if (want.status == UDSNORM_DONE)
                     small.status = UDSNORM_ROOM;
-                need(memcmp(&a, &small, sizeof a) == 0, "another answer without room", names[call], room);
-                need(is_filled(out, size + 1 + GUARD), "a byte without room", names[call], room);
+                need(memcmp(&a, &small, sizeof a) == 0, "another answer without room", texts[call].name, room);
+                need(is_filled(out, size + 1 + GUARD), "a byte without room", texts[call].name, room);
             }
         }
         free(out);
@@ -153,7 +175,7 @@ static void edges(const struct session *s)
     size_t page = (size_t)sysconf(_SC_PAGESIZE), log_room, out_room;
     uint8_t *log = walled(s->length, &log_room);
     int call, end;
-    for (call = 0; call < CALLS; call++) {
+    for (call = 0; call < TEXTS; call++) {
         struct udsnorm_answer want, a;
         uint8_t *whole_text = whole(call, s, &want);
         size_t size = (size_t)want.length;
@@ -162,8 +184,8 @@ static void edges(const struct session *s)
             uint8_t *log_at = log + (end ? log_room - s->length : 0), *out_at = out + (end ? out_room - size : 0);
             memmove(log_at, s->log, s->length);
             text(call, s, log_at, out_at, size, &a);
-            need(memcmp(&a, &want, sizeof a) == 0, "another answer at the edge", names[call], (unsigned long long)end);
-            need(memcmp(out_at, whole_text, size) == 0, "another text at the edge", names[call], (unsigned long long)end);
+            need(memcmp(&a, &want, sizeof a) == 0, "another answer at the edge", texts[call].name, (unsigned long long)end);
+            need(memcmp(out_at, whole_text, size) == 0, "another text at the edge", texts[call].name, (unsigned long long)end);
         }
         munmap(out - page, out_room + 2 * page);
         free(whole_text);
@@ -174,20 +196,19 @@ static void edges(const struct session *s)
 static void *again(void *of)
 {
     const struct session *s = (const struct session *)of;
-    size_t room = 4 * s->length + 512;
-    uint8_t *out = memory(room);
     int round, call;
-    for (call = 0; call < CALLS; call++) {
+    for (call = 0; call < TEXTS; call++) {
         struct udsnorm_answer want, a;
-        uint8_t *whole_text = whole(call, s, &want);
+        size_t room = enough(call, s);
+        uint8_t *whole_text = whole(call, s, &want), *out = memory(room);
         for (round = 0; round < ROUNDS; round++) {
             text(call, s, s->log, out, room, &a);
-            need(memcmp(&a, &want, sizeof a) == 0 && memcmp(out, whole_text, (size_t)a.length) == 0, "another answer in a thread", names[call],
+            need(memcmp(&a, &want, sizeof a) == 0 && memcmp(out, whole_text, (size_t)a.length) == 0, "another answer in a thread", texts[call].name,
                  (unsigned long long)round);
         }
+        free(out);
         free(whole_text);
     }
-    free(out);
     return NULL;
 }
 
@@ -246,7 +267,7 @@ void __wrap_free(void *at)
 static void refused(const struct session *s)
 {
     int call, for_good;
-    for (call = 0; call < CALLS; call++) {
+    for (call = 0; call < TEXTS; call++) {
         struct udsnorm_answer want, a;
         uint8_t *whole_text = whole(call, s, &want), *out = memory((size_t)want.length + GUARD);
         size_t size = (size_t)want.length;
@@ -263,11 +284,11 @@ static void refused(const struct session *s)
                 refused_to = for_good ? 1L << 40 : k;
                 text(call, s, s->log, out, size, &a);
                 refused_from = -1;
-                need(held == before, "memory is kept", names[call], (unsigned long long)k);
-                need(a.status == UDSNORM_MEMORY, "another status without memory", names[call], (unsigned long long)a.status);
-                need(is_filled(out, size + GUARD), "a byte without memory", names[call], (unsigned long long)k);
+                need(held == before, "memory is kept", texts[call].name, (unsigned long long)k);
+                need(a.status == UDSNORM_MEMORY, "another status without memory", texts[call].name, (unsigned long long)a.status);
+                need(is_filled(out, size + GUARD), "a byte without memory", texts[call].name, (unsigned long long)k);
                 text(call, s, s->log, out, size, &a);
-                need(memcmp(&a, &want, sizeof a) == 0 && memcmp(out, whole_text, size) == 0, "another answer afterwards", names[call], (unsigned long long)k);
+                need(memcmp(&a, &want, sizeof a) == 0 && memcmp(out, whole_text, size) == 0, "another answer afterwards", texts[call].name, (unsigned long long)k);
             }
         free(out);
         free(whole_text);
