@@ -9,9 +9,11 @@ package and typed code that uses it are checked. What is missing is named. The s
 
 import argparse
 import array
+import ast
 import ctypes
 import importlib
 import os
+import pickle
 import random
 import re
 import shutil
@@ -24,6 +26,7 @@ import unittest
 from pathlib import Path
 
 import differential
+import header
 import tables
 from cases import DIFFERENT, DONE, REFUSAL
 from runs import files, run
@@ -176,6 +179,8 @@ class Arguments(unittest.TestCase):
             udsnorm.compare(b"", b"(0.000000) a 7E0#1000FFFFFFFF0000\n")
         found = caught.exception
         self.assertEqual((found.reason, found.line, found.column, found.side), ("oversize", 1, None, "right"))
+        handed_on = pickle.loads(pickle.dumps(found))
+        self.assertEqual((str(handed_on), vars(handed_on)), (str(found), vars(found)))
 
     def test_limits(self):
         short = b"(0.000000) a 7E0#0110\n"
@@ -255,6 +260,19 @@ class Shipped(unittest.TestCase):
         statuses = re.findall(r"^    UDSNORM_(\w+) = (\d+)", (TOP / "library" / "udsnorm.h").read_text(), re.M)
         known = {name: getattr(library, name) for name, _ in statuses if hasattr(library, name)}
         self.assertEqual(known, {name: int(number) for name, number in statuses if name in known})
+        types = {"u32": ctypes.c_uint32, "u64": ctypes.c_uint64}
+        self.assertEqual(library.Answer._fields_, [(name, types[of]) for name, of in header.fields()])
+
+    def test_the_oldest_python(self):
+        """Its syntax everywhere, and a call where that Python is there."""
+        for path in PACKAGE.rglob("*.py"):
+            ast.parse(path.read_text(), str(path), feature_version=(3, 9))
+        oldest = shutil.which("python3.9")
+        if oldest is None or run(oldest, ["--version"]).status:
+            self.skipTest("no python3.9 is installed")
+        ask = f"import udsnorm, sys; sys.stdout.buffer.write(udsnorm.normalise({str(VIN)!r}))"
+        environment = {**os.environ, "PYTHONPATH": str(PACKAGE), "LD_LIBRARY_PATH": str(given.library.resolve())}
+        self.assertEqual(run(oldest, ["-B", "-c", ask], env=environment), (0, CANONICAL.read_bytes(), b""))
 
     def test_wheel_in_a_fresh_environment(self):
         if subprocess.run([sys.executable, "-m", "pip", "--version"], stdout=subprocess.DEVNULL, stderr=subprocess.DEVNULL).returncode:
@@ -291,6 +309,9 @@ requests: List[bytes] = [item.request for item in udsnorm.items(b"") if isinstan
 first: Optional[udsnorm.Difference] = udsnorm.compare(bytearray(), memoryview(b""))
 dropped: int = udsnorm.explain("a.log").counts.dropped
 seconds: List[float] = [(message.end - message.begin) / 1e6 for message in udsnorm.messages("a.log")]
+answering: List[int] = [pair.unit for pair in udsnorm.find(memoryview(b""))]
+udsnorm.normalise(1)  # type: ignore[arg-type]
+udsnorm.items(["a.log"])  # type: ignore[arg-type]
 '''
 
 

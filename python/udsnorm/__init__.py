@@ -7,25 +7,26 @@
     ...     print(item)
 
 A log is what `candump -l` or `-L` wrote: bytes, any other buffer (it is copied before the call), or the path of a file.
-Each call takes the same settings, but that `find` asks for no identifiers:
+Settings and errors are those of `normalise` for every call, but that `find` asks for no identifiers.
 
-- `tester`, `unit`: the identifiers of the frames that each side sends, as Linux's canid_t has them: 0 to 0x7FF, or
-  `EXTENDED | number` with a number up to 0x1FFFFFFF.
-- `limit`: the most bytes of the log, and of its canonical log: 1 to 2**40. A call takes memory for what the log means,
-  which this bounds.
-
-Errors of each call: `Refused` where the log is refused; `ValueError` for settings that there are not; `MemoryError`;
-`OSError` where a file can't be read. The interpreter's lock is given up during a call, so threads run side by side.
+The interpreter's lock is given up during a call, so threads run side by side.
 """
 
 from __future__ import annotations
 
 import os
-from typing import Any, List, NamedTuple, Optional, Union
+from typing import TYPE_CHECKING, Any, List, NamedTuple, Optional, Union
 
 from . import _library
 from ._library import Answer, Settings
-from ._lines import Counts, Direction, Exchange, Item, Message, Outcome, Pair, Role, Stray, items_of, messages_of, pairs_of
+from ._lines import Counts, Direction, Exchange, Item, Message, Outcome, Pair, Role, Stray
+from ._lines import items_of, messages_of, pairs_of
+
+# What a type checker sees of bytes and of every other object with the buffer protocol.
+if TYPE_CHECKING:
+    from _typeshed import ReadableBuffer
+else:
+    ReadableBuffer = Any
 
 __all__ = [
     "Counts", "Difference", "Direction", "EXTENDED", "Exchange", "Explanation", "Item", "LIMIT", "Message", "Outcome",
@@ -38,8 +39,8 @@ EXTENDED = 1 << 31
 #: The identifiers and the limit that the program has where none are given. For `messages` it has a limit of 2**40.
 TESTER, UNIT, LIMIT = 0x7E0, 0x7E8, 1 << 30
 
-#: A path, or bytes: those of any object with the buffer protocol.
-Log = Union[str, "os.PathLike[str]", Any]
+#: The path of a file, bytes, or any other buffer.
+Log = Union[str, "os.PathLike[str]", ReadableBuffer]
 
 _SETTING_FAULTS = {
     _library.ID_RANGE: "identifier out of range",
@@ -57,8 +58,13 @@ class Refused(ValueError):
     """
 
     def __init__(self, reason: str, text: str, line: Optional[int], column: Optional[int], side: Optional[str]) -> None:
-        super().__init__(f"{side}: {text}" if side else text)
+        # These are what is handed on where the error passes from process to process.
+        super().__init__(reason, text, line, column, side)
         self.reason, self.line, self.column, self.side = reason, line, column, side
+        self._text = f"{side}: {text}" if side else text
+
+    def __str__(self) -> str:
+        return self._text
 
 
 class Explanation(NamedTuple):
@@ -77,26 +83,37 @@ class Difference(NamedTuple):
 
 
 def normalise(log: Log, *, tester: int = TESTER, unit: int = UNIT, limit: int = LIMIT) -> bytes:
-    """The canonical log. Two logs have the same meaning exactly where these are equal."""
+    """The canonical log. Two logs have the same meaning exactly where these are equal.
+
+    `log`: its bytes in any buffer, or the path of a file.
+    `tester`, `unit`: the identifiers of the frames that each side sends, as Linux's canid_t has them: 0 to 0x7FF, or
+    `EXTENDED | number` with a number up to 0x1FFFFFFF. They have to be different.
+    `limit`: the most bytes of the log, and of its canonical log: 1 to 2**40. It bounds the memory that a call takes.
+
+    Raises `Refused` where the log is refused, `ValueError` for settings that there are not, `MemoryError`, and
+    `OSError` where a file can't be read.
+    """
     return _text("normalise", log, _settings(tester, unit, limit))[1]
 
 
 def items(log: Log, *, tester: int = TESTER, unit: int = UNIT, limit: int = LIMIT) -> List[Item]:
-    """The exchanges and the stray messages of a log, in the order of its meaning."""
+    """The exchanges and the stray messages of a log, in the order of its meaning.
+
+    Settings and errors are those of `normalise`."""
     return items_of(_text("list", log, _settings(tester, unit, limit), _library.NO_NUMBERS)[1])
 
 
 def messages(log: Log, *, tester: int = TESTER, unit: int = UNIT, limit: int = LIMIT) -> List[Message]:
-    """The messages of a log that were received whole, in the order in which they were complete.
+    """The messages of a log that were received whole, in the order in which they were complete, with their times.
 
-    No announced length and no canonical log refuses a log here."""
+    Settings and errors are those of `normalise`, but that no announced length and no canonical log refuses a log."""
     return messages_of(_text("messages", log, _settings(tester, unit, limit), _library.TEXT)[1])
 
 
 def explain(log: Log, *, tester: int = TESTER, unit: int = UNIT, limit: int = LIMIT) -> Explanation:
     """What was dropped of a log and why, and its counts.
 
-    No announced length and no canonical log refuses a log here."""
+    Settings and errors are those of `normalise`, but that no announced length and no canonical log refuses a log."""
     answer, text = _text("explain", log, _settings(tester, unit, limit), _library.TEXT)
     return Explanation(text.decode("ascii"), Counts(*(getattr(answer, name) for name in Counts._fields)))
 
@@ -104,7 +121,7 @@ def explain(log: Log, *, tester: int = TESTER, unit: int = UNIT, limit: int = LI
 def find(log: Log, *, limit: int = LIMIT) -> List[Pair]:
     """Which identifiers ask and which answer, for a log whose identifiers nobody told: the most answers first.
 
-    No announced length and no canonical log refuses a log here."""
+    The limit and errors are those of `normalise`, but that no announced length and no canonical log refuses a log."""
     return pairs_of(_text("find", log, _settings(TESTER, UNIT, limit), _library.TEXT)[1])
 
 
@@ -113,7 +130,7 @@ def compare(
 ) -> Optional[Difference]:
     """The first item in which two logs differ; None where they have the same meaning.
 
-    Where both are refused, the left one is told."""
+    Settings and errors are those of `normalise`. Where both logs are refused, the left one is told."""
     settings = _settings(tester, unit, limit)
     one, other = _contents(left, limit), _contents(right, limit)
     answer = _library.compare(settings, one, other)

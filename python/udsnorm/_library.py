@@ -99,8 +99,9 @@ _library.udsnorm_compare.argtypes = [*_SETTINGS, *_LOG, *_LOG, *_ANSWER]
 
 
 def text(name: str, settings: Settings, log: bytes, *style: int) -> Tuple[Answer, bytes]:
-    """The answer of the call of this name, and its text: none where the answer says why there is none. The interpreter's
-    lock is given up during the call."""
+    """The answer of the call of this name, and its text: none where the answer says why there is none.
+
+    The interpreter's lock is given up during the call."""
     call, answer, room = getattr(_library, f"udsnorm_{name}"), Answer(), 4 * len(log) + 512
     while True:
         out = _process.malloc(room)
