@@ -20,6 +20,7 @@ from tables import EXAMPLES
 
 VIN = EXAMPLES / "vin.log"
 CRLF = EXAMPLES / "vin-fd-crlf.log"
+FIRST = EXAMPLES / "first.log"
 
 # Names of files, and how a hint has them: as they are, or so that a shell reads them back, without a control character.
 NAMES = {
@@ -94,6 +95,7 @@ def files(cases, folder):
 def limits(cases, folder):
     """The limit that a log or its canonical log passes, which the words give or leave out, and the option that sets it."""
     Path(folder, "fd.log").write_bytes(CRLF.read_bytes())
+    Path(folder, "request.log").write_bytes(FIRST.read_bytes())
     hint = "the limit is {} bytes; --limit sets it, up to 1099511627776"
     for words, limit in [
         (["list", "--limit", "211", "mine.log"], 211),
@@ -101,10 +103,13 @@ def limits(cases, folder):
         (["normalise", "--limit", "112", "fd.log"], 112),
         (["compare", "--limit", "112", "fd.log", "mine.log"], 112),
         (["compare", "--limit", "211", "mine.log", "fd.log"], 211),
+        (["compare", "--limit", "112", "request.log", "fd.log"], 112),
         (["find", "--limit", "100", "mine.log"], 100),
     ]:
         hinted(cases, shlex.join(words), words, folder, REFUSAL, hint.format(limit))
     hinted(cases, "standard input past the limit", ["list", "--limit", "99"], folder, REFUSAL, hint.format(99), log=VIN.read_bytes())
+    # No option raises the limit of a message.
+    hinted(cases, "a message past the limit", ["list"], folder, REFUSAL, None, log=b"(1.000000) can0 7E8#1000001000004142\n")
 
 
 def names(cases, folder):
@@ -136,6 +141,17 @@ def words(cases, folder):
         hinted(cases, f"the words {shlex.join(given)}", given, folder, WORDS, hint)
 
 
+def pairs(cases, folder):
+    """A log in which `find` finds no pair."""
+    Path(folder, "request.log").write_bytes(FIRST.read_bytes())
+    hint = "nothing in {} answers another identifier; find needs the frames of both sides, and looks at each identifier up to 1FFFFFFF"
+    for given in [["find", "request.log"], ["find", "--json", "request.log"]]:
+        hinted(cases, f"no pair for {shlex.join(given)}", given, folder, 0, hint.format("request.log"))
+    hinted(cases, "no pair in no log", ["find"], folder, 0, hint.format("standard input"))
+    for given in [["find", "mine.log"], ["find", "--json", "mine.log"], ["list", "--tester", "701", "--unit", "709", "mine.log"]]:
+        hinted(cases, f"nothing of {shlex.join(given)}", given, folder, 0, None)
+
+
 def silent(cases, folder):
     """Where there is nothing to say, nothing is said; and a hint that can't be told changes no status."""
     for given in [[], ["list", "mine.log"], ["--help"], ["--version"], ["compare", "mine.log", "mine.log"]]:
@@ -152,7 +168,7 @@ def main():
         sys.exit(__doc__)
     cases = Cases(os.path.abspath(sys.argv[1]))
     with tempfile.TemporaryDirectory() as folder:
-        for test in [files, limits, names, words, silent]:
+        for test in [files, limits, names, words, pairs, silent]:
             test(cases, folder)
     cases.end()
 

@@ -58,6 +58,8 @@ hint_line matter.Denied log = codes "hint: no permission to read " ++ named log 
 hint_line matter.Unopened log = codes "hint: " ++ named log ++ codes " can't be opened\n"
 hint_line matter.Unread log = codes "hint: reading " ++ named log ++ codes " failed\n"
 hint_line (matter.Limit limit) log = codes "hint: the limit is " ++ decimal limit ++ codes " bytes; --limit sets it, up to 1099511627776\n"
+hint_line matter.NoPair log =
+    codes "hint: nothing in " ++ named log ++ codes " answers another identifier; find needs the frames of both sides, and looks at each identifier up to 1FFFFFFF\n"
 hint_line matter.NoCommand log = codes "hint: " ++ named log ++ codes " is a file: udsnorm list " ++ named log ++ codes "\n"
 
 -- ---- what it is about

@@ -1,14 +1,16 @@
 //! How a run of the program ended, and what is known of that for a hint.
 
-ghost use Rattle.std.specs.Prelude.{◌≡◌, ◌⊎◌, Err, option_map};
+ghost use Rattle.std.specs.Prelude.{◌≡◌, ◌⊎◌, option_map};
 ghost use Rattle.udsnorm.specs.Hints.{name_in};
-ghost use Rattle.udsnorm.specs.Known.{IsKnownBy, IsKnownByTwo, IsKnownUnopened};
+ghost use Rattle.udsnorm.specs.Known.{IsKnownBy, IsKnownByFault, IsKnownByTwo, IsKnownUnopened, known_of_done, knows_limit, knows_no_pair};
 ghost use Rattle.udsnorm.specs.declared.ended.Matter.TheVariants as matter;
 
+use crate::commands::Job;
 use crate::job::{Plan, WordsFault};
 use std::fs::OpenFile;
 use std::io::{Error, ErrorKind};
-use trace_canon::{CompareFault, Config, Fault, Summary};
+use trace_canon::{CompareFault, Config, Fault, LARGEST_LIMIT, Summary};
+use trace_io::Target;
 
 /// What the words asked for, and how that ended.
 #[derive(Drop)]
@@ -73,8 +75,10 @@ pub enum Matter {
     Unopened,
     /// Reading it failed.
     Unread,
-    /// It, or its canonical log, is longer than this limit.
+    /// It, or its canonical log, is longer than this limit, and a larger one can be given.
     Limit(u64),
+    /// No identifier in it answers another one.
+    NoPair,
     /// It was named where a command has its place.
     NoCommand,
 }
@@ -91,27 +95,58 @@ pub(crate) fn unopened(which: Which, error: &Error) -> Option<Known>
     Some(Known { which, matter })
 }
 
-/// What is known of standard input, by what a run over it came to.
-pub(crate) fn known_of_input(config: &Config, outcome: Result<Summary, Fault>) -> Option<Known>
-    ensures { IsKnownBy Which.First config.now outcome result }
+/// What is known of standard input, by what a job over it came to.
+pub(crate) fn known_of_input<W: Target>(
+    job: Job,
+    config: &Config,
+    outcome: Result<Summary, Fault>,
+    out: &W,
+) -> Option<Known>
+    ensures { IsKnownBy job config.now outcome (W.taken out.now) result }
 {
     match outcome {
-        Ok(_) => None,
+        Ok(_) => known_of_done(job, out),
         Err(fault) => known_of(Which::First, config, fault, Matter::Unread),
     }
 }
 
-/// What is known of the log of a file, by what a run over it came to.
-pub(crate) fn known_of_file<F: OpenFile>(
+/// What is known of the log of a file, by what a job over it came to.
+pub(crate) fn known_of_file<F: OpenFile, W: Target>(
+    job: Job,
     config: &Config,
     outcome: Result<Summary, Fault>,
     log: &F,
+    out: &W,
 ) -> Option<Known>
-    ensures { IsKnownBy Which.First config.now outcome result }
+    ensures { IsKnownBy job config.now outcome (W.taken out.now) result }
 {
     match outcome {
-        Ok(_) => None,
+        Ok(_) => known_of_done(job, out),
         Err(fault) => known_of_fault(Which::First, config, fault, log),
+    }
+}
+
+/// What is known of a log that was accepted.
+fn known_of_done<W: Target>(job: Job, out: &W) -> Option<Known>
+    ensures { result ≡ known_of_done job (W.taken out.now) }
+{
+    match job {
+        Job::Find(_) => known_of_pairs(out),
+        _ => None,
+    }
+}
+
+/// What is known of a log in which pairs were to be found: that there is none, where nothing was written.
+fn known_of_pairs<W: Target>(out: &W) -> Option<Known>
+    ensures { result ≡ knows_no_pair (W.taken out.now) }
+{
+    if out.has_taken() {
+        None
+    } else {
+        Some(Known {
+            which: Which::First,
+            matter: Matter::NoPair,
+        })
     }
 }
 
@@ -138,7 +173,7 @@ fn known_of_fault<F: OpenFile>(
     fault: Fault,
     log: &F,
 ) -> Option<Known>
-    ensures { IsKnownBy which config.now (Err fault) result }
+    ensures { IsKnownByFault which config.now fault result }
 {
     known_of(which, config, fault, why_unread(fault, log))
 }
@@ -159,14 +194,30 @@ fn why_unread<F: OpenFile>(fault: Fault, log: &F) -> Matter
 /// What is known of a log, by the fault of a run over it, and by why it can't be read where that is the fault.
 fn known_of(which: Which, config: &Config, fault: Fault, unread: Matter) -> Option<Known>
     requires { (unread ≡ matter.Unread) ⊎ (unread ≡ matter.Folder) }
-    ensures { IsKnownBy which config.now (Err fault) result }
+    ensures { IsKnownByFault which config.now fault result }
 {
-    let matter = match fault {
-        Fault::LogLimit | Fault::OutputLimit => Matter::Limit(config.max_bytes()),
-        Fault::Read => unread,
-        _ => return None,
-    };
-    Some(Known { which, matter })
+    match fault {
+        Fault::LogLimit | Fault::OutputLimit => known_of_limit(which, config.max_bytes()),
+        Fault::Read => Some(Known {
+            which,
+            matter: unread,
+        }),
+        _ => None,
+    }
+}
+
+/// What is known of a log that passes this limit: that, where a larger one can be given.
+fn known_of_limit(which: Which, most: u64) -> Option<Known>
+    ensures { result ≡ knows_limit which most }
+{
+    if most < LARGEST_LIMIT {
+        Some(Known {
+            which,
+            matter: Matter::Limit(most),
+        })
+    } else {
+        None
+    }
 }
 
 /// The name of a log of a plan, if it has one.

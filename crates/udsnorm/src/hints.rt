@@ -16,6 +16,10 @@ use std::fs;
 use std::rt::Files;
 use trace_io::Target;
 
+/// What is said of a log in which `find` finds no pair, behind its name.
+const NO_PAIR: &str =
+    " answers another identifier; find needs the frames of both sides, and looks at each identifier up to 1FFFFFFF\n";
+
 /// A piece of a hint.
 #[derive(Clone, Copy)]
 pub(crate) enum Piece<'a> {
@@ -136,6 +140,14 @@ fn line(alloc: Global, matter: Matter, log: Option<&str>) -> Result<Vec<u8>, All
                 Piece::Words("hint: the limit is "),
                 Piece::Number(limit),
                 Piece::Words(" bytes; --limit sets it, up to 1099511627776\n"),
+            ],
+        ),
+        Matter::NoPair => line_of(
+            alloc,
+            &[
+                Piece::Words("hint: nothing in "),
+                log,
+                Piece::Words(NO_PAIR),
             ],
         ),
         Matter::NoCommand => line_of(

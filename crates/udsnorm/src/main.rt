@@ -156,7 +156,7 @@ where
                 let end = run_one(rt.alloc(), *job, *strict, config, input, out, err);
                 End {
                     status: end.status,
-                    known: known_of_input(config, end.outcome),
+                    known: known_of_input(*job, config, end.outcome, out),
                 }
             }
             Some(name) => run_file(rt, *job, *strict, config, name, out, err),
@@ -195,7 +195,7 @@ fn run_file<R: AllocGlobal + Files, W: Target, E: Target>(
             let end = run_one(rt.alloc(), job, strict, config, &mut log, out, err);
             End {
                 status: end.status,
-                known: known_of_file(config, end.outcome, &log.into_inner()),
+                known: known_of_file(job, config, end.outcome, &log.into_inner(), out),
             }
         }
         Err(error) => End {
