@@ -97,7 +97,8 @@ struct udsnorm_answer {
  * enough for each text, and one of 8 * length + 512 for objects of JSON, of logs with up to 10^11 lines.
  *
  * A length is at most PTRDIFF_MAX. No call is made from a signal handler, or from the forked child of a process with
- * threads. Memory comes from malloc and realloc and goes back to free, which have to be of one allocator.
+ * threads. 64 KiB of stack are enough for a call. Memory comes from malloc and realloc and goes back to free, which
+ * have to be of one allocator.
  */
 
 /* The canonical log. Two logs have the same meaning exactly where their canonical logs are equal byte for byte.

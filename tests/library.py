@@ -46,6 +46,8 @@ COMPILERS = {
     "clang++": ["-std=c++11", "-x", "c++"],
 }
 SANITIZED = ["-fsanitize=address,undefined", "-fno-sanitize-recover=all"]
+# With as much stack for each thread as the header says is enough; sanitizers take more for themselves.
+PLAIN = ["-DSTACK=65536"]
 REFUSING = ["-DREFUSES", "-Wl,--wrap=malloc,--wrap=realloc,--wrap=free"]
 
 # What the library calls a text, and the words of the program that write it.
@@ -207,7 +209,7 @@ def calls_from_c(cases, folder, library, compilers, chosen):
     link = [library / "libudsnorm.a", "-pthread"]
     texts = {}
     for compiler in compilers:
-        for kind, options in (("", []), (" with sanitizers", SANITIZED)):
+        for kind, options in (("", PLAIN), (" with sanitizers", SANITIZED)):
             built, wrong = compiled(folder, f"calls{kind[-10:].strip()}", compiler, CALLS, *options, *link)
             if wrong:
                 cases.report(f"library_calls by {compiler}{kind}", wrong)

@@ -215,11 +215,17 @@ static void *again(void *of)
 static void threads(const struct session *s)
 {
     pthread_t running[THREADS];
+    pthread_attr_t how;
     int i;
+    pthread_attr_init(&how);
+#ifdef STACK
+    need(pthread_attr_setstacksize(&how, STACK) == 0, "no stack", "test", STACK);
+#endif
     for (i = 0; i < THREADS; i++)
-        need(pthread_create(&running[i], NULL, again, (void *)s) == 0, "no thread", "test", (unsigned long long)i);
+        need(pthread_create(&running[i], &how, again, (void *)s) == 0, "no thread", "test", (unsigned long long)i);
     for (i = 0; i < THREADS; i++)
         pthread_join(running[i], NULL);
+    pthread_attr_destroy(&how);
 }
 
 #ifdef REFUSES
