@@ -71,8 +71,8 @@ impl<'a> Model for Segments<'a> {
 }
 
 impl<'a> Segments<'a> {
-    ghost use Rattle.std.specs.Prelude.{◌≡◌, ◌≤◌, [], ◌∷◌, List, ℕ, length, slice_set, IfSome, IfNone};
-    ghost use Rattle.isotp_segment.specs.CanonicalFrames.{canonical_frames};
+    ghost use Rattle.std.specs.Prelude.{◌≡◌, ◌≤◌, [], ◌∷◌, List, ℕ, length, slice_set, IfSome, IfNone, IsSome};
+    ghost use Rattle.isotp_segment.specs.CanonicalFrames.{IsFullNext, canonical_frames};
     ghost use Rattle.isotp_receive.specs.declared.TheConstants.{MESSAGE_LIMIT};
 
     /// The frames of a message that is sent in the direction `dir`.
@@ -97,6 +97,7 @@ impl<'a> Segments<'a> {
     pub fn next_full(&mut self, sender: Dir) -> Option<[u8; 8]>
         ensures some { IfSome result (λ frame. self.old ≡ (sender, frame) ∷ self.new) }
         ensures none { IfNone result (self.new ≡ self.old) }
+        ensures misses_none { IsFullNext sender self.old → IsSome result }
     {
         if self.number < 2 || self.count <= self.number || sender != self.dir {
             return None;
