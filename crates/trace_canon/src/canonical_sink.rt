@@ -5,7 +5,7 @@ ghost use Rattle.can_log.specs.declared.frame.Id.TheVariants.{Std, Ext};
 ghost use Rattle.direction.specs.Dir.{Message};
 ghost use Rattle.direction.specs.declared.Dir.{Dir as DirValue};
 ghost use Rattle.isotp_receive.specs.declared.TheConstants.{MESSAGE_LIMIT};
-ghost use Rattle.isotp_segment.specs.CanonicalFrames.{canonical_frames};
+ghost use Rattle.isotp_segment.specs.CanonicalFrames.{IsFullNext, canonical_frames};
 ghost use Rattle.isotp_segment.specs.Timed.{all_frames};
 ghost use Rattle.uds_exchange.specs.Order.{held as held_after};
 ghost use Rattle.uds_exchange.specs.Orderer.{IsHeld, stands_after};
@@ -134,7 +134,8 @@ fn say_line<S: TextSink>(out: &mut S, clock: &LineClock, id: Id, frame: &[u8; 8]
     }
 }
 
-/// Says the lines of the full consecutive frames of a sender that come next, and answers the frames that are left.
+/// Says the lines of the full consecutive frames of a sender that come next, as far as there is room, and answers the
+/// frames that are left.
 #[inline(always)]
 fn say_full_frames<'a, S: TextSink>(
     out: &mut S,
@@ -145,6 +146,7 @@ fn say_full_frames<'a, S: TextSink>(
 ) -> Segments<'a>
     ensures says { SaysFront S.says config.now place.old out.old frames.entry place.new out.new result }
     ensures fewer { length result ≤ length frames.entry }
+    ensures misses_none { IsFullNext sender result → place.new.room ≡ 0 }
 {
     match config.id_of(sender) {
         Id::Std(number) => {
@@ -190,6 +192,7 @@ fn say_stretch<'a, S: TextSink, const LENGTH: usize>(
     requires long { BASE_LINE ≤ LENGTH }
     ensures says { SaysFront S.says config.now place.old out.old frames.entry place.new out.new result }
     ensures fewer { length result ≤ length frames.entry }
+    ensures misses_none { IsFullNext sender result → place.new.room ≡ 0 }
 {
     let mut line = blank;
     let mut rest = frames;

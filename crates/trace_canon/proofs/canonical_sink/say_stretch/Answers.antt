@@ -1,6 +1,7 @@
-use Rattle.std.proofs.Common.{arith, ◌≡◌, ◌∷◌, ℕ, ◌<◌, ◌≤◌, List, length, refl, ap, sym, subst, ◌∙◌}
+use Rattle.std.proofs.Common.{arith, ◌≡◌, ◌∷◌, ℕ, ◌<◌, ◌≤◌, List, length, true, false, refl, ap, sym, subst, ◌∙◌}
 use Rattle.can_log.specs.Canonical.{canonical_line}
 use Rattle.direction.specs.declared.Dir.{Dir}
+use Rattle.isotp_segment.specs.CanonicalFrames.{IsFullNext}
 use Rattle.trace_canon.specs.Settings.{id_of}
 use Rattle.trace_canon.specs.declared.canonical_sink.TheConstants.{BLANK}
 use Rattle.trace_canon.specs.proving.Saying.{SaysFront}
@@ -69,3 +70,8 @@ returns-clause-fewer g c =
     let so_far = c.stretch.invariant.fewer in
     let same = ap length c.in_default.ensures.none in
     omega arith
+
+pub returns-clause-misses_none : goal.returns-clause-misses_none
+returns-clause-misses_none g c full =
+    let some : false ≡ true = c.in_default.ensures.misses_none (subst (IsFullNext c.args.sender) c.in_default.ensures.none full) in
+    absurd cc
