@@ -119,7 +119,7 @@ fn lay_sixteens(sixteens: usize, digits: &[u8], bytes: &mut [u8])
     }
 }
 
-/// The bytes that fewer than sixteen digits spell, and zeros after them.
+/// The bytes that fewer than sixteen digits spell, at the front of eight.
 #[inline(always)]
 fn few_bytes(digits: &[u8]) -> [u8; 8]
     requires few { length digits.now < 16 }
