@@ -1,9 +1,9 @@
 -- What calls over devices answer, where the log lies in memory and the text is gathered there.
 use Rattle.std.proofs.Common.{◌≡◌, ◌≢◌, ℕ, ◌+◌, true, false, List, [], ◌++◌, Some, Result, Ok, Err, arith, refl, ap, sym, subst, ◌∙◌}
-use Rattle.std.proofs.lemmas.List.{append-nil}
 use Rattle.std.specs.Io.KnownBytes.{IsAtEnd}
 use Rattle.std.specs.Prelude.{MatchResult, IfErr}
 use Rattle.isotp_receive.specs.declared.TheConstants.{MESSAGE_LIMIT}
+use Rattle.isotp_receive.specs.Trace.{Entry}
 use Rattle.uds_exchange.specs.Meaning.{ItemValue}
 use Rattle.trace_canon.specs.declared.comparing.Compared.{Compared}
 use Rattle.trace_canon.specs.declared.comparing.Comparison.{Comparison}
@@ -18,18 +18,16 @@ use Rattle.trace_canon.specs.declared.fault.Fault.TheVariants.{BadLine, Oversize
 use Rattle.trace_canon.specs.declared.item_lines.ItemStyle.{ItemStyle}
 use Rattle.trace_canon.specs.declared.notation.Notation.{Notation}
 use Rattle.trace_canon.specs.declared.summary.Summary.{Summary}
-use Rattle.trace_canon.specs.Answers.{Answers, TellsOutcome, GivesMeaning}
-use Rattle.trace_canon.specs.ExplainAnswers.{AnswersExplain}
+use Rattle.trace_canon.specs.Answers.{Answers, TellsOutcome, IsAcceptedWith, GivesMeaning}
 use Rattle.trace_canon.specs.Failing.{FailedIf}
-use Rattle.trace_canon.specs.InMemory.{IsOfMemory, IsRefused, IsUnread, IsCanonicalLogWith, IsListWith, IsPlacingWith, IsExplanationWith, IsFindingWith, MeansInMemory, ComparesInMemory, fault_in_memory}
-use Rattle.trace_canon.specs.ExplainText.{explain_text_of_lines}
-use Rattle.trace_canon.specs.Found.{Finds, IsUnheardFor, pairs_text}
+use Rattle.trace_canon.specs.InMemory.{IsOfMemory, IsRefused, IsUnread, IsCanonicalLogWith, IsListWith, IsToldWith, IsFindingWith, MeansInMemory, ComparesInMemory, fault_in_memory}
+use Rattle.trace_canon.specs.Found.{Finds, IsFoundIn, IsUnheardFor, pairs_text}
 use Rattle.trace_canon.specs.Listed.{Lists}
 use Rattle.trace_canon.specs.ListText.{list_text}
-use Rattle.trace_canon.specs.MessageLines.{placing_script}
 use Rattle.trace_canon.specs.Outcome.{Accepted, IsOutcome}
+use Rattle.trace_canon.specs.Printed.{WritesOnce}
 use Rattle.trace_canon.specs.Settings.{Settings}
-use Rattle.trace_canon.specs.Told.{IsUnreadFor, AnswersTold, answers_counts, told_of_lines, whole_of_lines}
+use Rattle.trace_canon.specs.Told.{Script, IsUnreadFor, AnswersTold, answers_counts, whole_of_lines}
 
 -- bytes of which none was read
 abbrev pub unread : List ℕ → BytesInMemory
@@ -96,71 +94,61 @@ canonical_in_memory limit settings log given (Ok summary) old taken held old_is 
 canonical_in_memory limit settings log given (Err fault) old taken held old_is held_is failed (is, left) =
     refused limit settings log fault is (λ read. reads_well failed (ap Err read))
 
+-- what is read of no log, whatever the text
+unread_so : (limit : ℕ) (settings : Settings) (log : List ℕ) (fault : Fault) → IsUnreadFor false limit settings log fault → fault ≢ Read
+    → IsUnread limit settings log (fault_in_memory fault)
+unread_so limit settings log (BadLine line column) is not = (is, of_memory (BadLine line column) not)
+unread_so limit settings log LogLimit is not = (is, of_memory LogLimit not)
+unread_so limit settings log Read is not = absurd (not refl)
+unread_so limit settings log Write is not = (tt, of_memory Write not)
+unread_so limit settings log Memory is not = (tt, of_memory Memory not)
+unread_so limit settings log (Oversize line announced) is not = absurd is
+unread_so limit settings log OutputLimit is not = absurd is
+
+-- a text that is written at the end alone
+module _ {V : Type 0} (text : V → List ℕ) (Is : V → Summary → Type 0) (IsFault : Fault → Type 0) (IsKnown : Fault → Type 0)
+    (known : (fault : Fault) → IsFault fault → fault ≢ Read → IsKnown (fault_in_memory fault)) where
+  pub written_in_memory : (answer : Result Summary Fault) (old taken held : List ℕ) → old ≡ [] → taken ≡ held → FailedIf Read answer 0 0
+      → WritesOnce text Is IsFault answer old taken
+      → MatchResult answer (λ summary. (value : V) × Is value summary × (held ≡ text value)) (λ fault. IsKnown (fault_in_memory fault))
+  written_in_memory (Ok summary) old taken held old_is held_is failed (value, is, wrote) =
+      (value, is, sym held_is ∙ wrote ∙ ap (λ xs. xs ++ text value) old_is)
+  written_in_memory (Err fault) old taken held old_is held_is failed (is, left) = known fault is (λ read. reads_well failed (ap Err read))
+
 pub list_in_memory : (style : ItemStyle) (limit : ℕ) (settings : Settings) (log : List ℕ) (answer : Result Summary Fault) (old taken held : List ℕ)
     → old ≡ [] → taken ≡ held → FailedIf Read answer 0 0 → Lists style limit settings log answer old taken
     → MatchResult answer (λ summary. IsListWith style limit settings log held summary) (λ fault. IsRefused limit settings log (fault_in_memory fault))
-list_in_memory style limit settings log (Ok summary) old taken held old_is held_is failed (items, is, wrote) =
-    (items, is, sym held_is ∙ wrote ∙ ap (λ xs. xs ++ list_text style items) old_is)
-list_in_memory style limit settings log (Err fault) old taken held old_is held_is failed (is, left) =
-    refused limit settings log fault is (λ read. reads_well failed (ap Err read))
-
-unread_for : (notation : Notation) (limit : ℕ) (settings : Settings) (log : List ℕ) (given : ℕ) (fault : Fault) (old taken : List ℕ)
-    → AnswersExplain notation limit settings log given (Err fault) old taken → IsUnreadFor false limit settings log (fault_in_memory fault)
-unread_for notation limit settings log given (BadLine line column) old taken (is, wrote) = is
-unread_for notation limit settings log given LogLimit old taken (is, wrote) = is
-unread_for notation limit settings log given Read old taken is = search
-unread_for notation limit settings log given Write old taken is = search
-unread_for notation limit settings log given Memory old taken is = search
-unread_for notation limit settings log given (Oversize line announced) old taken is = is
-unread_for notation limit settings log given OutputLimit old taken is = is
-
-told_unread : (notation : Notation) (limit : ℕ) (settings : Settings) (log : List ℕ) (given : ℕ) (fault : Fault) (old taken : List ℕ)
-    → AnswersTold (placing_script notation limit) answers_counts limit settings log given (Err fault) old taken → IsUnreadFor false limit settings log (fault_in_memory fault)
-told_unread notation limit settings log given (BadLine line column) old taken (is, wrote) = is
-told_unread notation limit settings log given LogLimit old taken (is, wrote) = is
-told_unread notation limit settings log given Read old taken is = search
-told_unread notation limit settings log given Write old taken is = search
-told_unread notation limit settings log given Memory old taken is = search
-told_unread notation limit settings log given (Oversize line announced) old taken (is, wrote) = is
-told_unread notation limit settings log given OutputLimit old taken (whole, meanings, read, counted, wrote) = absurd (cc counted)
-
-pub placing_in_memory : (notation : Notation) (limit : ℕ) (settings : Settings) (log : List ℕ) (given : ℕ) (answer : Result Summary Fault) (old taken held : List ℕ)
-    → old ≡ [] → taken ≡ held → FailedIf Read answer 0 0 → AnswersTold (placing_script notation limit) answers_counts limit settings log given answer old taken
-    → MatchResult answer (λ summary. IsPlacingWith notation limit settings log held summary) (λ fault. IsUnread limit settings log (fault_in_memory fault))
-placing_in_memory notation limit settings log given (Ok summary) old taken held old_is held_is failed (whole, meanings, read, counted, wrote) = (
-  meanings,
-  read,
-  cc counted,
-  sym held_is ∙ wrote ∙ ap (λ xs. xs ++ whole_of_lines (placing_script notation limit) limit settings log meanings) old_is
-      ∙ append-nil (told_of_lines (placing_script notation limit) settings meanings),
-)
-placing_in_memory notation limit settings log given (Err fault) old taken held old_is held_is failed is =
-    (told_unread notation limit settings log given fault old taken is, of_memory fault (λ read. reads_well failed (ap Err read)))
-
-pub explanation_in_memory : (notation : Notation) (limit : ℕ) (settings : Settings) (log : List ℕ) (given : ℕ) (answer : Result Summary Fault) (old taken held : List ℕ)
-    → old ≡ [] → taken ≡ held → FailedIf Read answer 0 0 → AnswersExplain notation limit settings log given answer old taken
-    → MatchResult answer (λ summary. IsExplanationWith notation limit settings log held summary) (λ fault. IsUnread limit settings log (fault_in_memory fault))
-explanation_in_memory notation limit settings log given (Ok summary) old taken held old_is held_is failed (meanings, is, counted, wrote) =
-    (meanings, is, counted, sym held_is ∙ wrote ∙ ap (λ xs. xs ++ explain_text_of_lines notation limit settings log meanings) old_is)
-explanation_in_memory notation limit settings log given (Err fault) old taken held old_is held_is failed is =
-    (unread_for notation limit settings log given fault old taken is, of_memory fault (λ read. reads_well failed (ap Err read)))
-
-heard_for : (settings : Settings) (log : List ℕ) (fault : Fault) → IsUnheardFor settings log fault → IsUnreadFor false MESSAGE_LIMIT settings log (fault_in_memory fault)
-heard_for settings log (BadLine line column) is = is
-heard_for settings log LogLimit is = is
-heard_for settings log Read is = search
-heard_for settings log Write is = search
-heard_for settings log Memory is = search
-heard_for settings log (Oversize line announced) is = is
-heard_for settings log OutputLimit is = is
+list_in_memory style limit settings log =
+    written_in_memory (list_text style) (IsAcceptedWith limit settings log) (TellsOutcome limit settings log) (IsRefused limit settings log) (refused limit settings log)
 
 pub finding_in_memory : (notation : Notation) (settings : Settings) (log : List ℕ) (answer : Result Summary Fault) (old taken held : List ℕ)
     → old ≡ [] → taken ≡ held → FailedIf Read answer 0 0 → Finds notation settings log answer old taken
     → MatchResult answer (λ summary. IsFindingWith notation settings log held summary) (λ fault. IsUnread MESSAGE_LIMIT settings log (fault_in_memory fault))
-finding_in_memory notation settings log (Ok summary) old taken held old_is held_is failed (pairs, is, wrote) =
-    (pairs, is, sym held_is ∙ wrote ∙ ap (λ xs. xs ++ pairs_text notation pairs) old_is)
-finding_in_memory notation settings log (Err fault) old taken held old_is held_is failed (is, left) =
-    (heard_for settings log fault is, of_memory fault (λ read. reads_well failed (ap Err read)))
+finding_in_memory notation settings log =
+    written_in_memory (pairs_text notation) (IsFoundIn settings log) (IsUnheardFor settings log) (IsUnread MESSAGE_LIMIT settings log) (unread_so MESSAGE_LIMIT settings log)
+
+-- a text that is told as the log comes, by a script that is not strict
+module _ (word : List Entry → Entry → List ℕ) (last : List Entry → Summary → List ℕ) where
+  abbrev lenient : Script
+  lenient = record { strict = false; word = word; last = last }
+
+  told_unread : (limit : ℕ) (settings : Settings) (log : List ℕ) (given : ℕ) (fault : Fault) (old taken : List ℕ)
+      → AnswersTold lenient answers_counts limit settings log given (Err fault) old taken → IsUnreadFor false limit settings log fault
+  told_unread limit settings log given (BadLine line column) old taken (is, wrote) = is
+  told_unread limit settings log given LogLimit old taken (is, wrote) = is
+  told_unread limit settings log given Read old taken is = tt
+  told_unread limit settings log given Write old taken is = tt
+  told_unread limit settings log given Memory old taken is = tt
+  told_unread limit settings log given (Oversize line announced) old taken (is, wrote) = is
+  told_unread limit settings log given OutputLimit old taken (whole, meanings, read, counted, wrote) = absurd (cc counted)
+
+  pub told_in_memory : (limit : ℕ) (settings : Settings) (log : List ℕ) (given : ℕ) (answer : Result Summary Fault) (old taken held : List ℕ)
+      → old ≡ [] → taken ≡ held → FailedIf Read answer 0 0 → AnswersTold lenient answers_counts limit settings log given answer old taken
+      → MatchResult answer (λ summary. IsToldWith lenient limit settings log held summary) (λ fault. IsUnread limit settings log (fault_in_memory fault))
+  told_in_memory limit settings log given (Ok summary) old taken held old_is held_is failed (whole, meanings, read, counted, wrote) =
+      (meanings, read, cc counted, sym held_is ∙ wrote ∙ ap (λ xs. xs ++ whole_of_lines lenient limit settings log meanings) old_is)
+  told_in_memory limit settings log given (Err fault) old taken held old_is held_is failed is =
+      unread_so limit settings log fault (told_unread limit settings log given fault old taken is) (λ read. reads_well failed (ap Err read))
 
 pub meaning_in_memory : (limit : ℕ) (settings : Settings) (log : List ℕ) (answer : Result (List ItemValue) Fault) → FailedIf Read answer 0 0
     → IfErr answer (λ fault. fault ≢ Write) → GivesMeaning limit settings log answer → MeansInMemory limit settings log answer

@@ -1,13 +1,18 @@
--- What a run over a script that is not strict never answers.
-use Rattle.std.proofs.Common.{◌≢◌, ℕ, List, Result, Ok, Err, false}
-use Rattle.std.specs.Result.{IfErr}
+-- What a run over a script that is not strict answers, and never answers.
+use Rattle.std.proofs.Common.{◌⊎◌, inl, inr, ◌≢◌, ℕ, List, Result, Ok, Err, false, ◌≡◌, arith, subst}
+use Rattle.std.specs.Result.{IfOk, IfErr}
 use Rattle.isotp_receive.specs.declared.TheConstants.{MESSAGE_LIMIT}
 use Rattle.isotp_receive.specs.Trace.{Entry}
+use Rattle.trace_canon.specs.Laws.{Certifies}
+use Rattle.trace_canon.specs.Needing.{HasFrame, IsKeptForMessage, NeedsMemoryToReceive}
 use Rattle.trace_canon.specs.Settings.{Settings}
+use Rattle.trace_canon.specs.Summing.{summary_of}
 use Rattle.trace_canon.specs.Told.{Script, AnswersTold, answers_counts}
 use Rattle.trace_canon.specs.declared.fault.Fault.{Fault}
 use Rattle.trace_canon.specs.declared.fault.Fault.TheVariants.{BadLine, Oversize, LogLimit, OutputLimit, Read, Write, Memory}
 use Rattle.trace_canon.specs.declared.summary.Summary.{Summary}
+use Rattle.trace_canon.specs.Trace.{trace}
+use Rattle.trace_canon.proofs.ReadAgain.{lines_certify}
 
 module _ (word : List Entry → Entry → List ℕ) (last : List Entry → Summary → List ℕ) where
   -- a script that tells this of each frame and at the end
@@ -37,3 +42,19 @@ module _ (word : List Entry → Entry → List ℕ) (last : List Entry → Summa
   never_output_limit settings log given (Err Read) old new answers = λ is. absurd (cc is)
   never_output_limit settings log given (Err Write) old new answers = λ is. absurd (cc is)
   never_output_limit settings log given (Err Memory) old new answers = λ is. absurd (cc is)
+
+  -- its counts certify what those of the lines do
+  pub certifies : (settings : Settings) (log : List ℕ) (given : ℕ) (result : Result Summary Fault) (old new : List ℕ)
+      → AnswersTold lenient answers_counts MESSAGE_LIMIT settings log given result old new → IfOk result (Certifies MESSAGE_LIMIT settings log)
+  certifies settings log given (Ok summary) old new (all, meanings, is, counted, wrote) =
+      let same : summary_of MESSAGE_LIMIT settings log meanings ≡ summary = cc counted in
+      subst (Certifies MESSAGE_LIMIT settings log) same (lines_certify MESSAGE_LIMIT settings log meanings (omega arith) is.1)
+  certifies settings log given (Err why) old new answers = tt
+
+-- no line needs memory to be told: so a frame that needed some is kept
+pub needs_to_receive : (settings : Settings) (log : List ℕ) → HasFrame (λ T e. IsKeptForMessage MESSAGE_LIMIT T e ⊎ ⊥) settings log → NeedsMemoryToReceive MESSAGE_LIMIT settings log
+needs_to_receive settings log found = record { before = found.before; line = found.line; frame = found.frame; begins = found.begins; own = found.own; holds = kept found.holds }
+  where
+    kept : IsKeptForMessage MESSAGE_LIMIT (trace settings found.before) found.frame ⊎ ⊥ → IsKeptForMessage MESSAGE_LIMIT (trace settings found.before) found.frame
+    kept (inl holds) = holds
+    kept (inr none) = absurd none

@@ -50,7 +50,6 @@ pub mod SaidFrames
 pub mod CanonicalSayings
 pub mod CanonicalMachines
 pub mod CanonicalScripts
-pub mod ExplainScripts
 pub mod MessagePlaces
 pub mod LenientRuns
 pub mod PlacingScripts

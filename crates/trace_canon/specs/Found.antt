@@ -6,9 +6,7 @@ use Rattle.std.specs.List.{flat_map}
 use Rattle.can_log.specs.Frame.{FrameValue}
 use Rattle.can_log.specs.declared.frame.Stamped.{Stamped}
 use Rattle.isotp_receive.specs.declared.TheConstants.{MESSAGE_LIMIT}
-use Rattle.trace_io.specs.Written.{HasFront}
 use Rattle.trace_canon.specs.declared.fault.Fault.{Fault}
-use Rattle.trace_canon.specs.declared.fault.Fault.TheVariants.{BadLine, Oversize, LogLimit, OutputLimit, Read, Write, Memory}
 use Rattle.trace_canon.specs.declared.hearing.Found.{Found}
 use Rattle.trace_canon.specs.declared.notation.Notation.{Notation}
 use Rattle.trace_canon.specs.declared.notation.Notation.TheVariants.{Text, Json}
@@ -17,6 +15,7 @@ use Rattle.trace_canon.specs.Explained.{IsReadAs}
 use Rattle.trace_canon.specs.Json.{Members, nothing, member, object_line}
 use Rattle.trace_canon.specs.Json as json
 use Rattle.trace_canon.specs.Needing.{BeginsWithLines}
+use Rattle.trace_canon.specs.Printed.{WritesOnce}
 use Rattle.trace_canon.specs.Settings.{Settings}
 use Rattle.trace_canon.specs.Summing.{ends_in_line_feed}
 use Rattle.trace_canon.specs.Told.{IsUnreadFor}
@@ -85,20 +84,6 @@ pair_line Json pair = object_line (pair_object pair)
 abbrev pub pairs_text : Notation → List CreditLine → List ℕ
 pairs_text notation pairs = flat_map (pair_line notation) pairs
 
--- What is written after `old` where there is no such text: a front of it where writing failed, and else nothing.
-abbrev pub LeavesOfFind : Notation → Settings → List ℕ → Fault → List ℕ → List ℕ → Type 0
-LeavesOfFind notation settings log Write old new =
-    (pairs : List CreditLine) × (summary : Summary) × IsFoundIn settings log pairs summary × HasFront old (pairs_text notation pairs) new
-LeavesOfFind notation settings log (BadLine line column) old new = new ≡ old
-LeavesOfFind notation settings log (Oversize line announced) old new = new ≡ old
-LeavesOfFind notation settings log LogLimit old new = new ≡ old
-LeavesOfFind notation settings log OutputLimit old new = new ≡ old
-LeavesOfFind notation settings log Read old new = new ≡ old
-LeavesOfFind notation settings log Memory old new = new ≡ old
-
--- What is answered on a log, and what is then written where `old` was before: the lines of its pairs, and its counts; else
--- why it can't be read, and what that leaves.
+-- What is answered on a log, and what is then written: the lines of its pairs, and its counts; else why it can't be read.
 abbrev pub Finds : Notation → Settings → List ℕ → Result Summary Fault → List ℕ → List ℕ → Type 0
-Finds notation settings log (Ok summary) old new =
-    (pairs : List CreditLine) × IsFoundIn settings log pairs summary × (new ≡ old ++ pairs_text notation pairs)
-Finds notation settings log (Err fault) old new = IsUnheardFor settings log fault × LeavesOfFind notation settings log fault old new
+Finds notation settings log = WritesOnce (pairs_text notation) (IsFoundIn settings log) (IsUnheardFor settings log)

@@ -13,14 +13,14 @@ use Rattle.trace_canon.specs.declared.summary.Summary.{Summary}
 use Rattle.trace_canon.specs.Answers.{TellsOutcome, IsAcceptedWith, GivesMeaning}
 use Rattle.trace_canon.specs.Compared.{Compares, fault_in}
 use Rattle.trace_canon.specs.Explained.{IsReadAs}
-use Rattle.trace_canon.specs.ExplainText.{explain_text_of_lines}
+use Rattle.trace_canon.specs.ExplainScript.{explain_script}
 use Rattle.trace_canon.specs.Found.{IsFoundIn, pairs_text}
 use Rattle.trace_canon.specs.ListText.{list_text}
 use Rattle.trace_canon.specs.Outcome.{Accepted, IsOutcome}
 use Rattle.trace_canon.specs.MessageLines.{placing_script}
 use Rattle.trace_canon.specs.Settings.{Settings}
 use Rattle.trace_canon.specs.Summing.{summary_of}
-use Rattle.trace_canon.specs.Told.{IsUnreadFor, told_of_lines}
+use Rattle.trace_canon.specs.Told.{Script, IsUnreadFor, whole_of_lines}
 use Rattle.uds_find.specs.declared.pair.CreditLine.{CreditLine}
 
 -- it is not that of a device
@@ -45,40 +45,27 @@ abbrev pub IsListWith : ItemStyle → ℕ → Settings → List ℕ → List ℕ
 IsListWith style limit settings log text summary =
     (items : List ItemValue) × IsAcceptedWith limit settings log items summary × (text ≡ list_text style items)
 
--- the log can be read and has these counts, and this places its messages in this notation
-abbrev pub IsPlacingWith : Notation → ℕ → Settings → List ℕ → List ℕ → Summary → Type 0
-IsPlacingWith notation limit settings log text summary =
+-- the log can be read and has these counts, and this is all that a script tells of it
+abbrev pub IsToldWith : Script → ℕ → Settings → List ℕ → List ℕ → Summary → Type 0
+IsToldWith script limit settings log text summary =
     (meanings : List (Option Stamped)) × IsReadAs settings log (Ok meanings) × (summary ≡ summary_of limit settings log meanings)
-    × (text ≡ told_of_lines (placing_script notation limit) settings meanings)
+    × (text ≡ whole_of_lines script limit settings log meanings)
 
--- the log can be read and has these counts, and this explains it in this notation
+-- this places its messages in this notation
+abbrev pub IsPlacingWith : Notation → ℕ → Settings → List ℕ → List ℕ → Summary → Type 0
+IsPlacingWith notation limit = IsToldWith (placing_script notation limit) limit
+
+-- this explains it in this notation
 abbrev pub IsExplanationWith : Notation → ℕ → Settings → List ℕ → List ℕ → Summary → Type 0
-IsExplanationWith notation limit settings log text summary =
-    (meanings : List (Option Stamped)) × IsReadAs settings log (Ok meanings) × (summary ≡ summary_of limit settings log meanings)
-    × (text ≡ explain_text_of_lines notation limit settings log meanings)
+IsExplanationWith notation limit = IsToldWith (explain_script notation limit) limit
 
 -- the log can be read and has these counts, and this has a line for each of its pairs
 abbrev pub IsFindingWith : Notation → Settings → List ℕ → List ℕ → Summary → Type 0
 IsFindingWith notation settings log text summary = (pairs : List CreditLine) × IsFoundIn settings log pairs summary × (text ≡ pairs_text notation pairs)
 
--- the log is accepted, and this is its canonical log
-abbrev pub IsCanonicalLogOf : ℕ → Settings → List ℕ → List ℕ → Type 0
-IsCanonicalLogOf limit settings log text = (accepted : Accepted) × IsOutcome limit settings log (Ok accepted) × (text ≡ accepted.text)
-
--- the log is accepted, and this is the list of its items in this style
-abbrev pub IsListOf : ItemStyle → ℕ → Settings → List ℕ → List ℕ → Type 0
-IsListOf style limit settings log text =
-    (items : List ItemValue) × (summary : Summary) × IsAcceptedWith limit settings log items summary × (text ≡ list_text style items)
-
--- the log can be read, and this places its messages in this notation
-abbrev pub IsPlacingOf : Notation → ℕ → Settings → List ℕ → List ℕ → Type 0
-IsPlacingOf notation limit settings log text =
-    (meanings : List (Option Stamped)) × IsReadAs settings log (Ok meanings) × (text ≡ told_of_lines (placing_script notation limit) settings meanings)
-
--- the log can be read, and this explains it in this notation
-abbrev pub IsExplanationOf : Notation → ℕ → Settings → List ℕ → List ℕ → Type 0
-IsExplanationOf notation limit settings log text =
-    (meanings : List (Option Stamped)) × IsReadAs settings log (Ok meanings) × (text ≡ explain_text_of_lines notation limit settings log meanings)
+-- this is such a text, whatever the counts
+abbrev pub IsText : (List ℕ → Summary → Type 0) → List ℕ → Type 0
+IsText IsTextWith text = (summary : Summary) × IsTextWith text summary
 
 -- the meaning of the log, or why it has none
 abbrev pub MeansInMemory : ℕ → Settings → List ℕ → Result (List ItemValue) Fault → Type 0

@@ -15,7 +15,6 @@ pub mod ComparisonText
 pub mod ExplainText
 pub mod Answers
 pub mod Listed
-pub mod ExplainAnswers
 pub mod Compared
 pub mod Found
 pub mod InMemory

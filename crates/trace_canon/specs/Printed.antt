@@ -1,9 +1,10 @@
 -- A text that is written by itself, once all of it is known.
-use Rattle.std.specs.Prelude.{◌≡◌, List, ℕ, Result, IfErr}
-use Rattle.trace_io.specs.Written.{HasWritten}
+use Rattle.std.specs.Prelude.{◌≡◌, List, ℕ, ◌++◌, Result, Ok, Err, IfErr}
+use Rattle.trace_io.specs.Written.{HasFront, HasWritten}
 use Rattle.trace_io.specs.declared.device.Target.{Ghosts}
 use Rattle.trace_canon.specs.declared.fault.Fault.{Fault}
-use Rattle.trace_canon.specs.declared.fault.Fault.TheVariants.{Write}
+use Rattle.trace_canon.specs.declared.fault.Fault.TheVariants.{BadLine, Oversize, LogLimit, OutputLimit, Read, Write, Memory}
+use Rattle.trace_canon.specs.declared.summary.Summary.{Summary}
 use Rattle.trace_canon.specs.Devices.{WroteTo}
 
 -- A target took all of a text, or a front of it where writing failed.
@@ -11,3 +12,20 @@ pub record Prints {A W : Type 0} (target : Ghosts W) (text : List ℕ) (old : W)
   pub written : HasWritten result (target.taken old) text (target.taken new)
   pub wrote : WroteTo target Write result old new
   pub only : IfErr result (λ fault. fault ≡ Write)
+
+-- What is written after `old` where a log has no such text: a front of one where writing failed, and else nothing. `Is` says of
+-- what a text is made, with the counts of the log.
+abbrev pub LeavesOnce : {V : Type 0} → (V → List ℕ) → (V → Summary → Type 0) → Fault → List ℕ → List ℕ → Type 0
+LeavesOnce {V = V} text Is Write old new = (value : V) × (summary : Summary) × Is value summary × HasFront old (text value) new
+LeavesOnce text Is (BadLine line column) old new = new ≡ old
+LeavesOnce text Is (Oversize line announced) old new = new ≡ old
+LeavesOnce text Is LogLimit old new = new ≡ old
+LeavesOnce text Is OutputLimit old new = new ≡ old
+LeavesOnce text Is Read old new = new ≡ old
+LeavesOnce text Is Memory old new = new ≡ old
+
+-- What is answered by a call that writes a text at its end alone, and what is then written where `old` was before: the text,
+-- and the counts; else a fault, which is known for what it is, and what that leaves.
+abbrev pub WritesOnce : {V : Type 0} → (V → List ℕ) → (V → Summary → Type 0) → (Fault → Type 0) → Result Summary Fault → List ℕ → List ℕ → Type 0
+WritesOnce {V = V} text Is IsFault (Ok summary) old new = (value : V) × Is value summary × (new ≡ old ++ text value)
+WritesOnce text Is IsFault (Err fault) old new = IsFault fault × LeavesOnce text Is fault old new

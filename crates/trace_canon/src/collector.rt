@@ -75,21 +75,13 @@ pub(crate) fn session_of<R: Source>(
     ensures read { ReadFrom R.Source Fault.Read config.now.max_bytes result reader.old reader.new }
     ensures never_write { IfErr result (λ fault. fault ≢ Fault.Write) }
 {
-    let machine = start(alloc, config);
-    run(alloc, config, machine, reader, &mut Nowhere::new())
-}
-
-/// A machine before the first message.
-fn start(alloc: Global, config: &Config) -> Collector
-    ensures settings { result.config ≡ config.now }
-    ensures collects { Collects config.now [] result.pairing result.length result.config }
-{
-    Collector {
+    let machine = Collector {
         alloc,
         pairing: Pairing::new(alloc),
         length: 0,
         config: *config,
-    }
+    };
+    run(alloc, config, machine, reader, &mut Nowhere::new())
 }
 
 /// Pairs the messages, and answers with all items at the end.

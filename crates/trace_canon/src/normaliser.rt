@@ -68,20 +68,12 @@ pub fn normalise<R: Source, W: Target>(
     ensures read { ReadFrom R.Source Fault.Read config.now.max_bytes result reader.old reader.new }
     ensures wrote { WroteTo W.Target Fault.Write result writer.old writer.new }
 {
-    run(alloc, config, start(alloc, config), reader, writer)
-}
-
-/// A machine before the first message.
-fn start(alloc: Global, config: &Config) -> Canonical
-    ensures settings { result.config ≡ config.now }
-    ensures stands { StandsCanonical config.now [] result.orderer result.config result.place }
-    ensures limits { AreSettings config.now }
-{
-    Canonical {
+    let machine = Canonical {
         orderer: Orderer::new(alloc),
         place: Place::start(config),
         config: *config,
-    }
+    };
+    run(alloc, config, machine, reader, writer)
 }
 
 /// Says the canonical lines of the messages, each as soon as its place is known.

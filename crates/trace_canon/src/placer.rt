@@ -2,7 +2,6 @@
 ghost use Rattle.std.specs.Prelude.{◌≡◌, ◌≢◌, ◌-◌, ℕ, List, [], length, IfErr, Err};
 ghost use Rattle.isotp_receive.specs.declared.TheConstants.{MESSAGE_LIMIT};
 ghost use Rattle.trace_canon.specs.Answers.{ReadsWhile};
-ghost use Rattle.trace_canon.specs.proving.Begun.{PlacesMessages};
 ghost use Rattle.trace_canon.specs.Devices.{ReadFrom, WroteTo};
 ghost use Rattle.trace_canon.specs.MessageLines.{placed_line, placed_text, placing_script};
 ghost use Rattle.trace_canon.specs.Needing.{NeedsMemoryToReceive};
@@ -70,20 +69,12 @@ pub fn messages<R: Source, W: Target>(
     ensures read { ReadFrom R.Source Fault.Read config.now.max_bytes result reader.old reader.new }
     ensures wrote { WroteTo W.Target Fault.Write result writer.old writer.new }
 {
-    let machine = start(notation);
-    run(alloc, config, machine, reader, writer)
-}
-
-/// A machine before the first frame.
-fn start(notation: Notation) -> Placer
-    ensures notation { result.notation ≡ notation }
-    ensures places { PlacesMessages notation [] result.notation result.numbers result.begun }
-{
-    Placer {
+    let machine = Placer {
         notation,
         numbers: Numbers::new(),
         begun: Begun::start(),
-    }
+    };
+    run(alloc, config, machine, reader, writer)
 }
 
 /// Says the line of each message. It keeps no message.

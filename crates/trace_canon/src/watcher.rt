@@ -10,7 +10,7 @@ ghost use Rattle.trace_canon.specs.Needing.{NeedsMemoryToDecide};
 ghost use Rattle.trace_canon.specs.Refusal.{HasNoBadPlaceWithin};
 ghost use Rattle.trace_canon.specs.Told.{AnswersTold, TellsEagerly, answers_counts};
 ghost use Rattle.trace_canon.specs.WatchScript.{watching_script, WritesTheList};
-ghost use Rattle.trace_canon.specs.proving.Watching.{SaysDecided, SaysLines, WatchesItems};
+ghost use Rattle.trace_canon.specs.proving.Watching.{SaysDecided, SaysLines};
 ghost use Rattle.trace_canon.specs.declared.fault.Fault.TheVariants.{Memory};
 ghost use Rattle.trace_io.specs.Stream.{Agrees};
 ghost use Rattle.trace_io.specs.Counted.{IsLowCount, AreLowCounts};
@@ -71,20 +71,12 @@ pub fn watch<R: Source, W: Target>(
     ensures read { ReadFrom R.Source Fault.Read config.now.max_bytes result reader.old reader.new }
     ensures wrote { WroteTo W.Target Fault.Write result writer.old writer.new }
 {
-    let machine = start(alloc, style);
-    run(alloc, config, machine, reader, writer)
-}
-
-/// A machine before the first message.
-fn start(alloc: Global, style: ItemStyle) -> Watcher
-    ensures style { result.style ≡ style }
-    ensures watches { WatchesItems style [] result.decider result.style result.number }
-{
-    Watcher {
+    let machine = Watcher {
         decider: Decider::new(alloc),
         style,
         number: 1,
-    }
+    };
+    run(alloc, config, machine, reader, writer)
 }
 
 /// Says the line of each item as soon as it is decided.
