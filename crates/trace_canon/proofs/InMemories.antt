@@ -15,19 +15,15 @@ use Rattle.trace_io.specs.Stream.{Agrees, Gave, Took}
 use Rattle.trace_io.proofs.Promises.{agrees_with_told}
 use Rattle.trace_canon.specs.declared.fault.Fault.{Fault}
 use Rattle.trace_canon.specs.declared.fault.Fault.TheVariants.{BadLine, Oversize, LogLimit, OutputLimit, Read, Write, Memory}
-use Rattle.trace_canon.specs.declared.item_lines.ItemStyle.{ItemStyle}
-use Rattle.trace_canon.specs.declared.notation.Notation.{Notation}
 use Rattle.trace_canon.specs.declared.summary.Summary.{Summary}
-use Rattle.trace_canon.specs.Answers.{Answers, TellsOutcome, IsAcceptedWith, GivesMeaning}
+use Rattle.trace_canon.specs.Answers.{Answers, TellsOutcome, GivesMeaning}
 use Rattle.trace_canon.specs.Failing.{FailedIf}
-use Rattle.trace_canon.specs.InMemory.{IsOfMemory, IsRefused, IsUnread, IsCanonicalLogWith, IsListWith, IsToldWith, IsFindingWith, MeansInMemory, ComparesInMemory, fault_in_memory}
-use Rattle.trace_canon.specs.Found.{Finds, IsFoundIn, IsUnheardFor, pairs_text}
-use Rattle.trace_canon.specs.Listed.{Lists}
-use Rattle.trace_canon.specs.ListText.{list_text}
+use Rattle.trace_canon.specs.InMemory.{IsOfMemory, IsRefused, IsUnread, IsCanonicalLogWith, IsToldWith, MeansInMemory, ComparesInMemory, fault_in_memory}
 use Rattle.trace_canon.specs.Outcome.{Accepted, IsOutcome}
 use Rattle.trace_canon.specs.Printed.{WritesOnce}
 use Rattle.trace_canon.specs.Settings.{Settings}
-use Rattle.trace_canon.specs.Told.{Script, IsUnreadFor, AnswersTold, answers_counts, whole_of_lines}
+use Rattle.trace_canon.specs.Told.{IsUnreadFor, AnswersTold, answers_counts, whole_of_lines}
+use Rattle.trace_canon.proofs.LenientRuns.{lenient, unread_for}
 
 -- bytes of which none was read
 abbrev pub unread : List ℕ → BytesInMemory
@@ -51,24 +47,15 @@ taken_is_held {held = held} {old = old} {before = before} old_is before_is took 
 pub reads_well : {A E : Type 0} {read : E} {answer : Result A E} → FailedIf read answer 0 0 → answer ≢ Err read
 reads_well failed is = let rose : 0 ≡ 0 + 1 = failed.risen is in absurd (omega (arith, rose))
 
-of_memory : (fault : Fault) → fault ≢ Read → IsOfMemory (fault_in_memory fault)
-of_memory Write not = record { no_read = λ wrong. absurd (cc wrong); no_write = λ wrong. absurd (cc wrong) }
-of_memory (BadLine line column) not = record { no_read = λ wrong. absurd (cc wrong); no_write = λ wrong. absurd (cc wrong) }
-of_memory (Oversize line announced) not = record { no_read = λ wrong. absurd (cc wrong); no_write = λ wrong. absurd (cc wrong) }
-of_memory LogLimit not = record { no_read = λ wrong. absurd (cc wrong); no_write = λ wrong. absurd (cc wrong) }
-of_memory OutputLimit not = record { no_read = λ wrong. absurd (cc wrong); no_write = λ wrong. absurd (cc wrong) }
-of_memory Read not = absurd (not refl)
-of_memory Memory not = record { no_read = λ wrong. absurd (cc wrong); no_write = λ wrong. absurd (cc wrong) }
-
-refused : (limit : ℕ) (settings : Settings) (log : List ℕ) (fault : Fault) → TellsOutcome limit settings log fault → fault ≢ Read
-    → IsRefused limit settings log (fault_in_memory fault)
-refused limit settings log Write is not = (is, of_memory Write not)
-refused limit settings log (BadLine line column) is not = (is, of_memory (BadLine line column) not)
-refused limit settings log (Oversize line announced) is not = (is, of_memory (Oversize line announced) not)
-refused limit settings log LogLimit is not = (is, of_memory LogLimit not)
-refused limit settings log OutputLimit is not = (is, of_memory OutputLimit not)
-refused limit settings log Read is not = (is, of_memory Read not)
-refused limit settings log Memory is not = (is, of_memory Memory not)
+-- what is known of a fault, and of refused memory, is known of the fault in memory
+known : (IsFault : Fault → Type 0) (fault : Fault) → IsFault Memory → IsFault fault → fault ≢ Read → IsFault (fault_in_memory fault) × IsOfMemory (fault_in_memory fault)
+known IsFault (BadLine line column) memory is not = (is, record { no_read = λ wrong. absurd (cc wrong); no_write = λ wrong. absurd (cc wrong) })
+known IsFault (Oversize line announced) memory is not = (is, record { no_read = λ wrong. absurd (cc wrong); no_write = λ wrong. absurd (cc wrong) })
+known IsFault LogLimit memory is not = (is, record { no_read = λ wrong. absurd (cc wrong); no_write = λ wrong. absurd (cc wrong) })
+known IsFault OutputLimit memory is not = (is, record { no_read = λ wrong. absurd (cc wrong); no_write = λ wrong. absurd (cc wrong) })
+known IsFault Read memory is not = absurd (not refl)
+known IsFault Write memory is not = (memory, record { no_read = λ wrong. absurd (cc wrong); no_write = λ wrong. absurd (cc wrong) })
+known IsFault Memory memory is not = (memory, record { no_read = λ wrong. absurd (cc wrong); no_write = λ wrong. absurd (cc wrong) })
 
 -- So an answer over devices is one over memory: what it says of the text and the counts, and of a fault, is said of what was gathered.
 pub gathered : {C : Type 0} (IsCounted : C → Type 0) (IsFault : Fault → Type 0) (counted_with : Summary → C) (answer : Result Summary Fault) (result : Result C Fault)
@@ -92,63 +79,25 @@ pub canonical_in_memory : (limit : ℕ) (settings : Settings) (log : List ℕ) (
 canonical_in_memory limit settings log given (Ok summary) old taken held old_is held_is failed (accepted, outcome, counted, wrote) =
     accepted_is limit settings log accepted held summary outcome (sym held_is ∙ wrote ∙ ap (λ xs. xs ++ accepted.text) old_is) counted
 canonical_in_memory limit settings log given (Err fault) old taken held old_is held_is failed (is, left) =
-    refused limit settings log fault is (λ read. reads_well failed (ap Err read))
-
--- what is read of no log, whatever the text
-unread_so : (limit : ℕ) (settings : Settings) (log : List ℕ) (fault : Fault) → IsUnreadFor false limit settings log fault → fault ≢ Read
-    → IsUnread limit settings log (fault_in_memory fault)
-unread_so limit settings log (BadLine line column) is not = (is, of_memory (BadLine line column) not)
-unread_so limit settings log LogLimit is not = (is, of_memory LogLimit not)
-unread_so limit settings log Read is not = absurd (not refl)
-unread_so limit settings log Write is not = (tt, of_memory Write not)
-unread_so limit settings log Memory is not = (tt, of_memory Memory not)
-unread_so limit settings log (Oversize line announced) is not = absurd is
-unread_so limit settings log OutputLimit is not = absurd is
+    known (TellsOutcome limit settings log) fault tt is (λ read. reads_well failed (ap Err read))
 
 -- a text that is written at the end alone
-module _ {V : Type 0} (text : V → List ℕ) (Is : V → Summary → Type 0) (IsFault : Fault → Type 0) (IsKnown : Fault → Type 0)
-    (known : (fault : Fault) → IsFault fault → fault ≢ Read → IsKnown (fault_in_memory fault)) where
-  pub written_in_memory : (answer : Result Summary Fault) (old taken held : List ℕ) → old ≡ [] → taken ≡ held → FailedIf Read answer 0 0
-      → WritesOnce text Is IsFault answer old taken
-      → MatchResult answer (λ summary. (value : V) × Is value summary × (held ≡ text value)) (λ fault. IsKnown (fault_in_memory fault))
-  written_in_memory (Ok summary) old taken held old_is held_is failed (value, is, wrote) =
-      (value, is, sym held_is ∙ wrote ∙ ap (λ xs. xs ++ text value) old_is)
-  written_in_memory (Err fault) old taken held old_is held_is failed (is, left) = known fault is (λ read. reads_well failed (ap Err read))
-
-pub list_in_memory : (style : ItemStyle) (limit : ℕ) (settings : Settings) (log : List ℕ) (answer : Result Summary Fault) (old taken held : List ℕ)
-    → old ≡ [] → taken ≡ held → FailedIf Read answer 0 0 → Lists style limit settings log answer old taken
-    → MatchResult answer (λ summary. IsListWith style limit settings log held summary) (λ fault. IsRefused limit settings log (fault_in_memory fault))
-list_in_memory style limit settings log =
-    written_in_memory (list_text style) (IsAcceptedWith limit settings log) (TellsOutcome limit settings log) (IsRefused limit settings log) (refused limit settings log)
-
-pub finding_in_memory : (notation : Notation) (settings : Settings) (log : List ℕ) (answer : Result Summary Fault) (old taken held : List ℕ)
-    → old ≡ [] → taken ≡ held → FailedIf Read answer 0 0 → Finds notation settings log answer old taken
-    → MatchResult answer (λ summary. IsFindingWith notation settings log held summary) (λ fault. IsUnread MESSAGE_LIMIT settings log (fault_in_memory fault))
-finding_in_memory notation settings log =
-    written_in_memory (pairs_text notation) (IsFoundIn settings log) (IsUnheardFor settings log) (IsUnread MESSAGE_LIMIT settings log) (unread_so MESSAGE_LIMIT settings log)
+pub written_in_memory : {V : Type 0} (text : V → List ℕ) (Is : V → Summary → Type 0) (IsFault : Fault → Type 0) (answer : Result Summary Fault) (old taken held : List ℕ)
+    → IsFault Memory → old ≡ [] → taken ≡ held → FailedIf Read answer 0 0 → WritesOnce text Is IsFault answer old taken
+    → MatchResult answer (λ summary. (value : V) × Is value summary × (held ≡ text value)) (λ fault. IsFault (fault_in_memory fault) × IsOfMemory (fault_in_memory fault))
+written_in_memory text Is IsFault (Ok summary) old taken held memory old_is held_is failed (value, is, wrote) =
+    (value, is, sym held_is ∙ wrote ∙ ap (λ xs. xs ++ text value) old_is)
+written_in_memory text Is IsFault (Err fault) old taken held memory old_is held_is failed (is, left) = known IsFault fault memory is (λ read. reads_well failed (ap Err read))
 
 -- a text that is told as the log comes, by a script that is not strict
-module _ (word : List Entry → Entry → List ℕ) (last : List Entry → Summary → List ℕ) where
-  abbrev lenient : Script
-  lenient = record { strict = false; word = word; last = last }
-
-  told_unread : (limit : ℕ) (settings : Settings) (log : List ℕ) (given : ℕ) (fault : Fault) (old taken : List ℕ)
-      → AnswersTold lenient answers_counts limit settings log given (Err fault) old taken → IsUnreadFor false limit settings log fault
-  told_unread limit settings log given (BadLine line column) old taken (is, wrote) = is
-  told_unread limit settings log given LogLimit old taken (is, wrote) = is
-  told_unread limit settings log given Read old taken is = tt
-  told_unread limit settings log given Write old taken is = tt
-  told_unread limit settings log given Memory old taken is = tt
-  told_unread limit settings log given (Oversize line announced) old taken (is, wrote) = is
-  told_unread limit settings log given OutputLimit old taken (whole, meanings, read, counted, wrote) = absurd (cc counted)
-
-  pub told_in_memory : (limit : ℕ) (settings : Settings) (log : List ℕ) (given : ℕ) (answer : Result Summary Fault) (old taken held : List ℕ)
-      → old ≡ [] → taken ≡ held → FailedIf Read answer 0 0 → AnswersTold lenient answers_counts limit settings log given answer old taken
-      → MatchResult answer (λ summary. IsToldWith lenient limit settings log held summary) (λ fault. IsUnread limit settings log (fault_in_memory fault))
-  told_in_memory limit settings log given (Ok summary) old taken held old_is held_is failed (whole, meanings, read, counted, wrote) =
-      (meanings, read, cc counted, sym held_is ∙ wrote ∙ ap (λ xs. xs ++ whole_of_lines lenient limit settings log meanings) old_is)
-  told_in_memory limit settings log given (Err fault) old taken held old_is held_is failed is =
-      unread_so limit settings log fault (told_unread limit settings log given fault old taken is) (λ read. reads_well failed (ap Err read))
+pub told_in_memory : (word : List Entry → Entry → List ℕ) (last : List Entry → Summary → List ℕ) (limit : ℕ) (settings : Settings) (log : List ℕ) (given : ℕ)
+    (answer : Result Summary Fault) (old taken held : List ℕ) → old ≡ [] → taken ≡ held → FailedIf Read answer 0 0
+    → AnswersTold (lenient word last) answers_counts limit settings log given answer old taken
+    → MatchResult answer (λ summary. IsToldWith (lenient word last) limit settings log held summary) (λ fault. IsUnread limit settings log (fault_in_memory fault))
+told_in_memory word last limit settings log given (Ok summary) old taken held old_is held_is failed (whole, meanings, read, counted, wrote) =
+    (meanings, read, cc counted, sym held_is ∙ wrote ∙ ap (λ xs. xs ++ whole_of_lines (lenient word last) limit settings log meanings) old_is)
+told_in_memory word last limit settings log given (Err fault) old taken held old_is held_is failed is =
+    known (IsUnreadFor false limit settings log) fault tt (unread_for word last limit settings log given fault old taken is) (λ read. reads_well failed (ap Err read))
 
 pub meaning_in_memory : (limit : ℕ) (settings : Settings) (log : List ℕ) (answer : Result (List ItemValue) Fault) → FailedIf Read answer 0 0
     → IfErr answer (λ fault. fault ≢ Write) → GivesMeaning limit settings log answer → MeansInMemory limit settings log answer

@@ -7,7 +7,7 @@ use Rattle.trace_canon.specs.Laws.{Certifies}
 use Rattle.trace_canon.specs.Needing.{HasFrame, IsKeptForMessage, NeedsMemoryToReceive}
 use Rattle.trace_canon.specs.Settings.{Settings}
 use Rattle.trace_canon.specs.Summing.{summary_of}
-use Rattle.trace_canon.specs.Told.{Script, AnswersTold, answers_counts}
+use Rattle.trace_canon.specs.Told.{Script, AnswersTold, IsUnreadFor, answers_counts}
 use Rattle.trace_canon.specs.declared.fault.Fault.{Fault}
 use Rattle.trace_canon.specs.declared.fault.Fault.TheVariants.{BadLine, Oversize, LogLimit, OutputLimit, Read, Write, Memory}
 use Rattle.trace_canon.specs.declared.summary.Summary.{Summary}
@@ -16,32 +16,33 @@ use Rattle.trace_canon.proofs.ReadAgain.{lines_certify}
 
 module _ (word : List Entry → Entry → List ℕ) (last : List Entry → Summary → List ℕ) where
   -- a script that tells this of each frame and at the end
-  abbrev lenient : Script
+  abbrev pub lenient : Script
   lenient = record { strict = false; word = word; last = last }
 
-  -- an announced length refuses no log
+  -- where a fault tells why the log can't be read, that is so
+  pub unread_for : (limit : ℕ) (settings : Settings) (log : List ℕ) (given : ℕ) (fault : Fault) (old new : List ℕ)
+      → AnswersTold lenient answers_counts limit settings log given (Err fault) old new → IsUnreadFor false limit settings log fault
+  unread_for limit settings log given (BadLine line column) old new (is, wrote) = is
+  unread_for limit settings log given (Oversize line announced) old new (is, wrote) = is
+  unread_for limit settings log given LogLimit old new (is, wrote) = is
+  unread_for limit settings log given OutputLimit old new (whole, meanings, read, counted, wrote) = absurd (cc counted)
+  unread_for limit settings log given Read old new is = tt
+  unread_for limit settings log given Write old new is = tt
+  unread_for limit settings log given Memory old new is = tt
+
+  -- so an announced length refuses no log
   pub never_oversize : (settings : Settings) (log : List ℕ) (given : ℕ) (result : Result Summary Fault) (old new : List ℕ)
       → AnswersTold lenient answers_counts MESSAGE_LIMIT settings log given result old new → IfErr result (λ why. (line announced : ℕ) → why ≢ Oversize line announced)
   never_oversize settings log given (Ok summary) old new answers = tt
-  never_oversize settings log given (Err (Oversize line announced)) old new (never, wrote) = absurd never
-  never_oversize settings log given (Err (BadLine line column)) old new answers = λ l a is. absurd (cc is)
-  never_oversize settings log given (Err LogLimit) old new answers = λ l a is. absurd (cc is)
-  never_oversize settings log given (Err OutputLimit) old new answers = λ l a is. absurd (cc is)
-  never_oversize settings log given (Err Read) old new answers = λ l a is. absurd (cc is)
-  never_oversize settings log given (Err Write) old new answers = λ l a is. absurd (cc is)
-  never_oversize settings log given (Err Memory) old new answers = λ l a is. absurd (cc is)
+  never_oversize settings log given (Err why) old new answers = λ line announced is.
+      subst (IsUnreadFor false MESSAGE_LIMIT settings log) is (unread_for MESSAGE_LIMIT settings log given why old new answers)
 
   -- nor does a canonical log that would be too long
   pub never_output_limit : (settings : Settings) (log : List ℕ) (given : ℕ) (result : Result Summary Fault) (old new : List ℕ)
       → AnswersTold lenient answers_counts MESSAGE_LIMIT settings log given result old new → IfErr result (λ why. why ≢ OutputLimit)
   never_output_limit settings log given (Ok summary) old new answers = tt
-  never_output_limit settings log given (Err OutputLimit) old new (all, meanings, is, counted, wrote) = absurd (cc counted)
-  never_output_limit settings log given (Err (Oversize line announced)) old new answers = λ is. absurd (cc is)
-  never_output_limit settings log given (Err (BadLine line column)) old new answers = λ is. absurd (cc is)
-  never_output_limit settings log given (Err LogLimit) old new answers = λ is. absurd (cc is)
-  never_output_limit settings log given (Err Read) old new answers = λ is. absurd (cc is)
-  never_output_limit settings log given (Err Write) old new answers = λ is. absurd (cc is)
-  never_output_limit settings log given (Err Memory) old new answers = λ is. absurd (cc is)
+  never_output_limit settings log given (Err why) old new answers = λ is.
+      subst (IsUnreadFor false MESSAGE_LIMIT settings log) is (unread_for MESSAGE_LIMIT settings log given why old new answers)
 
   -- its counts certify what those of the lines do
   pub certifies : (settings : Settings) (log : List ℕ) (given : ℕ) (result : Result Summary Fault) (old new : List ℕ)

@@ -51,11 +51,11 @@ IsToldWith script limit settings log text summary =
     (meanings : List (Option Stamped)) × IsReadAs settings log (Ok meanings) × (summary ≡ summary_of limit settings log meanings)
     × (text ≡ whole_of_lines script limit settings log meanings)
 
--- this places its messages in this notation
+-- the log can be read and has these counts, and this places its messages in this notation
 abbrev pub IsPlacingWith : Notation → ℕ → Settings → List ℕ → List ℕ → Summary → Type 0
 IsPlacingWith notation limit = IsToldWith (placing_script notation limit) limit
 
--- this explains it in this notation
+-- the log can be read and has these counts, and this explains it in this notation
 abbrev pub IsExplanationWith : Notation → ℕ → Settings → List ℕ → List ℕ → Summary → Type 0
 IsExplanationWith notation limit = IsToldWith (explain_script notation limit) limit
 

@@ -38,25 +38,25 @@ pub of_accepted : (settings : Settings) (log : List ℕ) (accepted : Accepted) (
 of_accepted settings log accepted summary outcome counted =
     subst (Certifies MESSAGE_LIMIT settings log) counted (summary_certifies MESSAGE_LIMIT settings log accepted (omega arith) outcome)
 
--- what is answered is one thing
-same_counts : (one other : Summary) → ◌≡◌ {A = Result Summary Stop} (Ok one) (Ok other) → one ≡ other
-same_counts one other is = cc
-
 -- where a summary certifies so, a clean log is a recording
 of_clean : (settings : Settings) (log : List ℕ) (summary : Summary) → Certifies MESSAGE_LIMIT settings log summary → is_clean summary ≡ true → IsCertified MESSAGE_LIMIT settings log
 of_clean settings log summary = clean_log_is_recording MESSAGE_LIMIT settings log summary
+
+-- those of a log whose lines were told
+of_told : (settings : Settings) (log : List ℕ) (meanings : List (Option Stamped)) (summary : Summary) → LogMeans log meanings
+    → ◌≡◌ {A = Result Summary Stop} (Ok summary) (Ok (summary_of MESSAGE_LIMIT settings log meanings)) → is_clean summary ≡ true → IsCertified MESSAGE_LIMIT settings log
+of_told settings log meanings summary means counted =
+    let same : summary_of MESSAGE_LIMIT settings log meanings ≡ summary = cc counted in
+    of_clean settings log summary (subst (Certifies MESSAGE_LIMIT settings log) same (of_lines settings log meanings means))
 
 -- `find` counts no frames of either side, so no log is clean by its counts
 of_job : (job : Job) (settings : Settings) (log : List ℕ) (given : ℕ) (summary : Summary) (old new : List ℕ) → EngineAnswers job MESSAGE_LIMIT settings log given (Ok summary) old new
     → is_clean summary ≡ true → IsCertified MESSAGE_LIMIT settings log
 of_job job.Normalise settings log given summary old new (accepted, outcome, counted, wrote) = of_clean settings log summary (of_accepted settings log accepted summary outcome counted)
 of_job (job.List style) settings log given summary old new (items, is, wrote) = of_clean settings log summary (of_accepted settings log is.accepted summary is.outcome is.counted)
-of_job (job.Watch style) settings log given summary old new (within, meanings, read, counted, wrote) =
-    of_clean settings log summary (subst (Certifies MESSAGE_LIMIT settings log) (sym (same_counts _ _ counted)) (of_lines settings log meanings read.1))
-of_job (job.Explain notation) settings log given summary old new (meanings, read, counted, wrote) =
-    of_clean settings log summary (subst (Certifies MESSAGE_LIMIT settings log) (sym counted) (of_lines settings log meanings read.1))
-of_job (job.Messages notation) settings log given summary old new (within, meanings, read, counted, wrote) =
-    of_clean settings log summary (subst (Certifies MESSAGE_LIMIT settings log) (sym (same_counts _ _ counted)) (of_lines settings log meanings read.1))
+of_job (job.Watch style) settings log given summary old new (all, meanings, read, counted, wrote) = of_told settings log meanings summary read.1 counted
+of_job (job.Explain notation) settings log given summary old new (all, meanings, read, counted, wrote) = of_told settings log meanings summary read.1 counted
+of_job (job.Messages notation) settings log given summary old new (all, meanings, read, counted, wrote) = of_told settings log meanings summary read.1 counted
 of_job (job.Find notation) settings log given summary old new (pairs, (meanings, read, found), wrote) = λ clean. absurd (true≢false (sym clean ∙ ap is_clean found.1))
 
 -- whatever the job

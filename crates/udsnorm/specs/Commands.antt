@@ -9,7 +9,7 @@ use Rattle.clap.specs.Walk.{Row, Rule, Text}
 use Rattle.clap.specs.declared.builder.action.ArgAction.TheVariants.{SetTrue}
 use Rattle.clap.specs.declared.builder.value_parser.ValueParser.TheVariants.{Unsigned}
 use Rattle.trace_canon.specs.Answers.{Answers, ReadsWhile}
-use Rattle.trace_canon.specs.ExplainAnswers.{AnswersExplain}
+use Rattle.trace_canon.specs.ExplainScript.{explain_script}
 use Rattle.trace_canon.specs.Found.{Finds}
 use Rattle.trace_canon.specs.Listed.{Lists}
 use Rattle.trace_canon.specs.MessageLines.{placing_script}
@@ -103,7 +103,7 @@ abbrev pub EngineAnswers : Job → ℕ → Settings → List ℕ → ℕ → Res
 EngineAnswers job.Normalise limit settings log given answer old new = Answers limit settings log given answer old new
 EngineAnswers (job.List style) limit settings log given answer old new = Lists style limit settings log answer old new
 EngineAnswers (job.Watch style) limit settings log given answer old new = AnswersTold (watching_script style) answers_counts limit settings log given answer old new
-EngineAnswers (job.Explain notation) limit settings log given answer old new = AnswersExplain notation limit settings log given answer old new
+EngineAnswers (job.Explain notation) limit settings log given answer old new = AnswersTold (explain_script notation limit) answers_counts limit settings log given answer old new
 EngineAnswers (job.Messages notation) limit settings log given answer old new = AnswersTold (placing_script notation limit) answers_counts limit settings log given answer old new
 EngineAnswers (job.Find notation) limit settings log given answer old new = Finds notation settings log answer old new
 
