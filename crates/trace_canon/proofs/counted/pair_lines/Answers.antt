@@ -1,6 +1,6 @@
 use Rattle.std.proofs.Common.{ap, sym, ◌∙◌}
 use Rattle.isotp_receive.specs.declared.TheConstants.{MESSAGE_LIMIT}
-use Rattle.trace_canon.specs.Found.{IsFoundIn, IsUnheardFor, pairs_text}
+use Rattle.trace_canon.specs.Found.{IsUnheardFor}
 use Rattle.trace_canon.proofs.InMemories.{agrees_in_memory, gathered, taken_is_held, written_in_memory}
 use Rattle.trace_canon.proofs.counted.pair_lines.Goals as goal
 
@@ -10,8 +10,7 @@ returns c =
     let agrees = agrees_in_memory c.args.log.now c.new-2.result c.find-answer.new.reader c.new-2.ensures ran.read.gave ran.read.ended in
     let empty = ap (λ w. w.taken) c.new-writer.ensures in
     let held = taken_is_held empty (ap (λ w. w.inner.items) c.new-writer.ensures ∙ c.new.ensures.items) ran.wrote.took in
-    gathered _ _
-    (λ summary. record { text = c.into_inner.result; summary = summary }) c.find-answer.result c.counted.result
-    (written_in_memory (pairs_text c.args.notation) (IsFoundIn c.args.config.now c.args.log.now) (IsUnheardFor c.args.config.now c.args.log.now)
+    gathered _ _ (λ summary. record { text = c.into_inner.result; summary = summary }) c.find-answer.result c.counted.result
+    (written_in_memory _ _ (IsUnheardFor c.args.config.now c.args.log.now)
     c.find-answer.result _ _ _ tt empty (held ∙ ap (λ v. v.items) (sym c.into_inner.ensures)) ran.read.failed (ran.answer c.args.log.now agrees))
     c.counted.ensures
