@@ -1,7 +1,6 @@
 use Rattle.std.proofs.Common.{ap, sym, ◌∙◌}
 use Rattle.isotp_receive.specs.declared.TheConstants.{MESSAGE_LIMIT}
-use Rattle.trace_canon.specs.Answers.{IsAcceptedWith, TellsOutcome}
-use Rattle.trace_canon.specs.ListText.{list_text}
+use Rattle.trace_canon.specs.Answers.{TellsOutcome}
 use Rattle.trace_canon.proofs.InMemories.{agrees_in_memory, gathered, taken_is_held, written_in_memory}
 use Rattle.trace_canon.proofs.counted.item_list.Goals as goal
 
@@ -12,6 +11,6 @@ returns c =
     let empty = ap (λ w. w.taken) c.new-writer.ensures in
     let held = taken_is_held empty (ap (λ w. w.inner.items) c.new-writer.ensures ∙ c.new.ensures.items) ran.wrote.took in
     gathered _ _ (λ summary. record { text = c.into_inner.result; summary = summary }) c.list-answer.result c.counted.result
-    (written_in_memory (list_text c.args.style) (IsAcceptedWith MESSAGE_LIMIT c.args.config.now c.args.log.now) (TellsOutcome MESSAGE_LIMIT c.args.config.now c.args.log.now)
+    (written_in_memory _ _ (TellsOutcome MESSAGE_LIMIT c.args.config.now c.args.log.now)
     c.list-answer.result _ _ _ tt empty (held ∙ ap (λ v. v.items) (sym c.into_inner.ensures)) ran.read.failed (ran.answer c.args.log.now agrees))
     c.counted.ensures
