@@ -53,30 +53,24 @@ pub(crate) fn feed_lines<R: Source, T: LineTaker>(
     let mut piece = [0; PIECE];
     let mut scanner = Scanner::new();
     let mut left = max_bytes;
-    'reading: while left > 0 {
+    'reading: loop {
         if !taker.rest(device) {
             return Err(Fault::Write);
         }
-        let room = left.min(PIECE as u64) as usize;
+        let most = left.min(PIECE as u64);
+        let room = most.max(1) as usize;
         let Ok(n) = reader.read(&mut piece[..room]) else {
             return Err(Fault::Read);
         };
         if n == 0 {
             return take_last_line(&mut scanner, taker, device);
         }
+        if left == 0 {
+            return Err(Fault::LogLimit);
+        }
         if let Err(fault) = take_lines(&mut scanner, &piece[..n], taker, device) {
             return Err(fault);
         }
         left -= n as u64;
     }
-    if !taker.rest(device) {
-        return Err(Fault::Write);
-    }
-    let Ok(n) = reader.read(&mut piece[..1]) else {
-        return Err(Fault::Read);
-    };
-    if n > 0 {
-        return Err(Fault::LogLimit);
-    }
-    take_last_line(&mut scanner, taker, device)
 }

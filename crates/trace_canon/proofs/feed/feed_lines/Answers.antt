@@ -23,7 +23,7 @@ returns-then-n-eq0-clause-lines g c = λ log agrees start taken.
     let inv = c.reading.invariant in
     let has = inv.lines start taken in
     let is = log_of (grown_none _ inv.gave.bytes c.read.new.buf c.in-Ok.n inv.gave.grown c.in-Ok.ensures.given c.if-n-eq0.true) agrees in
-    let all = is.whole (c.in-Ok.ensures.over ∙ over_is c.in-Ok.n (length c.read.new.buf) c.if-n-eq0.true (omega (arith, length-take {A = ℕ}))) in
+    let all = is.whole (c.in-Ok.ensures.over ∙ over_is c.in-Ok.n (length c.read.new.buf) c.if-n-eq0.true (omega (arith, length-take {A = ℕ}, c.max-room.ensures, c.reading.invariant.piece_len))) in
     let len = ap length all in
     let stands = subst (λ b. StandsAfter b has.meanings c.reading.scanner) all has.stands in
     feeds_to_end g.T.LineTaker.took g.T.LineTaker.rested g.T.LineTaker.broke g.T.LineTaker.stopped start c.take_last_line.result c.args.max_bytes _ log
@@ -37,10 +37,10 @@ returns-in-Err-clause-lines g c = λ log agrees start taken.
     let has = inv.lines start taken in
     let n = c.in-Ok.n in
     let bytes = inv.gave.bytes in
-    let here = piece_of n c.read.new.buf (drop c.min-room.result c.reading.piece) c.in-Ok.ensures.bound in
-    let piece = take n (c.read.new.buf ++ drop c.min-room.result c.reading.piece) in
-    let room : n ≤ c.min-room.result = omega (arith, c.in-Ok.ensures.bound, length-take {A = ℕ}) in
-    let few : (n ≤ 4096) × (n ≤ c.reading.left) = (omega (arith, c.min-room.ensures), omega (arith, c.min-room.ensures)) in
+    let here = piece_of n c.read.new.buf (drop c.max-room.result c.reading.piece) c.in-Ok.ensures.bound in
+    let piece = take n (c.read.new.buf ++ drop c.max-room.result c.reading.piece) in
+    let room : n ≤ c.max-room.result = omega (arith, c.in-Ok.ensures.bound, length-take {A = ℕ}) in
+    let few : (n ≤ 4096) × (n ≤ c.reading.left) = (omega (arith, c.min-most.ensures, c.max-room.ensures), omega (arith, c.min-most.ensures, c.max-room.ensures, c.if-left-eq0.false)) in
     let len : length (bytes ++ piece) ≡ length bytes + n = length-append bytes piece ∙ ap (λ k. length bytes + k) here.1 in
     let is = log_of (grown_more _ bytes piece inv.gave.grown (c.in-Ok.ensures.given ∙ ap (λ p. g.R.Source.given c.reading.reader ++ p) (sym here.0))) agrees in
     feeds_piece g.T.LineTaker.took g.T.LineTaker.rested g.T.LineTaker.broke g.T.LineTaker.stopped start (Unit {0}) c.in-Err.fault c.args.max_bytes _ log has.meanings bytes piece
@@ -73,14 +73,14 @@ pub reading-preserved : goal.reading-preserved
 reading-preserved g c =
     let inv = c.reading.invariant in
     let n = c.in-Ok.n in
-    let here = piece_of n c.read.new.buf (drop c.min-room.result c.reading.piece) c.in-Ok.ensures.bound in
-    let piece = take n (c.read.new.buf ++ drop c.min-room.result c.reading.piece) in
-    let room : n ≤ c.min-room.result = omega (arith, c.in-Ok.ensures.bound, length-take {A = ℕ}) in
-    let few : n ≤ c.reading.left = omega (arith, c.min-room.ensures) in
+    let here = piece_of n c.read.new.buf (drop c.max-room.result c.reading.piece) c.in-Ok.ensures.bound in
+    let piece = take n (c.read.new.buf ++ drop c.max-room.result c.reading.piece) in
+    let room : n ≤ c.max-room.result = omega (arith, c.in-Ok.ensures.bound, length-take {A = ℕ}) in
+    let few : n ≤ c.reading.left = omega (arith, c.min-most.ensures, c.max-room.ensures, c.if-left-eq0.false) in
     let len : length (inv.gave.bytes ++ piece) ≡ length inv.gave.bytes + n = length-append inv.gave.bytes piece ∙ ap (λ k. length inv.gave.bytes + k) here.1 in
     record {
       within = omega arith;
-      piece_len = omega (arith, length-append {A = ℕ}, length-drop {A = ℕ}, length-take {A = ℕ}, c.min-room.ensures, inv.piece_len);
+      piece_len = omega (arith, length-append {A = ℕ}, length-drop {A = ℕ}, length-take {A = ℕ}, c.min-most.ensures, c.max-room.ensures, inv.piece_len);
       gave = gave_more piece inv.gave (c.in-Ok.ensures.given ∙ ap (λ p. g.R.Source.given c.reading.reader ++ p) (sym here.0))
           (subst (λ p. Consumes (g.R.Source.remaining c.reading.reader) (g.R.Source.remaining c.read.new.self) p) (sym here.0) c.in-Ok.ensures.told.0);
       ended = λ first. some_not_over (g.R.Source.is_over c.read.new.self) c.in-Ok.n (length c.read.new.buf) c.in-Ok.ensures.over (omega (arith, c.if-n-eq0.false));
@@ -107,87 +107,49 @@ reading-preserved g c =
             standing = c.reading.scanner;
             parts = refl;
             stands = has.stands;
-            near = omega (arith, len, c.min-room.ensures);
+            near = omega (arith, len, c.min-most.ensures, c.max-room.ensures);
             written = c.in_default-take_lines.ensures.kept start inv.gave.bytes has.meanings has.meanings has.stands rested.1
                 (c.rest.ensures.sure c.if-not-rest.false start has.meanings has.taken);
           };
     }
 
-pub returns-in_default-read-clause-lines : goal.returns-in_default-read-clause-lines
-returns-in_default-read-clause-lines g c = λ log agrees start taken.
-    let inv = c.reading.invariant in
-    let has = inv.lines start taken in
-    let is = log_of (c.in_default-read.ensures.given ∙ inv.gave.grown) agrees in (
-      has.meanings,
-      (c.rest-2.ensures.well c.if-not-rest-2.false start has.meanings has.taken).0,
-      omega (arith, is.count, inv.given),
-      omega (arith, is.count, is.long),
-      (c.reading.scanner, subst (λ b. StandsAfter b has.meanings c.reading.scanner) (is.front ∙ ap (λ k. take k log) (sym is.count)) has.stands),
-    )
-
-pub returns-then-n-gt0-clause-lines : goal.returns-then-n-gt0-clause-lines
-returns-then-n-gt0-clause-lines g c = λ log agrees start taken.
+pub returns-then-left-eq0-clause-lines : goal.returns-then-left-eq0-clause-lines
+returns-then-left-eq0-clause-lines g c = λ log agrees start taken.
     let inv = c.reading.invariant in
     let has = inv.lines start taken in
     let bytes = inv.gave.bytes in
-    let n = c.in-Ok-read.n in
-    let piece = take n c.read-2.new.buf in
-    let full : length bytes ≡ c.args.max_bytes = omega (arith, inv.given) in
-    let is = log_of (grown_more _ bytes piece inv.gave.grown c.in-Ok-read.ensures.given) agrees in
+    let n = c.in-Ok.n in
+    let piece = take n c.read.new.buf in
+    let full : length bytes ≡ c.args.max_bytes = omega (arith, inv.given, c.if-left-eq0.true) in
+    let is = log_of (grown_more _ bytes piece inv.gave.grown c.in-Ok.ensures.given) agrees in
     let len : length (bytes ++ piece) ≡ length bytes + length piece = length-append bytes piece in
-    let size = length-take n c.read-2.new.buf in
-    let some : 1 ≤ length piece = omega (arith, c.in-Ok-read.ensures.bound, c.if-n-gt0.true) in
+    let size = length-take n c.read.new.buf in
+    let some : 1 ≤ length piece = omega (arith, c.in-Ok.ensures.bound, c.if-n-eq0.false) in
     let front = front_of_log bytes piece is in (
       has.meanings,
-      (c.rest-2.ensures.well c.if-not-rest-2.false start has.meanings has.taken).1,
+      (c.rest.ensures.well c.if-not-rest.false start has.meanings has.taken).1,
       omega (arith, is.long),
       omega (arith, is.count),
       (c.reading.scanner, subst (λ b. StandsAfter b has.meanings c.reading.scanner) (front ∙ ap (λ k. take k log) full) has.stands),
     )
 
-pub returns-clause-lines : goal.returns-clause-lines
-returns-clause-lines g c = λ log agrees start taken.
-    let inv = c.reading.invariant in
-    let has = inv.lines start taken in
-    let none : c.in-Ok-read.n ≡ 0 = omega (arith, c.if-n-gt0.false) in
-    let is = log_of (grown_none _ inv.gave.bytes c.read-2.new.buf c.in-Ok-read.n inv.gave.grown c.in-Ok-read.ensures.given none) agrees in
-    let all = is.whole (c.in-Ok-read.ensures.over ∙ over_is c.in-Ok-read.n (length c.read-2.new.buf) none (omega (arith, length-take {A = ℕ}, inv.piece_len))) in
-    let len = ap length all in
-    let stands = subst (λ b. StandsAfter b has.meanings c.reading.scanner) all has.stands in
-    feeds_to_end g.T.LineTaker.took g.T.LineTaker.rested g.T.LineTaker.broke g.T.LineTaker.stopped start c.take_last_line-2.result c.args.max_bytes _ log
-    (c.take_last_line-2.new.taker, c.take_last_line-2.new.device)
-    (omega (arith, inv.given)) (is.count ∙ len)
-    (c.take_last_line-2.ensures.lines start log has.meanings (omega (arith, inv.given)) stands (c.rest-2.ensures.well c.if-not-rest-2.false start has.meanings has.taken).1)
-
 pub returns-then-n-eq0-clause-over : goal.returns-then-n-eq0-clause-over
 returns-then-n-eq0-clause-over g c =
-    when_ok c.take_last_line.result (c.in-Ok.ensures.over ∙ over_is c.in-Ok.n (length c.read.new.buf) c.if-n-eq0.true (omega (arith, length-take {A = ℕ})))
-
-pub returns-clause-over : goal.returns-clause-over
-returns-clause-over g c =
-    when_ok c.take_last_line-2.result
-    (c.in-Ok-read.ensures.over ∙ over_is c.in-Ok-read.n (length c.read-2.new.buf) (omega (arith, c.if-n-gt0.false)) (omega (arith, length-take {A = ℕ}, c.reading.invariant.piece_len)))
+    when_ok c.take_last_line.result (c.in-Ok.ensures.over ∙ over_is c.in-Ok.n (length c.read.new.buf) c.if-n-eq0.true (omega (arith, length-take {A = ℕ}, c.max-room.ensures, c.reading.invariant.piece_len)))
 
 pub returns-in_default-clause-ended : goal.returns-in_default-clause-ended
 returns-in_default-clause-ended g c = λ first. not_over (g.R.Source.is_over c.read.new.self) c.in_default.ensures.over
 
 pub returns-then-n-eq0-clause-ended : goal.returns-then-n-eq0-clause-ended
-returns-then-n-eq0-clause-ended g c = λ first over. c.in-Ok.ensures.told.1 c.if-n-eq0.true (omega (arith, length-take {A = ℕ}))
+returns-then-n-eq0-clause-ended g c = λ first over. c.in-Ok.ensures.told.1 c.if-n-eq0.true (omega (arith, length-take {A = ℕ}, c.max-room.ensures, c.reading.invariant.piece_len))
 
 pub returns-in-Err-clause-ended : goal.returns-in-Err-clause-ended
 returns-in-Err-clause-ended g c = λ first.
     some_not_over (g.R.Source.is_over c.read.new.self) c.in-Ok.n (length c.read.new.buf) c.in-Ok.ensures.over (omega (arith, c.if-n-eq0.false))
 
-pub returns-in_default-read-clause-ended : goal.returns-in_default-read-clause-ended
-returns-in_default-read-clause-ended g c = λ first. not_over (g.R.Source.is_over c.read-2.new.self) c.in_default-read.ensures.over
-
-pub returns-then-n-gt0-clause-ended : goal.returns-then-n-gt0-clause-ended
-returns-then-n-gt0-clause-ended g c = λ first.
-    some_not_over (g.R.Source.is_over c.read-2.new.self) c.in-Ok-read.n (length c.read-2.new.buf) c.in-Ok-read.ensures.over (omega (arith, c.if-n-gt0.true))
-
-pub returns-clause-ended : goal.returns-clause-ended
-returns-clause-ended g c = λ first over.
-    c.in-Ok-read.ensures.told.1 (omega (arith, c.if-n-gt0.false)) (omega (arith, length-take {A = ℕ}, c.reading.invariant.piece_len))
+pub returns-then-left-eq0-clause-ended : goal.returns-then-left-eq0-clause-ended
+returns-then-left-eq0-clause-ended g c = λ first.
+    some_not_over (g.R.Source.is_over c.read.new.self) c.in-Ok.n (length c.read.new.buf) c.in-Ok.ensures.over (omega (arith, c.if-n-eq0.false))
 
 pub returns-in_default-clause-near : goal.returns-in_default-clause-near
 returns-in_default-clause-near g c = λ log agrees start taken.
@@ -210,33 +172,20 @@ returns-in-Err-clause-near g c = λ log agrees start taken.
     let len = length-append bytes piece in
     let size = length-take c.in-Ok.n c.read.new.buf in
     reads_near (inv.lines start taken) (front_of_log bytes piece is)
-    (omega (arith, is.count, inv.given, c.in-Ok.ensures.bound, c.min-room.ensures, length-take {A = ℕ}))
+    (omega (arith, is.count, inv.given, c.in-Ok.ensures.bound, c.min-most.ensures, c.max-room.ensures, length-take {A = ℕ}))
     (λ risen. omega (arith, c.in-Ok.ensures.failures, inv.failures))
 
-pub returns-in_default-read-clause-near : goal.returns-in_default-read-clause-near
-returns-in_default-read-clause-near g c = λ log agrees start taken.
-    let inv = c.reading.invariant in
-    let is = log_of (c.in_default-read.ensures.given ∙ inv.gave.grown) agrees in
-    reads_near (inv.lines start taken) is.front (omega (arith, is.count, inv.given)) (λ risen. omega (arith, is.count, inv.given))
-
-pub returns-then-n-gt0-clause-near : goal.returns-then-n-gt0-clause-near
-returns-then-n-gt0-clause-near g c = λ log agrees start taken.
+pub returns-then-left-eq0-clause-near : goal.returns-then-left-eq0-clause-near
+returns-then-left-eq0-clause-near g c = λ log agrees start taken.
     let inv = c.reading.invariant in
     let bytes = inv.gave.bytes in
-    let piece = take c.in-Ok-read.n c.read-2.new.buf in
-    let is = log_of (grown_more _ bytes piece inv.gave.grown c.in-Ok-read.ensures.given) agrees in
+    let piece = take c.in-Ok.n c.read.new.buf in
+    let is = log_of (grown_more _ bytes piece inv.gave.grown c.in-Ok.ensures.given) agrees in
     let len = length-append bytes piece in
-    let size = length-take c.in-Ok-read.n c.read-2.new.buf in
+    let size = length-take c.in-Ok.n c.read.new.buf in
     reads_near (inv.lines start taken) (front_of_log bytes piece is)
-    (omega (arith, is.count, inv.given, c.in-Ok-read.ensures.bound, length-take {A = ℕ}))
-    (λ risen. omega (arith, c.in-Ok-read.ensures.failures, inv.failures))
-
-pub returns-clause-near : goal.returns-clause-near
-returns-clause-near g c = λ log agrees start taken.
-    let inv = c.reading.invariant in
-    let none : c.in-Ok-read.n ≡ 0 = omega (arith, c.if-n-gt0.false) in
-    let is = log_of (grown_none _ inv.gave.bytes c.read-2.new.buf c.in-Ok-read.n inv.gave.grown c.in-Ok-read.ensures.given none) agrees in
-    reads_near (inv.lines start taken) is.front (omega (arith, is.count, inv.given)) (λ risen. omega (arith, c.in-Ok-read.ensures.failures, inv.failures))
+    (omega (arith, is.count, inv.given, c.in-Ok.ensures.bound, c.min-most.ensures, c.max-room.ensures, c.if-left-eq0.true, length-take {A = ℕ}))
+    (λ risen. omega (arith, c.in-Ok.ensures.failures, inv.failures))
 
 pub returns-then-not-rest-clause-lines : goal.returns-then-not-rest-clause-lines
 returns-then-not-rest-clause-lines g c = λ log agrees start taken.
@@ -252,24 +201,6 @@ returns-then-not-rest-clause-lines g c = λ log agrees start taken.
 
 pub returns-then-not-rest-clause-near : goal.returns-then-not-rest-clause-near
 returns-then-not-rest-clause-near g c = λ log agrees start taken.
-    let inv = c.reading.invariant in
-    let is = log_of inv.gave.grown agrees in
-    reads_near (inv.lines start taken) is.front (omega (arith, is.count, inv.given)) (λ risen. omega (arith, inv.failures))
-
-pub returns-then-not-rest-2-clause-lines : goal.returns-then-not-rest-2-clause-lines
-returns-then-not-rest-2-clause-lines g c = λ log agrees start taken.
-    let inv = c.reading.invariant in
-    let has = inv.lines start taken in
-    let is = log_of inv.gave.grown agrees in (
-      has.meanings,
-      (c.rest-2.ensures.wrong c.if-not-rest-2.true start has.meanings has.taken),
-      omega (arith, is.count, inv.given),
-      omega (arith, is.count, is.long),
-      (c.reading.scanner, subst (λ b. StandsAfter b has.meanings c.reading.scanner) (is.front ∙ ap (λ k. take k log) (sym is.count)) has.stands),
-    )
-
-pub returns-then-not-rest-2-clause-near : goal.returns-then-not-rest-2-clause-near
-returns-then-not-rest-2-clause-near g c = λ log agrees start taken.
     let inv = c.reading.invariant in
     let is = log_of inv.gave.grown agrees in
     reads_near (inv.lines start taken) is.front (omega (arith, is.count, inv.given)) (λ risen. omega (arith, inv.failures))
@@ -291,15 +222,8 @@ returns-in-Err-clause-takes g c = λ start taken.
     (c.take_lines.new.taker, c.take_lines.new.device)
     (c.in-Err.ensures.lines start c.reading.invariant.gave.bytes has.meanings has.stands (c.rest.ensures.well c.if-not-rest.false start has.meanings has.taken).1)
 
-pub returns-then-n-gt0-clause-takes : goal.returns-then-n-gt0-clause-takes
-returns-then-n-gt0-clause-takes g c = λ start taken. (let has = c.reading.invariant.lines start taken in (has.meanings, (c.rest-2.ensures.well c.if-not-rest-2.false start has.meanings has.taken).1))
-
-pub returns-clause-takes : goal.returns-clause-takes
-returns-clause-takes g c = λ start taken.
-    let has = c.reading.invariant.lines start taken in
-    let short : length c.reading.invariant.gave.bytes ≤ 2 ^ 61 = omega (arith, has.counted) in
-    feeds_some_at_end g.T.LineTaker.took g.T.LineTaker.rested g.T.LineTaker.broke g.T.LineTaker.stopped start c.take_last_line-2.result c.reading.invariant.gave.bytes (c.take_last_line-2.new.taker, c.take_last_line-2.new.device) short
-    (c.take_last_line-2.ensures.lines start c.reading.invariant.gave.bytes has.meanings short has.stands (c.rest-2.ensures.well c.if-not-rest-2.false start has.meanings has.taken).1)
+pub returns-then-left-eq0-clause-takes : goal.returns-then-left-eq0-clause-takes
+returns-then-left-eq0-clause-takes g c = λ start taken. (let has = c.reading.invariant.lines start taken in (has.meanings, (c.rest.ensures.well c.if-not-rest.false start has.meanings has.taken).1))
 
 -- ---- what was due was written before each read
 
@@ -310,26 +234,12 @@ returns-then-not-rest-clause-eager g c = λ log agrees start taken sure.
     let before = inv.eager start taken sure in
     wrote_since g.T.LineTaker.sure start before is.rest is.parts (omega (arith, is.count)) (c.rest.ensures.kept start before.meanings before.written)
 
-pub returns-then-not-rest-2-clause-eager : goal.returns-then-not-rest-2-clause-eager
-returns-then-not-rest-2-clause-eager g c = λ log agrees start taken sure.
-    let inv = c.reading.invariant in
-    let is = log_of inv.gave.grown agrees in
-    let before = inv.eager start taken sure in
-    wrote_since g.T.LineTaker.sure start before is.rest is.parts (omega (arith, is.count)) (c.rest-2.ensures.kept start before.meanings before.written)
-
 pub returns-in_default-clause-eager : goal.returns-in_default-clause-eager
 returns-in_default-clause-eager g c = λ log agrees start taken sure.
     let inv = c.reading.invariant in
     let has = inv.lines start taken in
     let is = log_of (c.in_default.ensures.given ∙ inv.gave.grown) agrees in
     wrote_now g.T.LineTaker.sure start has is.rest is.parts (omega (arith, is.count)) (c.rest.ensures.sure c.if-not-rest.false start has.meanings has.taken)
-
-pub returns-in_default-read-clause-eager : goal.returns-in_default-read-clause-eager
-returns-in_default-read-clause-eager g c = λ log agrees start taken sure.
-    let inv = c.reading.invariant in
-    let has = inv.lines start taken in
-    let is = log_of (c.in_default-read.ensures.given ∙ inv.gave.grown) agrees in
-    wrote_now g.T.LineTaker.sure start has is.rest is.parts (omega (arith, is.count)) (c.rest-2.ensures.sure c.if-not-rest-2.false start has.meanings has.taken)
 
 pub returns-then-n-eq0-clause-eager : goal.returns-then-n-eq0-clause-eager
 returns-then-n-eq0-clause-eager g c = λ log agrees start taken sure.
@@ -339,17 +249,6 @@ returns-then-n-eq0-clause-eager g c = λ log agrees start taken sure.
     let rested = c.rest.ensures.well c.if-not-rest.false start has.meanings has.taken in
     wrote_now g.T.LineTaker.sure start has is.rest is.parts (omega (arith, is.count))
     (c.take_last_line.ensures.kept start inv.gave.bytes has.meanings has.meanings (omega (arith, has.counted)) has.stands rested.1 (c.rest.ensures.sure c.if-not-rest.false start has.meanings has.taken))
-
-pub returns-clause-eager : goal.returns-clause-eager
-returns-clause-eager g c = λ log agrees start taken sure.
-    let inv = c.reading.invariant in
-    let has = inv.lines start taken in
-    let none : c.in-Ok-read.n ≡ 0 = omega (arith, c.if-n-gt0.false) in
-    let is = log_of (grown_none _ inv.gave.bytes c.read-2.new.buf c.in-Ok-read.n inv.gave.grown c.in-Ok-read.ensures.given none) agrees in
-    let rested = c.rest-2.ensures.well c.if-not-rest-2.false start has.meanings has.taken in
-    wrote_now g.T.LineTaker.sure start has is.rest is.parts (omega (arith, is.count))
-    (c.take_last_line-2.ensures.kept start inv.gave.bytes has.meanings has.meanings (omega (arith, has.counted)) has.stands rested.1
-    (c.rest-2.ensures.sure c.if-not-rest-2.false start has.meanings has.taken))
 
 pub returns-in-Err-clause-eager : goal.returns-in-Err-clause-eager
 returns-in-Err-clause-eager g c = λ log agrees start taken sure.
@@ -361,17 +260,17 @@ returns-in-Err-clause-eager g c = λ log agrees start taken sure.
     let len = length-append bytes piece in
     let rested = c.rest.ensures.well c.if-not-rest.false start has.meanings has.taken in
     wrote_now g.T.LineTaker.sure start has (piece ++ is.rest) (is.parts ∙ append_assoc bytes piece is.rest)
-    (omega (arith, is.count, c.in-Ok.ensures.bound, c.min-room.ensures, length-take {A = ℕ}))
+    (omega (arith, is.count, c.in-Ok.ensures.bound, c.min-most.ensures, c.max-room.ensures, length-take {A = ℕ}))
     (c.in-Err.ensures.kept start bytes has.meanings has.meanings has.stands rested.1 (c.rest.ensures.sure c.if-not-rest.false start has.meanings has.taken))
 
-pub returns-then-n-gt0-clause-eager : goal.returns-then-n-gt0-clause-eager
-returns-then-n-gt0-clause-eager g c = λ log agrees start taken sure.
+pub returns-then-left-eq0-clause-eager : goal.returns-then-left-eq0-clause-eager
+returns-then-left-eq0-clause-eager g c = λ log agrees start taken sure.
     let inv = c.reading.invariant in
     let has = inv.lines start taken in
     let bytes = inv.gave.bytes in
-    let piece = take c.in-Ok-read.n c.read-2.new.buf in
-    let is = log_of (grown_more _ bytes piece inv.gave.grown c.in-Ok-read.ensures.given) agrees in
+    let piece = take c.in-Ok.n c.read.new.buf in
+    let is = log_of (grown_more _ bytes piece inv.gave.grown c.in-Ok.ensures.given) agrees in
     let len = length-append bytes piece in
     wrote_now g.T.LineTaker.sure start has (piece ++ is.rest) (is.parts ∙ append_assoc bytes piece is.rest)
-    (omega (arith, is.count, c.in-Ok-read.ensures.bound, length-take {A = ℕ}))
-    (c.rest-2.ensures.sure c.if-not-rest-2.false start has.meanings has.taken)
+    (omega (arith, is.count, c.in-Ok.ensures.bound, c.min-most.ensures, c.max-room.ensures, c.if-left-eq0.true, length-take {A = ℕ}))
+    (c.rest.ensures.sure c.if-not-rest.false start has.meanings has.taken)

@@ -1,3 +1,5 @@
+use Rattle.isotp_receive.specs.declared.TheConstants.{MESSAGE_LIMIT}
+use Rattle.trace_canon.specs.MessageLines.{placing_script}
 use Rattle.trace_canon.proofs.LenientRuns.{never_oversize, never_output_limit, needs_to_receive}
 use Rattle.trace_canon.proofs.Streams.{given_agrees}
 use Rattle.trace_canon.proofs.placer.messages.Goals as goal
@@ -5,12 +7,14 @@ use Rattle.trace_canon.proofs.placer.messages.Goals as goal
 pub returns-clause-never_oversize : goal.returns-clause-never_oversize
 returns-clause-never_oversize g c =
     let all = c.run.ensures.ran in
-    never_oversize _ _ c.args.config.now all.read.gave.bytes _ c.run.result _ _ (all.answer all.read.gave.bytes (given_agrees all.read.gave))
+    let script = placing_script c.args.notation MESSAGE_LIMIT in
+    never_oversize script.word script.last c.args.config.now all.read.gave.bytes _ c.run.result _ _ (all.answer all.read.gave.bytes (given_agrees all.read.gave))
 
 pub returns-clause-never_output_limit : goal.returns-clause-never_output_limit
 returns-clause-never_output_limit g c =
     let all = c.run.ensures.ran in
-    never_output_limit _ _ c.args.config.now all.read.gave.bytes _ c.run.result _ _ (all.answer all.read.gave.bytes (given_agrees all.read.gave))
+    let script = placing_script c.args.notation MESSAGE_LIMIT in
+    never_output_limit script.word script.last c.args.config.now all.read.gave.bytes _ c.run.result _ _ (all.answer all.read.gave.bytes (given_agrees all.read.gave))
 
 pub returns-clause-memory : goal.returns-clause-memory
 returns-clause-memory g c = λ log agrees refused. needs_to_receive c.args.config.now log (c.run.ensures.ran.memory log agrees refused)
