@@ -1,6 +1,6 @@
 -- The commands of the program: the options and files of each, as the parser takes them, the job that it asks for, and
 -- what the engine answers and reads that does the job. A command is one entry of `command_entries`, and its job a case
--- of `EngineAnswers` and of `IsReadFor`.
+-- of `engine_of`.
 use Rattle.std.specs.Prelude.{ℕ, Bool, true, false, List, [], ◌∷◌, ◌++◌, map, Some, None, Option, Result, codes, bytes_eq, if◌then◌else◌}
 use Rattle.clap.specs.Faults.{fault_of}
 use Rattle.clap.specs.Kinds.{Kinds}
@@ -15,7 +15,7 @@ use Rattle.trace_canon.specs.Listed.{Lists}
 use Rattle.trace_canon.specs.MessageLines.{placing_script}
 use Rattle.trace_canon.specs.Refusal.{HasNoBadPlaceWithin, IsNotRefusedWithin}
 use Rattle.trace_canon.specs.Settings.{Settings}
-use Rattle.trace_canon.specs.Told.{AnswersTold, answers_counts}
+use Rattle.trace_canon.specs.Told.{Script, AnswersTold, answers_counts}
 use Rattle.trace_canon.specs.WatchScript.{watching_script}
 use Rattle.trace_canon.specs.declared.fault.Fault.{Fault}
 use Rattle.trace_canon.specs.declared.summary.Summary.{Summary}
@@ -98,27 +98,33 @@ command_entries =
     ∷ record { name = codes "compare"; rules = sides ++ usual_limit ++ two_logs ++ showing ++ as_json ++ strictly; job = λ rows. None }
     ∷ []
 
--- what the engine that does this job over one log answers, and what it writes
+-- What is known of a call that reads a log and writes a text: what it answers, and what it then writes; and that nothing refuses
+-- the log for it among so many of its bytes.
+pub record Engine : Type 1 where
+  pub answers : ℕ → Settings → List ℕ → ℕ → Result Summary Fault → List ℕ → List ℕ → Type 0
+  pub unrefused : ℕ → Settings → List ℕ → ℕ → Type 0
+
+-- the engine of a script, for which no length that is announced refuses a log
+abbrev pub engine_of_script : (ℕ → Script) → Engine
+engine_of_script script =
+    record { answers = λ limit. AnswersTold (script limit) answers_counts limit; unrefused = λ limit settings. HasNoBadPlaceWithin }
+
+-- the engine that does this job over one log
+abbrev pub engine_of : Job → Engine
+engine_of job.Normalise = record { answers = Answers; unrefused = IsNotRefusedWithin }
+engine_of (job.List style) = record { answers = λ limit settings log given. Lists style limit settings log; unrefused = IsNotRefusedWithin }
+engine_of (job.Watch style) = engine_of_script (λ limit. watching_script style)
+engine_of (job.Explain notation) = engine_of_script (explain_script notation)
+engine_of (job.Messages notation) = engine_of_script (placing_script notation)
+engine_of (job.Find notation) = record { answers = λ limit settings log given. Finds notation settings log; unrefused = λ limit settings. HasNoBadPlaceWithin }
+
+-- what it answers, and what it writes
 abbrev pub EngineAnswers : Job → ℕ → Settings → List ℕ → ℕ → Result Summary Fault → List ℕ → List ℕ → Type 0
-EngineAnswers job.Normalise limit settings log given answer old new = Answers limit settings log given answer old new
-EngineAnswers (job.List style) limit settings log given answer old new = Lists style limit settings log answer old new
-EngineAnswers (job.Watch style) limit settings log given answer old new = AnswersTold (watching_script style) answers_counts limit settings log given answer old new
-EngineAnswers (job.Explain notation) limit settings log given answer old new = AnswersTold (explain_script notation limit) answers_counts limit settings log given answer old new
-EngineAnswers (job.Messages notation) limit settings log given answer old new = AnswersTold (placing_script notation limit) answers_counts limit settings log given answer old new
-EngineAnswers (job.Find notation) limit settings log given answer old new = Finds notation settings log answer old new
+EngineAnswers job = (engine_of job).answers
 
--- of so many bytes of the log nothing refuses it for the engine that does this job
-abbrev pub IsReadFor : Job → ℕ → Settings → List ℕ → ℕ → Type 0
-IsReadFor job.Normalise limit settings log given = IsNotRefusedWithin limit settings log given
-IsReadFor (job.List style) limit settings log given = IsNotRefusedWithin limit settings log given
-IsReadFor (job.Watch style) limit settings log given = HasNoBadPlaceWithin log given
-IsReadFor (job.Explain notation) limit settings log given = HasNoBadPlaceWithin log given
-IsReadFor (job.Messages notation) limit settings log given = HasNoBadPlaceWithin log given
-IsReadFor (job.Find notation) limit settings log given = HasNoBadPlaceWithin log given
-
--- how near to what refuses the log the engine that does this job stops reading
+-- how near to what refuses the log it stops reading
 abbrev pub EngineReads : Job → ℕ → Settings → List ℕ → ℕ → ℕ → ℕ → Type 0
-EngineReads job limit settings log given failures failures_now = ReadsWhile (IsReadFor job limit settings log) given failures failures_now
+EngineReads job limit settings log = ReadsWhile ((engine_of job).unrefused limit settings log)
 
 -- ---- the program
 
