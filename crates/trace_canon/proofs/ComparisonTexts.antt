@@ -1,11 +1,11 @@
 -- The text of a comparison, in the parts that are said.
-use Rattle.std.proofs.Common.{◌≡◌, ℕ, ◌+◌, Bool, true, false, List, [], ◌++◌, refl, sym, ap, ◌∙◌, append_assoc, append-nil, codes}
+use Rattle.std.proofs.Common.{◌≡◌, ℕ, ◌+◌, Bool, true, false, List, ◌++◌, refl, sym, ap, ◌∙◌, append_assoc, append-nil, codes}
 use Rattle.std.specs.Fmt.{decimal}
 use Rattle.uds_exchange.specs.Meaning.{ItemValue}
 use Rattle.trace_canon.specs.declared.comparing.Comparison.{Comparison}
 use Rattle.trace_canon.specs.declared.comparing.Comparison.TheVariants.{Different}
 use Rattle.trace_canon.specs.ComparisonText.{comparison_lines, different_members, shown_lines}
-use Rattle.trace_canon.specs.Json.{Value, Members, nothing, member, object_line, value_text}
+use Rattle.trace_canon.specs.Json.{Value, nothing, member, object_line, value_text}
 use Rattle.trace_canon.proofs.JsonTexts.{line_is, value_is}
 
 -- the line of two logs that differ at a place

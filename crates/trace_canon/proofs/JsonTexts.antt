@@ -1,6 +1,5 @@
 -- An object of JSON is the same text, put together from the front or from the back.
 use Rattle.std.proofs.Common.{◌≡◌, ℕ, true, false, List, ◌++◌, refl, ap, ◌∙◌, append_assoc, codes}
-use Rattle.std.specs.Fmt.{decimal}
 use Rattle.trace_canon.specs.Json.{Value, null, truth, number, string, object, Members, nothing, member, in_quotes, value_text, members_text, later_text, object_line}
 use Rattle.trace_canon.specs.proving.Spelling.{quotes_then, value_then, members_then, later_then}
 

@@ -1,5 +1,5 @@
 -- What a machine that places messages keeps and says of one more frame.
-use Rattle.std.proofs.Common.{◌≡◌, ◌≢◌, ℕ, List, [], ◌∷◌, ◌++◌, refl, ap, sym, subst, ◌∙◌, append-nil, append_assoc, codes, ◌/◌}
+use Rattle.std.proofs.Common.{◌≡◌, ℕ, List, [], ◌∷◌, ◌++◌, refl, ap, sym, subst, ◌∙◌, append-nil, append_assoc, codes, ◌/◌}
 use Rattle.std.specs.Fmt.{decimal}
 use Rattle.can_log.specs.Digits as digits
 use Rattle.can_log.specs.Frame.{FrameValue}

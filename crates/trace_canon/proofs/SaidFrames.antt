@@ -5,7 +5,7 @@ use Rattle.direction.specs.declared.Dir.{Dir}
 use Rattle.trace_canon.specs.Settings.{Settings, id_of}
 use Rattle.trace_canon.specs.proving.Saying.{SaysFront}
 use Rattle.trace_canon.specs.proving.Writing.{Place, behind, filled_up, line_at, text_from, place_after}
-use Rattle.trace_canon.proofs.CanonicalWriting.{text_none, place_none, text_step, place_step, text_stop, place_stop, text_full, place_full}
+use Rattle.trace_canon.proofs.CanonicalWriting.{text_step, place_step, text_stop, place_stop, text_full, place_full}
 
 -- the lines of a sender's frames are all of one length
 pub same_line_length : (settings : Settings) (n m : ℕ) (sender : Dir) (earlier bytes : List ℕ) → length earlier ≡ 8 → length bytes ≡ 8

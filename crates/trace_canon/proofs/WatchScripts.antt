@@ -14,7 +14,6 @@ use Rattle.uds_exchange.specs.ItemSink.{PutsItems}
 use Rattle.uds_exchange.specs.Meaning.{ItemValue, meaning}
 use Rattle.uds_exchange.specs.Numbering.{one_more}
 use Rattle.uds_exchange.proofs.Promises.{decided_grows, decided_then_undecided, items_are_few, none_is_lost}
-use Rattle.trace_canon.specs.SessionScript.{items_of}
 use Rattle.trace_canon.specs.ListText.{item_line, list_text, list_text_from}
 use Rattle.trace_canon.specs.Messages.{meaning_of_lines}
 use Rattle.trace_canon.specs.Needing.{CompletesKept}

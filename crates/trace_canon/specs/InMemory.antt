@@ -16,7 +16,7 @@ use Rattle.trace_canon.specs.Explained.{IsReadAs}
 use Rattle.trace_canon.specs.ExplainScript.{explain_script}
 use Rattle.trace_canon.specs.Found.{IsFoundIn, pairs_text}
 use Rattle.trace_canon.specs.ListText.{list_text}
-use Rattle.trace_canon.specs.Outcome.{Accepted, IsOutcome}
+use Rattle.trace_canon.specs.Outcome.{IsOutcome}
 use Rattle.trace_canon.specs.MessageLines.{placing_script}
 use Rattle.trace_canon.specs.Settings.{Settings}
 use Rattle.trace_canon.specs.Summing.{summary_of}

@@ -1,6 +1,6 @@
-use Rattle.std.proofs.Common.{arith, ◌≡◌, ◌∷◌, List, ℕ, [], refl, ap, sym, ◌∙◌}
+use Rattle.std.proofs.Common.{◌∷◌, refl, ap, sym, ◌∙◌}
 use Rattle.trace_canon.specs.proving.Saying.{SaysFront}
-use Rattle.trace_canon.specs.proving.Writing.{filled_up, text_from, place_after}
+use Rattle.trace_canon.specs.proving.Writing.{text_from, place_after}
 use Rattle.trace_canon.proofs.CanonicalWriting.{text_none, place_none, text_full, place_full}
 use Rattle.trace_canon.proofs.SaidFrames.{more_said, all_lines_said}
 use Rattle.trace_canon.proofs.canonical_sink.say_frames.Given.{Over}

@@ -1,4 +1,4 @@
-use Rattle.std.proofs.Common.{arith, ◌≡◌, ◌∷◌, ℕ, ◌<◌, ◌≤◌, List, length, true, false, refl, ap, sym, subst, ◌∙◌}
+use Rattle.std.proofs.Common.{arith, ◌≡◌, ◌∷◌, ℕ, ◌≤◌, List, length, true, false, refl, ap, sym, subst, ◌∙◌}
 use Rattle.can_log.specs.Canonical.{canonical_line}
 use Rattle.direction.specs.declared.Dir.{Dir}
 use Rattle.isotp_segment.specs.CanonicalFrames.{IsFullNext}

@@ -1,5 +1,4 @@
 use Rattle.std.proofs.Common.{ap, sym, ◌∙◌}
-use Rattle.isotp_receive.specs.declared.TheConstants.{MESSAGE_LIMIT}
 use Rattle.trace_canon.specs.Found.{IsUnheardFor}
 use Rattle.trace_canon.proofs.InMemories.{agrees_in_memory, gathered, taken_is_held, written_in_memory}
 use Rattle.trace_canon.proofs.counted.pair_lines.Goals as goal

@@ -1,4 +1,4 @@
-use Rattle.std.proofs.Common.{ap, subst, ◌∙◌}
+use Rattle.std.proofs.Common.{subst}
 use Rattle.uds_exchange.specs.ItemSeen.{lent_value}
 use Rattle.trace_canon.proofs.ItemObjects.{object_is}
 use Rattle.trace_canon.proofs.item_objects.say_item_object.Goals as goal

@@ -9,15 +9,12 @@ use Rattle.trace_canon.proofs.driver.Telling.rest.Goals as goal
 pub returns-clause-well : goal.returns-clause-well
 returns-clause-well g c = λ is start first T tells.
     let M = g.M.Machine in
-    let self = c.args.self.now in (
-      subst (λ b. Tells (M.stands first) g.W.Target (M.script first) start T self.machine self.pending (not b) [] c.settle.new.target) is
-          (settled_as (M.stands first) g.W.Target (M.script first) start T self.machine self.pending self.page.failed self.page.block _ _ c.settle.result
-          tells c.settle.ensures.settled),
-      same_page (M.stands first) g.W.Target (M.script first) start T self.machine self.pending _ _ c.settle.new.target
-          (subst (λ b. Tells (M.stands first) g.W.Target (M.script first) start T self.machine self.pending (not b) [] c.settle.new.target) is
-          (settled_as (M.stands first) g.W.Target (M.script first) start T self.machine self.pending self.page.failed self.page.block _ _ c.settle.result
-          tells c.settle.ensures.settled)) (c.settle.ensures.well is) (c.settle.ensures.blank is),
-    )
+    let self = c.args.self.now in
+    let now : Tells (M.stands first) g.W.Target (M.script first) start T self.machine self.pending false [] c.settle.new.target =
+    subst (λ b. Tells (M.stands first) g.W.Target (M.script first) start T self.machine self.pending (not b) [] c.settle.new.target) is
+    (settled_as (M.stands first) g.W.Target (M.script first) start T self.machine self.pending self.page.failed self.page.block _ _ c.settle.result
+    tells c.settle.ensures.settled) in
+    (now, same_page (M.stands first) g.W.Target (M.script first) start T self.machine self.pending _ _ c.settle.new.target now (c.settle.ensures.well is) (c.settle.ensures.blank is))
 
 pub returns-clause-wrong : goal.returns-clause-wrong
 returns-clause-wrong g c = λ is start first T tells.
@@ -46,5 +43,4 @@ returns-clause-sure g c = λ is start first T tells.
 
 pub returns-clause-kept : goal.returns-clause-kept
 returns-clause-kept g c = λ start first earlier sure.
-    let before = sure in
-    record { within = before.within; mid = before.mid; said = before.said; wrote = before.wrote; carried = c.settle.ensures.no_more before.mid before.said before.carried }
+    record { within = sure.within; mid = sure.mid; said = sure.said; wrote = sure.wrote; carried = c.settle.ensures.no_more sure.mid sure.said sure.carried }
