@@ -6,6 +6,8 @@
 Prints a line for each case and ends with `N passed, M failed`; its status is 1 where a case failed.
 """
 
+import gzip
+import lzma
 import os
 import shlex
 import subprocess
@@ -14,7 +16,7 @@ import tempfile
 import tty
 from pathlib import Path
 
-from cases import DEVICE, REFUSAL, WORDS, Cases
+from cases import DEVICE, REFUSAL, UNCLEAN, WORDS, Cases
 from runs import Ended
 from tables import EXAMPLES
 
@@ -152,6 +154,59 @@ def pairs(cases, folder):
         hinted(cases, f"nothing of {shlex.join(given)}", given, folder, 0, None)
 
 
+def looks(cases, folder):
+    """What a log looks like that is refused in its first line, and a last line that breaks off."""
+    lines = VIN.read_bytes()
+    body = b" can0 7E0#0322F190\n"
+    date = "looks like a log whose stamps have a date; date +%s.%6N makes seconds of one"
+    nanoseconds = "looks like a log whose stamps have nine decimals; leave out the last three"
+    screen = "looks like candump's form for the screen; candump -L and candump -l record a log"
+    mark = "begins with a byte order mark, which an editor has put in front; save it without"
+    asc, csv = "looks like a Vector ASC file; asc2log converts it", "looks like a CSV file; python-can converts one"
+    zstandard = "looks compressed with zstd; zstdcat unpacks it"
+    for name, log, hint in [
+        ("a.gz", gzip.compress(lines), "looks compressed with gzip; zcat unpacks it"),
+        ("a.xz", lzma.compress(lines), "looks compressed with xz; xzcat unpacks it"),
+        ("a.zst", bytes.fromhex("28B52FFD0458C90100"), zstandard),
+        ("short.zst", bytes.fromhex("28B52FFE0458C90100"), None),
+        ("mark.log", b"\xef\xbb\xbf" + lines, mark),
+        ("little.log", b"\xff\xfe" + lines.decode().encode("utf-16-le"), mark),
+        ("big.log", b"\xfe\xff" + lines.decode().encode("utf-16-be"), mark),
+        ("screen.log", b"  can0  7E0   [4]  03 22 F1 90\n", screen),
+        ("stamped.log", b" (1700000000.000000)  can0  7E0   [4]  03 22 F1 90\n", screen),
+        ("indented.log", b" " + b"can0  7E0   [4]  03 22 F1 90\n", None),
+        ("session.asc", b"date Tue Nov 14 22:13:20.000 2023\nbase hex  timestamps absolute\n", asc),
+        ("base.asc", b"base hex  timestamps absolute\n", asc),
+        ("data.txt", b"data\n", None),
+        ("session.csv", b"timestamp,arbitration_id,extended,remote,error,dlc,data\n", csv),
+        ("other.csv", b"Zeit;Kennung;Daten\n", csv),
+        ("late.csv", b"0123456789ABCDEF,1\n", None),
+        ("date.log", b"(2023-11-14 22:13:20.000000)" + body, date),
+        ("bracket.log", b"(1700000000,000000)" + body, None),
+        ("nine.log", b"(1700000000.000000000)" + body, nanoseconds),
+        ("since.log", b"(0.000000000)" + body, nanoseconds),
+        ("five.log", b"(1700000000.00000)" + body, None),
+        ("second.log", lines + b"(1700000001.000000000)" + body, None),
+        ("text.log", b"no log\n", None),
+    ]:
+        Path(folder, name).write_bytes(log)
+        hinted(cases, f"a log as {name}", ["list", name], folder, REFUSAL, hint and f"{name} {hint}")
+    for job in ["normalise", "watch", "explain", "messages", "find"]:
+        hinted(cases, f"{job} of a compressed log", [job, "a.zst"], folder, REFUSAL, f"a.zst {zstandard}")
+    hinted(cases, "a compressed standard input", ["list"], folder, REFUSAL, f"standard input {zstandard}", log=Path(folder, "a.zst").read_bytes())
+    hinted(cases, "a compressed left log", ["compare", "a.zst", "mine.log"], folder, REFUSAL, f"a.zst {zstandard}")
+    hinted(cases, "a compressed right log", ["compare", "mine.log", "a.zst"], folder, REFUSAL, f"a.zst {zstandard}")
+    cut = "the last line of {} looks cut; sed '$d' leaves it out, and a frame is missing"
+    for length in [1, 12, 18, 200, 30]:
+        Path(folder, "cut.log").write_bytes(lines[:length])
+        hinted(cases, f"a log cut after {length} bytes", ["list", "cut.log"], folder, REFUSAL, cut.format("cut.log"))
+    hinted(cases, "a cut standard input", ["list"], folder, REFUSAL, cut.format("standard input"), log=lines * 100 + lines[:200])
+    hinted(cases, "a cut right log", ["compare", "mine.log", "cut.log"], folder, REFUSAL, cut.format("cut.log"))
+    for name, log in [("refused.log", lines + b"x"), ("ended.log", lines[:200] + b"\n")]:
+        Path(folder, name).write_bytes(log)
+        hinted(cases, f"no cut log {name}", ["list", name], folder, REFUSAL, None)
+
+
 def silent(cases, folder):
     """Where there is nothing to say, nothing is said; and a hint that can't be told changes no status."""
     for given in [[], ["list", "mine.log"], ["--help"], ["--version"], ["compare", "mine.log", "mine.log"]]:
@@ -168,7 +223,7 @@ def main():
         sys.exit(__doc__)
     cases = Cases(os.path.abspath(sys.argv[1]))
     with tempfile.TemporaryDirectory() as folder:
-        for test in [files, limits, names, words, pairs, silent]:
+        for test in [files, limits, names, words, pairs, looks, silent]:
             test(cases, folder)
     cases.end()
 

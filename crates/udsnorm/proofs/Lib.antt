@@ -7,3 +7,4 @@ pub mod Taken
 pub mod SpelledIdentifiers
 pub mod LineParts
 pub mod ToldTexts
+pub mod Fronts

@@ -62,7 +62,7 @@ pub record RanFile {F W E : Type 0} (file : SourceGhosts F) (output : TargetGhos
   pub from_start : file.given opened ≡ []
   pub outcome : Result Summary Fault
   pub ran : RanOne file output errors job strict limit settings opened old unsaid status outcome left new said
-  pub known_is : IsKnownBy job settings outcome (output.taken new) known
+  pub known_is : IsKnownBy job settings (file.given left) (file.is_over left) outcome (output.taken new) known
 
 -- a file can't be opened: that is told, why is known, and the output is left alone
 abbrev pub Unopened : {W E : Type 0} → TargetGhosts E → List ℕ → Which → W → E → ℕ → Option Known → W → E → Type 0
@@ -84,13 +84,14 @@ pub record RanFiles {F W E : Type 0} (file : SourceGhosts F) (output : TargetGho
   pub from_start_too : file.given other ≡ []
   pub fault : Option CompareFault
   pub ran : RanTwo file file output errors strict style limit settings one other old unsaid status fault one_left other_left new said
-  pub known_is : IsKnownByTwo settings fault known
+  pub known_is : IsKnownByTwo settings (file.given one_left) (file.is_over one_left) (file.given other_left) (file.is_over other_left) fault known
 
 -- What was done of a plan, and what is known of that: over the input where it names no file, and the input was left alone where
 -- it names one.
 abbrev pub Did : {F R W E : Type 0} → SourceGhosts F → SourceGhosts R → TargetGhosts W → TargetGhosts E → Plan → R → W → E → ℕ → Option Known → R → W → E → Type 0
 Did file source output errors (One job strict settings None) before old unsaid status known after new said =
-    (outcome : Result Summary Fault) × RanOne source output errors job strict MESSAGE_LIMIT settings before old unsaid status outcome after new said × IsKnownBy job settings outcome (output.taken new) known
+    (outcome : Result Summary Fault) × RanOne source output errors job strict MESSAGE_LIMIT settings before old unsaid status outcome after new said
+    × IsKnownBy job settings (source.given after) (source.is_over after) outcome (output.taken new) known
 Did file source output errors (One job strict settings (Some name)) before old unsaid status known after new said =
     (after ≡ before) × (RanFile file output errors job strict MESSAGE_LIMIT settings old unsaid status known new said
     ⊎ Unopened errors (fault_line Read) First old unsaid status known new said)

@@ -18,6 +18,8 @@ use Rattle.udsnorm.specs.declared.job.Plan.{Plan}
 use Rattle.udsnorm.specs.declared.job.Plan.TheVariants.{One, Two}
 use Rattle.udsnorm.specs.declared.job.WordsFault.{WordsFault}
 use Rattle.udsnorm.specs.declared.job.WordsFault.TheVariants as words
+use Rattle.udsnorm.specs.declared.looks.Look.{Look}
+use Rattle.udsnorm.specs.declared.looks.Look.TheVariants as look
 
 -- ---- names
 
@@ -50,6 +52,18 @@ named (Some name) = quoted name
 
 -- ---- the line
 
+-- what is said behind its name of a log that looks so, with what mends it
+abbrev pub look_words : Look → List ℕ
+look_words look.Gzip = codes " looks compressed with gzip; zcat unpacks it\n"
+look_words look.Zstandard = codes " looks compressed with zstd; zstdcat unpacks it\n"
+look_words look.Xz = codes " looks compressed with xz; xzcat unpacks it\n"
+look_words look.ByteOrderMark = codes " begins with a byte order mark, which an editor has put in front; save it without\n"
+look_words look.Screen = codes " looks like candump's form for the screen; candump -L and candump -l record a log\n"
+look_words look.Asc = codes " looks like a Vector ASC file; asc2log converts it\n"
+look_words look.Date = codes " looks like a log whose stamps have a date; date +%s.%6N makes seconds of one\n"
+look_words look.Csv = codes " looks like a CSV file; python-can converts one\n"
+look_words look.Nanoseconds = codes " looks like a log whose stamps have nine decimals; leave out the last three\n"
+
 -- the line of a hint about this log
 abbrev pub hint_line : Matter → Option (List ℕ) → List ℕ
 hint_line matter.Missing log = codes "hint: there is no file " ++ named log ++ codes "\n"
@@ -60,6 +74,8 @@ hint_line matter.Unread log = codes "hint: reading " ++ named log ++ codes " fai
 hint_line (matter.Limit limit) log = codes "hint: the limit is " ++ decimal limit ++ codes " bytes; --limit sets it, up to 1099511627776\n"
 hint_line matter.NoPair log =
     codes "hint: nothing in " ++ named log ++ codes " answers another identifier; find needs the frames of both sides, and looks at each identifier up to 1FFFFFFF\n"
+hint_line (matter.Looks look) log = codes "hint: " ++ named log ++ look_words look
+hint_line matter.Cut log = codes "hint: the last line of " ++ named log ++ codes " looks cut; sed '$d' leaves it out, and a frame is missing\n"
 hint_line matter.NoCommand log = codes "hint: " ++ named log ++ codes " is a file: udsnorm list " ++ named log ++ codes "\n"
 
 -- ---- what it is about

@@ -1,5 +1,5 @@
 -- What is known of a log for a hint, by what a run over it came to.
-use Rattle.std.specs.Prelude.{◌≡◌, ◌⊎◌, ℕ, nat_lt, List, length, Option, Some, None, Result, Ok, Err, if◌then◌else◌}
+use Rattle.std.specs.Prelude.{◌≡◌, ◌⊎◌, ℕ, nat_lt, Bool, List, length, take, Option, Some, None, Result, Ok, Err, if◌then◌else◌}
 use Rattle.trace_canon.specs.Settings.{Settings}
 use Rattle.trace_canon.specs.declared.config.TheConstants.{LARGEST_LIMIT}
 use Rattle.trace_canon.specs.declared.fault.CompareFault.{CompareFault}
@@ -7,6 +7,7 @@ use Rattle.trace_canon.specs.declared.fault.CompareFault.TheVariants.{Left, Righ
 use Rattle.trace_canon.specs.declared.fault.Fault.{Fault}
 use Rattle.trace_canon.specs.declared.fault.Fault.TheVariants.{BadLine, Oversize, LogLimit, OutputLimit, Read, Write, Memory}
 use Rattle.trace_canon.specs.declared.summary.Summary.{Summary}
+use Rattle.udsnorm.specs.Looks.{look_of}
 use Rattle.udsnorm.specs.declared.commands.Job.{Job}
 use Rattle.udsnorm.specs.declared.commands.Job.TheVariants as job
 use Rattle.udsnorm.specs.declared.ended.Known.{Known}
@@ -14,6 +15,8 @@ use Rattle.udsnorm.specs.declared.ended.Matter.{Matter}
 use Rattle.udsnorm.specs.declared.ended.Matter.TheVariants as matter
 use Rattle.udsnorm.specs.declared.ended.Which.{Which}
 use Rattle.udsnorm.specs.declared.ended.Which.TheVariants.{First, Second}
+use Rattle.udsnorm.specs.declared.looks.Look.{Look}
+use Rattle.udsnorm.specs.declared.noticing.TheConstants.{KEPT}
 
 -- this is known of this log
 abbrev pub knows : Which → Matter → Option Known
@@ -23,16 +26,26 @@ knows which about = Some (record { which = which; matter = about })
 abbrev pub knows_limit : Which → ℕ → Option Known
 knows_limit which most = if nat_lt most LARGEST_LIMIT then knows which (matter.Limit most) else None
 
--- What is known of a log by the fault of a run over it: the limit where that is passed, and that the log can't be read,
--- which a folder can't; and else nothing.
-abbrev pub IsKnownByFault : Which → Settings → Fault → Option Known → Type 0
-IsKnownByFault which settings (BadLine line column) known = known ≡ None
-IsKnownByFault which settings (Oversize line announced) known = known ≡ None
-IsKnownByFault which settings LogLimit known = known ≡ knows_limit which settings.max_bytes
-IsKnownByFault which settings OutputLimit known = known ≡ knows_limit which settings.max_bytes
-IsKnownByFault which settings Read known = (known ≡ knows which matter.Unread) ⊎ (known ≡ knows which matter.Folder)
-IsKnownByFault which settings Write known = known ≡ None
-IsKnownByFault which settings Memory known = known ≡ None
+-- it is known what this log looks like, if anything
+abbrev pub knows_look : Which → Option Look → Option Known
+knows_look which None = None
+knows_look which (Some look) = knows which (matter.Looks look)
+
+-- What is known of this log that is refused at this place, whose source gave these bytes and was over or not. Where it was over,
+-- nothing before the end was refused: the last line is cut. Else it is known what the log looks like.
+abbrev pub knows_refused : Which → List ℕ → Bool → ℕ → ℕ → Option Known
+knows_refused which given is_over line column = if is_over then knows which matter.Cut else knows_look which (look_of (take KEPT given) line column)
+
+-- What is known of a log by the fault of a run over it, whose source gave these bytes and was over or not: what it looks like
+-- where it is no log, the limit where that is passed, and that the log can't be read, which a folder can't; and else nothing.
+abbrev pub IsKnownByFault : Which → Settings → List ℕ → Bool → Fault → Option Known → Type 0
+IsKnownByFault which settings given is_over (BadLine line column) known = known ≡ knows_refused which given is_over line column
+IsKnownByFault which settings given is_over (Oversize line announced) known = known ≡ None
+IsKnownByFault which settings given is_over LogLimit known = known ≡ knows_limit which settings.max_bytes
+IsKnownByFault which settings given is_over OutputLimit known = known ≡ knows_limit which settings.max_bytes
+IsKnownByFault which settings given is_over Read known = (known ≡ knows which matter.Unread) ⊎ (known ≡ knows which matter.Folder)
+IsKnownByFault which settings given is_over Write known = known ≡ None
+IsKnownByFault which settings given is_over Memory known = known ≡ None
 
 -- it is known that the log has no pair, where the output took nothing
 abbrev pub knows_no_pair : List ℕ → Option Known
@@ -48,16 +61,17 @@ known_of_done (job.Explain notation) taken = None
 known_of_done (job.Messages notation) taken = None
 known_of_done (job.Find notation) taken = knows_no_pair taken
 
--- what is known of a log by the outcome of a job over it, of which the output took this
-abbrev pub IsKnownBy : Job → Settings → Result Summary Fault → List ℕ → Option Known → Type 0
-IsKnownBy job settings (Ok summary) taken known = known ≡ known_of_done job taken
-IsKnownBy job settings (Err fault) taken known = IsKnownByFault First settings fault known
+-- what is known of a log by the outcome of a job over it, whose source gave these bytes and was over or not, and of which the
+-- output took this
+abbrev pub IsKnownBy : Job → Settings → List ℕ → Bool → Result Summary Fault → List ℕ → Option Known → Type 0
+IsKnownBy job settings given is_over (Ok summary) taken known = known ≡ known_of_done job taken
+IsKnownBy job settings given is_over (Err fault) taken known = IsKnownByFault First settings given is_over fault known
 
--- what is known of the log of two of which a fault is told
-abbrev pub IsKnownByTwo : Settings → Option CompareFault → Option Known → Type 0
-IsKnownByTwo settings None known = known ≡ None
-IsKnownByTwo settings (Some (Left fault)) known = IsKnownByFault First settings fault known
-IsKnownByTwo settings (Some (Right fault)) known = IsKnownByFault Second settings fault known
+-- what is known of the log of two of which a fault is told, by what the sources of both gave and whether they were over
+abbrev pub IsKnownByTwo : Settings → List ℕ → Bool → List ℕ → Bool → Option CompareFault → Option Known → Type 0
+IsKnownByTwo settings left left_over right right_over None known = known ≡ None
+IsKnownByTwo settings left left_over right right_over (Some (Left fault)) known = IsKnownByFault First settings left left_over fault known
+IsKnownByTwo settings left left_over right right_over (Some (Right fault)) known = IsKnownByFault Second settings right right_over fault known
 
 -- it is known of this log why it can't be opened: there is none, it may not be read, or something else
 abbrev pub IsKnownUnopened : Which → Option Known → Type 0

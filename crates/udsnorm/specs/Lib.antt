@@ -7,6 +7,7 @@ pub mod FaultLines
 pub mod Telling
 pub mod Ending
 pub mod Run
+pub mod Looks
 pub mod Known
 pub mod Asked
 pub mod Hints

@@ -2,11 +2,13 @@
 
 ghost use Rattle.std.specs.Prelude.{◌≡◌, ◌⊎◌, option_map};
 ghost use Rattle.udsnorm.specs.Hints.{name_in};
-ghost use Rattle.udsnorm.specs.Known.{IsKnownBy, IsKnownByFault, IsKnownByTwo, IsKnownUnopened, known_of_done, knows_limit, knows_no_pair};
+ghost use Rattle.udsnorm.specs.Known.{IsKnownBy, IsKnownByFault, IsKnownByTwo, IsKnownUnopened, known_of_done, knows_limit, knows_no_pair, knows_refused};
 ghost use Rattle.udsnorm.specs.declared.ended.Matter.TheVariants as matter;
 
 use crate::commands::Job;
 use crate::job::{Plan, WordsFault};
+use crate::looks::{Look, look_of};
+use crate::noticing::Noticing;
 use std::fs::OpenFile;
 use std::io::{Error, ErrorKind};
 use trace_canon::{CompareFault, Config, Fault, LARGEST_LIMIT, Summary};
@@ -81,6 +83,10 @@ pub enum Matter {
     NoPair,
     /// It was named where a command has its place.
     NoCommand,
+    /// It is no log, and looks like something else.
+    Looks(Look),
+    /// It is a log up to its end, where the last line breaks off.
+    Cut,
 }
 
 /// What is known of a log that can't be opened, by the error.
@@ -96,29 +102,30 @@ pub(crate) fn unopened(which: Which, error: &Error) -> Option<Known>
 }
 
 /// What is known of standard input, by what a job over it came to.
-pub(crate) fn known_of_input<W: Target>(
+pub(crate) fn known_of_input<I, W: Target>(
     job: Job,
     config: &Config,
     outcome: Result<Summary, Fault>,
+    input: &Noticing<I>,
     out: &W,
 ) -> Option<Known>
-    ensures { IsKnownBy job config.now outcome (W.taken out.now) result }
+    ensures { IsKnownBy job config.now input.now.given input.now.is_over outcome (W.taken out.now) result }
 {
     match outcome {
         Ok(_) => known_of_done(job, out),
-        Err(fault) => known_of(Which::First, config, fault, Matter::Unread),
+        Err(fault) => known_of(Which::First, config, fault, input),
     }
 }
 
 /// What is known of the log of a file, by what a job over it came to.
-pub(crate) fn known_of_file<F: OpenFile, W: Target>(
+pub(crate) fn known_of_file<F: OpenFile + Drop, W: Target>(
     job: Job,
     config: &Config,
     outcome: Result<Summary, Fault>,
-    log: &F,
+    log: Noticing<F>,
     out: &W,
 ) -> Option<Known>
-    ensures { IsKnownBy job config.now outcome (W.taken out.now) result }
+    ensures { IsKnownBy job config.now log.given log.is_over outcome (W.taken out.now) result }
 {
     match outcome {
         Ok(_) => known_of_done(job, out),
@@ -151,13 +158,13 @@ fn known_of_pairs<W: Target>(out: &W) -> Option<Known>
 }
 
 /// What is known of one of two logs of files, by the fault of one of them.
-pub(crate) fn known_of_files<F: OpenFile>(
+pub(crate) fn known_of_files<F: OpenFile + Drop>(
     config: &Config,
     fault: Option<CompareFault>,
-    left: &F,
-    right: &F,
+    left: Noticing<F>,
+    right: Noticing<F>,
 ) -> Option<Known>
-    ensures { IsKnownByTwo config.now fault result }
+    ensures { IsKnownByTwo config.now left.given left.is_over right.given right.is_over fault result }
 {
     match fault {
         None => None,
@@ -167,42 +174,65 @@ pub(crate) fn known_of_files<F: OpenFile>(
 }
 
 /// What is known of the log of a file, by the fault of a run over it.
-fn known_of_fault<F: OpenFile>(
+fn known_of_fault<F: OpenFile + Drop>(
     which: Which,
     config: &Config,
     fault: Fault,
-    log: &F,
+    log: Noticing<F>,
 ) -> Option<Known>
-    ensures { IsKnownByFault which config.now fault result }
+    ensures { IsKnownByFault which config.now log.given log.is_over fault result }
 {
-    known_of(which, config, fault, why_unread(fault, log))
+    match fault {
+        Fault::Read => Some(Known {
+            which,
+            matter: why_unread(&log.into_inner()),
+        }),
+        _ => known_of(which, config, fault, &log),
+    }
 }
 
-/// Why the log of a file can't be read, where that is the fault. A folder can be opened, and not read.
-fn why_unread<F: OpenFile>(fault: Fault, log: &F) -> Matter
+/// Why the log of a file can't be read. A folder can be opened, and not read.
+fn why_unread<F: OpenFile>(log: &F) -> Matter
     ensures { (result ≡ matter.Unread) ⊎ (result ≡ matter.Folder) }
 {
-    if fault != Fault::Read {
-        return Matter::Unread;
-    }
     match log.metadata() {
         Ok(found) if found.is_dir() => Matter::Folder,
         _ => Matter::Unread,
     }
 }
 
-/// What is known of a log, by the fault of a run over it, and by why it can't be read where that is the fault.
-fn known_of(which: Which, config: &Config, fault: Fault, unread: Matter) -> Option<Known>
-    requires { (unread ≡ matter.Unread) ⊎ (unread ≡ matter.Folder) }
-    ensures { IsKnownByFault which config.now fault result }
+/// What is known of a log, by the fault of a run over it.
+fn known_of<R>(which: Which, config: &Config, fault: Fault, log: &Noticing<R>) -> Option<Known>
+    ensures { IsKnownByFault which config.now log.now.given log.now.is_over fault result }
 {
     match fault {
+        Fault::BadLine { line, column } => known_of_place(which, line, column, log),
         Fault::LogLimit | Fault::OutputLimit => known_of_limit(which, config.max_bytes()),
         Fault::Read => Some(Known {
             which,
-            matter: unread,
+            matter: Matter::Unread,
         }),
         _ => None,
+    }
+}
+
+/// What is known of a log that is refused at this place. Nothing is read behind a refused byte: so where all of the log was,
+/// the place is behind its last one.
+fn known_of_place<R>(which: Which, line: u64, column: u32, log: &Noticing<R>) -> Option<Known>
+    ensures { result ≡ knows_refused which log.now.given log.now.is_over line column }
+{
+    if log.has_ended() {
+        return Some(Known {
+            which,
+            matter: Matter::Cut,
+        });
+    }
+    match look_of(log.first(), line, column) {
+        Some(look) => Some(Known {
+            which,
+            matter: Matter::Looks(look),
+        }),
+        None => None,
     }
 }
 

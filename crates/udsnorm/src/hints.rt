@@ -3,12 +3,13 @@
 ghost use Rattle.std.specs.Prelude.{◌≡◌, ◌<◌, ◌++◌, IfOk, OnOk, IfErr, map, option_map, string_bytes};
 ghost use Rattle.std.specs.List.{flat_map, list_all};
 ghost use Rattle.can_log.specs.Digits.{digit};
-ghost use Rattle.udsnorm.specs.Hints.{GaveHint, IsSubject, hint_line, is_plain, is_plain_name, is_printable, quoted, quoted_byte, subject_seen};
+ghost use Rattle.udsnorm.specs.Hints.{GaveHint, IsSubject, hint_line, is_plain, is_plain_name, is_printable, look_words, quoted, quoted_byte, subject_seen};
 ghost use Rattle.udsnorm.specs.proving.Pieces.{piece_text, pieces_text};
 
 use crate::commands::COMMANDS;
 use crate::ended::{Matter, Run, name_of};
 use crate::job::WordsFault;
+use crate::looks::Look;
 use crate::tell::tell_text;
 use itoa::Buffer;
 use std::alloc::{AllocError, Global};
@@ -150,6 +151,18 @@ fn line(alloc: Global, matter: Matter, log: Option<&str>) -> Result<Vec<u8>, All
                 Piece::Words(NO_PAIR),
             ],
         ),
+        Matter::Looks(look) => line_of(
+            alloc,
+            &[Piece::Words("hint: "), log, Piece::Words(look_words(look))],
+        ),
+        Matter::Cut => line_of(
+            alloc,
+            &[
+                Piece::Words("hint: the last line of "),
+                log,
+                Piece::Words(" looks cut; sed '$d' leaves it out, and a frame is missing\n"),
+            ],
+        ),
         Matter::NoCommand => line_of(
             alloc,
             &[
@@ -160,6 +173,31 @@ fn line(alloc: Global, matter: Matter, log: Option<&str>) -> Result<Vec<u8>, All
                 end,
             ],
         ),
+    }
+}
+
+/// What is said behind its name of a log that looks so, with what mends it.
+fn look_words(look: Look) -> &'static str
+    ensures { result.now ≡ look_words look }
+{
+    match look {
+        Look::Gzip => " looks compressed with gzip; zcat unpacks it\n",
+        Look::Zstandard => " looks compressed with zstd; zstdcat unpacks it\n",
+        Look::Xz => " looks compressed with xz; xzcat unpacks it\n",
+        Look::ByteOrderMark => {
+            " begins with a byte order mark, which an editor has put in front; save it without\n"
+        }
+        Look::Screen => {
+            " looks like candump's form for the screen; candump -L and candump -l record a log\n"
+        }
+        Look::Asc => " looks like a Vector ASC file; asc2log converts it\n",
+        Look::Date => {
+            " looks like a log whose stamps have a date; date +%s.%6N makes seconds of one\n"
+        }
+        Look::Csv => " looks like a CSV file; python-can converts one\n",
+        Look::Nanoseconds => {
+            " looks like a log whose stamps have nine decimals; leave out the last three\n"
+        }
     }
 }
 

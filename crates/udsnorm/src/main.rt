@@ -26,6 +26,8 @@ mod fault_lines;
 mod hints;
 mod identifiers;
 mod job;
+mod looks;
+mod noticing;
 mod run;
 mod stream;
 mod tell;
@@ -37,24 +39,25 @@ use crate::commands::Job;
 use crate::ended::{End, Run, Which, known_of_file, known_of_files, known_of_input, unopened};
 use crate::hints::give_hint;
 use crate::job::{Plan, WordsFault};
+use crate::noticing::Noticing;
 use crate::run::{run_one, run_two};
 use crate::stream::is_one_stream;
 use crate::tell::{tell, tell_fault, tell_one_stream, tell_side};
 use crate::words::plan;
 use std::env::Env;
-use std::io::{ErrorKind, Input, IsTerminal, Print};
+use std::io::{ErrorKind, Input, IsTerminal, Print, Read};
 use std::process::ExitCode;
 use std::rt::Files;
 use std::{env, fs, io};
 use trace_canon::{CompareFault, ComparisonStyle, Config, Fault};
-use trace_io::{Reading, Source, Target, Writing};
+use trace_io::{Source, Target, Writing};
 
 /// What is told of a command line that is no text.
 const NO_TEXT: &str = "error: the command line is not UTF-8\n";
 
 fn main(rt: HostRuntime) -> ExitCode {
     let stderr = rt.stderr();
-    let mut input = Reading::new(rt.reader());
+    let mut input = Noticing::new(rt.reader());
     let mut out = Writing::new(io::writer(&rt));
     let mut err = Writing::new(io::writer(&stderr));
     let status = match given_words(&rt) {
@@ -82,25 +85,25 @@ fn given_words<R: AllocGlobal + Env>(rt: &R) -> Result<Vec<String>, WordsFault> 
 }
 
 /// Does what the words ask for, over the input where they name no file. Answers that, and how it ended.
-fn run_words<R: AllocGlobal + Files, I: Source, W: Target, E: Target>(
+fn run_words<R: AllocGlobal + Files, I: Read, W: Target, E: Target>(
     rt: &R,
     words: &[String],
-    input: &mut I,
+    input: &mut Noticing<I>,
     out: &mut W,
     err: &mut E,
 ) -> Run
 where
     R::File: IsTerminal,
-    requires input { AreLowCounts (I.reads input.old) (length (I.given input.old)) (I.failures input.old) }
+    requires input { AreLowCounts input.old.reads (length input.old.given) input.old.failures }
     requires out { IsLowCount (W.failures out.old) }
     requires err { IsLowCount (E.failures err.old) }
 
     // For each status: what the words ask for, what was done of it, from the input's reads to the output's writes and the
     // error output's, and what is then known for a hint.
-    ensures run { DidWords ⟦<Reading<R::File> as Source>⟧ I.Source W.Target E.Target (words_or_normalise (map string_bytes words.now)) result.asked input.old out.old err.old result.end.status result.end.known input.new out.new err.new }
+    ensures run { DidWords ⟦<Noticing<R::File> as Source>⟧ ⟦<Noticing<I> as Source>⟧ W.Target E.Target (words_or_normalise (map string_bytes words.now)) result.asked input.old out.old err.old result.end.status result.end.known input.new out.new err.new }
 
     // With status 0 it is done: the output's writes took what is asked for, of the bytes that the input's reads gave.
-    ensures done { result.end.status ≡ 0 → (log : List ℕ) → I.given input.new ≡ I.given input.old ++ log
+    ensures done { result.end.status ≡ 0 → (log : List ℕ) → input.new.given ≡ input.old.given ++ log
         → IsDone (words_or_normalise (map string_bytes words.now)) log (W.taken out.old) (W.taken out.new) }
     ensures flushed { result.end.status ≡ 0 → W.is_flushed out.new ≡ true }
     ensures once { result.end.status ≡ 0 → W.flushes out.new ≡ W.flushes out.old + 1 }
@@ -128,19 +131,19 @@ where
 }
 
 /// Does what is planned, over the files that are named or the input. Answers how it ended.
-fn carry_out<R: AllocGlobal + Files, I: Source, W: Target, E: Target>(
+fn carry_out<R: AllocGlobal + Files, I: Read, W: Target, E: Target>(
     rt: &R,
     plan: &Plan,
-    input: &mut I,
+    input: &mut Noticing<I>,
     out: &mut W,
     err: &mut E,
 ) -> End
 where
     R::File: IsTerminal,
-    requires input { AreLowCounts (I.reads input.old) (length (I.given input.old)) (I.failures input.old) }
+    requires input { AreLowCounts input.old.reads (length input.old.given) input.old.failures }
     requires out { IsLowCount (W.failures out.old) }
     requires err { IsLowCount (E.failures err.old) }
-    ensures did { Did ⟦<Reading<R::File> as Source>⟧ I.Source W.Target E.Target plan.now input.old out.old err.old result.status result.known input.new out.new err.new }
+    ensures did { Did ⟦<Noticing<R::File> as Source>⟧ ⟦<Noticing<I> as Source>⟧ W.Target E.Target plan.now input.old out.old err.old result.status result.known input.new out.new err.new }
     ensures flushed { result.status ≡ 0 → W.is_flushed out.new ≡ true }
     ensures once { result.status ≡ 0 → W.flushes out.new ≡ W.flushes out.old + 1 }
     ensures flushes { W.flushes out.new ≤ W.flushes out.old + 1 }
@@ -156,7 +159,7 @@ where
                 let end = run_one(rt.alloc(), *job, *strict, config, input, out, err);
                 End {
                     status: end.status,
-                    known: known_of_input(*job, config, end.outcome, out),
+                    known: known_of_input(*job, config, end.outcome, input, out),
                 }
             }
             Some(name) => run_file(rt, *job, *strict, config, name, out, err),
@@ -183,7 +186,7 @@ fn run_file<R: AllocGlobal + Files, W: Target, E: Target>(
 ) -> End
     requires out { IsLowCount (W.failures out.old) }
     requires err { IsLowCount (E.failures err.old) }
-    ensures ran { RanFile ⟦<Reading<R::File> as Source>⟧ W.Target E.Target job strict MESSAGE_LIMIT config.now out.old err.old result.status result.known out.new err.new
+    ensures ran { RanFile ⟦<Noticing<R::File> as Source>⟧ W.Target E.Target job strict MESSAGE_LIMIT config.now out.old err.old result.status result.known out.new err.new
         ⊎ Unopened E.Target (fault_line Fault.Read) Which.First out.old err.old result.status result.known out.new err.new }
     ensures flushed { result.status ≡ 0 → W.is_flushed out.new ≡ true }
     ensures once { result.status ≡ 0 → W.flushes out.new ≡ W.flushes out.old + 1 }
@@ -191,11 +194,11 @@ fn run_file<R: AllocGlobal + Files, W: Target, E: Target>(
 {
     match fs::open(rt, name.as_str()) {
         Ok(file) => {
-            let mut log = Reading::new(file);
+            let mut log = Noticing::new(file);
             let end = run_one(rt.alloc(), job, strict, config, &mut log, out, err);
             End {
                 status: end.status,
-                known: known_of_file(job, config, end.outcome, &log.into_inner(), out),
+                known: known_of_file(job, config, end.outcome, log, out),
             }
         }
         Err(error) => End {
@@ -220,7 +223,7 @@ where
     R::File: IsTerminal,
     requires out { IsLowCount (W.failures out.old) }
     requires err { IsLowCount (E.failures err.old) }
-    ensures ran { RanFiles ⟦<Reading<R::File> as Source>⟧ W.Target E.Target strict style MESSAGE_LIMIT config.now out.old err.old result.status result.known out.new err.new
+    ensures ran { RanFiles ⟦<Noticing<R::File> as Source>⟧ W.Target E.Target strict style MESSAGE_LIMIT config.now out.old err.old result.status result.known out.new err.new
         ⊎ (Unopened E.Target (side_line (CompareFault.Left Fault.Read)) Which.First out.old err.old result.status result.known out.new err.new
         ⊎ (Unopened E.Target (side_line (CompareFault.Right Fault.Read)) Which.Second out.old err.old result.status result.known out.new err.new
         ⊎ OneStream E.Target out.old err.old result.status result.known out.new err.new)) }
@@ -252,8 +255,8 @@ where
             known: None,
         };
     }
-    let mut left = Reading::new(left);
-    let mut right = Reading::new(right);
+    let mut left = Noticing::new(left);
+    let mut right = Noticing::new(right);
     let end = run_two(
         rt.alloc(),
         strict,
@@ -266,6 +269,6 @@ where
     );
     End {
         status: end.status,
-        known: known_of_files(config, end.fault, &left.into_inner(), &right.into_inner()),
+        known: known_of_files(config, end.fault, left, right),
     }
 }

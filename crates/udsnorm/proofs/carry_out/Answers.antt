@@ -9,3 +9,8 @@ returns-in-Some-clause-did g c =
 
 pub returns-in-Two-clause-did : goal.returns-in-Two-clause-did
 returns-in-Two-clause-did g c = did_of_equal _ _ _ _ _ _ _ _ _ _ _ _ _ _ c.in-Two.is (refl, c.run_files.ensures.ran)
+
+pub returns-in-None-clause-did : goal.returns-in-None-clause-did
+returns-in-None-clause-did g c =
+    did_of_equal _ _ _ _ _ _ _ _ _ _ _ _ _ _ (c.in-One.is ∙ ap (λ log. One c.in-One.job c.in-One.strict c.in-One.config log) c.in-None.is)
+    (c.run_one-end.result.outcome, c.run_one-end.ensures.ran, c.known_of_input.ensures)
