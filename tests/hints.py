@@ -23,6 +23,7 @@ from tables import EXAMPLES
 VIN = EXAMPLES / "vin.log"
 CRLF = EXAMPLES / "vin-fd-crlf.log"
 FIRST = EXAMPLES / "first.log"
+LOST = EXAMPLES / "lost-frame.log"
 
 # Names of files, and how a hint has them: as they are, or so that a shell reads them back, without a control character.
 NAMES = {
@@ -202,9 +203,28 @@ def looks(cases, folder):
         hinted(cases, f"a log cut after {length} bytes", ["list", "cut.log"], folder, REFUSAL, cut.format("cut.log"))
     hinted(cases, "a cut standard input", ["list"], folder, REFUSAL, cut.format("standard input"), log=lines * 100 + lines[:200])
     hinted(cases, "a cut right log", ["compare", "mine.log", "cut.log"], folder, REFUSAL, cut.format("cut.log"))
-    for name, log in [("refused.log", lines + b"x"), ("ended.log", lines[:200] + b"\n")]:
+    for name, log in [("refused.log", lines + b"(x"), ("ended.log", lines[:200] + b"\n")]:
         Path(folder, name).write_bytes(log)
         hinted(cases, f"no cut log {name}", ["list", name], folder, REFUSAL, None)
+
+
+def drops(cases, folder):
+    """Notices of dropped frames in a log, and frames that the engine drops."""
+    lines = VIN.read_bytes()
+    notice = b"DROPCOUNT: dropped 1 CAN frame on 'can0' socket (total drops 1)\n"
+    hint = "line {} of notice.log begins with no stamp; if it is a notice of candump -d, grep -v ^DROPCOUNT leaves it out"
+    for log, line in [(lines + notice, 6), (notice + lines, 1), (lines * 1000 + notice + lines, 5001), (lines + b"x", 6)]:
+        Path(folder, "notice.log").write_bytes(log)
+        for job in ["list", "find"]:
+            hinted(cases, f"{job} of a notice in line {line}", [job, "notice.log"], folder, REFUSAL, hint.format(line))
+    hinted(cases, "a notice in the right log", ["compare", "mine.log", "notice.log"], folder, REFUSAL, hint.format(6))
+    Path(folder, "lost.log").write_bytes(LOST.read_bytes())
+    hint = "dropped frames in lost.log: 1; udsnorm explain shows where"
+    for job in ["normalise", "list", "watch", "messages"]:
+        hinted(cases, f"{job} of a log with a dropped frame", [job, "lost.log"], folder, 0, hint)
+    hinted(cases, "a log with a dropped frame that has to be clean", ["list", "--strict", "lost.log"], folder, UNCLEAN, hint)
+    for given, status in [(["explain", "lost.log"], 0), (["find", "lost.log"], 0), (["compare", "lost.log", "mine.log"], 1)]:
+        hinted(cases, f"no drops told by {shlex.join(given)}", given, folder, status, None)
 
 
 def silent(cases, folder):
@@ -223,7 +243,7 @@ def main():
         sys.exit(__doc__)
     cases = Cases(os.path.abspath(sys.argv[1]))
     with tempfile.TemporaryDirectory() as folder:
-        for test in [files, limits, names, words, pairs, looks, silent]:
+        for test in [files, limits, names, words, pairs, looks, drops, silent]:
             test(cases, folder)
     cases.end()
 

@@ -76,6 +76,9 @@ hint_line matter.NoPair log =
     codes "hint: nothing in " ++ named log ++ codes " answers another identifier; find needs the frames of both sides, and looks at each identifier up to 1FFFFFFF\n"
 hint_line (matter.Looks look) log = codes "hint: " ++ named log ++ look_words look
 hint_line matter.Cut log = codes "hint: the last line of " ++ named log ++ codes " looks cut; sed '$d' leaves it out, and a frame is missing\n"
+hint_line (matter.NoStamp line) log =
+    codes "hint: line " ++ decimal line ++ codes " of " ++ named log ++ codes " begins with no stamp; if it is a notice of candump -d, grep -v ^DROPCOUNT leaves it out\n"
+hint_line (matter.Dropped count) log = codes "hint: dropped frames in " ++ named log ++ codes ": " ++ decimal count ++ codes "; udsnorm explain shows where\n"
 hint_line matter.NoCommand log = codes "hint: " ++ named log ++ codes " is a file: udsnorm list " ++ named log ++ codes "\n"
 
 -- ---- what it is about

@@ -7,7 +7,7 @@ use Rattle.trace_canon.specs.declared.fault.CompareFault.TheVariants.{Left, Righ
 use Rattle.trace_canon.specs.declared.fault.Fault.{Fault}
 use Rattle.trace_canon.specs.declared.fault.Fault.TheVariants.{BadLine, Oversize, LogLimit, OutputLimit, Read, Write, Memory}
 use Rattle.trace_canon.specs.declared.summary.Summary.{Summary}
-use Rattle.udsnorm.specs.Looks.{look_of}
+use Rattle.udsnorm.specs.Looks.{lacks_stamp, look_of}
 use Rattle.udsnorm.specs.declared.commands.Job.{Job}
 use Rattle.udsnorm.specs.declared.commands.Job.TheVariants as job
 use Rattle.udsnorm.specs.declared.ended.Known.{Known}
@@ -32,9 +32,13 @@ knows_look which None = None
 knows_look which (Some look) = knows which (matter.Looks look)
 
 -- What is known of this log that is refused at this place, whose source gave these bytes and was over or not. Where it was over,
--- nothing before the end was refused: the last line is cut. Else it is known what the log looks like.
+-- nothing before the end was refused: the last line is cut. Else it is known that a line lacks its stamp, or what the log looks
+-- like.
 abbrev pub knows_refused : Which → List ℕ → Bool → ℕ → ℕ → Option Known
-knows_refused which given is_over line column = if is_over then knows which matter.Cut else knows_look which (look_of (take KEPT given) line column)
+knows_refused which given is_over line column =
+    if is_over then knows which matter.Cut
+    else if lacks_stamp (take KEPT given) line column then knows which (matter.NoStamp line)
+    else knows_look which (look_of (take KEPT given) line column)
 
 -- What is known of a log by the fault of a run over it, whose source gave these bytes and was over or not: what it looks like
 -- where it is no log, the limit where that is passed, and that the log can't be read, which a folder can't; and else nothing.
@@ -51,20 +55,24 @@ IsKnownByFault which settings given is_over Memory known = known ≡ None
 abbrev pub knows_no_pair : List ℕ → Option Known
 knows_no_pair taken = if nat_lt 0 (length taken) then None else knows First matter.NoPair
 
--- What is known of a log that was accepted, by the job over it and by what the output took: that it has no pair, where the
--- job was to find some; and else nothing.
-abbrev pub known_of_done : Job → List ℕ → Option Known
-known_of_done job.Normalise taken = None
-known_of_done (job.List style) taken = None
-known_of_done (job.Watch style) taken = None
-known_of_done (job.Explain notation) taken = None
-known_of_done (job.Messages notation) taken = None
-known_of_done (job.Find notation) taken = knows_no_pair taken
+-- it is known how many frames of an accepted log were dropped, where any was
+abbrev pub knows_dropped : ℕ → Option Known
+knows_dropped count = if nat_lt 0 count then knows First (matter.Dropped count) else None
+
+-- What is known of a log that was accepted, by the job over it, by its counts and by what the output took: that it has no pair,
+-- where the job was to find some; and else how many frames were dropped, where the job does not itself tell of them.
+abbrev pub known_of_done : Job → Summary → List ℕ → Option Known
+known_of_done job.Normalise summary taken = knows_dropped summary.dropped
+known_of_done (job.List style) summary taken = knows_dropped summary.dropped
+known_of_done (job.Watch style) summary taken = knows_dropped summary.dropped
+known_of_done (job.Explain notation) summary taken = None
+known_of_done (job.Messages notation) summary taken = knows_dropped summary.dropped
+known_of_done (job.Find notation) summary taken = knows_no_pair taken
 
 -- what is known of a log by the outcome of a job over it, whose source gave these bytes and was over or not, and of which the
 -- output took this
 abbrev pub IsKnownBy : Job → Settings → List ℕ → Bool → Result Summary Fault → List ℕ → Option Known → Type 0
-IsKnownBy job settings given is_over (Ok summary) taken known = known ≡ known_of_done job taken
+IsKnownBy job settings given is_over (Ok summary) taken known = known ≡ known_of_done job summary taken
 IsKnownBy job settings given is_over (Err fault) taken known = IsKnownByFault First settings given is_over fault known
 
 -- what is known of the log of two of which a fault is told, by what the sources of both gave and whether they were over

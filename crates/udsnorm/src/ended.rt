@@ -2,12 +2,12 @@
 
 ghost use Rattle.std.specs.Prelude.{◌≡◌, ◌⊎◌, option_map};
 ghost use Rattle.udsnorm.specs.Hints.{name_in};
-ghost use Rattle.udsnorm.specs.Known.{IsKnownBy, IsKnownByFault, IsKnownByTwo, IsKnownUnopened, known_of_done, knows_limit, knows_no_pair, knows_refused};
+ghost use Rattle.udsnorm.specs.Known.{IsKnownBy, IsKnownByFault, IsKnownByTwo, IsKnownUnopened, known_of_done, knows_dropped, knows_limit, knows_no_pair, knows_refused};
 ghost use Rattle.udsnorm.specs.declared.ended.Matter.TheVariants as matter;
 
 use crate::commands::Job;
 use crate::job::{Plan, WordsFault};
-use crate::looks::{Look, look_of};
+use crate::looks::{Look, lacks_stamp, look_of};
 use crate::noticing::Noticing;
 use std::fs::OpenFile;
 use std::io::{Error, ErrorKind};
@@ -87,6 +87,10 @@ pub enum Matter {
     Looks(Look),
     /// It is a log up to its end, where the last line breaks off.
     Cut,
+    /// This line begins with no stamp, as a notice of dropped frames does.
+    NoStamp(u64),
+    /// So many of its frames were dropped.
+    Dropped(u64),
 }
 
 /// What is known of a log that can't be opened, by the error.
@@ -112,7 +116,7 @@ pub(crate) fn known_of_input<I, W: Target>(
     ensures { IsKnownBy job config.now input.now.given input.now.is_over outcome (W.taken out.now) result }
 {
     match outcome {
-        Ok(_) => known_of_done(job, out),
+        Ok(summary) => known_of_done(job, &summary, out),
         Err(fault) => known_of(Which::First, config, fault, input),
     }
 }
@@ -128,18 +132,33 @@ pub(crate) fn known_of_file<F: OpenFile + Drop, W: Target>(
     ensures { IsKnownBy job config.now log.given log.is_over outcome (W.taken out.now) result }
 {
     match outcome {
-        Ok(_) => known_of_done(job, out),
+        Ok(summary) => known_of_done(job, &summary, out),
         Err(fault) => known_of_fault(Which::First, config, fault, log),
     }
 }
 
 /// What is known of a log that was accepted.
-fn known_of_done<W: Target>(job: Job, out: &W) -> Option<Known>
-    ensures { result ≡ known_of_done job (W.taken out.now) }
+fn known_of_done<W: Target>(job: Job, summary: &Summary, out: &W) -> Option<Known>
+    ensures { result ≡ known_of_done job summary.now (W.taken out.now) }
 {
     match job {
         Job::Find(_) => known_of_pairs(out),
-        _ => None,
+        Job::Explain(_) => None,
+        _ => known_of_dropped(summary.dropped),
+    }
+}
+
+/// What is known of a log of which so many frames were dropped: that, where any was.
+fn known_of_dropped(count: u64) -> Option<Known>
+    ensures { result ≡ knows_dropped count }
+{
+    if count > 0 {
+        Some(Known {
+            which: Which::First,
+            matter: Matter::Dropped(count),
+        })
+    } else {
+        None
     }
 }
 
@@ -225,6 +244,12 @@ fn known_of_place<R>(which: Which, line: u64, column: u32, log: &Noticing<R>) ->
         return Some(Known {
             which,
             matter: Matter::Cut,
+        });
+    }
+    if lacks_stamp(log.first(), line, column) {
+        return Some(Known {
+            which,
+            matter: Matter::NoStamp(line),
         });
     }
     match look_of(log.first(), line, column) {

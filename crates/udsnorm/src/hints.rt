@@ -21,6 +21,10 @@ use trace_io::Target;
 const NO_PAIR: &str =
     " answers another identifier; find needs the frames of both sides, and looks at each identifier up to 1FFFFFFF\n";
 
+/// What is said of a line that begins with no stamp, behind the log's name.
+const NO_STAMP: &str =
+    " begins with no stamp; if it is a notice of candump -d, grep -v ^DROPCOUNT leaves it out\n";
+
 /// A piece of a hint.
 #[derive(Clone, Copy)]
 pub(crate) enum Piece<'a> {
@@ -161,6 +165,26 @@ fn line(alloc: Global, matter: Matter, log: Option<&str>) -> Result<Vec<u8>, All
                 Piece::Words("hint: the last line of "),
                 log,
                 Piece::Words(" looks cut; sed '$d' leaves it out, and a frame is missing\n"),
+            ],
+        ),
+        Matter::NoStamp(line) => line_of(
+            alloc,
+            &[
+                Piece::Words("hint: line "),
+                Piece::Number(line),
+                Piece::Words(" of "),
+                log,
+                Piece::Words(NO_STAMP),
+            ],
+        ),
+        Matter::Dropped(count) => line_of(
+            alloc,
+            &[
+                Piece::Words("hint: dropped frames in "),
+                log,
+                Piece::Words(": "),
+                Piece::Number(count),
+                Piece::Words("; udsnorm explain shows where\n"),
             ],
         ),
         Matter::NoCommand => line_of(

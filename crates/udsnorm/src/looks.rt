@@ -1,7 +1,7 @@
 //! What a file looks like that is no log, by its first bytes.
 
 ghost use Rattle.std.specs.Prelude.{◌≡◌};
-ghost use Rattle.udsnorm.specs.Looks.{begins, compressed_look, has_at, has_more_decimals, is_asc, is_dated, is_for_screen, is_marked, is_table, look_of, text_look};
+ghost use Rattle.udsnorm.specs.Looks.{begins, compressed_look, has_at, has_more_decimals, is_asc, is_dated, is_for_screen, is_marked, is_table, lacks_stamp, look_of, text_look};
 
 /// What a log looks like that is refused in its first line.
 #[derive(Clone, Copy)]
@@ -40,6 +40,13 @@ pub(crate) fn look_of(first: &[u8], line: u64, column: u32) -> Option<Look>
         Some(look) => Some(look),
         None => text_look(first),
     }
+}
+
+/// Whether the line that is refused in this column begins with no stamp where one is due.
+pub(crate) fn lacks_stamp(first: &[u8], line: u64, column: u32) -> bool
+    ensures { result ≡ lacks_stamp first.now line column }
+{
+    column == 1 && (line > 1 || begins(first, b"DROPCOUNT"))
 }
 
 /// Whether a stamp has more than six decimals, in the line that these bytes begin and that is refused in this column.
