@@ -108,10 +108,18 @@ def started(python, address, paths, environment):
     return subprocess.Popen(words, env=environment, stdout=subprocess.PIPE, stderr=subprocess.PIPE)
 
 
+def opened_by(handle):
+    """The path that a handle of a process is of, or nothing where it was closed meanwhile."""
+    try:
+        return os.readlink(handle)
+    except FileNotFoundError:
+        return None
+
+
 def reads(worker, pipe):
     """Whether a worker has a pipe open."""
     handles = Path(f"/proc/{worker.pid}/fd")
-    return worker.poll() is None and any(os.path.realpath(handle) == str(pipe) for handle in handles.iterdir())
+    return worker.poll() is None and any(opened_by(handle) == str(pipe) for handle in handles.iterdir())
 
 
 def with_one_ended(script, workers, pipe, log):
