@@ -4,6 +4,7 @@
     tests/documents.py
 
 - the picture of the crates is the one that scripts/draw-crates draws of crates.txt, and names each crate and dependency;
+- the style that the program embeds in a report is that of crates/trace_canon/style/report.css;
 - each link of each document to a file of the repository, and to a heading in it, leads somewhere;
 - no line of their prose has more than 120 characters;
 - the source files that documents name are there;
@@ -35,6 +36,7 @@ from cases import Cases
 TOP = Path(__file__).resolve().parent.parent
 DOCS = TOP / "docs"
 PICTURE = DOCS / "crates.svg"
+STYLE = TOP / "crates/trace_canon/src/report_style.rt"
 ARCHITECTURE = DOCS / "architecture.md"
 DEFINITIONS = DOCS / "definitions.md"
 FORMATS = DOCS / "formats.md"
@@ -94,6 +96,12 @@ def picture(cases):
     alternative = re.search(r"!\[([^]]*)\]\(crates\.svg\)", (DOCS / "architecture.md").read_text())
     words = re.findall(r"\w+", alternative[1]) if alternative else []
     cases.report("the text in place of the picture names each crate", [f"no {name}" for name in table if name not in words])
+
+
+def style(cases):
+    written = subprocess.run([TOP / "scripts" / "report-style"], check=True, capture_output=True, timeout=60).stdout
+    wrong = [] if written == STYLE.read_bytes() else [f"run scripts/report-style > {name_of(STYLE)}"]
+    cases.report("the style of a report is that of its file", wrong)
 
 
 def prose(path):
@@ -318,7 +326,7 @@ def main():
         sys.exit(__doc__)
     cases = Cases(None)
     for test in [
-        picture, links, lengths_of_lines, named_files, wrong_bodies, tried_by_the_gate, definitions, citations, calls_of_the_kit,
+        picture, style, links, lengths_of_lines, named_files, wrong_bodies, tried_by_the_gate, definitions, citations, calls_of_the_kit,
         named_clauses, lines_of_faults, names_of_bytes, version_of_the_source, symbolic_links,
     ]:
         test(cases)

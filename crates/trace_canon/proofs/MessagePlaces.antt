@@ -127,11 +127,11 @@ place_if : (b : Bool) (e x : Entry) → place_of (if b then e else x) ≡ (if b 
 place_if true e x = refl
 place_if false e x = refl
 
-role_own : (d : Dir) (line micros : ℕ) (frame : FrameValue) → role d (record { line = line; micros = micros; dir = d; frame = frame }) ≡ own_role line micros (layout_of frame)
+pub role_own : (d : Dir) (line micros : ℕ) (frame : FrameValue) → role d (record { line = line; micros = micros; dir = d; frame = frame }) ≡ own_role line micros (layout_of frame)
 unfolding role
 role_own d line micros frame = rw (same-self d) refl
 
-role_other : (d : Dir) (line micros : ℕ) (frame : FrameValue) → role (other_direction d) (record { line = line; micros = micros; dir = d; frame = frame }) ≡ other_role (layout_of frame)
+pub role_other : (d : Dir) (line micros : ℕ) (frame : FrameValue) → role (other_direction d) (record { line = line; micros = micros; dir = d; frame = frame }) ≡ other_role (layout_of frame)
 unfolding role
 role_other d line micros frame = rw (other-apart d) refl
 

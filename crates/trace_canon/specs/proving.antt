@@ -14,3 +14,6 @@ pub mod Carrying
 pub mod Drains
 pub mod Watching
 pub mod Hearing
+pub mod Pages
+pub mod Reporting
+pub mod Tallying

@@ -74,6 +74,20 @@ pub(crate) fn six_decimals(number: u64) -> [u8; 6]
     ]
 }
 
+/// The last three decimal digits of a number.
+#[tactic(auto, unfolding(can_log::specs::Digits::digits))]
+pub(crate) fn three_decimals(number: u64) -> [u8; 3]
+    ensures { result ≡ decimal 3 number }
+{
+    let tens = number / 10;
+    let hundreds = tens / 10;
+    [
+        decimal_digit(hundreds),
+        decimal_digit(tens),
+        decimal_digit(number),
+    ]
+}
+
 /// The last decimal digit of a number.
 fn decimal_digit(number: u64) -> u8
     ensures { result ≡ digit (number % 10) }

@@ -1,0 +1,38 @@
+-- The end of a report: how to read it, and the sign that it is whole. All of it is fixed.
+use Rattle.std.specs.Prelude.{ℕ, List, ◌++◌, codes}
+
+-- what a page shows, in words
+abbrev pub help_start : List ℕ
+help_start =
+    codes "<footer id=\"help\">\n<h2>How to read this page</h2>\n"
+    ++ codes "<p>The left line is the tester, the right line the unit. Each arrow is a message, however many frames carried it, in the order in which the messages were complete. "
+    ++ codes "Times are in seconds from the first frame of the two identifiers, and those of a message are of its last frame; <i>after</i> is the time from the last frame of the request to the first frame of the reply.</p>\n"
+
+-- what each row is
+abbrev pub legend_text : List ℕ
+legend_text =
+    codes "<dl class=\"legend\">\n"
+    ++ codes "<div class=\"q\"><dt>request</dt><dd>opens an item; its number is that of <code>udsnorm list</code></dd></div>\n"
+    ++ codes "<div class=\"ok\"><dt>positive</dt><dd>the answer of the unit</dd></div>\n"
+    ++ codes "<div class=\"n\"><dt>negative</dt><dd>the answer of the unit, with the name of its response code</dd></div>\n"
+    ++ codes "<div class=\"p\"><dt>pending</dt><dd>says that the answer will be late; no part of what is compared</dd></div>\n"
+    ++ codes "<div class=\"m\"><dt>no answer</dt><dd>none came before the next request or the end of the log</dd></div>\n"
+    ++ codes "<div class=\"p\"><dt>silent</dt><dd>none came, and the request asked for none</dd></div>\n"
+    ++ codes "<div class=\"p\"><dt>keep-alive</dt><dd>3E 80, which wants no answer</dd></div>\n"
+    ++ codes "<div class=\"s\"><dt>stray</dt><dd>a message that belongs to no exchange, an item of its own</dd></div>\n"
+    ++ codes "<div class=\"x\"><dt>dropped</dt><dd>a frame that belongs to no complete message</dd></div>\n"
+    ++ codes "<div class=\"x\"><dt>ended, unfinished</dt><dd>a message of which not all frames came</dd></div>\n</dl>\n"
+
+-- what it does not show
+abbrev pub limits_text : List ℕ
+limits_text =
+    codes "<p>Frames with other identifiers, padding, flow control and the interface mean nothing here. A message of which no frame was recorded leaves no trace, also in a clean recording. "
+    ++ codes "Grey letters after the bytes are those same bytes as text. In a long session the first ten blocks are open, and the others folded.</p>\n</footer>\n"
+
+-- the sign that the page is whole, which hides the notice of its front
+abbrev pub tail_text : List ℕ
+tail_text = codes "</div>\n<p id=\"end\">End of the report.</p>\n</body>\n</html>\n"
+
+-- the end of a page
+abbrev pub help_text : List ℕ
+help_text = help_start ++ legend_text ++ limits_text ++ tail_text
