@@ -41,7 +41,6 @@ pub mod StoppedRuns
 pub mod Receivings
 pub mod Runs
 pub mod RemovedCounts
-pub mod ReportTexts
 pub mod Summaries
 pub mod Needs
 pub mod Carryings
@@ -54,9 +53,6 @@ pub mod CanonicalScripts
 pub mod MessagePlaces
 pub mod LenientRuns
 pub mod PlacingScripts
-pub mod ReportTallies
-pub mod ReportSteps
-pub mod FrameCounting
 pub mod Collecting
 pub mod SessionScripts
 pub mod Printings

@@ -39,7 +39,7 @@ begun_by Tester T line micros frame begun tester unit =
 begun_by Unit T line micros frame begun tester unit =
     (other_begun Unit T line micros frame begun.tester tester, own_begun Unit T line micros frame begun.unit unit)
 
-first_by : (d : Dir) (T : List Entry) (line micros : ℕ) (frame : FrameValue) (begun : Begun) (first : FramePlace) (whole : List ℕ)
+pub first_by : (d : Dir) (T : List Entry) (line micros : ℕ) (frame : FrameValue) (begun : Begun) (first : FramePlace) (whole : List ℕ)
     → IsBegunAt Tester T begun.tester → IsBegunAt Unit T begun.unit → (verdict MESSAGE_LIMIT T (entry_at line micros d frame)).verdict ≡ message whole
     → (d ≡ Tester → first ≡ began_at d (verdict MESSAGE_LIMIT T (entry_at line micros d frame)) (here_at line micros) begun.tester)
     → (d ≡ Unit → first ≡ began_at d (verdict MESSAGE_LIMIT T (entry_at line micros d frame)) (here_at line micros) begun.unit)

@@ -1,3 +1,8 @@
 -- Lemmas of the laws of `laws`, and of the words in texts, for the proofs of the crates above.
 pub use Rattle.trace_canon.proofs.ReadAgain.{clean_log_is_recording, clean_summary_is_certificate, summary_certifies}
 pub use Rattle.trace_canon.proofs.TextWords.{is_in_word, IsWord, bytes_word, service_word, code_word}
+-- Where messages begin, and the texts of one element more.
+pub use Rattle.trace_canon.proofs.MessagePlaces.{role_own, role_other, own_begun, other_begun, first_of}
+pub use Rattle.trace_canon.proofs.PlacingScripts.{begun_next, first_by}
+pub use Rattle.trace_canon.proofs.CanonicalMachines.{messages_next}
+pub use Rattle.trace_canon.proofs.WrittenFronts.{one_more_text}

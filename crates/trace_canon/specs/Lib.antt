@@ -27,16 +27,5 @@ pub mod ExplainScript
 pub mod MessageLines
 pub mod SessionScript
 pub mod WatchScript
-pub mod ReportWords
-pub mod ReportFront
-pub mod ReportRows
-pub mod ReportBlocks
-pub mod ReportEvents
-pub mod ReportSorts
-pub mod ReportLinks
-pub mod ReportCounts
-pub mod ReportVerdict
-pub mod ReportHelp
-pub mod ReportScript
 pub mod Laws
 pub mod proving

@@ -14,6 +14,3 @@ pub mod Carrying
 pub mod Drains
 pub mod Watching
 pub mod Hearing
-pub mod Pages
-pub mod Reporting
-pub mod Tallying

@@ -10,21 +10,21 @@ use isotp_receive::{Ended, Event, Verdict};
 
 /// Where a frame stands: its line and its time in microseconds.
 #[derive(Clone, Copy, Debug)]
-pub(crate) struct FramePlace {
+pub struct FramePlace {
     pub line: u64,
     pub micros: u64,
 }
 
 /// Of each direction the place of the first frame of the reception that stands, if one does.
 #[derive(Clone, Copy, Debug)]
-pub(crate) struct Begun {
+pub struct Begun {
     pub tester: Option<FramePlace>,
     pub unit: Option<FramePlace>,
 }
 
 impl Begun {
     /// Before the first frame.
-    pub(crate) fn start() -> Begun
+    pub fn start() -> Begun
         ensures tester { result.tester ≡ None }
         ensures unit { result.unit ≡ None }
     {
@@ -34,8 +34,19 @@ impl Begun {
         }
     }
 
+    /// That of a direction.
+    pub fn of(&self, dir: Dir) -> Option<FramePlace>
+        ensures tester { dir ≡ Tester → result ≡ self.now.tester }
+        ensures unit { dir ≡ Unit → result ≡ self.now.unit }
+    {
+        match dir {
+            Dir::Tester => self.tester,
+            Dir::Unit => self.unit,
+        }
+    }
+
     /// Takes what a frame did that stands here. Answers where the message began, if it completed one.
-    pub(crate) fn take(&mut self, here: FramePlace, dir: Dir, event: Event<'_>) -> FramePlace
+    pub fn take(&mut self, here: FramePlace, dir: Dir, event: Event<'_>) -> FramePlace
         ensures tester { self.new.tester ≡ begun_after Tester dir (seen_event event.entry) here self.old.tester }
         ensures unit { self.new.unit ≡ begun_after Unit dir (seen_event event.entry) here self.old.unit }
         ensures tester_first { dir ≡ Tester → result ≡ began_at dir (seen_event event.entry) here self.old.tester }
@@ -59,7 +70,7 @@ impl Begun {
 }
 
 /// Where the reception of a direction began, if one stands after this end.
-fn left(dir: Dir, ended: Option<Ended>, begun: Option<FramePlace>) -> Option<FramePlace>
+pub fn left(dir: Dir, ended: Option<Ended>, begun: Option<FramePlace>) -> Option<FramePlace>
     ensures { result ≡ left_by dir ended begun }
 {
     match (ended, dir) {

@@ -38,7 +38,7 @@
 //! log means (`collector`). On that stand [`meaning_of`], [`list`] (`lister`, `item_lines`) and [`compare`] (`comparing`).
 #![tactic(auto)]
 
-mod begun;
+pub mod begun;
 mod block;
 mod canonical_sink;
 mod collector;
@@ -76,24 +76,7 @@ mod printer;
 mod receiver;
 mod remark;
 mod remark_objects;
-mod report_blocks;
-mod report_cells;
-mod report_counts;
-mod report_events;
-mod report_frames;
-mod report_front;
-mod report_help;
-mod report_links;
-mod report_lost_rows;
-mod report_message_rows;
-mod report_row;
-mod report_rows;
-mod report_sorts;
-mod report_style;
-mod report_tally;
-mod report_verdict;
-mod report_words;
-mod say;
+pub mod say;
 mod summary;
 mod summing;
 mod text_sink;
@@ -114,7 +97,6 @@ pub use normaliser::normalise;
 pub use notation::Notation;
 pub use placer::messages;
 pub use remark::Remark;
-pub use report_style::REPORT_STYLE;
 pub use summary::Summary;
 pub use text_sink::TextSink;
 pub use watcher::watch;

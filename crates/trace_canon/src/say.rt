@@ -31,84 +31,84 @@ pub(crate) fn say_parts<S: TextSink>(out: &mut S, parts: &[Part<'_>])
 
 /// Says a text as it is.
 #[inline(always)]
-pub(crate) fn say_text<S: TextSink>(out: &mut S, text: &str)
+pub fn say_text<S: TextSink>(out: &mut S, text: &str)
     ensures { S.says out.old text.now out.new }
 {
     out.put(text.as_bytes());
 }
 
 /// Says a number in decimal.
-pub(crate) fn say_number<S: TextSink>(out: &mut S, number: u64)
+pub fn say_number<S: TextSink>(out: &mut S, number: u64)
     ensures { S.says out.old (decimal number) out.new }
 {
     out.put(Buffer::new().format(number).as_bytes());
 }
 
 /// Says the two digits of a byte.
-pub(crate) fn say_byte<S: TextSink>(out: &mut S, byte: u8)
+pub fn say_byte<S: TextSink>(out: &mut S, byte: u8)
     ensures { S.says out.old (hexadecimal 2 byte) out.new }
 {
     out.put(&hexadecimal_digits(byte));
 }
 
 /// Says a number below 16 as one hexadecimal digit.
-pub(crate) fn say_digit<S: TextSink>(out: &mut S, number: u8)
+pub fn say_digit<S: TextSink>(out: &mut S, number: u8)
     ensures { S.says out.old (hexadecimal 1 number) out.new }
 {
     say_part(out, Part::Digit(number));
 }
 
 /// Says the last six decimal digits of a number.
-pub(crate) fn say_six_decimals<S: TextSink>(out: &mut S, number: u64)
+pub fn say_six_decimals<S: TextSink>(out: &mut S, number: u64)
     ensures { S.says out.old (digits.decimal 6 number) out.new }
 {
     say_part(out, Part::Decimals(number));
 }
 
 /// Says the last three of them.
-pub(crate) fn say_three_decimals<S: TextSink>(out: &mut S, number: u64)
+pub fn say_three_decimals<S: TextSink>(out: &mut S, number: u64)
     ensures { S.says out.old (digits.decimal 3 number) out.new }
 {
     out.put(&three_decimals(number));
 }
 
 /// Says a length in decimal.
-pub(crate) fn say_length<S: TextSink>(out: &mut S, length: u32)
+pub fn say_length<S: TextSink>(out: &mut S, length: u32)
     ensures { S.says out.old (decimal length) out.new }
 {
     say_number(out, u64::from(length));
 }
 
 /// Says the name of a direction.
-pub(crate) fn say_direction<S: TextSink>(out: &mut S, dir: Dir)
+pub fn say_direction<S: TextSink>(out: &mut S, dir: Dir)
     ensures { S.says out.old (direction_text dir) out.new }
 {
     say_text(out, direction_name(dir));
 }
 
 /// Says why a reception ended.
-pub(crate) fn say_cause<S: TextSink>(out: &mut S, cause: Cause)
+pub fn say_cause<S: TextSink>(out: &mut S, cause: Cause)
     ensures { S.says out.old (cause_text cause) out.new }
 {
     say_text(out, cause_name(cause));
 }
 
 /// Says why a frame has no layout.
-pub(crate) fn say_layout_fault<S: TextSink>(out: &mut S, fault: PduFault)
+pub fn say_layout_fault<S: TextSink>(out: &mut S, fault: PduFault)
     ensures { S.says out.old (layout_fault_text fault) out.new }
 {
     say_text(out, layout_fault_name(fault));
 }
 
 /// Says the name of a service.
-pub(crate) fn say_service<S: TextSink>(out: &mut S, sid: u8)
+pub fn say_service<S: TextSink>(out: &mut S, sid: u8)
     ensures { S.says out.old (service_text sid) out.new }
 {
     say_part(out, Part::Service(sid));
 }
 
 /// Says the name of a response code.
-pub(crate) fn say_code<S: TextSink>(out: &mut S, code: u8)
+pub fn say_code<S: TextSink>(out: &mut S, code: u8)
     ensures { S.says out.old (code_text code) out.new }
 {
     say_part(out, Part::Code(code));

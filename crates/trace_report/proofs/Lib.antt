@@ -1,0 +1,4 @@
+mod RowTexts
+mod Tallies
+mod Steps
+mod FrameCounting

@@ -1,0 +1,13 @@
+use Rattle.trace_report.proofs.lost_rows.say_ended_row.Goals as goal
+
+pub returns : goal.returns
+returns g c =
+    g.met.S.TextSink.onward _ _ _ _ _ (g.met.S.TextSink.onward _ _ _ _ _ (g.met.S.TextSink.onward _ _ _ _ _ (g.met.S.TextSink.onward _ _ _ _ _ (g.met.S.TextSink.onward _ _ _ _ _ (g.met.S.TextSink.onward _ _ _ _ _ (g.met.S.TextSink.onward _ _ _ _ _ (g.met.S.TextSink.onward _ _ _ _ _ (g.met.S.TextSink.onward _ _ _ _ _ c.say_frame_front.ensures c.say_cell_front.ensures)
+    c.say_text.ensures)
+    c.say_partial.ensures)
+    c.say_text-2.ensures)
+    c.say_cause.ensures)
+    c.say_text-3.ensures)
+    c.say_cause_words.ensures)
+    c.say_text-4.ensures)
+    c.say_cell_end.ensures

@@ -1,0 +1,95 @@
+-- The front of a report: what stands before its rows. All of it is fixed but the style, the name of the log, which stands in it
+-- twice, and the two identifiers.
+use Prim.Native.Char.{code}
+use Rattle.std.specs.Prelude.{ℕ, ◌==◌, ◌++◌, List, [], ◌∷◌, codes, if◌then◌else◌}
+use Rattle.std.specs.List.{flat_map}
+use Rattle.can_log.specs.Canonical.{identifier_text}
+use Rattle.can_log.specs.Digits.{hexadecimal}
+use Rattle.can_log.specs.declared.frame.Id.{Id}
+use Rattle.trace_canon.specs.Settings.{Settings}
+use Rattle.trace_report.specs.Words.{is_within}
+
+-- a byte by its number: % and two digits
+abbrev pub numbered_byte : ℕ → List ℕ
+numbered_byte b = codes "%" ++ hexadecimal 2 b
+
+-- a byte of a name that has no name in HTML: printable ASCII as it is, and every other byte by its number
+abbrev pub plain_byte : ℕ → List ℕ
+plain_byte b = if is_within (code " ") (code "~") b then b ∷ [] else numbered_byte b
+
+-- a byte of a name: each of the five signs that mean something in HTML by its name there
+abbrev pub name_byte : ℕ → List ℕ
+name_byte b =
+    if b == code "&" then codes "&amp;" else if b == code "<" then codes "&lt;" else if b == code ">" then codes "&gt;"
+    else if b == code "\"" then codes "&quot;" else if b == code "'" then codes "&#39;"
+    else plain_byte b
+
+-- a name
+abbrev pub name_text : List ℕ → List ℕ
+name_text name = flat_map name_byte name
+
+-- What a page is made for: its style, the name of the log, and the identifiers.
+pub record PageTitle : Type 0 where
+  pub style : List ℕ
+  pub name : List ℕ
+  pub tester : Id
+  pub unit : Id
+
+-- of a log with this name and this configuration
+abbrev pub page_title : List ℕ → List ℕ → Settings → PageTitle
+page_title style name settings = record { style = style; name = name; tester = settings.tester; unit = settings.unit }
+
+-- nothing may be fetched and nothing may run
+abbrev pub page_start : List ℕ
+page_start =
+    codes "<!doctype html>\n<html lang=\"en\">\n<head>\n<meta charset=\"utf-8\">\n"
+    ++ codes "<meta name=\"viewport\" content=\"width=device-width, initial-scale=1\">\n"
+    ++ codes "<meta name=\"color-scheme\" content=\"light dark\">\n"
+    ++ codes "<meta http-equiv=\"Content-Security-Policy\" content=\"default-src 'none'; style-src 'unsafe-inline'; base-uri 'none'; form-action 'none'\">\n"
+
+-- the head of the page
+abbrev pub head_text : PageTitle → List ℕ
+head_text title =
+    page_start ++ codes "<title>" ++ name_text title.name ++ codes " - udsnorm report</title>\n<style>\n" ++ title.style
+    ++ codes "</style>\n</head>\n<body>\n"
+
+-- the shapes of the arrows: of a message (t, u), of a frame that was dropped (tx, ux), and of what was cut short (te, ue)
+abbrev pub shapes_text : List ℕ
+shapes_text =
+    codes "<svg class=\"defs\" aria-hidden=\"true\"><defs>\n"
+    ++ codes "<g id=\"t\"><line class=\"l\" x2=\"100%\" y1=\"6\" y2=\"6\"/><svg x=\"100%\" overflow=\"visible\"><path class=\"h\" d=\"M0 6l-10-5v10z\"/></svg></g>\n"
+    ++ codes "<g id=\"u\"><line class=\"l\" x2=\"100%\" y1=\"6\" y2=\"6\"/><path class=\"h\" d=\"M0 6l10-5v10z\"/></g>\n"
+    ++ codes "<g id=\"tx\"><line class=\"l\" x2=\"60%\" y1=\"6\" y2=\"6\"/><svg x=\"60%\" overflow=\"visible\"><path class=\"k\" d=\"M-5 1l10 10m0-10l-10 10\"/></svg></g>\n"
+    ++ codes "<g id=\"ux\"><line class=\"l\" x1=\"40%\" x2=\"100%\" y1=\"6\" y2=\"6\"/><svg x=\"40%\" overflow=\"visible\"><path class=\"k\" d=\"M-5 1l10 10m0-10l-10 10\"/></svg></g>\n"
+    ++ codes "<g id=\"te\"><line class=\"l\" x2=\"60%\" y1=\"6\" y2=\"6\"/><svg x=\"60%\" overflow=\"visible\"><path class=\"k\" d=\"M1 0v12m5-12v12\"/></svg></g>\n"
+    ++ codes "<g id=\"ue\"><line class=\"l\" x1=\"40%\" x2=\"100%\" y1=\"6\" y2=\"6\"/><svg x=\"40%\" overflow=\"visible\"><path class=\"k\" d=\"M-1 0v12m-5-12v12\"/></svg></g>\n"
+    ++ codes "</defs></svg>\n"
+
+-- the links of the page, and the notice of a page that breaks off, which the end of the page hides
+abbrev pub notice_text : List ℕ
+notice_text =
+    codes "<p class=\"skip\"><a href=\"#verdict\">Verdict</a> <a href=\"#session\">Session</a> <a href=\"#help\">How to read this page</a></p>\n"
+    ++ codes "<p id=\"cut\" role=\"status\">This page has no end. What wrote it was stopped, or the file was cut, or the page is still loading: it tells nothing of the rest of the session.</p>\n"
+    ++ codes "</header>\n"
+
+-- the two identifiers
+abbrev pub identifiers_text : Id → Id → List ℕ
+identifiers_text tester unit =
+    codes "<p class=\"ids\"><span class=\"T\">tester " ++ identifier_text tester ++ codes "</span> <span class=\"U\">unit "
+    ++ identifier_text unit ++ codes "</span></p>\n"
+
+-- what the page is about, above all else
+abbrev pub header_text : PageTitle → List ℕ
+header_text title =
+    codes "<div class=\"page\">\n<header>\n<p class=\"brand\">udsnorm report</p>\n<h1>" ++ name_text title.name ++ codes "</h1>\n"
+    ++ identifiers_text title.tester title.unit ++ notice_text
+
+-- where the rows begin, with the filter
+abbrev pub session_start : List ℕ
+session_start =
+    codes "<main id=\"session\">\n<h2>Session</h2>\n"
+    ++ codes "<p class=\"filter\"><input type=\"checkbox\" id=\"only\"> <label for=\"only\">Show only what needs a look</label></p>\n"
+
+-- the front of a page
+abbrev pub front_text : PageTitle → List ℕ
+front_text title = head_text title ++ shapes_text ++ header_text title ++ session_start

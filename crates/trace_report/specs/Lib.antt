@@ -1,0 +1,12 @@
+pub mod Words
+pub mod Front
+pub mod Rows
+pub mod Blocks
+pub mod Events
+pub mod Sorts
+pub mod Links
+pub mod Counts
+pub mod Verdict
+pub mod Help
+pub mod Page
+pub mod proving

@@ -1,0 +1,60 @@
+-- The text of a report: a front, the rows of the trace in blocks, and an end. It is told as the log is read: with the first frame
+-- the front, with each frame its rows, and at the end of the log the rest.
+use Rattle.std.specs.Prelude.{ℕ, false, List, [], ◌∷◌, ◌++◌, codes, length}
+use Rattle.std.specs.List.{last_or}
+use Rattle.isotp_receive.specs.Trace.{Entry}
+use Rattle.trace_report.specs.declared.blocks.Blocks.{Blocks}
+use Rattle.trace_report.specs.declared.tally.Tally.{Tally}
+use Rattle.trace_canon.specs.declared.summary.Summary.{Summary}
+use Rattle.trace_report.specs.Blocks.{block_end, blocks_of, rows_text}
+use Rattle.trace_report.specs.Events.{frame_rows, end_rows, rows_of}
+use Rattle.trace_report.specs.Front.{PageTitle, front_text}
+use Rattle.trace_report.specs.Help.{help_text}
+use Rattle.trace_report.specs.Rows.{RowValue}
+use Rattle.trace_report.specs.Sorts.{tally_of}
+use Rattle.trace_report.specs.Verdict.{verdict_text}
+use Rattle.trace_canon.specs.Told.{Script}
+
+-- the time of the first frame of a trace; 0 where it has none
+abbrev pub first_time : List Entry → ℕ
+first_time [] = 0
+first_time (e ∷ rest) = e.micros
+
+-- the time of its last one
+abbrev pub last_time : ℕ → List Entry → ℕ
+last_time earlier [] = earlier
+last_time earlier (e ∷ rest) = last_time e.micros rest
+
+-- the front of a page stands before its first frame
+abbrev pub front_before : PageTitle → List Entry → List ℕ
+front_before title [] = front_text title
+front_before title (e ∷ rest) = []
+
+-- the text of rows behind those of the frames T, where `origin` is the time of the first frame
+abbrev pub rows_after : ℕ → ℕ → List Entry → List RowValue → List ℕ
+rows_after limit origin T rows = rows_text origin (blocks_of (rows_of limit T)) rows
+
+-- of each frame
+abbrev pub frame_text : PageTitle → ℕ → List Entry → Entry → List ℕ
+frame_text title limit T e = front_before title T ++ rows_after limit (first_time (T ++ e ∷ [])) T (frame_rows limit T e)
+
+-- all rows of a log that was read to its end
+abbrev pub all_rows : ℕ → List Entry → List RowValue
+all_rows limit T = rows_of limit T ++ end_rows limit T
+
+-- the end of a page, behind rows that left these blocks and this tally
+abbrev pub page_end : Blocks → Tally → Summary → ℕ → ℕ → List ℕ
+page_end blocks tally summary first last = block_end blocks.count ++ codes "</main>\n" ++ verdict_text tally summary first last ++ help_text
+
+-- where all rows are these
+abbrev pub page_end_behind : List RowValue → List Entry → Summary → List ℕ
+page_end_behind rows T summary = page_end (blocks_of rows) (tally_of rows) summary (first_time T) (last_time 0 T)
+
+-- what is told at the end of a log
+abbrev pub last_text : PageTitle → ℕ → List Entry → Summary → List ℕ
+last_text title limit T summary =
+    front_before title T ++ rows_after limit (first_time T) T (end_rows limit T) ++ page_end_behind (all_rows limit T) T summary
+
+-- the script of a report
+abbrev pub report_script : PageTitle → ℕ → Script
+report_script title limit = record { strict = false; word = frame_text title limit; last = last_text title limit }

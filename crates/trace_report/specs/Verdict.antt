@@ -1,0 +1,75 @@
+-- The verdict of a report: whether the recording is clean, what needs a look, and all counts. It is known at the end, and written
+-- there; the style shows it first.
+use Rattle.std.specs.Prelude.{ℕ, ◌==◌, ◌&&◌, Bool, List, [], ◌++◌, codes, if◌then◌else◌}
+use Rattle.trace_canon.specs.MessageLines.{stamp_text}
+use Rattle.trace_report.specs.Counts.{counts_text}
+use Rattle.trace_report.specs.Links.{look_text}
+use Rattle.trace_report.specs.Words.{seconds_between}
+use Rattle.trace_canon.specs.Summing.{is_clean}
+use Rattle.trace_report.specs.declared.counts.SortCounts.{SortCounts}
+use Rattle.trace_report.specs.declared.tally.Tally.{Tally}
+use Rattle.trace_canon.specs.declared.summary.Summary.{Summary}
+
+-- from when to when
+abbrev pub span_text : ℕ → ℕ → List ℕ
+span_text first last =
+    codes "<p class=\"span\">First frame at " ++ stamp_text first ++ codes ", last at " ++ stamp_text last ++ codes " by the clock of the log: "
+    ++ seconds_between first last ++ codes " s.</p>\n"
+
+-- where there are frames
+abbrev pub span_of : ℕ → ℕ → ℕ → List ℕ
+span_of frames first last = if frames == 0 then [] else span_text first last
+
+-- no frame is of the two sides
+abbrev pub empty_verdict : List ℕ
+empty_verdict =
+    codes "<section id=\"verdict\" class=\"warn\">\n<h2><span aria-hidden=\"true\">!</span> No frame of the tester or the unit</h2>\n"
+    ++ codes "<p>Other identifiers may be meant: see <code>--tester</code> and <code>--unit</code>."
+
+-- nothing of the two sides is known to be missing
+abbrev pub clean_verdict : List ℕ
+clean_verdict =
+    codes "<section id=\"verdict\" class=\"good\">\n<h2><span aria-hidden=\"true\">&#10003;</span> The recording is clean</h2>\n"
+    ++ codes "<p>No frame of the two identifiers was dropped, and no message is in part."
+
+-- something is
+abbrev pub unclean_start : List ℕ
+unclean_start = codes "<section id=\"verdict\" class=\"warn\">\n<h2><span aria-hidden=\"true\">!</span> The recording is not clean</h2>\n<p>"
+
+-- of what was recorded nothing is in part
+abbrev pub is_whole : Summary → Bool
+is_whole summary = summary.dropped == 0 && (summary.ended == 0 && summary.unfinished == 0)
+
+-- what it is: a frame of each side is wanted, all of what they sent, and the end of the last line
+abbrev pub unclean_reason : Summary → List ℕ
+unclean_reason summary =
+    if summary.tester_frames == 0 then codes "No frame is of the tester."
+    else if summary.unit_frames == 0 then codes "No frame is of the unit."
+    else if is_whole summary then codes "The log ends inside its last line: it may be cut."
+    else codes "Frames are missing, late, out of order or of no legal form. Messages that they belonged to are not below."
+
+-- that, with its heading
+abbrev pub unclean_verdict : Summary → List ℕ
+unclean_verdict summary = unclean_start ++ unclean_reason summary
+
+-- the heading, and its sentence
+abbrev pub heading_text : Summary → List ℕ
+heading_text summary =
+    if summary.frames == 0 then empty_verdict else if is_clean summary then clean_verdict else unclean_verdict summary
+
+-- whether each answer is positive, where there are so many requests, negative answers, and requests without an answer
+abbrev pub answers_text : ℕ → ℕ → ℕ → List ℕ
+answers_text asked refused missing =
+    if asked == 0 then []
+    else if refused == 0 && missing == 0 then codes " No answer is negative, and none is missing."
+    else codes " Not every request has a positive answer."
+
+-- by the counts
+abbrev pub answers_of : SortCounts → List ℕ
+answers_of counts = answers_text counts.requests counts.negatives counts.unanswered
+
+-- the verdict of a log with this tally, whose first frame and last one have these times
+abbrev pub verdict_text : Tally → Summary → ℕ → ℕ → List ℕ
+verdict_text tally summary first last =
+    heading_text summary ++ answers_of tally.counts ++ codes "</p>\n" ++ look_text tally ++ counts_text tally.counts summary
+    ++ span_of summary.frames first last ++ codes "</section>\n"

@@ -1,0 +1,18 @@
+-- Devices of proof: what the code holds of a page, without where its bytes lie in memory.
+use Rattle.trace_report.specs.Front.{PageTitle}
+use Rattle.trace_report.specs.Rows.{RowValue, message, no_answer, dropped, ended, unfinished}
+use Rattle.trace_report.specs.declared.front.Title.{Title}
+use Rattle.trace_report.specs.declared.row.Row.{Row}
+use Rattle.trace_report.specs.declared.row.Row.TheVariants as row
+
+-- what a page is made for
+abbrev pub title_of : Title → PageTitle
+title_of title = record { style = title.style.now; name = title.name.now; tester = title.tester; unit = title.unit }
+
+-- a row
+abbrev pub row_of : Row → RowValue
+row_of (row.Message is d place lent) = message is d place lent.now
+row_of (row.NoAnswer number silent) = no_answer number silent
+row_of (row.Dropped place d named why) = dropped place d named why
+row_of (row.Ended place end) = ended place end
+row_of (row.Unfinished d line len) = unfinished d line len

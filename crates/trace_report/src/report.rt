@@ -1,0 +1,197 @@
+//! `report`: a machine that says a session as a page, each row as its frame comes.
+ghost use Rattle.std.specs.Prelude.{◌≡◌, ◌≢◌, ◌-◌, ℕ, List, [], ◌∷◌, ◌++◌, length, IfErr, Err, Option};
+ghost use Rattle.isotp_receive.specs.declared.TheConstants.{MESSAGE_LIMIT};
+ghost use Rattle.isotp_receive.specs.Trace.{Entry};
+ghost use Rattle.trace_canon.specs.Answers.{ReadsWhile};
+ghost use Rattle.trace_canon.specs.Devices.{ReadFrom, WroteTo};
+ghost use Rattle.trace_canon.specs.Needing.{NeedsMemoryToReceive};
+ghost use Rattle.trace_canon.specs.Refusal.{HasNoBadPlaceWithin};
+ghost use Rattle.trace_canon.specs.Told.{AnswersTold, TellsEagerly, answers_counts};
+ghost use Rattle.trace_canon.specs.declared.fault.Fault.TheVariants.{Memory};
+ghost use Rattle.trace_io.specs.Stream.{Agrees};
+ghost use Rattle.trace_io.specs.Counted.{IsLowCount, AreLowCounts};
+ghost use Rattle.trace_report.specs.Front.{page_title};
+ghost use Rattle.trace_report.specs.Page.{first_time, front_before, last_time, page_end, report_script};
+ghost use Rattle.trace_report.specs.proving.Following.{span_of};
+ghost use Rattle.trace_report.specs.proving.Pages.{title_of};
+
+use crate::blocks::say_block_end;
+use crate::chart::Chart;
+use crate::follower::Follower;
+use crate::front::{Title, say_front};
+use crate::help::say_help;
+use crate::tally::say_verdict;
+use direction::Dir;
+use isotp_receive::{Event, Pair};
+use std::alloc::{AllocError, Global};
+use trace_canon::begun::FramePlace;
+use trace_canon::say::say_text;
+use trace_canon::{Config, Fault, Machine, Stop, Summary, TextSink, run};
+use trace_io::{Source, Target};
+
+/// Reads a log and writes its session as a page of HTML, with this style and the name of the log: each row as its frame comes, and
+/// at the end the verdict, which the style shows first.
+///
+/// The target is not flushed.
+pub fn report<R: Source, W: Target>(
+    alloc: Global,
+    config: &Config,
+    style: &str,
+    name: &[u8],
+    reader: &mut R,
+    writer: &mut W,
+) -> Result<Summary, Fault>
+    requires reader { AreLowCounts (R.reads reader.old) (length (R.given reader.old)) (R.failures reader.old) }
+    requires writer { IsLowCount (W.failures writer.old) }
+
+    // What is answered and written, for each log with which the bytes that were read agree.
+    ensures answer { (log : List ℕ) → Agrees (R.given reader.old) (R.given reader.new) (R.is_over reader.new) log
+        → AnswersTold (report_script (page_title style.now name.now config.now) MESSAGE_LIMIT) answers_counts MESSAGE_LIMIT config.now log (length (R.given reader.new) - length (R.given reader.old)) result (W.taken writer.old) (W.taken writer.new) }
+
+    // Before each read the rows of all that was read were written.
+    ensures eager { (log : List ℕ) → Agrees (R.given reader.old) (R.given reader.new) (R.is_over reader.new) log
+        → TellsEagerly (report_script (page_title style.now name.now config.now) MESSAGE_LIMIT) MESSAGE_LIMIT config.now log (length (R.given reader.new) - length (R.given reader.old)) (W.taken writer.old) (W.taken writer.new) }
+
+    // Reading stops within one piece: there is no refused place among all bytes given but the last 4,096, and none among all
+    // where a read failed.
+    ensures near { (log : List ℕ) → Agrees (R.given reader.old) (R.given reader.new) (R.is_over reader.new) log
+        → ReadsWhile (HasNoBadPlaceWithin log) (length (R.given reader.new) - length (R.given reader.old)) (R.failures reader.old) (R.failures reader.new) }
+
+    // No announced length and no canonical log refuses it.
+    ensures never_oversize { IfErr result (λ fault. (line announced : ℕ) → fault ≢ Fault.Oversize line announced) }
+    ensures never_output_limit { IfErr result (λ fault. fault ≢ Fault.OutputLimit) }
+
+    // Memory is refused only for a log that needs it: for a message of several frames.
+    ensures memory { (log : List ℕ) → Agrees (R.given reader.old) (R.given reader.new) (R.is_over reader.new) log
+        → result ≡ Err Memory → NeedsMemoryToReceive MESSAGE_LIMIT config.now log }
+
+    // What it did with the devices.
+    ensures read { ReadFrom R.Source Fault.Read config.now.max_bytes result reader.old reader.new }
+    ensures wrote { WroteTo W.Target Fault.Write result writer.old writer.new }
+{
+    let machine = Reporter {
+        title: Title {
+            style,
+            name,
+            tester: config.tester(),
+            unit: config.unit(),
+        },
+        span: None,
+        follower: Follower::start(),
+        chart: Chart::start(),
+    };
+    run(alloc, config, machine, reader, writer)
+}
+
+/// The times of the first frame of a trace, and of its last one.
+#[derive(Clone, Copy, Debug)]
+pub(crate) struct Span {
+    pub first: u64,
+    pub last: u64,
+}
+
+/// Says a page. It keeps no message, and no row.
+#[derive(Drop)]
+pub(crate) struct Reporter<'a> {
+    pub title: Title<'a>,
+    /// Of the frames so far, if there are any.
+    pub span: Option<Span>,
+    pub follower: Follower,
+    pub chart: Chart,
+}
+
+impl<'a> Machine for Reporter<'a> {
+    ghost use Rattle.isotp_receive.specs.declared.TheConstants.{MESSAGE_LIMIT};
+    ghost use Rattle.trace_canon.specs.Told.{answers_counts};
+    ghost use Rattle.trace_report.specs.Page.{report_script};
+    ghost use Rattle.trace_report.specs.proving.Following.{Reports};
+    ghost use Rattle.trace_report.specs.proving.Pages.{title_of};
+
+    type Answer = Summary;
+
+    ghost stands = { λ start T now. Reports (title_of start.title) T now };
+
+    ghost script = { λ start. report_script (title_of start.title) MESSAGE_LIMIT };
+
+    ghost answers = { λ start. answers_counts };
+
+    ghost needs = { λ start T e. ⊥ };
+
+    #[inline(always)]
+    fn is_strict(&self) -> bool {
+        false
+    }
+
+    fn event<S: TextSink>(
+        &mut self,
+        line: u64,
+        micros: u64,
+        dir: Dir,
+        event: Event<'_>,
+        out: &mut S,
+    ) -> Result<(), AllocError> {
+        let origin = say_front_before(&self.title, self.span, micros, out);
+        self.span = Some(
+            Span {
+                first: origin,
+                last: micros,
+            },
+        );
+        let rows = self.follower.take(FramePlace { line, micros }, dir, event);
+        self.chart.say_rows(origin, rows, out);
+        Ok(())
+    }
+
+    fn end<S: TextSink>(
+        self,
+        pair: &Pair,
+        summary: &Summary,
+        out: &mut S,
+    ) -> Result<Summary, Stop> {
+        let Reporter {
+            title,
+            span,
+            follower,
+            mut chart,
+        } = self;
+        let origin = say_front_before(&title, span, 0, out);
+        chart.say_rows(origin, follower.end(pair), out);
+        say_page_end(&chart, summary, origin, last_of(span), out);
+        Ok(*summary)
+    }
+}
+
+/// Says the front of the page, where no frame came before. Answers the time of the first frame, which is this where none did.
+fn say_front_before<S: TextSink>(title: &Title<'_>, span: Option<Span>, micros: u64, out: &mut S) -> u64
+    ensures says { (T : List Entry) → span ≡ span_of T → S.says out.old (front_before (title_of title.now) T) out.new }
+    ensures origin { (T : List Entry) (e : Entry) → span ≡ span_of T → e.micros ≡ micros → result ≡ first_time (T ++ e ∷ []) }
+    ensures first { (T : List Entry) → span ≡ span_of T → micros ≡ 0 → result ≡ first_time T }
+{
+    match span {
+        Some(span) => span.first,
+        None => {
+            say_front(title, out);
+            micros
+        }
+    }
+}
+
+/// The time of the last frame, 0 where there is none.
+fn last_of(span: Option<Span>) -> u64
+    ensures { (T : List Entry) → span ≡ span_of T → result ≡ last_time 0 T }
+{
+    match span {
+        Some(span) => span.last,
+        None => 0,
+    }
+}
+
+/// Says what stands behind all rows, in a page whose first frame has the time `first`, and its last one the time `last`.
+fn say_page_end<S: TextSink>(chart: &Chart, summary: &Summary, first: u64, last: u64, out: &mut S)
+    ensures { S.says out.old (page_end chart.now.blocks chart.now.tally summary.now first last) out.new }
+{
+    say_block_end(chart.blocks.count, out);
+    say_text(out, "</main>\n");
+    say_verdict(&chart.tally, summary, first, last, out);
+    say_help(out);
+}

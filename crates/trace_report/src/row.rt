@@ -1,0 +1,71 @@
+//! What a row of a report tells.
+
+use trace_canon::begun::FramePlace;
+use direction::Dir;
+use isotp_receive::{Ended, Reason};
+
+/// What a message is to its item. A reply has the time of the last frame of its request.
+#[derive(Clone, Copy, Debug)]
+pub(crate) enum MessageRole {
+    Request,
+    Positive { asked: u64 },
+    Negative { asked: u64 },
+    Pending { asked: u64 },
+    KeepAlive,
+    Stray,
+}
+
+/// Where a message stands: its item, its first frame and its last one, and how many carry its bytes.
+#[derive(Clone, Copy, Debug)]
+pub(crate) struct MessagePlace {
+    pub item: u64,
+    pub first: FramePlace,
+    pub last: FramePlace,
+    pub frames: u64,
+}
+
+/// How an arrow of the chart ends.
+#[derive(Clone, Copy, Debug)]
+pub(crate) enum Arrow {
+    /// In a head: a message.
+    Headed,
+    /// In a cross: a frame that was dropped.
+    Crossed,
+    /// In a bar: what was cut short.
+    Barred,
+}
+
+/// What a row tells.
+#[derive(Clone, Copy, Debug)]
+pub(crate) enum Row<'a> {
+    /// A message, which this side sent.
+    Message {
+        role: MessageRole,
+        dir: Dir,
+        place: MessagePlace,
+        message: &'a [u8],
+    },
+    /// The item of this number has no answer. Its request asked for no positive one, or did not.
+    NoAnswer {
+        number: u64,
+        silent: bool,
+    },
+    /// The frame in this place, which this side sent, was dropped. The row before is of the same frame, or is not.
+    Dropped {
+        place: FramePlace,
+        dir: Dir,
+        named: bool,
+        reason: Reason,
+    },
+    /// The frame in this place ended a reception.
+    Ended {
+        place: FramePlace,
+        ended: Ended,
+    },
+    /// A reception stands at the end of the log: its direction, the line of its first frame and the bytes that this announced.
+    Unfinished {
+        dir: Dir,
+        line: u64,
+        len: u32,
+    },
+}

@@ -1,0 +1,46 @@
+//! The rows of a report.
+ghost use Rattle.std.specs.Prelude.{◌≡◌, ◌<◌, ◌^◌, ◌-◌, [], ◌∷◌};
+ghost use Rattle.trace_report.specs.Blocks.{blocks_behind, rows_text};
+ghost use Rattle.trace_report.specs.Rows.{row_text};
+ghost use Rattle.trace_report.specs.proving.Pages.{row_of};
+
+use crate::blocks::{Blocks, begins_exchange, one_more_row, say_opening};
+use crate::lost_rows::{
+    say_dropped_row, say_ended_row, say_no_answer_row, say_unfinished_row,
+};
+use crate::message_rows::say_message_row;
+use crate::row::Row;
+use trace_canon::TextSink;
+
+/// Says a row behind those before, and what begins before it.
+pub(crate) fn say_next_row<S: TextSink>(origin: u64, blocks: &mut Blocks, row: Row<'_>, out: &mut S)
+    ensures says { S.says out.old (rows_text origin blocks.old (row_of row.entry ∷ [])) out.new }
+    ensures stands { blocks.old.count < 2 ^ 64 - 1 → blocks.old.rows < 2 ^ 64 - 1 → blocks.new ≡ blocks_behind blocks.old (row_of row.entry ∷ []) }
+{
+    say_opening(origin, *blocks, row, out);
+    say_row(origin, row, out);
+    *blocks = one_more_row(begins_exchange(row), *blocks);
+}
+
+/// Says a row, in a page whose first frame has the time `origin`.
+pub(crate) fn say_row<S: TextSink>(origin: u64, row: Row<'_>, out: &mut S)
+    ensures { S.says out.old (row_text origin (row_of row.entry)) out.new }
+{
+    match row {
+        Row::Message {
+            role,
+            dir,
+            place,
+            message,
+        } => { say_message_row(origin, role, dir, place, message, out) }
+        Row::NoAnswer { number, silent } => say_no_answer_row(number, silent, out),
+        Row::Dropped {
+            place,
+            dir,
+            named,
+            reason,
+        } => { say_dropped_row(origin, place, dir, named, reason, out) }
+        Row::Ended { place, ended } => say_ended_row(origin, place, ended, out),
+        Row::Unfinished { dir, line, len } => say_unfinished_row(dir, line, len, out),
+    }
+}

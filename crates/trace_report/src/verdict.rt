@@ -1,0 +1,119 @@
+//! The parts of a report's verdict: its heading, whether each answer is positive, and the time that the log spans.
+ghost use Rattle.std.specs.Prelude.{◌≡◌};
+ghost use Rattle.trace_report.specs.Verdict.{answers_text, clean_verdict, empty_verdict, heading_text, span_of, span_text, unclean_reason, unclean_verdict};
+ghost use Rattle.trace_report.specs.Verdict as Spec;
+
+use crate::words::{say_seconds_between, say_stamp};
+use trace_canon::say::say_text;
+use trace_canon::Summary;
+use trace_canon::TextSink;
+
+/// Says the heading, and its sentence.
+pub(crate) fn say_heading<S: TextSink>(summary: &Summary, out: &mut S)
+    ensures { S.says out.old (heading_text summary.now) out.new }
+{
+    if summary.frames == 0 {
+        say_empty_verdict(out);
+    } else if summary.is_clean() {
+        say_clean_verdict(out);
+    } else {
+        say_unclean_verdict(summary, out);
+    }
+}
+
+/// Says that no frame is of the two sides.
+fn say_empty_verdict<S: TextSink>(out: &mut S)
+    ensures { S.says out.old empty_verdict out.new }
+{
+    say_text(
+        out,
+        "<section id=\"verdict\" class=\"warn\">\n<h2><span aria-hidden=\"true\">!</span> No frame of the tester or the unit</h2>\n",
+    );
+    say_text(
+        out,
+        "<p>Other identifiers may be meant: see <code>--tester</code> and <code>--unit</code>.",
+    );
+}
+
+/// Says that nothing of the two sides is known to be missing.
+fn say_clean_verdict<S: TextSink>(out: &mut S)
+    ensures { S.says out.old clean_verdict out.new }
+{
+    say_text(
+        out,
+        "<section id=\"verdict\" class=\"good\">\n<h2><span aria-hidden=\"true\">&#10003;</span> The recording is clean</h2>\n",
+    );
+    say_text(
+        out,
+        "<p>No frame of the two identifiers was dropped, and no message is in part.",
+    );
+}
+
+/// Says that something is.
+fn say_unclean_verdict<S: TextSink>(summary: &Summary, out: &mut S)
+    ensures { S.says out.old (unclean_verdict summary.now) out.new }
+{
+    say_text(
+        out,
+        "<section id=\"verdict\" class=\"warn\">\n<h2><span aria-hidden=\"true\">!</span> The recording is not clean</h2>\n<p>",
+    );
+    say_unclean_reason(summary, out);
+}
+
+/// Says what it is.
+fn say_unclean_reason<S: TextSink>(summary: &Summary, out: &mut S)
+    ensures { S.says out.old (unclean_reason summary.now) out.new }
+{
+    if summary.tester_frames == 0 {
+        say_text(out, "No frame is of the tester.");
+    } else if summary.unit_frames == 0 {
+        say_text(out, "No frame is of the unit.");
+    } else if is_whole(summary) {
+        say_text(out, "The log ends inside its last line: it may be cut.");
+    } else {
+        say_text(
+            out,
+            "Frames are missing, late, out of order or of no legal form. Messages that they belonged to are not below.",
+        );
+    }
+}
+
+/// Whether of what was recorded nothing is in part.
+fn is_whole(summary: &Summary) -> bool
+    ensures { result ≡ Spec.is_whole summary.now }
+{
+    summary.dropped == 0 && summary.ended == 0 && summary.unfinished == 0
+}
+
+/// Says whether each answer is positive.
+pub(crate) fn say_answers<S: TextSink>(asked: u64, refused: u64, missing: u64, out: &mut S)
+    ensures { S.says out.old (answers_text asked refused missing) out.new }
+{
+    if asked == 0 {} else if refused == 0 && missing == 0 {
+        say_text(out, " No answer is negative, and none is missing.");
+    } else {
+        say_text(out, " Not every request has a positive answer.");
+    }
+}
+
+/// Says from when to when a log goes, where it has frames.
+pub(crate) fn say_span_of<S: TextSink>(frames: u64, first: u64, last: u64, out: &mut S)
+    ensures { S.says out.old (span_of frames first last) out.new }
+{
+    if frames > 0 {
+        say_span(first, last, out);
+    }
+}
+
+/// Says from when to when.
+fn say_span<S: TextSink>(first: u64, last: u64, out: &mut S)
+    ensures { S.says out.old (span_text first last) out.new }
+{
+    say_text(out, "<p class=\"span\">First frame at ");
+    say_stamp(first, out);
+    say_text(out, ", last at ");
+    say_stamp(last, out);
+    say_text(out, " by the clock of the log: ");
+    say_seconds_between(first, last, out);
+    say_text(out, " s.</p>\n");
+}
