@@ -39,7 +39,7 @@ begun_by Tester T line micros frame begun tester unit =
 begun_by Unit T line micros frame begun tester unit =
     (other_begun Unit T line micros frame begun.tester tester, own_begun Unit T line micros frame begun.unit unit)
 
-pub first_by : (d : Dir) (T : List Entry) (line micros : ℕ) (frame : FrameValue) (begun : Begun) (first : FramePlace) (whole : List ℕ)
+first_by : (d : Dir) (T : List Entry) (line micros : ℕ) (frame : FrameValue) (begun : Begun) (first : FramePlace) (whole : List ℕ)
     → IsBegunAt Tester T begun.tester → IsBegunAt Unit T begun.unit → (verdict MESSAGE_LIMIT T (entry_at line micros d frame)).verdict ≡ message whole
     → (d ≡ Tester → first ≡ began_at d (verdict MESSAGE_LIMIT T (entry_at line micros d frame)) (here_at line micros) begun.tester)
     → (d ≡ Unit → first ≡ began_at d (verdict MESSAGE_LIMIT T (entry_at line micros d frame)) (here_at line micros) begun.unit)
@@ -62,17 +62,23 @@ module _ (T : List Entry) (e : Entry) (line micros : ℕ) (d : Dir) (event : Eve
             (sym (unit_is ∙ (λ i. begun_after Unit (sym dir_is i) (is i) (here_at (sym line_is i) (sym micros_is i)) begun.unit))) both.1,
       )
 
-  -- so what is said is the line of the message that it completes
+  -- and a message that it completes begins where that says
+  pub begins_at : (whole : List ℕ) (first : FramePlace) → event.verdict ≡ message whole
+      → (d ≡ Tester → first ≡ began_at d event (here_at line micros) begun.tester) → (d ≡ Unit → first ≡ began_at d event (here_at line micros) begun.unit)
+      → first ≡ place_of (first_frame T e)
+  begins_at whole first completes of_tester of_unit =
+      first_by e.dir T e.line e.micros e.frame begun first whole tester unit (sym (ap (λ (x : EventValue). x.verdict) is) ∙ completes)
+      (λ side. of_tester (sym dir_is ∙ side) ∙ (λ i. began_at (sym dir_is i) (is i) (here_at (sym line_is i) (sym micros_is i)) begun.tester))
+      (λ side. of_unit (sym dir_is ∙ side) ∙ (λ i. began_at (sym dir_is i) (is i) (here_at (sym line_is i) (sym micros_is i)) begun.unit))
+
+  -- so what is said is the line of the message
   pub line_said : (notation kept : Notation) (whole : List ℕ) (number : ℕ) (step : Step) (first : FramePlace) → kept ≡ notation → event.verdict ≡ message whole
       → number ≡ number_after (messages MESSAGE_LIMIT T) (d, whole) → step ≡ step_after (messages MESSAGE_LIMIT T) (d, whole)
       → (d ≡ Tester → first ≡ began_at d event (here_at line micros) begun.tester) → (d ≡ Unit → first ≡ began_at d event (here_at line micros) begun.unit)
       → placed_text kept (placed_at number step (d, whole) first (here_at line micros)) ≡ delivered_line notation MESSAGE_LIMIT T e (verdict MESSAGE_LIMIT T e).verdict
   line_said notation kept whole number step first same completes number_is step_is of_tester of_unit =
       let told : (verdict MESSAGE_LIMIT T e).verdict ≡ message whole = sym (ap (λ (x : EventValue). x.verdict) is) ∙ completes in
-      let first_is : first ≡ place_of (first_frame T e) =
-      first_by e.dir T e.line e.micros e.frame begun first whole tester unit told
-      (λ side. of_tester (sym dir_is ∙ side) ∙ (λ i. began_at (sym dir_is i) (is i) (here_at (sym line_is i) (sym micros_is i)) begun.tester))
-      (λ side. of_unit (sym dir_is ∙ side) ∙ (λ i. began_at (sym dir_is i) (is i) (here_at (sym line_is i) (sym micros_is i)) begun.unit)) in
+      let first_is : first ≡ place_of (first_frame T e) = begins_at whole first completes of_tester of_unit in
       let words : placed_text kept (placed_at number step (d, whole) first (here_at line micros))
       ≡ placed_text notation (placed_behind (messages MESSAGE_LIMIT T) (d, whole) (first_frame T e) e) =
       (λ i. placed_text (same i) (placed_at (number_is i) (step_is i) (d, whole) (first_is i) (here_at (sym line_is i) (sym micros_is i)))) in

@@ -2,7 +2,10 @@
 pub use Rattle.trace_canon.proofs.ReadAgain.{clean_log_is_recording, clean_summary_is_certificate, summary_certifies}
 pub use Rattle.trace_canon.proofs.TextWords.{is_in_word, IsWord, bytes_word, service_word, code_word}
 -- Where messages begin, and the texts of one element more.
-pub use Rattle.trace_canon.proofs.MessagePlaces.{role_own, role_other, own_begun, other_begun, first_of}
-pub use Rattle.trace_canon.proofs.PlacingScripts.{begun_next, first_by}
+pub use Rattle.trace_canon.proofs.MessagePlaces.{role_own, role_other}
+pub use Rattle.trace_canon.proofs.PlacingScripts.{begun_next, begins_at}
 pub use Rattle.trace_canon.proofs.CanonicalMachines.{messages_next}
 pub use Rattle.trace_canon.proofs.WrittenFronts.{one_more_text}
+-- What a run over a script that is not strict can't answer.
+pub use Rattle.trace_canon.proofs.LenientRuns.{never_oversize, never_output_limit, needs_to_receive}
+pub use Rattle.trace_canon.proofs.Streams.{given_agrees}

@@ -1,5 +1,5 @@
 -- How many consecutive frames the receptions took that stand, after one more frame.
-use Rattle.std.proofs.Common.{◌≡◌, ℕ, ◌+◌, ◌<◌, ◌≤◌, ◌^◌, ◌==◌, true, List, [], ◌∷◌, ◌++◌, length, Option, Some, None, Result, Ok, Err, IfSome, refl, sym, subst, ◌∙◌, nat_le, inl, inr, suc, min, arith, zero-le, option_map}
+use Rattle.std.proofs.Common.{◌≡◌, ℕ, ◌+◌, ◌<◌, ◌≤◌, ◌^◌, ◌==◌, true, ap, List, [], ◌∷◌, ◌++◌, length, Option, Some, None, Result, Ok, Err, IfSome, refl, sym, subst, ◌∙◌, nat_le, inl, inr, suc, min, arith, zero-le, option_map}
 use Rattle.std.proofs.lemmas.Bool.{cases_Bool}
 use Rattle.can_log.specs.Frame.{FrameValue}
 use Rattle.direction.specs.Dir.{other_direction}
@@ -17,7 +17,7 @@ use Rattle.isotp_receive.specs.Places.{consecutive_by, consecutive_frames_in}
 use Rattle.isotp_receive.specs.proving.Machine.{after, continued_by}
 use Rattle.isotp_receive.specs.StandingReception.{StandingReception, fit_of, is_open, or_else, since, stands}
 use Rattle.isotp_receive.specs.Trace.{Entry, FrameRole, single, first, consecutive, continue_or_wait, overflow, no_part, role, own_role, other_role}
-use Rattle.isotp_receive.specs.Verdict.{VerdictValue, message, on_fit, on_flow_control, on_layout, verdict}
+use Rattle.isotp_receive.specs.Verdict.{EventValue, VerdictValue, message, on_fit, on_flow_control, on_layout, verdict}
 use Rattle.isotp_receive.proofs.Promises.{one_more, same-self, other-apart}
 use Rattle.uds_exchange.specs.Numbering.{one_more as one_more_count}
 use Rattle.trace_canon.specs.MessageLines.{last_start, place_of}
@@ -25,7 +25,8 @@ use Rattle.trace_report.specs.Events.{frames_by}
 use Rattle.trace_canon.specs.declared.begun.FramePlace.{FramePlace}
 use Rattle.trace_report.specs.declared.frames.FrameCounts.{FrameCounts}
 use Rattle.trace_canon.specs.proving.Begun.{IsBegunAt, left_by}
-use Rattle.trace_report.specs.proving.Following.{CountFrames, IsTaken, counted_by, frames_with, taken_after}
+use Rattle.trace_report.specs.declared.places.Places.{Places}
+use Rattle.trace_report.specs.proving.Following.{CountFrames, KnowsPlaces, IsTaken, counted_by, frames_with, taken_after}
 use Rattle.trace_canon.proofs.Promises.{role_own, role_other}
 
 abbrev entry_at : ℕ → ℕ → Dir → FrameValue → Entry
@@ -214,3 +215,25 @@ frames_found d T line micros frame begun taken whole few is counts completes =
     rw (is e, role_own d line micros frame)
     (found line micros (length T) few (place_of (last_start d e T)) d (stands MESSAGE_LIMIT d T) (stands MESSAGE_LIMIT (other_direction d) T) taken (layout_of frame) whole
     counts (stands_few d T) completes)
+
+frames_by_side : (d : Dir) (T : List Entry) (line micros : ℕ) (frame : FrameValue) (places : Places) (begun : Option FramePlace) (taken : ℕ) (whole : List ℕ)
+    → length T < 2 ^ 63 → KnowsPlaces T places → (d ≡ Tester → begun ≡ places.begun.tester) → (d ≡ Unit → begun ≡ places.begun.unit)
+    → (d ≡ Tester → taken ≡ places.frames.tester) → (d ≡ Unit → taken ≡ places.frames.unit)
+    → (verdict MESSAGE_LIMIT T (entry_at line micros d frame)).verdict ≡ message whole
+    → frames_with (left_by d (verdict MESSAGE_LIMIT T (entry_at line micros d frame)).ended begun) taken ≡ frames_by (stands MESSAGE_LIMIT d T) (role d (entry_at line micros d frame))
+frames_by_side Tester T line micros frame places begun taken whole few known of_tester of_unit taken_tester taken_unit completes =
+    (λ i. frames_with (left_by Tester (verdict MESSAGE_LIMIT T (entry_at line micros Tester frame)).ended (of_tester refl i)) (taken_tester refl i))
+    ∙ frames_found Tester T line micros frame places.begun.tester places.frames.tester whole few known.tester known.frames.tester completes
+frames_by_side Unit T line micros frame places begun taken whole few known of_tester of_unit taken_tester taken_unit completes =
+    (λ i. frames_with (left_by Unit (verdict MESSAGE_LIMIT T (entry_at line micros Unit frame)).ended (of_unit refl i)) (taken_unit refl i))
+    ∙ frames_found Unit T line micros frame places.begun.unit places.frames.unit whole few known.unit known.frames.unit completes
+
+-- of either side, by what is known of the places
+pub frames_known : (T : List Entry) (e : Entry) (d : Dir) (event : EventValue) (places : Places) (begun : Option FramePlace) (taken : ℕ) (whole : List ℕ)
+    → e.dir ≡ d → event ≡ verdict MESSAGE_LIMIT T e → length T < 2 ^ 63 → KnowsPlaces T places → (d ≡ Tester → begun ≡ places.begun.tester) → (d ≡ Unit → begun ≡ places.begun.unit)
+    → (d ≡ Tester → taken ≡ places.frames.tester) → (d ≡ Unit → taken ≡ places.frames.unit) → event.verdict ≡ message whole
+    → frames_with (left_by d event.ended begun) taken ≡ frames_by (stands MESSAGE_LIMIT e.dir T) (role e.dir e)
+frames_known T e d event places begun taken whole dir_is is few known of_tester of_unit taken_tester taken_unit completes =
+    (λ i. frames_with (left_by (sym dir_is i) (is i).ended begun) taken)
+    ∙ frames_by_side e.dir T e.line e.micros e.frame places begun taken whole few known (λ side. of_tester (sym dir_is ∙ side)) (λ side. of_unit (sym dir_is ∙ side))
+    (λ side. taken_tester (sym dir_is ∙ side)) (λ side. taken_unit (sym dir_is ∙ side)) (sym (ap (λ (x : EventValue). x.verdict) is) ∙ completes)

@@ -2,3 +2,4 @@ mod RowTexts
 mod Tallies
 mod Steps
 mod FrameCounting
+mod Meeting

@@ -4,11 +4,11 @@ ghost use Rattle.trace_report.specs.Blocks.{block_end, block_front, block_start,
 ghost use Rattle.trace_report.specs.Blocks as Spec;
 ghost use Rattle.trace_report.specs.proving.Pages.{row_of};
 
-use trace_canon::begun::FramePlace;
 use crate::row::{MessagePlace, MessageRole, Row};
 use crate::words::say_seconds_between;
-use trace_canon::say::{say_number, say_text};
 use trace_canon::TextSink;
+use trace_canon::begun::FramePlace;
+use trace_canon::say::{say_number, say_text};
 
 /// A request closes a block that has this many rows.
 const FULL_BLOCK: u64 = 200;

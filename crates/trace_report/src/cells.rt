@@ -2,9 +2,9 @@
 ghost use Rattle.trace_report.specs.Rows.{arrow_text, cell_end, cell_front, side_text};
 
 use crate::row::Arrow;
-use trace_canon::say::say_text;
-use trace_canon::TextSink;
 use direction::Dir;
+use trace_canon::TextSink;
+use trace_canon::say::say_text;
 
 /// Says a cell of the chart, up to its words.
 pub(crate) fn say_cell_front<S: TextSink>(dir: Dir, out: &mut S)

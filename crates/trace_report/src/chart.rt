@@ -1,5 +1,5 @@
 //! The chart of a page, as far as its rows were said.
-ghost use Rattle.std.specs.Prelude.{◌≡◌, ◌^◌, ◌<◌, List, [], ◌∷◌, ◌++◌, length};
+ghost use Rattle.std.specs.Prelude.{◌≡◌, ◌^◌, ◌<◌, ◌-◌, List, [], ◌∷◌, ◌++◌, length};
 ghost use Rattle.trace_report.specs.Blocks.{blocks_of, rows_text};
 ghost use Rattle.trace_report.specs.Rows.{RowValue};
 ghost use Rattle.trace_report.specs.proving.Following.{IsChartOf, row_if, rows_in};
@@ -32,8 +32,8 @@ impl Chart {
 
     /// Says new rows, in a page whose first frame has the time `origin`.
     pub(crate) fn say_rows<S: TextSink>(&mut self, origin: u64, rows: NewRows<'_>, out: &mut S)
-        ensures stands { (before : List RowValue) → length before < 2 ^ 63 → IsChartOf before self.old → IsChartOf (before ++ rows_in rows.entry) self.new }
-        ensures says { (before : List RowValue) → length before < 2 ^ 63 → IsChartOf before self.old
+        ensures stands { (before : List RowValue) → length before < 2 ^ 64 - 3 → IsChartOf before self.old → IsChartOf (before ++ rows_in rows.entry) self.new }
+        ensures says { (before : List RowValue) → length before < 2 ^ 64 - 3 → IsChartOf before self.old
             → S.says out.old (rows_text origin (blocks_of before) (rows_in rows.entry)) out.new }
     {
         self.say_row_if(origin, rows.first, out);
@@ -43,8 +43,8 @@ impl Chart {
 
     /// Says a row, if there is one.
     fn say_row_if<S: TextSink>(&mut self, origin: u64, row: Option<Row<'_>>, out: &mut S)
-        ensures stands { (before : List RowValue) → length before < 2 ^ 63 + 2 → IsChartOf before self.old → IsChartOf (before ++ row_if row.entry) self.new }
-        ensures says { (before : List RowValue) → length before < 2 ^ 63 + 2 → IsChartOf before self.old
+        ensures stands { (before : List RowValue) → length before < 2 ^ 64 - 1 → IsChartOf before self.old → IsChartOf (before ++ row_if row.entry) self.new }
+        ensures says { (before : List RowValue) → length before < 2 ^ 64 - 1 → IsChartOf before self.old
             → S.says out.old (rows_text origin (blocks_of before) (row_if row.entry)) out.new }
     {
         if let Some(row) = row {

@@ -8,8 +8,7 @@ ghost use Rattle.trace_report.specs.proving.Tallying.{counts_with};
 use crate::sorts::Sort;
 use crate::verdict::say_answers;
 use trace_canon::say::{say_number, say_text};
-use trace_canon::Summary;
-use trace_canon::TextSink;
+use trace_canon::{Summary, TextSink};
 
 /// How many rows there are of each sort.
 #[derive(Clone, Copy, Debug)]

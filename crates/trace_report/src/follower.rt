@@ -59,7 +59,7 @@ impl Follower {
         ensures next { (T : List Entry) (e : Entry) → here ≡ place_of e → e.dir ≡ dir → length T < 2 ^ 62
             → seen_event event.entry ≡ verdict MESSAGE_LIMIT T e → Follows T self.old → Follows (T ++ e ∷ []) self.new }
         ensures rows { (T : List Entry) (e : Entry) → here ≡ place_of e → e.dir ≡ dir → length T < 2 ^ 62
-            → seen_event event.entry ≡ verdict MESSAGE_LIMIT T e → Follows T self.old → rows_in result.entry ≡ frame_rows MESSAGE_LIMIT T e }
+            → seen_event event.entry ≡ verdict MESSAGE_LIMIT T e → Follows T self.old → rows_in result ≡ frame_rows MESSAGE_LIMIT T e }
     {
         let extent = self.places.take(here, dir, event);
         let first = ended_row(here, event.ended);
@@ -75,14 +75,12 @@ impl Follower {
             Verdict::Dropped(reason) => NewRows {
                 first,
                 second: None,
-                third: Some(
-                    Row::Dropped {
-                        place: here,
-                        dir,
-                        named: event.ended.is_some(),
-                        reason,
-                    },
-                ),
+                third: Some(Row::Dropped {
+                    place: here,
+                    dir,
+                    named: event.ended.is_some(),
+                    reason,
+                }),
             },
             Verdict::Began | Verdict::Stored | Verdict::Flow => NewRows {
                 first,
@@ -104,9 +102,9 @@ impl Follower {
         ensures next { (M : List Message) → length M < 2 ^ 62 → CountsItems M self.old.numbers → IsSilent M self.old.silent
             → MeetsMessage M (dir, message.now) here self.old.asked self.new }
         ensures closing { (M : List Message) → CountsItems M self.old.numbers → IsSilent M self.old.silent
-            → row_if result.0.entry ≡ rows_before M (step_after M (dir, message.now)) }
+            → row_if result.0 ≡ rows_before M (step_after M (dir, message.now)) }
         ensures row { (M : List Message) → length M < 2 ^ 62 → CountsItems M self.old.numbers
-            → row_of result.1.entry ≡ message_row (role_by self.old.asked (step_after M (dir, message.now)) dir message.now) dir
+            → row_of result.1 ≡ message_row (role_by self.old.asked (step_after M (dir, message.now)) dir message.now) dir
             (record { item = number_after M (dir, message.now); first = extent.first; last = here; frames = extent.frames }) message.now }
     {
         let waiting = waiting_row(self.numbers, self.silent);
@@ -133,7 +131,7 @@ impl Follower {
 
     /// The rows of the end of the log, where these receptions stand.
     pub(crate) fn end<'a>(&self, pair: &Pair) -> NewRows<'a>
-        ensures { (T : List Entry) → Follows T self.now → pair.now.receptions ≡ receptions_after MESSAGE_LIMIT T → rows_in result.entry ≡ end_rows MESSAGE_LIMIT T }
+        ensures { (T : List Entry) → Follows T self.now → pair.now.receptions ≡ receptions_after MESSAGE_LIMIT T → rows_in result ≡ end_rows MESSAGE_LIMIT T }
     {
         NewRows {
             first: unfinished_row(Dir::Tester, pair.open(Dir::Tester)),
@@ -145,22 +143,20 @@ impl Follower {
 
 /// The row of the request that waits, if one does: it has no answer.
 fn waiting_row<'a>(numbers: Numbers, silent: bool) -> Option<Row<'a>>
-    ensures { (M : List Message) → CountsItems M numbers → IsSilent M silent → row_if result.entry ≡ closing_rows M }
+    ensures { (M : List Message) → CountsItems M numbers → IsSilent M silent → row_if result ≡ closing_rows M }
 {
     match numbers.open_sid {
-        Some(_) => Some(
-            Row::NoAnswer {
-                number: numbers.items.saturating_sub(numbers.held),
-                silent,
-            },
-        ),
+        Some(_) => Some(Row::NoAnswer {
+            number: numbers.items.saturating_sub(numbers.held),
+            silent,
+        }),
         None => None,
     }
 }
 
 /// The row of what a frame here ended, if it ended something.
 fn ended_row<'a>(here: FramePlace, ended: Option<Ended>) -> Option<Row<'a>>
-    ensures { (e : Entry) → here ≡ place_of e → row_if result.entry ≡ ended_rows e ended }
+    ensures { (e : Entry) → here ≡ place_of e → row_if result ≡ ended_rows e ended }
 {
     match ended {
         Some(ended) => Some(Row::Ended { place: here, ended }),
@@ -170,7 +166,7 @@ fn ended_row<'a>(here: FramePlace, ended: Option<Ended>) -> Option<Row<'a>>
 
 /// The row of a reception that stands at the end, if one does: the line of its first frame, and the bytes that this announced.
 fn unfinished_row<'a>(dir: Dir, begun: Option<(u64, u32)>) -> Option<Row<'a>>
-    ensures { row_if result.entry ≡ unfinished_if dir begun }
+    ensures { row_if result ≡ unfinished_if dir begun }
 {
     match begun {
         Some((line, len)) => Some(Row::Unfinished { dir, line, len }),

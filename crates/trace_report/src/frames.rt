@@ -4,9 +4,9 @@ ghost use Rattle.direction.specs.declared.Dir.TheVariants.{Tester, Unit};
 ghost use Rattle.isotp_receive.specs.EventSeen.{seen_verdict};
 ghost use Rattle.trace_report.specs.proving.Following.{counted_by, frames_with, taken_after};
 
-use trace_canon::begun::FramePlace;
 use direction::Dir;
 use isotp_receive::Verdict;
+use trace_canon::begun::FramePlace;
 
 /// Of each direction how many consecutive frames the reception took that stands, if one does.
 #[derive(Clone, Copy, Debug)]

@@ -4,9 +4,9 @@ ghost use Rattle.can_log.specs.Canonical.{identifier_text as identifier};
 ghost use Rattle.trace_report.specs.Front.{front_text, head_text, header_text, identifiers_text, name_byte, name_text, notice_text, numbered_byte, page_start, plain_byte, session_start, shapes_text};
 ghost use Rattle.trace_report.specs.proving.Pages.{title_of};
 
-use trace_canon::say::{say_byte, say_text};
-use trace_canon::TextSink;
 use can_log::{Id, identifier_text};
+use trace_canon::TextSink;
+use trace_canon::say::{say_byte, say_text};
 
 /// What a page is made for: its style, the name of the log, and the identifiers.
 #[derive(Clone, Copy)]

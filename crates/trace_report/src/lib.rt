@@ -21,7 +21,7 @@ mod links;
 mod lost_rows;
 mod message_rows;
 mod places;
-mod report;
+mod reporter;
 mod row;
 mod rows;
 mod sorts;
@@ -30,5 +30,5 @@ mod tally;
 mod verdict;
 mod words;
 
-pub use report::report;
+pub use reporter::report;
 pub use style::REPORT_STYLE;

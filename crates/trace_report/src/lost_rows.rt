@@ -3,17 +3,17 @@ ghost use Rattle.isotp_receive.specs.declared.event.Reason.TheVariants as reason
 ghost use Rattle.trace_canon.specs.ExplainText.{reason_text};
 ghost use Rattle.trace_report.specs.Rows.{cause_words, dropped_row, ended_row, frame_front, layout_fault_words, line_target, no_answer_row, partial_text, reason_words, silent_row, target_unless, unanswered_row, unfinished_row};
 
-use trace_canon::begun::FramePlace;
 use crate::cells::{say_cell_end, say_cell_front, say_side};
 use crate::row::Arrow;
 use crate::words::say_seconds_between;
-use trace_canon::say::{
-    say_cause, say_digit, say_direction, say_layout_fault, say_length, say_number, say_text,
-};
-use trace_canon::TextSink;
 use direction::Dir;
 use isotp_pdu::PduFault;
 use isotp_receive::{Cause, Ended, Reason};
+use trace_canon::TextSink;
+use trace_canon::begun::FramePlace;
+use trace_canon::say::{
+    say_cause, say_digit, say_direction, say_layout_fault, say_length, say_number, say_text,
+};
 
 /// Says the row of an item without an answer.
 pub(crate) fn say_no_answer_row<S: TextSink>(number: u64, silent: bool, out: &mut S)

@@ -1,7 +1,7 @@
 //! Where messages begin, and how many frames carry them.
 ghost use Rattle.std.specs.Prelude.{◌≡◌, ◌^◌, ◌<◌, ℕ, List, [], ◌∷◌, ◌++◌, length};
 ghost use Rattle.isotp_receive.specs.declared.TheConstants.{MESSAGE_LIMIT};
-ghost use Rattle.isotp_receive.specs.EventSeen.{seen_event, seen_verdict};
+ghost use Rattle.isotp_receive.specs.EventSeen.{seen_event};
 ghost use Rattle.isotp_receive.specs.StandingReception.{stands};
 ghost use Rattle.isotp_receive.specs.Trace.{Entry, role};
 ghost use Rattle.isotp_receive.specs.Verdict.{message as completes, verdict};
@@ -44,10 +44,10 @@ impl Places {
         ensures next { (T : List Entry) (e : Entry) → e.line ≡ here.line → e.micros ≡ here.micros → e.dir ≡ dir → length T < 2 ^ 62
             → seen_event event.entry ≡ verdict MESSAGE_LIMIT T e → KnowsPlaces T self.old → KnowsPlaces (T ++ e ∷ []) self.new }
         ensures first { (T : List Entry) (e : Entry) (bytes : List ℕ) → e.line ≡ here.line → e.micros ≡ here.micros → e.dir ≡ dir
-            → seen_event event.entry ≡ verdict MESSAGE_LIMIT T e → seen_verdict event.verdict.entry ≡ completes bytes → KnowsPlaces T self.old
+            → seen_event event.entry ≡ verdict MESSAGE_LIMIT T e → (seen_event event.entry).verdict ≡ completes bytes → KnowsPlaces T self.old
             → result.first ≡ place_of (first_frame T e) }
         ensures frames { (T : List Entry) (e : Entry) (bytes : List ℕ) → e.dir ≡ dir → length T < 2 ^ 62
-            → seen_event event.entry ≡ verdict MESSAGE_LIMIT T e → seen_verdict event.verdict.entry ≡ completes bytes → KnowsPlaces T self.old
+            → seen_event event.entry ≡ verdict MESSAGE_LIMIT T e → (seen_event event.entry).verdict ≡ completes bytes → KnowsPlaces T self.old
             → result.frames ≡ frames_by (stands MESSAGE_LIMIT e.dir T) (role e.dir e) }
     {
         let begun = left(dir, event.ended, self.begun.of(dir));

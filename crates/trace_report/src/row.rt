@@ -1,8 +1,8 @@
 //! What a row of a report tells.
 
-use trace_canon::begun::FramePlace;
 use direction::Dir;
 use isotp_receive::{Ended, Reason};
+use trace_canon::begun::FramePlace;
 
 /// What a message is to its item. A reply has the time of the last frame of its request.
 #[derive(Clone, Copy, Debug)]

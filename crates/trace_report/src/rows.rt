@@ -5,9 +5,7 @@ ghost use Rattle.trace_report.specs.Rows.{row_text};
 ghost use Rattle.trace_report.specs.proving.Pages.{row_of};
 
 use crate::blocks::{Blocks, begins_exchange, one_more_row, say_opening};
-use crate::lost_rows::{
-    say_dropped_row, say_ended_row, say_no_answer_row, say_unfinished_row,
-};
+use crate::lost_rows::{say_dropped_row, say_ended_row, say_no_answer_row, say_unfinished_row};
 use crate::message_rows::say_message_row;
 use crate::row::Row;
 use trace_canon::TextSink;

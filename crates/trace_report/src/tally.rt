@@ -13,10 +13,9 @@ use crate::links::{Link, say_look_line};
 use crate::row::Row;
 use crate::sorts::{Sort, sort_of, target_of};
 use crate::verdict::{say_heading, say_span_of};
-use trace_canon::say::say_text;
-use trace_canon::Summary;
-use trace_canon::TextSink;
 use arrayvec::ArrayVec;
+use trace_canon::say::say_text;
+use trace_canon::{Summary, TextSink};
 
 /// Of each sort that needs a look, where links to its first rows lead.
 #[derive(Debug, Drop)]

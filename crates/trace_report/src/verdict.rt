@@ -5,8 +5,7 @@ ghost use Rattle.trace_report.specs.Verdict as Spec;
 
 use crate::words::{say_seconds_between, say_stamp};
 use trace_canon::say::say_text;
-use trace_canon::Summary;
-use trace_canon::TextSink;
+use trace_canon::{Summary, TextSink};
 
 /// Says the heading, and its sentence.
 pub(crate) fn say_heading<S: TextSink>(summary: &Summary, out: &mut S)

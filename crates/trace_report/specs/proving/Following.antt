@@ -24,8 +24,8 @@ use Rattle.trace_report.specs.declared.follower.Follower.{Follower}
 use Rattle.trace_report.specs.declared.follower.NewRows.{NewRows}
 use Rattle.trace_report.specs.declared.frames.FrameCounts.{FrameCounts}
 use Rattle.trace_report.specs.declared.places.Places.{Places}
-use Rattle.trace_report.specs.declared.report.Reporter.{Reporter}
-use Rattle.trace_report.specs.declared.report.Span.{Span}
+use Rattle.trace_report.specs.declared.reporter.Reporter.{Reporter}
+use Rattle.trace_report.specs.declared.reporter.Span.{Span}
 use Rattle.trace_report.specs.declared.row.Row.{Row}
 use Rattle.trace_report.specs.proving.Pages.{row_of, title_of}
 

@@ -1,6 +1,4 @@
 use Rattle.std.proofs.Common.{◌≡◌, ◌∷◌, [], ◌++◌, length, take, sym, subst, rules}
-use Rattle.trace_report.proofs.FrameCounting.{own_taken}
-use Rattle.trace_report.proofs.Steps.{rows_next}
 use Rattle.std.proofs.Math.Seq.{take-append_seam}
 use Rattle.trace_report.proofs.tally.keep.Goals as goal
 

@@ -131,12 +131,10 @@ impl<'a> Machine for Reporter<'a> {
         out: &mut S,
     ) -> Result<(), AllocError> {
         let origin = say_front_before(&self.title, self.span, micros, out);
-        self.span = Some(
-            Span {
-                first: origin,
-                last: micros,
-            },
-        );
+        self.span = Some(Span {
+            first: origin,
+            last: micros,
+        });
         let rows = self.follower.take(FramePlace { line, micros }, dir, event);
         self.chart.say_rows(origin, rows, out);
         Ok(())
@@ -162,7 +160,12 @@ impl<'a> Machine for Reporter<'a> {
 }
 
 /// Says the front of the page, where no frame came before. Answers the time of the first frame, which is this where none did.
-fn say_front_before<S: TextSink>(title: &Title<'_>, span: Option<Span>, micros: u64, out: &mut S) -> u64
+fn say_front_before<S: TextSink>(
+    title: &Title<'_>,
+    span: Option<Span>,
+    micros: u64,
+    out: &mut S,
+) -> u64
     ensures says { (T : List Entry) → span ≡ span_of T → S.says out.old (front_before (title_of title.now) T) out.new }
     ensures origin { (T : List Entry) (e : Entry) → span ≡ span_of T → e.micros ≡ micros → result ≡ first_time (T ++ e ∷ []) }
     ensures first { (T : List Entry) → span ≡ span_of T → micros ≡ 0 → result ≡ first_time T }
