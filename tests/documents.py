@@ -4,7 +4,7 @@
     tests/documents.py
 
 - the picture of the crates is the one that scripts/draw-crates draws of crates.txt, and names each crate and dependency;
-- the style that the program embeds in a report is that of crates/trace_canon/style/report.css;
+- the style that the program embeds in a report is that of crates/trace_report/style/report.css;
 - each link of each document to a file of the repository, and to a heading in it, leads somewhere;
 - no line of their prose has more than 120 characters;
 - the source files that documents name are there;
@@ -36,7 +36,7 @@ from cases import Cases
 TOP = Path(__file__).resolve().parent.parent
 DOCS = TOP / "docs"
 PICTURE = DOCS / "crates.svg"
-STYLE = TOP / "crates/trace_canon/src/report_style.rt"
+STYLE = TOP / "crates/trace_report/src/style.rt"
 ARCHITECTURE = DOCS / "architecture.md"
 DEFINITIONS = DOCS / "definitions.md"
 FORMATS = DOCS / "formats.md"

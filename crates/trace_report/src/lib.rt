@@ -31,4 +31,4 @@ mod verdict;
 mod words;
 
 pub use reporter::report;
-pub use style::REPORT_STYLE;
+pub use style::report_style;

@@ -50,20 +50,21 @@ of_told settings log meanings summary means counted =
     of_clean settings log summary (subst (Certifies MESSAGE_LIMIT settings log) same (of_lines settings log meanings means))
 
 -- `find` counts no frames of either side, so no log is clean by its counts
-of_job : (job : Job) (settings : Settings) (log : List ℕ) (given : ℕ) (summary : Summary) (old new : List ℕ) → EngineAnswers job MESSAGE_LIMIT settings log given (Ok summary) old new
+of_job : (job : Job) (name : List ℕ) (settings : Settings) (log : List ℕ) (given : ℕ) (summary : Summary) (old new : List ℕ) → EngineAnswers job name MESSAGE_LIMIT settings log given (Ok summary) old new
     → is_clean summary ≡ true → IsCertified MESSAGE_LIMIT settings log
-of_job job.Normalise settings log given summary old new (accepted, outcome, counted, wrote) = of_clean settings log summary (of_accepted settings log accepted summary outcome counted)
-of_job (job.List style) settings log given summary old new (items, is, wrote) = of_clean settings log summary (of_accepted settings log is.accepted summary is.outcome is.counted)
-of_job (job.Watch style) settings log given summary old new (all, meanings, read, counted, wrote) = of_told settings log meanings summary read.1 counted
-of_job (job.Explain notation) settings log given summary old new (all, meanings, read, counted, wrote) = of_told settings log meanings summary read.1 counted
-of_job (job.Messages notation) settings log given summary old new (all, meanings, read, counted, wrote) = of_told settings log meanings summary read.1 counted
-of_job (job.Find notation) settings log given summary old new (pairs, (meanings, read, found), wrote) = λ clean. absurd (true≢false (sym clean ∙ ap is_clean found.1))
+of_job job.Normalise name settings log given summary old new (accepted, outcome, counted, wrote) = of_clean settings log summary (of_accepted settings log accepted summary outcome counted)
+of_job (job.List style) name settings log given summary old new (items, is, wrote) = of_clean settings log summary (of_accepted settings log is.accepted summary is.outcome is.counted)
+of_job (job.Watch style) name settings log given summary old new (all, meanings, read, counted, wrote) = of_told settings log meanings summary read.1 counted
+of_job (job.Explain notation) name settings log given summary old new (all, meanings, read, counted, wrote) = of_told settings log meanings summary read.1 counted
+of_job (job.Messages notation) name settings log given summary old new (all, meanings, read, counted, wrote) = of_told settings log meanings summary read.1 counted
+of_job job.Report name settings log given summary old new (style, all, meanings, read, counted, wrote) = of_told settings log meanings summary read.1 counted
+of_job (job.Find notation) name settings log given summary old new (pairs, (meanings, read, found), wrote) = λ clean. absurd (true≢false (sym clean ∙ ap is_clean found.1))
 
 -- whatever the job
-pub answer_certifies : (job : Job) (settings : Settings) (log : List ℕ) (given : ℕ) (answer : Result Summary Fault) (old new : List ℕ)
-    → EngineAnswers job MESSAGE_LIMIT settings log given answer old new → IfOk answer (λ summary. is_clean summary ≡ true → IsCertified MESSAGE_LIMIT settings log)
-answer_certifies job settings log given (Ok summary) old new engine = of_job job settings log given summary old new engine
-answer_certifies job settings log given (Err fault) old new engine = tt
+pub answer_certifies : (job : Job) (name : List ℕ) (settings : Settings) (log : List ℕ) (given : ℕ) (answer : Result Summary Fault) (old new : List ℕ)
+    → EngineAnswers job name MESSAGE_LIMIT settings log given answer old new → IfOk answer (λ summary. is_clean summary ≡ true → IsCertified MESSAGE_LIMIT settings log)
+answer_certifies job name settings log given (Ok summary) old new engine = of_job job name settings log given summary old new engine
+answer_certifies job name settings log given (Err fault) old new engine = tt
 
 -- both logs of a comparison are clean where they have to be
 are_clean : (strict one other : Bool) → strict ≡ true → (strict && not (one && other)) ≡ false → (one ≡ true) × (other ≡ true)

@@ -1,6 +1,6 @@
 -- What was done where the exit status is 0.
 use Rattle.std.proofs.Common.{◌≡◌, ◌≤◌, ◌+◌, ℕ, inl, inr, List, [], ◌++◌, Option, Some, None, Result, Ok, Err, arith, ap, refl, sym, subst, ◌∙◌, Bool, true, false}
-use Rattle.std.specs.Prelude.{if◌then◌else◌}
+use Rattle.std.specs.Prelude.{if◌then◌else◌, string_bytes}
 use Rattle.isotp_receive.specs.declared.TheConstants.{MESSAGE_LIMIT}
 use Rattle.clap.specs.Walk.{Text}
 use Rattle.trace_canon.specs.Compared.{Compares, fault_in}
@@ -18,6 +18,7 @@ use Rattle.trace_io.specs.declared.device.Target.{Ghosts as TargetGhosts}
 use Rattle.udsnorm.specs.Asked.{Did, DidAsked, DidWords, IsDone, IsDoneBy, ToldWords}
 use Rattle.udsnorm.specs.Ending.{flushes, has_unclean, is_unclean, status_of_comparison}
 use Rattle.udsnorm.specs.Commands.{EngineAnswers}
+use Rattle.udsnorm.specs.Values.{page_name}
 use Rattle.udsnorm.specs.Run.{IsStatusOfTwo, TookComparison}
 use Rattle.udsnorm.specs.declared.commands.Job.{Job}
 use Rattle.udsnorm.specs.declared.ended.Known.{Known}
@@ -50,10 +51,10 @@ same_of_done strict style settings one other (Ok compared) status old new compar
 same_of_done strict style settings one other (Ok compared) status old new compares (inr is) text zero = absurd (is_not_four status zero is)
 same_of_done strict style settings one other (Err fault) status old new compares is text zero = absurd (faults_are_told (fault_in fault) (sym is ∙ zero))
 
-accepted : (job : Job) (strict : Bool) (settings : Settings) (log : List ℕ) (n : ℕ) (answer : Result Summary Fault) (old new : List ℕ)
-    → EngineAnswers job MESSAGE_LIMIT settings log n answer old new → (summary : Summary) × (answer ≡ Ok summary) × (is_unclean strict summary ≡ false)
-    → (summary : Summary) × (is_unclean strict summary ≡ false) × EngineAnswers job MESSAGE_LIMIT settings log n (Ok summary) old new
-accepted job strict settings log n answer old new engine is = (is.0, is.2, subst (λ a. EngineAnswers job MESSAGE_LIMIT settings log n a old new) is.1 engine)
+accepted : (job : Job) (name : List ℕ) (strict : Bool) (settings : Settings) (log : List ℕ) (n : ℕ) (answer : Result Summary Fault) (old new : List ℕ)
+    → EngineAnswers job name MESSAGE_LIMIT settings log n answer old new → (summary : Summary) × (answer ≡ Ok summary) × (is_unclean strict summary ≡ false)
+    → (summary : Summary) × (is_unclean strict summary ≡ false) × EngineAnswers job name MESSAGE_LIMIT settings log n (Ok summary) old new
+accepted job name strict settings log n answer old new engine is = (is.0, is.2, subst (λ a. EngineAnswers job name MESSAGE_LIMIT settings log n a old new) is.1 engine)
 
 done_by : {F R W E : Type 0} (file : SourceGhosts F) (source : SourceGhosts R) (output : TargetGhosts W) (errors : TargetGhosts E) (asked : Result Plan WordsFault)
     (before : R) (old : W) (unsaid : E) (status : ℕ) (known : Option Known) (after : R) (new : W) (said : E) (log : List ℕ)
@@ -61,14 +62,14 @@ done_by : {F R W E : Type 0} (file : SourceGhosts F) (source : SourceGhosts R) (
     → status ≡ 0 → source.given after ≡ source.given before ++ log → IsDoneBy asked log (output.taken old) (output.taken new)
 done_by file source output errors (Ok (One job strict settings None)) before old unsaid status known after new said log (outcome, ran, known_is) zero grown =
     let is = summary_of_done strict (flushes ran.answer (output.taken new)) ran.answer outcome status ran.comes ran.status_is zero in
-    accepted job strict settings log _ ran.answer (output.taken old) (output.taken new)
-    (answers_on_more job MESSAGE_LIMIT settings (source.given before) (source.given after) log (source.is_over after) ran.answer (output.taken old) (output.taken new) grown ran.engine) is
+    accepted job (page_name None) strict settings log _ ran.answer (output.taken old) (output.taken new)
+    (answers_on_more job (page_name None) MESSAGE_LIMIT settings (source.given before) (source.given after) log (source.is_over after) ran.answer (output.taken old) (output.taken new) grown ran.engine) is
 done_by file source output errors (Ok (One job strict settings (Some name))) before old unsaid status known after new said log (same, inl found) zero grown =
     let ran = found.ran in
     let log = file.given found.left in
     let is = summary_of_done strict (flushes ran.answer (output.taken new)) ran.answer found.outcome status ran.comes ran.status_is zero in
-    let done = accepted job strict settings log _ ran.answer (output.taken old) (output.taken new)
-    (answers_from_start job MESSAGE_LIMIT settings (file.given found.opened) log (file.is_over found.left) ran.answer (output.taken old) (output.taken new) found.from_start ran.engine) is in
+    let done = accepted job (page_name (Some (string_bytes name))) strict settings log _ ran.answer (output.taken old) (output.taken new)
+    (answers_from_start job (page_name (Some (string_bytes name))) MESSAGE_LIMIT settings (file.given found.opened) log (file.is_over found.left) ran.answer (output.taken old) (output.taken new) found.from_start ran.engine) is in
     (log, done.0, done.1, done.2)
 done_by file source output errors (Ok (One job strict settings (Some name))) before old unsaid status known after new said log (same, inr unopened) zero grown =
     absurd (is_not_four status zero unopened.0)

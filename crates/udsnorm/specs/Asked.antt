@@ -22,6 +22,7 @@ use Rattle.udsnorm.specs.Ending.{has_unclean, is_unclean}
 use Rattle.udsnorm.specs.Known.{IsKnownBy, IsKnownByTwo, IsKnownUnopened}
 use Rattle.udsnorm.specs.Run.{RanOne, RanTwo}
 use Rattle.udsnorm.specs.Telling.{TookText}
+use Rattle.udsnorm.specs.Values.{page_name}
 use Rattle.udsnorm.specs.Words.{IsPlanned}
 use Rattle.udsnorm.specs.declared.commands.Job.{Job}
 use Rattle.udsnorm.specs.declared.ended.Known.{Known}
@@ -54,14 +55,14 @@ ToldWords output errors words.Identifier old unsaid status new said = (status �
 ToldWords output errors (words.Config reason) old unsaid status new said = (status ≡ 2) × (new ≡ old) × Took errors (words_text (words.Config reason)) unsaid said
 ToldWords output errors words.Memory old unsaid status new said = (status ≡ 5) × (new ≡ old) × Took errors (words_text words.Memory) unsaid said
 
--- A run over the log of a file, from its first byte: all that a run over an input did.
-pub record RanFile {F W E : Type 0} (file : SourceGhosts F) (output : TargetGhosts W) (errors : TargetGhosts E) (job : Job) (strict : Bool) (limit : ℕ) (settings : Settings)
+-- A run over the log of a file, which has this name on a page, from its first byte: all that a run over an input did.
+pub record RanFile {F W E : Type 0} (file : SourceGhosts F) (output : TargetGhosts W) (errors : TargetGhosts E) (job : Job) (name : List ℕ) (strict : Bool) (limit : ℕ) (settings : Settings)
     (old : W) (unsaid : E) (status : ℕ) (known : Option Known) (new : W) (said : E) : Type 0 where
   pub opened : F
   pub left : F
   pub from_start : file.given opened ≡ []
   pub outcome : Result Summary Fault
-  pub ran : RanOne file output errors job strict limit settings opened old unsaid status outcome left new said
+  pub ran : RanOne file output errors job name strict limit settings opened old unsaid status outcome left new said
   pub known_is : IsKnownBy job settings (file.given left) (file.is_over left) outcome (output.taken new) known
 
 -- a file can't be opened: that is told, why is known, and the output is left alone
@@ -90,10 +91,10 @@ pub record RanFiles {F W E : Type 0} (file : SourceGhosts F) (output : TargetGho
 -- it names one.
 abbrev pub Did : {F R W E : Type 0} → SourceGhosts F → SourceGhosts R → TargetGhosts W → TargetGhosts E → Plan → R → W → E → ℕ → Option Known → R → W → E → Type 0
 Did file source output errors (One job strict settings None) before old unsaid status known after new said =
-    (outcome : Result Summary Fault) × RanOne source output errors job strict MESSAGE_LIMIT settings before old unsaid status outcome after new said
+    (outcome : Result Summary Fault) × RanOne source output errors job (page_name None) strict MESSAGE_LIMIT settings before old unsaid status outcome after new said
     × IsKnownBy job settings (source.given after) (source.is_over after) outcome (output.taken new) known
 Did file source output errors (One job strict settings (Some name)) before old unsaid status known after new said =
-    (after ≡ before) × (RanFile file output errors job strict MESSAGE_LIMIT settings old unsaid status known new said
+    (after ≡ before) × (RanFile file output errors job (page_name (Some (string_bytes name))) strict MESSAGE_LIMIT settings old unsaid status known new said
     ⊎ Unopened errors (fault_line Read) First old unsaid status known new said)
 Did file source output errors (Two strict style settings left right) before old unsaid status known after new said =
     (after ≡ before) × (RanFiles file output errors strict style MESSAGE_LIMIT settings old unsaid status known new said
@@ -116,9 +117,9 @@ pub record DidWords {F R W E : Type 0} (file : SourceGhosts F) (source : SourceG
 -- where it has to be
 abbrev pub IsDoneBy : Result Plan WordsFault → List ℕ → List ℕ → List ℕ → Type 0
 IsDoneBy (Ok (One job strict settings None)) log before after =
-    (summary : Summary) × (is_unclean strict summary ≡ false) × EngineAnswers job MESSAGE_LIMIT settings log (length log) (Ok summary) before after
+    (summary : Summary) × (is_unclean strict summary ≡ false) × EngineAnswers job (page_name None) MESSAGE_LIMIT settings log (length log) (Ok summary) before after
 IsDoneBy (Ok (One job strict settings (Some name))) log before after =
-    (one : List ℕ) × (summary : Summary) × (is_unclean strict summary ≡ false) × EngineAnswers job MESSAGE_LIMIT settings one (length one) (Ok summary) before after
+    (one : List ℕ) × (summary : Summary) × (is_unclean strict summary ≡ false) × EngineAnswers job (page_name (Some (string_bytes name))) MESSAGE_LIMIT settings one (length one) (Ok summary) before after
 IsDoneBy (Ok (Two strict style settings left right)) log before after =
     (one other : List ℕ) × (compared : Compared) × Compares MESSAGE_LIMIT settings one other (Ok compared) × (has_unclean strict compared ≡ false) × (compared.comparison ≡ Same)
     × (after ≡ before ++ comparison_text style compared)

@@ -19,6 +19,8 @@ use Rattle.trace_canon.specs.Told.{Script, AnswersTold, answers_counts}
 use Rattle.trace_canon.specs.WatchScript.{watching_script}
 use Rattle.trace_canon.specs.declared.fault.Fault.{Fault}
 use Rattle.trace_canon.specs.declared.summary.Summary.{Summary}
+use Rattle.trace_report.specs.Front.{page_title}
+use Rattle.trace_report.specs.Page.{report_script}
 use Rattle.udsnorm.specs.Values.{notation_in, style_in}
 use Rattle.udsnorm.specs.declared.commands.Job.{Job}
 use Rattle.udsnorm.specs.declared.commands.Job.TheVariants as job
@@ -94,6 +96,7 @@ command_entries =
     ∷ record { name = codes "watch"; rules = sides ++ largest_limit ++ one_log ++ without_numbers ++ as_json ++ strictly; job = λ rows. Some (job.Watch (style_in rows)) }
     ∷ record { name = codes "explain"; rules = sides ++ usual_limit ++ one_log ++ as_json ++ strictly; job = λ rows. Some (job.Explain (notation_in rows)) }
     ∷ record { name = codes "messages"; rules = sides ++ largest_limit ++ one_log ++ as_json ++ strictly; job = λ rows. Some (job.Messages (notation_in rows)) }
+    ∷ record { name = codes "report"; rules = sides ++ largest_limit ++ one_log ++ strictly; job = λ rows. Some job.Report }
     ∷ record { name = codes "find"; rules = usual_limit ++ one_log ++ as_json; job = λ rows. Some (job.Find (notation_in rows)) }
     ∷ record { name = codes "compare"; rules = sides ++ usual_limit ++ two_logs ++ showing ++ as_json ++ strictly; job = λ rows. None }
     ∷ []
@@ -109,22 +112,27 @@ abbrev pub engine_of_script : (ℕ → Script) → Engine
 engine_of_script script =
     record { answers = λ limit. AnswersTold (script limit) answers_counts limit; unrefused = λ limit settings. HasNoBadPlaceWithin }
 
--- the engine that does this job over one log
-abbrev pub engine_of : Job → Engine
-engine_of job.Normalise = record { answers = Answers; unrefused = IsNotRefusedWithin }
-engine_of (job.List style) = record { answers = λ limit settings log given. Lists style limit settings log; unrefused = IsNotRefusedWithin }
-engine_of (job.Watch style) = engine_of_script (λ limit. watching_script style)
-engine_of (job.Explain notation) = engine_of_script (explain_script notation)
-engine_of (job.Messages notation) = engine_of_script (placing_script notation)
-engine_of (job.Find notation) = record { answers = λ limit settings log given. Finds notation settings log; unrefused = λ limit settings. HasNoBadPlaceWithin }
+-- the engine that does this job over one log, which has this name on a page; a page is in some style
+abbrev pub engine_of : Job → List ℕ → Engine
+engine_of job.Normalise name = record { answers = Answers; unrefused = IsNotRefusedWithin }
+engine_of (job.List style) name = record { answers = λ limit settings log given. Lists style limit settings log; unrefused = IsNotRefusedWithin }
+engine_of (job.Watch style) name = engine_of_script (λ limit. watching_script style)
+engine_of (job.Explain notation) name = engine_of_script (explain_script notation)
+engine_of (job.Messages notation) name = engine_of_script (placing_script notation)
+engine_of job.Report name = record {
+  answers = λ limit settings log given result old new. (style : List ℕ)
+      × AnswersTold (report_script (page_title style name settings) limit) answers_counts limit settings log given result old new;
+  unrefused = λ limit settings. HasNoBadPlaceWithin;
+}
+engine_of (job.Find notation) name = record { answers = λ limit settings log given. Finds notation settings log; unrefused = λ limit settings. HasNoBadPlaceWithin }
 
 -- what it answers, and what it writes
-abbrev pub EngineAnswers : Job → ℕ → Settings → List ℕ → ℕ → Result Summary Fault → List ℕ → List ℕ → Type 0
-EngineAnswers job = (engine_of job).answers
+abbrev pub EngineAnswers : Job → List ℕ → ℕ → Settings → List ℕ → ℕ → Result Summary Fault → List ℕ → List ℕ → Type 0
+EngineAnswers job name = (engine_of job name).answers
 
 -- how near to what refuses the log it stops reading
-abbrev pub EngineReads : Job → ℕ → Settings → List ℕ → ℕ → ℕ → ℕ → Type 0
-EngineReads job limit settings log = ReadsWhile ((engine_of job).unrefused limit settings log)
+abbrev pub EngineReads : Job → List ℕ → ℕ → Settings → List ℕ → ℕ → ℕ → ℕ → Type 0
+EngineReads job name limit settings log = ReadsWhile ((engine_of job name).unrefused limit settings log)
 
 -- ---- the program
 

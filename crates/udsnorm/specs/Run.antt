@@ -25,17 +25,17 @@ use Rattle.udsnorm.specs.Status.{status_of}
 use Rattle.udsnorm.specs.Telling.{TookText}
 use Rattle.udsnorm.specs.declared.commands.Job.{Job}
 
--- What a run over one log did, which has to be clean where the run is strict: from its input to its output and its error
+-- What a run over one log did, which has this name on a page and has to be clean where the run is strict: from its input to its output and its error
 -- output, its exit status, and the outcome that this is of.
-pub record RanOne {R W E : Type 0} (source : SourceGhosts R) (output : TargetGhosts W) (errors : TargetGhosts E) (job : Job) (strict : Bool) (limit : ℕ) (settings : Settings)
+pub record RanOne {R W E : Type 0} (source : SourceGhosts R) (output : TargetGhosts W) (errors : TargetGhosts E) (job : Job) (name : List ℕ) (strict : Bool) (limit : ℕ) (settings : Settings)
     (before : R) (old : W) (unsaid : E) (status : ℕ) (outcome : Result Summary Fault) (after : R) (new : W) (said : E) : Type 0 where
   -- what the engine answered, and what the output took, for each log with which the bytes that were read agree
   pub answer : Result Summary Fault
   pub engine : (log : List ℕ) → Agrees (source.given before) (source.given after) (source.is_over after) log
-      → EngineAnswers job limit settings log (length (source.given after) - length (source.given before)) answer (output.taken old) (output.taken new)
+      → EngineAnswers job name limit settings log (length (source.given after) - length (source.given before)) answer (output.taken old) (output.taken new)
   -- reading stopped within one piece of what refuses the log
   pub near : (log : List ℕ) → Agrees (source.given before) (source.given after) (source.is_over after) log
-      → EngineReads job limit settings log (length (source.given after) - length (source.given before)) (source.failures before) (source.failures after)
+      → EngineReads job name limit settings log (length (source.given after) - length (source.given before)) (source.failures before) (source.failures after)
   pub read : ReadFrom source Read settings.max_bytes answer before after
   -- the outcome: the answer, or a failed write where a flush was due and failed
   pub comes : ComesTo (flushes answer (output.taken new)) answer outcome

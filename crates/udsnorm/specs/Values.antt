@@ -1,5 +1,6 @@
 -- What the words give the options and files of a command.
 use Rattle.std.specs.Prelude.{ℕ, Bool, List, [], codes, Option, Some, None, unwrap_or, bytes_eq, if◌then◌else◌}
+use Rattle.std.specs.Path.{path_file_name}
 use Rattle.std.specs.Str.Parse.{digits_value, without_leading_plus}
 use Rattle.clap.specs.ValueTests.{is_unsigned_in}
 use Rattle.clap.specs.Walk.{Row, Text, first_of, one_of}
@@ -57,3 +58,8 @@ number_of (Some text) = if is_unsigned_in 0 18446744073709551615 text then digit
 -- the number that the value of `--limit` spells
 abbrev pub limit_in : List Row → ℕ
 limit_in rows = number_of (one_of (codes "limit") rows)
+
+-- what a page calls the log of this file, or of standard input: the last part of the path, where that is a name
+abbrev pub page_name : Option Text → List ℕ
+page_name None = codes "standard input"
+page_name (Some path) = unwrap_or (path_file_name path) path

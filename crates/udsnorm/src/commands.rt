@@ -16,6 +16,7 @@ use trace_canon::{
     Config, Fault, ItemStyle, Notation, Summary, explain, find, list, messages, normalise, watch,
 };
 use trace_io::{Source, Target};
+use trace_report::{report, report_style};
 
 /// What the program does with one log.
 #[derive(Clone, Copy, PartialEq, Eq)]
@@ -30,6 +31,8 @@ pub enum Job {
     Explain(Notation),
     /// Writes each message with its place in the log, in this notation.
     Messages(Notation),
+    /// Writes the session as a page of HTML.
+    Report,
     /// Writes the pairs of identifiers that ask and answer, in this notation.
     Find(Notation),
 }
@@ -114,6 +117,12 @@ pub(crate) const COMMANDS: &[CommandRow] = &[
         about: "Writes each message with its lines and time stamps",
         after_help: OF_MESSAGES,
         arguments: &[SIDES, LARGEST_LIMIT, ONE_LOG, AS_JSON, STRICTLY],
+    },
+    CommandRow {
+        name: "report",
+        about: "Writes the session as a page of HTML, to look at",
+        after_help: OF_REPORT,
+        arguments: &[SIDES, LARGEST_LIMIT, ONE_LOG, STRICTLY],
     },
     CommandRow {
         name: "find",
@@ -222,16 +231,18 @@ pub(crate) fn job_named(name: &str, found: &ArgMatches<'_>) -> Option<Job>
         "watch" => Some(Job::Watch(style(found))),
         "explain" => Some(Job::Explain(notation(found))),
         "messages" => Some(Job::Messages(notation(found))),
+        "report" => Some(Job::Report),
         "find" => Some(Job::Find(notation(found))),
         "compare" => None,
         _ => Some(Job::Normalise),
     }
 }
 
-/// What the engine answers that does the job.
+/// What the engine answers that does the job, over a log that has this name on a page.
 pub(crate) fn do_job<R: Source, W: Target>(
     alloc: Global,
     job: Job,
+    name: &str,
     config: &Config,
     input: &mut R,
     out: &mut W,
@@ -239,9 +250,9 @@ pub(crate) fn do_job<R: Source, W: Target>(
     requires input { AreLowCounts (R.reads input.old) (length (R.given input.old)) (R.failures input.old) }
     requires out { IsLowCount (W.failures out.old) }
     ensures engine { (log : List ℕ) → Agrees (R.given input.old) (R.given input.new) (R.is_over input.new) log
-        → EngineAnswers job MESSAGE_LIMIT config.now log (length (R.given input.new) - length (R.given input.old)) result (W.taken out.old) (W.taken out.new) }
+        → EngineAnswers job name.now MESSAGE_LIMIT config.now log (length (R.given input.new) - length (R.given input.old)) result (W.taken out.old) (W.taken out.new) }
     ensures near { (log : List ℕ) → Agrees (R.given input.old) (R.given input.new) (R.is_over input.new) log
-        → EngineReads job MESSAGE_LIMIT config.now log (length (R.given input.new) - length (R.given input.old)) (R.failures input.old) (R.failures input.new) }
+        → EngineReads job name.now MESSAGE_LIMIT config.now log (length (R.given input.new) - length (R.given input.old)) (R.failures input.old) (R.failures input.new) }
     ensures read { ReadFrom R.Source Fault.Read config.now.max_bytes result input.old input.new }
     ensures wrote { WroteTo W.Target Fault.Write result out.old out.new }
 {
@@ -251,6 +262,7 @@ pub(crate) fn do_job<R: Source, W: Target>(
         Job::Watch(style) => watch(alloc, config, style, input, out),
         Job::Explain(notation) => explain(alloc, config, notation, input, out),
         Job::Messages(notation) => messages(alloc, config, notation, input, out),
+        Job::Report => report(alloc, config, report_style(), name.as_bytes(), input, out),
         Job::Find(notation) => find(alloc, config, notation, input, out),
     }
 }
@@ -317,6 +329,19 @@ Exit status: 0 done, 2 wrong words, 3 the log is refused,
 6 with `--strict`: it was done, and the log is not clean.
 
 Example: udsnorm messages recorded.log | grep '^12 '";
+
+const OF_REPORT: &str = "\
+The page is one file, which fetches nothing: for a browser, a mail or a printer. Its chart has a
+row for each message, and for what was dropped or is missing, in the order of the log. Above it
+stands the verdict, with links to what needs a look.
+
+A log that is refused has a page, too: of what stands before the refused line.
+
+Exit status: 0 done, 2 wrong words, 3 the log is refused,
+4 a file can't be opened, or reading or writing failed, 5 out of memory,
+6 with `--strict`: it was done, and the log is not clean.
+
+Example: udsnorm report recorded.log > recorded.html";
 
 const OF_FIND: &str = "\
 A line is a pair of identifiers and how often the second answered a request of the first, the

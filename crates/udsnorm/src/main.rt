@@ -12,12 +12,13 @@
 //! refused, 6 with `--strict` the log is not clean.
 #![tactic(auto)]
 
-ghost use Rattle.std.specs.Prelude.{◌≡◌, ◌+◌, ◌≤◌, ◌⊎◌, ℕ, List, ◌++◌, length, true, map, string_bytes};
+ghost use Rattle.std.specs.Prelude.{◌≡◌, ◌+◌, ◌≤◌, ◌⊎◌, ℕ, List, ◌++◌, length, true, map, string_bytes, Some};
 ghost use Rattle.trace_io.specs.Counted.{AreLowCounts, IsLowCount};
 ghost use Rattle.udsnorm.specs.Asked.{Did, DidWords, IsDone, OneStream, RanFile, RanFiles, Unopened};
 ghost use Rattle.isotp_receive.specs.declared.TheConstants.{MESSAGE_LIMIT};
 ghost use Rattle.udsnorm.specs.FaultLines.{fault_line, side_line};
 ghost use Rattle.udsnorm.specs.Commands.{words_or_normalise};
+ghost use Rattle.udsnorm.specs.Values.{page_name as page_name_of};
 
 mod command;
 mod commands;
@@ -43,6 +44,7 @@ use crate::noticing::Noticing;
 use crate::run::{run_one, run_two};
 use crate::stream::is_one_stream;
 use crate::tell::{tell, tell_fault, tell_one_stream, tell_side};
+use crate::values::page_name;
 use crate::words::plan;
 use std::env::Env;
 use std::io::{ErrorKind, Input, IsTerminal, Print, Read};
@@ -156,7 +158,16 @@ where
             log,
         } => match log {
             None => {
-                let end = run_one(rt.alloc(), *job, *strict, config, input, out, err);
+                let end = run_one(
+                    rt.alloc(),
+                    *job,
+                    page_name(None),
+                    *strict,
+                    config,
+                    input,
+                    out,
+                    err,
+                );
                 End {
                     status: end.status,
                     known: known_of_input(*job, config, end.outcome, input, out),
@@ -186,7 +197,7 @@ fn run_file<R: AllocGlobal + Files, W: Target, E: Target>(
 ) -> End
     requires out { IsLowCount (W.failures out.old) }
     requires err { IsLowCount (E.failures err.old) }
-    ensures ran { RanFile ⟦<Noticing<R::File> as Source>⟧ W.Target E.Target job strict MESSAGE_LIMIT config.now out.old err.old result.status result.known out.new err.new
+    ensures ran { RanFile ⟦<Noticing<R::File> as Source>⟧ W.Target E.Target job (page_name_of (Some (string_bytes name.now))) strict MESSAGE_LIMIT config.now out.old err.old result.status result.known out.new err.new
         ⊎ Unopened E.Target (fault_line Fault.Read) Which.First out.old err.old result.status result.known out.new err.new }
     ensures flushed { result.status ≡ 0 → W.is_flushed out.new ≡ true }
     ensures once { result.status ≡ 0 → W.flushes out.new ≡ W.flushes out.old + 1 }
@@ -195,7 +206,16 @@ fn run_file<R: AllocGlobal + Files, W: Target, E: Target>(
     match fs::open(rt, name.as_str()) {
         Ok(file) => {
             let mut log = Noticing::new(file);
-            let end = run_one(rt.alloc(), job, strict, config, &mut log, out, err);
+            let end = run_one(
+                rt.alloc(),
+                job,
+                page_name(Some(name.as_str())),
+                strict,
+                config,
+                &mut log,
+                out,
+                err,
+            );
             End {
                 status: end.status,
                 known: known_of_file(job, config, end.outcome, log, out),

@@ -23,12 +23,13 @@ use trace_canon::{
 };
 use trace_io::{Source, Target, write_all};
 
-/// Does a job over one log, and answers how that ended. The text goes to the output, which is flushed before a fault of the
+/// Does a job over one log, which has this name on a page, and answers how that ended. The text goes to the output, which is flushed before a fault of the
 /// log is told, or that it is not clean, where the run is strict; and what is told to the error output, as far as that takes
 /// it.
 pub fn run_one<R: Source, W: Target, E: Target>(
     alloc: Global,
     job: Job,
+    name: &str,
     strict: bool,
     config: &Config,
     input: &mut R,
@@ -40,7 +41,7 @@ pub fn run_one<R: Source, W: Target, E: Target>(
     requires err { IsLowCount (E.failures err.old) }
 
     // What the engine answered, what was read and written, and what the run came to: its status and what is told of it.
-    ensures ran { RanOne R.Source W.Target E.Target job strict MESSAGE_LIMIT config.now input.old out.old err.old result.status result.outcome input.new out.new err.new }
+    ensures ran { RanOne R.Source W.Target E.Target job name.now strict MESSAGE_LIMIT config.now input.old out.old err.old result.status result.outcome input.new out.new err.new }
 
     // Where it is done, the input was read to its end, the output was flushed last and once, and nothing was told.
     ensures over { result.status ≡ 0 → R.is_over input.new ≡ true }
@@ -56,7 +57,7 @@ pub fn run_one<R: Source, W: Target, E: Target>(
     // The status is 4 exactly where a device failed.
     ensures device { (result.status ≡ 4) ↔ ((R.failures input.old < R.failures input.new) ⊎ (W.failures out.old < W.failures out.new)) }
 {
-    let answer = do_job(alloc, job, config, input, out);
+    let answer = do_job(alloc, job, name, config, input, out);
     let outcome = flushed_one(answer, out);
     OneEnd {
         status: tell_outcome(outcome, strict, err),

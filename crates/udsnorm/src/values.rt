@@ -2,10 +2,11 @@
 
 ghost use Rattle.std.specs.Prelude.{◌≡◌, option_map};
 ghost use Rattle.clap.specs.Words.{first_of, found_of, rows_of};
-ghost use Rattle.udsnorm.specs.Values.{comparison_style_in, is_given, is_strict as strict_in, notation_in, numbering_in, style_in};
+ghost use Rattle.udsnorm.specs.Values.{comparison_style_in, is_given, is_strict as strict_in, notation_in, numbering_in, page_name, style_in};
 
 use crate::commands::{JSON, NO_NUMBERS, SHOW, STRICT};
 use clap::ArgMatches;
+use std::path::Path;
 use trace_canon::{ComparisonStyle, ItemStyle, Notation, Numbering};
 
 /// How the lines of items are written.
@@ -69,4 +70,14 @@ pub(crate) fn text_of<'a>(found: &ArgMatches<'a>, name: &str) -> Option<&'a str>
     ensures { option_map (λ t. t.now) result ≡ first_of name.now (rows_of (found_of found.now)) }
 {
     found.get_str(name)
+}
+
+/// What a page calls the log of this file, or of standard input.
+pub(crate) fn page_name(log: Option<&str>) -> &str
+    ensures { result.now ≡ page_name (option_map (λ t. t.now) log.entry) }
+{
+    match log {
+        Some(path) => Path::new(path).file_name().unwrap_or(path),
+        None => "standard input",
+    }
 }

@@ -44,7 +44,7 @@ returns-clause-recording g c = λ strict zero log agrees.
     let due = flushes answer (W.taken out) in
     recorded_then c.args.strict due answer outcome c.tell_outcome.result _ _ log
     (comes_to due answer outcome (W.failures out) (W.failures now) (W.flushes out) (W.flushes now) (W.is_flushed now) c.flushed_one-outcome.ensures.ends)
-    c.tell_outcome.ensures.status zero strict (answer_certifies c.args.job _ log _ answer _ _ (c.do_job-answer.ensures.engine log agrees))
+    c.tell_outcome.ensures.status zero strict (answer_certifies c.args.job c.args.name.now _ log _ answer _ _ (c.do_job-answer.ensures.engine log agrees))
 
 pub returns-clause-once : goal.returns-clause-once
 returns-clause-once g c = λ zero.
