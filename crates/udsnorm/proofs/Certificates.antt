@@ -19,6 +19,9 @@ use Rattle.trace_canon.specs.declared.fault.Fault.TheVariants as fault
 use Rattle.trace_canon.specs.declared.machine.Stop.{Stop}
 use Rattle.trace_canon.specs.declared.summary.Summary.{Summary}
 use Rattle.trace_canon.proofs.Promises.{clean_log_is_recording, clean_summary_is_certificate, summary_certifies}
+use Rattle.trace_canon.specs.Told.{AnswersTold, answers_counts}
+use Rattle.trace_report.specs.Front.{PageTitle, page_title}
+use Rattle.trace_report.specs.Page.{report_script}
 use Rattle.udsnorm.specs.Commands.{EngineAnswers}
 use Rattle.udsnorm.specs.Ending.{has_unclean, status_of_comparison}
 use Rattle.udsnorm.specs.Run.{IsStatusOfTwo}
@@ -49,6 +52,11 @@ of_told settings log meanings summary means counted =
     let same : summary_of MESSAGE_LIMIT settings log meanings ≡ summary = cc counted in
     of_clean settings log summary (subst (Certifies MESSAGE_LIMIT settings log) same (of_lines settings log meanings means))
 
+-- those of a log whose page was written
+of_page : (title : PageTitle) (settings : Settings) (log : List ℕ) (given : ℕ) (summary : Summary) (old new : List ℕ)
+    → AnswersTold (report_script title MESSAGE_LIMIT) answers_counts MESSAGE_LIMIT settings log given (Ok summary) old new → is_clean summary ≡ true → IsCertified MESSAGE_LIMIT settings log
+of_page title settings log given summary old new (all, meanings, read, counted, wrote) = of_told settings log meanings summary read.1 counted
+
 -- `find` counts no frames of either side, so no log is clean by its counts
 of_job : (job : Job) (name : List ℕ) (settings : Settings) (log : List ℕ) (given : ℕ) (summary : Summary) (old new : List ℕ) → EngineAnswers job name MESSAGE_LIMIT settings log given (Ok summary) old new
     → is_clean summary ≡ true → IsCertified MESSAGE_LIMIT settings log
@@ -57,7 +65,7 @@ of_job (job.List style) name settings log given summary old new (items, is, wrot
 of_job (job.Watch style) name settings log given summary old new (all, meanings, read, counted, wrote) = of_told settings log meanings summary read.1 counted
 of_job (job.Explain notation) name settings log given summary old new (all, meanings, read, counted, wrote) = of_told settings log meanings summary read.1 counted
 of_job (job.Messages notation) name settings log given summary old new (all, meanings, read, counted, wrote) = of_told settings log meanings summary read.1 counted
-of_job job.Report name settings log given summary old new (style, all, meanings, read, counted, wrote) = of_told settings log meanings summary read.1 counted
+of_job job.Report name settings log given summary old new (style, told) = of_page (page_title style name settings) settings log given summary old new told
 of_job (job.Find notation) name settings log given summary old new (pairs, (meanings, read, found), wrote) = λ clean. absurd (true≢false (sym clean ∙ ap is_clean found.1))
 
 -- whatever the job

@@ -19,7 +19,7 @@ use Rattle.udsnorm.specs.Asked.{Did, DidAsked, DidWords, IsDone, IsDoneBy, ToldW
 use Rattle.udsnorm.specs.Ending.{flushes, has_unclean, is_unclean, status_of_comparison}
 use Rattle.udsnorm.specs.Commands.{EngineAnswers}
 use Rattle.udsnorm.specs.Values.{page_name}
-use Rattle.udsnorm.specs.Run.{IsStatusOfTwo, TookComparison}
+use Rattle.udsnorm.specs.Run.{RanOne, IsStatusOfTwo, TookComparison}
 use Rattle.udsnorm.specs.declared.commands.Job.{Job}
 use Rattle.udsnorm.specs.declared.ended.Known.{Known}
 use Rattle.udsnorm.specs.declared.job.Plan.{Plan}
@@ -94,6 +94,15 @@ done_by file source output errors (Err (words.Words text)) before old unsaid sta
 done_by file source output errors (Err words.Identifier) before old unsaid status known after new said log (same, known_is, did) zero grown = absurd (omega (arith, did.0, zero))
 done_by file source output errors (Err (words.Config reason)) before old unsaid status known after new said log (same, known_is, did) zero grown = absurd (omega (arith, did.0, zero))
 done_by file source output errors (Err words.Memory) before old unsaid status known after new said log (same, known_is, did) zero grown = absurd (omega (arith, did.0, zero))
+
+-- a run over a log of one name is one over the log of the same name
+pub ran_named : {R W E : Type 0} {source : SourceGhosts R} {output : TargetGhosts W} {errors : TargetGhosts E} {job : Job} {name other : List ℕ} {strict : Bool} {limit : ℕ} {settings : Settings}
+    {before : R} {old : W} {unsaid : E} {status : ℕ} {outcome : Result Summary Fault} {after : R} {new : W} {said : E} → name ≡ other
+    → RanOne source output errors job name strict limit settings before old unsaid status outcome after new said
+    → RanOne source output errors job other strict limit settings before old unsaid status outcome after new said
+ran_named {source = source} {output = output} {errors = errors} {job = job} {strict = strict} {limit = limit} {settings = settings} {before = before} {old = old} {unsaid = unsaid} {status = status}
+    {outcome = outcome} {after = after} {new = new} {said = said} same ran =
+    subst (λ (called : List ℕ). RanOne source output errors job called strict limit settings before old unsaid status outcome after new said) same ran
 
 -- what was done of a plan was done of its equal
 pub did_of_equal : {F R W E : Type 0} (file : SourceGhosts F) (source : SourceGhosts R) (output : TargetGhosts W) (errors : TargetGhosts E) (plan other : Plan)

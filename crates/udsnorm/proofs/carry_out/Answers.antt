@@ -1,6 +1,6 @@
 use Rattle.std.proofs.Common.{ap, refl, ◌∙◌}
 use Rattle.udsnorm.specs.declared.job.Plan.TheVariants.{One}
-use Rattle.udsnorm.proofs.Done.{did_of_equal}
+use Rattle.udsnorm.proofs.Done.{did_of_equal, ran_named}
 use Rattle.udsnorm.proofs.carry_out.Goals as goal
 
 pub returns-in-Some-clause-did : goal.returns-in-Some-clause-did
@@ -13,4 +13,8 @@ returns-in-Two-clause-did g c = did_of_equal _ _ _ _ _ _ _ _ _ _ _ _ _ _ c.in-Tw
 pub returns-in-None-clause-did : goal.returns-in-None-clause-did
 returns-in-None-clause-did g c =
     did_of_equal _ _ _ _ _ _ _ _ _ _ _ _ _ _ (c.in-One.is ∙ ap (λ log. One c.in-One.job c.in-One.strict c.in-One.config log) c.in-None.is)
-    (c.run_one-end.result.outcome, c.run_one-end.ensures.ran, c.known_of_input.ensures)
+    (
+      c.run_one-end.result.outcome,
+      ran_named c.page_name.ensures c.run_one-end.ensures.ran,
+      c.known_of_input.ensures,
+    )
