@@ -5,7 +5,7 @@ use Rattle.trace_canon.specs.CanonicalLog.{canonical_log, log_of_frames, canonic
 use Rattle.trace_canon.specs.Laws.{IsCanonicalFor, Records, Certifies}
 use Rattle.trace_canon.specs.Settings.{AreSettings, Settings}
 use Rattle.trace_canon.proofs.ReadAgain.{written_is_canonical, written_of_recording, answer_certifies}
-use Rattle.std.proofs.Common.{arith, ◌≡◌, Bool, true, false, refl, subst, Option, Ok, Err, ◌≤◌, ◌<◌, ℕ, List, [], ◌∷◌, ◌++◌, length, drop, ap, sym, ◌∙◌, append-nil, append_assoc, Result}
+use Rattle.std.proofs.Common.{arith, ◌≡◌, Bool, true, false, refl, subst, Option, Ok, Err, ◌≤◌, ◌<◌, ℕ, List, [], ◌∷◌, ◌++◌, length, drop, ap, sym, ◌∙◌, append-nil, append_assoc, Result, inl, inr}
 use Rattle.std.proofs.Math.Seq.{drop-append_seam}
 use Rattle.can_log.specs.declared.frame.Stamped.{Stamped}
 use Rattle.isotp_receive.specs.declared.TheConstants.{MESSAGE_LIMIT}
@@ -17,7 +17,7 @@ use Rattle.uds_exchange.specs.Orderer.{OrdererValue}
 use Rattle.uds_exchange.specs.Meaning.{meaning, flattened}
 use Rattle.uds_exchange.proofs.Promises.{early_grows, early_then_held}
 use Rattle.trace_canon.specs.CanonicalScript.{StandsCanonical, is_too_long, answers_canonical, CanonicalTellsTheSame, canonical_script, place_of, lines_due, text_of_early, CanonicalTellsEarly}
-use Rattle.trace_canon.specs.Told.{told_after, told, told_of_lines, whole_of_lines, EndsWith, WritesTold, WritesFrontOfTold, TellsEagerly}
+use Rattle.trace_canon.specs.Told.{told_after, told, told_of_lines, whole_of_lines, EndsWith, WritesTold, WritesRefused, WritesFrontOfTold, TellsEagerly}
 use Rattle.trace_canon.specs.proving.Writing.{Place, start_of, text_from, place_after}
 use Rattle.trace_canon.proofs.CanonicalWriting.{text_none, text_append, place_append}
 use Rattle.trace_canon.proofs.OneMoreFrame.{messages_more}
@@ -118,6 +118,14 @@ module _ (settings : Settings) where
         → WritesTextOfRead (announces_within MESSAGE_LIMIT settings) (early_text MESSAGE_LIMIT settings) settings log given why old new
     writes_early why wrote = subst (λ text. WritesTextOfRead (announces_within MESSAGE_LIMIT settings) text settings log given why old new) texts wrote
 
+    writes_refused : (why : Fault) → WritesRefused (canonical_script settings) MESSAGE_LIMIT settings log given why old new
+        → WritesTextOfRead (announces_within MESSAGE_LIMIT settings) (early_text MESSAGE_LIMIT settings) settings log given why old new
+    writes_refused why wrote = record {
+      meanings = wrote.meanings;
+      read = wrote.read;
+      wrote = wrote.wrote ∙ ap (λ text. old ++ text) (append-nil (told_of_lines (canonical_script settings) settings wrote.meanings) ∙ early_is wrote.meanings);
+    }
+
     writes_front : (why : Fault) → WritesFrontOfTold (canonical_script settings) MESSAGE_LIMIT settings log given why old new → WritesFront MESSAGE_LIMIT settings log given why old new
     writes_front why wrote =
         let begins = fitting_log_begins MESSAGE_LIMIT settings (flattened (meaning (messages MESSAGE_LIMIT (trace settings wrote.meanings)))) in
@@ -167,11 +175,12 @@ module _ (settings : Settings) where
 pub canonical_tells_the_same : CanonicalTellsTheSame
 canonical_tells_the_same settings log given (Ok summary) old new ends eager = ends_well settings log given old new summary ends
 canonical_tells_the_same settings log given (Err OutputLimit) old new ends eager = ends_over settings log given old new ends
-canonical_tells_the_same settings log given (Err (BadLine line column)) old new (why, wrote) eager = (why, writes_early settings log given old new (BadLine line column) wrote)
+canonical_tells_the_same settings log given (Err (BadLine line column)) old new (why, wrote) eager = (why, writes_refused settings log given old new (BadLine line column) wrote)
 canonical_tells_the_same settings log given (Err (Oversize line announced)) old new (why, wrote) eager = (why, writes_early settings log given old new (Oversize line announced) wrote)
-canonical_tells_the_same settings log given (Err LogLimit) old new (why, wrote) eager = (why, writes_early settings log given old new LogLimit wrote)
+canonical_tells_the_same settings log given (Err LogLimit) old new (why, wrote) eager = (why, writes_refused settings log given old new LogLimit wrote)
 canonical_tells_the_same settings log given (Err Read) old new wrote eager = (tt, writes_early settings log given old new Read wrote)
-canonical_tells_the_same settings log given (Err Write) old new (wrote, why) eager = (tt, (writes_front settings log given old new Write wrote, writes_eagerly_told settings log given old new eager))
+canonical_tells_the_same settings log given (Err Write) old new (inl (wrote, why)) eager = (tt, (writes_front settings log given old new Write wrote, writes_eagerly_told settings log given old new eager))
+canonical_tells_the_same settings log given (Err Write) old new (inr refuses) eager = absurd (omega (arith, refuses.some))
 canonical_tells_the_same settings log given (Err Memory) old new wrote eager = (
   tt,
   (

@@ -1,5 +1,5 @@
 -- What a run over a script that is not strict answers, and never answers.
-use Rattle.std.proofs.Common.{◌⊎◌, inl, inr, ◌≢◌, ℕ, List, Result, Ok, Err, false, ◌≡◌, arith, subst}
+use Rattle.std.proofs.Common.{◌⊎◌, inl, inr, ◌≢◌, ℕ, List, [], Result, Ok, Err, false, ◌≡◌, arith, subst}
 use Rattle.std.specs.Result.{IfOk, IfErr}
 use Rattle.isotp_receive.specs.declared.TheConstants.{MESSAGE_LIMIT}
 use Rattle.isotp_receive.specs.Trace.{Entry}
@@ -15,9 +15,9 @@ use Rattle.trace_canon.specs.Trace.{trace}
 use Rattle.trace_canon.proofs.ReadAgain.{lines_certify}
 
 module _ (word : List Entry → Entry → List ℕ) (last : List Entry → Summary → List ℕ) where
-  -- a script that tells this of each frame and at the end
+  -- a script that tells this of each frame and at the end, and of a refusal nothing
   abbrev pub lenient : Script
-  lenient = record { strict = false; word = word; last = last }
+  lenient = record { strict = false; word = word; last = last; refused = λ T summary why. [] }
 
   -- where a fault tells why the log can't be read, that is so
   pub unread_for : (limit : ℕ) (settings : Settings) (log : List ℕ) (given : ℕ) (fault : Fault) (old new : List ℕ)

@@ -47,8 +47,9 @@ never_write settings log given (Err LogLimit) old new answers = λ is. absurd (c
 never_write settings log given (Err OutputLimit) old new answers = λ is. absurd (cc is)
 never_write settings log given (Err Read) old new answers = λ is. absurd (cc is)
 never_write settings log given (Err Memory) old new answers = λ is. absurd (cc is)
-never_write settings log given (Err Write) old new (front, inl told) = absurd (omega (arith, told.some, ap length (told_nothing [] (trace settings told.meanings))))
-never_write settings log given (Err Write) old new (front, inr ends) = absurd (omega (arith, ends.some, ap (λ (t : List ℕ). length (t ++ [])) (told_nothing [] (trace settings ends.meanings))))
+never_write settings log given (Err Write) old new (inl (front, inl told)) = absurd (omega (arith, told.some, ap length (told_nothing [] (trace settings told.meanings))))
+never_write settings log given (Err Write) old new (inl (front, inr ends)) = absurd (omega (arith, ends.some, ap (λ (t : List ℕ). length (t ++ [])) (told_nothing [] (trace settings ends.meanings))))
+never_write settings log given (Err Write) old new (inr refuses) = absurd (omega (arith, refuses.some))
 
 -- the meaning of a session that is accepted
 pub meaning_given : (settings : Settings) (log : List ℕ) (items : List ItemValue) (summary : Summary) → IsAcceptedWith MESSAGE_LIMIT settings log items summary

@@ -20,15 +20,15 @@ use Rattle.trace_canon.specs.declared.receiver.Receiver.{Receiver}
 use Rattle.trace_canon.specs.declared.machine.Stop.{Stop}
 use Rattle.trace_canon.specs.declared.machine.Stop.TheVariants as end_stop
 use Rattle.trace_canon.specs.declared.summary.Summary.{Summary}
-use Rattle.trace_canon.specs.proving.Carrying.{StopsFor, stops_for, Carries, Speaks, Settles, IsTellingStart, Tells, StopsTelling, EndsSaying, EndsTelling, SettlesAs, is_of_device, EndsOn, GivesUp, WroteTold}
+use Rattle.trace_canon.specs.proving.Carrying.{StopsFor, stops_for, Carries, Speaks, Settles, IsTellingStart, Tells, StopsTelling, EndsSaying, EndsTelling, EndsAs, SettlesAs, SettlesWith, RefusesTelling, GivesUp, WroteTold}
 use Rattle.trace_canon.specs.proving.Feeding.{FeedsLog, FeedsSome, CountsRead, WroteBefore}
 use Rattle.trace_canon.specs.proving.LeftOut.{CountsRemoved}
 use Rattle.trace_canon.specs.Failing.{FailedIf}
-use Rattle.trace_canon.specs.LinesRead.{counts_last, AreGiven, AreLinesRead, WritesTextOfRead}
+use Rattle.trace_canon.specs.LinesRead.{counts_last, AreGiven, AreLinesRead, AreReadBefore, WritesTextOfRead}
 use Rattle.trace_canon.specs.proving.Reading.{Took, TakesFront, StopsWithin}
 use Rattle.trace_canon.specs.Settings.{Settings}
 use Rattle.trace_canon.specs.Summing.{summary_of}
-use Rattle.trace_canon.specs.Told.{WritesFrontOfFrames, HasToldSome, FailsToTell, Answering, EndsWith, passing, IsReadToEnd, IsUnreadFor, StopsNothingWithin, WritesFrontOfTold, Script, told_after, told, told_of_lines, whole_of_lines, AnswersTold, TellsEagerly}
+use Rattle.trace_canon.specs.Told.{WritesFrontOfFrames, HasToldSome, FailsToTell, Answering, EndsWith, passing, IsReadToEnd, IsUnreadFor, StopsNothingWithin, WritesFrontOfTold, Script, told_after, told, told_of_lines, refusal_of_lines, refused_of_lines, is_told, WritesRefused, whole_of_lines, AnswersTold, TellsEagerly}
 use Rattle.trace_canon.specs.Trace.{trace, trace_from}
 use Rattle.std.specs.List.{AllByRecursion}
 use Rattle.can_log.specs.Scanning.{Standing}
@@ -49,9 +49,9 @@ use Rattle.trace_canon.proofs.Explained.{all_taken}
 use Rattle.trace_canon.proofs.OneMoreFrame.{messages_more}
 use Rattle.trace_canon.proofs.Receivings.{trace_next}
 use Rattle.trace_canon.proofs.ReadLines.{read_begins, lines_read_are_there, stands_read, read_more}
-use Rattle.trace_canon.proofs.Runs.{TookEvents, StoppedOnEvent, StopsOn, IsRunStart, TookLines, StoppedOnLine, took_nothing, has_taken, has_stopped}
+use Rattle.trace_canon.proofs.Runs.{TookEvents, StoppedOnEvent, StopsOn, IsRunStart, TookLines, StoppedOnLine, took_nothing, has_received, has_taken, has_stopped}
 use Rattle.trace_canon.proofs.ScannedLogs.{IsBadBehind, bad_line, not_refused_at_limit, read_before_oversize, bad_counts, no_place_counts}
-use Rattle.trace_canon.proofs.StoppedRuns.{oversize_stops, bad_in_front, bad_at_end, HaveCome, have_come, writes_to_bad, writes_to_limit, writes_to_failed_read, writes_front, writes_front_of_all}
+use Rattle.trace_canon.proofs.StoppedRuns.{oversize_stops, bad_in_front, bad_at_end, HaveCome, have_come, read_to_bad, read_to_limit, writes_to_failed_read, writes_front, writes_front_of_all}
 use Rattle.trace_canon.proofs.Texts.{Begins, begins_again}
 use Rattle.trace_canon.proofs.Traces.{trace_from-append}
 use Rattle.trace_canon.proofs.WrittenFronts.{front_longer}
@@ -232,11 +232,35 @@ front_of_read : (script : Script) (limit : ℕ) (settings : Settings) (log : Lis
     → HasFront old (told_of_lines script settings meanings) new → 0 < length (told_of_lines script settings meanings)
     → FailsToTell script limit settings log given old new
 front_of_read script limit settings log given why meanings old new read front some =
-    let come = had_come (passing script.strict limit settings) (counts_last why) (min given settings.max_bytes) log read.meanings read.read in (
+    let come = had_come (passing script.strict limit settings) (counts_last why) (min given settings.max_bytes) log read.meanings read.read in
+    inl (
       front_of_whole script limit settings log given fault.Write old new
           (writes_front_of_frames script limit settings log given fault.Write read.meanings old new refl come (subst (λ text. HasFront old text new) read.wrote front)),
       inl (told_some script limit settings log given read.meanings come (subst (λ (text : List ℕ). 0 < length text) read.wrote some)),
     )
+
+-- only a front of what is told of a log that is refused was written
+front_of_refused : (script : Script) (limit : ℕ) (settings : Settings) (log : List ℕ) (given : ℕ) (why : Fault) (meanings : List (Option Stamped)) (old new : List ℕ)
+    → is_told why ≡ true → IsUnreadFor script.strict limit settings log why → AreReadBefore (passing script.strict limit settings) settings log given why meanings
+    → HasFront old (refused_of_lines script limit settings why meanings) new → 0 < length (refused_of_lines script limit settings why meanings)
+    → FailsToTell script limit settings log given old new
+front_of_refused script limit settings log given why meanings old new tells unread read front some = by (refusal_of_lines script limit settings why meanings) refl
+  where
+    by : (refusal : List ℕ) → refusal_of_lines script limit settings why meanings ≡ refusal → FailsToTell script limit settings log given old new
+    by [] none =
+        let lines = told_of_lines script settings meanings in
+        let same : refused_of_lines script limit settings why meanings ≡ lines = ap (λ x. lines ++ x) none ∙ append-nil lines in
+        front_of_read script limit settings log given why meanings old new (record { meanings = meanings; read = read; wrote = refl }) (subst (λ text. HasFront old text new) same front)
+        (subst (λ (text : List ℕ). 0 < length text) same some)
+    by (b ∷ rest) is = inr (record {
+      why = why;
+      tells = tells;
+      refused = unread;
+      meanings = meanings;
+      read = read;
+      some = subst (λ (text : List ℕ). 0 < length text) (sym is) (omega arith);
+      front = front;
+    })
 
 -- where writing failed, that is the fault, and else another
 abbrev pub IsOutcomeOf : Bool → Fault → Type 0
@@ -260,17 +284,11 @@ pub only_more : {W : Type 0} {target : Ghosts W} {start now : W} {said held : Li
     → Begins (target.taken start) (target.taken now)
 only_more carries = (carries.took.bytes, carries.took.grown)
 
--- also where a run gives up
-pub more_given_up : {W : Type 0} {target : Ghosts W} (why : Fault) (failed : Bool) (held : List ℕ) (old new : W) (answer : Fault) → GivesUp target why failed held old answer new
-    → (mid : W) (said : List ℕ) → Carries target mid said failed held old → Begins (target.taken mid) (target.taken new)
-more_given_up {target = target} why failed held old new answer up mid said carries = by (is_of_device why) up
-  where
-    by : (own : Bool) → EndsOn own target why failed held old answer new → Begins (target.taken mid) (target.taken new)
-    by true up = subst (λ w. Begins (target.taken mid) (target.taken w)) (sym up.1) (only_more carries)
-    by false up = elim (up mid said carries) [
-      | inl well ↦ only_more well.1
-      | inr wrong ↦ only_more wrong.1
-    ]
+-- also where a run ends with a fault
+more_at_fault : {W : Type 0} {target : Ghosts W} (name answer : Fault) (start : W) (said : List ℕ) (new : W) → EndsAs name target start said answer new
+    → Begins (target.taken start) (target.taken new)
+more_at_fault name answer start said new (inl well) = only_more well.1
+more_at_fault name answer start said new (inr wrong) = only_more wrong.1
 
 -- what was told of the lines that had ended before the last piece begins what was written
 pub tells_eagerly : (script : Script) (settings : Settings) (log : List ℕ) (given : ℕ) (front rest : List ℕ) (meanings : List (Option Stamped)) (standing : Standing) (old mid new : List ℕ)
@@ -409,9 +427,34 @@ module _ {M W : Type 0} (stands : M → List Entry → M → Type 0) (scripts : 
         (stops.0, stops.1, stops.2, stops.3, stops.4 begun.fresh low)
 
     module _ (new : W) where
+      -- how the run ends on a refusal that is told, after these lines
+      refuses : (why answer : Fault) (meanings : List (Option Stamped)) → TookLines ToldEvents start meanings now → RefusesTelling stands scripts target why now.0 now.1 answer new
+          → SettlesWith (refusal_of_lines (scripts start.0.taker.machine) MESSAGE_LIMIT settings why meanings) why target now.0.taker.page.failed now.0.taker.page.block now.1 answer new
+      refuses why answer meanings taken up =
+          let told_so = gives meanings taken in
+          up start.0.taker.machine settings meanings (has_received ToldEvents settings start now begun meanings taken) told_so.removed told_so.machine_stands
+
+      refuses_all : (why answer : Fault) (meanings : List (Option Stamped)) → TookLines ToldEvents start meanings now → RefusesTelling stands scripts target why now.0 now.1 answer new
+          → EndsAs why target start.1 (refused_of_lines (scripts start.0.taker.machine) MESSAGE_LIMIT settings why meanings) answer new
+      refuses_all why answer meanings taken up =
+          refuses why answer meanings taken up start.1 (told_of_lines (scripts start.0.taker.machine) settings meanings) (gives meanings taken).carried
+
+      -- only more is written
+      pub more_given_up : (B : Type 0) (why answer : Fault) → FedSome start {A = B} (Err why) now → GivesUp stands scripts target why now.0 now.1 answer new
+          → (mid : W) (said : List ℕ) → Carries target mid said now.0.taker.page.failed now.0.taker.page.block now.1 → Begins (target.taken mid) (target.taken new)
+      more_given_up B (fault.BadLine line column) answer (meanings, taken) up mid said carries =
+          more_at_fault (fault.BadLine line column) answer mid _ new (refuses (fault.BadLine line column) answer meanings taken up mid said carries)
+      more_given_up B fault.LogLimit answer (meanings, taken) up mid said carries =
+          more_at_fault fault.LogLimit answer mid _ new (refuses fault.LogLimit answer meanings taken up mid said carries)
+      more_given_up B (fault.Oversize line announced) answer takes up mid said carries = more_at_fault (fault.Oversize line announced) answer mid said new (up mid said carries)
+      more_given_up B fault.OutputLimit answer takes up mid said carries = absurd takes
+      more_given_up B fault.Memory answer takes up mid said carries = more_at_fault fault.Memory answer mid said new (up mid said carries)
+      more_given_up B fault.Read answer takes up mid said carries = subst (λ w. Begins (target.taken mid) (target.taken w)) (sym up.1) (only_more carries)
+      more_given_up B fault.Write answer takes up mid said carries = subst (λ w. Begins (target.taken mid) (target.taken w)) (sym up.1) (only_more carries)
+
       -- what is answered on a fault of the lines
       pub told_of_fault : {B : Type 0} (replies : Answering B) (log : List ℕ) (given : ℕ) (why : Fault) (answer : Fault) (m : ℕ) → m ≡ settings.max_bytes
-          → Fed start m log given (Err why) now → GivesUp target why now.0.taker.page.failed now.0.taker.page.block now.1 answer new
+          → Fed start m log given (Err why) now → GivesUp stands scripts target why now.0 now.1 answer new
           → AnswersTold (scripts start.0.taker.machine) replies MESSAGE_LIMIT settings log given (Err answer) (target.taken start.1) (target.taken new)
       told_of_fault replies log given why answer m is read up = by why (subst (λ k. Fed start k log given (Err why) now) is read) up
         where
@@ -439,19 +482,25 @@ module _ {M W : Type 0} (stands : M → List Entry → M → Type 0) (scripts : 
           front : (failed : Bool) (said : List ℕ) → Carries target start.1 said failed [] new → HasFront old said (target.taken new)
           front failed said carries = wrote_front target start.1 new said failed carries
 
-          bad : (line column bytes : ℕ) (meanings : List (Option Stamped)) → IsBadBehind log line column meanings bytes → bytes ≤ settings.max_bytes → bytes ≤ given
-              → TookLines ToldEvents start meanings now → SettlesAs (fault.BadLine line column) target now.0.taker.page.failed now.0.taker.page.block now.1 answer new → Answers answer
-          bad line column bytes meanings place few come taken settles =
-              let passed = each meanings (gives meanings taken).within in
-              elim (settles start.1 (text meanings) (gives meanings taken).carried) [
-                | inl well ↦ subst Answers (sym well.0) (
-                  unread_for_place settings log script.strict line column meanings bytes place few passed,
-                  writes_to_bad passes text settings log given meanings old (target.taken new) line column bytes place few come passed (wrote (text meanings) well.1),
-                )
+          -- a line or the limit refuses the log
+          refused : (why : Fault) (meanings : List (Option Stamped)) → is_told why ≡ true → TookLines ToldEvents start meanings now
+              → IsUnreadFor script.strict MESSAGE_LIMIT settings log why → AreReadBefore passes settings log given why meanings
+              → RefusesTelling stands scripts target why now.0 now.1 answer new
+              → (WritesRefused script MESSAGE_LIMIT settings log given why old (target.taken new) → Answers why) → Answers answer
+          refused why meanings tells taken unread read up answers =
+              let all = refused_of_lines script MESSAGE_LIMIT settings why meanings in
+              elim (refuses_all why answer meanings taken up) [
+                | inl well ↦ subst Answers (sym well.0) (answers (record { meanings = meanings; read = read; wrote = wrote all well.1 }))
                 | inr wrong ↦ subst Answers (sym wrong.0)
-                    (front_of_read script MESSAGE_LIMIT settings log given (fault.BadLine line column) meanings old (target.taken new)
-                    (writes_to_bad passes text settings log given meanings [] (text meanings) line column bytes place few come passed refl) (front true (text meanings) wrong.1) (wrong.1.spoke refl))
+                    (front_of_refused script MESSAGE_LIMIT settings log given why meanings old (target.taken new) tells unread read (front true all wrong.1) (wrong.1.spoke refl))
               ]
+
+          bad : (line column bytes : ℕ) (meanings : List (Option Stamped)) → IsBadBehind log line column meanings bytes → bytes ≤ settings.max_bytes → bytes ≤ given
+              → TookLines ToldEvents start meanings now → RefusesTelling stands scripts target (fault.BadLine line column) now.0 now.1 answer new → Answers answer
+          bad line column bytes meanings place few come taken up =
+              let passed = each meanings (gives meanings taken).within in
+              let unread = unread_for_place settings log script.strict line column meanings bytes place few passed in
+              refused (fault.BadLine line column) meanings refl taken unread (read_to_bad passes settings log given meanings passed line column bytes place few come) up (λ wrote. (unread, wrote))
 
           -- a line announces too much
           over : (line announced : ℕ) (meanings : List (Option Stamped)) (what : Option Stamped) → (halted : StoppedOnLine StoppedTelling start meanings what (fault.Oversize line announced) now)
@@ -511,7 +560,7 @@ module _ {M W : Type 0} (stands : M → List Entry → M → Type 0) (scripts : 
               told_some script MESSAGE_LIMIT settings log given (meanings ++ what ∷ []) (came meanings what line place) (omega arith)
 
           by : (why : Fault) → Fed start settings.max_bytes log given (Err why) now
-              → GivesUp target why now.0.taker.page.failed now.0.taker.page.block now.1 answer new → Answers answer
+              → GivesUp stands scripts target why now.0 now.1 answer new → Answers answer
           by (fault.BadLine line column) (meanings, taken, inl (few, refuses)) up =
               bad line column given meanings (bad_in_front log given line column meanings refuses) few (omega arith) taken up
           by (fault.BadLine line column) (meanings, taken, inr (short, all, place)) up =
@@ -521,18 +570,10 @@ module _ {M W : Type 0} (stands : M → List Entry → M → Type 0) (scripts : 
               let rest = drop settings.max_bytes log in
               let parts = sym (take-append-drop settings.max_bytes log) in
               let full = length-take-le settings.max_bytes log (omega arith) in
-              let told_so = gives meanings taken in
-              let passed = each meanings told_so.within in
-              elim (up start.1 (text meanings) told_so.carried) [
-                | inl well ↦ subst Answers (sym well.0) (
-                  unread_for_limit settings log script.strict begin rest meanings standing stood parts full long passed,
-                  writes_to_limit passes text settings log given meanings old (target.taken new) begin rest standing stood parts passed (wrote (text meanings) well.1) full long come,
-                )
-                | inr wrong ↦ subst Answers (sym wrong.0)
-                    (front_of_read script MESSAGE_LIMIT settings log given fault.LogLimit meanings old (target.taken new)
-                    (writes_to_limit passes text settings log given meanings [] (text meanings) begin rest standing stood parts passed refl full long come)
-                    (front true (text meanings) wrong.1) (wrong.1.spoke refl))
-              ]
+              let passed = each meanings (gives meanings taken).within in
+              let unread = unread_for_limit settings log script.strict begin rest meanings standing stood parts full long passed in
+              refused fault.LogLimit meanings refl taken unread (read_to_limit passes settings log given meanings passed begin rest standing stood parts full long come) up
+              (λ wrote. (unread, wrote))
           by fault.Read (meanings, taken, few, inside, (standing, stood)) up =
               let told_so = settled false meanings taken in
               let carries = subst (λ w. Carries target start.1 (text meanings) false [] w) (sym up.1) told_so.carried in
@@ -551,29 +592,28 @@ module _ {M W : Type 0} (stands : M → List Entry → M → Type 0) (scripts : 
           by fault.Memory (meanings, what, line, place) up =
               elim (up start.1 (text meanings) (halts meanings what fault.Memory line).4.carried) [
                 | inl well ↦ subst Answers (sym well.0) (stopped meanings what line place false fault.Memory refl well.1)
-                | inr wrong ↦ subst Answers (sym wrong.0) (
+                | inr wrong ↦ subst Answers (sym wrong.0) (inl (
                   front_of_whole script MESSAGE_LIMIT settings log given fault.Write old (target.taken new) (stopped meanings what line place true fault.Write refl wrong.1),
                   inl (some_told meanings what line place (wrong.1.spoke refl)),
-                )
+                ))
               ]
 
       -- what is known of the devices then
       -- a frame of the log needed memory, where it was refused
       pub needed : (log : List ℕ) (given : ℕ) (why : Fault) (answer : Fault) (m : ℕ) → m ≡ settings.max_bytes
-          → Fed start m log given (Err why) now → GivesUp target why now.0.taker.page.failed now.0.taker.page.block now.1 answer new → answer ≡ fault.Memory
+          → Fed start m log given (Err why) now → GivesUp stands scripts target why now.0 now.1 answer new → answer ≡ fault.Memory
           → HasFrame (λ T e. IsKeptForMessage MESSAGE_LIMIT T e ⊎ needs start.0.taker.machine T e) settings log
       needed log given why answer m is read up refused = by why (subst (λ k. Fed start k log given (Err why) now) is read) up
         where
           Needed : Type 0
           Needed = HasFrame (λ T e. IsKeptForMessage MESSAGE_LIMIT T e ⊎ needs start.0.taker.machine T e) settings log
 
-          other : (name : Fault) (said : List ℕ) → name ≢ fault.Memory
-              → ((answer ≡ name) × Carries target start.1 said false [] new) ⊎ ((answer ≡ fault.Write) × Carries target start.1 said true [] new) → Needed
+          other : (name : Fault) (said : List ℕ) → name ≢ fault.Memory → EndsAs name target start.1 said answer new → Needed
           other name said apart (inl well) = absurd (apart (sym well.0 ∙ refused))
           other name said apart (inr wrong) = absurd (cc (wrong.0, refused))
 
           by : (why : Fault) → Fed start settings.max_bytes log given (Err why) now
-              → GivesUp target why now.0.taker.page.failed now.0.taker.page.block now.1 answer new → Needed
+              → GivesUp stands scripts target why now.0 now.1 answer new → Needed
           by fault.Memory (meanings, what, line_stopped, place) up =
               let halted = halts meanings what fault.Memory line_stopped in
               has_frame (λ T e. IsKeptForMessage MESSAGE_LIMIT T e ⊎ needs start.0.taker.machine T e) settings log given meanings what halted.0 halted.1 place halted.2 halted.3 halted.4.reason.1
@@ -581,32 +621,32 @@ module _ {M W : Type 0} (stands : M → List Entry → M → Type 0) (scripts : 
               let halted = halts meanings what (fault.Oversize line announced) line_stopped in
               other (fault.Oversize line announced) (told_of_lines (scripts start.0.taker.machine) settings meanings) (λ same. absurd (cc same)) (up start.1 _ halted.4.carried)
           by (fault.BadLine line column) (meanings, taken, place) up =
-              other (fault.BadLine line column) (told_of_lines (scripts start.0.taker.machine) settings meanings) (λ same. absurd (cc same)) (up start.1 _ (gives meanings taken).carried)
+              other (fault.BadLine line column) _ (λ same. absurd (cc same)) (refuses_all (fault.BadLine line column) answer meanings taken up)
           by fault.LogLimit (meanings, taken, long, come, stood) up =
-              other fault.LogLimit (told_of_lines (scripts start.0.taker.machine) settings meanings) (λ same. absurd (cc same)) (up start.1 _ (gives meanings taken).carried)
+              other fault.LogLimit _ (λ same. absurd (cc same)) (refuses_all fault.LogLimit answer meanings taken up)
           by fault.OutputLimit read up = absurd read
           by fault.Read read up = absurd (cc (up.0, refused))
           by fault.Write read up = absurd (cc (up.0, refused))
 
       pub known : (B : Type 0) (why : Fault) (answer : Fault) → FedSome start {A = B} (Err why) now
-          → GivesUp target why now.0.taker.page.failed now.0.taker.page.block now.1 answer new
+          → GivesUp stands scripts target why now.0 now.1 answer new
           → (said : List ℕ) × (failed : Bool) × Carries target start.1 said failed [] new × IsOutcomeOf failed answer × IsReadOnly why answer
       known B why answer takes up = by why takes up
         where
           on : (name : Fault) (said : List ℕ) → name ≢ fault.Write → name ≢ fault.Read
-              → ((answer ≡ name) × Carries target start.1 said false [] new) ⊎ ((answer ≡ fault.Write) × Carries target start.1 said true [] new)
+              → EndsAs name target start.1 said answer new
               → (text : List ℕ) × (failed : Bool) × Carries target start.1 text failed [] new × IsOutcomeOf failed answer × (answer ≢ fault.Read)
           on name said apart other (inl well) =
               (said, false, well.1, subst (λ f. f ≢ fault.Write) (sym well.0) apart, subst (λ f. f ≢ fault.Read) (sym well.0) other)
           on name said apart other (inr wrong) = (said, true, wrong.1, wrong.0, subst (λ f. f ≢ fault.Read) (sym wrong.0) (λ is. absurd (cc is)))
 
           by : (why : Fault) → FedSome start {A = B} (Err why) now
-              → GivesUp target why now.0.taker.page.failed now.0.taker.page.block now.1 answer new
+              → GivesUp stands scripts target why now.0 now.1 answer new
               → (said : List ℕ) × (failed : Bool) × Carries target start.1 said failed [] new × IsOutcomeOf failed answer × IsReadOnly why answer
           by (fault.BadLine line column) (meanings, taken) up =
-              on (fault.BadLine line column) (told_of_lines (scripts start.0.taker.machine) settings meanings) (λ is. absurd (cc is)) (λ is. absurd (cc is)) (up start.1 _ (gives meanings taken).carried)
+              on (fault.BadLine line column) _ (λ is. absurd (cc is)) (λ is. absurd (cc is)) (refuses_all (fault.BadLine line column) answer meanings taken up)
           by fault.LogLimit (meanings, taken) up =
-              on fault.LogLimit (told_of_lines (scripts start.0.taker.machine) settings meanings) (λ is. absurd (cc is)) (λ is. absurd (cc is)) (up start.1 _ (gives meanings taken).carried)
+              on fault.LogLimit _ (λ is. absurd (cc is)) (λ is. absurd (cc is)) (refuses_all fault.LogLimit answer meanings taken up)
           by fault.OutputLimit takes up = absurd takes
           by fault.Read (meanings, taken) up =
               let text = told_of_lines (scripts start.0.taker.machine) settings meanings in (
@@ -688,7 +728,8 @@ module _ {A W : Type 0} (target : Ghosts W) (script : Script) (answers : Answeri
       by (Ok value) ends = with_answer (Ok value) ends
       by (Err fault.OutputLimit) ends = with_answer (Err end_stop.OutputLimit) ends
       by (Err fault.Write) ends =
-          let front = wrote_front target start new (whole_of_lines script MESSAGE_LIMIT settings log meanings) true ends in (
+          let front = wrote_front target start new (whole_of_lines script MESSAGE_LIMIT settings log meanings) true ends in
+          inl (
             writes_front_of_all (passing script.strict MESSAGE_LIMIT settings) (whole_of_lines script MESSAGE_LIMIT settings log) settings log given meanings (target.taken start)
                 (target.taken new) fault.Write front.front means (le-min (omega arith) short) refl each front.wrote (front.rest, front.parts),
             inr (record { meanings = meanings; read = read_to_end settings log script.strict meanings short means each; some = ends.spoke refl; front = front }),

@@ -31,6 +31,7 @@ canonical_script settings = record {
   strict = true;
   word = λ T e. lines_due settings (messages MESSAGE_LIMIT T) (messages MESSAGE_LIMIT (T ++ e ∷ []));
   last = λ T summary. text_from settings (place_of settings (early (messages MESSAGE_LIMIT T))) (all_frames MESSAGE_LIMIT (held (messages MESSAGE_LIMIT T)));
+  refused = λ T summary why. [];
 }
 
 -- The orderer stands after the messages of the trace, and the text after those that are early.

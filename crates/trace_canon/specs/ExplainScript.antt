@@ -1,5 +1,5 @@
 -- What is told of a log that is explained.
-use Rattle.std.specs.Prelude.{ℕ, false}
+use Rattle.std.specs.Prelude.{ℕ, false, []}
 use Rattle.isotp_receive.specs.StandingReception.{receptions_after}
 use Rattle.isotp_receive.specs.Verdict.{verdict}
 use Rattle.trace_canon.specs.ExplainText.{event_text, end_text}
@@ -12,4 +12,5 @@ explain_script notation limit = record {
   strict = false;
   word = λ T e. event_text notation e.line e.dir (verdict limit T e);
   last = λ T summary. end_text notation (receptions_after limit T) summary;
+  refused = λ T summary why. [];
 }

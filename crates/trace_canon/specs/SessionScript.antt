@@ -44,7 +44,7 @@ pub record Collects (settings : Settings) (M : List Message) (items : List ItemV
 
 -- nothing
 abbrev pub silent_script : Script
-silent_script = record { strict = true; word = λ T e. []; last = λ T summary. [] }
+silent_script = record { strict = true; word = λ T e. []; last = λ T summary. []; refused = λ T summary why. [] }
 
 -- it answers the meaning and the counts, where its canonical log is within the limit
 abbrev pub answers_session : Settings → Answering Session

@@ -23,12 +23,14 @@ use Rattle.trace_canon.specs.Devices.{ReadFrom, WroteTo}
 use Rattle.trace_canon.specs.Needing.{HasFrame, IsKeptForMessage}
 use Rattle.trace_canon.specs.Refusal.{announces_within, HasNoBadPlaceWithin, IsNotRefusedWithin}
 
--- What a command tells: of a frame, by the frames before it; and at the end, by all frames and the counts. A strict one refuses
--- a log for a first frame that announces a message above the limit.
+-- What a command tells: of a frame, by the frames before it; at the end, by all frames and the counts; and where a line or the
+-- limit refuses the log, by the frames and the counts of the lines before, and by the reason. A strict one refuses a log for a
+-- first frame that announces a message above the limit.
 pub record Script : Type 0 where
   pub strict : Bool
   pub word : List Entry → Entry → List ℕ
   pub last : List Entry → Summary → List ℕ
+  pub refused : List Entry → Summary → Fault → List ℕ
 
 -- what is told of these frames, where the frames `past` came before them
 abbrev pub told_after : (List Entry → Entry → List ℕ) → List Entry → List Entry → List ℕ
@@ -47,6 +49,24 @@ told_of_lines script settings meanings = told script.word (trace settings meanin
 abbrev pub whole_of_lines : Script → ℕ → Settings → List ℕ → List (Option Stamped) → List ℕ
 whole_of_lines script limit settings log meanings =
     told script.word (trace settings meanings) ++ script.last (trace settings meanings) (summary_of limit settings log meanings)
+
+-- what is told of a refusal for this reason, after lines that mean this; the counts are those of a log without a last line feed
+abbrev pub refusal_of_lines : Script → ℕ → Settings → Fault → List (Option Stamped) → List ℕ
+refusal_of_lines script limit settings why meanings = script.refused (trace settings meanings) (summary_of limit settings [] meanings) why
+
+-- and all that is told then
+abbrev pub refused_of_lines : Script → ℕ → Settings → Fault → List (Option Stamped) → List ℕ
+refused_of_lines script limit settings why meanings = told_of_lines script settings meanings ++ refusal_of_lines script limit settings why meanings
+
+-- whether the fault is a refusal that is told: for a line, or for the limit of the log
+abbrev pub is_told : Fault → Bool
+is_told (BadLine line column) = true
+is_told LogLimit = true
+is_told (Oversize line announced) = false
+is_told OutputLimit = false
+is_told Read = false
+is_told Write = false
+is_told Memory = false
 
 -- the test on which a line stops a run
 abbrev pub passing : Bool → ℕ → Settings → Option Stamped → Bool
@@ -78,7 +98,12 @@ StopsNothingWithin false limit settings log = HasNoBadPlaceWithin log
 abbrev pub WritesTold : Script → ℕ → Settings → List ℕ → ℕ → Fault → List ℕ → List ℕ → Type 0
 WritesTold script limit settings = WritesTextOfRead (passing script.strict limit settings) (told_of_lines script settings) settings
 
--- a front of that was
+-- and what is told of the refusal
+abbrev pub WritesRefused : Script → ℕ → Settings → List ℕ → ℕ → Fault → List ℕ → List ℕ → Type 0
+WritesRefused script limit settings log given why =
+    WritesTextOfRead (passing script.strict limit settings) (refused_of_lines script limit settings why) settings log given why
+
+-- a front of what is told of these lines was
 abbrev pub WritesFrontOfFrames : Script → ℕ → Settings → List ℕ → ℕ → Fault → List ℕ → List ℕ → Type 0
 WritesFrontOfFrames script limit settings = WritesFrontOfRead (passing script.strict limit settings) (told_of_lines script settings) settings
 
@@ -113,23 +138,34 @@ pub record EndsUnwritten (script : Script) (limit : ℕ) (settings : Settings) (
   pub some : 0 < length (whole_of_lines script limit settings log meanings)
   pub front : HasFront old (whole_of_lines script limit settings log meanings) new
 
--- writing failed: while the log was read, where something was told of it, or at its end
+-- A refusal that is told refuses the log, and something is told of it: of all that is told then, a front was written.
+pub record RefusesUnwritten (script : Script) (limit : ℕ) (settings : Settings) (log : List ℕ) (given : ℕ) (old new : List ℕ) : Type 0 where
+  pub why : Fault
+  pub tells : is_told why ≡ true
+  pub refused : IsUnreadFor script.strict limit settings log why
+  pub meanings : List (Option Stamped)
+  pub read : AreReadBefore (passing script.strict limit settings) settings log given why meanings
+  pub some : 0 < length (refusal_of_lines script limit settings why meanings)
+  pub front : HasFront old (refused_of_lines script limit settings why meanings) new
+
+-- writing failed: while the log was read, where something was told of it, or at its end; or where it is refused
 abbrev pub FailsToTell : Script → ℕ → Settings → List ℕ → ℕ → List ℕ → List ℕ → Type 0
 FailsToTell script limit settings log given old new =
-    WritesFrontOfTold script limit settings log given Write old new × (HasToldSome script limit settings log given ⊎ EndsUnwritten script limit settings log old new)
+    (WritesFrontOfTold script limit settings log given Write old new × (HasToldSome script limit settings log given ⊎ EndsUnwritten script limit settings log old new))
+    ⊎ RefusesUnwritten script limit settings log given old new
 
 -- What is answered on a log, of which `given` bytes were given, and what is then written where `old` was before: all that is
--- told of one that can be read, and an answer or that it is too long; what is told of the lines read before, where it can't be, or reading failed;
--- and a front of what is told of them where writing failed or memory was refused.
+-- told of one that can be read, and an answer or that it is too long; what is told of the lines read before, where it can't be, or reading failed,
+-- and behind it what is told of a refusal for a line or the limit; and a front of what is told where writing failed or memory was refused.
 abbrev pub AnswersTold : {A : Type 0} → Script → Answering A → ℕ → Settings → List ℕ → ℕ → Result A Fault → List ℕ → List ℕ → Type 0
 AnswersTold script answers limit settings log given (Ok value) old new = EndsWith script answers limit settings log given (Ok value) old new
 AnswersTold script answers limit settings log given (Err OutputLimit) old new = EndsWith script answers limit settings log given (Err stop.OutputLimit) old new
 AnswersTold script answers limit settings log given (Err (BadLine line column)) old new =
-    IsUnreadFor script.strict limit settings log (BadLine line column) × WritesTold script limit settings log given (BadLine line column) old new
+    IsUnreadFor script.strict limit settings log (BadLine line column) × WritesRefused script limit settings log given (BadLine line column) old new
 AnswersTold script answers limit settings log given (Err (Oversize line announced)) old new =
     IsUnreadFor script.strict limit settings log (Oversize line announced) × WritesTold script limit settings log given (Oversize line announced) old new
 AnswersTold script answers limit settings log given (Err LogLimit) old new =
-    IsUnreadFor script.strict limit settings log LogLimit × WritesTold script limit settings log given LogLimit old new
+    IsUnreadFor script.strict limit settings log LogLimit × WritesRefused script limit settings log given LogLimit old new
 AnswersTold script answers limit settings log given (Err Read) old new = WritesTold script limit settings log given Read old new
 AnswersTold script answers limit settings log given (Err Write) old new = FailsToTell script limit settings log given old new
 AnswersTold script answers limit settings log given (Err Memory) old new = WritesFrontOfFrames script limit settings log given Memory old new

@@ -209,4 +209,6 @@ impl Machine for Collector {
             summary: *summary,
         })
     }
+
+    fn refused<S: TextSink>(self, _summary: &Summary, _why: Fault, _out: &mut S) {}
 }

@@ -9,7 +9,7 @@ ghost use Rattle.isotp_receive.specs.Events.{announced_by};
 ghost use Rattle.isotp_receive.specs.Trace.{Entry};
 ghost use Rattle.isotp_receive.specs.Verdict.{verdict};
 ghost use Rattle.trace_io.specs.Counted.{IsLowCount, AreLowCounts};
-ghost use Rattle.trace_canon.specs.proving.Carrying.{Begins, Carries, Speaks, Tells, EndsTelling, GivesUp, is_of_device, stops_for};
+ghost use Rattle.trace_canon.specs.proving.Carrying.{Begins, Carries, Speaks, SettlesAs, Tells, EndsTelling, GivesUp, RefusesTelling, stops_for};
 ghost use Rattle.trace_canon.specs.proving.LeftOut.{CountsRemoved};
 ghost use Rattle.trace_canon.specs.proving.Receiving.{Receives};
 ghost use Rattle.trace_canon.specs.Settings.{Settings};
@@ -51,35 +51,71 @@ pub fn run<M: Machine + Drop, R: Source, W: Target>(
     let mut receiver = Receiver::start(config, pair, Telling::start(machine));
     match feed_lines(config.max_bytes(), reader, &mut receiver, writer) {
         Ok(ended) => finish(receiver, ended, writer),
-        Err(fault) => Err(give_up(fault, writer, &mut receiver.taker.page)),
+        Err(fault) => Err(give_up(fault, receiver, writer)),
     }
 }
 
-/// Writes what was said before a fault, and answers what that is called. A fault of a device stands as it is.
-fn give_up<W: Target>(fault: Fault, target: &mut W, page: &mut Page) -> Fault
-    ensures { GivesUp W.Target fault page.old.failed page.old.block target.old result target.new }
+/// Ends a run on a fault, and answers what that is called. The machine is told of a line or a limit that refuses the log, and
+/// what was said is written. A fault of a device stands as it is.
+fn give_up<M: Machine + Drop, W: Target>(
+    fault: Fault,
+    receiver: Receiver<M, W>,
+    target: &mut W,
+) -> Fault
+    ensures { GivesUp M.stands M.script W.Target fault receiver target.old result target.new }
 {
-    if is_of_device(fault) {
-        return fault;
+    match fault {
+        Fault::BadLine { .. } | Fault::LogLimit => refuse(fault, receiver, target),
+        Fault::Oversize { .. } | Fault::OutputLimit | Fault::Memory => {
+            stop(fault, receiver, target)
+        }
+        Fault::Read | Fault::Write => fault,
     }
+}
+
+/// Writes what was said before a fault of which nothing is said, and answers what that is called.
+fn stop<M: Machine + Drop, W: Target>(
+    fault: Fault,
+    receiver: Receiver<M, W>,
+    target: &mut W,
+) -> Fault
+    ensures { SettlesAs fault W.Target receiver.taker.page.failed receiver.taker.page.block target.old result target.new }
+{
+    let Receiver { taker, .. } = receiver;
+    let Telling { mut page, .. } = taker;
+    settle_before(fault, target, &mut page)
+}
+
+/// Writes what is said of a refusal, after the lines that were received, and answers what that is called.
+fn refuse<M: Machine, W: Target>(why: Fault, receiver: Receiver<M, W>, target: &mut W) -> Fault
+    ensures { RefusesTelling M.stands M.script W.Target why receiver target.old result target.new }
+{
+    let Receiver {
+        pair,
+        lines,
+        counts,
+        taker,
+        ..
+    } = receiver;
+    let Telling {
+        machine,
+        pending,
+        mut page,
+        ..
+    } = taker;
+    let summary = sum_up(&pair, lines, counts, pending.count, false);
+    tell_refusal(machine, target, &mut page, &summary, why);
+    settle_before(why, target, &mut page)
+}
+
+/// Writes what was said before a fault, and answers what that is called.
+fn settle_before<W: Target>(fault: Fault, target: &mut W, page: &mut Page) -> Fault
+    ensures { SettlesAs fault W.Target page.old.failed page.old.block target.old result target.new }
+{
     if settle(target, page) {
         fault
     } else {
         Fault::Write
-    }
-}
-
-/// Whether a fault is that of a device.
-fn is_of_device(fault: Fault) -> bool
-    ensures { result ≡ is_of_device fault }
-{
-    match fault {
-        Fault::Read | Fault::Write => true,
-        Fault::BadLine { .. }
-        | Fault::Oversize { .. }
-        | Fault::LogLimit
-        | Fault::OutputLimit
-        | Fault::Memory => false,
     }
 }
 
@@ -254,6 +290,21 @@ fn tell_end<M: Machine, W: Target>(
 {
     let mut out = Drain { target, page };
     machine.end(pair, summary, &mut out)
+}
+
+/// Has the machine say what it says of a refusal.
+fn tell_refusal<M: Machine, W: Target>(
+    machine: M,
+    target: &mut W,
+    page: &mut Page,
+    summary: &Summary,
+    why: Fault,
+)
+    ensures says { (start : M) (T : List Entry) → M.stands start T machine
+        → Speaks W.Target page.old.failed page.old.block target.old ((M.script start).refused T summary.now why) page.new.failed page.new.block target.new }
+{
+    let mut out = Drain { target, page };
+    machine.refused(summary, why, &mut out);
 }
 
 /// Writes what is said at the end, and answers. The log ended in a line feed, or not.

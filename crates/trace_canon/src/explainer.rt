@@ -121,6 +121,8 @@ impl Machine for Explainer {
         say_end(self.notation, pair, summary, out);
         Ok(*summary)
     }
+
+    fn refused<S: TextSink>(self, _summary: &Summary, _why: Fault, _out: &mut S) {}
 }
 
 /// Says the lines of a frame, which is in this line and was sent by this side.

@@ -10,6 +10,7 @@ ghost use Rattle.trace_canon.specs.Told.{Script};
 ghost use Rattle.trace_canon.specs.declared.machine.Stop.{Stop as StopValue};
 ghost use Rattle.trace_canon.specs.declared.summary.Summary.{Summary as SummaryValue};
 
+use crate::fault::Fault;
 use crate::summary::Summary;
 use crate::text_sink::TextSink;
 use direction::Dir;
@@ -23,8 +24,8 @@ pub enum Stop {
     OutputLimit,
 }
 
-/// A command's machine. It is handed what each frame did, in order, and the end, and says its text. It sees no source and no
-/// target.
+/// A command's machine. It is handed what each frame did, in order, and the end or why the log is refused, and says its text. It
+/// sees no source and no target.
 pub trait Machine {
     /// What it answers at the end.
     type Answer: Drop;
@@ -72,4 +73,9 @@ pub trait Machine {
             → KeepsWithin MESSAGE_LIMIT T pair.now
             → S.says out.old ((script start).last T summary.now) out.new }
         ensures answered { (start : Self) (T : List Entry) → stands start T self → answers start T summary.now result };
+
+    /// Takes why the log is refused, where a line or the limit of the log refuses it, and the counts of the lines before. No event
+    /// and no end follows. The counts are those of a log that ends in no line feed.
+    fn refused<S: TextSink>(self, summary: &Summary, why: Fault, out: &mut S)
+        ensures says { (start : Self) (T : List Entry) → stands start T self → S.says out.old ((script start).refused T summary.now why) out.new };
 }

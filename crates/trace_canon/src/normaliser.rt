@@ -146,4 +146,6 @@ impl Machine for Canonical {
         }
         Ok(*summary)
     }
+
+    fn refused<S: TextSink>(self, _summary: &Summary, _why: Fault, _out: &mut S) {}
 }

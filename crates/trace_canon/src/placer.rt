@@ -135,6 +135,8 @@ impl Machine for Placer {
     ) -> Result<Summary, Stop> {
         Ok(*summary)
     }
+
+    fn refused<S: TextSink>(self, _summary: &Summary, _why: Fault, _out: &mut S) {}
 }
 
 /// Says the line of a message that has its first frame and its last one in these places.

@@ -149,6 +149,8 @@ impl Machine for Watcher {
         finish_to(decider, style, &mut number, out);
         Ok(*summary)
     }
+
+    fn refused<S: TextSink>(self, _summary: &Summary, _why: Fault, _out: &mut S) {}
 }
 
 /// Says the line of each item that is put, numbered on from those before.

@@ -13,15 +13,17 @@ use Rattle.trace_io.specs.declared.device.Target.{Ghosts}
 use Rattle.trace_canon.specs.declared.fault.Fault.{Fault}
 use Rattle.trace_canon.specs.declared.fault.Fault.TheVariants as fault
 use Rattle.trace_canon.specs.declared.pending.Pending.{Pending}
+use Rattle.trace_canon.specs.declared.receiver.Receiver.{Receiver}
 use Rattle.trace_canon.specs.declared.machine.Stop.{Stop}
 use Rattle.trace_canon.specs.declared.machine.Stop.TheVariants as stop
 use Rattle.trace_canon.specs.Trace.{trace}
 use Rattle.trace_canon.specs.proving.LeftOut.{CountsRemoved}
 use Rattle.trace_canon.specs.proving.Announcing.{AnnouncesWithin}
+use Rattle.trace_canon.specs.proving.Receiving.{Receives}
 use Rattle.trace_canon.specs.Needing.{IsKeptForMessage}
 use Rattle.trace_canon.specs.Settings.{Settings}
 use Rattle.trace_canon.specs.Summing.{summary_of}
-use Rattle.trace_canon.specs.Told.{Script, Answering, told, whole_of_lines}
+use Rattle.trace_canon.specs.Told.{Script, Answering, told, refusal_of_lines, whole_of_lines}
 
 -- all that was said was written but what the page holds; or a front of it, where writing failed
 abbrev pub HasCarried : Bool → List ℕ → List ℕ → List ℕ → List ℕ → Type 0
@@ -110,29 +112,38 @@ pub record StopsTelling {W : Type 0} (target : Ghosts W) (script : Script) (need
   pub reason : StopsFor script.strict needs T e why
   pub carried : Carries target start (told script.word T) failed held now
 
--- whatever was said before the fault with this name is written, or that failed, which is then the fault
+-- since this start this was said, and is written before the fault with this name; or that failed, which is then the fault
+abbrev pub EndsAs : {W : Type 0} → Fault → Ghosts W → W → List ℕ → Fault → W → Type 0
+EndsAs name target start said result new =
+    ((result ≡ name) × Carries target start said false [] new) ⊎ ((result ≡ fault.Write) × Carries target start said true [] new)
+
+-- so it is with whatever was said before the fault
 abbrev pub SettlesAs : {W : Type 0} → Fault → Ghosts W → Bool → List ℕ → W → Fault → W → Type 0
 SettlesAs {W = W} name target failed held old result new =
-    (start : W) (said : List ℕ) → Carries target start said failed held old
-    → ((result ≡ name) × Carries target start said false [] new) ⊎ ((result ≡ fault.Write) × Carries target start said true [] new)
+    (start : W) (said : List ℕ) → Carries target start said failed held old → EndsAs name target start said result new
 
--- the fault is that of a device, which stands as it is
-abbrev pub is_of_device : Fault → Bool
-is_of_device fault.Read = true
-is_of_device fault.Write = true
-is_of_device (fault.BadLine line column) = false
-is_of_device (fault.Oversize line announced) = false
-is_of_device fault.LogLimit = false
-is_of_device fault.OutputLimit = false
-is_of_device fault.Memory = false
+-- and with this text behind it
+abbrev pub SettlesWith : {W : Type 0} → List ℕ → Fault → Ghosts W → Bool → List ℕ → W → Fault → W → Type 0
+SettlesWith {W = W} text name target failed held old result new =
+    (start : W) (said : List ℕ) → Carries target start said failed held old → EndsAs name target start (said ++ text) result new
 
--- how a run ends on a fault: as it is, or once what was said before is written
-abbrev pub EndsOn : {W : Type 0} → Bool → Ghosts W → Fault → Bool → List ℕ → W → Fault → W → Type 0
-EndsOn true target why failed held old result new = (result ≡ why) × (new ≡ old)
-EndsOn false target why failed held old result new = SettlesAs why target failed held old result new
+-- a run ends on a refusal that is told: whatever lines it has taken, what is told of it is said and written
+abbrev pub RefusesTelling : {M W : Type 0} → (M → List Entry → M → Type 0) → (M → Script) → Ghosts W → Fault → Receiver M W → W → Fault → W → Type 0
+RefusesTelling {M = M} stands scripts target why receiver old result new =
+    (first : M) (settings : Settings) (meanings : List (Option Stamped)) → Receives settings meanings receiver.pair receiver.lines receiver.counts
+    → CountsRemoved (messages MESSAGE_LIMIT (trace settings meanings)) receiver.taker.pending → stands first (trace settings meanings) receiver.taker.machine
+    → SettlesWith (refusal_of_lines (scripts first) MESSAGE_LIMIT settings why meanings) why target receiver.taker.page.failed receiver.taker.page.block old result new
 
-abbrev pub GivesUp : {W : Type 0} → Ghosts W → Fault → Bool → List ℕ → W → Fault → W → Type 0
-GivesUp target why failed held old result new = EndsOn (is_of_device why) target why failed held old result new
+-- how a run ends on a fault, with what it has taken: that of a device stands as it is, and before others all that is said is written
+abbrev pub GivesUp : {M W : Type 0} → (M → List Entry → M → Type 0) → (M → Script) → Ghosts W → Fault → Receiver M W → W → Fault → W → Type 0
+GivesUp stands scripts target (fault.BadLine line column) receiver old result new = RefusesTelling stands scripts target (fault.BadLine line column) receiver old result new
+GivesUp stands scripts target fault.LogLimit receiver old result new = RefusesTelling stands scripts target fault.LogLimit receiver old result new
+GivesUp stands scripts target (fault.Oversize line announced) receiver old result new =
+    SettlesAs (fault.Oversize line announced) target receiver.taker.page.failed receiver.taker.page.block old result new
+GivesUp stands scripts target fault.OutputLimit receiver old result new = SettlesAs fault.OutputLimit target receiver.taker.page.failed receiver.taker.page.block old result new
+GivesUp stands scripts target fault.Memory receiver old result new = SettlesAs fault.Memory target receiver.taker.page.failed receiver.taker.page.block old result new
+GivesUp stands scripts target fault.Read receiver old result new = (result ≡ fault.Read) × (new ≡ old)
+GivesUp stands scripts target fault.Write receiver old result new = (result ≡ fault.Write) × (new ≡ old)
 
 -- a run ends with this answer of the machine, and all that it told was written
 abbrev pub EndsSaying : {A W : Type 0} → Ghosts W → Script → Answering A → W → Settings → List ℕ → List (Option Stamped) → Result A Stop → W → Type 0

@@ -69,7 +69,8 @@ returns-in-Err g c =
             (W.taken c.args.writer.now) (W.taken c.give_up.new.target)) (same_script g at)
             (eagerly M.stands M.script M.needs W settings (start g at) now (begun g at) c.requires.writer log (length (g.R.Source.given c.feed_lines.new.reader) - length (g.R.Source.given c.args.reader.now))
             (c.in-Err.ensures.eager log agrees (start g at) none (wrote_no_line M.stands M.script M.needs W (start g at))) c.give_up.new.target
-            (more_given_up c.in-Err.fault _ _ c.feed_lines.new.device c.give_up.new.target c.give_up.result c.give_up.ensures));
+            (more_given_up M.stands M.script M.needs W settings (start g at) now (begun g at) c.requires.writer c.give_up.new.target Bool c.in-Err.fault c.give_up.result
+            (c.in-Err.ensures.takes (start g at) none) c.give_up.ensures));
         memory = λ log agrees refused.
             subst (λ m. HasFrame (λ T e. IsKeptForMessage MESSAGE_LIMIT T e ⊎ M.needs m T e) settings log) (same_machine g at)
             (needed M.stands M.script M.needs W settings (start g at) now (begun g at) c.requires.writer c.give_up.new.target log
