@@ -88,15 +88,19 @@ written_in_memory text Is IsFault (Ok summary) old taken held memory old_is held
     (value, is, sym held_is ∙ wrote ∙ ap (λ xs. xs ++ text value) old_is)
 written_in_memory text Is IsFault (Err fault) old taken held memory old_is held_is failed (is, left) = known IsFault fault memory is (λ read. reads_well failed (ap Err read))
 
+-- of a refusal nothing is told
+abbrev tells_nothing : List Entry → Summary → Fault → List ℕ
+tells_nothing T summary why = []
+
 -- a text that is told as the log comes, by a script that is not strict
 pub told_in_memory : (word : List Entry → Entry → List ℕ) (last : List Entry → Summary → List ℕ) (limit : ℕ) (settings : Settings) (log : List ℕ) (given : ℕ)
     (answer : Result Summary Fault) (old taken held : List ℕ) → old ≡ [] → taken ≡ held → FailedIf Read answer 0 0
-    → AnswersTold (lenient word last) answers_counts limit settings log given answer old taken
-    → MatchResult answer (λ summary. IsToldWith (lenient word last) limit settings log held summary) (λ fault. IsUnread limit settings log (fault_in_memory fault))
+    → AnswersTold (lenient word last tells_nothing) answers_counts limit settings log given answer old taken
+    → MatchResult answer (λ summary. IsToldWith (lenient word last tells_nothing) limit settings log held summary) (λ fault. IsUnread limit settings log (fault_in_memory fault))
 told_in_memory word last limit settings log given (Ok summary) old taken held old_is held_is failed (whole, meanings, read, counted, wrote) =
-    (meanings, read, cc counted, sym held_is ∙ wrote ∙ ap (λ xs. xs ++ whole_of_lines (lenient word last) limit settings log meanings) old_is)
+    (meanings, read, cc counted, sym held_is ∙ wrote ∙ ap (λ xs. xs ++ whole_of_lines (lenient word last tells_nothing) limit settings log meanings) old_is)
 told_in_memory word last limit settings log given (Err fault) old taken held old_is held_is failed is =
-    known (IsUnreadFor false limit settings log) fault tt (unread_for word last limit settings log given fault old taken is) (λ read. reads_well failed (ap Err read))
+    known (IsUnreadFor false limit settings log) fault tt (unread_for word last tells_nothing limit settings log given fault old taken is) (λ read. reads_well failed (ap Err read))
 
 pub meaning_in_memory : (limit : ℕ) (settings : Settings) (log : List ℕ) (answer : Result (List ItemValue) Fault) → FailedIf Read answer 0 0
     → IfErr answer (λ fault. fault ≢ Write) → GivesMeaning limit settings log answer → MeansInMemory limit settings log answer

@@ -14,10 +14,10 @@ use Rattle.trace_canon.specs.declared.summary.Summary.{Summary}
 use Rattle.trace_canon.specs.Trace.{trace}
 use Rattle.trace_canon.proofs.ReadAgain.{lines_certify}
 
-module _ (word : List Entry → Entry → List ℕ) (last : List Entry → Summary → List ℕ) where
-  -- a script that tells this of each frame and at the end, and of a refusal nothing
+module _ (word : List Entry → Entry → List ℕ) (last : List Entry → Summary → List ℕ) (refused : List Entry → Summary → Fault → List ℕ) where
+  -- a script that tells this of each frame, at the end, and of a refusal
   abbrev pub lenient : Script
-  lenient = record { strict = false; word = word; last = last; refused = λ T summary why. [] }
+  lenient = record { strict = false; word = word; last = last; refused = refused }
 
   -- where a fault tells why the log can't be read, that is so
   pub unread_for : (limit : ℕ) (settings : Settings) (log : List ℕ) (given : ℕ) (fault : Fault) (old new : List ℕ)

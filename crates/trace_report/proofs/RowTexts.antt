@@ -3,9 +3,9 @@ use Rattle.std.proofs.Common.{◌≡◌, ◌≤◌, ◌+◌, ℕ, Bool, List, []
 use Rattle.std.proofs.lemmas.Bool.{cases_Bool}
 use Rattle.trace_report.specs.declared.blocks.Blocks.{Blocks}
 use Rattle.isotp_receive.specs.Trace.{Entry}
-use Rattle.trace_report.specs.Blocks.{begins_block, begins_exchange, blocks_behind, blocks_of, no_blocks, one_more_row, opening_text, rows_text}
+use Rattle.trace_report.specs.Blocks.{begins_block, begins_exchange, blocks_behind, blocks_of, no_blocks, one_more_row, placed_text, rows_text}
 use Rattle.trace_report.specs.Events.{rows_of}
-use Rattle.trace_report.specs.Rows.{RowValue, row_text}
+use Rattle.trace_report.specs.Rows.{RowValue}
 use Rattle.trace_report.specs.Page.{rows_after}
 
 -- the blocks that stand after two lists of rows
@@ -18,7 +18,7 @@ pub rows_onward : (origin : ℕ) (blocks : Blocks) (rows others : List RowValue)
     → rows_text origin blocks (rows ++ others) ≡ rows_text origin blocks rows ++ rows_text origin (blocks_behind blocks rows) others
 rows_onward origin blocks [] others = refl
 rows_onward origin blocks (row ∷ rows) others =
-    let front = opening_text origin blocks row ++ row_text origin row in
+    let front = placed_text origin blocks row in
     let after = one_more_row (begins_exchange row) blocks in
     ap (λ rest. front ++ rest) (rows_onward origin after rows others)
     ∙ sym (append_assoc front (rows_text origin after rows) (rows_text origin (blocks_behind after rows) others))

@@ -1,5 +1,5 @@
 -- The blocks of a report: rows stand in tables of some 200, which fold, so that a browser draws a long session in time. The first
--- ten are written open.
+-- ten are written open, and the rows of the others are brief.
 use Rattle.std.specs.Prelude.{ℕ, ◌+◌, ◌==◌, Bool, true, false, ◌&&◌, ◌||◌, List, [], ◌∷◌, ◌++◌, codes, nat_le, nat_lt, if◌then◌else◌}
 use Rattle.std.specs.Fmt.{decimal}
 use Rattle.trace_canon.specs.declared.begun.FramePlace.{FramePlace}
@@ -73,7 +73,7 @@ item_title number = codes "From item " ++ decimal number
 -- of one that begins with a message
 abbrev pub message_title : ℕ → MessagePlace → List ℕ
 message_title origin place =
-    item_title place.item ++ codes ", line " ++ decimal place.first.line ++ codes ", " ++ seconds_between origin place.last.micros ++ codes " s"
+    item_title place.item ++ codes ", line " ++ decimal place.first.line ++ codes ", " ++ seconds_between origin place.first.micros ++ codes " s"
 
 -- of the block that begins with a row
 abbrev pub block_title : ℕ → RowValue → List ℕ
@@ -114,8 +114,17 @@ opening_text origin blocks row =
     front_if (begins_block (begins_exchange row) blocks) origin blocks.count row
     ++ body_if (begins_block (begins_exchange row) blocks || begins_exchange row)
 
+-- the rows of the last block are brief
+abbrev pub is_brief : Blocks → Bool
+is_brief blocks = nat_lt open_blocks blocks.count
+
+-- the text of a row behind those blocks
+abbrev pub placed_text : ℕ → Blocks → RowValue → List ℕ
+placed_text origin blocks row =
+    opening_text origin blocks row ++ row_text (is_brief (one_more_row (begins_exchange row) blocks)) origin row
+
 -- the text of these rows, where those blocks stand before them
 abbrev pub rows_text : ℕ → Blocks → List RowValue → List ℕ
 rows_text origin blocks [] = []
 rows_text origin blocks (row ∷ rest) =
-    opening_text origin blocks row ++ row_text origin row ++ rows_text origin (one_more_row (begins_exchange row) blocks) rest
+    placed_text origin blocks row ++ rows_text origin (one_more_row (begins_exchange row) blocks) rest

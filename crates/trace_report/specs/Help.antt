@@ -26,8 +26,8 @@ legend_text =
 -- what it does not show
 abbrev pub limits_text : List ℕ
 limits_text =
-    codes "<p>Frames with other identifiers, padding, flow control and the interface mean nothing here. A message of which no frame was recorded leaves no trace, also in a clean recording. "
-    ++ codes "Grey letters after the bytes are those same bytes as text. In a long session the first ten blocks are open, and the others folded.</p>\n</footer>\n"
+    codes "<p>Frames with other identifiers, padding, the interface, and flow control that is in its place mean nothing here. A message of which no frame was recorded leaves no trace, also in a clean recording. "
+    ++ codes "Grey letters after the bytes are those same bytes as text. In a long session the first ten blocks are open, and the others folded and brief.</p>\n</footer>\n"
 
 -- the sign that the page is whole, which hides the notice of its front
 abbrev pub tail_text : List ℕ

@@ -50,7 +50,7 @@ more_text count = if nat_lt most_links count then others_text (count - most_link
 -- what needs a look for one reason: how many, and links to the first
 abbrev pub look_entry : List ℕ → Link → ℕ → List ℕ → List ℕ
 look_entry words to count first =
-    codes "<li><b>" ++ decimal count ++ codes "</b> " ++ words ++ codes ": " ++ links_text to first ++ more_text count ++ codes "\n"
+    codes "<li>" ++ words ++ codes " <b>" ++ decimal count ++ codes "</b>: " ++ links_text to first ++ more_text count ++ codes "\n"
 
 -- if anything does
 abbrev pub look_line : List ℕ → Link → ℕ → List ℕ → List ℕ

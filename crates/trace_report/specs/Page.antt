@@ -1,5 +1,5 @@
 -- The text of a report: a front, the rows of the trace in blocks, and an end. It is told as the log is read: with the first frame
--- the front, with each frame its rows, and at the end of the log the rest.
+-- the front, with each frame its rows, and at the end of the log, or where it is refused, the rest.
 use Rattle.std.specs.Prelude.{ℕ, false, List, [], ◌∷◌, ◌++◌, codes, length}
 use Rattle.std.specs.List.{last_or}
 use Rattle.isotp_receive.specs.Trace.{Entry}
@@ -12,7 +12,8 @@ use Rattle.trace_report.specs.Front.{PageTitle, front_text}
 use Rattle.trace_report.specs.Help.{help_text}
 use Rattle.trace_report.specs.Rows.{RowValue}
 use Rattle.trace_report.specs.Sorts.{tally_of}
-use Rattle.trace_report.specs.Verdict.{verdict_text}
+use Rattle.trace_report.specs.Verdict.{refused_verdict, stop_line, verdict_text}
+use Rattle.trace_canon.specs.declared.fault.Fault.{Fault}
 use Rattle.trace_canon.specs.Told.{Script}
 
 -- the time of the first frame of a trace; 0 where it has none
@@ -46,6 +47,11 @@ all_rows limit T = rows_of limit T ++ end_rows limit T
 abbrev pub page_end : Blocks → Tally → Summary → ℕ → ℕ → List ℕ
 page_end blocks tally summary first last = block_end blocks.count ++ codes "</main>\n" ++ verdict_text tally summary first last ++ help_text
 
+-- and of the page of a log that is refused
+abbrev pub refused_end : Fault → Blocks → Tally → Summary → ℕ → ℕ → List ℕ
+refused_end why blocks tally summary first last =
+    block_end blocks.count ++ stop_line why ++ codes "</main>\n" ++ refused_verdict why tally summary first last ++ help_text
+
 -- where all rows are these
 abbrev pub page_end_behind : List RowValue → List Entry → Summary → List ℕ
 page_end_behind rows T summary = page_end (blocks_of rows) (tally_of rows) summary (first_time T) (last_time 0 T)
@@ -55,6 +61,13 @@ abbrev pub last_text : PageTitle → ℕ → List Entry → Summary → List ℕ
 last_text title limit T summary =
     front_before title T ++ rows_after limit (first_time T) T (end_rows limit T) ++ page_end_behind (all_rows limit T) T summary
 
+-- what is told where a log is refused for this reason, behind the frames T. What is open there is neither unfinished nor without an
+-- answer: so no row is told of it.
+abbrev pub refused_text : PageTitle → ℕ → List Entry → Summary → Fault → List ℕ
+refused_text title limit T summary why =
+    front_before title T ++ refused_end why (blocks_of (rows_of limit T)) (tally_of (rows_of limit T)) summary (first_time T) (last_time 0 T)
+
 -- the script of a report
 abbrev pub report_script : PageTitle → ℕ → Script
-report_script title limit = record { strict = false; word = frame_text title limit; last = last_text title limit }
+report_script title limit =
+    record { strict = false; word = frame_text title limit; last = last_text title limit; refused = refused_text title limit }

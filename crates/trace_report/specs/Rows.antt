@@ -20,7 +20,7 @@ use Rattle.trace_report.specs.declared.row.MessagePlace.{MessagePlace}
 use Rattle.trace_report.specs.declared.row.MessageRole.{MessageRole}
 use Rattle.trace_report.specs.declared.row.MessageRole.TheVariants as role
 use Rattle.trace_canon.specs.ExplainText.{cause_text, reason_text}
-use Rattle.trace_report.specs.Words.{data_text, milliseconds_between, seconds_between}
+use Rattle.trace_report.specs.Words.{brief_data, data_text, milliseconds_between, seconds_between}
 use Rattle.trace_canon.specs.Words.{direction_text, service_text, code_text}
 
 -- What a row tells.
@@ -170,6 +170,44 @@ message_row origin is d place bytes =
     message_front origin is place ++ cell_front d ++ role_words is d bytes ++ data_text bytes ++ note_text is place (length bytes)
     ++ cell_end d arrow.Headed
 
+-- Brief rows: the front of a row, and one line of words without a shape. What needs a look has its full row.
+
+-- what stands before its words
+abbrev pub brief_front : ℕ → MessageRole → Dir → MessagePlace → List ℕ
+brief_front origin is d place = message_front origin is place ++ codes "<td class=\"" ++ side_text d ++ codes "\">"
+
+-- a row of such words
+abbrev pub brief_row : ℕ → MessageRole → Dir → MessagePlace → List ℕ → List ℕ
+brief_row origin is d place words = brief_front origin is d place ++ words ++ codes "\n"
+
+-- the words of a request
+abbrev pub brief_request : List ℕ → List ℕ
+brief_request bytes = service_text (sid bytes) ++ codes " request " ++ brief_data bytes ++ codes " &#8594;"
+
+-- of the keep-alive
+abbrev pub brief_keep_alive : List ℕ → List ℕ
+brief_keep_alive bytes = codes "keep-alive " ++ brief_data bytes ++ codes " &#8594;"
+
+-- of a reply
+abbrev pub brief_reply : List ℕ → ℕ → ℕ → List ℕ → List ℕ
+brief_reply kind asked first bytes = codes "&#8592; " ++ kind ++ codes " " ++ brief_data bytes ++ codes " " ++ after_text asked first
+
+-- the row of a message in a block of brief rows
+abbrev pub brief_message : ℕ → MessageRole → Dir → MessagePlace → List ℕ → List ℕ
+brief_message origin role.Request d place bytes = brief_row origin role.Request d place (brief_request bytes)
+brief_message origin (role.Positive asked) d place bytes =
+    brief_row origin (role.Positive asked) d place (brief_reply (codes "positive") asked place.first.micros bytes)
+brief_message origin (role.Negative asked) d place bytes = message_row origin (role.Negative asked) d place bytes
+brief_message origin (role.Pending asked) d place bytes =
+    brief_row origin (role.Pending asked) d place (brief_reply (codes "pending") asked place.first.micros bytes)
+brief_message origin role.KeepAlive d place bytes = brief_row origin role.KeepAlive d place (brief_keep_alive bytes)
+brief_message origin role.Stray d place bytes = message_row origin role.Stray d place bytes
+
+-- the row of a message in either kind of block
+abbrev pub message_text : Bool → ℕ → MessageRole → Dir → MessagePlace → List ℕ → List ℕ
+message_text true origin is d place bytes = brief_message origin is d place bytes
+message_text false origin is d place bytes = message_row origin is d place bytes
+
 -- What is missing.
 
 -- the row of an item that asked for no positive answer, and has none
@@ -207,15 +245,15 @@ layout_fault_words pdu.Remote = codes " <i>it carries no data</i>"
 layout_fault_words pdu.FrameLength = codes " <i>no CAN frame has this many bytes</i>"
 layout_fault_words pdu.Empty = codes " <i>it has no byte</i>"
 layout_fault_words pdu.UnknownKind = codes " <i>its first byte is of no kind of ISO-TP frame</i>"
-layout_fault_words pdu.SingleLength = codes " <i>it does not hold the length that it tells</i>"
-layout_fault_words pdu.FirstLength = codes " <i>it announces a length that no first frame has</i>"
+layout_fault_words pdu.SingleLength = codes " <i>its length does not fit the length that it tells</i>"
+layout_fault_words pdu.FirstLength = codes " <i>its length, or the one that it announces, is that of no first frame</i>"
 layout_fault_words pdu.FlowShort = codes " <i>it has fewer than 3 bytes</i>"
 layout_fault_words pdu.FlowStatus = codes " <i>its status is none of continue, wait and overflow</i>"
 
 -- why a frame was dropped, for the same reader; where it ended a reception too, the row of that says it
 abbrev pub reason_words : Reason → List ℕ
 reason_words (reason.Pdu fault) = layout_fault_words fault
-reason_words reason.FlowUnexpected = codes " <i>the other side was not sending several frames</i>"
+reason_words reason.FlowUnexpected = codes " <i>the other side was sending nothing that it could be for</i>"
 reason_words reason.NextUnexpected = codes " <i>no message was under way that it goes on with</i>"
 reason_words reason.NextLate = []
 reason_words (reason.NextSequence expected found) = []
@@ -226,8 +264,8 @@ reason_words (reason.TooLong announced) = codes " <i>more than the limit of 1048
 abbrev pub cause_words : Cause → List ℕ
 cause_words cause.NewStart = codes "another message of this side began before its last frame"
 cause_words cause.Overflow = codes "the other side said that it has no room"
-cause_words cause.Late = codes "its next frame came more than 1 s late"
-cause_words cause.Sequence = codes "a frame is missing, or came out of order"
+cause_words cause.Late = codes "its next frame came after more than 1 s"
+cause_words cause.Sequence = codes "a frame is missing, came twice or out of order"
 cause_words cause.Length = codes "a frame has another length than its first one"
 
 -- the row of a frame that was dropped
@@ -252,10 +290,10 @@ unfinished_row d line len =
     codes "<tr class=\"x\" id=\"e" ++ side_text d ++ codes "\"><td><td><td>" ++ cell_front d ++ codes "<b>unfinished</b> <i>" ++ partial_text d line len
     ++ codes " the log ends before its last frame</i>" ++ cell_end d arrow.Barred
 
--- the text of a row, where `origin` is the time of the first frame of the two sides
-abbrev pub row_text : ℕ → RowValue → List ℕ
-row_text origin (message is d place bytes) = message_row origin is d place bytes
-row_text origin (no_answer number silent) = no_answer_row number silent
-row_text origin (dropped place d named why) = dropped_row origin place d named why
-row_text origin (ended place end) = ended_row origin place end
-row_text origin (unfinished d line len) = unfinished_row d line len
+-- the text of a row in a block of brief rows or in another, where `origin` is the time of the first frame of the two sides
+abbrev pub row_text : Bool → ℕ → RowValue → List ℕ
+row_text brief origin (message is d place bytes) = message_text brief origin is d place bytes
+row_text brief origin (no_answer number silent) = no_answer_row number silent
+row_text brief origin (dropped place d named why) = dropped_row origin place d named why
+row_text brief origin (ended place end) = ended_row origin place end
+row_text brief origin (unfinished d line len) = unfinished_row d line len

@@ -1,5 +1,6 @@
 -- The verdict of a report: whether the recording is clean, what needs a look, and all counts. It is known at the end, and written
 -- there; the style shows it first.
+use Rattle.std.specs.Fmt.{decimal}
 use Rattle.std.specs.Prelude.{ℕ, ◌==◌, ◌&&◌, Bool, List, [], ◌++◌, codes, if◌then◌else◌}
 use Rattle.trace_canon.specs.MessageLines.{stamp_text}
 use Rattle.trace_report.specs.Counts.{counts_text}
@@ -8,6 +9,8 @@ use Rattle.trace_report.specs.Words.{seconds_between}
 use Rattle.trace_canon.specs.Summing.{is_clean}
 use Rattle.trace_report.specs.declared.counts.SortCounts.{SortCounts}
 use Rattle.trace_report.specs.declared.tally.Tally.{Tally}
+use Rattle.trace_canon.specs.declared.fault.Fault.{Fault}
+use Rattle.trace_canon.specs.declared.fault.Fault.TheVariants as fault
 use Rattle.trace_canon.specs.declared.summary.Summary.{Summary}
 
 -- from when to when
@@ -68,8 +71,42 @@ answers_text asked refused missing =
 abbrev pub answers_of : SortCounts → List ℕ
 answers_of counts = answers_text counts.requests counts.negatives counts.unanswered
 
--- the verdict of a log with this tally, whose first frame and last one have these times
+-- what was found of a log with this tally, whose first frame and last one have these times
+abbrev pub findings_text : Tally → Summary → ℕ → ℕ → List ℕ
+findings_text tally summary first last =
+    look_text tally ++ counts_text tally.counts summary ++ span_of summary.frames first last ++ codes "</section>\n"
+
+-- the verdict of such a log
 abbrev pub verdict_text : Tally → Summary → ℕ → ℕ → List ℕ
-verdict_text tally summary first last =
-    heading_text summary ++ answers_of tally.counts ++ codes "</p>\n" ++ look_text tally ++ counts_text tally.counts summary
-    ++ span_of summary.frames first last ++ codes "</section>\n"
+verdict_text tally summary first last = heading_text summary ++ answers_of tally.counts ++ codes "</p>\n" ++ findings_text tally summary first last
+
+-- A log that is refused.
+
+-- a place that no log can have
+abbrev pub place_words : ℕ → ℕ → List ℕ
+place_words line column = codes "line " ++ decimal line ++ codes " column " ++ decimal column ++ codes ": not a log line"
+
+-- why it is refused, as the program tells it; no other reason is told on a page
+abbrev pub refusal_words : Fault → List ℕ
+refusal_words (fault.BadLine line column) = place_words line column
+refusal_words fault.LogLimit = codes "log longer than the limit"
+refusal_words (fault.Oversize line announced) = []
+refusal_words fault.OutputLimit = []
+refusal_words fault.Read = []
+refusal_words fault.Write = []
+refusal_words fault.Memory = []
+
+-- where its rows stop
+abbrev pub stop_line : Fault → List ℕ
+stop_line why = codes "<p class=\"stop\"><b>Refused here:</b> " ++ refusal_words why ++ codes ".</p>\n"
+
+-- the heading, and its sentences
+abbrev pub refused_heading : Fault → List ℕ
+refused_heading why =
+    codes "<section id=\"verdict\" class=\"bad\">\n<h2><span aria-hidden=\"true\">&#10005;</span> The log is refused</h2>\n<p><em>"
+    ++ refusal_words why
+    ++ codes ".</em> Below is what the lines before that say; what comes after it is not read, and the counts are of the lines before.</p>\n"
+
+-- the verdict of a log that is refused, by what the lines before say
+abbrev pub refused_verdict : Fault → Tally → Summary → ℕ → ℕ → List ℕ
+refused_verdict why tally summary first last = refused_heading why ++ findings_text tally summary first last

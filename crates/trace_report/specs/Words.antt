@@ -110,6 +110,15 @@ folded_data front rest =
 abbrev pub cut_data : List ℕ → ℕ → List ℕ
 cut_data front more = codes "<code>" ++ bytes_apart front ++ codes "</code> <i>" ++ decimal more ++ codes " bytes more, not shown</i>"
 
+-- the first bytes of a message, and how many others it has, for a brief row
+abbrev pub brief_cut : List ℕ → ℕ → List ℕ
+brief_cut front more = bytes_apart front ++ codes " and " ++ decimal more ++ codes " bytes more"
+
+-- the bytes of a message, as far as a brief row shows them
+abbrev pub brief_data : List ℕ → List ℕ
+brief_data bytes =
+    if nat_le (length bytes) shown_first then bytes_apart bytes else brief_cut (take shown_first bytes) (length bytes - shown_first)
+
 -- the bytes of a message, as far as its row shows them
 abbrev pub data_text : List ℕ → List ℕ
 data_text bytes =

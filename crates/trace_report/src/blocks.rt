@@ -82,6 +82,13 @@ pub(crate) fn one_more_row(exchange: bool, blocks: Blocks) -> Blocks
     }
 }
 
+/// Whether the rows of the last block are brief.
+pub(crate) fn is_brief(blocks: Blocks) -> bool
+    ensures { result ≡ Spec.is_brief blocks }
+{
+    blocks.count > OPEN_BLOCKS
+}
+
 /// Says what begins before a row: a block, and a body of the table with each exchange.
 pub(crate) fn say_opening<S: TextSink>(origin: u64, blocks: Blocks, row: Row<'_>, out: &mut S)
     ensures { S.says out.old (opening_text origin blocks (row_of row.entry)) out.new }
@@ -170,7 +177,7 @@ fn say_message_title<S: TextSink>(origin: u64, place: MessagePlace, out: &mut S)
     say_text(out, ", line ");
     say_number(out, place.first.line);
     say_text(out, ", ");
-    say_seconds_between(origin, place.last.micros, out);
+    say_seconds_between(origin, place.first.micros, out);
     say_text(out, " s");
 }
 

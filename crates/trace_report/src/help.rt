@@ -85,11 +85,11 @@ fn say_limits<S: TextSink>(out: &mut S)
 {
     say_text(
         out,
-        "<p>Frames with other identifiers, padding, flow control and the interface mean nothing here. A message of which no frame was recorded leaves no trace, also in a clean recording. ",
+        "<p>Frames with other identifiers, padding, the interface, and flow control that is in its place mean nothing here. A message of which no frame was recorded leaves no trace, also in a clean recording. ",
     );
     say_text(
         out,
-        "Grey letters after the bytes are those same bytes as text. In a long session the first ten blocks are open, and the others folded.</p>\n</footer>\n",
+        "Grey letters after the bytes are those same bytes as text. In a long session the first ten blocks are open, and the others folded and brief.</p>\n</footer>\n",
     );
 }
 

@@ -9,6 +9,7 @@
 #![tactic(auto)]
 
 mod blocks;
+mod brief_rows;
 mod cells;
 mod chart;
 mod counts;

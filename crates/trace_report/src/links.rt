@@ -38,11 +38,11 @@ pub(crate) fn say_look_line<S: TextSink>(
 fn say_look_entry<S: TextSink>(words: &str, link: Link, count: u64, first: &[u64], out: &mut S)
     ensures { S.says out.old (look_entry words.now link count first.now) out.new }
 {
-    say_text(out, "<li><b>");
-    say_number(out, count);
-    say_text(out, "</b> ");
+    say_text(out, "<li>");
     say_text(out, words);
-    say_text(out, ": ");
+    say_text(out, " <b>");
+    say_number(out, count);
+    say_text(out, "</b>: ");
     say_links(link, first, out);
     say_more(count, out);
     say_text(out, "\n");

@@ -147,7 +147,7 @@ fn say_reason_words<S: TextSink>(reason: Reason, out: &mut S)
     match reason {
         Reason::Pdu(fault) => say_layout_fault_words(fault, out),
         Reason::FlowUnexpected => {
-            say_text(out, " <i>the other side was not sending several frames</i>");
+            say_text(out, " <i>the other side was sending nothing that it could be for</i>");
         }
         Reason::NextUnexpected => {
             say_text(out, " <i>no message was under way that it goes on with</i>");
@@ -169,10 +169,10 @@ fn say_layout_fault_words<S: TextSink>(fault: PduFault, out: &mut S)
             say_text(out, " <i>its first byte is of no kind of ISO-TP frame</i>");
         }
         PduFault::SingleLength => {
-            say_text(out, " <i>it does not hold the length that it tells</i>");
+            say_text(out, " <i>its length does not fit the length that it tells</i>");
         }
         PduFault::FirstLength => {
-            say_text(out, " <i>it announces a length that no first frame has</i>");
+            say_text(out, " <i>its length, or the one that it announces, is that of no first frame</i>");
         }
         PduFault::FlowShort => say_text(out, " <i>it has fewer than 3 bytes</i>"),
         PduFault::FlowStatus => {
@@ -224,8 +224,8 @@ fn say_cause_words<S: TextSink>(cause: Cause, out: &mut S)
             );
         }
         Cause::Overflow => say_text(out, "the other side said that it has no room"),
-        Cause::Late => say_text(out, "its next frame came more than 1 s late"),
-        Cause::Sequence => say_text(out, "a frame is missing, or came out of order"),
+        Cause::Late => say_text(out, "its next frame came after more than 1 s"),
+        Cause::Sequence => say_text(out, "a frame is missing, came twice or out of order"),
         Cause::Length => say_text(out, "a frame has another length than its first one"),
     }
 }

@@ -31,7 +31,7 @@ pub(crate) fn say_message_row<S: TextSink>(
 }
 
 /// Says where a message stands.
-fn say_message_front<S: TextSink>(origin: u64, role: MessageRole, place: MessagePlace, out: &mut S)
+pub(crate) fn say_message_front<S: TextSink>(origin: u64, role: MessageRole, place: MessagePlace, out: &mut S)
     ensures { S.says out.old (message_front origin role place) out.new }
 {
     say_text(out, "<tr class=\"");
@@ -237,7 +237,7 @@ fn say_after_alone<S: TextSink>(asked: u64, first: u64, out: &mut S)
 }
 
 /// Says how long after a request a frame came.
-fn say_after<S: TextSink>(asked: u64, first: u64, out: &mut S)
+pub(crate) fn say_after<S: TextSink>(asked: u64, first: u64, out: &mut S)
     ensures { S.says out.old (after_text asked first) out.new }
 {
     say_text(out, "after ");

@@ -11,7 +11,7 @@ ghost use Rattle.trace_canon.specs.declared.fault.Fault.TheVariants.{Memory};
 ghost use Rattle.trace_io.specs.Stream.{Agrees};
 ghost use Rattle.trace_io.specs.Counted.{IsLowCount, AreLowCounts};
 ghost use Rattle.trace_report.specs.Front.{page_title};
-ghost use Rattle.trace_report.specs.Page.{first_time, front_before, last_time, page_end, report_script};
+ghost use Rattle.trace_report.specs.Page.{first_time, front_before, last_time, page_end, refused_end, report_script};
 ghost use Rattle.trace_report.specs.proving.Following.{span_of};
 ghost use Rattle.trace_report.specs.proving.Pages.{title_of};
 
@@ -20,7 +20,8 @@ use crate::chart::Chart;
 use crate::follower::Follower;
 use crate::front::{Title, say_front};
 use crate::help::say_help;
-use crate::tally::say_verdict;
+use crate::tally::{say_refused_verdict, say_verdict};
+use crate::verdict::say_stop_line;
 use direction::Dir;
 use isotp_receive::{Event, Pair};
 use std::alloc::{AllocError, Global};
@@ -157,6 +158,17 @@ impl<'a> Machine for Reporter<'a> {
         say_page_end(&chart, summary, origin, last_of(span), out);
         Ok(*summary)
     }
+
+    fn refused<S: TextSink>(self, summary: &Summary, why: Fault, out: &mut S) {
+        let Reporter {
+            title,
+            span,
+            follower: _,
+            chart,
+        } = self;
+        let origin = say_front_before(&title, span, 0, out);
+        say_refused_end(why, &chart, summary, origin, last_of(span), out);
+    }
 }
 
 /// Says the front of the page, where no frame came before. Answers the time of the first frame, which is this where none did.
@@ -196,5 +208,23 @@ fn say_page_end<S: TextSink>(chart: &Chart, summary: &Summary, first: u64, last:
     say_block_end(chart.blocks.count, out);
     say_text(out, "</main>\n");
     say_verdict(&chart.tally, summary, first, last, out);
+    say_help(out);
+}
+
+/// Says the same of the page of a log that is refused.
+fn say_refused_end<S: TextSink>(
+    why: Fault,
+    chart: &Chart,
+    summary: &Summary,
+    first: u64,
+    last: u64,
+    out: &mut S,
+)
+    ensures { S.says out.old (refused_end why chart.now.blocks chart.now.tally summary.now first last) out.new }
+{
+    say_block_end(chart.blocks.count, out);
+    say_stop_line(why, out);
+    say_text(out, "</main>\n");
+    say_refused_verdict(why, &chart.tally, summary, first, last, out);
     say_help(out);
 }

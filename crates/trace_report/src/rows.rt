@@ -4,25 +4,25 @@ ghost use Rattle.trace_report.specs.Blocks.{blocks_behind, rows_text};
 ghost use Rattle.trace_report.specs.Rows.{row_text};
 ghost use Rattle.trace_report.specs.proving.Pages.{row_of};
 
-use crate::blocks::{Blocks, begins_exchange, one_more_row, say_opening};
+use crate::blocks::{Blocks, begins_exchange, is_brief, one_more_row, say_opening};
+use crate::brief_rows::say_message;
 use crate::lost_rows::{say_dropped_row, say_ended_row, say_no_answer_row, say_unfinished_row};
-use crate::message_rows::say_message_row;
 use crate::row::Row;
 use trace_canon::TextSink;
 
 /// Says a row behind those before, and what begins before it.
 pub(crate) fn say_next_row<S: TextSink>(origin: u64, blocks: &mut Blocks, row: Row<'_>, out: &mut S)
-    ensures says { S.says out.old (rows_text origin blocks.old (row_of row.entry ∷ [])) out.new }
+    ensures says { blocks.old.count < 2 ^ 64 - 1 → blocks.old.rows < 2 ^ 64 - 1 → S.says out.old (rows_text origin blocks.old (row_of row.entry ∷ [])) out.new }
     ensures stands { blocks.old.count < 2 ^ 64 - 1 → blocks.old.rows < 2 ^ 64 - 1 → blocks.new ≡ blocks_behind blocks.old (row_of row.entry ∷ []) }
 {
     say_opening(origin, *blocks, row, out);
-    say_row(origin, row, out);
     *blocks = one_more_row(begins_exchange(row), *blocks);
+    say_row(is_brief(*blocks), origin, row, out);
 }
 
-/// Says a row, in a page whose first frame has the time `origin`.
-pub(crate) fn say_row<S: TextSink>(origin: u64, row: Row<'_>, out: &mut S)
-    ensures { S.says out.old (row_text origin (row_of row.entry)) out.new }
+/// Says a row, in a page whose first frame has the time `origin`, in a block of brief rows or in another.
+fn say_row<S: TextSink>(brief: bool, origin: u64, row: Row<'_>, out: &mut S)
+    ensures { S.says out.old (row_text brief origin (row_of row.entry)) out.new }
 {
     match row {
         Row::Message {
@@ -30,7 +30,7 @@ pub(crate) fn say_row<S: TextSink>(origin: u64, row: Row<'_>, out: &mut S)
             dir,
             place,
             message,
-        } => { say_message_row(origin, role, dir, place, message, out) }
+        } => { say_message(brief, origin, role, dir, place, message, out) }
         Row::NoAnswer { number, silent } => say_no_answer_row(number, silent, out),
         Row::Dropped {
             place,

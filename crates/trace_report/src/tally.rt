@@ -4,7 +4,7 @@ ghost use Rattle.trace_report.specs.Links.{look_lines, look_list, look_text};
 ghost use Rattle.trace_report.specs.Links as Links;
 ghost use Rattle.trace_report.specs.Rows.{RowValue};
 ghost use Rattle.trace_report.specs.Sorts.{first_targets, most_links, tally_of};
-ghost use Rattle.trace_report.specs.Verdict.{verdict_text};
+ghost use Rattle.trace_report.specs.Verdict.{findings_text, refused_verdict, verdict_text};
 ghost use Rattle.trace_report.specs.proving.Pages.{row_of};
 ghost use Rattle.trace_report.specs.proving.Tallying.{first_with};
 
@@ -12,10 +12,10 @@ use crate::counts::{SortCounts, say_answers_of, say_counts};
 use crate::links::{Link, say_look_line};
 use crate::row::Row;
 use crate::sorts::{Sort, sort_of, target_of};
-use crate::verdict::{say_heading, say_span_of};
+use crate::verdict::{say_heading, say_refused_heading, say_span_of};
 use arrayvec::ArrayVec;
 use trace_canon::say::say_text;
-use trace_canon::{Summary, TextSink};
+use trace_canon::{Fault, Summary, TextSink};
 
 /// Of each sort that needs a look, where links to its first rows lead.
 #[derive(Debug, Drop)]
@@ -110,6 +110,34 @@ pub(crate) fn say_verdict<S: TextSink>(
     say_heading(summary, out);
     say_answers_of(&tally.counts, out);
     say_text(out, "</p>\n");
+    say_findings(tally, summary, first, last, out);
+}
+
+/// Says the verdict of a log that is refused, by what the lines before say.
+pub(crate) fn say_refused_verdict<S: TextSink>(
+    why: Fault,
+    tally: &Tally,
+    summary: &Summary,
+    first: u64,
+    last: u64,
+    out: &mut S,
+)
+    ensures { S.says out.old (refused_verdict why tally.now summary.now first last) out.new }
+{
+    say_refused_heading(why, out);
+    say_findings(tally, summary, first, last, out);
+}
+
+/// Says what was found of a log with this tally, whose first frame and last one have these times.
+fn say_findings<S: TextSink>(
+    tally: &Tally,
+    summary: &Summary,
+    first: u64,
+    last: u64,
+    out: &mut S,
+)
+    ensures { S.says out.old (findings_text tally.now summary.now first last) out.new }
+{
     say_look(tally, out);
     say_counts(&tally.counts, summary, out);
     say_span_of(summary.frames, first, last, out);

@@ -1,11 +1,11 @@
 //! The parts of a report's verdict: its heading, whether each answer is positive, and the time that the log spans.
 ghost use Rattle.std.specs.Prelude.{◌≡◌};
-ghost use Rattle.trace_report.specs.Verdict.{answers_text, clean_verdict, empty_verdict, heading_text, span_of, span_text, unclean_reason, unclean_verdict};
+ghost use Rattle.trace_report.specs.Verdict.{answers_text, clean_verdict, empty_verdict, heading_text, place_words, refusal_words, refused_heading, span_of, span_text, stop_line, unclean_reason, unclean_verdict};
 ghost use Rattle.trace_report.specs.Verdict as Spec;
 
 use crate::words::{say_seconds_between, say_stamp};
-use trace_canon::say::say_text;
-use trace_canon::{Summary, TextSink};
+use trace_canon::say::{say_length, say_number, say_text};
+use trace_canon::{Fault, Summary, TextSink};
 
 /// Says the heading, and its sentence.
 pub(crate) fn say_heading<S: TextSink>(summary: &Summary, out: &mut S)
@@ -115,4 +115,54 @@ fn say_span<S: TextSink>(first: u64, last: u64, out: &mut S)
     say_text(out, " by the clock of the log: ");
     say_seconds_between(first, last, out);
     say_text(out, " s.</p>\n");
+}
+
+/// Says where the rows of a log that is refused stop.
+pub(crate) fn say_stop_line<S: TextSink>(why: Fault, out: &mut S)
+    ensures { S.says out.old (stop_line why) out.new }
+{
+    say_text(out, "<p class=\"stop\"><b>Refused here:</b> ");
+    say_refusal(why, out);
+    say_text(out, ".</p>\n");
+}
+
+/// Says the heading of a log that is refused, and its sentences.
+pub(crate) fn say_refused_heading<S: TextSink>(why: Fault, out: &mut S)
+    ensures { S.says out.old (refused_heading why) out.new }
+{
+    say_text(
+        out,
+        "<section id=\"verdict\" class=\"bad\">\n<h2><span aria-hidden=\"true\">&#10005;</span> The log is refused</h2>\n<p><em>",
+    );
+    say_refusal(why, out);
+    say_text(
+        out,
+        ".</em> Below is what the lines before that say; what comes after it is not read, and the counts are of the lines before.</p>\n",
+    );
+}
+
+/// Says why a log is refused, as the program tells it.
+fn say_refusal<S: TextSink>(why: Fault, out: &mut S)
+    ensures { S.says out.old (refusal_words why) out.new }
+{
+    match why {
+        Fault::BadLine { line, column } => say_place(line, column, out),
+        Fault::LogLimit => say_text(out, "log longer than the limit"),
+        Fault::Oversize { .. }
+        | Fault::OutputLimit
+        | Fault::Read
+        | Fault::Write
+        | Fault::Memory => {}
+    }
+}
+
+/// Says a place that no log can have.
+fn say_place<S: TextSink>(line: u64, column: u32, out: &mut S)
+    ensures { S.says out.old (place_words line column) out.new }
+{
+    say_text(out, "line ");
+    say_number(out, line);
+    say_text(out, " column ");
+    say_length(out, column);
+    say_text(out, ": not a log line");
 }

@@ -2,7 +2,7 @@
 ghost use Rattle.std.specs.Prelude.{◌≡◌, length};
 ghost use Rattle.std.specs.Fmt.{decimal};
 ghost use Rattle.trace_canon.specs.MessageLines.{stamp_text};
-ghost use Rattle.trace_report.specs.Words.{byte_behind, bytes_apart, bytes_behind, cut_data, data_text, folded_data, grey_letters, letter_text, letters, letters_text, milliseconds_between, milliseconds_text, seconds_between, short_data, sign_text};
+ghost use Rattle.trace_report.specs.Words.{brief_cut, brief_data, byte_behind, bytes_apart, bytes_behind, cut_data, data_text, folded_data, grey_letters, letter_text, letters, letters_text, milliseconds_between, milliseconds_text, seconds_between, short_data, sign_text};
 ghost use Rattle.trace_report.specs.Words as Spec;
 
 use trace_canon::TextSink;
@@ -194,6 +194,28 @@ pub(crate) fn say_data<S: TextSink>(bytes: &[u8], out: &mut S)
             say_cut_data(front, rest.len() as u64, out);
         }
     }
+}
+
+/// Says the bytes of a message, as far as a brief row shows them.
+pub(crate) fn say_brief_data<S: TextSink>(bytes: &[u8], out: &mut S)
+    ensures { S.says out.old (brief_data bytes.now) out.new }
+{
+    if bytes.len() <= SHOWN_FIRST {
+        say_bytes_apart(bytes, out);
+    } else {
+        let (front, rest) = bytes.split_at(SHOWN_FIRST);
+        say_brief_cut(front, rest.len() as u64, out);
+    }
+}
+
+/// Says the first bytes of a message, and how many others it has.
+fn say_brief_cut<S: TextSink>(front: &[u8], more: u64, out: &mut S)
+    ensures { S.says out.old (brief_cut front.now more) out.new }
+{
+    say_bytes_apart(front, out);
+    say_text(out, " and ");
+    say_number(out, more);
+    say_text(out, " bytes more");
 }
 
 /// Says all bytes of a short message.

@@ -8,13 +8,13 @@ pub returns-clause-never_oversize : goal.returns-clause-never_oversize
 returns-clause-never_oversize g c =
     let all = c.run.ensures.ran in
     let script = placing_script c.args.notation MESSAGE_LIMIT in
-    never_oversize script.word script.last c.args.config.now all.read.gave.bytes _ c.run.result _ _ (all.answer all.read.gave.bytes (given_agrees all.read.gave))
+    never_oversize script.word script.last script.refused c.args.config.now all.read.gave.bytes _ c.run.result _ _ (all.answer all.read.gave.bytes (given_agrees all.read.gave))
 
 pub returns-clause-never_output_limit : goal.returns-clause-never_output_limit
 returns-clause-never_output_limit g c =
     let all = c.run.ensures.ran in
     let script = placing_script c.args.notation MESSAGE_LIMIT in
-    never_output_limit script.word script.last c.args.config.now all.read.gave.bytes _ c.run.result _ _ (all.answer all.read.gave.bytes (given_agrees all.read.gave))
+    never_output_limit script.word script.last script.refused c.args.config.now all.read.gave.bytes _ c.run.result _ _ (all.answer all.read.gave.bytes (given_agrees all.read.gave))
 
 pub returns-clause-memory : goal.returns-clause-memory
 returns-clause-memory g c = λ log agrees refused. needs_to_receive c.args.config.now log (c.run.ensures.ran.memory log agrees refused)

@@ -2,9 +2,4 @@ use Rattle.trace_report.proofs.tally.say_verdict.Goals as goal
 
 pub returns : goal.returns
 returns g c =
-    g.met.S.TextSink.onward _ _ _ _ _ (g.met.S.TextSink.onward _ _ _ _ _ (g.met.S.TextSink.onward _ _ _ _ _ (g.met.S.TextSink.onward _ _ _ _ _ (g.met.S.TextSink.onward _ _ _ _ _ (g.met.S.TextSink.onward _ _ _ _ _ c.say_heading.ensures c.say_answers_of.ensures)
-    c.say_text.ensures)
-    c.say_look.ensures)
-    c.say_counts.ensures)
-    c.say_span_of.ensures)
-    c.say_text-2.ensures
+    g.met.S.TextSink.onward _ _ _ _ _ (g.met.S.TextSink.onward _ _ _ _ _ (g.met.S.TextSink.onward _ _ _ _ _ c.say_heading.ensures c.say_answers_of.ensures) c.say_text.ensures) c.say_findings.ensures
