@@ -2,8 +2,8 @@
 
 ghost use Rattle.std.specs.Prelude.{◌≡◌, [], ◌∷◌, IfOk, false};
 ghost use Rattle.clap.specs.Words.{app_of, rule_of, with_subcommand};
-ghost use Rattle.udsnorm.specs.Commands.{commands, file, flag, limit, option, program};
-ghost use Rattle.udsnorm.specs.proving.Rows.{rules_of_group, rule_of_argument, shape_of_row, with_rows, with_rules};
+ghost use Rattle.udsnorm.specs.Commands.{command_entries, commands, file, flag, limit, option, program};
+ghost use Rattle.udsnorm.specs.proving.Rows.{rules_of_group, rule_of_argument, shape_of_row, with_entries, with_rows, with_rules};
 
 use crate::commands::{Argument, COMMANDS, CommandRow, LIMIT};
 use clap::{Arg, ArgAction, Command, value_parser};
@@ -32,7 +32,14 @@ Example: udsnorm compare yesterday.log today.log";
 pub(crate) fn command<'a>(alloc: Global) -> Result<Command<'a>, AllocError>
     ensures { IfOk result (λ c. app_of c ≡ commands) }
 {
-    with_rows(alloc, program(alloc)?, COMMANDS)
+    with_commands(alloc, program(alloc)?)
+}
+
+/// The program with its commands.
+fn with_commands<'a>(alloc: Global, program: Command<'a>) -> Result<Command<'a>, AllocError>
+    ensures { IfOk result (λ c. app_of c ≡ with_entries (app_of program.entry) command_entries) }
+{
+    with_rows(alloc, program, COMMANDS)
 }
 
 /// The program with more commands.

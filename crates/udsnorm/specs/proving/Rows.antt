@@ -3,7 +3,7 @@ use Rattle.std.specs.Prelude.{List, [], ◌∷◌, ◌++◌, map}
 use Rattle.std.specs.List.{flat_map}
 use Rattle.clap.specs.Simple.{App, Shape, new_shape, with_subcommand}
 use Rattle.clap.specs.Walk.{Rule}
-use Rattle.udsnorm.specs.Commands.{file, flag, limit, option}
+use Rattle.udsnorm.specs.Commands.{CommandEntry, file, flag, limit, option, shape_of}
 use Rattle.udsnorm.specs.declared.commands.Argument.{Argument}
 use Rattle.udsnorm.specs.declared.commands.Argument.TheVariants as argument
 use Rattle.udsnorm.specs.declared.commands.CommandRow.{CommandRow}
@@ -31,3 +31,8 @@ with_rules app rules = record app { top = record app.top { rules = app.top.rules
 abbrev pub with_rows : App → List CommandRow → App
 with_rows app [] = app
 with_rows app (row ∷ rows) = with_rows (with_subcommand app (shape_of_row row)) rows
+
+-- a program with more commands, by their entries
+abbrev pub with_entries : App → List CommandEntry → App
+with_entries app [] = app
+with_entries app (entry ∷ entries) = with_entries (with_subcommand app (shape_of entry)) entries
