@@ -9,17 +9,15 @@ Prints a line for each case, with what was measured, and ends with `N passed, M 
 import itertools
 import os
 import re
-import subprocess
 import sys
 import tempfile
 import time
-from collections import namedtuple
 from fractions import Fraction
 
 import oracle
 from cases import DIFFERENT, DONE, REFUSAL, Cases
 from counts import counts_line
-from runs import end, give, peak_kilobytes, start
+from runs import peak
 from told import place
 
 # The lengths that a frame may have, and those that a first frame may have.
@@ -86,9 +84,6 @@ FOUND = Fraction(100, 44)
 
 # Those of what a log means for each byte of its canonical log.
 MEANT_CANONICAL = Fraction(96, 46)
-
-# What a job took: its most kilobytes, or none, and its status.
-Peak = namedtuple("Peak", "kilobytes status")
 
 # What explain says of two of the longest messages that lack their last frames, before it counts.
 UNFINISHED = b"""\
@@ -257,17 +252,6 @@ def one_line_of_error(cases):
             is_told = number == 4 and (status, text, error) == (DONE, ANNOUNCED.get(job), b"")
             is_line = status == REFUSAL and error.count(b"\n") == 1 and error.endswith(b"\n") and len(error) < 80
             cases.report(f"{job} of refused log {number}: {error!r}", [] if is_told or is_line else [f"status {status}"])
-
-
-def peak(program, words, log):
-    """The most kilobytes that a job has, until it has read a log through a pipe, and its status. A job that ends before has
-    none."""
-    running = start(program, words, stdout=subprocess.DEVNULL, stderr=subprocess.DEVNULL)
-    is_read = give(running, log)
-    # A pipe holds 65,536 bytes, of which no word can tell whether they were read.
-    time.sleep(0.1)
-    kilobytes = peak_kilobytes(running) if is_read else None
-    return Peak(kilobytes, end(running).status)
 
 
 def holds_at_most(cases, words, name, log, most, wanted):
