@@ -312,12 +312,19 @@ def blocks_of(rows):
     return blocks
 
 
+BLOCK_END = "</table>\n</details>\n"
+
+
+def blocks_text(origin, rows):
+    return "".join(block_text(origin, place, block) for place, block in enumerate(blocks_of(rows)))
+
+
 def block_text(origin, place, rows):
     """A block, by how many stand before it. With each request a body of the table begins."""
     opened = " open" if place < OPEN_BLOCKS else ""
     bodies = [("<tbody>\n" if n == 0 or is_request(row) else "") + row_text(origin, row) for n, row in enumerate(rows)]
     summary = f"<summary>{block_title(origin, rows[0])}</summary>"
-    return f'<details class="b"{opened}>\n{summary}\n{TABLE_START}{"".join(bodies)}</table>\n</details>\n'
+    return f'<details class="b"{opened}>\n{summary}\n{TABLE_START}{"".join(bodies)}{BLOCK_END}'
 
 
 def block_title(origin, row):
@@ -402,7 +409,7 @@ def span_text(frames):
     return f'<p class="span">{clock}: {seconds(first, last)} s.</p>\n'
 
 
-def clean_verdict(log, frames, counts):
+def heading(log, frames, counts):
     """The look, the sign and the words of the heading, and the sentence below it, of a log that is not refused."""
     senders = {entry.direction for entry in frames}
     lost = counts["dropped"] + counts["ended"] + counts["unfinished"]
@@ -429,7 +436,8 @@ def answers_text(counts):
     return " No answer is negative, and none is missing."
 
 
-def refused_verdict(fault):
+def refused_heading(fault):
+    """The same of a refused one."""
     before = "Below is what the lines before that say; what comes after it is not read, and the counts are of the lines before."
     return "bad", "&#10005;", "The log is refused", f"<em>{fault}.</em> {before}"
 
@@ -525,22 +533,33 @@ def page(log, name, refused=None, sides=SIDES):
     rows = rows_of(frames) + ([] if refused else end_rows(frames))
     counts = Counter(map(row_kind, rows))
     counts.update(lines=len(lines), frames=len(frames), messages=sum(isinstance(row, Message) for row in rows))
-    look, mark, heading, sentence = refused_verdict(refused.fault) if refused else clean_verdict(log, frames, counts)
+    look, mark, words, sentence = refused_heading(refused.fault) if refused else heading(log, frames, counts)
     verdict = VERDICT.format(
         look=look,
         sign=mark,
-        heading=heading,
+        heading=words,
         sentence=sentence,
         answers="" if refused else answers_text(counts),
         looks=look_text(rows),
         counts=counts_text(counts),
         span=span_text(frames),
     )
-    origin = frames[0].micros if frames else 0
-    blocks = "".join(block_text(origin, place, block) for place, block in enumerate(blocks_of(rows)))
+    blocks = blocks_text(frames[0].micros if frames else 0, rows)
     stop = STOP.format(fault=refused.fault) if refused else ""
-    front = FRONT.format(name=name_text(name), style=STYLE, **sides)
-    return f"{front}{blocks}{stop}{verdict}{HELP}".encode("ascii")
+    return f"{front_text(name, sides)}{blocks}{stop}{verdict}{HELP}".encode("ascii")
+
+
+def front_text(name, sides):
+    return FRONT.format(name=name_text(name), style=STYLE, **sides)
+
+
+def begun(log, name=STANDARD_INPUT, sides=SIDES):
+    """What is written of a page while more lines of its log may come: it begins with the first frame, and its last block has no
+    end."""
+    frames = oracle.trace(oracle.cut(log), sides)
+    if not frames:
+        return b""
+    return (front_text(name, sides) + blocks_text(frames[0].micros, rows_of(frames)).removesuffix(BLOCK_END)).encode("ascii")
 
 
 def reported(log, limit=GIBIBYTE, sides=SIDES, name=STANDARD_INPUT):
