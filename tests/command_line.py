@@ -12,6 +12,7 @@ import sys
 import tempfile
 from pathlib import Path
 
+import report_oracle
 from cases import DEVICE, DIFFERENT, DONE, REFUSAL, UNCLEAN, WORDS, Cases
 from counts import counts_line
 from objects import in_objects
@@ -26,6 +27,7 @@ LIST_JSON = b'{"item":1,"kind":"exchange","service":"ReadDataByIdentifier","requ
 EXPLANATION = counts_line(LOG, CANONICAL)
 PLACES = b"1 request tester lines 1 to 1 at 1700000000.000000 to 1700000000.000000 22F190\n"
 TEXTS = {"normalise": CANONICAL, "list": LIST, "watch": LIST, "explain": EXPLANATION, "messages": PLACES, "find": b""}
+JOBS = [*TEXTS, "report"]
 
 NO_LOG_LINE = b"(1.000000) can0 7E0#0\n"
 OVERSIZE = b"(1.000000) can0 7E8#1000001000004142\n"
@@ -92,6 +94,14 @@ MESSAGES_HELP = [
     NOT_CLEAN,
     b"Example: udsnorm messages recorded.log | grep '^12 '",
 ]
+REPORT_HELP = [
+    b"Writes the session as a page of HTML, in one file",
+    b"Usage: udsnorm report [OPTIONS] [LOG]",
+    b"  [LOG]  The recorded log; without it standard input is read",
+    FAILED_DEVICE + b",",
+    NOT_CLEAN,
+    b"Example: udsnorm report recorded.log > session.html",
+]
 FIND_HELP = [
     b"Writes which identifiers ask and which answer, for a log whose identifiers nobody told",
     b"Usage: udsnorm find [OPTIONS] [LOG]",
@@ -119,18 +129,25 @@ HELPS = [
     (["watch", "--help"], WATCH_HELP),
     (["explain", "-h"], EXPLAIN_HELP),
     (["messages", "--help"], MESSAGES_HELP),
+    (["report", "--help"], REPORT_HELP),
     (["find", "--help"], FIND_HELP),
     (["compare", "--help"], COMPARE_HELP),
     (["list", "--tester", "7E", "-h"], LIST_HELP),
 ]
 
 
+def text_of(job, file=None):
+    """What a job writes of the log, which is in this file where one is given. A page has its name."""
+    name = report_oracle.STANDARD_INPUT if file is None else report_oracle.last_part(file.encode())
+    return report_oracle.page(LOG, name) if job == "report" else TEXTS[job]
+
+
 def jobs(cases):
     """Each job, over standard input and over a file, whose name may look like an option."""
     cases.case("no words", cases.run([], LOG), DONE, CANONICAL)
-    for job, text in TEXTS.items():
-        cases.case(f"{job} of standard input", cases.run([job], LOG), DONE, text)
-        cases.case(f"{job} of a file", cases.run([job, "a.log"]), DONE, text)
+    for job in JOBS:
+        cases.case(f"{job} of standard input", cases.run([job], LOG), DONE, text_of(job))
+        cases.case(f"{job} of a file", cases.run([job, "a.log"]), DONE, text_of(job, "a.log"))
     cases.case("a file named -", cases.run(["list", "-"], b""), DONE, LIST)
     cases.case("a file named --limit", cases.run(["list", "--", "--limit"], b""), DONE, LIST)
     cases.case("a file whose name is no ASCII", cases.run(["list", "größe.log"], b""), DONE, LIST)
@@ -161,10 +178,10 @@ def options(cases):
 def strict_runs(cases):
     """A log has to be clean, which is told after its text; a refusal and a failed device come before that."""
     lacks_answer = b"not clean: frames 1 dropped 0 ended 0 unfinished 0, no frame of the unit\n"
-    for job, text in TEXTS.items():
+    for job in JOBS:
         if job == "find":
             continue
-        cases.case(f"{job} --strict", cases.run([job, "--strict"], LOG), UNCLEAN, text, lacks_answer)
+        cases.case(f"{job} --strict", cases.run([job, "--strict"], LOG), UNCLEAN, text_of(job), lacks_answer)
         cases.case(f"{job} of a file, --strict", cases.run([job, "clean.log", "--strict"]), DONE, None, b"")
     cases.case("--strict, a refused log", cases.run(["list", "--strict"], NO_LOG_LINE), REFUSAL, b"", BAD_PLACE)
     with open("/dev/full", "wb") as full:
@@ -278,7 +295,7 @@ def comparisons(cases):
 
 
 def files_that_fail(cases):
-    for job in TEXTS:
+    for job in JOBS:
         cases.case(f"{job} of a file that is not there", cases.run([job, "missing"]), DEVICE, b"", READ_FAILED)
         cases.case(f"{job} of a directory", cases.run([job, "."]), DEVICE, b"", READ_FAILED)
         cases.case(f"{job} of an empty name", cases.run([job, ""]), DEVICE, b"", READ_FAILED)
@@ -302,8 +319,8 @@ def paths_of_each_size(cases):
         if 0 < size < 7:
             Path(path).write_bytes(LOG)
         is_path = 0 < size < PATH_MAX
-        for job, text in TEXTS.items():
-            want = (DONE, text, b"") if is_path else (DEVICE, b"", READ_FAILED)
+        for job in JOBS:
+            want = (DONE, text_of(job, path), b"") if is_path else (DEVICE, b"", READ_FAILED)
             cases.case(f"{job} of a path of {size} bytes", cases.run([job, path]), *want)
         for words, side in [([path, "a.log"], b"left: "), (["a.log", path], b"right: ")]:
             want = (DONE, b"same\n", b"") if is_path else (DEVICE, b"", side + READ_FAILED)
@@ -352,6 +369,7 @@ def wrong_words(cases):
         ["--limit", "5", "list"], ["a.log"], ["compare"], ["compare", "a"], ["compare", "--", "a"], ["compare", "--limit", "5", "a"], ["compare", "a", "b", "c"], ["list", "a", "b"],
         ["list", "--limit"], ["list", "--limit", "1", "--limit", "2"], ["list", "--tester=7E0", "--tester=7E0"],
         ["list", "--limi", "1"], ["list", "--limit=x"], ["list", "--json=1"], ["list", "--json", "--json"], ["explain", "--json=1"], ["messages", "--json", "--json"], ["normalise", "--json"], ["--json"], ["find", "--tester", "7E0"], ["find", "--unit=7E8"], ["find", "--strict"], ["find", "--no-numbers"], ["find", "--json=1"], ["find", "a", "b"], ["list", "--no-numbers=1"], ["list", "--no-numbers", "--no-numbers"], ["watch", "--no-numbers=1"], ["watch", "--json=1"], ["normalise", "--no-numbers"], ["explain", "--no-numbers"],
+        ["report", "--json"], ["report", "--no-numbers"], ["report", "--show"], ["report", "--strict=1"], ["report", "a", "b"],
         ["compare", "--no-numbers", "a", "b"], ["compare", "--strict", "a"], ["compare", "--strict=1", "a", "b"], ["compare", "--show=1", "a", "b"], ["compare", "--show", "--show", "a", "b"], ["compare", "--json=1", "a", "b"], ["list", "--show"], ["--show"], ["--strict"], ["list", "--strict=1"], ["--no-numbers"], ["list", "--limit=-1"], ["list", "--limit=1.5"], ["list", "--limit="],
         ["list", "--limit=18446744073709551616"], ["list", "--tester", "7E", "--limit", "x"], ["list", "-x"],
     ]:

@@ -4,6 +4,7 @@ import errno
 import itertools
 from functools import partial
 
+import report_oracle
 from cases import DEVICE, DIFFERENT, DONE, REFUSAL
 from counts import counts_line
 from refuser import READ, TAKES_NOTHING, WRITE
@@ -46,6 +47,13 @@ line 2: unit frame dropped: unknown kind
 """ + counts_line(NO_FRAMES, dropped=2)
 
 
+def page_told():
+    """What each line of the session adds to its page."""
+    lines = SESSION.splitlines(keepends=True)
+    pages = [report_oracle.begun(b"".join(lines[:number])) for number in range(len(lines) + 1)]
+    return [page.removeprefix(before) for before, page in itertools.pairwise(pages)]
+
+
 def devices(program):
     yield "normalise, a read fails after each byte", partial(reads_fail, program)
     yield "list, a read fails after each byte", partial(listing_fails, program)
@@ -53,6 +61,7 @@ def devices(program):
         ("explain", SESSION, [*EXPLAINED.splitlines(keepends=True)[:2], b"", b"", b""]),
         ("messages", SESSION, [b"", b"", *PLACED.splitlines(keepends=True)]),
         ("messages", VIN, [VIN_PLACED.splitlines(keepends=True)[0], b"", b"", b"", VIN_PLACED.splitlines(keepends=True)[1]]),
+        ("report", SESSION, page_told()),
     ]:
         yield f"{job} of {len(log)} bytes, a read fails after each byte", partial(telling_fails, program, job, log, told)
     yield "compare, a read of either log fails after each byte", partial(comparing_fails, program)
@@ -73,6 +82,7 @@ def devices(program):
         yield f"{job}, an output that takes a hundred bytes", partial(hundred_bytes, program, job, text)
         yield f"{job}, a log in the middle of which writing fails", partial(fails_in_the_middle, program, job)
         yield f"{job}, a log that never ends", partial(never_ends, program, job)
+    yield "report, a log in the middle of which writing fails", partial(fails_in_the_middle, program, "report")
 
 
 def reads_fail(program):

@@ -4,7 +4,7 @@
     tests/differential.py crates/udsnorm/out/udsnorm [--seconds NUMBER] [--seed NUMBER]
 
 First examples/vin.log, 212 bytes, with each of its bytes replaced by each of seven bytes that a line may and may not have:
-1,484 logs, each through normalise, watch, explain, messages and find. Each is accepted, or refused at the place that the oracle finds by
+1,484 logs, each through normalise, watch, explain, messages, report and find. Each is accepted, or refused at the place that the oracle finds by
 trying what could follow. Then, until the seconds are over, random ones: half of them are sessions whose frames are lost,
 repeated, exchanged and late; the others are made of a sample log or a session by changing bytes. Each of these goes through
 one of the jobs, with `--strict` or without it, half of them under a limit about the length of the log. The same seed gives the same runs; it is 1
@@ -23,6 +23,7 @@ from functools import partial
 from pathlib import Path
 
 import oracle
+import report_oracle
 from runs import run
 from tables import EXAMPLES
 
@@ -45,6 +46,7 @@ ORACLES = {
     "explain --json": partial(oracle.explained, write=oracle.in_objects),
     "messages": oracle.placed,
     "messages --json": partial(oracle.placed, write=oracle.in_objects),
+    "report": report_oracle.reported,
 }
 FIND = {"find": oracle.found, "find --json": partial(oracle.found, write=oracle.pairs_objects)}
 ORACLES |= {f"{job} --strict": partial(oracle.strictly, came) for job, came in ORACLES.items()}
@@ -242,8 +244,8 @@ def unlike(words, log, found, came):
 
 
 def differences(program, logs):
-    """What is found of each of these logs by normalise, by watch, by explain, by messages and by find."""
-    return (difference(program, job, log) for log in logs for job in ("normalise", "watch", "explain", "messages", "find"))
+    """What is found of each of these logs by normalise, by watch, by explain, by messages, by report and by find."""
+    return (difference(program, job, log) for log in logs for job in ("normalise", "watch", "explain", "messages", "report", "find"))
 
 
 def list_difference(program, log):
@@ -258,7 +260,7 @@ def list_difference(program, log):
 def random_difference(program, rng, folder, log):
     """What is found of a log by one of the jobs."""
     limit = limit_for(rng, log)
-    job = rng.choice((*ORACLES, "normalise", "explain", "messages", "find", *COMPARISONS))
+    job = rng.choice((*ORACLES, "normalise", "explain", "messages", "report", "find", *COMPARISONS))
     if job not in COMPARISONS:
         found = difference(program, job, log, limit)
         return found or (list_difference(program, log) if job == "messages" else None)

@@ -9,17 +9,16 @@ Prints a line for each case, with what was measured, and ends with `N passed, M 
 import itertools
 import os
 import re
-import subprocess
 import sys
 import tempfile
 import time
-from collections import namedtuple
 from fractions import Fraction
 
 import oracle
+import report_oracle
 from cases import DIFFERENT, DONE, REFUSAL, Cases
 from counts import counts_line
-from runs import end, give, peak_kilobytes, start
+from runs import peak
 from told import place
 
 # The lengths that a frame may have, and those that a first frame may have.
@@ -87,9 +86,6 @@ FOUND = Fraction(100, 44)
 # Those of what a log means for each byte of its canonical log.
 MEANT_CANONICAL = Fraction(96, 46)
 
-# What a job took: its most kilobytes, or none, and its status.
-Peak = namedtuple("Peak", "kilobytes status")
-
 # What explain says of two of the longest messages that lack their last frames, before it counts.
 UNFINISHED = b"""\
 end: tester reception from line 1 of 1048575 bytes unfinished
@@ -102,6 +98,7 @@ ANNOUNCED = {
     "explain": b"".join(b"line %d: unit frame dropped: 4294967295 bytes announced\n" % line for line in range(1, 1001))
     + counts_line(REFUSED_LOGS[4], dropped=1000),
     "messages": b"",
+    "report": report_oracle.reported(REFUSED_LOGS[4]).written,
     "find": b"",
     "watch": b"",
 }
@@ -174,6 +171,26 @@ def longest_texts(cases):
         items = "".join(map(longest.format, range(1, 10_001))).encode()
         wrong = [] if status == DONE and text.startswith(items) else [f"status {status}, {text[:100]!r}"]
         cases.report(f"{job} writes {len(text)} bytes of {len(log)}", wrong)
+
+
+def page_growth(cases):
+    """No lines have more of a page, for each of their bytes, than requests of one byte without an answer: of frames of each kind
+    alone, and of two frames of which one ends what the other begins, or answers it. Numbers of as many digits stand in all."""
+    most, wrong = page_grown(cases, REQUEST), []
+    single = [b"", b"R", b"00", b"10", b"21", b"22", b"30", b"33", b"40", b"012C", b"016C", b"022C80", b"023E80", b"300000", b"330000"]
+    frames = [b"(0.000000) a %s#%s\n" % frame for frame in itertools.product((b"7E0", b"7E8"), single)]
+    begun = [frame_line("7E0", FIRST_DATA), frame_line("7E8", FIRST_DATA), REQUEST]
+    pairs = [first + second for first, second in itertools.product(begun, [*frames, b"(0.000000) a 7E8#037F2C26\n", FIRST])]
+    for lines in (*frames, *pairs, FOURTEEN_BYTES, LONG_REQUEST, FIRST, FOREIGN, BLANK, LONGEST):
+        grown = page_grown(cases, lines)
+        wrong += [f"{lines!r}: {float(grown):.2f}"] if grown > most else []
+    cases.report(f"report writes at most {float(most):.2f} bytes for each byte of {REQUEST!r}", wrong)
+
+
+def page_grown(cases, lines):
+    """How many bytes more a page has for each byte of its log, where that goes on with these lines."""
+    one, other = (cases.run(["report"], REQUEST * 1000 + lines * number) for number in (100, 200))
+    return Fraction(len(other.output) - len(one.output), 100 * len(lines))
 
 
 def drops(cases):
@@ -251,23 +268,12 @@ def longest_lines(cases):
 
 
 def one_line_of_error(cases):
-    for job in ["normalise", "list", "watch", "explain", "messages", "find"]:
+    for job in ["normalise", "list", "watch", "explain", "messages", "report", "find"]:
         for number, log in enumerate(REFUSED_LOGS):
             status, text, error = cases.run([job], log)
             is_told = number == 4 and (status, text, error) == (DONE, ANNOUNCED.get(job), b"")
             is_line = status == REFUSAL and error.count(b"\n") == 1 and error.endswith(b"\n") and len(error) < 80
             cases.report(f"{job} of refused log {number}: {error!r}", [] if is_told or is_line else [f"status {status}"])
-
-
-def peak(program, words, log):
-    """The most kilobytes that a job has, until it has read a log through a pipe, and its status. A job that ends before has
-    none."""
-    running = start(program, words, stdout=subprocess.DEVNULL, stderr=subprocess.DEVNULL)
-    is_read = give(running, log)
-    # A pipe holds 65,536 bytes, of which no word can tell whether they were read.
-    time.sleep(0.1)
-    kilobytes = peak_kilobytes(running) if is_read else None
-    return Peak(kilobytes, end(running).status)
 
 
 def holds_at_most(cases, words, name, log, most, wanted):
@@ -307,6 +313,12 @@ def memory(cases):
         ("messages", b"", FIRST, 0),
         ("messages", b"", FOURTEEN_BYTES, 0),
         ("messages", b"", LONGEST, 0),
+        ("report", REQUEST, ONE_BYTE, 0),
+        ("report", b"", REQUEST, 0),
+        ("report", b"", CONSECUTIVE, 0),
+        ("report", b"", FIRST, 0),
+        ("report", b"", FOURTEEN_BYTES, 0),
+        ("report", b"", LONGEST, 0),
         ("list", REQUEST, ONE_BYTE, MEANT),
         ("list", b"", REQUEST, MEANT),
     ]:
@@ -325,7 +337,7 @@ def memory(cases):
     holds_at_most(cases, ["find"], "pairs of identifiers, each with one answer", pairs, FOUND * len(pairs), DONE)
     answered = (REQUEST + ANSWER) * (MEASURED // len(REQUEST + ANSWER))
     holds_at_most(cases, ["find"], "one pair with many answers", answered, 0, DONE)
-    for job in ["normalise", "watch", "explain", "messages", "find"]:
+    for job in ["normalise", "watch", "explain", "messages", "report", "find"]:
         holds_at_most(cases, [job], "no log", b"", 0, DONE)
         holds_at_most(cases, [job], "two of the longest messages without their last frames", log, RECEPTION_BYTES, DONE)
     memory_of_two(cases)
@@ -395,7 +407,7 @@ def main():
     if len(sys.argv) != 2:
         sys.exit(__doc__)
     cases = Cases(os.path.abspath(sys.argv[1]))
-    for test in [canonical_growth, longest_texts, drops, places, longest_lines, one_line_of_error, memory, work]:
+    for test in [canonical_growth, longest_texts, page_growth, drops, places, longest_lines, one_line_of_error, memory, work]:
         test(cases)
     cases.end()
 

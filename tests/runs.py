@@ -5,11 +5,15 @@ import os
 import re
 import subprocess
 import tempfile
+import time
 from collections import namedtuple
 from contextlib import contextmanager
 from pathlib import Path
 
 Ended = namedtuple("Ended", "status output error")
+
+# What a run took: its most kilobytes, or none, and its status.
+Peak = namedtuple("Peak", "kilobytes status")
 
 PIPES = {"stdout": subprocess.PIPE, "stderr": subprocess.PIPE}
 
@@ -48,6 +52,17 @@ def peak_kilobytes(running):
     """The most memory that it had so far; None where it has ended."""
     told = re.search(r"^VmHWM:\s+(\d+) kB$", Path(f"/proc/{running.pid}/status").read_text(), re.M)
     return int(told[1]) if told else None
+
+
+def peak(program, words, log):
+    """The most kilobytes that a program has, until it has read a log through a pipe, and its status. One that ends before has
+    none."""
+    running = start(program, words, stdout=subprocess.DEVNULL, stderr=subprocess.DEVNULL)
+    is_read = give(running, log)
+    # A pipe holds 65,536 bytes, of which no word can tell whether they were read.
+    time.sleep(0.1)
+    kilobytes = peak_kilobytes(running) if is_read else None
+    return Peak(kilobytes, end(running).status)
 
 
 class Program:

@@ -18,6 +18,7 @@ from concurrent.futures import ThreadPoolExecutor
 from functools import partial
 
 import oracle
+import report_oracle
 import tables
 from cases import DIFFERENT, DONE, REFUSAL, UNCLEAN, WORDS, Cases
 from counts import counts_in, counts_line
@@ -29,13 +30,13 @@ from runs import Ended, Program, differences, files, how, pipe
 from tables import CANONICAL_LINE, VIN, VIN_PLACED, Row
 from told import LONG_CANONICAL, LONG_LOG, OVERSIZE, place
 
-JOBS = ["normalise", "list", "explain", "messages"]
+JOBS = ["normalise", "list", "explain", "messages", "report"]
 
 # Why a log is refused that can be explained all the same, and whose messages can be told.
 ONLY_NORMALISED = (OVERSIZE, LONG_CANONICAL)
 
 # How the jobs ended over one log, and what is wrong with that.
-Taken = namedtuple("Taken", "normalised listed explained placed wrong")
+Taken = namedtuple("Taken", "normalised listed explained placed reported wrong")
 
 
 # --- A log through the jobs -------------------------------------------------------------------------------------------------
@@ -44,12 +45,13 @@ Taken = namedtuple("Taken", "normalised listed explained placed wrong")
 def taken(program, log, options=()):
     """A log through each job, in one piece and byte by byte, which has to give the same. Listing ends as normalising does, and
     lists nothing where the log is refused. So does explaining, for which no message is too long and which has no canonical
-    log. Telling the messages ends as explaining does, and so does watching, which writes the list of a log that is listed."""
+    log. Telling the messages ends as explaining does, and so do writing a page and watching, which writes the list of a log that is
+    listed."""
     ended, wrong = [], []
     for job in JOBS:
         ended.append(program.run([job, *options], log))
         wrong += differences(f"{job} byte by byte", program.run_short([job, *options], log), ended[-1])
-    normalised, listed, explained, placed = ended
+    normalised, listed, explained, placed, reported = ended
     wrong += differences("how list ends", how(listed), how(normalised))
     wrong += differences("what is listed of a refused log", listed.output if listed.status else b"", b"")
     wrong += differences("list --no-numbers", program.run(["list", "--no-numbers", *options], log), without_numbers(listed))
@@ -58,6 +60,7 @@ def taken(program, log, options=()):
     if not normalised.error.endswith(ONLY_NORMALISED):
         wrong += differences("how explain ends", how(explained), how(normalised))
     wrong += differences("how messages ends", how(placed), how(explained))
+    wrong += differences("how report ends", how(reported), how(explained))
     wrong += watched_otherwise(program, log, options, listed, explained)
     if explained.status == DONE:
         wrong += differences("how many messages", messages_in(placed), messages_counted(explained))
@@ -97,7 +100,8 @@ def again(program, row, found):
     canonical = row.canonical()
     clean = counts_line(canonical, canonical, row.sides())
     places = placed_one_by_one(found.listed)
-    wants = [Ended(DONE, canonical, b""), found.listed, Ended(DONE, clean, b""), Ended(DONE, places, b"")]
+    page = report_oracle.reported(canonical, sides=dict(zip((oracle.TESTER, oracle.UNIT), row.sides()))).written
+    wants = [Ended(DONE, canonical, b""), found.listed, *(Ended(DONE, text, b"") for text in (clean, places, page))]
     ended = [program.run([job, *sides(row)], canonical) for job in JOBS]
     return differences("the canonical log again", ended, wants)
 
@@ -177,6 +181,23 @@ def placed(program, row):
     found, refused = taken(program, row.log(), sides(row)), row.text("refused")
     want = Ended(REFUSAL if refused else DONE, row.text("placed"), refused)
     return found.wrong + differences("messages", found.placed, want)
+
+
+def pages(program):
+    for row in tables.table("reported"):
+        yield f"reported: {row.name}", partial(reported, program, row)
+
+
+def reported(program, row):
+    """A page has the rows of its row and no others, and the other lines, each in their order."""
+    found, refused = taken(program, row.log(), sides(row)), row.text("refused")
+    lines = found.reported.output.decode().split("\n")
+    return [
+        *found.wrong,
+        *differences("how report ends", how(found.reported), (REFUSAL if refused else DONE, refused)),
+        *differences("rows", [line for line in lines if line.startswith("<tr ")], row.texts("row")),
+        *differences("other lines", [line for line in lines if line in row.texts("page")], row.texts("page")),
+    ]
 
 
 # What reads lines of JSON and writes each again without spaces, where it is there.
@@ -600,7 +621,7 @@ def main():
     with tempfile.TemporaryDirectory() as folder, ThreadPoolExecutor() as workers:
         program = Program(cases.program, Refuser(folder))
         kinds = [
-            sessions, places, objects, decided_items, pairs_found, logs_without_message, frames_without_part, refused_lines, recording_that_breaks_off, names_listed,
+            sessions, places, pages, objects, decided_items, pairs_found, logs_without_message, frames_without_part, refused_lines, recording_that_breaks_off, names_listed,
             limits, strict_runs, configurations, comparisons, recordings, long_logs, devices,
         ]
         names, checks = zip(*(case for kind in kinds for case in kind(program)))

@@ -21,6 +21,8 @@ What is told of the log is the lines with the mark `told`, and last its counts:
                          The others are those of its log and its canonical log, or zero: counts.py says which
 
     placed TEXT          the line of a message
+    row TEXT             a row of its page
+    page TEXT            another line that stands there
     lacks TEXT           what is told of a log that has to be clean and is not
 
     with WORDS           a command with its options
