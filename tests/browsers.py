@@ -28,7 +28,7 @@ HEIGHT = 900
 PAPER = {"width": 21.0, "height": 29.7}
 
 # The longest that a browser may take to start, and to answer.
-START, ANSWER = 60, 150
+START, ANSWER = 60, 300
 
 # Where a browser comes from when it opens a part of a page, since it doesn't open anew a page that it shows.
 BLANK = "about:blank"
@@ -77,7 +77,8 @@ class Browser:
         raise NotImplementedError
 
     def parts(self):
-        """The role and the name of each part that a screen reader sees, of the roles above."""
+        """The role and the name of each part that a screen reader sees, of the roles above. Firefox gives no name to parts
+        that it has not drawn yet."""
         raise NotImplementedError
 
     def paper(self):
@@ -257,6 +258,8 @@ class Firefox(Browser):
         self.evaluate(self.COLOURS.format(scheme=scheme, forced=forced), self.window)
 
     def press(self, keys):
+        # They go to the bar of the address at first.
+        self.evaluate("gBrowser.selectedBrowser.focus()", self.window)
         actions = [{"type": kind, "value": KEYS[key]} for key in keys for kind in ("keyDown", "keyUp")]
         self.tell("input.performActions", context=self.tab, actions=[{"type": "key", "id": "keys", "actions": actions}])
 

@@ -4,8 +4,9 @@ const all = (selector) => [...document.querySelectorAll(selector)];
 const box = (element) => element.getBoundingClientRect();
 const name = (element) => `${element.localName} "${element.textContent.trim().slice(0, 40)}"`;
 
+// Places are rounded, so they may be some part of a pixel off.
 function verdictIsAbove() {
-  return box(document.getElementById("verdict")).bottom <= box(document.getElementById("session")).top;
+  return box(document.getElementById("verdict")).bottom < box(document.getElementById("session")).top + 1;
 }
 
 // A block that is not drawn yet cuts what is too wide, so that the page itself doesn't get wider.
