@@ -15,21 +15,20 @@ import shutil
 import subprocess
 import sys
 import tempfile
+import threading
 import time
 import unicodedata
 from collections import Counter, namedtuple
+from concurrent.futures import ThreadPoolExecutor
 from pathlib import Path
 
 import browsers
 import report_logs
 from browsers import DARK, FORCED, LIGHT
-from cases import DONE, REFUSAL, Cases
+from cases import Cases
+from report_pages import EVERY_KIND, FOLDED, NOTHING, REFUSED, Writer, flawed, pages_of_names, pages_of_sessions
 
-TOP = Path(__file__).resolve().parent.parent
 IN_PAGE = Path(__file__).with_name("in_page.js").read_text()
-
-# The sample logs whose sides are not those of the program.
-SIDES = {"extended-identifiers": ["--tester", "18DA10F1", "--unit", "18DAF110"]}
 
 # The widths at which nothing may reach over the edge: two telephones and a screen. The least contrast is that of WCAG 2, AA.
 WIDTHS = [320, 420, 1280]
@@ -43,8 +42,10 @@ ITEMS = 100_000
 HEADER_ON_PAPER = r"Item +Lines +Time +Tester +Unit"
 ROW_ON_PAPER = r"^ *\d+ +\d+(–\d+)? +\d+\.\d{6} "
 
-Page = namedtuple("Page", "name file")
 Check = namedtuple("Check", "name pages function")
+
+# The browsers are tried at the same time, and report to the same cases.
+ONE_AT_A_TIME = threading.Lock()
 
 
 def ask(browser, question):
@@ -200,9 +201,9 @@ def text_of_paper(paper):
     return unicodedata.normalize("NFKC", done.stdout.decode())
 
 
-# Which pages a check looks at: every one, those of sessions, or those of these names.
-EVERY, EVERY_KIND, FOLDED = "every", "every kind of row", "folded blocks"
-SHORT = [EVERY_KIND, "lost-frame", "refused late"]
+# Which pages a check looks at: every one, or those of these names.
+EVERY = "every"
+SHORT = [EVERY_KIND, REFUSED, "lost-frame"]
 
 CHECKS = [
     Check("asks the network for nothing", EVERY, asks_for_nothing),
@@ -210,7 +211,7 @@ CHECKS = [
     Check("is said to be whole", EVERY, is_said_to_be_whole),
     Check("shows the verdict above the session", EVERY, shows_the_verdict_first),
     Check("fits", EVERY, fits),
-    Check("can be read in light, dark and forced colours", [*SHORT, "candump-any"], can_be_read),
+    Check("can be read in light, dark and forced colours", [*SHORT, NOTHING], can_be_read),
     Check("is a table to a screen reader", SHORT, is_a_table_to_a_screen_reader),
     Check("has the headers of each block", [FOLDED], has_the_headers_of_each_block),
     Check("is reached by Tab", [*SHORT, FOLDED], is_reached_by_keys),
@@ -233,7 +234,7 @@ FLAWS = [
     (can_be_read, EVERY_KIND, "@media (prefers-color-scheme: dark) { i { color: #666 !important; } }"),
     (can_be_read, EVERY_KIND, "@media (forced-colors: active) { i { forced-color-adjust: none; color: #999 !important; } }"),
     (is_a_table_to_a_screen_reader, EVERY_KIND, "tbody th { visibility: hidden; }"),
-    (has_the_headers_of_each_block, FOLDED, ".b:nth-of-type(3) tbody th { visibility: hidden; }"),
+    (has_the_headers_of_each_block, FOLDED, ".b:first-of-type tbody th { visibility: hidden; }"),
     (is_reached_by_keys, EVERY_KIND, ".look a { visibility: hidden; }"),
     (folds_by_keys, EVERY_KIND, "summary { visibility: hidden; }"),
     (leaves_what_needs_a_look, EVERY_KIND, "tbody:has(.ok) { display: table-row-group !important; }"),
@@ -243,55 +244,6 @@ FLAWS = [
     (is_printed_with_the_verdict_first, EVERY_KIND, "@media print { #verdict { order: 9 !important; } }"),
     (is_printed_with_the_verdict_first, EVERY_KIND, "thead { display: table-row-group; }"),
 ]
-
-
-class Writer:
-    """Has the program write pages into a folder. Whether it did so is a case."""
-
-    def __init__(self, cases, folder):
-        self.cases = cases
-        self.folder = folder
-        self.number = 0
-
-    def page(self, name, file, options=(), status=DONE):
-        found = self.cases.run(["report", *options, file])
-        self.cases.case(f"a page is written of {name}", found, status, None, None if status == REFUSAL else b"")
-        return self.kept(name, found.output)
-
-    def page_of(self, name, log, status=DONE):
-        file = self.folder / f"{name}.log"
-        file.write_bytes(log)
-        return self.page(name, file, status=status)
-
-    def kept(self, name, text):
-        self.number += 1
-        file = self.folder / f"{self.number}.html"
-        file.write_bytes(text)
-        return Page(name, file)
-
-
-def pages_of_sessions(writer):
-    """Those of the sample logs, and of logs that show more."""
-    pages = []
-    for log in sorted((TOP / "examples").glob("*.log")):
-        status = DONE if log.with_suffix(".canonical").exists() else REFUSAL
-        pages.append(writer.page(log.stem, log, SIDES.get(log.stem, []), status))
-    pages.append(writer.page_of(EVERY_KIND, report_logs.every_kind()))
-    pages.append(writer.page_of("refused late", report_logs.refused_late(), REFUSAL))
-    pages.append(writer.page_of(FOLDED, report_logs.folded()))
-    pages.append(writer.page_of("nothing", b""))
-    return pages
-
-
-def pages_of_names(writer):
-    """The same session under names that mean something elsewhere, each with the name that its page has to show."""
-    pages = []
-    for name in report_logs.HOSTILE_NAMES:
-        file = Path(os.fsdecode(os.fsencode(writer.folder) + b"/" + name))
-        file.write_bytes((TOP / "examples" / "lost-frame.log").read_bytes())
-        said = "".join(chr(byte) if 0x20 <= byte < 0x7F else f"%{byte:02X}" for byte in name)
-        pages.append((said, writer.page(f"a file called {said[:40]}", file)))
-    return pages
 
 
 def check_pages(cases, browser, pages):
@@ -312,7 +264,8 @@ def report(cases, name, function, *arguments):
         wrong = function(*arguments)
     except Exception as error:
         wrong = [f"{type(error).__name__}: {' '.join(str(error).split())[:300]}"]
-    cases.report(name, wrong)
+    with ONE_AT_A_TIME:
+        cases.report(name, wrong)
 
 
 def check_names(cases, browser, pages):
@@ -331,16 +284,16 @@ def name_is_text(browser, page, said):
     return wrong + (["it has other elements"] if ask(browser, "all('body script, body img, body style').length") else [])
 
 
-def check_cuts(cases, browser, page, folder):
+def cuts_without_notice(browser, page, cut):
     """Wherever the page ends before its end, it says so."""
     text = page.file.read_bytes()
     begin, end = text.index(b"</header>"), text.index(b'<p id="end"')
-    cut = Page("", folder / "cut.html")
+    show(browser, page)
     wrong = []
     for number in range(CUTS):
         place = begin + (end - begin) * (number + 1) // CUTS
         cut.file.write_bytes(text[:place])
-        show(browser, cut)
+        browser.open(cut.file.as_uri())
         wrong += [] if ask(browser, "noticeIsShown()") else [f"not after {place} bytes"]
     return wrong[:3]
 
@@ -359,17 +312,15 @@ def opens_many_items(browser, page):
 
 def check_flaws(cases, browser, pages, writer):
     """Each check finds what is made for it to find."""
-    names = {check.function: check.name for check in checks_here()}
+    functions = [check.function for check in checks_here()]
     for function, name, flaw in FLAWS:
-        if function in names:
-            text = next(page for page in pages if page.name == name).file.read_text()
-            report(cases, f"{browser.name}: found where a page has {flaw}", finds, function, browser, writer.kept(name, flawed(text, flaw).encode()))
+        if function in functions:
+            text = flawed(named(pages, name).file.read_text(), flaw)
+            report(cases, f"{browser.name}: found where a page has {flaw}", finds, function, browser, writer.kept(name, text.encode()))
 
 
-def flawed(text, flaw):
-    """What a page forbids is never asked for, so here it forbids nothing."""
-    text = re.sub("<meta http-equiv=[^>]*>", "", text, 1)
-    return text.replace("</style>", f"</style>{flaw}" if flaw.startswith("<") else f"{flaw}</style>", 1)
+def named(pages, name):
+    return next(page for page in pages if page.name == name)
 
 
 def finds(function, browser, page):
@@ -389,24 +340,33 @@ def browsers_here():
     return found
 
 
+def try_browser(cases, start, sessions, names, many):
+    with start() as browser, tempfile.TemporaryDirectory() as folder:
+        writer = Writer(cases, Path(folder))
+        check_pages(cases, browser, sessions)
+        check_names(cases, browser, names)
+        check_flaws(cases, browser, sessions, writer)
+        cut = writer.kept("cut", b"")
+        report(cases, f"{browser.name}: cut at {CUTS} places", cuts_without_notice, browser, named(sessions, EVERY_KIND), cut)
+        report(cases, f"{browser.name}: opens {ITEMS} items", opens_many_items, browser, many)
+    return []
+
+
+def try_browsers(cases, found):
+    with tempfile.TemporaryDirectory() as folder, ThreadPoolExecutor() as pool:
+        writer = Writer(cases, Path(folder))
+        pages = pages_of_sessions(writer), pages_of_names(writer), writer.page_of(f"{ITEMS} items", report_logs.many(ITEMS))
+        for start in found:
+            pool.submit(report, cases, f"{start.name} starts and ends", try_browser, cases, start, *pages)
+
+
 def main():
     if len(sys.argv) != 2:
         sys.exit(__doc__)
-    found = browsers_here()
     cases = Cases(os.path.abspath(sys.argv[1]))
-    with tempfile.TemporaryDirectory() as directory:
-        writer = Writer(cases, Path(directory))
-        if found:
-            sessions, names = pages_of_sessions(writer), pages_of_names(writer)
-            many = writer.page_of(f"{ITEMS} items", report_logs.many(ITEMS))
-        for start in found:
-            with start() as browser:
-                check_pages(cases, browser, sessions)
-                check_names(cases, browser, names)
-                check_flaws(cases, browser, sessions, writer)
-                every_kind = next(page for page in sessions if page.name == EVERY_KIND)
-                report(cases, f"{browser.name}: cut at {CUTS} places", check_cuts, cases, browser, every_kind, Path(directory))
-                report(cases, f"{browser.name}: opens {ITEMS} items", opens_many_items, browser, many)
+    found = browsers_here()
+    if found:
+        try_browsers(cases, found)
     cases.end()
 
 

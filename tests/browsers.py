@@ -113,6 +113,7 @@ class Chromium(Browser):
         self.driver.set_page_load_timeout(ANSWER)
         self.driver.set_script_timeout(ANSWER)
         self.version = self.driver.capabilities["browserVersion"]
+        self.reader = None
 
     def tell(self, method, **parameters):
         """A command of the DevTools protocol."""
@@ -153,9 +154,9 @@ class Chromium(Browser):
 
     def parts(self):
         # Where no screen reader runs, it leaves out what it has not drawn.
-        with Chromium("--force-renderer-accessibility") as reader:
-            reader.open(self.address)
-            nodes = reader.tell("Accessibility.getFullAXTree")["nodes"]
+        self.reader = self.reader or Chromium("--force-renderer-accessibility")
+        self.reader.open(self.address)
+        nodes = self.reader.tell("Accessibility.getFullAXTree")["nodes"]
         found = [(node["role"]["value"], node["name"]["value"]) for node in nodes if not node["ignored"] and "name" in node]
         return [(ROLES[role], name) for role, name in found if role in ROLES]
 
@@ -170,6 +171,8 @@ class Chromium(Browser):
         return base64.b64decode(self.tell("Page.captureScreenshot", format="png", captureBeyondViewport=True, clip=clip)["data"])
 
     def close(self):
+        if self.reader:
+            self.reader.close()
         self.driver.quit()
 
 
