@@ -20,7 +20,7 @@ BASH := $(PREFIX)/share/bash-completion/completions/udsnorm
 ZSH := $(PREFIX)/share/zsh/site-functions/_udsnorm
 FISH := $(PREFIX)/share/fish/vendor_completions.d/udsnorm.fish
 
-.PHONY: build lib run check attack test install install-built install-lib install-built-lib uninstall dist deb wheel interop bench rival
+.PHONY: build lib run check attack test install install-built install-lib install-built-lib uninstall dist deb wheel interop browser bench rival
 
 # Proves the program and what it stands on, and builds it. It says when it starts and when it ends on standard error; what
 # `rt` says is in a file, and shown where the build fails.
@@ -122,6 +122,11 @@ deb: build lib
 # What other tools make of canonical logs, and the program of theirs. No part of `test`, since it needs these tools.
 interop: build
 	@python3 tests/interop.py $(PROGRAM)
+
+# The pages of `udsnorm report` in the browsers that are here. No part of `test`, since it needs them; .ci/run has both. What
+# Debian packages for Python is for Debian's own, where another one comes first.
+browser: build
+	@$(or $(wildcard /usr/bin/python3),python3) tests/browser.py $(PROGRAM)
 
 # The Python package as a wheel, with the library inside: prints its path.
 wheel: lib
