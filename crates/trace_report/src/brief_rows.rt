@@ -47,8 +47,9 @@ fn say_brief_message<S: TextSink>(
         MessageRole::Positive { asked } => say_positive(origin, asked, dir, place, message, out),
         MessageRole::Pending { asked } => say_pending(origin, asked, dir, place, message, out),
         MessageRole::KeepAlive => say_keep_alive(origin, dir, place, message, out),
-        MessageRole::Negative { .. } | MessageRole::Stray =>
-            say_message_row(origin, role, dir, place, message, out),
+        MessageRole::Negative { .. } | MessageRole::Stray => say_message_row(
+            origin, role, dir, place, message, out,
+        ),
     }
 }
 
@@ -69,13 +70,7 @@ fn say_brief_front<S: TextSink>(
 }
 
 /// Says a request.
-fn say_request<S: TextSink>(
-    origin: u64,
-    dir: Dir,
-    place: MessagePlace,
-    message: &[u8],
-    out: &mut S,
-)
+fn say_request<S: TextSink>(origin: u64, dir: Dir, place: MessagePlace, message: &[u8], out: &mut S)
     ensures { S.says out.old (brief_message origin Request dir place message.now) out.new }
 {
     say_brief_front(origin, MessageRole::Request, dir, place, out);

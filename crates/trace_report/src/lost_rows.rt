@@ -147,7 +147,10 @@ fn say_reason_words<S: TextSink>(reason: Reason, out: &mut S)
     match reason {
         Reason::Pdu(fault) => say_layout_fault_words(fault, out),
         Reason::FlowUnexpected => {
-            say_text(out, " <i>the other side was sending nothing that it could be for</i>");
+            say_text(
+                out,
+                " <i>the other side was sending nothing that it could be for</i>",
+            );
         }
         Reason::NextUnexpected => {
             say_text(out, " <i>no message was under way that it goes on with</i>");
@@ -169,10 +172,16 @@ fn say_layout_fault_words<S: TextSink>(fault: PduFault, out: &mut S)
             say_text(out, " <i>its first byte is of no kind of ISO-TP frame</i>");
         }
         PduFault::SingleLength => {
-            say_text(out, " <i>its length does not fit the length that it tells</i>");
+            say_text(
+                out,
+                " <i>its length does not fit the length that it tells</i>",
+            );
         }
         PduFault::FirstLength => {
-            say_text(out, " <i>its length, or the one that it announces, is that of no first frame</i>");
+            say_text(
+                out,
+                " <i>its length, or the one that it announces, is that of no first frame</i>",
+            );
         }
         PduFault::FlowShort => say_text(out, " <i>it has fewer than 3 bytes</i>"),
         PduFault::FlowStatus => {

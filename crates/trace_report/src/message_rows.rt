@@ -31,7 +31,12 @@ pub(crate) fn say_message_row<S: TextSink>(
 }
 
 /// Says where a message stands.
-pub(crate) fn say_message_front<S: TextSink>(origin: u64, role: MessageRole, place: MessagePlace, out: &mut S)
+pub(crate) fn say_message_front<S: TextSink>(
+    origin: u64,
+    role: MessageRole,
+    place: MessagePlace,
+    out: &mut S,
+)
     ensures { S.says out.old (message_front origin role place) out.new }
 {
     say_text(out, "<tr class=\"");

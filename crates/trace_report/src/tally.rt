@@ -129,13 +129,7 @@ pub(crate) fn say_refused_verdict<S: TextSink>(
 }
 
 /// Says what was found of a log with this tally, whose first frame and last one have these times.
-fn say_findings<S: TextSink>(
-    tally: &Tally,
-    summary: &Summary,
-    first: u64,
-    last: u64,
-    out: &mut S,
-)
+fn say_findings<S: TextSink>(tally: &Tally, summary: &Summary, first: u64, last: u64, out: &mut S)
     ensures { S.says out.old (findings_text tally.now summary.now first last) out.new }
 {
     say_look(tally, out);

@@ -148,11 +148,8 @@ fn say_refusal<S: TextSink>(why: Fault, out: &mut S)
     match why {
         Fault::BadLine { line, column } => say_place(line, column, out),
         Fault::LogLimit => say_text(out, "log longer than the limit"),
-        Fault::Oversize { .. }
-        | Fault::OutputLimit
-        | Fault::Read
-        | Fault::Write
-        | Fault::Memory => {}
+        Fault::Oversize { .. } | Fault::OutputLimit | Fault::Read | Fault::Write | Fault::Memory =>
+            {}
     }
 }
 

@@ -12,8 +12,7 @@ returns-in-Two-clause-did g c = did_of_equal _ _ _ _ _ _ _ _ _ _ _ _ _ _ c.in-Tw
 
 pub returns-in-None-clause-did : goal.returns-in-None-clause-did
 returns-in-None-clause-did g c =
-    did_of_equal _ _ _ _ _ _ _ _ _ _ _ _ _ _ (c.in-One.is ∙ ap (λ log. One c.in-One.job c.in-One.strict c.in-One.config log) c.in-None.is)
-    (
+    did_of_equal _ _ _ _ _ _ _ _ _ _ _ _ _ _ (c.in-One.is ∙ ap (λ log. One c.in-One.job c.in-One.strict c.in-One.config log) c.in-None.is) (
       c.run_one-end.result.outcome,
       ran_named c.page_name.ensures c.run_one-end.ensures.ran,
       c.known_of_input.ensures,

@@ -21,12 +21,12 @@ pub returns-in-Messages-clause-near : goal.returns-in-Messages-clause-near
 returns-in-Messages-clause-near g c = λ log agrees. rw c.in-Messages.is (c.messages.ensures.near log agrees)
 
 pub returns-in-Report-clause-engine : goal.returns-in-Report-clause-engine
-returns-in-Report-clause-engine g c = λ log agrees. 
+returns-in-Report-clause-engine g c = λ log agrees.
     let settings = c.args.config.now in
     rw c.in-Report.is (
       c.report_style.result.now,
       subst (λ (name : List ℕ). AnswersTold (report_script (page_title c.report_style.result.now name settings) MESSAGE_LIMIT) answers_counts MESSAGE_LIMIT settings log (length (g.R.Source.given c.report.new.reader) - length (g.R.Source.given c.args.input.now)) c.report.result (g.W.Target.taken c.args.out.now) (g.W.Target.taken c.report.new.writer)) c.as_bytes.ensures.value
-      (c.report.ensures.answer log agrees),
+          (c.report.ensures.answer log agrees),
     )
 
 pub returns-in-Report-clause-near : goal.returns-in-Report-clause-near
