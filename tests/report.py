@@ -24,7 +24,7 @@ from cases import DEVICE, DONE, REFUSAL, UNCLEAN, Cases
 from differential import random_logs
 from oracle import TESTER, UNIT
 from recordings import message_of
-from report_reader import counts_in, counts_of_rows, counts_told, explanation_told, list_told, rows_in, shortened
+from report_reader import counts_in, counts_of_rows, counts_told, explanation_told, has_brief_rows, list_told, rows_in, shortened
 from runs import differences, end, give, peak, start
 from tables import EXAMPLES, VIN
 from told import LONG_LOG, READ_FAILED, WRITE_FAILED, place
@@ -141,14 +141,14 @@ def text_faults(page):
 def retold_otherwise(cases, page, log, options):
     """How what the rows alone tell differs from what `list` writes, or `watch` where that is refused, and `explain`; and what the
     page counts from how many rows there are."""
-    rows = rows_in(page)
+    rows, is_brief = rows_in(page), has_brief_rows(page)
     listed = cases.run(["list", *options], log)
     if listed.status != DONE:
         listed = cases.run(["watch", *options], log)
     explained = cases.run(["explain", *options], log)
     counts = counts_told(page, rows) if explained.status == DONE else ""
     return [
-        *differences("the list by the rows", list_told(rows), shortened(listed.output.decode())),
+        *differences("the list by the rows", shortened(list_told(rows), is_brief), shortened(listed.output.decode(), is_brief)),
         *differences("the explanation by the rows", explanation_told(rows) + counts, explained.output.decode()),
         *differences("the counts", counts_in(page), counts_of_rows(rows)),
     ]

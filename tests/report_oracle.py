@@ -180,8 +180,8 @@ HEADED, CROSSED, BARRED = "", "x", "e"
 CAUSES = {
     "new start": "another message of this side began before its last frame",
     "overflow": "the other side said that it has no room",
-    "late": "its next frame came more than 1 s late",
-    "sequence": "a frame is missing, or came out of order",
+    "late": "its next frame came after more than 1 s",
+    "sequence": "a frame is missing, came twice or out of order",
     "length": "a frame has another length than its first one",
 }
 
@@ -191,11 +191,11 @@ REASONS = {
     "frame length": "no CAN frame has this many bytes",
     "empty frame": "it has no byte",
     "unknown kind": "its first byte is of no kind of ISO-TP frame",
-    "single frame length": "it does not hold the length that it tells",
-    "first frame length": "it announces a length that no first frame has",
+    "single frame length": "its length does not fit the length that it tells",
+    "first frame length": "its length, or the one that it announces, is that of no first frame",
     "flow control too short": "it has fewer than 3 bytes",
     "flow control status": "its status is none of continue, wait and overflow",
-    "flow control unexpected": "the other side was not sending several frames",
+    "flow control unexpected": "the other side was sending nothing that it could be for",
     "consecutive frame unexpected": "no message was under way that it goes on with",
     "consecutive frame late": None,
     "consecutive frame length": None,
@@ -214,20 +214,51 @@ def row_text(origin, row):
     return ROW_TEXTS[type(row)](origin, row)
 
 
+def brief_text(origin, row):
+    """The line of a row in a block that is folded at first: a message that needs no look is told in words alone."""
+    if not isinstance(row, Message) or row.kind in LOOKS.values():
+        return row_text(origin, row)
+    identifier, cells = message_cells(origin, row)
+    look, lifeline = KIND_LOOKS[row.kind], LIFELINES[row.side]
+    return f'<tr class="{look}"{named(identifier)}>{cells}<td class="{lifeline}">{brief_words(row)}\n'
+
+
+def brief_words(row):
+    data = row.data[:SHOWN_FIRST].hex(" ").upper()
+    more = len(row.data) - SHOWN_FIRST
+    shown = f"{data} and {more} bytes more" if more > 0 else data
+    match row.kind:
+        case "request":
+            return f"{service_name(row)} request {shown} &#8594;"
+        case "keep-alive":
+            return f"keep-alive {shown} &#8594;"
+    return f"&#8592; {row.kind} {shown} after {milliseconds(row.asked, row.first.micros)}"
+
+
 def line_of(look, identifier, cells, side, words, end):
     """A row: how it looks, what links to it say, its first three cells, and that of the chart."""
-    named = f' id="{identifier}"' if identifier else ""
     lifeline = LIFELINES[side]
     arrow = f'<svg aria-hidden="true"><use href="#{lifeline}{end}"/></svg>'
-    return f'<tr class="{look}"{named}>{cells}<td><div class="{lifeline}"><div>{words}</div>{arrow}</div>\n'
+    return f'<tr class="{look}"{named(identifier)}>{cells}<td><div class="{lifeline}"><div>{words}</div>{arrow}</div>\n'
+
+
+def named(identifier):
+    """What links to a row name."""
+    return f' id="{identifier}"' if identifier else ""
 
 
 def message_row(origin, row):
+    identifier, cells = message_cells(origin, row)
+    words = f"{kind_words(row)} {data_text(row.data)}{note_text(row)}"
+    return line_of(KIND_LOOKS[row.kind], identifier, cells, row.side, words, HEADED)
+
+
+def message_cells(origin, row):
+    """What links to a message say, and its first three cells."""
     begins_item = row.asked is None
     item = f'<th scope="row">{row.item}' if begins_item else f"<td>{row.item}"
     cells = f"{item}<td>{lines_text(row)}<td>{seconds(origin, row.last.micros)}"
-    words = f"{kind_words(row)} {data_text(row.data)}{note_text(row)}"
-    return line_of(KIND_LOOKS[row.kind], f"i{row.item}" if begins_item else None, cells, row.side, words, HEADED)
+    return f"i{row.item}" if begins_item else None, cells
 
 
 def lines_text(row):
@@ -237,8 +268,7 @@ def lines_text(row):
 def kind_words(row):
     match row.kind:
         case "request":
-            service = row.data[0]
-            return f"<b>{oracle.SERVICES.get(service, f'service_{service:02X}')}</b> <i>request</i>"
+            return f"<b>{service_name(row)}</b> <i>request</i>"
         case "negative":
             code = row.data[2]
             return f"<b>negative</b> <em>{oracle.CODES.get(code, f'code_{code:02X}')}</em>"
@@ -246,6 +276,11 @@ def kind_words(row):
             return f"<b>stray</b> <i>from the {row.side}</i>"
         case kind:
             return f"<b>{kind}</b>"
+
+
+def service_name(row):
+    service = row.data[0]
+    return oracle.SERVICES.get(service, f"service_{service:02X}")
 
 
 def note_text(row):
@@ -321,8 +356,8 @@ def blocks_text(origin, rows):
 
 def block_text(origin, place, rows):
     """A block, by how many stand before it. With each request a body of the table begins."""
-    opened = " open" if place < OPEN_BLOCKS else ""
-    bodies = [("<tbody>\n" if n == 0 or is_request(row) else "") + row_text(origin, row) for n, row in enumerate(rows)]
+    opened, text = (" open", row_text) if place < OPEN_BLOCKS else ("", brief_text)
+    bodies = [("<tbody>\n" if n == 0 or is_request(row) else "") + text(origin, row) for n, row in enumerate(rows)]
     summary = f"<summary>{block_title(origin, rows[0])}</summary>"
     return f'<details class="b"{opened}>\n{summary}\n{TABLE_START}{"".join(bodies)}{BLOCK_END}'
 
@@ -330,7 +365,7 @@ def block_text(origin, place, rows):
 def block_title(origin, row):
     match row:
         case Message():
-            return f"From item {row.item}, line {row.first.line}, {seconds(origin, row.last.micros)} s"
+            return f"From item {row.item}, line {row.first.line}, {seconds(origin, row.first.micros)} s"
         case NoAnswer():
             return f"From item {row.item}"
         case Unfinished():
@@ -387,7 +422,7 @@ def look_line(words, rows):
     if not rows:
         return ""
     more = f" and {len(rows) - MOST_LINKS} more" if len(rows) > MOST_LINKS else ""
-    return f"<li><b>{len(rows)}</b> {words}: {', '.join(map(link, rows[:MOST_LINKS]))}{more}\n"
+    return f"<li>{words} <b>{len(rows)}</b>: {', '.join(map(link, rows[:MOST_LINKS]))}{more}\n"
 
 
 def counts_text(counts):
@@ -514,9 +549,9 @@ its last frame; <i>after</i> is the time from the last frame of the request to t
 <div class="x"><dt>dropped</dt><dd>a frame that belongs to no complete message</dd></div>
 <div class="x"><dt>ended, unfinished</dt><dd>a message of which not all frames came</dd></div>
 </dl>
-<p>Frames with other identifiers, padding, flow control and the interface mean nothing here. A message of which no frame was \
+<p>Frames with other identifiers, padding, the interface, and flow control that is in its place mean nothing here. A message of which no frame was \
 recorded leaves no trace, also in a clean recording. Grey letters after the bytes are those same bytes as text. In a long session \
-the first ten blocks are open, and the others folded.</p>
+the first ten blocks are open, and the others folded and brief.</p>
 </footer>
 </div>
 <p id="end">End of the report.</p>

@@ -12,8 +12,11 @@ ROW = re.compile(
     r"""
     <tr\ class="(?P<look>\w+)" (?:\ id="(?P<id>\w+)")? >
     (?: <th\ scope="row">(?P<header>\d+) | <td>(?P<item>\d*) ) <td>(?P<lines>[^<]*) <td>(?P<time>[^<]*)
-    <td><div\ class="(?P<side>[tu])"><div> (?P<words>.*) </div>
-    <svg\ aria-hidden="true"><use\ href="\#(?P<shape>\w+)"/></svg></div>
+    (?:
+        <td><div\ class="(?P<side>[tu])"><div> (?P<words>.*) </div>
+        <svg\ aria-hidden="true"><use\ href="\#(?P<shape>\w+)"/></svg></div>
+    |   <td\ class="(?P<brief_side>[tu])"> (?P<brief>[^<]*)
+    )
     """,
     re.VERBOSE,
 )
@@ -34,12 +37,22 @@ FORMS = {
     "ended": rf"<b>ended</b> {PARTIAL}</i> <em>(?P<cause>[^<]+)</em> <i>[^<]+</i>",
     "unfinished": rf"<b>unfinished</b> {PARTIAL} the log ends before its last frame</i>",
 }
+# The words of each kind of brief row.
+BRIEF_DATA = r"(?P<data>[0-9A-F]{2}(?: [0-9A-F]{2})*(?: and \d+ bytes more)?)"
+BRIEF_FORMS = {
+    "request": rf"(?P<service>\w+) request {BRIEF_DATA} &\#8594;",
+    "positive": rf"&\#8592; positive {BRIEF_DATA} after .*",
+    "pending": rf"&\#8592; pending {BRIEF_DATA} after .*",
+    "keep-alive": rf"keep-alive {BRIEF_DATA} &\#8594;",
+}
 MESSAGES = ("request", "positive", "negative", "pending", "keep-alive", "stray")
 
 COUNT = re.compile(r"<dt>([^<]+)</dt><dd>(\d+)</dd>")
 
-# Above 512 bytes a page has the first 32 bytes of a message: so many digits of a list stand there, and so many at least do not.
+# Above 512 bytes, and in a brief row above 32, a page has the first 32 bytes of a message: so many digits of a list stand there,
+# and so many at least do not.
 LONG = re.compile(r"\b([0-9A-F]{64})([0-9A-F]{962,})\b")
+LONG_IN_BRIEF = re.compile(r"\b([0-9A-F]{64})([0-9A-F]{2,})\b")
 
 # The kind of a row, its item, its line where it has one alone, and what its words say, by the names of FORMS.
 Row = namedtuple("Row", "kind item line said")
@@ -53,8 +66,9 @@ def rows_in(page):
 def row_of(line):
     found = ROW.fullmatch(line)
     if found:
-        for kind, form in FORMS.items():
-            said = re.fullmatch(form, found["words"])
+        forms, words = (FORMS, found["words"]) if found["brief"] is None else (BRIEF_FORMS, found["brief"])
+        for kind, form in forms.items():
+            said = re.fullmatch(form, words)
             if said:
                 return Row(kind, found["header"] or found["item"], found["lines"], said.groupdict())
     raise ValueError(f"a row that can't be read: {line}")
@@ -62,14 +76,20 @@ def row_of(line):
 
 def digits_of(data):
     """The digits of a message, and how many bytes more it has where not all are shown."""
-    shown = "".join(re.findall(r"<code>([0-9A-F ]*)</code>", data)).replace(" ", "")
-    more = re.search(r"<i>(\d+) bytes more, not shown</i>", data)
-    return f"{shown}+{more[1]}" if more else shown
+    brief = re.match(r"[0-9A-F ]*", data)[0]
+    shown = ("".join(re.findall(r"<code>([0-9A-F ]*)</code>", data)) or brief).replace(" ", "")
+    more = re.search(r"<i>(\d+) bytes more, not shown</i>| and (\d+) bytes more", data)
+    return f"{shown}+{more[1] or more[2]}" if more else shown
 
 
-def shortened(listed):
-    """A list with the messages that a page does not show whole, as `digits_of` has them."""
-    return LONG.sub(lambda found: f"{found[1]}+{len(found[2]) // 2}", listed)
+def shortened(listed, is_brief):
+    """A list with the messages that a page does not show whole, as `digits_of` has them: of one that has brief rows, too, each
+    message that such a row would not."""
+    return (LONG_IN_BRIEF if is_brief else LONG).sub(lambda found: f"{found[1]}+{len(found[2]) // 2}", listed)
+
+
+def has_brief_rows(page):
+    return '<td class="' in page
 
 
 def list_told(rows):
