@@ -3,3 +3,4 @@ mod Tallies
 mod Steps
 mod FrameCounting
 mod Meeting
+pub mod Harmless

@@ -9,4 +9,5 @@ pub mod Counts
 pub mod Verdict
 pub mod Help
 pub mod Page
+pub mod Laws
 pub mod proving

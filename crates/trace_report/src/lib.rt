@@ -18,6 +18,7 @@ mod follower;
 mod frames;
 mod front;
 mod help;
+pub mod laws;
 mod links;
 mod lost_rows;
 mod message_rows;
