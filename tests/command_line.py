@@ -95,12 +95,12 @@ MESSAGES_HELP = [
     b"Example: udsnorm messages recorded.log | grep '^12 '",
 ]
 REPORT_HELP = [
-    b"Writes the session as a page of HTML, in one file",
+    b"Writes the session as a page of HTML, to look at",
     b"Usage: udsnorm report [OPTIONS] [LOG]",
     b"  [LOG]  The recorded log; without it standard input is read",
     FAILED_DEVICE + b",",
     NOT_CLEAN,
-    b"Example: udsnorm report recorded.log > session.html",
+    b"Example: udsnorm report recorded.log > recorded.html",
 ]
 FIND_HELP = [
     b"Writes which identifiers ask and which answer, for a log whose identifiers nobody told",

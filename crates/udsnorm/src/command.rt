@@ -14,8 +14,7 @@ const VERSION: &str = "0.1.0";
 
 /// What follows the list of commands in the program's help.
 const OF_THE_PROGRAM: &str = "\
-A LOG is what `candump -l` or `candump -L` writes; without LOG standard input is read.
-Without any words the program does `normalise`. `udsnorm COMMAND --help` has the options.
+A LOG is what `candump -l` or `-L` writes. `udsnorm COMMAND --help` has the options of a command.
 
 Exit status:
   0  done, even if a log holds neither identifier; compare: the logs mean the same
