@@ -190,7 +190,7 @@ def make_check_goes_upwards(cases):
             "uds_message",
             "udsnorm run",
             ["uds_message: rt fmt", "uds_message: rt check"]
-            + [f"{user}: rt check" for user in ["uds_exchange", "uds_find", "trace_canon"]]
+            + [f"{user}: rt check" for user in ["uds_exchange", "uds_find", "trace_canon", "trace_report"]]
             + [OF_PROGRAM[0]],
         ),
         ("udsnorm", "udsnorm run", ["udsnorm: rt fmt", "udsnorm: rt check", OF_PROGRAM[0]]),
@@ -198,7 +198,7 @@ def make_check_goes_upwards(cases):
         (
             "isotp_segment",
             "acceptance test",
-            ["isotp_segment: rt fmt", "isotp_segment: rt check", "trace_canon: rt check", *OF_PROGRAM]
+            ["isotp_segment: rt fmt", "isotp_segment: rt check", "trace_canon: rt check", "trace_report: rt check", *OF_PROGRAM]
             + [f"{user}: rt check" for user in ["json_reading", "udsnorm_c", "layer_bench", "refused_memory", "acceptance"]]
             + ["acceptance: rt test"],
         ),
