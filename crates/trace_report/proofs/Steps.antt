@@ -13,7 +13,7 @@ use Rattle.uds_exchange.specs.declared.step.Step.TheVariants as becomes
 use Rattle.trace_report.specs.Events.{asked_behind, asked_in, completes_request, ended_rows, frame_rows, is_there, message_place, role_of_step, rows_before, rows_behind, rows_of, verdict_rows, waiting_row}
 use Rattle.trace_report.specs.Page.{first_time, last_time}
 use Rattle.trace_report.specs.Rows as row
-use Rattle.trace_report.specs.proving.Following.{span_of}
+use Rattle.trace_report.specs.proving.Following.{times_of}
 
 rows_more : (limit : ℕ) (past T : List Entry) (e : Entry) → rows_behind limit past (T ++ e ∷ []) ≡ rows_behind limit past T ++ frame_rows limit (past ++ T) e
 rows_more limit past [] e =
@@ -50,7 +50,7 @@ last_next earlier (x ∷ T) e = last_next x.micros T e
 
 -- the times of a trace with one more frame
 pub span_next : (T : List Entry) (e : Entry) (first last : ℕ) → first ≡ first_time (T ++ e ∷ []) → last ≡ e.micros
-    → Some (record { first = first; last = last }) ≡ span_of (T ++ e ∷ [])
+    → Some (record { first = first; last = last }) ≡ times_of (T ++ e ∷ [])
 span_next [] e first last first_is last_is = (λ i. Some (record { first = first_is i; last = last_is i }))
 span_next (x ∷ T) e first last first_is last_is = (λ i. Some (record { first = first_is i; last = (last_is ∙ sym (last_next x.micros T e)) i }))
 

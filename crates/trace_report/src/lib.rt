@@ -1,11 +1,19 @@
 //! A recorded session as a page: one file of HTML, without a script, that fetches nothing.
 //!
 //! The chart of the session is a table with a row for each event, in the order of the log. A row is bounded, whatever the
-//! message, and stands by itself; so a page is written while the log is read.
+//! message, and stands by itself; so a page is written while the log is read, and the verdict last.
 //!
 //! ```text
-//! event -> rows -> blocks -> page
+//! event -> Follower -> rows -> Chart -> page
 //! ```
+//!
+//! [`report`] is a machine over the driver of `trace_canon` (`reporter`). A `follower` knows what the rows to come depend on: the
+//! numbers of items, the request that waits, and the `places` where messages begin. It answers the rows of a frame (`row`). The
+//! `chart` says them, in `blocks` that fold, and keeps a `tally` for the verdict.
+//!
+//! The text of a page is in pieces: its `front`; the rows of messages (`message_rows`, `brief_rows`) and of what is missing
+//! (`lost_rows`), by `cells` and `words`; the `verdict`, with `links` and `counts`; and the `help`. The style is no part of what is
+//! proved.
 #![tactic(auto)]
 
 mod blocks;

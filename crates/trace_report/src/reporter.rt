@@ -12,7 +12,7 @@ ghost use Rattle.trace_io.specs.Stream.{Agrees};
 ghost use Rattle.trace_io.specs.Counted.{IsLowCount, AreLowCounts};
 ghost use Rattle.trace_report.specs.Front.{page_title};
 ghost use Rattle.trace_report.specs.Page.{first_time, front_before, last_time, page_end, refused_end, report_script};
-ghost use Rattle.trace_report.specs.proving.Following.{span_of};
+ghost use Rattle.trace_report.specs.proving.Following.{times_of};
 ghost use Rattle.trace_report.specs.proving.Pages.{title_of};
 
 use crate::blocks::say_block_end;
@@ -178,9 +178,9 @@ fn say_front_before<S: TextSink>(
     micros: u64,
     out: &mut S,
 ) -> u64
-    ensures says { (T : List Entry) → span ≡ span_of T → S.says out.old (front_before (title_of title.now) T) out.new }
-    ensures origin { (T : List Entry) (e : Entry) → span ≡ span_of T → e.micros ≡ micros → result ≡ first_time (T ++ e ∷ []) }
-    ensures first { (T : List Entry) → span ≡ span_of T → micros ≡ 0 → result ≡ first_time T }
+    ensures says { (T : List Entry) → span ≡ times_of T → S.says out.old (front_before (title_of title.now) T) out.new }
+    ensures origin { (T : List Entry) (e : Entry) → span ≡ times_of T → e.micros ≡ micros → result ≡ first_time (T ++ e ∷ []) }
+    ensures first { (T : List Entry) → span ≡ times_of T → micros ≡ 0 → result ≡ first_time T }
 {
     match span {
         Some(span) => span.first,
@@ -193,7 +193,7 @@ fn say_front_before<S: TextSink>(
 
 /// The time of the last frame, 0 where there is none.
 fn last_of(span: Option<Span>) -> u64
-    ensures { (T : List Entry) → span ≡ span_of T → result ≡ last_time 0 T }
+    ensures { (T : List Entry) → span ≡ times_of T → result ≡ last_time 0 T }
 {
     match span {
         Some(span) => span.last,

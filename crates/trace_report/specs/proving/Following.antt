@@ -103,14 +103,14 @@ pub record IsChartOf (rows : List RowValue) (chart : Chart) : Type 0 where
   pub tally : chart.tally ≡ tally_of rows
 
 -- the times of the first frame and the last one, if there are frames
-abbrev pub span_of : List Entry → Option Span
-span_of [] = None
-span_of (e ∷ rest) = Some (record { first = e.micros; last = last_time e.micros rest })
+abbrev pub times_of : List Entry → Option Span
+times_of [] = None
+times_of (e ∷ rest) = Some (record { first = e.micros; last = last_time e.micros rest })
 
 -- the page is said up to the rows of the frames T
 pub record Reports (title : PageTitle) (T : List Entry) (reporter : Reporter) : Type 0 where
   pub few : length T ≤ 2 ^ 62
   pub same : title_of reporter.title ≡ title
-  pub span : reporter.span ≡ span_of T
+  pub span : reporter.span ≡ times_of T
   pub follows : Follows T reporter.follower
   pub chart : IsChartOf (rows_of MESSAGE_LIMIT T) reporter.chart
