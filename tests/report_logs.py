@@ -11,9 +11,9 @@ TO_LOOK_AT = ["1", "5", "8", "12", "15", "18"]
 # In `folded`, the exchange that needs a look: it stands in a block that is written folded.
 FOLDED_ITEM = 1101
 
-# Names of files that mean something to HTML, to a terminal, to a page's width or to nobody.
+# Names of files that mean something to HTML, to a terminal, to a page's width or to nobody; all are UTF-8, as words have to be.
 HOSTILE_NAMES = [
-    b"<b>&\"'\xff.log",
+    "<b>&\"'\u00ff.log".encode(),
     b"<img src=x onerror=alert(1)>.log",
     b'"><script>alert(1)<!--.log',
     b"--><style>body{display:none}.log",
