@@ -2,3 +2,4 @@
 pub mod Pages
 pub mod Following
 pub mod Tallying
+pub mod Holding
