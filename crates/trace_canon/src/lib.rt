@@ -96,6 +96,7 @@ pub use machine::{Machine, Stop};
 pub use normaliser::normalise;
 pub use notation::Notation;
 pub use placer::messages;
+pub use printer::{Printable, print};
 pub use remark::Remark;
 pub use summary::Summary;
 pub use text_sink::TextSink;
