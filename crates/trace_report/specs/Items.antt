@@ -30,30 +30,46 @@ is_answer_role (role.Pending asked) = false
 is_answer_role role.KeepAlive = false
 is_answer_role role.Stray = false
 
+-- the message that a row tells, if it tells one
+abbrev pub message_in : RowValue → Option PlacedMessage
+message_in (message is d place bytes) = Some (record { role = is; dir = d; place = place; bytes = bytes })
+message_in (no_answer number silent) = None
+message_in (dropped place d named why) = None
+message_in (ended place end) = None
+message_in (unfinished d line len) = None
+
+-- the answer to a request, by the message of the row behind it and by the answer among the rows behind that
+abbrev pub answer_by : Option PlacedMessage → Option PlacedMessage → Option PlacedMessage
+answer_by None later = later
+answer_by (Some sent) later = if is_request_role sent.role then None else if is_answer_role sent.role then Some sent else later
+
 -- the answer to a request among the rows behind it: the first one that stands before the next request
 abbrev pub answer_in : List RowValue → Option PlacedMessage
 answer_in [] = None
-answer_in (message is d place bytes ∷ rest) =
-    if is_request_role is then None
-    else if is_answer_role is then Some (record { role = is; dir = d; place = place; bytes = bytes }) else answer_in rest
-answer_in (no_answer number silent ∷ rest) = answer_in rest
-answer_in (dropped place d named why ∷ rest) = answer_in rest
-answer_in (ended place end ∷ rest) = answer_in rest
-answer_in (unfinished d line len ∷ rest) = answer_in rest
+answer_in (row ∷ rest) = answer_by (message_in row) (answer_in rest)
+
+-- the answer to a message of this role: only a request has one
+abbrev pub answer_to : MessageRole → List RowValue → Option PlacedMessage
+answer_to is rest = if is_request_role is then answer_in rest else None
 
 -- the item that a message begins, by the rows behind it
 abbrev pub item_begun : PlacedMessage → List RowValue → PlacedItem
-item_begun begin rest = record { begin = begin; answer = if is_request_role begin.role then answer_in rest else None }
+item_begun begin rest = record { begin = begin; answer = answer_to begin.role rest }
+
+-- the message, where it begins an item
+abbrev pub beginning : Option PlacedMessage → Option PlacedMessage
+beginning None = None
+beginning (Some sent) = if begins_item sent.role then Some sent else None
+
+-- the items of rows, by the message with which the first one begins an item, if it does, the others, and the items of those
+abbrev pub items_by : Option PlacedMessage → List RowValue → List PlacedItem → List PlacedItem
+items_by None rest later = later
+items_by (Some begin) rest later = item_begun begin rest ∷ later
 
 -- the items of these rows
 abbrev pub items_in : List RowValue → List PlacedItem
 items_in [] = []
-items_in (message is d place bytes ∷ rest) =
-    if begins_item is then item_begun (record { role = is; dir = d; place = place; bytes = bytes }) rest ∷ items_in rest else items_in rest
-items_in (no_answer number silent ∷ rest) = items_in rest
-items_in (dropped place d named why ∷ rest) = items_in rest
-items_in (ended place end ∷ rest) = items_in rest
-items_in (unfinished d line len ∷ rest) = items_in rest
+items_in (row ∷ rest) = items_by (beginning (message_in row)) rest (items_in rest)
 
 -- what an item is without its places: a request with its answer, or a message of no exchange
 abbrev pub item_value : PlacedItem → ItemValue

@@ -45,7 +45,7 @@ pub(crate) fn begins_exchange(row: Row<'_>) -> bool
 }
 
 /// Whether a message begins one.
-fn is_request_role(role: MessageRole) -> bool
+pub(crate) fn is_request_role(role: MessageRole) -> bool
     ensures { result ≡ Spec.is_request_role role }
 {
     match role {

@@ -63,7 +63,7 @@ fn say_role_class<S: TextSink>(role: MessageRole, out: &mut S)
 }
 
 /// Whether a message begins an item.
-fn begins_item(role: MessageRole) -> bool
+pub(crate) fn begins_item(role: MessageRole) -> bool
     ensures { result ≡ Spec.begins_item role }
 {
     match role {

@@ -3,7 +3,7 @@ use Rattle.std.specs.Prelude.{◌≡◌, ℕ, ◌≤◌, ◌^◌, List, [], ◌�
 use Rattle.isotp_receive.specs.declared.TheConstants.{MESSAGE_LIMIT}
 use Rattle.isotp_receive.specs.Trace.{Entry}
 use Rattle.trace_report.specs.Events.{rows_of}
-use Rattle.trace_report.specs.Items.{PlacedMessage, PlacedItem, ItemPair, both, only_left, only_right}
+use Rattle.trace_report.specs.Items.{PlacedMessage, PlacedItem, ItemPair, both, only_left, only_right, items_in, pairs_of}
 use Rattle.trace_report.specs.Rows.{RowValue, message, no_answer, dropped, ended, unfinished}
 use Rattle.trace_report.specs.declared.held.HeldRow.{HeldRow}
 use Rattle.trace_report.specs.declared.held.HeldRow.TheVariants as held
@@ -11,6 +11,8 @@ use Rattle.trace_report.specs.declared.items.LentItem.{LentItem}
 use Rattle.trace_report.specs.declared.items.LentMessage.{LentMessage}
 use Rattle.trace_report.specs.declared.items.LentPair.{LentPair}
 use Rattle.trace_report.specs.declared.items.LentPair.TheVariants as lent
+use Rattle.trace_report.specs.declared.items.NextItem.{NextItem}
+use Rattle.trace_report.specs.declared.items.NextPair.{NextPair}
 use Rattle.trace_report.specs.declared.reporter.Span.{Span}
 
 -- a row that is held
@@ -47,3 +49,13 @@ abbrev pub pair_of : LentPair → ItemPair
 pair_of (lent.Both a b) = both (item_of a) (item_of b)
 pair_of (lent.OnlyLeft a) = only_left (item_of a)
 pair_of (lent.OnlyRight b) = only_right (item_of b)
+
+-- the items of rows: the next one, and those of the rows behind it
+abbrev pub items_with : Option NextItem → List PlacedItem
+items_with None = []
+items_with (Some next) = item_of next.item ∷ items_in (held_rows next.rest.now)
+
+-- the items of the rows of two sessions, number by number: those of the next number, and those of the rows behind them
+abbrev pub pairs_with : Option NextPair → List ItemPair
+pairs_with None = []
+pairs_with (Some next) = pair_of next.pair ∷ pairs_of (items_in (held_rows next.left.now)) (items_in (held_rows next.right.now))
