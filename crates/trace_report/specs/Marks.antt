@@ -36,13 +36,20 @@ window_start place count =
 abbrev pub window_length : ℕ → ℕ
 window_length count = if nat_le count most_shown then most_shown else shown_first
 
--- how many bytes stand before those that are shown
-abbrev pub before_text : ℕ → List ℕ
-before_text count = if count == 0 then [] else codes "<i>behind " ++ decimal count ++ codes " bytes:</i> "
+-- so many bytes stand before those that are shown
+abbrev pub count_before : ℕ → List ℕ
+count_before count = codes "<i>behind " ++ decimal count ++ codes " bytes:</i> "
 
--- and how many behind them
+-- and so many behind them
+abbrev pub count_behind : ℕ → List ℕ
+count_behind count = codes " <i>" ++ decimal count ++ codes " bytes more, not shown</i>"
+
+-- where there are some
+abbrev pub before_text : ℕ → List ℕ
+before_text count = if count == 0 then [] else count_before count
+
 abbrev pub behind_text : ℕ → List ℕ
-behind_text count = if count == 0 then [] else codes " <i>" ++ decimal count ++ codes " bytes more, not shown</i>"
+behind_text count = if count == 0 then [] else count_behind count
 
 -- the part of a message that is shown, with a mark, and how many bytes stand before it and behind it
 abbrev pub window_text : ℕ → List ℕ → ℕ → ℕ → List ℕ

@@ -33,6 +33,7 @@ mod items;
 pub mod laws;
 mod links;
 mod lost_rows;
+mod marks;
 mod message_rows;
 mod places;
 mod reporter;
