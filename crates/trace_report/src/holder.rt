@@ -195,7 +195,8 @@ impl Machine for Holder {
     ) -> Result<(), AllocError> {
         self.span = Some(span_with(self.span, micros));
         let rows = self.follower.take(FramePlace { line, micros }, dir, event);
-        hold_rows(self.alloc, &mut self.rows, rows)
+        hold_rows(self.alloc, &mut self.rows, rows)?;
+        Ok(())
     }
 
     fn end<S: TextSink>(

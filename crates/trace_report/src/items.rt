@@ -1,5 +1,5 @@
 //! The items of a session that is held, and those of two sessions side by side.
-ghost use Rattle.std.specs.Prelude.{◌≡◌, ◌+◌, ◌<◌, IfSome, length, option_map};
+ghost use Rattle.std.specs.Prelude.{◌≡◌, ◌+◌, ◌<◌, [], IfSome, length, option_map};
 ghost use Rattle.trace_report.specs.Items.{item_begun, items_in, message_in, pairs_of};
 ghost use Rattle.trace_report.specs.Items as Spec;
 ghost use Rattle.trace_report.specs.proving.Holding.{held_row, held_rows, item_of, items_with, message_of, pairs_with};
