@@ -3,4 +3,5 @@ mod Tallies
 mod Steps
 mod FrameCounting
 mod Meeting
+mod FirstPlaces
 pub mod Harmless
