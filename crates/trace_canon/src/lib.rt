@@ -95,6 +95,7 @@ pub use lister::list;
 pub use machine::{Machine, Stop};
 pub use normaliser::normalise;
 pub use notation::Notation;
+pub use nowhere::Nowhere;
 pub use placer::messages;
 pub use printer::{Printable, print};
 pub use remark::Remark;

@@ -13,7 +13,7 @@ use Rattle.trace_canon.specs.declared.fault.Fault.{Fault}
 use Rattle.trace_report.specs.Contrast.{FirstContrast, first_contrast}
 use Rattle.trace_report.specs.Items.{ItemPair, items_in, pairs_of}
 use Rattle.trace_report.specs.Session.{SessionValue, session_of}
-use Rattle.trace_report.specs.declared.held.Held.{Held}
+use Rattle.trace_report.specs.declared.held_session.Held.{Held}
 
 -- What is answered of a log: what it says, where it can be read to its end, and else why it can't. No length that is announced and no
 -- canonical log refuses it.

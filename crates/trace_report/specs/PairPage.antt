@@ -23,7 +23,7 @@ use Rattle.trace_report.specs.Sorts.{counts_in}
 use Rattle.trace_report.specs.Verdict.{refusal_words, span_of, unclean_reason}
 use Rattle.trace_report.specs.declared.contrast.LogName.{LogName}
 use Rattle.trace_report.specs.declared.contrast.LogName.TheVariants.{A, B}
-use Rattle.trace_report.specs.declared.held.Held.{Held}
+use Rattle.trace_report.specs.declared.held_session.Held.{Held}
 
 -- What a page of two logs is made for: its style, the names of the logs, and the identifiers.
 pub record PairTitleValue : Type 0 where

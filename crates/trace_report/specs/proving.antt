@@ -3,3 +3,4 @@ pub mod Pages
 pub mod Following
 pub mod Tallying
 pub mod Holding
+pub mod Heard

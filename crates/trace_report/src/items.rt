@@ -5,7 +5,7 @@ ghost use Rattle.trace_report.specs.Items as Spec;
 ghost use Rattle.trace_report.specs.proving.Holding.{held_row, held_rows, item_of, items_with, message_of, pairs_with};
 
 use crate::blocks::is_request_role;
-use crate::held::HeldRow;
+use crate::held_session::HeldRow;
 use crate::message_rows::begins_item;
 use crate::row::{MessagePlace, MessageRole};
 use direction::Dir;

@@ -5,8 +5,8 @@ use Rattle.isotp_receive.specs.Trace.{Entry}
 use Rattle.trace_report.specs.Events.{rows_of}
 use Rattle.trace_report.specs.Items.{PlacedMessage, PlacedItem, ItemPair, both, only_left, only_right, items_in, pairs_of}
 use Rattle.trace_report.specs.Rows.{RowValue, message, no_answer, dropped, ended, unfinished}
-use Rattle.trace_report.specs.declared.held.HeldRow.{HeldRow}
-use Rattle.trace_report.specs.declared.held.HeldRow.TheVariants as held
+use Rattle.trace_report.specs.declared.held_session.HeldRow.{HeldRow}
+use Rattle.trace_report.specs.declared.held_session.HeldRow.TheVariants as held
 use Rattle.trace_report.specs.declared.items.LentItem.{LentItem}
 use Rattle.trace_report.specs.declared.items.LentMessage.{LentMessage}
 use Rattle.trace_report.specs.declared.items.LentPair.{LentPair}

@@ -88,7 +88,7 @@ impl HeldRow {
 }
 
 /// A row of its own.
-pub(crate) fn held(alloc: Global, row: Row<'_>) -> Result<HeldRow, AllocError>
+pub(crate) fn copied_row(alloc: Global, row: Row<'_>) -> Result<HeldRow, AllocError>
     ensures { IfOk result (λ h. held_row h ≡ row_of row.entry) }
 {
     match row {
