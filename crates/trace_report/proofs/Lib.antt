@@ -4,4 +4,5 @@ mod Steps
 mod FrameCounting
 mod Meeting
 mod Holding
+mod FirstPlaces
 pub mod Harmless

@@ -129,14 +129,28 @@ answer_right (both a b) = answer_bytes b.answer
 answer_right (only_left a) = []
 answer_right (only_right b) = answer_bytes b.answer
 
+-- a log has no item of a number
+abbrev pub lacks_words : LogName → List ℕ
+lacks_words log = log_letter log ++ codes " has no item of this number: its session ends before it."
+
+-- an item is an exchange in one log alone
+abbrev pub kinds_words : LogName → List ℕ
+kinds_words log = codes "It is an exchange in " ++ log_letter log ++ codes " and a stray message in " ++ log_letter (other_log log) ++ codes "."
+
+-- a stray is from one side in A
+abbrev pub sides_words : Dir → List ℕ
+sides_words d = codes "The stray message is from the " ++ direction_text d ++ codes " in A and from the other side in B."
+
+-- an exchange has no answer in one log
+abbrev pub unanswered_words : LogName → List ℕ
+unanswered_words log = codes "It is answered in " ++ log_letter (other_log log) ++ codes " and not in " ++ log_letter log ++ codes "."
+
 -- how the items of this pair differ, in words
 abbrev pub contrast_words : ItemPair → Contrast → List ℕ
-contrast_words pair (contrast.Lacks log) = log_letter log ++ codes " has no item of this number: its session ends before it."
-contrast_words pair (contrast.Kinds log) =
-    codes "It is an exchange in " ++ log_letter log ++ codes " and a stray message in " ++ log_letter (other_log log) ++ codes "."
-contrast_words pair (contrast.Sides d) =
-    codes "The stray message is from the " ++ direction_text d ++ codes " in A and from the other side in B."
+contrast_words pair (contrast.Lacks log) = lacks_words log
+contrast_words pair (contrast.Kinds log) = kinds_words log
+contrast_words pair (contrast.Sides d) = sides_words d
 contrast_words pair (contrast.Requests place) = bytes_words (codes "The requests") place (begin_left pair) (begin_right pair)
 contrast_words pair (contrast.Strays place) = bytes_words (codes "The stray messages") place (begin_left pair) (begin_right pair)
-contrast_words pair (contrast.Unanswered log) = codes "It is answered in " ++ log_letter (other_log log) ++ codes " and not in " ++ log_letter log ++ codes "."
+contrast_words pair (contrast.Unanswered log) = unanswered_words log
 contrast_words pair (contrast.Answers place) = bytes_words (codes "The answers") place (answer_left pair) (answer_right pair)

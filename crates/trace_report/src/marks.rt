@@ -42,13 +42,7 @@ fn window_length(count: usize) -> usize
 }
 
 /// Says the bytes of a message from this start on, at the most so many.
-fn say_marked_from<S: TextSink>(
-    start: usize,
-    most: usize,
-    place: usize,
-    bytes: &[u8],
-    out: &mut S,
-)
+fn say_marked_from<S: TextSink>(start: usize, most: usize, place: usize, bytes: &[u8], out: &mut S)
     ensures { S.says out.old (marked_from start most place bytes.now) out.new }
 {
     let (_, from) = parted(start, bytes);
@@ -63,7 +57,7 @@ fn say_marked_from<S: TextSink>(
 }
 
 /// Bytes before a place, and from there on. Behind their end there are none.
-fn parted<'a>(place: usize, bytes: &'a [u8]) -> (&'a [u8], &'a [u8])
+pub(crate) fn parted<'a>(place: usize, bytes: &'a [u8]) -> (&'a [u8], &'a [u8])
     ensures before { result.0.now ≡ take place bytes.now }
     ensures from { result.1.now ≡ drop place bytes.now }
 {
