@@ -25,7 +25,7 @@ from pathlib import Path
 import browsers
 import report_logs
 from browsers import DARK, FORCED, LIGHT
-from cases import Cases
+from cases import DIFFERENT, Cases
 from report_pages import (
     EVERY_KIND, FOLDED, FOLDED_PAIR, LOST, NO_ITEMS, NOTHING, PAIR, REFUSED, REFUSED_PAIR, SAME, Writer, flawed,
     pages_of_names, pages_of_pairs, pages_of_pairs_of_names, pages_of_sessions,
@@ -96,6 +96,16 @@ def fits(browser, page):
     wrong = []
     for width in WIDTHS:
         browser.width(width)
+        wrong += [f"at {width} pixels: {part}" for part in ask(browser, "tooWide()")]
+    return wrong
+
+
+def fits_where_all_is_open(browser, page):
+    """Also the tables that are folded."""
+    wrong = []
+    for width in WIDTHS:
+        show(browser, page, width)
+        browser.ask("document.querySelectorAll('details').forEach(block => block.open = true)")
         wrong += [f"at {width} pixels: {part}" for part in ask(browser, "tooWide()")]
     return wrong
 
@@ -212,10 +222,15 @@ def leads_to_the_difference(browser, page):
     wrong = []
     for width in WIDTHS:
         show(browser, page, width)
-        browser.ask("document.querySelector('#verdict a[href=\"#difference\"]').focus()")
-        browser.press(["Enter"])
-        wrong += [] if becomes(browser, "differenceIsInSight()") else [f"not at {width} pixels"]
+        wrong += [] if goes_to_the_difference(browser) else [f"not at {width} pixels"]
     return wrong
+
+
+def goes_to_the_difference(browser):
+    """Whether the page that is shown goes there by its link."""
+    browser.ask("document.querySelector('#verdict a[href=\"#difference\"]').focus()")
+    browser.press(["Enter"])
+    return becomes(browser, "differenceIsInSight()")
 
 
 def marks_what_differs(browser, page):
@@ -292,6 +307,7 @@ PAIR_CHECKS = [
     Check("is said to be whole", EVERY, is_said_to_be_whole),
     Check("shows the verdict above the items", EVERY, shows_the_verdict_first),
     Check("fits", EVERY, fits),
+    Check("fits where all is open", EVERY, fits_where_all_is_open),
     Check("can be read in light, dark and forced colours", [*SHORT_PAIRS, NO_ITEMS], can_be_read),
     Check("is a table to a screen reader", SHORT_PAIRS, is_a_table_to_a_screen_reader),
     Check("is reached by Tab", [*SHORT_PAIRS, FOLDED_PAIR], is_reached_by_keys),
@@ -424,6 +440,17 @@ def opens_many_items(browser, page):
     return wrong + is_in_sight(browser, f"i{ITEMS}")
 
 
+def opens_many_pairs(browser, page):
+    """The page of two long sessions that differ in their middle: complete, and the verdict leads there."""
+    show(browser, page)
+    wrong = [f"it asks for {address}" for address in browser.requests()] + [f"it tells {message}" for message in browser.messages()]
+    items = ask(browser, "all('.pair tbody tr').length")
+    wrong += [] if items == ITEMS - 1 else [f"it has {items} items beside the one that differs"]
+    wrong += [] if ask(browser, "verdictIsAbove()") else ["its verdict is not above the items"]
+    wrong += [] if ask(browser, "document.documentElement.scrollWidth <= innerWidth") else ["it is too wide"]
+    return wrong + ([] if goes_to_the_difference(browser) else ["it does not lead to the difference"])
+
+
 def check_flaws(cases, browser, pages, writer, checks, flaws):
     """Each check finds what is made for it to find."""
     functions = [check.function for check in checks_here(checks)]
@@ -454,7 +481,7 @@ def browsers_here():
     return found
 
 
-def try_browser(cases, start, sessions, names, pairs, pairs_of_names, many):
+def try_browser(cases, start, sessions, names, pairs, pairs_of_names, many, many_pairs):
     with start() as browser, tempfile.TemporaryDirectory() as folder:
         writer = Writer(cases, Path(folder))
         check_pages(cases, browser, sessions, CHECKS)
@@ -467,6 +494,7 @@ def try_browser(cases, start, sessions, names, pairs, pairs_of_names, many):
         for page in (named(sessions, EVERY_KIND), named(pairs, PAIR)):
             report(cases, f"{browser.name}: {page.name}, cut at {CUTS} places", cuts_without_notice, browser, page, cut)
         report(cases, f"{browser.name}: opens {ITEMS} items", opens_many_items, browser, many)
+        report(cases, f"{browser.name}: opens {ITEMS} items of two logs", opens_many_pairs, browser, many_pairs)
     return []
 
 
@@ -474,7 +502,8 @@ def try_browsers(cases, found):
     with tempfile.TemporaryDirectory() as folder, ThreadPoolExecutor() as pool:
         writer = Writer(cases, Path(folder))
         sessions = pages_of_sessions(writer), pages_of_names(writer), pages_of_pairs(writer), pages_of_pairs_of_names(writer)
-        pages = *sessions, writer.page_of(f"{ITEMS} items", report_logs.many(ITEMS))
+        logs = report_logs.many(ITEMS), report_logs.many(ITEMS, different=ITEMS // 2 + 1)
+        pages = *sessions, writer.page_of(f"{ITEMS} items", logs[0]), writer.page_of(f"{ITEMS} items of two", *logs, status=DIFFERENT)
         for start in found:
             pool.submit(report, cases, f"{start.name} starts and ends", try_browser, cases, start, *pages)
 

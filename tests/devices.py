@@ -37,6 +37,9 @@ PLACED = b"""\
 1 answer unit lines 5 to 5 at 1.004000 to 1.004000 62F19041
 """
 
+# Two logs that are the same, two that differ, and two of which one is refused.
+PAIRS = [(SESSION, SESSION), (SESSION, VIN), (VIN, SESSION + b"x\n")]
+
 KEEP_ALIVE = b"(1.000000) can0 7E0#023E80\n"
 KEEP_ALIVE_LISTED = b"1 stray tester 3E80\n"
 
@@ -64,7 +67,10 @@ def devices(program):
         ("report", SESSION, page_told()),
     ]:
         yield f"{job} of {len(log)} bytes, a read fails after each byte", partial(telling_fails, program, job, log, told)
-    yield "compare, a read of either log fails after each byte", partial(comparing_fails, program)
+    for job in ("compare", "report"):
+        yield f"{job} of two logs, a read of either fails after each byte", partial(comparing_fails, program, job)
+    yield "report of two logs, a byte a call", partial(page_byte_by_byte, program)
+    yield "report of two logs, a write fails after some bytes", partial(page_writes_fail, program)
     yield "compare --show, a write fails after each byte", partial(showing_fails, program)
     for job, log, text in [
         ("normalise", VIN, VIN_CANONICAL),
@@ -116,14 +122,37 @@ def telling_fails(program, job, log, told):
     return wrong
 
 
-def comparing_fails(program):
-    """The side whose read failed is told. The right log is read after the last read of the left one, which gives nothing."""
+def comparing_fails(program, job):
+    """The side whose read failed is told, and nothing is written. The right log is read after the last read of the left one, which gives nothing."""
     wrong, reads = [], len(SESSION) + 1
     with files(SESSION, SESSION) as names:
         for side, given in itertools.product(range(2), range(reads)):
             want = Ended(DEVICE, b"", [b"left: ", b"right: "][side] + READ_FAILED), True
-            found = program.run_failing(["compare", *names], READ, side * reads + given + 1, most=1)
+            found = program.run_failing([job, *names], READ, side * reads + given + 1, most=1)
             wrong += differences(f"{['left', 'right'][side]}, {given} bytes", found, want)
+    return wrong
+
+
+def page_byte_by_byte(program):
+    """The page of two logs, also of a refused one, is the same where each read gives a byte, and each write takes one."""
+    wrong = []
+    for left, right in PAIRS:
+        came = report_oracle.pair_reported(left, right)
+        told = f"{came.fault}\n".encode() if came.fault else b""
+        with files(left, right) as names:
+            wrong += differences("a byte a call", program.run_short(["report", *names]), Ended(came.status, came.written, told))
+    return wrong
+
+
+def page_writes_fail(program):
+    """So much of the page is written as the output takes, a byte a call, and of a refused log nothing else is told then."""
+    wrong = []
+    for left, right in PAIRS:
+        page = report_oracle.pair_reported(left, right).written
+        with files(left, right) as names:
+            for room in (0, 1, 4095, 4096, 4097, len(page) // 2, len(page) - 1):
+                found = program.run_failing(["report", *names], WRITE, room + 1, most=1)
+                wrong += differences(f"{room} bytes", found, (Ended(DEVICE, page[:room], WRITE_FAILED), True))
     return wrong
 
 

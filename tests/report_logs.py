@@ -108,12 +108,13 @@ def folded_pair():
     return ours, ours.replace(b"7E8#037F2231", b"7E8#037F2233")
 
 
-def many(count):
-    """A session of so many exchanges. Every seventh answer has several frames, some are negative, pending or missing."""
+def many(count, different=None):
+    """A session of so many exchanges. Every seventh answer has several frames, some are negative, pending or missing. The item of
+    this number may be another one."""
     told = Recording()
     for number in range(1, count + 1):
         data = f"{number % 0x10000:04X}"
-        positive = f"62{data}" + ("55" * 20 if number % 7 == 0 else "00")
+        positive = f"62{data}" + ("66" if number == different else "") + ("55" * 20 if number % 7 == 0 else "00")
         if number % 97 == 0:
             told.exchange(f"22{data}")
         elif number % 41 == 0:
