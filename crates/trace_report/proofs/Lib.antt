@@ -4,4 +4,6 @@ mod Steps
 mod FrameCounting
 mod Meeting
 mod FirstPlaces
+mod SaidParts
+mod ContrastTexts
 pub mod Harmless
