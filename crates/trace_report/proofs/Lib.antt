@@ -5,4 +5,6 @@ mod FrameCounting
 mod Meeting
 mod Holding
 mod FirstPlaces
+mod SaidParts
+mod ContrastTexts
 pub mod Harmless

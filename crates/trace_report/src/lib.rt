@@ -22,6 +22,7 @@ mod cells;
 mod chart;
 mod contrast;
 mod counts;
+mod difference;
 mod events;
 mod follower;
 mod frames;
