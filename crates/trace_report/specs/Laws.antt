@@ -1,8 +1,13 @@
 -- What holds of a page, whatever log it is of.
 use Prim.Native.Char.{code}
-use Rattle.std.specs.Prelude.{◌≡◌, ℕ, ◌==◌, ◌&&◌, not, Bool, true, List, nat_le}
+use Rattle.std.specs.Prelude.{◌≡◌, ℕ, ◌==◌, ◌&&◌, not, Bool, true, List, map, nat_le}
 use Rattle.std.specs.List.{AllByRecursion}
+use Rattle.uds_exchange.specs.Difference.{IsFirstDifference}
+use Rattle.trace_canon.specs.Compared.{difference}
+use Rattle.trace_report.specs.Contrast.{first_contrast}
 use Rattle.trace_report.specs.Front.{name_text}
+use Rattle.trace_report.specs.Held.{comparison_by}
+use Rattle.trace_report.specs.Items.{PlacedItem, item_value, pairs_of}
 use Rattle.trace_report.specs.Words.{letters}
 
 -- a byte that opens and closes nothing in HTML: printable ASCII, and none of < > " '
@@ -17,3 +22,9 @@ NameIsHarmless = (name : List ℕ) → AllByRecursion (λ b. is_harmless b ≡ t
 -- and each letter that is shown for the bytes of a message
 abbrev pub LettersAreHarmless : Type 0
 LettersAreHarmless = (bytes : List ℕ) → AllByRecursion (λ b. is_harmless b ≡ true) (letters bytes)
+
+-- what the page of two sessions says of their items is so: they are the same exactly if their values are, and else differ first where
+-- these do
+abbrev pub ComparisonIsOfItems : Type 0
+ComparisonIsOfItems = (left right : List PlacedItem)
+    → IsFirstDifference (map item_value left) (map item_value right) (difference (comparison_by (first_contrast (pairs_of left right))))
