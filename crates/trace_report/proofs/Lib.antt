@@ -8,4 +8,6 @@ mod FirstPlaces
 mod SaidParts
 mod ContrastTexts
 mod ItemComparisons
+mod ItemValues
+mod SessionItems
 pub mod Harmless

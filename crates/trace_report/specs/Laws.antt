@@ -2,12 +2,17 @@
 use Prim.Native.Char.{code}
 use Rattle.std.specs.Prelude.{◌≡◌, ℕ, ◌==◌, ◌&&◌, not, Bool, true, List, map, nat_le}
 use Rattle.std.specs.List.{AllByRecursion}
+use Rattle.isotp_receive.specs.declared.TheConstants.{MESSAGE_LIMIT}
+use Rattle.isotp_receive.specs.Trace.{Entry}
+use Rattle.isotp_receive.specs.Verdict.{messages}
 use Rattle.uds_exchange.specs.Difference.{IsFirstDifference}
+use Rattle.uds_exchange.specs.Meaning.{meaning}
 use Rattle.trace_canon.specs.Compared.{difference}
 use Rattle.trace_report.specs.Contrast.{first_contrast}
 use Rattle.trace_report.specs.Front.{name_text}
 use Rattle.trace_report.specs.Held.{comparison_by}
-use Rattle.trace_report.specs.Items.{PlacedItem, item_value, pairs_of}
+use Rattle.trace_report.specs.Items.{PlacedItem, item_value, items_in, pairs_of}
+use Rattle.trace_report.specs.Page.{all_rows}
 use Rattle.trace_report.specs.Words.{letters}
 
 -- a byte that opens and closes nothing in HTML: printable ASCII, and none of < > " '
@@ -28,3 +33,7 @@ LettersAreHarmless = (bytes : List ℕ) → AllByRecursion (λ b. is_harmless b 
 abbrev pub ComparisonIsOfItems : Type 0
 ComparisonIsOfItems = (left right : List PlacedItem)
     → IsFirstDifference (map item_value left) (map item_value right) (difference (comparison_by (first_contrast (pairs_of left right))))
+
+-- the items that the rows of a session tell are what its messages mean, and so those that `list` and `compare` have
+abbrev pub ItemsAreTheMeaning : Type 0
+ItemsAreTheMeaning = (T : List Entry) → map item_value (items_in (all_rows MESSAGE_LIMIT T)) ≡ meaning (messages MESSAGE_LIMIT T)
