@@ -1,14 +1,16 @@
 -- What a run over two logs comes to, by what the engine answered and what became of its text.
-use Rattle.std.proofs.Common.{◌≡◌, ◌≤◌, ◌+◌, ℕ, Bool, true, false, true≢false, List, [], ◌++◌, Result, Ok, Err, append-nil, arith, ap, refl, sym, subst, ◌∙◌}
-use Rattle.std.specs.Prelude.{◌&&◌, not, is_ok, if◌then◌else◌}
+use Rattle.std.proofs.Common.{◌≡◌, ◌≢◌, ◌≤◌, ◌<◌, ◌+◌, ◌⊎◌, ◌↔◌, inl, inr, ℕ, Bool, true, false, true≢false, List, [], ◌++◌, Result, Ok, Err, append-nil, arith, ap, refl, sym, subst, ◌∙◌}
+use Rattle.std.specs.Prelude.{◌&&◌, not, is_ok, IfErr, if◌then◌else◌}
 use Rattle.trace_canon.specs.Compared.{fault_in}
 use Rattle.trace_canon.specs.ComparisonText.{comparison_text}
+use Rattle.trace_canon.specs.Failing.{FailedIf}
 use Rattle.trace_canon.specs.Printed.{Prints}
 use Rattle.trace_canon.specs.declared.comparing.Compared.{Compared}
 use Rattle.trace_canon.specs.declared.comparing.Comparison.{Comparison}
 use Rattle.trace_canon.specs.declared.comparing.Comparison.TheVariants.{Same, Different}
 use Rattle.trace_canon.specs.declared.comparison_lines.ComparisonStyle.{ComparisonStyle}
 use Rattle.trace_canon.specs.declared.fault.CompareFault.{CompareFault}
+use Rattle.trace_canon.specs.declared.fault.CompareFault.TheVariants.{Left, Right}
 use Rattle.trace_canon.specs.declared.fault.Fault.{Fault}
 use Rattle.trace_canon.specs.declared.fault.Fault.TheVariants as fault
 use Rattle.trace_io.specs.Written.{HasFront}
@@ -48,6 +50,83 @@ accepted_pair strict true (Ok pair) status is low =
     (pair, refl, refl, well.0, well.1)
 accepted_pair strict true (Err why) status is low = absurd (refused_high (fault_in why) status is low)
 accepted_pair strict false answer status is low = absurd (omega (arith, is, low))
+
+-- ---- a failed device
+
+four_of_fault : (why : Fault) → status_of why ≡ 4 → why ≢ fault.Write → why ≡ fault.Read
+four_of_fault (fault.BadLine line column) four well = absurd (omega (arith, four))
+four_of_fault (fault.Oversize line announced) four well = absurd (omega (arith, four))
+four_of_fault fault.LogLimit four well = absurd (omega (arith, four))
+four_of_fault fault.OutputLimit four well = absurd (omega (arith, four))
+four_of_fault fault.Read four well = refl
+four_of_fault fault.Write four well = absurd (well refl)
+four_of_fault fault.Memory four well = absurd (omega (arith, four))
+
+is_read : (why : Fault) → (why ≡ fault.Read) ⊎ (why ≢ fault.Read)
+is_read (fault.BadLine line column) = inr (λ is. cc)
+is_read (fault.Oversize line announced) = inr (λ is. cc)
+is_read fault.LogLimit = inr (λ is. cc)
+is_read fault.OutputLimit = inr (λ is. cc)
+is_read fault.Read = inl refl
+is_read fault.Write = inr (λ is. cc)
+is_read fault.Memory = inr (λ is. cc)
+
+not_left : (pair : PairAnswer) → ◌≡◌ {A = Result PairAnswer CompareFault} (Ok pair) (Err (Left fault.Read)) → ⊥
+not_left pair is = cc
+
+not_right : (pair : PairAnswer) → ◌≡◌ {A = Result PairAnswer CompareFault} (Ok pair) (Err (Right fault.Read)) → ⊥
+not_right pair is = cc
+
+other_than_right : (why : Fault) → ◌≡◌ {A = Result PairAnswer CompareFault} (Err (Left why)) (Err (Right fault.Read)) → ⊥
+other_than_right why is = cc
+
+other_than_left : (why : Fault) → ◌≡◌ {A = Result PairAnswer CompareFault} (Err (Right why)) (Err (Left fault.Read)) → ⊥
+other_than_left why is = cc
+
+same_left : (why : Fault) → ◌≡◌ {A = Result PairAnswer CompareFault} (Err (Left why)) (Err (Left fault.Read)) → why ≡ fault.Read
+same_left why is = cc
+
+same_right : (why : Fault) → ◌≡◌ {A = Result PairAnswer CompareFault} (Err (Right why)) (Err (Right fault.Read)) → why ≡ fault.Read
+same_right why is = cc
+
+four_of_pair : (unclean : Bool) (comparison : Comparison) → ◌≡◌ {A = ℕ} (if unclean then 6 else status_of_comparison comparison) 4 → ⊥
+four_of_pair true comparison four = absurd (omega (arith, four))
+four_of_pair false Same four = absurd (omega (arith, four))
+four_of_pair false (Different item) four = absurd (omega (arith, four))
+
+-- where the text was written, none of the devices failed but by this answer
+none_failed : (a a_now b b_now w w_now : ℕ) → a_now ≡ a → b_now ≡ b → w_now ≡ w → (a < a_now) ⊎ ((b < b_now) ⊎ (w < w_now)) → ⊥
+none_failed a a_now b b_now w w_now left right output (inl more) = omega (arith, left, more)
+none_failed a a_now b b_now w w_now left right output (inr (inl more)) = omega (arith, right, more)
+none_failed a a_now b b_now w w_now left right output (inr (inr more)) = omega (arith, output, more)
+
+-- the status is 4 exactly where a device failed
+pub device_of_pair : (strict wrote : Bool) (answer : Result PairAnswer CompareFault) (status a a_now b b_now w w_now : ℕ) → FailedIf (Left fault.Read) answer a a_now
+    → FailedIf (Right fault.Read) answer b b_now → w_now ≡ (if wrote then w else w + 1) → IfErr answer (λ f. fault_in f ≢ fault.Write) → status ≡ status_of_run_of_two wrote strict answer
+    → (status ≡ 4) ↔ ((a < a_now) ⊎ ((b < b_now) ⊎ (w < w_now)))
+device_of_pair strict false answer status a a_now b b_now w w_now left right output well is = (λ four. inr (inr (omega (arith, output))), λ failed. is)
+device_of_pair strict true (Ok pair) status a a_now b b_now w w_now left right output well is = (
+  λ four. absurd (four_of_pair (has_unclean strict pair) pair.comparison (sym is ∙ four)),
+  λ failed. absurd (none_failed a a_now b b_now w w_now (left.same (not_left pair)) (right.same (not_right pair)) output failed),
+)
+device_of_pair strict true (Err (Left why)) status a a_now b b_now w w_now left right output well is = (
+  λ four. inl (let risen = left.risen (ap (λ (f : Fault). Err (Left f)) (four_of_fault why (sym is ∙ four) well)) in omega (arith, risen)),
+  by (is_read why),
+)
+  where
+    by : (why ≡ fault.Read) ⊎ (why ≢ fault.Read) → (a < a_now) ⊎ ((b < b_now) ⊎ (w < w_now)) → status ≡ 4
+    by (inl read) failed = is ∙ ap status_of read
+    by (inr other) failed = absurd (none_failed a a_now b b_now w w_now (left.same (λ same. other (same_left why same))) (right.same (other_than_right why)) output failed)
+device_of_pair strict true (Err (Right why)) status a a_now b b_now w w_now left right output well is = (
+  λ four. inr (inl (let risen = right.risen (ap (λ (f : Fault). Err (Right f)) (four_of_fault why (sym is ∙ four) well)) in omega (arith, risen))),
+  by (is_read why),
+)
+  where
+    by : (why ≡ fault.Read) ⊎ (why ≢ fault.Read) → (a < a_now) ⊎ ((b < b_now) ⊎ (w < w_now)) → status ≡ 4
+    by (inl read) failed = is ∙ ap status_of read
+    by (inr other) failed = absurd (none_failed a a_now b b_now w w_now (left.same (other_than_left why)) (right.same (λ same. other (same_right why same))) output failed)
+
+-- ---- where both logs were accepted
 
 -- 0 is the status of logs that are the same
 pub same_of_zero : (comparison : Comparison) → 0 ≡ status_of_comparison comparison → comparison ≡ Same

@@ -146,10 +146,11 @@ EngineReads job name limit settings log = ReadsWhile ((engine_of job name).unref
 
 -- ---- two logs
 
--- what the parser calls the left and the right file of this job
+-- what the parser calls the left file of this job
 abbrev pub left_file : PairJob → Text
 left_file (pair_job.Compare style) = codes "A"
 
+-- and the right one
 abbrev pub right_file : PairJob → Text
 right_file (pair_job.Compare style) = codes "B"
 

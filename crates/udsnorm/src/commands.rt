@@ -18,8 +18,8 @@ use crate::values::{comparison_style, notation, style};
 use clap::ArgMatches;
 use std::alloc::Global;
 use trace_canon::{
-    CompareFault, Compared, Comparison, ComparisonStyle, Config, Fault, ItemStyle, Notation, Summary,
-    compare, explain, find, list, messages, normalise, watch, write_comparison,
+    CompareFault, Compared, Comparison, ComparisonStyle, Config, Fault, ItemStyle, Notation,
+    Summary, compare, explain, find, list, messages, normalise, watch, write_comparison,
 };
 use trace_io::{Source, Target};
 use trace_report::{report, report_style};
@@ -324,7 +324,11 @@ pub(crate) fn right_file(job: PairJob) -> &'static str
 }
 
 /// Whether a job over two logs has a text of this answer.
-pub(crate) fn has_text(job: PairJob, strict: bool, answer: &Result<PairAnswer, CompareFault>) -> bool
+pub(crate) fn has_text(
+    job: PairJob,
+    strict: bool,
+    answer: &Result<PairAnswer, CompareFault>,
+) -> bool
     ensures { result ≡ has_text job strict answer.now }
 {
     match job {
@@ -362,7 +366,7 @@ pub(crate) fn do_pair_job<A: Source, B: Source, W: Target>(
     // What is answered, and the text of that, for all logs with which the bytes that were read agree.
     ensures engine { (text : List ℕ)
         × ((one other : List ℕ) → Agrees (A.given left.old) (A.given left.new) (A.is_over left.new) one → Agrees (B.given right.old) (B.given right.new) (B.is_over right.new) other
-            → PairEngineAnswers job left_name.now right_name.now strict MESSAGE_LIMIT config.now one other result.answer text)
+        → PairEngineAnswers job left_name.now right_name.now strict MESSAGE_LIMIT config.now one other result.answer text)
         × WroteText W.Target text result.wrote out.old out.new }
     ensures left_alone { has_text job strict result.answer ≡ false → (result.wrote ≡ true) × (out.new ≡ out.old) }
     ensures flushes { W.flushes out.new ≡ W.flushes out.old }

@@ -16,6 +16,6 @@ returns-clause-ran g c = inl (record {
   from_start = ap given_by c.new-one.ensures;
   from_start_too = ap given_by c.new-other.ensures;
   fault = c.run_two-end.result.fault;
-  ran = ran_named_two (c.page_name.ensures ∙ ap (λ path. page_name (Some path)) c.as_str.ensures.value) (c.page_name-2.ensures ∙ ap (λ path. page_name (Some path)) c.as_str-2.ensures.value) c.run_two-end.ensures.ran;
+  ran = ran_named_two (c.page_name.ensures ∙ ap (λ path. page_name (Some path)) c.as_str-3.ensures.value) (c.page_name-2.ensures ∙ ap (λ path. page_name (Some path)) c.as_str-4.ensures.value) c.run_two-end.ensures.ran;
   known_is = c.known_of_files.ensures;
 })
