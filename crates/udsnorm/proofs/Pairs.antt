@@ -1,10 +1,13 @@
 -- What a run over two logs comes to, by what the engine answered and what became of its text.
 use Rattle.std.proofs.Common.{◌≡◌, ◌≢◌, ◌≤◌, ◌<◌, ◌+◌, ◌⊎◌, ◌↔◌, inl, inr, ℕ, Bool, true, false, true≢false, List, [], ◌++◌, Result, Ok, Err, append-nil, arith, ap, refl, sym, subst, ◌∙◌}
 use Rattle.std.specs.Prelude.{◌&&◌, not, is_ok, IfErr, if◌then◌else◌}
-use Rattle.trace_canon.specs.Compared.{fault_in}
+use Rattle.trace_canon.specs.Answers.{ReadsWhile}
+use Rattle.trace_canon.specs.Compared.{Compares, fault_in}
 use Rattle.trace_canon.specs.ComparisonText.{comparison_text}
 use Rattle.trace_canon.specs.Failing.{FailedIf}
 use Rattle.trace_canon.specs.Printed.{Prints}
+use Rattle.trace_canon.specs.Refusal.{IsNotRefusedWithin}
+use Rattle.trace_canon.specs.Settings.{Settings}
 use Rattle.trace_canon.specs.declared.comparing.Compared.{Compared}
 use Rattle.trace_canon.specs.declared.comparing.Comparison.{Comparison}
 use Rattle.trace_canon.specs.declared.comparing.Comparison.TheVariants.{Same, Different}
@@ -15,16 +18,29 @@ use Rattle.trace_canon.specs.declared.fault.Fault.{Fault}
 use Rattle.trace_canon.specs.declared.fault.Fault.TheVariants as fault
 use Rattle.trace_io.specs.Written.{HasFront}
 use Rattle.trace_io.specs.declared.device.Target.{Ghosts as TargetGhosts}
-use Rattle.udsnorm.specs.Commands.{has_text, pair_of}
+use Rattle.udsnorm.specs.Commands.{ComparesPair, PairEngineReads, has_text, pair_of}
 use Rattle.udsnorm.specs.Ending.{has_unclean, status_of_comparison, status_of_run_of_two}
 use Rattle.udsnorm.specs.Status.{status_of}
 use Rattle.udsnorm.specs.Telling.{WroteText}
 use Rattle.udsnorm.specs.proving.Flushed.{FlushedIf}
-use Rattle.udsnorm.specs.proving.Pairs.{text_of_answer}
+use Rattle.udsnorm.specs.proving.Pairs.{answer_of, text_of_answer}
 use Rattle.udsnorm.specs.declared.commands.PairAnswer.{PairAnswer}
 use Rattle.udsnorm.specs.declared.commands.PairJob.{PairJob}
 use Rattle.udsnorm.specs.declared.commands.PairJob.TheVariants as pair_job
 use Rattle.udsnorm.proofs.Statuses.{took_still}
+
+-- ---- the engine
+
+-- a comparison, without what the logs mean, and its text
+pub compared_pair : (style : ComparisonStyle) (strict : Bool) (limit : ℕ) (settings : Settings) (one other : List ℕ) (answer : Result Compared CompareFault) → Compares limit settings one other answer
+    → ComparesPair style strict limit settings one other (answer_of answer) (text_of_answer strict style answer)
+compared_pair style strict limit settings one other (Ok compared) compares = (compared, compares, refl, refl)
+compared_pair style strict limit settings one other (Err why) compares = (compares, refl)
+
+-- how near to what refuses a log a comparison reads
+pub reads_as_compare : (job : PairJob) (left_name right_name : List ℕ) (limit : ℕ) (settings : Settings) (log : List ℕ) (given failures failures_now : ℕ)
+    → ReadsWhile (IsNotRefusedWithin limit settings log) given failures failures_now → PairEngineReads job left_name right_name limit settings log given failures failures_now
+reads_as_compare (pair_job.Compare style) left_name right_name limit settings log given failures failures_now reads = reads
 
 -- ---- the status
 
