@@ -17,14 +17,16 @@ use Rattle.trace_canon.specs.declared.summary.Summary.{Summary}
 use Rattle.trace_canon.proofs.Promises.{clean_log_is_recording, clean_summary_is_certificate, summary_certifies}
 use Rattle.trace_canon.specs.Told.{AnswersTold, answers_counts}
 use Rattle.trace_report.specs.Front.{PageTitle, page_title}
+use Rattle.trace_report.specs.Held as Holds
 use Rattle.trace_report.specs.Page.{report_script}
+use Rattle.trace_report.specs.Session.{SessionValue}
 use Rattle.udsnorm.specs.Commands.{EngineAnswers, PairEngineAnswers}
 use Rattle.udsnorm.specs.Ending.{status_of_run_of_two}
 use Rattle.udsnorm.specs.declared.commands.Job.{Job}
 use Rattle.udsnorm.specs.declared.commands.Job.TheVariants as job
-use Rattle.udsnorm.specs.declared.commands.PairAnswer.{PairAnswer}
-use Rattle.udsnorm.specs.declared.commands.PairJob.{PairJob}
-use Rattle.udsnorm.specs.declared.commands.PairJob.TheVariants as pair_job
+use Rattle.udsnorm.specs.declared.pair_jobs.PairAnswer.{PairAnswer}
+use Rattle.udsnorm.specs.declared.pair_jobs.PairJob.{PairJob}
+use Rattle.udsnorm.specs.declared.pair_jobs.PairJob.TheVariants as pair_job
 use Rattle.udsnorm.proofs.Pairs.{accepted_pair}
 
 -- the counts of a log whose lines mean this
@@ -84,6 +86,10 @@ pub is_certified : (settings : Settings) (log : List ℕ) (session : Session) �
 is_certified settings log session gives clean =
     clean_log_is_recording MESSAGE_LIMIT settings log session.summary (of_accepted settings log gives.accepted session.summary gives.outcome gives.counted) clean
 
+-- a log that is held is clean
+of_held : (settings : Settings) (log : List ℕ) (session : SessionValue) → Holds.GivesSession MESSAGE_LIMIT settings log (Ok session) → is_clean session.summary ≡ true → IsCertified MESSAGE_LIMIT settings log
+of_held settings log session (meanings, read, is) = of_told settings log meanings session.summary read.1 (ap (λ (s : SessionValue). Ok s.summary) is)
+
 -- what is certified of two logs by the answer of a job over them
 of_pair : (job : PairJob) (left_name right_name : List ℕ) (strict : Bool) (settings : Settings) (one other : List ℕ) (pair : PairAnswer) (text : List ℕ)
     → PairEngineAnswers job left_name right_name strict MESSAGE_LIMIT settings one other (Ok pair) text → is_clean pair.left ≡ true → is_clean pair.right ≡ true
@@ -91,6 +97,11 @@ of_pair : (job : PairJob) (left_name right_name : List ℕ) (strict : Bool) (set
 of_pair (pair_job.Compare style) left_name right_name strict settings one other pair text (compared, compares, is, wrote) left_clean right_clean = (
   is_certified settings one compared.left compares.0 (sym (ap (λ (p : PairAnswer). is_clean p.left) is) ∙ left_clean),
   is_certified settings other compared.right compares.1 (sym (ap (λ (p : PairAnswer). is_clean p.right) is) ∙ right_clean),
+)
+
+of_pair pair_job.Report left_name right_name strict settings one other pair text (style, held, (left, right), is, wrote) left_clean right_clean = (
+  of_held settings one held.left left (sym (ap (λ (p : PairAnswer). is_clean p.left) is) ∙ left_clean),
+  of_held settings other held.right right (sym (ap (λ (p : PairAnswer). is_clean p.right) is) ∙ right_clean),
 )
 
 -- so where a strict run over two logs has an answer, each log is a recording

@@ -24,9 +24,9 @@ use Rattle.udsnorm.specs.Status.{status_of}
 use Rattle.udsnorm.specs.Telling.{WroteText}
 use Rattle.udsnorm.specs.proving.Flushed.{FlushedIf}
 use Rattle.udsnorm.specs.proving.Pairs.{answer_of, text_of_answer}
-use Rattle.udsnorm.specs.declared.commands.PairAnswer.{PairAnswer}
-use Rattle.udsnorm.specs.declared.commands.PairJob.{PairJob}
-use Rattle.udsnorm.specs.declared.commands.PairJob.TheVariants as pair_job
+use Rattle.udsnorm.specs.declared.pair_jobs.PairAnswer.{PairAnswer}
+use Rattle.udsnorm.specs.declared.pair_jobs.PairJob.{PairJob}
+use Rattle.udsnorm.specs.declared.pair_jobs.PairJob.TheVariants as pair_job
 use Rattle.udsnorm.proofs.Statuses.{took_still}
 
 -- ---- the engine
@@ -152,6 +152,7 @@ same_of_zero (Different item) zero = absurd (omega (arith, zero))
 -- such an answer has a text
 has_text_of_pair : (job : PairJob) (strict : Bool) (pair : PairAnswer) → has_unclean strict pair ≡ false → has_text job strict (Ok pair) ≡ true
 has_text_of_pair (pair_job.Compare style) strict pair clean = ap not clean
+has_text_of_pair pair_job.Report strict pair clean = refl
 
 pub has_text_then : (job : PairJob) (strict wrote : Bool) (answer : Result PairAnswer CompareFault) (status : ℕ) → status ≡ status_of_run_of_two wrote strict answer → status ≤ 1
     → has_text job strict answer ≡ true

@@ -21,8 +21,8 @@ use Rattle.udsnorm.specs.Telling.{TookText}
 use Rattle.udsnorm.specs.Values.{page_name}
 use Rattle.udsnorm.specs.Words.{IsPlanned}
 use Rattle.udsnorm.specs.declared.commands.Job.{Job}
-use Rattle.udsnorm.specs.declared.commands.PairAnswer.{PairAnswer}
-use Rattle.udsnorm.specs.declared.commands.PairJob.{PairJob}
+use Rattle.udsnorm.specs.declared.pair_jobs.PairAnswer.{PairAnswer}
+use Rattle.udsnorm.specs.declared.pair_jobs.PairJob.{PairJob}
 use Rattle.udsnorm.specs.declared.ended.Known.{Known}
 use Rattle.udsnorm.specs.declared.ended.Which.{Which}
 use Rattle.udsnorm.specs.declared.ended.Which.TheVariants.{First, Second}

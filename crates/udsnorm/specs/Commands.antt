@@ -5,11 +5,11 @@ use Rattle.std.specs.Prelude.{◌≡◌, ℕ, Bool, true, false, not, List, [], 
 use Rattle.clap.specs.Faults.{fault_of}
 use Rattle.clap.specs.Kinds.{Kinds}
 use Rattle.clap.specs.Simple.{App, Shape, new_rule, new_shape, subcommand_of}
-use Rattle.clap.specs.Walk.{Row, Rule, Text}
+use Rattle.clap.specs.Walk.{Row, Rule, Text, first_of}
 use Rattle.clap.specs.declared.builder.action.ArgAction.TheVariants.{SetTrue}
 use Rattle.clap.specs.declared.builder.value_parser.ValueParser.TheVariants.{Unsigned}
 use Rattle.trace_canon.specs.Answers.{Answers, ReadsWhile}
-use Rattle.trace_canon.specs.Compared.{Compares}
+use Rattle.trace_canon.specs.Compared.{Compares, fault_in}
 use Rattle.trace_canon.specs.ComparisonText.{comparison_text}
 use Rattle.trace_canon.specs.ExplainScript.{explain_script}
 use Rattle.trace_canon.specs.Found.{Finds}
@@ -25,14 +25,18 @@ use Rattle.trace_canon.specs.declared.fault.CompareFault.{CompareFault}
 use Rattle.trace_canon.specs.declared.fault.Fault.{Fault}
 use Rattle.trace_canon.specs.declared.summary.Summary.{Summary}
 use Rattle.trace_report.specs.Front.{page_title}
+use Rattle.trace_report.specs.Held.{HoldsTwo, comparison_in}
 use Rattle.trace_report.specs.Page.{report_script}
+use Rattle.trace_report.specs.PairPage.{pair_page, pair_title}
+use Rattle.trace_report.specs.declared.held_session.Held.{Held}
 use Rattle.udsnorm.specs.Ending.{has_unclean}
+use Rattle.udsnorm.specs.Status.{is_refusal}
 use Rattle.udsnorm.specs.Values.{comparison_style_in, notation_in, style_in}
 use Rattle.udsnorm.specs.declared.commands.Job.{Job}
 use Rattle.udsnorm.specs.declared.commands.Job.TheVariants as job
-use Rattle.udsnorm.specs.declared.commands.PairAnswer.{PairAnswer}
-use Rattle.udsnorm.specs.declared.commands.PairJob.{PairJob}
-use Rattle.udsnorm.specs.declared.commands.PairJob.TheVariants as pair_job
+use Rattle.udsnorm.specs.declared.pair_jobs.PairAnswer.{PairAnswer}
+use Rattle.udsnorm.specs.declared.pair_jobs.PairJob.{PairJob}
+use Rattle.udsnorm.specs.declared.pair_jobs.PairJob.TheVariants as pair_job
 use Rattle.udsnorm.specs.declared.commands.Task.{Task}
 use Rattle.udsnorm.specs.declared.commands.Task.TheVariants as task
 
@@ -86,11 +90,20 @@ as_json = flag (codes "json") ∷ []
 abbrev pub one_log : List Rule
 one_log = file (codes "LOG") false ∷ []
 
+-- one log that may be named, or two
+abbrev pub one_or_two_logs : List Rule
+one_or_two_logs = file (codes "LOG") false ∷ file (codes "OTHER") false ∷ []
+
 -- two logs that have to be named
 abbrev pub two_logs : List Rule
 two_logs = file (codes "A") true ∷ file (codes "B") true ∷ []
 
 -- ---- the commands
+
+-- the task of `report`: over two logs where a second one is named
+abbrev pub report_task : Option Text → Task
+report_task None = task.One job.Report
+report_task (Some other) = task.Two pair_job.Report
 
 -- a command: its name, its options and files, and its task, by what they are given
 pub record CommandEntry : Type 0 where
@@ -106,7 +119,7 @@ command_entries =
     ∷ record { name = codes "watch"; rules = sides ++ largest_limit ++ one_log ++ without_numbers ++ as_json ++ strictly; task = λ rows. task.One (job.Watch (style_in rows)) }
     ∷ record { name = codes "explain"; rules = sides ++ usual_limit ++ one_log ++ as_json ++ strictly; task = λ rows. task.One (job.Explain (notation_in rows)) }
     ∷ record { name = codes "messages"; rules = sides ++ largest_limit ++ one_log ++ as_json ++ strictly; task = λ rows. task.One (job.Messages (notation_in rows)) }
-    ∷ record { name = codes "report"; rules = sides ++ largest_limit ++ one_log ++ strictly; task = λ rows. task.One job.Report }
+    ∷ record { name = codes "report"; rules = sides ++ largest_limit ++ one_or_two_logs ++ strictly; task = λ rows. report_task (first_of (codes "OTHER") rows) }
     ∷ record { name = codes "find"; rules = usual_limit ++ one_log ++ as_json; task = λ rows. task.One (job.Find (notation_in rows)) }
     ∷ record { name = codes "compare"; rules = sides ++ usual_limit ++ two_logs ++ showing ++ as_json ++ strictly; task = λ rows. task.Two (pair_job.Compare (comparison_style_in rows)) }
     ∷ []
@@ -149,10 +162,12 @@ EngineReads job name limit settings log = ReadsWhile ((engine_of job name).unref
 -- what the parser calls the left file of this job
 abbrev pub left_file : PairJob → Text
 left_file (pair_job.Compare style) = codes "A"
+left_file pair_job.Report = codes "LOG"
 
 -- and the right one
 abbrev pub right_file : PairJob → Text
 right_file (pair_job.Compare style) = codes "B"
+right_file pair_job.Report = codes "OTHER"
 
 -- What is known of a call that reads two logs and writes a text: what it answers, where they have to be clean or not, and the text;
 -- and that nothing refuses a log for it among so many of its bytes.
@@ -174,14 +189,31 @@ ComparesPair style strict limit settings one other (Ok pair) text =
     (compared : Compared) × Compares limit settings one other (Ok compared) × (pair ≡ pair_of compared) × (text ≡ text_of_compared strict style compared)
 ComparesPair style strict limit settings one other (Err fault) text = Compares limit settings one other (Err fault) × (text ≡ [])
 
--- the job has a text of this answer: a comparison of logs of which each is clean that has to be
+-- what two logs that are held are to each other, without what they say
+abbrev pub pair_held : Held → PairAnswer
+pair_held held = record { comparison = comparison_in held; left = held.left.summary; right = held.right.summary }
+
+-- what both logs say, and the page of that, in some style, or of a log that is refused
+abbrev pub PagesPair : List ℕ → List ℕ → Bool → ℕ → Settings → List ℕ → List ℕ → Result PairAnswer CompareFault → List ℕ → Type 0
+PagesPair left_name right_name strict limit settings one other (Ok pair) text =
+    (style : List ℕ) × (held : Held) × HoldsTwo limit settings one other (Ok held) × (pair ≡ pair_held held)
+    × (text ≡ pair_page (pair_title style left_name right_name settings) (Ok held))
+PagesPair left_name right_name strict limit settings one other (Err fault) text =
+    (style : List ℕ) × HoldsTwo limit settings one other (Err fault) × (text ≡ pair_page (pair_title style left_name right_name settings) (Err fault))
+
+-- the job has a text of this answer: a comparison of logs of which each is clean that has to be; a page of all logs but those of which a
+-- device failed or memory was refused
 abbrev pub has_text : PairJob → Bool → Result PairAnswer CompareFault → Bool
 has_text (pair_job.Compare style) strict (Ok pair) = not (has_unclean strict pair)
 has_text (pair_job.Compare style) strict (Err fault) = false
+has_text pair_job.Report strict (Ok pair) = true
+has_text pair_job.Report strict (Err fault) = is_refusal (fault_in fault)
 
 -- the engine that does this job over two logs, which have these names on a page
 abbrev pub engine_of_pair : PairJob → List ℕ → List ℕ → PairEngine
 engine_of_pair (pair_job.Compare style) left_name right_name = record { answers = ComparesPair style; unrefused = IsNotRefusedWithin }
+engine_of_pair pair_job.Report left_name right_name =
+    record { answers = PagesPair left_name right_name; unrefused = λ limit settings. HasNoBadPlaceWithin }
 
 -- what it answers, and what it writes
 abbrev pub PairEngineAnswers : PairJob → List ℕ → List ℕ → Bool → ℕ → Settings → List ℕ → List ℕ → Result PairAnswer CompareFault → List ℕ → Type 0

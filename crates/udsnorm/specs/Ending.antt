@@ -9,7 +9,7 @@ use Rattle.trace_canon.specs.declared.fault.Fault.{Fault}
 use Rattle.trace_canon.specs.declared.fault.Fault.TheVariants.{Write}
 use Rattle.trace_canon.specs.declared.summary.Summary.{Summary}
 use Rattle.udsnorm.specs.Status.{is_refusal, status_of}
-use Rattle.udsnorm.specs.declared.commands.PairAnswer.{PairAnswer}
+use Rattle.udsnorm.specs.declared.pair_jobs.PairAnswer.{PairAnswer}
 
 -- Whether the output is flushed after this answer, where it took these bytes: after an `Ok`, and after a refused log where it
 -- took any. After a failed device or refused memory it is not.

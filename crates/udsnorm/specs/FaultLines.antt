@@ -10,7 +10,7 @@ use Rattle.trace_canon.specs.declared.fault.Fault.TheVariants as fault
 use Rattle.trace_canon.specs.declared.summary.Summary.{Summary}
 use Rattle.trace_canon.specs.Summing.{is_clean}
 use Rattle.udsnorm.specs.Ending.{has_unclean, is_unclean}
-use Rattle.udsnorm.specs.declared.commands.PairAnswer.{PairAnswer}
+use Rattle.udsnorm.specs.declared.pair_jobs.PairAnswer.{PairAnswer}
 use Rattle.udsnorm.specs.declared.job.WordsFault.{WordsFault}
 use Rattle.udsnorm.specs.declared.job.WordsFault.TheVariants as words
 

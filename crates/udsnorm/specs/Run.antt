@@ -16,8 +16,8 @@ use Rattle.udsnorm.specs.Ending.{ComesTo, fault_of, flushes, status_of_run, stat
 use Rattle.udsnorm.specs.FaultLines.{run_text, run_two_text}
 use Rattle.udsnorm.specs.Telling.{TookText, WroteText}
 use Rattle.udsnorm.specs.declared.commands.Job.{Job}
-use Rattle.udsnorm.specs.declared.commands.PairAnswer.{PairAnswer}
-use Rattle.udsnorm.specs.declared.commands.PairJob.{PairJob}
+use Rattle.udsnorm.specs.declared.pair_jobs.PairAnswer.{PairAnswer}
+use Rattle.udsnorm.specs.declared.pair_jobs.PairJob.{PairJob}
 
 -- What a run over one log did, which has this name on a page and has to be clean where the run is strict: from its input to its output and its error
 -- output, its exit status, and the outcome that this is of.

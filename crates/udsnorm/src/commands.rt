@@ -1,25 +1,20 @@
 //! The commands: the words and the help of each, the task that it asks for, and the engine that does its job. What is said
 //! of a command stands here and in `specs/Commands.antt`, in the same order.
 
-ghost use Rattle.std.specs.Prelude.{◌≡◌, ◌≢◌, ◌-◌, ℕ, List, Err, IfErr, false, length, true};
+ghost use Rattle.std.specs.Prelude.{◌≡◌, ◌-◌, ℕ, List, codes, length};
 ghost use Rattle.isotp_receive.specs.declared.TheConstants.{MESSAGE_LIMIT};
-ghost use Rattle.trace_canon.specs.Compared.{fault_in};
 ghost use Rattle.trace_canon.specs.Devices.{ReadFrom, WroteTo};
-ghost use Rattle.trace_canon.specs.declared.fault.Fault.{Fault as FaultValue};
 ghost use Rattle.trace_io.specs.Counted.{AreLowCounts, IsLowCount};
 ghost use Rattle.trace_io.specs.Stream.{Agrees};
-ghost use Rattle.clap.specs.Words.{found_of, rows_of};
-ghost use Rattle.udsnorm.specs.Commands.{EngineAnswers, EngineReads, PairEngineAnswers, PairEngineReads, has_text, left_file, pair_of, right_file, task_named};
-ghost use Rattle.udsnorm.specs.Ending.{has_unclean};
-ghost use Rattle.udsnorm.specs.Telling.{WroteText};
-ghost use Rattle.udsnorm.specs.proving.Pairs.{answer_of, text_of_answer};
+ghost use Rattle.clap.specs.Words.{first_of, found_of, rows_of};
+ghost use Rattle.udsnorm.specs.Commands.{EngineAnswers, EngineReads, report_task, task_named};
 
-use crate::values::{comparison_style, notation, style};
+use crate::pair_jobs::PairJob;
+use crate::values::{comparison_style, notation, style, text_of};
 use clap::ArgMatches;
 use std::alloc::Global;
 use trace_canon::{
-    CompareFault, Compared, Comparison, ComparisonStyle, Config, Fault, ItemStyle, Notation,
-    Summary, compare, explain, find, list, messages, normalise, watch, write_comparison,
+    Config, Fault, ItemStyle, Notation, Summary, explain, find, list, messages, normalise, watch,
 };
 use trace_io::{Source, Target};
 use trace_report::{report, report_style};
@@ -43,13 +38,6 @@ pub enum Job {
     Find(Notation),
 }
 
-/// What the program does with two logs.
-#[derive(Clone, Copy, PartialEq, Eq)]
-pub enum PairJob {
-    /// Says whether they have the same meaning, in this style.
-    Compare(ComparisonStyle),
-}
-
 /// What a command asks for.
 #[derive(Clone, Copy, PartialEq, Eq)]
 pub enum Task {
@@ -57,22 +45,6 @@ pub enum Task {
     One(Job),
     /// A job over two.
     Two(PairJob),
-}
-
-/// What two accepted logs are to each other, and what was counted in each.
-#[derive(Clone, Copy)]
-pub struct PairAnswer {
-    pub comparison: Comparison,
-    pub left: Summary,
-    pub right: Summary,
-}
-
-/// What a job over two logs came to.
-#[derive(Clone, Copy)]
-pub struct PairDone {
-    pub answer: Result<PairAnswer, CompareFault>,
-    /// Whether its text was written. Where it has none, there is nothing that could fail.
-    pub wrote: bool,
 }
 
 /// A command as the parser and its help have it.
@@ -160,7 +132,7 @@ pub(crate) const COMMANDS: &[CommandRow] = &[
         name: "report",
         about: "Writes the session as a page of HTML, to look at",
         after_help: OF_REPORT,
-        arguments: &[SIDES, LARGEST_LIMIT, ONE_LOG, STRICTLY],
+        arguments: &[SIDES, LARGEST_LIMIT, ONE_OR_TWO_LOGS, STRICTLY],
     },
     CommandRow {
         name: "find",
@@ -192,6 +164,8 @@ pub(crate) const JSON: &str = "json";
 pub(crate) const SHOW: &str = "show";
 
 pub(crate) const LOG: &str = "LOG";
+
+pub(crate) const OTHER: &str = "OTHER";
 
 pub(crate) const LEFT: &str = "A";
 
@@ -246,6 +220,19 @@ const ONE_LOG: &[Argument] = &[Argument::File {
     help: "The recorded log; without it standard input is read",
 }];
 
+const ONE_OR_TWO_LOGS: &[Argument] = &[
+    Argument::File {
+        name: LOG,
+        is_required: false,
+        help: "The recorded log; without it standard input is read",
+    },
+    Argument::File {
+        name: OTHER,
+        is_required: false,
+        help: "A second log: the page shows where the two differ",
+    },
+];
+
 const TWO_LOGS: &[Argument] = &[
     Argument::File {
         name: LEFT,
@@ -269,10 +256,20 @@ pub(crate) fn task_named(name: &str, found: &ArgMatches<'_>) -> Task
         "watch" => Task::One(Job::Watch(style(found))),
         "explain" => Task::One(Job::Explain(notation(found))),
         "messages" => Task::One(Job::Messages(notation(found))),
-        "report" => Task::One(Job::Report),
+        "report" => report_task(found),
         "find" => Task::One(Job::Find(notation(found))),
         "compare" => Task::Two(PairJob::Compare(comparison_style(found))),
         _ => Task::One(Job::Normalise),
+    }
+}
+
+/// The task of `report`: over two logs where a second one is named.
+fn report_task(found: &ArgMatches<'_>) -> Task
+    ensures { result ≡ report_task (first_of (codes "OTHER") (rows_of (found_of found.now))) }
+{
+    match text_of(found, OTHER) {
+        Some(_) => Task::Two(PairJob::Report),
+        None => Task::One(Job::Report),
     }
 }
 
@@ -302,134 +299,6 @@ pub(crate) fn do_job<R: Source, W: Target>(
         Job::Messages(notation) => messages(alloc, config, notation, input, out),
         Job::Report => report(alloc, config, report_style(), name.as_bytes(), input, out),
         Job::Find(notation) => find(alloc, config, notation, input, out),
-    }
-}
-
-/// What the parser calls the left file of a job over two logs.
-pub(crate) fn left_file(job: PairJob) -> &'static str
-    ensures { result.now ≡ left_file job }
-{
-    match job {
-        PairJob::Compare(_) => LEFT,
-    }
-}
-
-/// What it calls the right one.
-pub(crate) fn right_file(job: PairJob) -> &'static str
-    ensures { result.now ≡ right_file job }
-{
-    match job {
-        PairJob::Compare(_) => RIGHT,
-    }
-}
-
-/// Whether a job over two logs has a text of this answer.
-pub(crate) fn has_text(
-    job: PairJob,
-    strict: bool,
-    answer: &Result<PairAnswer, CompareFault>,
-) -> bool
-    ensures { result ≡ has_text job strict answer.now }
-{
-    match job {
-        PairJob::Compare(_) => match answer {
-            Ok(pair) => !has_unclean(strict, pair),
-            Err(_) => false,
-        },
-    }
-}
-
-/// Whether one of two logs has to be clean, and is not.
-pub(crate) fn has_unclean(strict: bool, pair: &PairAnswer) -> bool
-    ensures { result ≡ has_unclean strict pair.now }
-{
-    strict && !(pair.left.is_clean() && pair.right.is_clean())
-}
-
-/// What the engine comes to that does the job, over two logs that have these names on a page. The left one is read whole
-/// before the right one, and the text is not flushed.
-pub(crate) fn do_pair_job<A: Source, B: Source, W: Target>(
-    alloc: Global,
-    job: PairJob,
-    left_name: &str,
-    right_name: &str,
-    strict: bool,
-    config: &Config,
-    left: &mut A,
-    right: &mut B,
-    out: &mut W,
-) -> PairDone
-    requires left { AreLowCounts (A.reads left.old) (length (A.given left.old)) (A.failures left.old) }
-    requires right { AreLowCounts (B.reads right.old) (length (B.given right.old)) (B.failures right.old) }
-    requires out { IsLowCount (W.failures out.old) }
-
-    // What is answered, and the text of that, for all logs with which the bytes that were read agree.
-    ensures engine { (text : List ℕ)
-        × ((one other : List ℕ) → Agrees (A.given left.old) (A.given left.new) (A.is_over left.new) one → Agrees (B.given right.old) (B.given right.new) (B.is_over right.new) other
-        → PairEngineAnswers job left_name.now right_name.now strict MESSAGE_LIMIT config.now one other result.answer text)
-        × WroteText W.Target text result.wrote out.old out.new }
-    ensures left_alone { has_text job strict result.answer ≡ false → (result.wrote ≡ true) × (out.new ≡ out.old) }
-    ensures flushes { W.flushes out.new ≡ W.flushes out.old }
-
-    // After a fault of the left log nothing of the right one was read.
-    ensures unread { (fault : FaultValue) → result.answer ≡ Err (CompareFault.Left fault) → right.new ≡ right.old }
-    ensures left_near { (one : List ℕ) → Agrees (A.given left.old) (A.given left.new) (A.is_over left.new) one
-        → PairEngineReads job left_name.now right_name.now MESSAGE_LIMIT config.now one (length (A.given left.new) - length (A.given left.old)) (A.failures left.old) (A.failures left.new) }
-    ensures right_near { (other : List ℕ) → Agrees (B.given right.old) (B.given right.new) (B.is_over right.new) other
-        → PairEngineReads job left_name.now right_name.now MESSAGE_LIMIT config.now other (length (B.given right.new) - length (B.given right.old)) (B.failures right.old) (B.failures right.new) }
-    ensures left_read { ReadFrom A.Source (CompareFault.Left Fault.Read) config.now.max_bytes result.answer left.old left.new }
-    ensures right_read { ReadFrom B.Source (CompareFault.Right Fault.Read) config.now.max_bytes result.answer right.old right.new }
-    ensures never_write { IfErr result.answer (λ fault. fault_in fault ≢ Fault.Write) }
-{
-    match job {
-        PairJob::Compare(style) => {
-            let answer = compare(alloc, config, left, right);
-            PairDone {
-                answer: answer_of(&answer),
-                wrote: write_answer(&answer, strict, style, out),
-            }
-        }
-    }
-}
-
-/// An answer about two logs, without what they mean.
-fn answer_of(answer: &Result<Compared, CompareFault>) -> Result<PairAnswer, CompareFault>
-    ensures { result ≡ answer_of answer.now }
-{
-    match answer {
-        Ok(compared) => Ok(pair_of(compared)),
-        Err(fault) => Err(*fault),
-    }
-}
-
-/// What two accepted logs are to each other, and what was counted in each.
-fn pair_of(compared: &Compared) -> PairAnswer
-    ensures { result ≡ pair_of compared.now }
-{
-    PairAnswer {
-        comparison: compared.comparison,
-        left: compared.left.summary,
-        right: compared.right.summary,
-    }
-}
-
-/// Writes how two logs compare, where each is clean that has to be. Answers whether that did not fail.
-fn write_answer<W: Target>(
-    answer: &Result<Compared, CompareFault>,
-    strict: bool,
-    style: ComparisonStyle,
-    out: &mut W,
-) -> bool
-    requires { IsLowCount (W.failures out.old) }
-    ensures text { WroteText W.Target (text_of_answer strict style answer.now) result out.old out.new }
-    ensures left_alone { has_text (PairJob.Compare style) strict (answer_of answer.now) ≡ false → (result ≡ true) × (out.new ≡ out.old) }
-    ensures flushes { W.flushes out.new ≡ W.flushes out.old }
-{
-    match answer {
-        Ok(compared) if !has_unclean(strict, &pair_of(compared)) => {
-            write_comparison(compared, style, out).is_ok()
-        }
-        _ => true,
     }
 }
 
@@ -501,11 +370,14 @@ The page is one file, which fetches nothing: for a browser, a mail or a printer.
 row for each message, and for what was dropped or is missing, in the order of the log. Above it
 stands the verdict, with links to what needs a look.
 
+Of two logs the page says whether they are the same session, and shows side by side where they
+differ first, as in `udsnorm report yesterday.log today.log > difference.html`.
+
 A log that is refused has a page, too: of what stands before the refused line.
 
-Exit status: 0 done, 2 wrong words, 3 the log is refused,
-4 a file can't be opened, or reading or writing failed, 5 out of memory,
-6 with `--strict`: it was done, and the log is not clean.
+Exit status: 0 done, and two logs are the same, 1 two logs differ, 2 wrong words,
+3 a log is refused, 4 a file can't be opened, or reading or writing failed, 5 out of memory,
+6 with `--strict`: it was done, and a log is not clean.
 
 Example: udsnorm report recorded.log > recorded.html";
 

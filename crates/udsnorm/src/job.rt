@@ -3,7 +3,8 @@
 ghost use Rattle.std.specs.Prelude.{◌≡◌};
 ghost use Rattle.udsnorm.specs.declared.job.WordsFault.TheVariants as words_fault;
 
-use crate::commands::{Job, PairJob};
+use crate::commands::Job;
+use crate::pair_jobs::PairJob;
 use std::alloc::AllocError;
 use thiserror::Error;
 use trace_canon::{Config, ConfigFault};

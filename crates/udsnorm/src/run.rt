@@ -13,8 +13,9 @@ ghost use Rattle.udsnorm.specs.Run.{RanOne, RanTwo};
 ghost use Rattle.udsnorm.specs.Telling.{TookText};
 ghost use Rattle.udsnorm.specs.proving.Flushed.{FlushedIf};
 
-use crate::commands::{Job, PairAnswer, PairJob, do_job, do_pair_job, has_text, has_unclean};
+use crate::commands::{Job, do_job};
 use crate::ended::{OneEnd, TwoEnd};
+use crate::pair_jobs::{PairAnswer, PairJob, do_pair_job, has_text, has_unclean};
 use crate::tell::{is_refusal, tell_fault, tell_side, tell_unclean, tell_unclean_sides};
 use std::alloc::Global;
 use trace_canon::{CompareFault, Comparison, Config, Fault, Summary};

@@ -7,12 +7,10 @@ ghost use Rattle.udsnorm.specs.Identifiers.{identifier_of};
 ghost use Rattle.udsnorm.specs.Words.{IsCalled, IsConfiguredBy, IsConfiguredIn, IsPlanOf, IsPlanned, IsPlannedFrom, IsRefusedFor};
 
 use crate::command::command;
-use crate::commands::{
-    Job, LIMIT, LOG, PairJob, TESTER, Task, UNIT, USUAL_TESTER, USUAL_UNIT, left_file, right_file,
-    task_named,
-};
+use crate::commands::{Job, LIMIT, LOG, TESTER, Task, UNIT, USUAL_TESTER, USUAL_UNIT, task_named};
 use crate::identifiers::identifier;
 use crate::job::{Plan, WordsFault};
+use crate::pair_jobs::{PairJob, left_file, right_file};
 use crate::values::{is_strict, text_of};
 use clap::error::ErrorKind;
 use clap::{ArgMatches, Error};

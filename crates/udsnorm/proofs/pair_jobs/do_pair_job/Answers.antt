@@ -5,11 +5,11 @@ use Rattle.trace_io.specs.Stream.{Agrees}
 use Rattle.udsnorm.specs.Commands.{ComparesPair, PairEngineAnswers}
 use Rattle.udsnorm.specs.Telling.{WroteText}
 use Rattle.udsnorm.specs.proving.Pairs.{text_of_answer}
-use Rattle.udsnorm.specs.declared.commands.PairAnswer.{PairAnswer}
-use Rattle.udsnorm.specs.declared.commands.PairJob.{PairJob}
-use Rattle.udsnorm.specs.declared.commands.PairJob.TheVariants as pair_job
+use Rattle.udsnorm.specs.declared.pair_jobs.PairAnswer.{PairAnswer}
+use Rattle.udsnorm.specs.declared.pair_jobs.PairJob.{PairJob}
+use Rattle.udsnorm.specs.declared.pair_jobs.PairJob.TheVariants as pair_job
 use Rattle.udsnorm.proofs.Pairs.{compared_pair, reads_as_compare}
-use Rattle.udsnorm.proofs.commands.do_pair_job.Goals as goal
+use Rattle.udsnorm.proofs.pair_jobs.do_pair_job.Goals as goal
 
 pub returns-clause-engine : goal.returns-clause-engine
 returns-clause-engine g c = by c.args.job refl

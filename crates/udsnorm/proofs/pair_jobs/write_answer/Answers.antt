@@ -2,7 +2,7 @@ use Rattle.std.proofs.Common.{ℕ, List, ap, sym, subst, ◌∙◌}
 use Rattle.udsnorm.specs.Ending.{has_unclean}
 use Rattle.udsnorm.specs.Telling.{WroteText}
 use Rattle.udsnorm.proofs.Pairs.{text_of_clean, wrote_by_print}
-use Rattle.udsnorm.proofs.commands.write_answer.Goals as goal
+use Rattle.udsnorm.proofs.pair_jobs.write_answer.Goals as goal
 
 pub returns-in-Ok-clause-text : goal.returns-in-Ok-clause-text
 returns-in-Ok-clause-text g c =
