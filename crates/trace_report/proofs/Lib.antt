@@ -7,4 +7,5 @@ mod Holding
 mod FirstPlaces
 mod SaidParts
 mod ContrastTexts
+mod PairTexts
 pub mod Harmless
