@@ -10,4 +10,5 @@ mod ContrastTexts
 mod ItemComparisons
 mod ItemValues
 mod SessionItems
+mod PairTexts
 pub mod Harmless

@@ -30,6 +30,7 @@ mod front;
 mod held_session;
 mod help;
 mod holder;
+mod item_rows;
 mod items;
 pub mod laws;
 mod links;

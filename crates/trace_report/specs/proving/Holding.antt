@@ -1,5 +1,5 @@
 -- Devices of proof: what the code holds of a session, and lends of it, without where its bytes lie in memory.
-use Rattle.std.specs.Prelude.{◌≡◌, ℕ, ◌≤◌, ◌^◌, List, [], ◌∷◌, ◌++◌, length, map, option_map, Option, Some, None}
+use Rattle.std.specs.Prelude.{◌≡◌, ℕ, ◌≤◌, ◌^◌, List, [], ◌∷◌, ◌++◌, ◌-◌, length, map, option_map, take, Option, Some, None}
 use Rattle.isotp_receive.specs.declared.TheConstants.{MESSAGE_LIMIT}
 use Rattle.isotp_receive.specs.Trace.{Entry}
 use Rattle.trace_report.specs.Events.{rows_of}
@@ -59,3 +59,8 @@ items_with (Some next) = item_of next.item ∷ items_in (held_rows next.rest.now
 abbrev pub pairs_with : Option NextPair → List ItemPair
 pairs_with None = []
 pairs_with (Some next) = pair_of next.pair ∷ pairs_of (items_in (held_rows next.left.now)) (items_in (held_rows next.right.now))
+
+-- at the most so many of those items, number by number
+abbrev pub taken_with : ℕ → Option NextPair → List ItemPair
+taken_with most None = []
+taken_with most (Some next) = pair_of next.pair ∷ take (most - 1) (pairs_of (items_in (held_rows next.left.now)) (items_in (held_rows next.right.now)))
