@@ -10,5 +10,6 @@ mod ContrastTexts
 mod ItemComparisons
 mod ItemValues
 mod SessionItems
+mod Agreeing
 mod PairTexts
 pub mod Harmless
