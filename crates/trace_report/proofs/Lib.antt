@@ -8,4 +8,6 @@ mod FirstPlaces
 mod SaidParts
 mod ContrastTexts
 mod PairTexts
+mod PairCounting
+mod FewPairs
 pub mod Harmless
