@@ -7,6 +7,10 @@ mod Holding
 mod FirstPlaces
 mod SaidParts
 mod ContrastTexts
+mod ItemComparisons
+mod ItemValues
+mod SessionItems
+mod Agreeing
 mod PairTexts
 mod PairCounting
 mod FewPairs

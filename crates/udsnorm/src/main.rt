@@ -29,6 +29,7 @@ mod identifiers;
 mod job;
 mod looks;
 mod noticing;
+mod pair_jobs;
 mod run;
 mod stream;
 mod tell;
@@ -41,6 +42,7 @@ use crate::ended::{End, Run, Which, known_of_file, known_of_files, known_of_inpu
 use crate::hints::give_hint;
 use crate::job::{Plan, WordsFault};
 use crate::noticing::Noticing;
+use crate::pair_jobs::PairJob;
 use crate::run::{run_one, run_two};
 use crate::stream::is_one_stream;
 use crate::tell::{tell, tell_fault, tell_one_stream, tell_side};
@@ -51,7 +53,7 @@ use std::io::{ErrorKind, Input, IsTerminal, Print, Read};
 use std::process::ExitCode;
 use std::rt::Files;
 use std::{env, fs, io};
-use trace_canon::{CompareFault, ComparisonStyle, Config, Fault};
+use trace_canon::{CompareFault, Config, Fault};
 use trace_io::{Source, Target, Writing};
 
 /// What is told of a command line that is no text.
@@ -176,12 +178,12 @@ where
             Some(name) => run_file(rt, *job, *strict, config, name, out, err),
         },
         Plan::Two {
+            job,
             strict,
-            style,
             config,
             left,
             right,
-        } => run_files(rt, *strict, *style, config, left, right, out, err),
+        } => run_files(rt, *job, *strict, config, left, right, out, err),
     }
 }
 
@@ -228,11 +230,11 @@ fn run_file<R: AllocGlobal + Files, W: Target, E: Target>(
     }
 }
 
-/// Compares the logs of two files. Both are opened before either is read, and neither is where they are one stream.
+/// Does a job over the logs of two files. Both are opened before either is read, and neither is where they are one stream.
 fn run_files<R: AllocGlobal + Files, W: Target, E: Target>(
     rt: &R,
+    job: PairJob,
     strict: bool,
-    style: ComparisonStyle,
     config: &Config,
     left: &String,
     right: &String,
@@ -243,7 +245,7 @@ where
     R::File: IsTerminal,
     requires out { IsLowCount (W.failures out.old) }
     requires err { IsLowCount (E.failures err.old) }
-    ensures ran { RanFiles ⟦<Noticing<R::File> as Source>⟧ W.Target E.Target strict style MESSAGE_LIMIT config.now out.old err.old result.status result.known out.new err.new
+    ensures ran { RanFiles ⟦<Noticing<R::File> as Source>⟧ W.Target E.Target job (page_name_of (Some (string_bytes left.now))) (page_name_of (Some (string_bytes right.now))) strict MESSAGE_LIMIT config.now out.old err.old result.status result.known out.new err.new
         ⊎ (Unopened E.Target (side_line (CompareFault.Left Fault.Read)) Which.First out.old err.old result.status result.known out.new err.new
         ⊎ (Unopened E.Target (side_line (CompareFault.Right Fault.Read)) Which.Second out.old err.old result.status result.known out.new err.new
         ⊎ OneStream E.Target out.old err.old result.status result.known out.new err.new)) }
@@ -251,7 +253,7 @@ where
     ensures once { result.status ≡ 0 → W.flushes out.new ≡ W.flushes out.old + 1 }
     ensures flushes { W.flushes out.new ≤ W.flushes out.old + 1 }
 {
-    let left = match fs::open(rt, left.as_str()) {
+    let one = match fs::open(rt, left.as_str()) {
         Ok(file) => file,
         Err(error) => {
             return End {
@@ -260,7 +262,7 @@ where
             };
         }
     };
-    let right = match fs::open(rt, right.as_str()) {
+    let other = match fs::open(rt, right.as_str()) {
         Ok(file) => file,
         Err(error) => {
             return End {
@@ -269,26 +271,28 @@ where
             };
         }
     };
-    if is_one_stream(&left, &right) {
+    if is_one_stream(&one, &other) {
         return End {
             status: tell_one_stream(err),
             known: None,
         };
     }
-    let mut left = Noticing::new(left);
-    let mut right = Noticing::new(right);
+    let mut one = Noticing::new(one);
+    let mut other = Noticing::new(other);
     let end = run_two(
         rt.alloc(),
+        job,
+        page_name(Some(left.as_str())),
+        page_name(Some(right.as_str())),
         strict,
-        style,
         config,
-        &mut left,
-        &mut right,
+        &mut one,
+        &mut other,
         out,
         err,
     );
     End {
         status: end.status,
-        known: known_of_files(config, end.fault, left, right),
+        known: known_of_files(config, end.fault, one, other),
     }
 }
