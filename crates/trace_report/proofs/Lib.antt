@@ -12,4 +12,6 @@ mod ItemValues
 mod SessionItems
 mod Agreeing
 mod PairTexts
+mod PairCounting
+mod FewPairs
 pub mod Harmless

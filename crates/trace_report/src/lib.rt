@@ -37,6 +37,10 @@ mod links;
 mod lost_rows;
 mod marks;
 mod message_rows;
+mod pair_items;
+mod pair_page;
+mod pair_verdict;
+mod pairs;
 mod places;
 mod reporter;
 mod row;
@@ -49,5 +53,6 @@ mod words;
 
 pub use held_session::{Held, HeldSession};
 pub use holder::hold_two;
+pub use pair_page::{PairTitle, write_pair_page};
 pub use reporter::report;
 pub use style::report_style;
