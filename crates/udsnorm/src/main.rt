@@ -13,11 +13,15 @@
 #![tactic(auto)]
 
 ghost use Rattle.std.specs.Prelude.{◌≡◌, ◌+◌, ◌≤◌, ◌⊎◌, ℕ, List, ◌++◌, length, true, map, string_bytes, Some};
+ghost use Rattle.trace_canon.specs.Compared.{fault_in};
 ghost use Rattle.trace_io.specs.Counted.{AreLowCounts, IsLowCount};
 ghost use Rattle.udsnorm.specs.Asked.{Did, DidWords, IsDone, OneStream, RanFile, RanFiles, Unopened};
 ghost use Rattle.isotp_receive.specs.declared.TheConstants.{MESSAGE_LIMIT};
 ghost use Rattle.udsnorm.specs.FaultLines.{fault_line, side_line};
 ghost use Rattle.udsnorm.specs.Commands.{words_or_normalise};
+ghost use Rattle.udsnorm.specs.Known.{IsKnownUnopened};
+ghost use Rattle.udsnorm.specs.Status.{status_of};
+ghost use Rattle.udsnorm.specs.Telling.{TookText};
 ghost use Rattle.udsnorm.specs.Values.{page_name as page_name_of};
 
 mod command;
@@ -256,19 +260,15 @@ where
     let one = match fs::open(rt, left.as_str()) {
         Ok(file) => file,
         Err(error) => {
-            return End {
-                status: tell_side(CompareFault::Left(Fault::Read), err),
-                known: unopened(Which::First, &error),
-            };
+            let fault = CompareFault::Left(Fault::Read);
+            return tell_unopened(fault, Which::First, &error, err);
         }
     };
     let other = match fs::open(rt, right.as_str()) {
         Ok(file) => file,
         Err(error) => {
-            return End {
-                status: tell_side(CompareFault::Right(Fault::Read), err),
-                known: unopened(Which::Second, &error),
-            };
+            let fault = CompareFault::Right(Fault::Read);
+            return tell_unopened(fault, Which::Second, &error, err);
         }
     };
     if is_one_stream(&one, &other) {
@@ -294,5 +294,23 @@ where
     End {
         status: end.status,
         known: known_of_files(config, end.fault, one, other),
+    }
+}
+
+/// Tells that the file of one of two logs can't be opened. Answers how that ended, with why it can't.
+fn tell_unopened<E: Target>(
+    fault: CompareFault,
+    which: Which,
+    error: &io::Error,
+    err: &mut E,
+) -> End
+    requires { IsLowCount (E.failures err.old) }
+    ensures status { result.status ≡ status_of (fault_in fault) }
+    ensures told { TookText (side_line fault) (E.failures err.old) (E.failures err.new) (E.taken err.old) (E.taken err.new) }
+    ensures known { IsKnownUnopened which result.known }
+{
+    End {
+        status: tell_side(fault, err),
+        known: unopened(which, error),
     }
 }
