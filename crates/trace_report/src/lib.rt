@@ -14,6 +14,17 @@
 //! The text of a page is in pieces: its `front`; the rows of messages (`message_rows`, `brief_rows`) and of what is missing
 //! (`lost_rows`), by `cells` and `words`; the `verdict`, with `links` and `counts`; and the `help`. The style is no part of what is
 //! proved.
+//!
+//! Of two logs a page says first whether they are the same. So both are held: [`hold_two`] keeps the rows of each (`holder`), and
+//! [`write_pair_page`] writes the page of both.
+//!
+//! ```text
+//! event -> Follower -> rows -> Holder -> HeldSession -> items, pairs -> page
+//! ```
+//!
+//! The `items` are found again among the rows, and those of both logs stand side by side. The first `contrast` of a pair (`pairs`) is the
+//! difference that the page tells (`pair_verdict`) and shows by the rows around it (`difference`), with a mark at the byte (`marks`). The
+//! items before and behind it are rows of a table (`item_rows`, `pair_items`).
 #![tactic(auto)]
 
 mod blocks;

@@ -1,7 +1,7 @@
 //! What is found of two sessions that are held: how many numbers they have, and where they first differ.
 ghost use Rattle.std.specs.Prelude.{◌≡◌, ◌+◌, ◌<◌, ◌^◌, IfSome, drop, length, option_map};
 ghost use Rattle.trace_report.specs.Contrast.{first_contrast};
-ghost use Rattle.trace_report.specs.Held.{pairs_in};
+ghost use Rattle.trace_report.specs.Held.{comparison_in, pairs_in};
 ghost use Rattle.trace_report.specs.Items.{items_in, pairs_of};
 ghost use Rattle.trace_report.specs.Sorts.{counts_in};
 ghost use Rattle.trace_report.specs.proving.Holding.{contrast_found, held_rows};
@@ -11,6 +11,7 @@ use crate::counts::SortCounts;
 use crate::held_session::{Held, HeldRow};
 use crate::items::{LentPair, next_pair};
 use crate::sorts::sort_of;
+use trace_canon::Comparison;
 
 /// The first difference of two sessions: how many items of both are the same before it, the items there, how they differ, and the
 /// rows of both behind them.
@@ -98,4 +99,16 @@ pub(crate) fn first_difference<'a>(held: &'a Held) -> Option<FoundContrast<'a>>
     ensures within { IfSome result (λ found. found.before + 2 + (length found.left.now + length found.right.now) < 2 ^ 64) }
 {
     first_contrast_of(held.left.rows(), held.right.rows())
+}
+
+impl Held {
+    /// What the two logs are to each other.
+    pub fn comparison(&self) -> Comparison
+        ensures { result ≡ comparison_in self.now }
+    {
+        match first_difference(self) {
+            Some(found) => Comparison::Different { item: found.before },
+            None => Comparison::Same,
+        }
+    }
 }
