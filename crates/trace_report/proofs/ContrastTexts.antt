@@ -1,5 +1,5 @@
 -- The rows around an item, said one after another.
-use Rattle.std.proofs.Common.{◌≡◌, ℕ, Bool, false, List, ◌∷◌, ◌++◌, refl}
+use Rattle.std.proofs.Common.{◌≡◌, ℕ, false, List, ◌∷◌, ◌++◌, refl}
 use Rattle.trace_report.specs.Blocks.{begins_exchange}
 use Rattle.trace_report.specs.Difference.{contrast_row, contrast_rows, rows_to_request}
 use Rattle.trace_report.specs.Rows.{RowValue}

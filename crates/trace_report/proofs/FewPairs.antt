@@ -1,5 +1,5 @@
 -- Two sessions have no more numbers than rows.
-use Rattle.std.proofs.Common.{◌≤◌, ◌+◌, ℕ, List, [], ◌∷◌, length, suc, Option, Some, None, arith}
+use Rattle.std.proofs.Common.{◌≤◌, ◌+◌, List, [], ◌∷◌, length, Option, Some, None, arith}
 use Rattle.trace_report.specs.Items.{PlacedItem, PlacedMessage, beginning, items_by, items_in, message_in, pairs_of}
 use Rattle.trace_report.specs.Rows.{RowValue}
 

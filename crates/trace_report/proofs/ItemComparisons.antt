@@ -96,7 +96,7 @@ kinds-none false true a b is = absurd (none-some _ (sym is))
 kinds-none false false a b is = elim (cases_Bool (is_same_side a.begin.dir b.begin.dir)) [
   | inl side ↦
       let rest : contrast_by (first_place a.begin.bytes b.begin.bytes) false a b ≡ None =
-          sym (ap (λ (s : Bool). if s then contrast_by (first_place a.begin.bytes b.begin.bytes) false a b else Some (contrast.Sides a.begin.dir)) side) ∙ is in
+      sym (ap (λ (s : Bool). if s then contrast_by (first_place a.begin.bytes b.begin.bytes) false a b else Some (contrast.Sides a.begin.dir)) side) ∙ is in
       let bytes = place-none a.begin.bytes b.begin.bytes (by-none (first_place a.begin.bytes b.begin.bytes) false a b rest) in
       (λ i. stray (side-same a.begin.dir b.begin.dir side i) (bytes i))
   | inr side ↦ absurd (none-some (contrast.Sides a.begin.dir)

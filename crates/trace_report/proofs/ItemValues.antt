@@ -158,12 +158,12 @@ module _ (reply : List ℕ) where
   asked bytes ks None is goes w waits = elim (cases_Bool (has_exchange (values_of ks))) [
     | inl has ↦
         let waits_later : one_later (waiting (values_of ks)) ≡ Some w =
-            sym (ap (λ (b : Bool). if b then one_later (waiting (values_of ks)) else Some (0, bytes)) has) ∙ waits in
+        sym (ap (λ (b : Bool). if b then one_later (waiting (values_of ks)) else Some (0, bytes)) has) ∙ waits in
         ap (λ o. exchange bytes o ∷ values_of (more ks)) (stopped ks (answers reply ∷ []) has is)
         ∙ later (exchange bytes None) (values_of ks) (values_of (more ks)) goes w waits_later
     | inr none ↦
         let waits_here : Some (0, bytes) ≡ Some w =
-            sym (ap (λ (b : Bool). if b then one_later (waiting (values_of ks)) else Some (0, bytes)) none) ∙ waits in
+        sym (ap (λ (b : Bool). if b then one_later (waiting (values_of ks)) else Some (0, bytes)) none) ∙ waits in
         subst (λ (u : ℕ × List ℕ). exchange bytes (answer_of (more ks)) ∷ values_of (more ks) ≡ slice_set (exchange bytes None ∷ values_of ks) u.0 (exchange u.1 (Some reply)))
         (same_Some (0, bytes) w waits_here)
         (λ i. exchange bytes (open-to ks (answers reply ∷ []) none is i) ∷ still ks none i)

@@ -1,6 +1,6 @@
 -- The rows of a page of two sessions that tell items: one for each number, with the item of both logs. They stand in tables of 200,
 -- which fold.
-use Rattle.std.specs.Prelude.{ℕ, ◌+◌, ◌==◌, Bool, true, false, List, [], ◌∷◌, ◌++◌, codes, nat_le, Option, Some, None, unwrap_or, if◌then◌else◌}
+use Rattle.std.specs.Prelude.{ℕ, ◌+◌, ◌==◌, Bool, false, List, [], ◌∷◌, ◌++◌, codes, nat_le, Option, Some, None, unwrap_or, if◌then◌else◌}
 use Rattle.std.specs.Fmt.{decimal}
 use Rattle.uds_message.specs.Message.{is_suppressing}
 use Rattle.trace_report.specs.Blocks.{block_end, full_block, is_request_role}

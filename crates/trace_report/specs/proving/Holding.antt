@@ -1,9 +1,6 @@
 -- Devices of proof: what the code holds of a session, and lends of it, without where its bytes lie in memory.
-use Rattle.std.specs.Prelude.{◌≡◌, ℕ, ◌≤◌, ◌^◌, List, [], ◌∷◌, ◌++◌, ◌-◌, length, map, option_map, take, Option, Some, None}
-use Rattle.isotp_receive.specs.declared.TheConstants.{MESSAGE_LIMIT}
-use Rattle.isotp_receive.specs.Trace.{Entry}
+use Rattle.std.specs.Prelude.{ℕ, List, [], ◌∷◌, ◌-◌, map, option_map, take, Option, Some, None}
 use Rattle.trace_report.specs.Contrast.{FirstContrast}
-use Rattle.trace_report.specs.Events.{rows_of}
 use Rattle.trace_report.specs.Items.{PlacedMessage, PlacedItem, ItemPair, both, only_left, only_right, items_in, pairs_of}
 use Rattle.trace_report.specs.Rows.{RowValue, message, no_answer, dropped, ended, unfinished}
 use Rattle.trace_report.specs.declared.held_session.HeldRow.{HeldRow}

@@ -1,7 +1,5 @@
-use Rattle.std.proofs.Common.{◌≡◌, Option, Some, ap, sym, subst, ◌∙◌}
-use Rattle.trace_report.specs.Contrast.{contrast_of}
+use Rattle.std.proofs.Common.{Option, sym, subst, ◌∙◌}
 use Rattle.trace_report.specs.ItemRows.{both_row}
-use Rattle.trace_report.specs.Items.{both}
 use Rattle.trace_report.specs.declared.contrast.Contrast.{Contrast}
 use Rattle.trace_report.specs.proving.Holding.{item_of}
 use Rattle.trace_report.proofs.item_rows.say_both_row.Goals as goal

@@ -1,4 +1,4 @@
-use Rattle.std.proofs.Common.{◌≡◌, ◌+◌, ◌-◌, ◌<◌, ◌∷◌, ◌++◌, Option, IfSome, length, take, arith, ap, sym, subst, ◌∙◌}
+use Rattle.std.proofs.Common.{◌≡◌, ◌+◌, ◌-◌, ◌<◌, ◌∷◌, ◌++◌, Option, IfSome, length, take, arith, ap, subst, ◌∙◌}
 use Rattle.trace_report.specs.ItemRows.{pair_row, pair_rows, row_opening}
 use Rattle.trace_report.specs.Items.{items_in, pairs_of}
 use Rattle.trace_report.specs.declared.items.NextPair.{NextPair}

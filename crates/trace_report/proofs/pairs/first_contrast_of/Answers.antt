@@ -1,7 +1,6 @@
-use Rattle.std.proofs.Common.{◌≡◌, ◌+◌, ◌<◌, ◌∷◌, Option, IfSome, length, arith, ap, sym, subst, ◌∙◌}
-use Rattle.trace_report.specs.Items.{items_in, pairs_of}
+use Rattle.std.proofs.Common.{◌≡◌, ◌+◌, ◌<◌, Option, IfSome, length, arith, ap, sym, subst, ◌∙◌}
 use Rattle.trace_report.specs.declared.items.NextPair.{NextPair}
-use Rattle.trace_report.specs.proving.Holding.{held_rows, pair_of, pairs_with}
+use Rattle.trace_report.specs.proving.Holding.{pair_of, pairs_with}
 use Rattle.trace_report.proofs.PairCounting.{behind_next, one_same}
 use Rattle.trace_report.proofs.pairs.first_contrast_of.Goals as goal
 
