@@ -18,12 +18,15 @@ use Rattle.trace_canon.specs.declared.fault.Fault.{Fault}
 use Rattle.trace_canon.specs.declared.fault.Fault.TheVariants as fault
 use Rattle.trace_io.specs.Written.{HasFront}
 use Rattle.trace_io.specs.declared.device.Target.{Ghosts as TargetGhosts}
-use Rattle.udsnorm.specs.Commands.{ComparesPair, PairEngineReads, has_text, pair_of}
+use Rattle.trace_report.specs.Held.{HoldsTwo}
+use Rattle.trace_report.specs.PairPage.{pair_page, pair_title}
+use Rattle.trace_report.specs.declared.held_session.Held.{Held}
+use Rattle.udsnorm.specs.Commands.{ComparesPair, PagesPair, has_text, pair_of}
 use Rattle.udsnorm.specs.Ending.{has_unclean, status_of_comparison, status_of_run_of_two}
 use Rattle.udsnorm.specs.Status.{status_of}
 use Rattle.udsnorm.specs.Telling.{WroteText}
 use Rattle.udsnorm.specs.proving.Flushed.{FlushedIf}
-use Rattle.udsnorm.specs.proving.Pairs.{answer_of, text_of_answer}
+use Rattle.udsnorm.specs.proving.Pairs.{answer_held, answer_of, text_of_answer}
 use Rattle.udsnorm.specs.declared.pair_jobs.PairAnswer.{PairAnswer}
 use Rattle.udsnorm.specs.declared.pair_jobs.PairJob.{PairJob}
 use Rattle.udsnorm.specs.declared.pair_jobs.PairJob.TheVariants as pair_job
@@ -37,10 +40,11 @@ pub compared_pair : (style : ComparisonStyle) (strict : Bool) (limit : ℕ) (set
 compared_pair style strict limit settings one other (Ok compared) compares = (compared, compares, refl, refl)
 compared_pair style strict limit settings one other (Err why) compares = (compares, refl)
 
--- how near to what refuses a log a comparison reads
-pub reads_as_compare : (job : PairJob) (left_name right_name : List ℕ) (limit : ℕ) (settings : Settings) (log : List ℕ) (given failures failures_now : ℕ)
-    → ReadsWhile (IsNotRefusedWithin limit settings log) given failures failures_now → PairEngineReads job left_name right_name limit settings log given failures failures_now
-reads_as_compare (pair_job.Compare style) left_name right_name limit settings log given failures failures_now reads = reads
+-- two logs that are held, without what they say, and their page
+pub pages_pair : (style left_name right_name : List ℕ) (strict : Bool) (limit : ℕ) (settings : Settings) (one other : List ℕ) (answer : Result Held CompareFault) → HoldsTwo limit settings one other answer
+    → PagesPair left_name right_name strict limit settings one other (answer_held answer) (pair_page (pair_title style left_name right_name settings) answer)
+pages_pair style left_name right_name strict limit settings one other (Ok held) holds = (style, held, holds, refl, refl)
+pages_pair style left_name right_name strict limit settings one other (Err why) holds = (style, holds, refl)
 
 -- ---- the status
 
