@@ -66,6 +66,7 @@ test: build lib
 	@python3 tests/hints.py $(PROGRAM)
 	@python3 tests/sessions.py $(PROGRAM)
 	@python3 tests/report.py $(PROGRAM)
+	@python3 tests/report_pairs.py $(PROGRAM)
 	@python3 tests/documents.py
 	@python3 tests/shipped.py $(PROGRAM)
 	@python3 tests/recipes.py $(PROGRAM) $(LIBRARY)

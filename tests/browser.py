@@ -26,7 +26,10 @@ import browsers
 import report_logs
 from browsers import DARK, FORCED, LIGHT
 from cases import Cases
-from report_pages import EVERY_KIND, FOLDED, NOTHING, REFUSED, Writer, flawed, pages_of_names, pages_of_sessions
+from report_pages import (
+    EVERY_KIND, FOLDED, FOLDED_PAIR, LOST, NO_ITEMS, NOTHING, PAIR, REFUSED, REFUSED_PAIR, SAME, Writer, flawed,
+    pages_of_names, pages_of_pairs, pages_of_pairs_of_names, pages_of_sessions,
+)
 
 IN_PAGE = Path(__file__).with_name("in_page.js").read_text()
 
@@ -41,6 +44,11 @@ ITEMS = 100_000
 # What the first row of a table looks like on paper, and what the others do.
 HEADER_ON_PAPER = r"Item +Lines +Time +Tester +Unit"
 ROW_ON_PAPER = r"^ *\d+ +\d+(–\d+)? +\d+\.\d{6} "
+
+# The same of the items of two sessions, of which each row says whether they differ, and the headings above them.
+ITEMS_HEADER_ON_PAPER = r"Item +A +B"
+ITEM_ON_PAPER = r"^ *(same|differs)\b"
+ITEMS_ON_PAPER = r"^ *(Items|Before the difference)$"
 
 Check = namedtuple("Check", "name pages function")
 
@@ -125,7 +133,7 @@ def first_difference(came, wanted):
 
 
 def is_reached_by_keys(browser, page):
-    """Tab goes to each link, to the filter and to each block, in the order of the page."""
+    """Tab goes to each link, to the filter, if there is one, and to each block, in the order of the page."""
     show(browser, page)
     wanted = ask(browser, "watchStops()")
     browser.press(["Tab"] * len(wanted))
@@ -136,11 +144,11 @@ def is_reached_by_keys(browser, page):
 def folds_by_keys(browser, page):
     show(browser, page)
     browser.ask("document.querySelector('details.b > summary').focus()")
-    states = []
+    before, states = browser.ask("document.querySelector('details.b').open"), []
     for _ in range(2):
         browser.press(["Enter"])
         states.append(browser.ask("document.querySelector('details.b').open"))
-    return [] if states == [False, True] else [f"open is {states} after Enter"]
+    return [] if states == [not before, before] else [f"open is {states} after Enter, and {before} before"]
 
 
 def leaves_what_needs_a_look(browser, page):
@@ -176,12 +184,16 @@ def opens_the_block_that_a_link_leads_into(browser, page):
 
 
 def is_in_sight(browser, identifier):
-    """A browser scrolls when it next draws."""
+    return [] if becomes(browser, f"isInSight('{identifier}')") else [f"{identifier} is not in sight"]
+
+
+def becomes(browser, question):
+    """Whether it is so in a while: a browser scrolls when it next draws."""
     for _ in range(50):
-        if ask(browser, f"isInSight('{identifier}')"):
-            return []
+        if ask(browser, question):
+            return True
         time.sleep(0.1)
-    return [f"{identifier} is not in sight"]
+    return False
 
 
 def is_printed_with_the_verdict_first(browser, page):
@@ -193,6 +205,54 @@ def is_printed_with_the_verdict_first(browser, page):
     with_rows = [sheet for sheet in printed.split("\f") if re.search(ROW_ON_PAPER, sheet, re.M)]
     wrong += [] if with_rows else ["it has no row"]
     return wrong + ["a sheet has no header row" for sheet in with_rows if not re.search(HEADER_ON_PAPER, sheet)]
+
+
+def leads_to_the_difference(browser, page):
+    """The link of the verdict, at each width."""
+    wrong = []
+    for width in WIDTHS:
+        show(browser, page, width)
+        browser.ask("document.querySelector('#verdict a[href=\"#difference\"]').focus()")
+        browser.press(["Enter"])
+        wrong += [] if becomes(browser, "differenceIsInSight()") else [f"not at {width} pixels"]
+    return wrong
+
+
+def marks_what_differs(browser, page):
+    show(browser, page)
+    marks = ask(browser, "marks()")
+    return [] if marks == ["2F", "3F"] else [f"the marks are {marks}"]
+
+
+def has_both_sides_in_their_places(browser, page):
+    """Where there is room they are side by side, and else below each other."""
+    wrong = []
+    for width, place in zip(WIDTHS, ("below", "below", "beside")):
+        show(browser, page, width)
+        found = ask(browser, "places()")
+        wrong += [] if found and set(found) == {place} else [f"at {width} pixels: {found}"]
+    return wrong
+
+
+def opens_the_items_behind_the_difference(browser, page):
+    """The first table behind it, and no other."""
+    show(browser, page)
+    states = browser.ask("[...document.querySelectorAll('details.b')].map(block => [block.open, !!(block.compareDocumentPosition(document.getElementById('difference')) & 2)])")
+    wanted = next((at for at, (_, is_behind) in enumerate(states) if is_behind), None)
+    return [] if [at for at, (is_open, _) in enumerate(states) if is_open] == [wanted] else [f"open and behind it: {states}"]
+
+
+def is_printed_with_the_verdict_and_each_item(browser, page):
+    """The verdict first, each item, also of a table that is folded, and a header row on each sheet with items."""
+    show(browser, page)
+    heading = browser.ask("document.querySelector('#verdict h2').lastChild.textContent.trim()")
+    count = browser.ask("document.querySelectorAll('.pair tbody tr').length")
+    printed = text_of_paper(browser.paper())
+    verdict, items = printed.find(heading), re.search(ITEMS_ON_PAPER, printed, re.M)
+    wrong = [] if items and 0 <= verdict < items.start() else ["the verdict is not above the items"]
+    wrong += [] if len(re.findall(ITEM_ON_PAPER, printed, re.M)) == count else [f"not each of the {count} items is there"]
+    with_items = [sheet for sheet in printed.split("\f") if re.search(ITEM_ON_PAPER, sheet, re.M)]
+    return wrong + ["a sheet has no header row" for sheet in with_items if not re.search(ITEMS_HEADER_ON_PAPER, sheet)]
 
 
 def text_of_paper(paper):
@@ -222,6 +282,29 @@ CHECKS = [
     Check("is printed with the verdict first and a header row on each sheet", SHORT, is_printed_with_the_verdict_first),
 ]
 
+# And those of pages of two logs.
+SHORT_PAIRS = [LOST, PAIR, SAME, REFUSED_PAIR]
+DIFFERENT_PAIRS = [LOST, PAIR, FOLDED_PAIR]
+
+PAIR_CHECKS = [
+    Check("asks the network for nothing", EVERY, asks_for_nothing),
+    Check("tells the console nothing", EVERY, tells_the_console_nothing),
+    Check("is said to be whole", EVERY, is_said_to_be_whole),
+    Check("shows the verdict above the items", EVERY, shows_the_verdict_first),
+    Check("fits", EVERY, fits),
+    Check("can be read in light, dark and forced colours", [*SHORT_PAIRS, NO_ITEMS], can_be_read),
+    Check("is a table to a screen reader", SHORT_PAIRS, is_a_table_to_a_screen_reader),
+    Check("is reached by Tab", [*SHORT_PAIRS, FOLDED_PAIR], is_reached_by_keys),
+    Check("folds a table by Enter", [PAIR, SAME, FOLDED_PAIR], folds_by_keys),
+    Check("leads to the difference", DIFFERENT_PAIRS, leads_to_the_difference),
+    Check("marks what differs", [PAIR], marks_what_differs),
+    Check("has both sides in their places", [*DIFFERENT_PAIRS, SAME, NO_ITEMS], has_both_sides_in_their_places),
+    Check("opens the items behind the difference", DIFFERENT_PAIRS, opens_the_items_behind_the_difference),
+    Check("is printed with the verdict and each item", [LOST, PAIR, SAME], is_printed_with_the_verdict_and_each_item),
+]
+
+ON_PAPER = (is_printed_with_the_verdict_first, is_printed_with_the_verdict_and_each_item)
+
 # What each check has to find where it is put into a page: into its style, or, where it is a tag, behind its style.
 FLAWS = [
     (asks_for_nothing, EVERY_KIND, "<img src='http://127.0.0.1:1023/'>"),
@@ -245,17 +328,34 @@ FLAWS = [
     (is_printed_with_the_verdict_first, EVERY_KIND, "thead { display: table-row-group; }"),
 ]
 
+PAIR_FLAWS = [
+    (shows_the_verdict_first, PAIR, "#verdict { order: 9 !important; }"),
+    (fits, PAIR, ".two { grid-template-columns: 30rem !important; }"),
+    (can_be_read, PAIR, "mark { background: #888 !important; color: #666 !important; }"),
+    (can_be_read, PAIR, "@media (prefers-color-scheme: dark) { .who { color: #444 !important; } }"),
+    (is_a_table_to_a_screen_reader, PAIR, ".pair tbody th { visibility: hidden; }"),
+    (is_reached_by_keys, PAIR, "#verdict a { visibility: hidden; }"),
+    (folds_by_keys, PAIR, "summary { visibility: hidden; }"),
+    (leads_to_the_difference, FOLDED_PAIR, "#difference { display: none; }"),
+    (marks_what_differs, PAIR, "mark { display: none; }"),
+    (has_both_sides_in_their_places, PAIR, ".two { display: block !important; }"),
+    (has_both_sides_in_their_places, PAIR, ".two { grid-template-columns: 1fr 1fr !important; }"),
+    (opens_the_items_behind_the_difference, PAIR, "<details class='b' open></details>"),
+    (is_printed_with_the_verdict_and_each_item, PAIR, "@media print { #verdict { order: 9 !important; } }"),
+    (is_printed_with_the_verdict_and_each_item, PAIR, "@media print { details::details-content { content-visibility: hidden !important; } }"),
+]
 
-def check_pages(cases, browser, pages):
-    for check in checks_here():
+
+def check_pages(cases, browser, pages, checks):
+    for check in checks_here(checks):
         for page in pages:
             if check.pages == EVERY or page.name in check.pages:
                 report(cases, f"{browser.name}: the page of {page.name} {check.name}", check.function, browser, page)
 
 
-def checks_here():
+def checks_here(checks):
     has_text_of_paper = shutil.which("pdftotext")
-    return [check for check in CHECKS if has_text_of_paper or check.function is not is_printed_with_the_verdict_first]
+    return [check for check in checks if has_text_of_paper or check.function not in ON_PAPER]
 
 
 def report(cases, name, function, *arguments):
@@ -268,12 +368,12 @@ def report(cases, name, function, *arguments):
         cases.report(name, wrong)
 
 
-def check_names(cases, browser, pages):
+def check_names(cases, browser, pages, is_text):
     """A hostile name stands as it is, and nothing of it is more than text."""
     for said, page in pages:
         for function in (asks_for_nothing, tells_the_console_nothing, fits):
             report(cases, f"{browser.name}: {page.name}: {function.__name__.replace('_', ' ')}", function, browser, page)
-        report(cases, f"{browser.name}: {page.name}: it is text", name_is_text, browser, page, said)
+        report(cases, f"{browser.name}: {page.name}: it is text", is_text, browser, page, said)
 
 
 def name_is_text(browser, page, said):
@@ -281,7 +381,21 @@ def name_is_text(browser, page, said):
     shown, inside, title = browser.ask("(h1 => [h1.textContent, h1.childElementCount, document.title])(document.querySelector('h1'))")
     wrong = [] if (shown, inside) == (said, 0) else [f"it shows {shown!r} with {inside} elements"]
     wrong += [] if title == f"{said} - udsnorm report" else [f"its title is {title!r}"]
-    return wrong + (["it has other elements"] if ask(browser, "all('body script, body img, body style').length") else [])
+    return wrong + has_other_elements(browser)
+
+
+def names_are_texts(browser, page, said):
+    """Those of two logs, behind their letters."""
+    show(browser, page)
+    shown, inside, title = browser.ask("(h1 => [h1.innerText.split('\\n'), h1.childElementCount, document.title])(document.querySelector('h1'))")
+    wrong = [] if inside == 3 else [f"the heading has {inside} elements"]
+    wrong += [] if [line.split(" ", 1) for line in shown] == [["A", said[0]], ["B", said[1]]] else [f"it shows {shown!r}"]
+    wrong += [] if title == f"{said[0]} and {said[1]} - udsnorm report" else [f"its title is {title!r}"]
+    return wrong + has_other_elements(browser)
+
+
+def has_other_elements(browser):
+    return ["it has other elements"] if ask(browser, "all('body script, body img, body style').length") else []
 
 
 def cuts_without_notice(browser, page, cut):
@@ -310,10 +424,10 @@ def opens_many_items(browser, page):
     return wrong + is_in_sight(browser, f"i{ITEMS}")
 
 
-def check_flaws(cases, browser, pages, writer):
+def check_flaws(cases, browser, pages, writer, checks, flaws):
     """Each check finds what is made for it to find."""
-    functions = [check.function for check in checks_here()]
-    for function, name, flaw in FLAWS:
+    functions = [check.function for check in checks_here(checks)]
+    for function, name, flaw in flaws:
         if function in functions:
             text = flawed(named(pages, name).file.read_text(), flaw)
             report(cases, f"{browser.name}: found where a page has {flaw}", finds, function, browser, writer.kept(name, text.encode()))
@@ -340,14 +454,18 @@ def browsers_here():
     return found
 
 
-def try_browser(cases, start, sessions, names, many):
+def try_browser(cases, start, sessions, names, pairs, pairs_of_names, many):
     with start() as browser, tempfile.TemporaryDirectory() as folder:
         writer = Writer(cases, Path(folder))
-        check_pages(cases, browser, sessions)
-        check_names(cases, browser, names)
-        check_flaws(cases, browser, sessions, writer)
+        check_pages(cases, browser, sessions, CHECKS)
+        check_pages(cases, browser, pairs, PAIR_CHECKS)
+        check_names(cases, browser, names, name_is_text)
+        check_names(cases, browser, pairs_of_names, names_are_texts)
+        check_flaws(cases, browser, sessions, writer, CHECKS, FLAWS)
+        check_flaws(cases, browser, pairs, writer, PAIR_CHECKS, PAIR_FLAWS)
         cut = writer.kept("cut", b"")
-        report(cases, f"{browser.name}: cut at {CUTS} places", cuts_without_notice, browser, named(sessions, EVERY_KIND), cut)
+        for page in (named(sessions, EVERY_KIND), named(pairs, PAIR)):
+            report(cases, f"{browser.name}: {page.name}, cut at {CUTS} places", cuts_without_notice, browser, page, cut)
         report(cases, f"{browser.name}: opens {ITEMS} items", opens_many_items, browser, many)
     return []
 
@@ -355,7 +473,8 @@ def try_browser(cases, start, sessions, names, many):
 def try_browsers(cases, found):
     with tempfile.TemporaryDirectory() as folder, ThreadPoolExecutor() as pool:
         writer = Writer(cases, Path(folder))
-        pages = pages_of_sessions(writer), pages_of_names(writer), writer.page_of(f"{ITEMS} items", report_logs.many(ITEMS))
+        sessions = pages_of_sessions(writer), pages_of_names(writer), pages_of_pairs(writer), pages_of_pairs_of_names(writer)
+        pages = *sessions, writer.page_of(f"{ITEMS} items", report_logs.many(ITEMS))
         for start in found:
             pool.submit(report, cases, f"{start.name} starts and ends", try_browser, cases, start, *pages)
 

@@ -156,7 +156,7 @@ class Chromium(Browser):
         # Where no screen reader runs, it leaves out what it has not drawn.
         self.reader = self.reader or Chromium("--force-renderer-accessibility")
         self.reader.open(self.address)
-        nodes = self.reader.tell("Accessibility.getFullAXTree")["nodes"]
+        nodes = in_order(self.reader.tell("Accessibility.getFullAXTree")["nodes"])
         found = [(node["role"]["value"], node["name"]["value"]) for node in nodes if not node["ignored"] and "name" in node]
         return [(ROLES[role], name) for role, name in found if role in ROLES]
 
@@ -299,6 +299,16 @@ class Firefox(Browser):
 
 
 ALL = [Chromium, Firefox]
+
+
+def in_order(nodes):
+    """The nodes of a tree in the order of the page: each before those inside of it."""
+    named, ordered, waiting = {node["nodeId"]: node for node in nodes}, [], [nodes[0]["nodeId"]]
+    while waiting:
+        node = named.get(waiting.pop())
+        ordered += [node] if node else []
+        waiting += reversed(node["childIds"]) if node else []
+    return ordered
 
 
 def others(addresses, own):

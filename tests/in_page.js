@@ -98,6 +98,24 @@ function isInSight(identifier) {
   return blockAround(identifier).open && row.checkVisibility() && top >= 0 && bottom <= innerHeight;
 }
 
+// How the two sides of each part of a page of two logs stand to each other.
+function places() {
+  return all(".two").filter(isSeen).map((both) => {
+    const [left, right] = [...both.children].map(box);
+    if (left.right <= right.left && Math.abs(left.top - right.top) < 1) return "beside";
+    return left.bottom <= right.top + 1 && Math.abs(left.left - right.left) < 1 ? "below" : "neither";
+  });
+}
+
+// Whether the difference is in sight, and so much of it at least as its heading.
+function differenceIsInSight() {
+  const shown = document.querySelector("#difference h2");
+  return isSeen(shown) && box(shown).top >= 0 && box(shown).bottom <= innerHeight;
+}
+
+// The texts of the marks in the difference that are seen.
+const marks = () => all("#difference mark").filter(isSeen).map((mark) => mark.textContent);
+
 function noticeIsShown() {
   const notice = document.getElementById("cut");
   return isSeen(notice) && box(notice).bottom <= innerHeight;

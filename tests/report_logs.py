@@ -102,6 +102,12 @@ def folded():
     return told.log()
 
 
+def folded_pair():
+    """Two sessions of 1,300 items, of which one differs; before it stand several tables of a page of two logs, and behind it, too."""
+    ours = folded()
+    return ours, ours.replace(b"7E8#037F2231", b"7E8#037F2233")
+
+
 def many(count):
     """A session of so many exchanges. Every seventh answer has several frames, some are negative, pending or missing."""
     told = Recording()
@@ -117,3 +123,20 @@ def many(count):
         else:
             told.exchange(f"22{data}", positive)
     return told.log()
+
+
+# In `pair_of_kinds`, the item at which the two first differ, the byte of its answer that does, and the lines of the one log that the
+# other has otherwise or lacks.
+DIFFERENT_ITEM, DIFFERENT_BYTE = 11, 63
+CHANGED_LINE, LOST_LINE = 195, 207
+
+
+def pair_of_kinds():
+    """Two recordings of the session of `every_kind`. In the second a byte of a long answer is another one, a frame of a later answer
+    is lost, and an exchange more is there."""
+    ours = every_kind().splitlines(keepends=True)
+    theirs = [line.replace(b"2F", b"3F", 1) if number == CHANGED_LINE else line for number, line in enumerate(ours, 1) if number != LOST_LINE]
+    more = Recording()
+    more.micros += 10_000_000
+    more.exchange("1101", "5101")
+    return b"".join(ours), b"".join(theirs) + more.log()

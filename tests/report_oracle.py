@@ -1,11 +1,12 @@
 #!/usr/bin/env python3
-"""The page that `udsnorm report` writes of a log, by the definitions alone.
+"""The page that `udsnorm report` writes of a log, or of two, by the definitions alone.
 
     tests/report_oracle.py [NAME [LIMIT [TESTER UNIT]]] < LOG > PAGE
 
 What the frames of a log do is read off the whole log by oracle.py. A row is what is told of a frame, of a message or of a missing
 answer, and the page is fixed texts around the rows. Nothing is written as the log is read, and nothing is counted but rows: so
-this shares no idea with the program, which tells the page frame by frame and keeps a few numbers.
+this shares no idea with the program, which tells the page frame by frame and keeps a few numbers. The page of two logs is read off
+the rows of both.
 """
 
 import re
@@ -248,21 +249,24 @@ def named(identifier):
 
 
 def message_row(origin, row):
+    return message_line(origin, row, data_text(row.data))
+
+
+def message_line(origin, row, data):
     identifier, cells = message_cells(origin, row)
-    words = f"{kind_words(row)} {data_text(row.data)}{note_text(row)}"
-    return line_of(KIND_LOOKS[row.kind], identifier, cells, row.side, words, HEADED)
+    return line_of(KIND_LOOKS[row.kind], identifier, cells, row.side, f"{kind_words(row)} {data}{note_text(row)}", HEADED)
 
 
 def message_cells(origin, row):
     """What links to a message say, and its first three cells."""
     begins_item = row.asked is None
     item = f'<th scope="row">{row.item}' if begins_item else f"<td>{row.item}"
-    cells = f"{item}<td>{lines_text(row)}<td>{seconds(origin, row.last.micros)}"
+    cells = f"{item}<td>{lines_text(row.first, row.last)}<td>{seconds(origin, row.last.micros)}"
     return f"i{row.item}" if begins_item else None, cells
 
 
-def lines_text(row):
-    return f"{row.first.line}" if row.first.line == row.last.line else f"{row.first.line}&#8211;{row.last.line}"
+def lines_text(first, last):
+    return f"{first.line}" if first.line == last.line else f"{first.line}&#8211;{last.line}"
 
 
 def kind_words(row):
@@ -285,10 +289,14 @@ def service_name(row):
 
 def note_text(row):
     """In how many frames a message came, where they are several, and how long after its request it began."""
-    after = [] if row.asked is None else [f"after {milliseconds(row.asked, row.first.micros)}"]
+    after = after_words(row)
     if row.frames > 1:
         return f"<br><i>{', '.join([f'{len(row.data)} bytes in {row.frames} frames', *after])}</i>"
     return "".join(f" <i>{note}</i>" for note in after)
+
+
+def after_words(row):
+    return [] if row.asked is None else [f"after {milliseconds(row.asked, row.first.micros)}"]
 
 
 def no_answer_row(_, row):
@@ -425,6 +433,13 @@ def look_line(words, rows):
     return f"<li>{words} <b>{len(rows)}</b>: {', '.join(map(link, rows[:MOST_LINKS]))}{more}\n"
 
 
+def counts_of(lines, frames, rows):
+    """How many there are of each thing."""
+    counts = Counter(map(row_kind, rows))
+    counts.update(lines=len(lines), frames=len(frames), messages=sum(isinstance(row, Message) for row in rows))
+    return counts
+
+
 def counts_text(counts):
     lines = "".join(f"<div{count_look(name, counts[name])}><dt>{name}</dt><dd>{counts[name]}</dd></div>\n" for name in COUNTS)
     return f'<dl class="counts">\n{lines}</dl>\n'
@@ -489,7 +504,7 @@ FRONT = """\
 <meta name="color-scheme" content="light dark">
 <meta http-equiv="Content-Security-Policy" content="default-src 'none'; style-src 'unsafe-inline'; base-uri 'none'; \
 form-action 'none'">
-<title>{name} - udsnorm report</title>
+<title>{title} - udsnorm report</title>
 <style>
 {style}</style>
 </head>
@@ -510,12 +525,15 @@ form-action 'none'">
 <div class="page">
 <header>
 <p class="brand">udsnorm report</p>
-<h1>{name}</h1>
+<h1>{heading}</h1>
 <p class="ids"><span class="T">tester {tester}</span> <span class="U">unit {unit}</span></p>
-<p class="skip"><a href="#verdict">Verdict</a> <a href="#session">Session</a> <a href="#help">How to read this page</a></p>
+<p class="skip"><a href="#verdict">Verdict</a> <a href="#session">{middle}</a> <a href="#help">How to read this page</a></p>
 <p id="cut" role="status">This page has no end. What wrote it was stopped, or the file was cut, or the page is still loading: \
 it tells nothing of the rest of the session.</p>
 </header>
+"""
+
+SESSION_START = """\
 <main id="session">
 <h2>Session</h2>
 <p class="filter"><input type="checkbox" id="only"> <label for="only">Show only what needs a look</label></p>
@@ -566,8 +584,7 @@ def page(log, name, refused=None, sides=SIDES):
     lines = refused.lines if refused else oracle.cut(log)
     frames = oracle.trace(lines, sides)
     rows = rows_of(frames) + ([] if refused else end_rows(frames))
-    counts = Counter(map(row_kind, rows))
-    counts.update(lines=len(lines), frames=len(frames), messages=sum(isinstance(row, Message) for row in rows))
+    counts = counts_of(lines, frames, rows)
     look, mark, words, sentence = refused_heading(refused.fault) if refused else heading(log, frames, counts)
     verdict = VERDICT.format(
         look=look,
@@ -585,7 +602,8 @@ def page(log, name, refused=None, sides=SIDES):
 
 
 def front_text(name, sides):
-    return FRONT.format(name=name_text(name), style=STYLE, **sides)
+    shown = name_text(name)
+    return FRONT.format(title=shown, heading=shown, middle="Session", style=STYLE, **sides) + SESSION_START
 
 
 def begun(log, name=STANDARD_INPUT, sides=SIDES):
@@ -602,6 +620,313 @@ def reported(log, limit=GIBIBYTE, sides=SIDES, name=STANDARD_INPUT):
     refused = oracle.refusal(log, limit, is_long_refused=False)
     written = page(log, name, refused, sides)
     return Outcome(oracle.REFUSED, refused.fault, written) if refused else Outcome(oracle.DONE, None, written)
+
+
+# --- Two logs: how their items differ ---------------------------------------------------------------------------------
+
+# An item: the row of the message that begins it, and that of its answer, if it has one.
+Item = namedtuple("Item", "begin answer")
+
+# How items differ: in words, and which of their messages differ from which place on, where they do. What differs is one of these.
+Difference = namedtuple("Difference", "words what place")
+BEGINNINGS, ANSWERS, WHOLE = "beginnings", "answers", "whole"
+
+A, B = "A", "B"
+
+
+def items_of(rows):
+    """The items of rows, in their order."""
+    told = [row for row in rows if isinstance(row, Message)]
+    answers = {row.item: row for row in told if row.kind in REPLIES}
+    return [Item(row, answers.get(row.item)) for row in told if row.asked is None]
+
+
+def difference(ours, theirs):
+    """How the items of one number differ. None where they do not."""
+    if ours is None or theirs is None:
+        return Difference(f"{A if ours is None else B} has no item of this number: its session ends before it.", WHOLE, None)
+    if is_request(ours.begin) != is_request(theirs.begin):
+        exchange, other = (A, B) if is_request(ours.begin) else (B, A)
+        return Difference(f"It is an exchange in {exchange} and a stray message in {other}.", WHOLE, None)
+    if ours.begin.side != theirs.begin.side:
+        return Difference(f"The stray message is from the {ours.begin.side} in A and from the other side in B.", WHOLE, None)
+    if ours.begin.data != theirs.begin.data:
+        what = "requests" if is_request(ours.begin) else "stray messages"
+        return difference_of_bytes(what, BEGINNINGS, ours.begin.data, theirs.begin.data)
+    if (ours.answer is None) != (theirs.answer is None):
+        answered, other = (B, A) if ours.answer is None else (A, B)
+        return Difference(f"It is answered in {answered} and not in {other}.", WHOLE, None)
+    if ours.answer and ours.answer.data != theirs.answer.data:
+        return difference_of_bytes("answers", ANSWERS, ours.answer.data, theirs.answer.data)
+    return None
+
+
+def difference_of_bytes(words, what, ours, theirs):
+    """That of messages, where the first byte differs that both have, or where the shorter one ends."""
+    shorter = min(len(ours), len(theirs))
+    place = next((place for place in range(shorter) if ours[place] != theirs[place]), shorter)
+    found = [f"{data[place]:02X}" if place < len(data) else "its end" for data in (ours, theirs)]
+    return Difference(
+        f"The {words} differ first at byte {place + 1}: <b>{found[0]}</b> in A, <b>{found[1]}</b> in B.", what, place
+    )
+
+
+def marked_data(data, place):
+    """The bytes of a message with a mark at a place: all of a short one, and else the first, or those about the place."""
+    if len(data) <= ALL_SHOWN:
+        begin, end = 0, len(data)
+    else:
+        begin = 0 if place < SHOWN_FIRST else place - 16
+        end = min(begin + SHOWN_FIRST, len(data))
+    digits = [f"{byte:02X}" for byte in data]
+    marked = f"<mark>{digits[place] if place < len(data) else 'end'}</mark>"
+    bytes_shown = " ".join([*digits[begin:place], marked, *digits[place + 1 : end]])
+    before = f"<i>behind {begin} bytes:</i> " if begin else ""
+    behind = f" <i>{len(data) - end} bytes more, not shown</i>" if end < len(data) else ""
+    return f"{before}<code>{bytes_shown}</code>{behind}"
+
+
+# --- Two logs: items side by side -------------------------------------------------------------------------------------
+
+ITEMS_IN_TABLE = 200
+
+PAIR_TABLE = """\
+<details class="b"{opened}>
+<summary>From item {number}</summary>
+<table class="pair">
+<thead><tr><th scope="col">Item<th scope="col">A<th scope="col">B</thead>
+<tbody>
+"""
+
+# What two logs say: the letter and the name of each, its lines, its log, the rows of that, its items, and when its first frame came.
+Session = namedtuple("Session", "letter name log lines frames rows items origin")
+
+
+def session_of(letter, name, log, sides):
+    lines = oracle.cut(log)
+    frames = oracle.trace(lines, sides)
+    rows = rows_of(frames) + end_rows(frames)
+    return Session(letter, name, log, lines, frames, rows, items_of(rows), frames[0].micros if frames else 0)
+
+
+def told_message(row):
+    return f"{kind_words(row)} {data_text(row.data)}"
+
+
+def told_item(item):
+    """What an item is: a message, and where it is a request also its answer, or what stands in the place of that."""
+    if not is_request(item.begin):
+        return told_message(item.begin)
+    return f"{told_message(item.begin)} &#8594; {told_answer(item)}"
+
+
+def told_answer(item):
+    if item.answer:
+        return told_message(item.answer)
+    return "<b>silent</b>" if no_answer(item.begin).is_silent else '<b class="no">no answer</b>'
+
+
+def place_of_item(session, item):
+    """Where an item stands in a log."""
+    begin, last = item.begin, item.answer or item.begin
+    time = f"{seconds(session.origin, begin.last.micros)} s"
+    return f"<i>{', '.join([f'{session.letter}: line {lines_text(begin.first, last.last)}', time, *after_words(last)])}</i>"
+
+
+def item_row(left, right, number):
+    """The row of the items of a number, which counts from 1."""
+    ours, theirs = item_at(left, number), item_at(right, number)
+    if difference(ours, theirs):
+        cells = "".join(item_cell(session, item) for session, item in ((left, ours), (right, theirs)))
+        return f'<tr class="d"><th scope="row">{number} <i>differs</i>{cells}\n'
+    places = place_of_item(left, ours) + place_of_item(right, theirs)
+    return f'<tr><th scope="row">{number} <i>same</i><td colspan="2">{told_item(ours)}<div class="ab">{places}</div>\n'
+
+
+def item_at(session, number):
+    return session.items[number - 1] if number <= len(session.items) else None
+
+
+def item_cell(session, item):
+    return f"<td>{told_item(item)}<br>{place_of_item(session, item)}" if item else "<td><i>no item</i>"
+
+
+def item_tables(left, right, numbers, is_open=False):
+    """The rows of the items of these numbers in tables, of which the first may be open."""
+    tables = [numbers[at : at + ITEMS_IN_TABLE] for at in range(0, len(numbers), ITEMS_IN_TABLE)]
+    return "".join(
+        PAIR_TABLE.format(opened=" open" if is_open and place == 0 else "", number=table[0])
+        + "".join(item_row(left, right, number) for number in table)
+        + BLOCK_END
+        for place, table in enumerate(tables)
+    )
+
+
+# --- Two logs: the difference -----------------------------------------------------------------------------------------
+
+
+def rows_around(rows, number):
+    """The rows of the exchange in which the item of this number stands: from the last request at or before it, or before the end
+    where there is no such item, to the next one. Where there is no request before, they are from the first row on."""
+    place = next((place for place, row in enumerate(rows) if begins_item(row, number)), len(rows) - 1)
+    requests = [at for at, row in enumerate(rows) if is_request(row)]
+    begin = max([at for at in requests if at <= place], default=0)
+    end = min([at for at in requests if at > begin], default=len(rows))
+    return rows[begin:end]
+
+
+def begins_item(row, number):
+    return isinstance(row, Message) and row.asked is None and row.item == number
+
+
+def chart(session, number, how):
+    """The rows about the item of this number, with a mark in the message that differs. No link leads to them."""
+    rows = "".join(chart_row(session.origin, row, number, how) for row in rows_around(session.rows, number))
+    return f"{TABLE_START}<tbody>\n{rows}</table>\n"
+
+
+def chart_row(origin, row, number, how):
+    is_marked = isinstance(row, Message) and row.item == number and how.what == part_of_item(row)
+    line = message_line(origin, row, marked_data(row.data, how.place)) if is_marked else row_text(origin, row)
+    return re.sub(r'^(<tr class="\w+") id="\w+">', r"\1>", line)
+
+
+def part_of_item(row):
+    """Which of the messages of its item a message is, by the names of what differs."""
+    if row.asked is None:
+        return BEGINNINGS
+    return ANSWERS if row.kind in REPLIES else None
+
+
+# --- Two logs: the page -----------------------------------------------------------------------------------------------
+
+SAME_VERDICT = """\
+<section id="verdict" class="good">
+<h2><span aria-hidden="true">=</span> The two sessions are the same</h2>
+<p>Each of the {count} items is equal in both, byte for byte: so are the canonical logs.</p>
+"""
+
+DIFFERENT_VERDICT = """\
+<section id="verdict" class="warn">
+<h2><span aria-hidden="true">&#8800;</span> The two sessions differ, first at item {number}</h2>
+<p>{words} <a href="#difference">See it.</a>{before}</p>
+"""
+
+REFUSED_PAIR = """\
+<section id="verdict" class="bad">
+<h2><span aria-hidden="true">&#10005;</span> {letter} is refused, so nothing is compared</h2>
+<p><em>{fault}.</em> A report of this log alone shows the lines before that.</p>
+</section>
+<main id="session">
+<h2>Items</h2>
+<p>Nothing is compared.</p>
+</main>
+"""
+
+SESSION_OF_TWO = """\
+<section>
+<h3>{name}</h3>
+<p>{state}</p>
+{counts}{span}</section>
+"""
+
+DIFFERENCE = """\
+<section id="difference">
+<h2>Item {number}, the first difference</h2>
+<p>{words}</p>
+<div class="two">
+{sides}</div>
+</section>
+"""
+
+AFTER = """\
+<h2>After the difference</h2>
+<p>Items of the same number, side by side. Where one session has an item more or less, none below it need fit.</p>
+"""
+
+
+def pair_page(left_log, right_log, left_name, right_name, sides=SIDES):
+    """The page of two logs with these names, where none of them is refused; and the number of the item at which they first differ."""
+    left, right = session_of(A, left_name, left_log, sides), session_of(B, right_name, right_log, sides)
+    numbers = range(1, max(len(left.items), len(right.items)) + 1)
+    first = next((number for number in numbers if difference(item_at(left, number), item_at(right, number))), None)
+    items = items_text(left, right, numbers, first)
+    sessions = "".join(session_text(session) for session in (left, right))
+    main = f'<div class="two">\n{sessions}</div>\n</section>\n<main id="session">\n{items}</main>\n'
+    return f"{pair_front(left_name, right_name, sides)}{pair_verdict(left, right, numbers, first)}{main}{HELP}".encode("ascii"), first
+
+
+def pair_front(left_name, right_name, sides):
+    title = f"{name_text(left_name)} and {name_text(right_name)}"
+    heading = f"{lettered(A, left_name)}<br>{lettered(B, right_name)}"
+    return FRONT.format(title=title, heading=heading, middle="Items", style=STYLE, **sides)
+
+
+def lettered(letter, name):
+    return f'<span class="who">{letter}</span> {name_text(name)}'
+
+
+def pair_verdict(left, right, numbers, first):
+    if first is None:
+        return SAME_VERDICT.format(count=len(numbers))
+    words = difference(item_at(left, first), item_at(right, first)).words
+    before = " The items before it are the same." if first > 1 else ""
+    return DIFFERENT_VERDICT.format(number=first, words=words, before=before)
+
+
+def session_text(session):
+    counts = counts_of_session(session)
+    texts = {"state": state_text(session, counts), "counts": counts_text(counts), "span": span_text(session.frames)}
+    return SESSION_OF_TWO.format(name=lettered(session.letter, session.name), **texts)
+
+
+def state_text(session, counts):
+    """Whether a recording is clean."""
+    look, _, words, reason = heading(session.log, session.frames, counts)
+    if not session.frames:
+        return "<b>No frame is of the tester or the unit.</b>"
+    return f"{words}." if look == "good" else f"<b>{words}:</b> {reason}"
+
+
+def counts_of_session(session):
+    return counts_of(session.lines, session.frames, session.rows)
+
+
+def items_text(left, right, numbers, first):
+    """All items, where the sessions are the same; else those before the difference, the difference, and those behind it."""
+    if first is None:
+        return f"<h2>Items</h2>\n{item_tables(left, right, numbers)}"
+    before, after = numbers[: first - 1], numbers[first:]
+    before_text = item_tables(left, right, before) or "<p>Nothing: the first item differs.</p>\n"
+    after_text = AFTER + item_tables(left, right, after, is_open=True) if after else ""
+    return f"<h2>Before the difference</h2>\n{before_text}{difference_text(left, right, first)}{after_text}"
+
+
+def difference_text(left, right, first):
+    how = difference(item_at(left, first), item_at(right, first))
+    sides = "".join(
+        f"<section>\n<h3>{lettered(session.letter, session.name)}</h3>\n{chart(session, first, how)}</section>\n" for session in (left, right)
+    )
+    return DIFFERENCE.format(number=first, words=how.words, sides=sides)
+
+
+def refused_pair(letter, fault, left_name, right_name, sides=SIDES):
+    """The page of two logs of which one is refused."""
+    return f"{pair_front(left_name, right_name, sides)}{REFUSED_PAIR.format(letter=letter, fault=fault)}{HELP}".encode("ascii")
+
+
+def pair_reported(left, right, limit=GIBIBYTE, sides=SIDES, names=(b"left.log", b"right.log"), is_strict=False):
+    """The page of two logs, each of which is refused as `explain` refuses it, the left one first; and how the program ends. Where logs
+    have to be clean, it is told which are not."""
+    for letter, side, log in ((A, "left", left), (B, "right", right)):
+        refused = oracle.refusal(log, limit, is_long_refused=False)
+        if refused:
+            return Outcome(oracle.REFUSED, f"{side}: {refused.fault}", refused_pair(letter, refused.fault, *names, sides))
+    page, first = pair_page(left, right, *names, sides)
+    told = [f"{side}: {oracle.unclean(log)}" for side, log in (("left", left), ("right", right)) if is_strict and oracle.unclean(log)]
+    if told:
+        return Outcome(oracle.UNCLEAN, "\n".join(told), page)
+    return Outcome(oracle.DIFFERENT if first else oracle.DONE, None, page)
 
 
 def main():

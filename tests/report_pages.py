@@ -6,7 +6,7 @@ from collections import namedtuple
 from pathlib import Path
 
 import report_logs
-from cases import DONE, REFUSAL
+from cases import DIFFERENT, DONE, REFUSAL
 
 EXAMPLES = Path(__file__).resolve().parent.parent / "examples"
 
@@ -15,6 +15,9 @@ SIDES = {"extended-identifiers": ["--tester", "18DA10F1", "--unit", "18DAF110"]}
 
 # Names of pages that some checks are for.
 EVERY_KIND, REFUSED, FOLDED, NOTHING = "every kind of row", "refused late", "folded blocks", "nothing"
+
+# And those of pages of two logs.
+LOST, PAIR, SAME, REFUSED_PAIR, FOLDED_PAIR, NO_ITEMS = "a lost frame", "every kind of row, twice", "the same", "one refused", "folded tables", "no items"
 
 Page = namedtuple("Page", "name file")
 
@@ -27,15 +30,19 @@ class Writer:
         self.folder = folder
         self.number = 0
 
-    def page(self, name, file, options=(), status=DONE):
-        found = self.cases.run(["report", *options, file])
+    def page(self, name, *files, options=(), status=DONE):
+        found = self.cases.run(["report", *options, *files])
         self.cases.case(f"a page is written of {name}", found, status, None, None if status == REFUSAL else b"")
         return self.kept(name, found.output)
 
-    def page_of(self, name, log, status=DONE):
-        file = self.folder / f"{name}.log"
+    def page_of(self, name, *logs, status=DONE):
+        return self.page(name, *(self.log(f"{name}{number or ''}.log".encode(), log) for number, log in enumerate(logs)), status=status)
+
+    def log(self, name, log):
+        """A file with this log, whatever bytes its name has."""
+        file = Path(os.fsdecode(os.fsencode(self.folder) + b"/" + name))
         file.write_bytes(log)
-        return self.page(name, file, status=status)
+        return file
 
     def kept(self, name, text):
         self.number += 1
@@ -49,9 +56,9 @@ def pages_of_sessions(writer):
     pages = []
     for log in sorted(EXAMPLES.glob("*.log")):
         status = DONE if log.with_suffix(".canonical").exists() else REFUSAL
-        pages.append(writer.page(log.stem, log, SIDES.get(log.stem, []), status))
+        pages.append(writer.page(log.stem, log, options=SIDES.get(log.stem, []), status=status))
     pages.append(writer.page_of(EVERY_KIND, report_logs.every_kind()))
-    pages.append(writer.page_of(REFUSED, report_logs.refused_late(), REFUSAL))
+    pages.append(writer.page_of(REFUSED, report_logs.refused_late(), status=REFUSAL))
     pages.append(writer.page_of(FOLDED, report_logs.folded()))
     pages.append(writer.page_of(NOTHING, b""))
     return pages
@@ -61,10 +68,37 @@ def pages_of_names(writer):
     """The same session under names that mean something elsewhere, each with the name that its page has to show."""
     pages = []
     for name in report_logs.HOSTILE_NAMES:
-        file = Path(os.fsdecode(os.fsencode(writer.folder) + b"/" + name))
-        file.write_bytes((EXAMPLES / "lost-frame.log").read_bytes())
-        said = "".join(chr(byte) if 0x20 <= byte < 0x7F else f"%{byte:02X}" for byte in name)
-        pages.append((said, writer.page(f"a file called {said[:40]}", file)))
+        file = writer.log(name, (EXAMPLES / "lost-frame.log").read_bytes())
+        pages.append((said(name), writer.page(f"a file called {said(name)[:40]}", file)))
+    return pages
+
+
+def said(name):
+    """A name as a page says it."""
+    return "".join(chr(byte) if 0x20 <= byte < 0x7F else f"%{byte:02X}" for byte in name)
+
+
+def pages_of_pairs(writer):
+    """Those of two logs."""
+    vin, lost = EXAMPLES / "vin.log", EXAMPLES / "lost-frame.log"
+    return [
+        writer.page(LOST, vin, lost, status=DIFFERENT),
+        writer.page("29 bits", *2 * [EXAMPLES / "extended-identifiers.log"], options=SIDES["extended-identifiers"]),
+        writer.page_of(PAIR, *report_logs.pair_of_kinds(), status=DIFFERENT),
+        writer.page_of(SAME, *2 * [report_logs.every_kind()]),
+        writer.page_of(REFUSED_PAIR, report_logs.every_kind(), report_logs.refused_late(), status=REFUSAL),
+        writer.page_of(FOLDED_PAIR, *report_logs.folded_pair(), status=DIFFERENT),
+        writer.page_of(NO_ITEMS, b"", b""),
+    ]
+
+
+def pages_of_pairs_of_names(writer):
+    """Two sessions that differ under names that mean something elsewhere, each pair with the names that its page has to show."""
+    pages = []
+    for left, right in zip(report_logs.HOSTILE_NAMES, [*report_logs.HOSTILE_NAMES[1:], report_logs.HOSTILE_NAMES[0]]):
+        logs = [writer.log(name, (EXAMPLES / log).read_bytes()) for name, log in [(left, "vin.log"), (right, "lost-frame.log")]]
+        shown = (said(left), said(right))
+        pages.append((shown, writer.page(f"files called {shown[0][:40]} and {shown[1][:40]}", *logs, status=DIFFERENT)))
     return pages
 
 
