@@ -62,3 +62,4 @@ pub mod Hearings
 pub mod PairLines
 -- what the crates above may cite
 pub mod Promises
+mod QuietRuns

@@ -32,6 +32,12 @@ pub record Script : Type 0 where
   pub last : List Entry → Summary → List ℕ
   pub refused : List Entry → Summary → Fault → List ℕ
 
+-- A script that tells nothing.
+pub record TellsNothing (script : Script) : Type 0 where
+  pub of_frames : (T : List Entry) (e : Entry) → script.word T e ≡ []
+  pub at_the_end : (T : List Entry) (summary : Summary) → script.last T summary ≡ []
+  pub of_refusals : (T : List Entry) (summary : Summary) (why : Fault) → script.refused T summary why ≡ []
+
 -- what is told of these frames, where the frames `past` came before them
 abbrev pub told_after : (List Entry → Entry → List ℕ) → List Entry → List Entry → List ℕ
 told_after word past [] = []

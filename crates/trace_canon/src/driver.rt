@@ -286,7 +286,8 @@ fn tell_end<M: Machine, W: Target>(
     ensures says { (start : M) (T : List Entry) → M.stands start T machine → pair.now.receptions ≡ receptions_after MESSAGE_LIMIT T
         → KeepsWithin MESSAGE_LIMIT T pair.now
         → Speaks W.Target page.old.failed page.old.block target.old ((M.script start).last T summary.now) page.new.failed page.new.block target.new }
-    ensures answered { (start : M) (T : List Entry) → M.stands start T machine → M.answers start T summary.now result }
+    ensures answered { (start : M) (T : List Entry) → M.stands start T machine → pair.now.receptions ≡ receptions_after MESSAGE_LIMIT T
+        → M.answers start T summary.now result }
 {
     let mut out = Drain { target, page };
     machine.end(pair, summary, &mut out)

@@ -72,7 +72,8 @@ pub trait Machine {
         ensures says { (start : Self) (T : List Entry) → stands start T self → pair.now.receptions ≡ receptions_after MESSAGE_LIMIT T
             → KeepsWithin MESSAGE_LIMIT T pair.now
             → S.says out.old ((script start).last T summary.now) out.new }
-        ensures answered { (start : Self) (T : List Entry) → stands start T self → answers start T summary.now result };
+        ensures answered { (start : Self) (T : List Entry) → stands start T self → pair.now.receptions ≡ receptions_after MESSAGE_LIMIT T
+            → answers start T summary.now result };
 
     /// Takes why the log is refused, where a line or the limit of the log refuses it, and the counts of the lines before. No event
     /// and no end follows. The counts are those of a log that ends in no line feed.

@@ -5,16 +5,16 @@ use trace_io::{DeviceFault, Target};
 
 /// Takes nothing: each write and each flush fails, and is counted.
 #[derive(Drop)]
-pub(crate) struct Nowhere {
+pub struct Nowhere {
     failures: u64,
 }
 
 impl Nowhere {
-    ghost use Rattle.std.specs.Prelude.{◌≡◌};
+    ghost use Rattle.trace_io.specs.Counted.{IsLowCount};
 
     /// Before the first write.
-    pub(crate) fn new() -> Nowhere
-        ensures { result.failures ≡ 0 }
+    pub fn new() -> Nowhere
+        ensures { IsLowCount (⟦<Nowhere as Target>⟧.failures result) }
     {
         Nowhere { failures: 0 }
     }

@@ -8,8 +8,8 @@ use crate::page::{Drain, Page, settle};
 use crate::text_sink::TextSink;
 use trace_io::Target;
 
-/// What has a text.
-pub(crate) trait Printable {
+/// What has a text that is known as a whole.
+pub trait Printable {
     ghost use Rattle.std.specs.Prelude.{List, ℕ};
 
     /// Its text.
@@ -20,8 +20,8 @@ pub(crate) trait Printable {
         ensures { S.says out.old (text self.now) out.new };
 }
 
-/// Writes a text.
-pub(crate) fn print<P: Printable, W: Target>(printable: &P, target: &mut W) -> Result<(), Fault>
+/// Writes a text, all of it or a front where writing fails. The target is not flushed.
+pub fn print<P: Printable, W: Target>(printable: &P, target: &mut W) -> Result<(), Fault>
     requires { IsLowCount (W.failures target.old) }
     ensures { Prints W.Target (P.text printable.now) target.old result target.new }
 {

@@ -1,5 +1,5 @@
 //! The parts of a line of text, said one after another.
-ghost use Rattle.std.specs.Prelude.{◌++◌};
+ghost use Rattle.std.specs.Prelude.{◌+◌, ◌++◌};
 ghost use Rattle.std.specs.Fmt.{decimal};
 ghost use Rattle.trace_canon.specs.proving.Parts.{part_text, parts_text};
 ghost use Rattle.can_log.specs.Digits.{hexadecimal};
@@ -42,6 +42,13 @@ pub fn say_number<S: TextSink>(out: &mut S, number: u64)
     ensures { S.says out.old (decimal number) out.new }
 {
     out.put(Buffer::new().format(number).as_bytes());
+}
+
+/// Says the number of what is at a place, counted from 1.
+pub fn say_place<S: TextSink>(out: &mut S, place: usize)
+    ensures { S.says out.old (decimal (place + 1)) out.new }
+{
+    say_part(out, Part::Place(place));
 }
 
 /// Says the two digits of a byte.

@@ -104,13 +104,20 @@ module _ (targets : Sort → List ℕ) (target : ℕ) where
   first_more sort.KeepAlives = refl
   first_more sort.Silent = refl
 
--- both are right with one more row
+-- the counts are right with one more row
+pub counts_next : (rows : List RowValue) (row : RowValue) → length rows < 2 ^ 64 - 1 → (counts : SortCounts)
+    → counts ≡ counts_with (sort_of row) (counts_in rows) → counts ≡ counts_in (rows ++ row ∷ [])
+counts_next rows row few counts are =
+    let targets = λ (kind : Sort). targets_of kind rows in
+    let few_each = λ (kind : Sort). le_trans (suc-le-suc (few_targets kind rows)) few in
+    are ∙ counts_more targets (target_of row) few_each (sort_of row) ∙ (λ i. counts_by (λ kind. sym (targets_next rows row kind) i))
+
+-- and so are the first targets
 pub tally_next : (rows : List RowValue) (row : RowValue) → length rows < 2 ^ 64 - 1 → (counts : SortCounts) (first : FirstTargets)
     → counts ≡ counts_with (sort_of row) (counts_in rows) → first ≡ first_with (sort_of row) (target_of row) (first_targets rows)
     → record { counts = counts; first = first } ≡ tally_of (rows ++ row ∷ [])
 tally_next rows row few counts first counts_are first_are =
     let targets = λ (kind : Sort). targets_of kind rows in
-    let few_each = λ (kind : Sort). le_trans (suc-le-suc (few_targets kind rows)) few in
-    let counted = counts_are ∙ counts_more targets (target_of row) few_each (sort_of row) ∙ (λ i. counts_by (λ kind. sym (targets_next rows row kind) i)) in
+    let counted = counts_next rows row few counts counts_are in
     let linked = first_are ∙ first_more targets (target_of row) (sort_of row) ∙ (λ i. first_by (λ kind. sym (targets_next rows row kind) i)) in
     λ i. record { counts = counted i; first = linked i }

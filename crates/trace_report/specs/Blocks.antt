@@ -91,10 +91,14 @@ block_start before = if nat_lt before open_blocks then codes "<details class=\"b
 abbrev pub block_end : ℕ → List ℕ
 block_end count = if count == 0 then [] else codes "</table>\n</details>\n"
 
--- the header of its table
+-- the header of a chart
+abbrev pub chart_head : List ℕ
+chart_head =
+    codes "<table>\n<thead><tr><th scope=\"col\">Item<th scope=\"col\">Lines<th scope=\"col\">Time<th scope=\"col\"><span class=\"T\">Tester</span><span class=\"U\">Unit</span></thead>\n"
+
+-- that, behind the title of a block
 abbrev pub table_start : List ℕ
-table_start =
-    codes "</summary>\n<table>\n<thead><tr><th scope=\"col\">Item<th scope=\"col\">Lines<th scope=\"col\">Time<th scope=\"col\"><span class=\"T\">Tester</span><span class=\"U\">Unit</span></thead>\n"
+table_start = codes "</summary>\n" ++ chart_head
 
 -- what stands before a row that begins a block
 abbrev pub block_front : ℕ → ℕ → RowValue → List ℕ

@@ -65,12 +65,16 @@ shapes_text =
     ++ codes "<g id=\"ue\"><line class=\"l\" x1=\"40%\" x2=\"100%\" y1=\"6\" y2=\"6\"/><svg x=\"40%\" overflow=\"visible\"><path class=\"k\" d=\"M-1 0v12m-5-12v12\"/></svg></g>\n"
     ++ codes "</defs></svg>\n"
 
--- the links of the page, and the notice of a page that breaks off, which the end of the page hides
-abbrev pub notice_text : List ℕ
-notice_text =
-    codes "<p class=\"skip\"><a href=\"#verdict\">Verdict</a> <a href=\"#session\">Session</a> <a href=\"#help\">How to read this page</a></p>\n"
+-- the links of the page, which has this in its middle, and the notice of a page that breaks off, which the end of the page hides
+abbrev pub notice_with : List ℕ → List ℕ
+notice_with middle =
+    codes "<p class=\"skip\"><a href=\"#verdict\">Verdict</a> <a href=\"#session\">" ++ middle ++ codes "</a> <a href=\"#help\">How to read this page</a></p>\n"
     ++ codes "<p id=\"cut\" role=\"status\">This page has no end. What wrote it was stopped, or the file was cut, or the page is still loading: it tells nothing of the rest of the session.</p>\n"
     ++ codes "</header>\n"
+
+-- of one log
+abbrev pub notice_text : List ℕ
+notice_text = notice_with (codes "Session")
 
 -- the two identifiers
 abbrev pub identifiers_text : Id → Id → List ℕ

@@ -9,5 +9,13 @@ pub mod Counts
 pub mod Verdict
 pub mod Help
 pub mod Page
+pub mod Items
+pub mod Contrast
+pub mod Marks
+pub mod ItemRows
+pub mod Difference
+pub mod Session
+pub mod Held
+pub mod PairPage
 pub mod Laws
 pub mod proving

@@ -1,7 +1,7 @@
 -- The rows of a report: what each tells, and its text. A row is one line of HTML: the number of its item, the lines of the log,
 -- the time since the first frame of the two sides, and a cell of the chart, in which words stand at the sender's side and an
 -- arrow fills the rest. End tags are left out where HTML lets one.
-use Rattle.std.specs.Prelude.{ℕ, ◌==◌, Bool, true, false, List, [], ◌++◌, codes, length, nat_lt, Option, Some, None, if◌then◌else◌}
+use Rattle.std.specs.Prelude.{ℕ, ◌==◌, Bool, true, false, not, List, [], ◌++◌, codes, length, nat_lt, Option, Some, None, if◌then◌else◌}
 use Rattle.std.specs.Fmt.{decimal}
 use Rattle.direction.specs.declared.Dir.{Dir}
 use Rattle.direction.specs.declared.Dir.TheVariants as dir
@@ -76,17 +76,18 @@ begins_item (role.Pending asked) = false
 begins_item role.KeepAlive = true
 begins_item role.Stray = true
 
--- the number of its item as the header of the row, to which links lead
-abbrev pub item_header : ℕ → List ℕ
-item_header number = codes "\" id=\"i" ++ decimal number ++ codes "\"><th scope=\"row\">" ++ decimal number
+-- the number of its item as the header of the row, to which links lead on a page of one log
+abbrev pub item_header : Bool → ℕ → List ℕ
+item_header true number = codes "\" id=\"i" ++ decimal number ++ codes "\"><th scope=\"row\">" ++ decimal number
+item_header false number = codes "\"><th scope=\"row\">" ++ decimal number
 
 -- and repeated
 abbrev pub item_repeated : ℕ → List ℕ
 item_repeated number = codes "\"><td>" ++ decimal number
 
 -- the cell of the item
-abbrev pub item_cell : MessageRole → ℕ → List ℕ
-item_cell is number = if begins_item is then item_header number else item_repeated number
+abbrev pub item_cell : Bool → MessageRole → ℕ → List ℕ
+item_cell linked is number = if begins_item is then item_header linked number else item_repeated number
 
 -- two lines of the log, and those between
 abbrev pub several_lines : ℕ → ℕ → List ℕ
@@ -97,9 +98,9 @@ abbrev pub lines_text : ℕ → ℕ → List ℕ
 lines_text first last = if first == last then decimal first else several_lines first last
 
 -- where a message stands: its number, its lines, and the time of its last frame since the time `origin`
-abbrev pub message_front : ℕ → MessageRole → MessagePlace → List ℕ
-message_front origin is place =
-    codes "<tr class=\"" ++ role_class is ++ item_cell is place.item ++ codes "<td>"
+abbrev pub message_front : Bool → ℕ → MessageRole → MessagePlace → List ℕ
+message_front linked origin is place =
+    codes "<tr class=\"" ++ role_class is ++ item_cell linked is place.item ++ codes "<td>"
     ++ lines_text place.first.line place.last.line ++ codes "<td>" ++ seconds_between origin place.last.micros
 
 -- a request by the name of its service
@@ -167,14 +168,14 @@ note_text is place count =
 -- the row of a message
 abbrev pub message_row : ℕ → MessageRole → Dir → MessagePlace → List ℕ → List ℕ
 message_row origin is d place bytes =
-    message_front origin is place ++ cell_front d ++ role_words is d bytes ++ data_text bytes ++ note_text is place (length bytes)
+    message_front true origin is place ++ cell_front d ++ role_words is d bytes ++ data_text bytes ++ note_text is place (length bytes)
     ++ cell_end d arrow.Headed
 
 -- Brief rows: the front of a row, and one line of words without a shape. What needs a look has its full row.
 
 -- what stands before its words
 abbrev pub brief_front : ℕ → MessageRole → Dir → MessagePlace → List ℕ
-brief_front origin is d place = message_front origin is place ++ codes "<td class=\"" ++ side_text d ++ codes "\">"
+brief_front origin is d place = message_front true origin is place ++ codes "<td class=\"" ++ side_text d ++ codes "\">"
 
 -- a row of such words
 abbrev pub brief_row : ℕ → MessageRole → Dir → MessagePlace → List ℕ → List ℕ
@@ -278,16 +279,21 @@ dropped_row origin place d named why =
 abbrev pub partial_text : Dir → ℕ → ℕ → List ℕ
 partial_text d line len = direction_text d ++ codes " message from line " ++ decimal line ++ codes ", " ++ decimal len ++ codes " bytes announced:"
 
--- the row of a frame that ended a reception
-abbrev pub ended_row : ℕ → FramePlace → Ended → List ℕ
-ended_row origin place end =
-    frame_front origin false place ++ cell_front end.dir ++ codes "<b>ended</b> <i>" ++ partial_text end.dir end.begun_line end.len
+-- the row of a frame that ended a reception; links lead to it, unless others lead to the row before
+abbrev pub ended_row : Bool → ℕ → FramePlace → Ended → List ℕ
+ended_row linked origin place end =
+    frame_front origin (not linked) place ++ cell_front end.dir ++ codes "<b>ended</b> <i>" ++ partial_text end.dir end.begun_line end.len
     ++ codes "</i> <em>" ++ cause_text end.cause ++ codes "</em> <i>" ++ cause_words end.cause ++ codes "</i>" ++ cell_end end.dir arrow.Barred
 
--- the row of a reception that stands at the end, to which links lead by its side
-abbrev pub unfinished_row : Dir → ℕ → ℕ → List ℕ
-unfinished_row d line len =
-    codes "<tr class=\"x\" id=\"e" ++ side_text d ++ codes "\"><td><td><td>" ++ cell_front d ++ codes "<b>unfinished</b> <i>" ++ partial_text d line len
+-- a side, to which links lead on a page of one log
+abbrev pub side_target : Bool → Dir → List ℕ
+side_target true d = codes " id=\"e" ++ side_text d ++ codes "\""
+side_target false d = []
+
+-- the row of a reception that stands at the end
+abbrev pub unfinished_row : Bool → Dir → ℕ → ℕ → List ℕ
+unfinished_row linked d line len =
+    codes "<tr class=\"x\"" ++ side_target linked d ++ codes "><td><td><td>" ++ cell_front d ++ codes "<b>unfinished</b> <i>" ++ partial_text d line len
     ++ codes " the log ends before its last frame</i>" ++ cell_end d arrow.Barred
 
 -- the text of a row in a block of brief rows or in another, where `origin` is the time of the first frame of the two sides
@@ -295,5 +301,5 @@ abbrev pub row_text : Bool → ℕ → RowValue → List ℕ
 row_text brief origin (message is d place bytes) = message_text brief origin is d place bytes
 row_text brief origin (no_answer number silent) = no_answer_row number silent
 row_text brief origin (dropped place d named why) = dropped_row origin place d named why
-row_text brief origin (ended place end) = ended_row origin place end
-row_text brief origin (unfinished d line len) = unfinished_row d line len
+row_text brief origin (ended place end) = ended_row true origin place end
+row_text brief origin (unfinished d line len) = unfinished_row true d line len

@@ -2,3 +2,5 @@
 pub mod Pages
 pub mod Following
 pub mod Tallying
+pub mod Holding
+pub mod Heard

@@ -1,6 +1,6 @@
 //! The blocks in which the rows of a report stand.
 ghost use Rattle.std.specs.Prelude.{◌≡◌, ◌^◌, ◌-◌, ◌<◌};
-ghost use Rattle.trace_report.specs.Blocks.{block_end, block_front, block_start, block_title, from_place, item_title, message_title, opening_text, table_start};
+ghost use Rattle.trace_report.specs.Blocks.{block_end, block_front, block_start, block_title, chart_head, from_place, item_title, message_title, opening_text, table_start};
 ghost use Rattle.trace_report.specs.Blocks as Spec;
 ghost use Rattle.trace_report.specs.proving.Pages.{row_of};
 
@@ -11,7 +11,7 @@ use trace_canon::begun::FramePlace;
 use trace_canon::say::{say_number, say_text};
 
 /// A request closes a block that has this many rows.
-const FULL_BLOCK: u64 = 200;
+pub(crate) const FULL_BLOCK: u64 = 200;
 
 /// Any row closes one that has so many.
 const LARGEST_BLOCK: u64 = 1000;
@@ -45,7 +45,7 @@ pub(crate) fn begins_exchange(row: Row<'_>) -> bool
 }
 
 /// Whether a message begins one.
-fn is_request_role(role: MessageRole) -> bool
+pub(crate) fn is_request_role(role: MessageRole) -> bool
     ensures { result ≡ Spec.is_request_role role }
 {
     match role {
@@ -147,13 +147,21 @@ fn say_block_start<S: TextSink>(before: u64, out: &mut S)
     }
 }
 
-/// Says the header of a table.
+/// Says it behind the title of a block.
 fn say_table_start<S: TextSink>(out: &mut S)
     ensures { S.says out.old table_start out.new }
 {
+    say_text(out, "</summary>\n");
+    say_chart_head(out);
+}
+
+/// Says the header of a chart.
+pub(crate) fn say_chart_head<S: TextSink>(out: &mut S)
+    ensures { S.says out.old chart_head out.new }
+{
     say_text(
         out,
-        "</summary>\n<table>\n<thead><tr><th scope=\"col\">Item<th scope=\"col\">Lines<th scope=\"col\">Time<th scope=\"col\"><span class=\"T\">Tester</span><span class=\"U\">Unit</span></thead>\n",
+        "<table>\n<thead><tr><th scope=\"col\">Item<th scope=\"col\">Lines<th scope=\"col\">Time<th scope=\"col\"><span class=\"T\">Tester</span><span class=\"U\">Unit</span></thead>\n",
     );
 }
 

@@ -63,7 +63,7 @@ fn say_brief_front<S: TextSink>(
 )
     ensures { S.says out.old (brief_front origin role dir place) out.new }
 {
-    say_message_front(origin, role, place, out);
+    say_message_front(true, origin, role, place, out);
     say_text(out, "<td class=\"");
     say_side(dir, out);
     say_text(out, "\">");

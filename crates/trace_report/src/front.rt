@@ -1,7 +1,7 @@
 //! The front of a report: what stands before its rows.
 ghost use Rattle.std.specs.Prelude.{◌≡◌};
 ghost use Rattle.can_log.specs.Canonical.{identifier_text as identifier};
-ghost use Rattle.trace_report.specs.Front.{front_text, head_text, header_text, identifiers_text, name_byte, name_text, notice_text, numbered_byte, page_start, plain_byte, session_start, shapes_text};
+ghost use Rattle.trace_report.specs.Front.{front_text, head_text, header_text, identifiers_text, name_byte, name_text, notice_text, notice_with, numbered_byte, page_start, plain_byte, session_start, shapes_text};
 ghost use Rattle.trace_report.specs.proving.Pages.{title_of};
 
 use can_log::{Id, identifier_text};
@@ -40,7 +40,7 @@ fn say_head<S: TextSink>(title: &Title<'_>, out: &mut S)
 }
 
 /// Says that nothing may be fetched and nothing may run.
-fn say_page_start<S: TextSink>(out: &mut S)
+pub(crate) fn say_page_start<S: TextSink>(out: &mut S)
     ensures { S.says out.old page_start out.new }
 {
     say_text(
@@ -59,7 +59,7 @@ fn say_page_start<S: TextSink>(out: &mut S)
 }
 
 /// Says a name.
-fn say_name<S: TextSink>(name: &[u8], out: &mut S)
+pub(crate) fn say_name<S: TextSink>(name: &[u8], out: &mut S)
     ensures { S.says out.old (name_text name.now) out.new }
 {
     'bytes: for byte in name {
@@ -106,7 +106,7 @@ fn say_numbered_byte<S: TextSink>(byte: u8, out: &mut S)
 }
 
 /// Says the shapes of the arrows.
-fn say_shapes<S: TextSink>(out: &mut S)
+pub(crate) fn say_shapes<S: TextSink>(out: &mut S)
     ensures { S.says out.old shapes_text out.new }
 {
     say_text(out, "<svg class=\"defs\" aria-hidden=\"true\"><defs>\n");
@@ -152,7 +152,7 @@ fn say_header<S: TextSink>(title: &Title<'_>, out: &mut S)
 }
 
 /// Says the two identifiers.
-fn say_identifiers<S: TextSink>(tester: Id, unit: Id, out: &mut S)
+pub(crate) fn say_identifiers<S: TextSink>(tester: Id, unit: Id, out: &mut S)
     ensures { S.says out.old (identifiers_text tester unit) out.new }
 {
     say_text(out, "<p class=\"ids\"><span class=\"T\">tester ");
@@ -173,9 +173,21 @@ fn say_identifier<S: TextSink>(id: Id, out: &mut S)
 fn say_notice<S: TextSink>(out: &mut S)
     ensures { S.says out.old notice_text out.new }
 {
+    say_notice_with("Session", out);
+}
+
+/// Says the same with this link in the middle.
+pub(crate) fn say_notice_with<S: TextSink>(middle: &str, out: &mut S)
+    ensures { S.says out.old (notice_with middle.now) out.new }
+{
     say_text(
         out,
-        "<p class=\"skip\"><a href=\"#verdict\">Verdict</a> <a href=\"#session\">Session</a> <a href=\"#help\">How to read this page</a></p>\n",
+        "<p class=\"skip\"><a href=\"#verdict\">Verdict</a> <a href=\"#session\">",
+    );
+    say_text(out, middle);
+    say_text(
+        out,
+        "</a> <a href=\"#help\">How to read this page</a></p>\n",
     );
     say_text(
         out,

@@ -1,7 +1,8 @@
 //! The rows of a report that tell what is missing: answers, frames, and messages that are not whole.
+ghost use Rattle.std.specs.Prelude.{true};
 ghost use Rattle.isotp_receive.specs.declared.event.Reason.TheVariants as reason;
 ghost use Rattle.trace_canon.specs.ExplainText.{reason_text};
-ghost use Rattle.trace_report.specs.Rows.{cause_words, dropped_row, ended_row, frame_front, layout_fault_words, line_target, no_answer_row, partial_text, reason_words, silent_row, target_unless, unanswered_row, unfinished_row};
+ghost use Rattle.trace_report.specs.Rows.{cause_words, dropped_row, ended_row, frame_front, layout_fault_words, line_target, no_answer_row, partial_text, reason_words, side_target, silent_row, target_unless, unanswered_row, unfinished_row};
 
 use crate::cells::{say_cell_end, say_cell_front, say_side};
 use crate::row::Arrow;
@@ -205,11 +206,17 @@ fn say_partial<S: TextSink>(dir: Dir, line: u64, len: u32, out: &mut S)
     say_text(out, " bytes announced:");
 }
 
-/// Says the row of a frame that ended a reception.
-pub(crate) fn say_ended_row<S: TextSink>(origin: u64, place: FramePlace, ended: Ended, out: &mut S)
-    ensures { S.says out.old (ended_row origin place ended) out.new }
+/// Says the row of a frame that ended a reception, to which links lead or not.
+pub(crate) fn say_ended_row<S: TextSink>(
+    linked: bool,
+    origin: u64,
+    place: FramePlace,
+    ended: Ended,
+    out: &mut S,
+)
+    ensures { S.says out.old (ended_row linked origin place ended) out.new }
 {
-    say_frame_front(origin, false, place, out);
+    say_frame_front(origin, !linked, place, out);
     say_cell_front(ended.dir, out);
     say_text(out, "<b>ended</b> <i>");
     say_partial(ended.dir, ended.begun_line, ended.len, out);
@@ -239,13 +246,37 @@ fn say_cause_words<S: TextSink>(cause: Cause, out: &mut S)
     }
 }
 
-/// Says the row of a reception that stands at the end.
-pub(crate) fn say_unfinished_row<S: TextSink>(dir: Dir, line: u64, len: u32, out: &mut S)
-    ensures { S.says out.old (unfinished_row dir line len) out.new }
+/// Says a side, to which links lead or not.
+fn say_side_target<S: TextSink>(linked: bool, dir: Dir, out: &mut S)
+    ensures { S.says out.old (side_target linked dir) out.new }
 {
-    say_text(out, "<tr class=\"x\" id=\"e");
+    if linked {
+        say_linked_side(dir, out);
+    }
+}
+
+/// Says a side to which links lead.
+fn say_linked_side<S: TextSink>(dir: Dir, out: &mut S)
+    ensures { S.says out.old (side_target true dir) out.new }
+{
+    say_text(out, " id=\"e");
     say_side(dir, out);
-    say_text(out, "\"><td><td><td>");
+    say_text(out, "\"");
+}
+
+/// Says the row of a reception that stands at the end, to which links lead or not.
+pub(crate) fn say_unfinished_row<S: TextSink>(
+    linked: bool,
+    dir: Dir,
+    line: u64,
+    len: u32,
+    out: &mut S,
+)
+    ensures { S.says out.old (unfinished_row linked dir line len) out.new }
+{
+    say_text(out, "<tr class=\"x\"");
+    say_side_target(linked, dir, out);
+    say_text(out, "><td><td><td>");
     say_cell_front(dir, out);
     say_text(out, "<b>unfinished</b> <i>");
     say_partial(dir, line, len, out);

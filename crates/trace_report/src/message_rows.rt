@@ -1,5 +1,5 @@
 //! The rows of a report that tell messages.
-ghost use Rattle.std.specs.Prelude.{◌≡◌};
+ghost use Rattle.std.specs.Prelude.{◌≡◌, true, false};
 ghost use Rattle.trace_report.specs.Rows.{after_alone, after_other, after_text, frames_note, further_note, item_cell, item_header, item_repeated, lines_text, message_front, message_row, negative_words, note_text, request_words, role_class, role_words, several_lines, single_note, stray_words};
 ghost use Rattle.trace_report.specs.Rows as Spec;
 
@@ -22,7 +22,7 @@ pub(crate) fn say_message_row<S: TextSink>(
 )
     ensures { S.says out.old (message_row origin role dir place message.now) out.new }
 {
-    say_message_front(origin, role, place, out);
+    say_message_front(true, origin, role, place, out);
     say_cell_front(dir, out);
     say_role(role, dir, message, out);
     say_data(message, out);
@@ -30,18 +30,19 @@ pub(crate) fn say_message_row<S: TextSink>(
     say_cell_end(dir, Arrow::Headed, out);
 }
 
-/// Says where a message stands.
+/// Says where a message stands, as a row to which links lead or not.
 pub(crate) fn say_message_front<S: TextSink>(
+    linked: bool,
     origin: u64,
     role: MessageRole,
     place: MessagePlace,
     out: &mut S,
 )
-    ensures { S.says out.old (message_front origin role place) out.new }
+    ensures { S.says out.old (message_front linked origin role place) out.new }
 {
     say_text(out, "<tr class=\"");
     say_role_class(role, out);
-    say_item_cell(role, place.item, out);
+    say_item_cell(linked, role, place.item, out);
     say_text(out, "<td>");
     say_lines(place.first.line, place.last.line, out);
     say_text(out, "<td>");
@@ -63,7 +64,7 @@ fn say_role_class<S: TextSink>(role: MessageRole, out: &mut S)
 }
 
 /// Whether a message begins an item.
-fn begins_item(role: MessageRole) -> bool
+pub(crate) fn begins_item(role: MessageRole) -> bool
     ensures { result ≡ Spec.begins_item role }
 {
     match role {
@@ -74,22 +75,41 @@ fn begins_item(role: MessageRole) -> bool
 }
 
 /// Says the number of an item, as the header of its row or repeated.
-fn say_item_cell<S: TextSink>(role: MessageRole, number: u64, out: &mut S)
-    ensures { S.says out.old (item_cell role number) out.new }
+fn say_item_cell<S: TextSink>(linked: bool, role: MessageRole, number: u64, out: &mut S)
+    ensures { S.says out.old (item_cell linked role number) out.new }
 {
     if begins_item(role) {
-        say_item_header(number, out);
+        say_item_header(linked, number, out);
     } else {
         say_item_repeated(number, out);
     }
 }
 
 /// Says it as the header of its row.
-fn say_item_header<S: TextSink>(number: u64, out: &mut S)
-    ensures { S.says out.old (item_header number) out.new }
+fn say_item_header<S: TextSink>(linked: bool, number: u64, out: &mut S)
+    ensures { S.says out.old (item_header linked number) out.new }
+{
+    if linked {
+        say_linked_header(number, out);
+    } else {
+        say_plain_header(number, out);
+    }
+}
+
+/// Says it as the header of a row to which links lead.
+fn say_linked_header<S: TextSink>(number: u64, out: &mut S)
+    ensures { S.says out.old (item_header true number) out.new }
 {
     say_text(out, "\" id=\"i");
     say_number(out, number);
+    say_text(out, "\"><th scope=\"row\">");
+    say_number(out, number);
+}
+
+/// Says it as the header of another row.
+fn say_plain_header<S: TextSink>(number: u64, out: &mut S)
+    ensures { S.says out.old (item_header false number) out.new }
+{
     say_text(out, "\"><th scope=\"row\">");
     say_number(out, number);
 }
@@ -103,7 +123,7 @@ fn say_item_repeated<S: TextSink>(number: u64, out: &mut S)
 }
 
 /// Says the lines of the log from one to another.
-fn say_lines<S: TextSink>(first: u64, last: u64, out: &mut S)
+pub(crate) fn say_lines<S: TextSink>(first: u64, last: u64, out: &mut S)
     ensures { S.says out.old (lines_text first last) out.new }
 {
     if first == last {
@@ -123,7 +143,7 @@ fn say_several_lines<S: TextSink>(first: u64, last: u64, out: &mut S)
 }
 
 /// Says what a message is to its item.
-fn say_role<S: TextSink>(role: MessageRole, dir: Dir, message: &[u8], out: &mut S)
+pub(crate) fn say_role<S: TextSink>(role: MessageRole, dir: Dir, message: &[u8], out: &mut S)
     ensures { S.says out.old (role_words role dir message.now) out.new }
 {
     match role {
@@ -164,7 +184,7 @@ fn say_stray_words<S: TextSink>(dir: Dir, out: &mut S)
 }
 
 /// When the last frame of the request came to which a message replies, if it replies to one.
-fn asked_at(role: MessageRole) -> Option<u64>
+pub(crate) fn asked_at(role: MessageRole) -> Option<u64>
     ensures { result ≡ Spec.asked_at role }
 {
     match role {
@@ -176,7 +196,7 @@ fn asked_at(role: MessageRole) -> Option<u64>
 }
 
 /// Says the note on a message of so many bytes.
-fn say_note<S: TextSink>(role: MessageRole, place: MessagePlace, count: u64, out: &mut S)
+pub(crate) fn say_note<S: TextSink>(role: MessageRole, place: MessagePlace, count: u64, out: &mut S)
     ensures { S.says out.old (note_text role place count) out.new }
 {
     let asked = asked_at(role);
@@ -207,7 +227,7 @@ fn say_frames_note<S: TextSink>(
 }
 
 /// Says how long after its request a message of several frames began, if it replies to one.
-fn say_further_note<S: TextSink>(asked: Option<u64>, first: u64, out: &mut S)
+pub(crate) fn say_further_note<S: TextSink>(asked: Option<u64>, first: u64, out: &mut S)
     ensures { S.says out.old (further_note asked first) out.new }
 {
     if let Some(asked) = asked {

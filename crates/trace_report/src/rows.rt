@@ -38,7 +38,7 @@ fn say_row<S: TextSink>(brief: bool, origin: u64, row: Row<'_>, out: &mut S)
             named,
             reason,
         } => { say_dropped_row(origin, place, dir, named, reason, out) }
-        Row::Ended { place, ended } => say_ended_row(origin, place, ended, out),
-        Row::Unfinished { dir, line, len } => say_unfinished_row(dir, line, len, out),
+        Row::Ended { place, ended } => say_ended_row(true, origin, place, ended, out),
+        Row::Unfinished { dir, line, len } => say_unfinished_row(true, dir, line, len, out),
     }
 }

@@ -9,13 +9,13 @@ use trace_canon::TextSink;
 use trace_canon::say::{say_byte, say_number, say_six_decimals, say_text, say_three_decimals};
 
 /// Up to so many bytes, all of a message are shown.
-const MOST_SHOWN: usize = 64;
+pub(crate) const MOST_SHOWN: usize = 64;
 
 /// Up to so many, those behind the first ones are folded.
 const MOST_FOLDED: usize = 512;
 
 /// So many are the first ones.
-const SHOWN_FIRST: usize = 32;
+pub(crate) const SHOWN_FIRST: usize = 32;
 
 /// Says a time in seconds.
 pub(crate) fn say_stamp<S: TextSink>(micros: u64, out: &mut S)
@@ -72,7 +72,7 @@ fn say_bytes_apart<S: TextSink>(bytes: &[u8], out: &mut S)
 }
 
 /// Says a blank and two digits for each byte.
-fn say_bytes_behind<S: TextSink>(bytes: &[u8], out: &mut S)
+pub(crate) fn say_bytes_behind<S: TextSink>(bytes: &[u8], out: &mut S)
     ensures { S.says out.old (bytes_behind bytes.now) out.new }
 {
     'bytes: for byte in bytes {

@@ -6,6 +6,6 @@ use Rattle.trace_canon.proofs.Collecting.{fits_not_then}
 use Rattle.trace_canon.proofs.collector.CollectorMachine.end.Goals as goal
 
 pub returns-then-length-max_bytes-clause-answered : goal.returns-then-length-max_bytes-clause-answered
-returns-then-length-max_bytes-clause-answered g c = λ start T stood.
+returns-then-length-max_bytes-clause-answered g c = λ start T stood pair.
     let most = ap (λ (s : Settings). s.max_bytes) stood.same in
     fits_not_then start.config (messages MESSAGE_LIMIT T) _ _ _ stood (omega (arith, most, c.max_bytes.ensures.value, c.if-length-max_bytes.true))

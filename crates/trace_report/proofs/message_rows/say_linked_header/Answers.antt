@@ -1,4 +1,4 @@
-use Rattle.trace_report.proofs.message_rows.say_item_header.Goals as goal
+use Rattle.trace_report.proofs.message_rows.say_linked_header.Goals as goal
 
 pub returns : goal.returns
 returns g c =

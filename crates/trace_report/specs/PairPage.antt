@@ -1,0 +1,195 @@
+-- The page of two logs: whether they are the same session; the items before the first difference, that difference, and the items
+-- behind it. Both sessions are held, so the verdict is written first.
+use Rattle.std.specs.Prelude.{ℕ, ◌+◌, ◌==◌, Bool, true, false, List, [], ◌∷◌, ◌++◌, codes, length, take, drop, Option, Some, None, Result, Ok, Err, nat_lt, if◌then◌else◌}
+use Rattle.std.specs.Fmt.{decimal}
+use Rattle.can_log.specs.declared.frame.Id.{Id}
+use Rattle.trace_canon.specs.Settings.{Settings}
+use Rattle.trace_canon.specs.Summing.{is_clean}
+use Rattle.trace_canon.specs.declared.fault.CompareFault.{CompareFault}
+use Rattle.trace_canon.specs.declared.fault.CompareFault.TheVariants.{Left, Right}
+use Rattle.trace_canon.specs.declared.fault.Fault.{Fault}
+use Rattle.trace_canon.specs.declared.fault.Fault.TheVariants.{BadLine, LogLimit, Oversize, OutputLimit, Read, Write, Memory}
+use Rattle.trace_canon.specs.declared.summary.Summary.{Summary}
+use Rattle.trace_report.specs.Contrast.{FirstContrast, contrast_words, first_contrast, log_letter}
+use Rattle.trace_report.specs.Counts.{counts_text}
+use Rattle.trace_report.specs.Difference.{contrast_chart}
+use Rattle.trace_report.specs.Front.{identifiers_text, name_text, notice_with, page_start, shapes_text}
+use Rattle.trace_report.specs.Held.{pairs_in}
+use Rattle.trace_report.specs.Help.{help_text}
+use Rattle.trace_report.specs.ItemRows.{pair_rows}
+use Rattle.trace_report.specs.Items.{ItemPair}
+use Rattle.trace_report.specs.Session.{SessionValue}
+use Rattle.trace_report.specs.Sorts.{counts_in}
+use Rattle.trace_report.specs.Verdict.{refusal_words, span_of, unclean_reason}
+use Rattle.trace_report.specs.declared.contrast.LogName.{LogName}
+use Rattle.trace_report.specs.declared.contrast.LogName.TheVariants.{A, B}
+use Rattle.trace_report.specs.declared.held_session.Held.{Held}
+
+-- What a page of two logs is made for: its style, the names of the logs, and the identifiers.
+pub record PairTitleValue : Type 0 where
+  pub style : List ℕ
+  pub left : List ℕ
+  pub right : List ℕ
+  pub tester : Id
+  pub unit : Id
+
+-- of logs with these names and this configuration
+abbrev pub pair_title : List ℕ → List ℕ → List ℕ → Settings → PairTitleValue
+pair_title style left right settings = record { style = style; left = left; right = right; tester = settings.tester; unit = settings.unit }
+
+-- both names
+abbrev pub both_names : List ℕ → List ℕ → List ℕ
+both_names left right = name_text left ++ codes " and " ++ name_text right
+
+-- the head of the page
+abbrev pub pair_head : PairTitleValue → List ℕ
+pair_head title =
+    page_start ++ codes "<title>" ++ both_names title.left title.right ++ codes " - udsnorm report</title>\n<style>\n" ++ title.style
+    ++ codes "</style>\n</head>\n<body>\n"
+
+-- a log by its letter
+abbrev pub letter_mark : LogName → List ℕ
+letter_mark log = codes "<span class=\"who\">" ++ log_letter log ++ codes "</span> "
+
+-- and by its name
+abbrev pub lettered_name : LogName → List ℕ → List ℕ
+lettered_name log name = letter_mark log ++ name_text name
+
+-- what the page is about
+abbrev pub pair_header : PairTitleValue → List ℕ
+pair_header title =
+    codes "<div class=\"page\">\n<header>\n<p class=\"brand\">udsnorm report</p>\n<h1>" ++ lettered_name A title.left ++ codes "<br>"
+    ++ lettered_name B title.right ++ codes "</h1>\n" ++ identifiers_text title.tester title.unit ++ notice_with (codes "Items")
+
+-- the front of the page
+abbrev pub pair_front : PairTitleValue → List ℕ
+pair_front title = pair_head title ++ shapes_text ++ pair_header title
+
+-- The verdict.
+
+-- the two sessions are the same, with so many items
+abbrev pub same_verdict : ℕ → List ℕ
+same_verdict count =
+    codes "<section id=\"verdict\" class=\"good\">\n<h2><span aria-hidden=\"true\">=</span> The two sessions are the same</h2>\n<p>Each of the "
+    ++ decimal count ++ codes " items is equal in both, byte for byte: so are the canonical logs.</p>\n"
+
+-- that items before a difference are the same, where there are some
+abbrev pub same_before : ℕ → List ℕ
+same_before count = if count == 0 then [] else codes " The items before it are the same."
+
+-- they differ
+abbrev pub different_verdict : FirstContrast → List ℕ
+different_verdict first =
+    codes "<section id=\"verdict\" class=\"warn\">\n<h2><span aria-hidden=\"true\">&#8800;</span> The two sessions differ, first at item "
+    ++ decimal (first.before + 1) ++ codes "</h2>\n<p>" ++ contrast_words first.pair first.how ++ codes " <a href=\"#difference\">See it.</a>"
+    ++ same_before first.before ++ codes "</p>\n"
+
+-- either
+abbrev pub verdict_by : ℕ → Option FirstContrast → List ℕ
+verdict_by count None = same_verdict count
+verdict_by count (Some first) = different_verdict first
+
+-- why a recording is not clean
+abbrev pub unclean_state : Summary → List ℕ
+unclean_state summary = codes "<b>The recording is not clean:</b> " ++ unclean_reason summary
+
+-- whether it is
+abbrev pub state_text : Summary → List ℕ
+state_text summary =
+    if summary.frames == 0 then codes "<b>No frame is of the tester or the unit.</b>"
+    else if is_clean summary then codes "The recording is clean."
+    else unclean_state summary
+
+-- what was found of one log
+abbrev pub session_text : LogName → List ℕ → SessionValue → List ℕ
+session_text log name session =
+    codes "<section>\n<h3>" ++ lettered_name log name ++ codes "</h3>\n<p>" ++ state_text session.summary ++ codes "</p>\n"
+    ++ counts_text (counts_in session.rows) session.summary ++ span_of session.summary.frames session.first session.last ++ codes "</section>\n"
+
+-- of both
+abbrev pub sessions_text : PairTitleValue → Held → List ℕ
+sessions_text title held =
+    codes "<div class=\"two\">\n" ++ session_text A title.left held.left ++ session_text B title.right held.right ++ codes "</div>\n</section>\n"
+
+-- The items.
+
+-- the items of two sessions that are the same
+abbrev pub same_items : Held → List ItemPair → List ℕ
+same_items held pairs = codes "<h2>Items</h2>\n" ++ pair_rows false held.left.first held.right.first 0 1 pairs
+
+-- the rows of so many items before the first difference
+abbrev pub rows_before : Held → ℕ → List ItemPair → List ℕ
+rows_before held count pairs =
+    if count == 0 then codes "<p>Nothing: the first item differs.</p>\n" else pair_rows false held.left.first held.right.first 0 1 (take count pairs)
+
+-- what stands before it
+abbrev pub items_before : Held → ℕ → List ItemPair → List ℕ
+items_before held count pairs = codes "<h2>Before the difference</h2>\n" ++ rows_before held count pairs
+
+-- a side of the difference
+abbrev pub contrast_side : LogName → List ℕ → FirstContrast → SessionValue → List ℕ
+contrast_side log name first session =
+    codes "<section>\n<h3>" ++ lettered_name log name ++ codes "</h3>\n" ++ contrast_chart (first.before + 1) first.how session.first session.rows
+    ++ codes "</section>\n"
+
+-- the difference
+abbrev pub difference_text : PairTitleValue → Held → FirstContrast → List ℕ
+difference_text title held first =
+    codes "<section id=\"difference\">\n<h2>Item " ++ decimal (first.before + 1) ++ codes ", the first difference</h2>\n<p>"
+    ++ contrast_words first.pair first.how ++ codes "</p>\n<div class=\"two\">\n" ++ contrast_side A title.left first held.left
+    ++ contrast_side B title.right first held.right ++ codes "</div>\n</section>\n"
+
+-- what stands behind it, from the item of this number on
+abbrev pub later_items : Held → ℕ → List ItemPair → List ℕ
+later_items held number pairs =
+    codes "<h2>After the difference</h2>\n<p>Items of the same number, side by side. Where one session has an item more or less, none below it need fit.</p>\n"
+    ++ pair_rows true held.left.first held.right.first 0 number pairs
+
+-- where there are items
+abbrev pub items_after : Held → ℕ → List ItemPair → List ℕ
+items_after held number [] = []
+items_after held number (pair ∷ rest) = later_items held number (pair ∷ rest)
+
+-- all items, by the first difference
+abbrev pub items_by : PairTitleValue → Held → List ItemPair → Option FirstContrast → List ℕ
+items_by title held pairs None = same_items held pairs
+items_by title held pairs (Some first) =
+    items_before held first.before pairs ++ difference_text title held first ++ items_after held (first.before + 2) (drop (first.before + 1) pairs)
+
+-- the page behind its front
+abbrev pub pair_body : PairTitleValue → Held → List ItemPair → Option FirstContrast → List ℕ
+pair_body title held pairs first =
+    verdict_by (length pairs) first ++ sessions_text title held ++ codes "<main id=\"session\">\n" ++ items_by title held pairs first ++ codes "</main>\n"
+    ++ help_text
+
+-- the page of two logs that can be read
+abbrev pub held_page : PairTitleValue → Held → List ℕ
+held_page title held = pair_front title ++ pair_body title held (pairs_in held) (first_contrast (pairs_in held))
+
+-- the page where this log is refused
+abbrev pub refused_pair : PairTitleValue → LogName → Fault → List ℕ
+refused_pair title log why =
+    pair_front title ++ codes "<section id=\"verdict\" class=\"bad\">\n<h2><span aria-hidden=\"true\">&#10005;</span> " ++ log_letter log
+    ++ codes " is refused, so nothing is compared</h2>\n<p><em>" ++ refusal_words why
+    ++ codes ".</em> A report of this log alone shows the lines before that.</p>\n</section>\n<main id=\"session\">\n<h2>Items</h2>\n<p>Nothing is compared.</p>\n</main>\n"
+    ++ help_text
+
+-- a line or the limit refuses the log; no other fault has a page
+abbrev pub has_page : Fault → Bool
+has_page (BadLine line column) = true
+has_page LogLimit = true
+has_page (Oversize line announced) = false
+has_page OutputLimit = false
+has_page Read = false
+has_page Write = false
+has_page Memory = false
+
+-- the page where this log can't be read, if that has one
+abbrev pub unread_page : PairTitleValue → LogName → Fault → List ℕ
+unread_page title log why = if has_page why then refused_pair title log why else []
+
+-- the page of what is answered of two logs
+abbrev pub pair_page : PairTitleValue → Result Held CompareFault → List ℕ
+pair_page title (Ok held) = held_page title held
+pair_page title (Err (Left why)) = unread_page title A why
+pair_page title (Err (Right why)) = unread_page title B why

@@ -1,0 +1,17 @@
+-- What a log says, held as a whole.
+use Rattle.std.specs.Prelude.{ℕ, List}
+use Rattle.isotp_receive.specs.Trace.{Entry}
+use Rattle.trace_canon.specs.declared.summary.Summary.{Summary}
+use Rattle.trace_report.specs.Page.{all_rows, first_time, last_time}
+use Rattle.trace_report.specs.Rows.{RowValue}
+
+-- What a log says: its rows, its counts, and the times of its first frame and of its last one.
+pub record SessionValue : Type 0 where
+  pub rows : List RowValue
+  pub summary : Summary
+  pub first : ℕ
+  pub last : ℕ
+
+-- of a trace with these counts
+abbrev pub session_of : ℕ → List Entry → Summary → SessionValue
+session_of limit T summary = record { rows = all_rows limit T; summary = summary; first = first_time T; last = last_time 0 T }
