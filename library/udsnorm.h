@@ -18,8 +18,8 @@ extern "C" {
 #endif
 
 /* The version of this header. udsnorm_version() answers that of the library that is linked. */
-#define UDSNORM_VERSION_MAJOR 0
-#define UDSNORM_VERSION_MINOR 1
+#define UDSNORM_VERSION_MAJOR 1
+#define UDSNORM_VERSION_MINOR 0
 #define UDSNORM_VERSION_PATCH 0
 #define UDSNORM_VERSION ((UDSNORM_VERSION_MAJOR << 16) | (UDSNORM_VERSION_MINOR << 8) | UDSNORM_VERSION_PATCH)
 

@@ -15,7 +15,6 @@
 - docs/architecture.md says of each crate of the kit that the program stands on where it is called, and the call stands there;
 - the page for callers of each crate names each clause of its public calls, and docs/proved.md cites no other;
 - each fault displays the line that the program tells of it, as the page for callers of udsnorm says;
-- docs/formats.md has the names of services and response codes of tests/rows, which the program is tested with;
 - the number of the version stands in the program's source once, and is that of the file VERSION;
 - nothing in the project is a symbolic link, what is built included: the gate, which runs last, would take none.
 
@@ -39,7 +38,6 @@ PICTURE = DOCS / "crates.svg"
 STYLE = TOP / "crates/trace_report/src/style.rt"
 ARCHITECTURE = DOCS / "architecture.md"
 DEFINITIONS = DOCS / "definitions.md"
-FORMATS = DOCS / "formats.md"
 PROVED = DOCS / "proved.md"
 PROGRAM = "udsnorm"
 LIBRARY = "udsnorm_c"
@@ -260,13 +258,6 @@ def table_below(document, title):
     return [line.split(" | ") for line in lines[1:]]
 
 
-def block_below(document, title):
-    """The lines of the first block below a heading of a document."""
-    section = re.search(rf"^#+ {re.escape(title)}\n(.*?)(?=^#|\Z)", document.read_text(), re.M | re.S)
-    block = re.search(r"^```text\n(.*?)^```$", section[1] if section else "", re.M | re.S)
-    return block[1].splitlines() if block else []
-
-
 def stands_in(call, text):
     """A call, in which `..` leaves out anything but a brace, stands in a source file, and not in a comment."""
     pattern = r"[^{}]*".join(re.escape(part) for part in call.split(".."))
@@ -300,15 +291,6 @@ def lines_of_faults(cases):
         cases.report(f"what {name} displays is the line that is told of it", wrong)
 
 
-def names_of_bytes(cases):
-    """The names, but for that of the one response code that no list has."""
-    named = {line for title in ("Names of services", "Names of response codes") for line in block_below(FORMATS, title)}
-    rows = [line for name in ("services.txt", "response_codes.txt") for line in (TOP / "tests" / "rows" / name).read_text().splitlines()]
-    tested = {line for line in rows if line and not line.startswith("#")} | {"78 requestCorrectlyReceivedResponsePending"}
-    wrong = sorted(named ^ tested)
-    cases.report("docs/formats.md has the names that the program is tested with", [f"one has {line!r} alone" for line in wrong])
-
-
 def version_of_the_source(cases):
     version = (TOP / "VERSION").read_text().rstrip("\n")
     texts = [path.read_text() for path in (TOP / "crates" / PROGRAM / "src").glob("*.rt")]
@@ -327,7 +309,7 @@ def main():
     cases = Cases(None)
     for test in [
         picture, style, links, lengths_of_lines, named_files, wrong_bodies, tried_by_the_gate, definitions, citations, calls_of_the_kit,
-        named_clauses, lines_of_faults, names_of_bytes, version_of_the_source, symbolic_links,
+        named_clauses, lines_of_faults, version_of_the_source, symbolic_links,
     ]:
         test(cases)
     cases.end()

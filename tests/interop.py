@@ -75,6 +75,7 @@ def python_with_can():
     return None
 
 
+@functools.cache
 def version_of(tool):
     """The version of an installed tool, by Debian where the tool doesn't tell it; None where the tool is missing."""
     if tool == "python-can":
@@ -217,7 +218,7 @@ def tshark_finds_messages(cases, logs):
         want = messages_of_list(cases, log)
         if all(len(data) <= 2 * LONGEST_OF_TSHARK for _, data in want):
             cases.report(f"tshark finds the messages of {log.name}", difference(messages_of_tshark(log), want))
-        elif version_of("tshark") == versions_of_page()["tshark"]:
+        elif is_of_page("tshark"):
             cases.report(f"tshark finds no message of {log.name}", difference(messages_of_tshark(log), []))
 
 
@@ -273,9 +274,21 @@ def refused(cases, name, file, told):
     cases.case(name, cases.run(["list", file]), REFUSAL, b"", told)
 
 
+@functools.cache
 def versions_of_page():
-    """The versions that the page was made with."""
-    return dict(re.findall(r"^- `?(log2asc|python-can|tshark)`? .*?(\d+\.\d+\.\d+)", PAGE.read_text(), re.M))
+    """The versions that the page was tried with: each item of its list begins with a tool and ends with its version."""
+    return dict(re.findall(r"^- `(log2asc|python-can|tshark)` .*?(\d+\.\d+\.\d+)$", PAGE.read_text(), re.M))
+
+
+def page_has_versions(cases):
+    """Without the version of a tool nothing that the page says of one version could be compared."""
+    wrong = [f"none of {tool}" for tool in PACKAGES if tool not in versions_of_page()]
+    cases.report(f"{PAGE.name} has the version of each tool", wrong)
+
+
+def is_of_page(tool):
+    """The installed tool is of the version that the page was tried with."""
+    return version_of(tool) == versions_of_page().get(tool)
 
 
 def rows():
@@ -330,13 +343,12 @@ def place_of(cases, line, folder):
 
 def table(cases, tools, folder):
     """Each cell of the table, for the tools whose version is that of the page."""
-    versions = versions_of_page()
-    for tool in tools:
-        if tools[tool] != versions[tool]:
-            print(f"skipped the table for {tool}: it is of {versions[tool]}, and {tools[tool]} is installed", flush=True)
+    compared = [tool for tool in tools if is_of_page(tool)]
+    for tool in set(tools) - set(compared):
+        print(f"skipped the table for {tool}: it is of {versions_of_page().get(tool)}, and {tools[tool]} is installed", flush=True)
     for line, cells in rows():
         found = {"udsnorm": place_of(cases, line, folder)}
-        found |= {tool: what_it_does(tool, line, folder) for tool in tools if tools[tool] == versions[tool]}
+        found |= {tool: what_it_does(tool, line, folder) for tool in compared}
         said = dict(zip(["udsnorm", *PACKAGES], cells))
         wrong = [f"{tool}: {found[tool]}, not {said[tool]}" for tool in found if found[tool] != said[tool]]
         cases.report(f"the table, {line[:60]!r}", wrong)
@@ -358,6 +370,7 @@ def main():
     cases = Cases(os.path.abspath(sys.argv[1]))
     with tempfile.TemporaryDirectory() as directory:
         folder = Path(directory)
+        page_has_versions(cases)
         logs = canonical_logs(cases, folder)
         for tool in tools:
             reads_canonical(cases, tool, logs)
@@ -366,7 +379,7 @@ def main():
             tshark_writes(cases, TOP / "examples" / "vin.log", folder)
         recordings = [log for log in sorted((TOP / "examples").glob("*.log")) if log.with_suffix(".canonical").exists()]
         if "log2asc" in tools:
-            if tools["log2asc"] == versions_of_page()["log2asc"]:
+            if is_of_page("log2asc"):
                 log2asc_loses_times(cases, TOP / "examples" / "vin.canonical")
             asc_and_back(cases, recordings + logs, folder)
         if "python-can" in tools:

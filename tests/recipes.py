@@ -11,12 +11,13 @@ Each section is a session of bash in a folder of its own, with the sample logs i
   name. One of `candump` needs a bus and is always skipped; `vcan0` is an interface, `pandas` and `python-can` are modules of
   Python;
 - `sh NAME`, `python NAME`: a script, saved as NAME for this section and those after it;
-- `yaml`: a job of CI, whose commands stand in blocks of its section, too.
+- `yaml`: a job of CI, whose commands stand in blocks of its section, too; the files that it keeps are there behind them.
 
 Prints a line for each case and ends with `N passed, M failed`; its status is 1 where a case failed.
 """
 
 import os
+import re
 import shutil
 import subprocess
 import sys
@@ -69,6 +70,12 @@ def job_commands(text):
     """The commands of a job of CI, each an item of a list in YAML."""
     items = [line.strip().removeprefix("- ") for line in text if line.strip().startswith("- ")]
     return [item.removeprefix("run: ") for item in items if not item.startswith("uses: ")]
+
+
+def kept_files(text):
+    """The files that a job of CI keeps, each on a line `path:`, or all in the list of a line `paths:`."""
+    lists = re.findall(r"^ *paths?: \[?([^]]*)\]?$", "\n".join(text), re.M)
+    return [name.strip() for names in lists for name in names.split(",")]
 
 
 def missing_tool(tools):
@@ -136,14 +143,22 @@ def run_section(cases, page, title, blocks, folder, environment):
             print(f"skipped line {line} of {page.name}: it needs {lack}", flush=True)
             continue
         wanted += commands(text)
-    for job in [command for words, _, text in blocks if words == ["yaml"] for command in job_commands(text)]:
-        shown = [command for command, _ in wanted if command.split(";")[0] == job]
-        cases.report(f"{title}: a job runs {job}", [] if shown else ["no block has it"])
     came = answers(folder, [command for command, _ in wanted], environment)
     for at, (command, lines) in enumerate(wanted):
         want = "".join(line + "\n" for line in lines)
         found = came[at] if at < len(came) else "nothing, since the session ended before"
         cases.report(f"{title} $ {command}", [] if found == want else [f"printed {found!r}, not {want!r}"])
+    for job in [text for words, _, text in blocks if words == ["yaml"]]:
+        run_job(cases, title, job, [command.split(";")[0] for command, _ in wanted], folder)
+
+
+def run_job(cases, title, job, commands_run, folder):
+    """A job of CI: its commands were run, and made the files that it keeps."""
+    for command in job_commands(job):
+        cases.report(f"{title}: a job runs {command}", [] if command in commands_run else ["no block has it"])
+    for name in kept_files(job):
+        made = (folder / name).exists() and (folder / name).stat().st_size > 0
+        cases.report(f"{title}: a job keeps {name}", [] if made else ["it is not there, or empty"])
 
 
 def copy_logs(blocks, folder, environment):

@@ -8,7 +8,7 @@ from typing import Any, List, NamedTuple, Tuple
 
 # The name of the shared library, and the version of it that this package is made for.
 SONAME = "libudsnorm.so.0"
-VERSION = "0.1.0"
+VERSION = "1.0.0"
 
 # The values of `status`, but that of a style that there is not.
 DONE, ID_RANGE, SAME_ID, LIMIT_RANGE, BAD_LINE, OVERSIZE, LOG_LIMIT, OUTPUT_LIMIT, MEMORY, ROOM = range(10)

@@ -30,7 +30,11 @@ module _ {A : Type 0} (script : Script) (none : TellsNothing script) (answers : 
   never_write (Err Write) (inl (front, inr ends)) =
       let T = trace settings ends.meanings in
       let last = none.at_the_end T (summary_of limit settings log ends.meanings) in
-      absurd (omega (arith, ends.some,
-      ap (λ (t : List ℕ). length (t ++ script.last T (summary_of limit settings log ends.meanings))) (told_nothing script.word none.of_frames [] T), ap length last))
+      absurd (omega (
+        arith,
+        ends.some,
+        ap (λ (t : List ℕ). length (t ++ script.last T (summary_of limit settings log ends.meanings))) (told_nothing script.word none.of_frames [] T),
+        ap length last,
+      ))
   never_write (Err Write) (inr refuses) =
       absurd (omega (arith, refuses.some, ap length (none.of_refusals (trace settings refuses.meanings) (summary_of limit settings [] refuses.meanings) refuses.why)))

@@ -46,6 +46,7 @@ impl Begun {
     }
 
     /// Takes what a frame did that stands here. Answers where the message began, if it completed one.
+    #[inline(always)]
     pub fn take(&mut self, here: FramePlace, dir: Dir, event: Event<'_>) -> FramePlace
         ensures tester { self.new.tester ≡ begun_after Tester dir (seen_event event.entry) here self.old.tester }
         ensures unit { self.new.unit ≡ begun_after Unit dir (seen_event event.entry) here self.old.unit }

@@ -1,7 +1,6 @@
 -- What the verdict of a report is made of, with one more row.
-use Rattle.std.proofs.Common.{◌≡◌, ℕ, ◌+◌, ◌<◌, ◌≤◌, ◌^◌, ◌-◌, ◌==◌, Bool, true, false, List, [], ◌∷◌, ◌++◌, length, take, zero, suc, refl, ap, sym, ◌∙◌, append-nil, arith, suc-le-suc, le_trans, zero-le}
+use Rattle.std.proofs.Common.{◌≡◌, ℕ, ◌<◌, ◌≤◌, ◌^◌, ◌-◌, ◌==◌, Bool, true, false, List, [], ◌∷◌, ◌++◌, length, take, zero, suc, refl, ap, sym, ◌∙◌, append-nil, arith, suc-le-suc, le_trans, zero-le}
 use Rattle.std.specs.Prelude.{if◌then◌else◌}
-use Rattle.std.specs.List.{flat_map}
 use Rattle.std.proofs.lemmas.Grind.{flat_map-append}
 use Rattle.std.proofs.lemmas.List.{length-append}
 use Rattle.uds_exchange.specs.Numbering.{one_more}
@@ -104,13 +103,20 @@ module _ (targets : Sort → List ℕ) (target : ℕ) where
   first_more sort.KeepAlives = refl
   first_more sort.Silent = refl
 
--- both are right with one more row
+-- the counts are right with one more row
+pub counts_next : (rows : List RowValue) (row : RowValue) → length rows < 2 ^ 64 - 1 → (counts : SortCounts)
+    → counts ≡ counts_with (sort_of row) (counts_in rows) → counts ≡ counts_in (rows ++ row ∷ [])
+counts_next rows row few counts are =
+    let targets = λ (kind : Sort). targets_of kind rows in
+    let few_each = λ (kind : Sort). le_trans (suc-le-suc (few_targets kind rows)) few in
+    are ∙ counts_more targets (target_of row) few_each (sort_of row) ∙ (λ i. counts_by (λ kind. sym (targets_next rows row kind) i))
+
+-- and so are the first targets
 pub tally_next : (rows : List RowValue) (row : RowValue) → length rows < 2 ^ 64 - 1 → (counts : SortCounts) (first : FirstTargets)
     → counts ≡ counts_with (sort_of row) (counts_in rows) → first ≡ first_with (sort_of row) (target_of row) (first_targets rows)
     → record { counts = counts; first = first } ≡ tally_of (rows ++ row ∷ [])
 tally_next rows row few counts first counts_are first_are =
     let targets = λ (kind : Sort). targets_of kind rows in
-    let few_each = λ (kind : Sort). le_trans (suc-le-suc (few_targets kind rows)) few in
-    let counted = counts_are ∙ counts_more targets (target_of row) few_each (sort_of row) ∙ (λ i. counts_by (λ kind. sym (targets_next rows row kind) i)) in
+    let counted = counts_next rows row few counts counts_are in
     let linked = first_are ∙ first_more targets (target_of row) (sort_of row) ∙ (λ i. first_by (λ kind. sym (targets_next rows row kind) i)) in
     λ i. record { counts = counted i; first = linked i }

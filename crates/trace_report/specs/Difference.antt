@@ -1,9 +1,8 @@
 -- Where two sessions first differ: of both the rows from the request at or before the item to the next request, so that a frame which was
 -- dropped there stands where it explains the difference.
-use Rattle.std.specs.Prelude.{ℕ, ◌+◌, ◌==◌, ◌&&◌, Bool, true, false, List, [], ◌∷◌, ◌++◌, codes, length, Option, Some, None, if◌then◌else◌}
+use Rattle.std.specs.Prelude.{ℕ, ◌==◌, ◌&&◌, Bool, true, false, List, [], ◌∷◌, ◌++◌, codes, length, Option, Some, None, if◌then◌else◌}
 use Rattle.direction.specs.declared.Dir.{Dir}
-use Rattle.trace_report.specs.Blocks.{begins_exchange, body_if, chart_head}
-use Rattle.trace_report.specs.Contrast.{log_letter}
+use Rattle.trace_report.specs.Blocks.{begins_exchange, chart_head}
 use Rattle.trace_report.specs.Items.{is_answer_role}
 use Rattle.trace_report.specs.Marks.{marked_data}
 use Rattle.trace_report.specs.Rows.{RowValue, message, no_answer, dropped, ended, unfinished, begins_item, cell_front, cell_end, dropped_row, ended_row, message_front, no_answer_row, note_text, role_words, unfinished_row}

@@ -1,6 +1,6 @@
 -- The rows of a page of two sessions that tell items: one for each number, with the item of both logs. They stand in tables of 200,
 -- which fold.
-use Rattle.std.specs.Prelude.{ℕ, ◌+◌, ◌==◌, Bool, true, false, List, [], ◌∷◌, ◌++◌, codes, nat_lt, Option, Some, None, unwrap_or, if◌then◌else◌}
+use Rattle.std.specs.Prelude.{ℕ, ◌+◌, ◌==◌, Bool, false, List, [], ◌∷◌, ◌++◌, codes, nat_le, Option, Some, None, unwrap_or, if◌then◌else◌}
 use Rattle.std.specs.Fmt.{decimal}
 use Rattle.uds_message.specs.Message.{is_suppressing}
 use Rattle.trace_report.specs.Blocks.{block_end, full_block, is_request_role}
@@ -76,33 +76,39 @@ abbrev pub different_row : ℕ → ℕ → ℕ → ItemPair → List ℕ
 different_row left right number pair =
     codes "<tr class=\"d\"><th scope=\"row\">" ++ decimal number ++ codes " <i>differs</i>" ++ item_sides left right pair ++ codes "\n"
 
--- the row of a number, by how its items differ
-abbrev pub pair_row_by : Option Contrast → ℕ → ℕ → ℕ → ItemPair → List ℕ
-pair_row_by None left right number (both a b) = same_row left right number a b
-pair_row_by None left right number (only_left a) = different_row left right number (only_left a)
-pair_row_by None left right number (only_right b) = different_row left right number (only_right b)
-pair_row_by (Some how) left right number pair = different_row left right number pair
+-- the row of two items, by how they differ
+abbrev pub both_row : Option Contrast → ℕ → ℕ → ℕ → PlacedItem → PlacedItem → List ℕ
+both_row None left right number a b = same_row left right number a b
+both_row (Some how) left right number a b = different_row left right number (both a b)
 
 -- the row of a number
 abbrev pub pair_row : ℕ → ℕ → ℕ → ItemPair → List ℕ
-pair_row left right number pair = pair_row_by (contrast_of pair) left right number pair
+pair_row left right number (both a b) = both_row (contrast_of (both a b)) left right number a b
+pair_row left right number (only_left a) = different_row left right number (only_left a)
+pair_row left right number (only_right b) = different_row left right number (only_right b)
+
+-- a table is open
+abbrev pub open_mark : Bool → List ℕ
+open_mark opened = if opened then codes " open" else []
 
 -- the start of a table, open or folded, whose first row has this number
 abbrev pub table_opening : Bool → ℕ → List ℕ
 table_opening opened number =
-    codes "<details class=\"b\"" ++ (if opened then codes " open" else []) ++ codes ">\n<summary>From item " ++ decimal number
+    codes "<details class=\"b\"" ++ open_mark opened ++ codes ">\n<summary>From item " ++ decimal number
     ++ codes "</summary>\n<table class=\"pair\">\n<thead><tr><th scope=\"col\">Item<th scope=\"col\">A<th scope=\"col\">B</thead>\n<tbody>\n"
+
+-- that, behind the end of another table
+abbrev pub next_table : ℕ → List ℕ
+next_table number = block_end 1 ++ table_opening false number
 
 -- what begins before a row of this number, where so many rows stand in the last table, if there is one: the first table may be open
 abbrev pub row_opening : Bool → ℕ → ℕ → List ℕ
 row_opening opened placed number =
-    if placed == 0 then table_opening opened number
-    else if placed == full_block then block_end 1 ++ table_opening false number
-    else []
+    if placed == 0 then table_opening opened number else if nat_le full_block placed then next_table number else []
 
 -- how many rows stand in the last table with one more
 abbrev pub one_more_placed : ℕ → ℕ
-one_more_placed placed = if placed == full_block then 1 else placed + 1
+one_more_placed placed = if nat_le full_block placed then 1 else placed + 1
 
 -- the rows of these items from a number on, where so many rows stand in the last table, and the end of that
 abbrev pub pair_rows : Bool → ℕ → ℕ → ℕ → ℕ → List ItemPair → List ℕ

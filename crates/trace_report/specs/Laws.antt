@@ -1,9 +1,22 @@
 -- What holds of a page, whatever log it is of.
 use Prim.Native.Char.{code}
-use Rattle.std.specs.Prelude.{◌≡◌, ℕ, ◌==◌, ◌&&◌, not, Bool, true, List, nat_le}
+use Rattle.std.specs.Prelude.{◌≡◌, ℕ, ◌==◌, ◌&&◌, not, Bool, true, List, map, nat_le, Ok}
 use Rattle.std.specs.List.{AllByRecursion}
+use Rattle.isotp_receive.specs.declared.TheConstants.{MESSAGE_LIMIT}
+use Rattle.isotp_receive.specs.Trace.{Entry}
+use Rattle.isotp_receive.specs.Verdict.{messages}
+use Rattle.uds_exchange.specs.Difference.{IsFirstDifference}
+use Rattle.uds_exchange.specs.Meaning.{meaning}
+use Rattle.trace_canon.specs.Compared.{Compares, difference}
+use Rattle.trace_canon.specs.Settings.{Settings}
+use Rattle.trace_canon.specs.declared.comparing.Compared.{Compared}
+use Rattle.trace_report.specs.Contrast.{first_contrast}
 use Rattle.trace_report.specs.Front.{name_text}
+use Rattle.trace_report.specs.Held.{HoldsTwo, comparison_by, comparison_in}
+use Rattle.trace_report.specs.Items.{PlacedItem, item_value, items_in, pairs_of}
+use Rattle.trace_report.specs.Page.{all_rows}
 use Rattle.trace_report.specs.Words.{letters}
+use Rattle.trace_report.specs.declared.held_session.Held.{Held}
 
 -- a byte that opens and closes nothing in HTML: printable ASCII, and none of < > " '
 abbrev pub is_harmless : ℕ → Bool
@@ -17,3 +30,19 @@ NameIsHarmless = (name : List ℕ) → AllByRecursion (λ b. is_harmless b ≡ t
 -- and each letter that is shown for the bytes of a message
 abbrev pub LettersAreHarmless : Type 0
 LettersAreHarmless = (bytes : List ℕ) → AllByRecursion (λ b. is_harmless b ≡ true) (letters bytes)
+
+-- what the page of two sessions says of their items is so: they are the same exactly if their values are, and else differ first where
+-- these do
+abbrev pub ComparisonIsOfItems : Type 0
+ComparisonIsOfItems = (left right : List PlacedItem)
+    → IsFirstDifference (map item_value left) (map item_value right) (difference (comparison_by (first_contrast (pairs_of left right))))
+
+-- the items that the rows of a session tell are what its messages mean, and so those that `list` and `compare` have
+abbrev pub ItemsAreTheMeaning : Type 0
+ItemsAreTheMeaning = (T : List Entry) → map item_value (items_in (all_rows MESSAGE_LIMIT T)) ≡ meaning (messages MESSAGE_LIMIT T)
+
+-- so what a page says of two logs is what `compare` answers, where that accepts both
+abbrev pub AgreesWithCompare : Type 0
+AgreesWithCompare = (settings : Settings) (one other : List ℕ) (held : Held) (compared : Compared)
+    → HoldsTwo MESSAGE_LIMIT settings one other (Ok held) → Compares MESSAGE_LIMIT settings one other (Ok compared)
+    → comparison_in held ≡ compared.comparison

@@ -1,6 +1,6 @@
 -- The page of two logs: whether they are the same session; the items before the first difference, that difference, and the items
 -- behind it. Both sessions are held, so the verdict is written first.
-use Rattle.std.specs.Prelude.{ℕ, ◌+◌, ◌==◌, Bool, true, false, List, [], ◌∷◌, ◌++◌, codes, length, take, drop, Option, Some, None, Result, Ok, Err, nat_lt, if◌then◌else◌}
+use Rattle.std.specs.Prelude.{ℕ, ◌+◌, ◌==◌, Bool, true, false, List, [], ◌∷◌, ◌++◌, codes, length, take, drop, Option, Some, None, Result, Ok, Err, if◌then◌else◌}
 use Rattle.std.specs.Fmt.{decimal}
 use Rattle.can_log.specs.declared.frame.Id.{Id}
 use Rattle.trace_canon.specs.Settings.{Settings}
@@ -89,12 +89,16 @@ abbrev pub verdict_by : ℕ → Option FirstContrast → List ℕ
 verdict_by count None = same_verdict count
 verdict_by count (Some first) = different_verdict first
 
--- whether a recording is clean
+-- why a recording is not clean
+abbrev pub unclean_state : Summary → List ℕ
+unclean_state summary = codes "<b>The recording is not clean:</b> " ++ unclean_reason summary
+
+-- whether it is
 abbrev pub state_text : Summary → List ℕ
 state_text summary =
     if summary.frames == 0 then codes "<b>No frame is of the tester or the unit.</b>"
     else if is_clean summary then codes "The recording is clean."
-    else codes "<b>The recording is not clean:</b> " ++ unclean_reason summary
+    else unclean_state summary
 
 -- what was found of one log
 abbrev pub session_text : LogName → List ℕ → SessionValue → List ℕ
@@ -113,11 +117,14 @@ sessions_text title held =
 abbrev pub same_items : Held → List ItemPair → List ℕ
 same_items held pairs = codes "<h2>Items</h2>\n" ++ pair_rows false held.left.first held.right.first 0 1 pairs
 
--- what stands before the first difference
+-- the rows of so many items before the first difference
+abbrev pub rows_before : Held → ℕ → List ItemPair → List ℕ
+rows_before held count pairs =
+    if count == 0 then codes "<p>Nothing: the first item differs.</p>\n" else pair_rows false held.left.first held.right.first 0 1 (take count pairs)
+
+-- what stands before it
 abbrev pub items_before : Held → ℕ → List ItemPair → List ℕ
-items_before held count pairs =
-    codes "<h2>Before the difference</h2>\n"
-    ++ (if count == 0 then codes "<p>Nothing: the first item differs.</p>\n" else pair_rows false held.left.first held.right.first 0 1 (take count pairs))
+items_before held count pairs = codes "<h2>Before the difference</h2>\n" ++ rows_before held count pairs
 
 -- a side of the difference
 abbrev pub contrast_side : LogName → List ℕ → FirstContrast → SessionValue → List ℕ

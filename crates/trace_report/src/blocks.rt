@@ -11,7 +11,7 @@ use trace_canon::begun::FramePlace;
 use trace_canon::say::{say_number, say_text};
 
 /// A request closes a block that has this many rows.
-const FULL_BLOCK: u64 = 200;
+pub(crate) const FULL_BLOCK: u64 = 200;
 
 /// Any row closes one that has so many.
 const LARGEST_BLOCK: u64 = 1000;

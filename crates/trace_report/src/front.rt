@@ -40,7 +40,7 @@ fn say_head<S: TextSink>(title: &Title<'_>, out: &mut S)
 }
 
 /// Says that nothing may be fetched and nothing may run.
-fn say_page_start<S: TextSink>(out: &mut S)
+pub(crate) fn say_page_start<S: TextSink>(out: &mut S)
     ensures { S.says out.old page_start out.new }
 {
     say_text(
@@ -59,7 +59,7 @@ fn say_page_start<S: TextSink>(out: &mut S)
 }
 
 /// Says a name.
-fn say_name<S: TextSink>(name: &[u8], out: &mut S)
+pub(crate) fn say_name<S: TextSink>(name: &[u8], out: &mut S)
     ensures { S.says out.old (name_text name.now) out.new }
 {
     'bytes: for byte in name {
@@ -106,7 +106,7 @@ fn say_numbered_byte<S: TextSink>(byte: u8, out: &mut S)
 }
 
 /// Says the shapes of the arrows.
-fn say_shapes<S: TextSink>(out: &mut S)
+pub(crate) fn say_shapes<S: TextSink>(out: &mut S)
     ensures { S.says out.old shapes_text out.new }
 {
     say_text(out, "<svg class=\"defs\" aria-hidden=\"true\"><defs>\n");
@@ -152,7 +152,7 @@ fn say_header<S: TextSink>(title: &Title<'_>, out: &mut S)
 }
 
 /// Says the two identifiers.
-fn say_identifiers<S: TextSink>(tester: Id, unit: Id, out: &mut S)
+pub(crate) fn say_identifiers<S: TextSink>(tester: Id, unit: Id, out: &mut S)
     ensures { S.says out.old (identifiers_text tester unit) out.new }
 {
     say_text(out, "<p class=\"ids\"><span class=\"T\">tester ");

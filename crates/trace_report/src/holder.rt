@@ -70,11 +70,7 @@ pub fn hold_two<A: Source, B: Source>(
 }
 
 /// Reads a log, and answers what it says.
-fn hold<R: Source>(
-    alloc: Global,
-    config: &Config,
-    reader: &mut R,
-) -> Result<HeldSession, Fault>
+fn hold<R: Source>(alloc: Global, config: &Config, reader: &mut R) -> Result<HeldSession, Fault>
     requires reader { AreLowCounts (R.reads reader.old) (length (R.given reader.old)) (R.failures reader.old) }
     ensures answer { (log : List ℕ) → Agrees (R.given reader.old) (R.given reader.new) (R.is_over reader.new) log → GivesSession MESSAGE_LIMIT config.now log result }
     ensures near { (log : List ℕ) → Agrees (R.given reader.old) (R.given reader.new) (R.is_over reader.new) log
@@ -131,7 +127,11 @@ fn hold_rows(alloc: Global, rows: &mut Vec<HeldRow>, new: NewRows<'_>) -> Result
 }
 
 /// Holds a row, if there is one.
-fn hold_row_if(alloc: Global, rows: &mut Vec<HeldRow>, row: Option<Row<'_>>) -> Result<(), AllocError>
+fn hold_row_if(
+    alloc: Global,
+    rows: &mut Vec<HeldRow>,
+    row: Option<Row<'_>>,
+) -> Result<(), AllocError>
     ensures { OnOk result (held_rows rows.new.items ≡ held_rows rows.old.items ++ row_if row.entry) }
 {
     if let Some(row) = row {
@@ -199,12 +199,7 @@ impl Machine for Holder {
         Ok(())
     }
 
-    fn end<S: TextSink>(
-        self,
-        pair: &Pair,
-        summary: &Summary,
-        _out: &mut S,
-    ) -> Result<Heard, Stop> {
+    fn end<S: TextSink>(self, pair: &Pair, summary: &Summary, _out: &mut S) -> Result<Heard, Stop> {
         let Holder {
             span,
             follower,

@@ -1,6 +1,6 @@
 //! What holds of a page, whatever log it is of. A law is its contract; a call does nothing.
 
-ghost use Rattle.trace_report.specs.Laws.{LettersAreHarmless, NameIsHarmless};
+ghost use Rattle.trace_report.specs.Laws.{AgreesWithCompare, ComparisonIsOfItems, ItemsAreTheMeaning, LettersAreHarmless, NameIsHarmless};
 
 /// The name of a log opens and closes nothing on its page.
 pub fn name_is_harmless()
@@ -10,4 +10,19 @@ pub fn name_is_harmless()
 /// Nor do the letters that are shown for bytes of a message.
 pub fn letters_are_harmless()
     ensures { LettersAreHarmless }
+{}
+
+/// What the page of two sessions says of their items is so.
+pub fn comparison_is_of_items()
+    ensures { ComparisonIsOfItems }
+{}
+
+/// The items of a page are those of `list` and `compare`.
+pub fn items_are_the_meaning()
+    ensures { ItemsAreTheMeaning }
+{}
+
+/// A page says of two logs what `compare` answers.
+pub fn agrees_with_compare()
+    ensures { AgreesWithCompare }
 {}

@@ -14,6 +14,17 @@
 //! The text of a page is in pieces: its `front`; the rows of messages (`message_rows`, `brief_rows`) and of what is missing
 //! (`lost_rows`), by `cells` and `words`; the `verdict`, with `links` and `counts`; and the `help`. The style is no part of what is
 //! proved.
+//!
+//! Of two logs a page says first whether they are the same. So both are held: [`hold_two`] keeps the rows of each (`holder`), and
+//! [`write_pair_page`] writes the page of both.
+//!
+//! ```text
+//! event -> Follower -> rows -> Holder -> HeldSession -> items, pairs -> page
+//! ```
+//!
+//! The `items` are found again among the rows, and those of both logs stand side by side. The first `contrast` of a pair (`pairs`) is the
+//! difference that the page tells (`pair_verdict`) and shows by the rows around it (`difference`), with a mark at the byte (`marks`). The
+//! items before and behind it are rows of a table (`item_rows`, `pair_items`).
 #![tactic(auto)]
 
 mod blocks;
@@ -22,6 +33,7 @@ mod cells;
 mod chart;
 mod contrast;
 mod counts;
+mod difference;
 mod events;
 mod follower;
 mod frames;
@@ -29,12 +41,17 @@ mod front;
 mod held_session;
 mod help;
 mod holder;
+mod item_rows;
 mod items;
 pub mod laws;
 mod links;
 mod lost_rows;
 mod marks;
 mod message_rows;
+mod pair_items;
+mod pair_page;
+mod pair_verdict;
+mod pairs;
 mod places;
 mod reporter;
 mod row;
@@ -47,5 +64,6 @@ mod words;
 
 pub use held_session::{Held, HeldSession};
 pub use holder::hold_two;
+pub use pair_page::{PairTitle, write_pair_page};
 pub use reporter::report;
 pub use style::report_style;

@@ -123,7 +123,7 @@ fn say_item_repeated<S: TextSink>(number: u64, out: &mut S)
 }
 
 /// Says the lines of the log from one to another.
-fn say_lines<S: TextSink>(first: u64, last: u64, out: &mut S)
+pub(crate) fn say_lines<S: TextSink>(first: u64, last: u64, out: &mut S)
     ensures { S.says out.old (lines_text first last) out.new }
 {
     if first == last {
@@ -143,7 +143,7 @@ fn say_several_lines<S: TextSink>(first: u64, last: u64, out: &mut S)
 }
 
 /// Says what a message is to its item.
-fn say_role<S: TextSink>(role: MessageRole, dir: Dir, message: &[u8], out: &mut S)
+pub(crate) fn say_role<S: TextSink>(role: MessageRole, dir: Dir, message: &[u8], out: &mut S)
     ensures { S.says out.old (role_words role dir message.now) out.new }
 {
     match role {
@@ -184,7 +184,7 @@ fn say_stray_words<S: TextSink>(dir: Dir, out: &mut S)
 }
 
 /// When the last frame of the request came to which a message replies, if it replies to one.
-fn asked_at(role: MessageRole) -> Option<u64>
+pub(crate) fn asked_at(role: MessageRole) -> Option<u64>
     ensures { result ≡ Spec.asked_at role }
 {
     match role {
@@ -196,7 +196,7 @@ fn asked_at(role: MessageRole) -> Option<u64>
 }
 
 /// Says the note on a message of so many bytes.
-fn say_note<S: TextSink>(role: MessageRole, place: MessagePlace, count: u64, out: &mut S)
+pub(crate) fn say_note<S: TextSink>(role: MessageRole, place: MessagePlace, count: u64, out: &mut S)
     ensures { S.says out.old (note_text role place count) out.new }
 {
     let asked = asked_at(role);
@@ -227,7 +227,7 @@ fn say_frames_note<S: TextSink>(
 }
 
 /// Says how long after its request a message of several frames began, if it replies to one.
-fn say_further_note<S: TextSink>(asked: Option<u64>, first: u64, out: &mut S)
+pub(crate) fn say_further_note<S: TextSink>(asked: Option<u64>, first: u64, out: &mut S)
     ensures { S.says out.old (further_note asked first) out.new }
 {
     if let Some(asked) = asked {

@@ -60,7 +60,7 @@ fn say_unclean_verdict<S: TextSink>(summary: &Summary, out: &mut S)
 }
 
 /// Says what it is.
-fn say_unclean_reason<S: TextSink>(summary: &Summary, out: &mut S)
+pub(crate) fn say_unclean_reason<S: TextSink>(summary: &Summary, out: &mut S)
     ensures { S.says out.old (unclean_reason summary.now) out.new }
 {
     if summary.tester_frames == 0 {
@@ -142,7 +142,7 @@ pub(crate) fn say_refused_heading<S: TextSink>(why: Fault, out: &mut S)
 }
 
 /// Says why a log is refused, as the program tells it.
-fn say_refusal<S: TextSink>(why: Fault, out: &mut S)
+pub(crate) fn say_refusal<S: TextSink>(why: Fault, out: &mut S)
     ensures { S.says out.old (refusal_words why) out.new }
 {
     match why {

@@ -56,7 +56,7 @@ join-length its x =
       | inr e ↦ (ap length (let j : join its x ≡ join_by (waiting its) its x = rw e refl in j) ∙ join-by-length its x (waiting its) e)
     ]
 
-step-is : (M : List Message) (x : Message) → step_of (waiting_sid (meaning M)) x ≡ step_after M x
+pub step-is : (M : List Message) (x : Message) → step_of (waiting_sid (meaning M)) x ≡ step_after M x
 step-is M x = ap (λ (o : OrdererValue). step_of o.open_sid x) (sym (stands-is M))
 
 items-next : (M : List Message) (x : Message) → length (meaning (M ++ x ∷ [])) ≡ items_by (step_after M x) (length (meaning M))

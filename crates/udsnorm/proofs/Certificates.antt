@@ -1,33 +1,33 @@
 -- What is certified of a log by the counts that an engine answered.
-use Rattle.std.proofs.Common.{◌≡◌, ℕ, ◌≤◌, inl, inr, List, Option, Result, Ok, Err, true, false, true≢false, refl, ap, sym, subst, ◌∙◌, Bool, arith}
-use Rattle.std.specs.Prelude.{IfOk, ◌&&◌, not, if◌then◌else◌}
+use Rattle.std.proofs.Common.{◌≡◌, ℕ, ◌≤◌, List, Option, Result, Ok, Err, true, false, true≢false, refl, ap, sym, subst, ◌∙◌, Bool, arith}
+use Rattle.std.specs.Prelude.{IfOk, ◌&&◌, not}
 use Rattle.can_log.specs.Log.{LogMeans}
 use Rattle.can_log.specs.declared.frame.Stamped.{Stamped}
 use Rattle.isotp_receive.specs.declared.TheConstants.{MESSAGE_LIMIT}
 use Rattle.trace_canon.specs.Answers.{GivesSession}
-use Rattle.trace_canon.specs.Compared.{Compares, fault_in}
 use Rattle.trace_canon.specs.Laws.{Certifies, IsCertified}
 use Rattle.trace_canon.specs.Outcome.{Accepted, IsOutcome}
 use Rattle.trace_canon.specs.Settings.{Settings}
 use Rattle.trace_canon.specs.Summing.{is_clean, summary_of}
 use Rattle.trace_canon.specs.declared.collector.Session.{Session}
-use Rattle.trace_canon.specs.declared.comparing.Compared.{Compared}
-use Rattle.trace_canon.specs.declared.comparing.Comparison.{Comparison}
 use Rattle.trace_canon.specs.declared.fault.CompareFault.{CompareFault}
 use Rattle.trace_canon.specs.declared.fault.Fault.{Fault}
-use Rattle.trace_canon.specs.declared.fault.Fault.TheVariants as fault
 use Rattle.trace_canon.specs.declared.machine.Stop.{Stop}
 use Rattle.trace_canon.specs.declared.summary.Summary.{Summary}
 use Rattle.trace_canon.proofs.Promises.{clean_log_is_recording, clean_summary_is_certificate, summary_certifies}
 use Rattle.trace_canon.specs.Told.{AnswersTold, answers_counts}
 use Rattle.trace_report.specs.Front.{PageTitle, page_title}
+use Rattle.trace_report.specs.Held as Holds
 use Rattle.trace_report.specs.Page.{report_script}
-use Rattle.udsnorm.specs.Commands.{EngineAnswers}
-use Rattle.udsnorm.specs.Ending.{has_unclean, status_of_comparison}
-use Rattle.udsnorm.specs.Run.{IsStatusOfTwo}
-use Rattle.udsnorm.specs.Status.{status_of}
+use Rattle.trace_report.specs.Session.{SessionValue}
+use Rattle.udsnorm.specs.Commands.{EngineAnswers, PairEngineAnswers}
+use Rattle.udsnorm.specs.Ending.{status_of_run_of_two}
 use Rattle.udsnorm.specs.declared.commands.Job.{Job}
 use Rattle.udsnorm.specs.declared.commands.Job.TheVariants as job
+use Rattle.udsnorm.specs.declared.pair_jobs.PairAnswer.{PairAnswer}
+use Rattle.udsnorm.specs.declared.pair_jobs.PairJob.{PairJob}
+use Rattle.udsnorm.specs.declared.pair_jobs.PairJob.TheVariants as pair_job
+use Rattle.udsnorm.proofs.Pairs.{accepted_pair}
 
 -- the counts of a log whose lines mean this
 of_lines : (settings : Settings) (log : List ℕ) (meanings : List (Option Stamped)) → LogMeans log meanings → Certifies MESSAGE_LIMIT settings log (summary_of MESSAGE_LIMIT settings log meanings)
@@ -86,24 +86,28 @@ pub is_certified : (settings : Settings) (log : List ℕ) (session : Session) �
 is_certified settings log session gives clean =
     clean_log_is_recording MESSAGE_LIMIT settings log session.summary (of_accepted settings log gives.accepted session.summary gives.outcome gives.counted) clean
 
-no_more : (unclean : Bool) (comparison : Comparison) (status : ℕ) → status ≡ (if unclean then 6 else status_of_comparison comparison) → status ≤ 1 → unclean ≡ false
-no_more true comparison status is low = absurd (omega (arith, is, low))
-no_more false comparison status is low = refl
+-- a log that is held is clean
+of_held : (settings : Settings) (log : List ℕ) (session : SessionValue) → Holds.GivesSession MESSAGE_LIMIT settings log (Ok session) → is_clean session.summary ≡ true → IsCertified MESSAGE_LIMIT settings log
+of_held settings log session (meanings, read, is) = of_told settings log meanings session.summary read.1 (ap (λ (s : SessionValue). Ok s.summary) is)
 
-refused_high : (why : Fault) (status : ℕ) → status ≡ status_of why → status ≤ 1 → ⊥
-refused_high (fault.BadLine line column) status is low = absurd (omega (arith, is, low))
-refused_high (fault.Oversize line announced) status is low = absurd (omega (arith, is, low))
-refused_high fault.LogLimit status is low = absurd (omega (arith, is, low))
-refused_high fault.OutputLimit status is low = absurd (omega (arith, is, low))
-refused_high fault.Read status is low = absurd (omega (arith, is, low))
-refused_high fault.Write status is low = absurd (omega (arith, is, low))
-refused_high fault.Memory status is low = absurd (omega (arith, is, low))
+-- what is certified of two logs by the answer of a job over them
+of_pair : (job : PairJob) (left_name right_name : List ℕ) (strict : Bool) (settings : Settings) (one other : List ℕ) (pair : PairAnswer) (text : List ℕ)
+    → PairEngineAnswers job left_name right_name strict MESSAGE_LIMIT settings one other (Ok pair) text → is_clean pair.left ≡ true → is_clean pair.right ≡ true
+    → IsCertified MESSAGE_LIMIT settings one × IsCertified MESSAGE_LIMIT settings other
+of_pair (pair_job.Compare style) left_name right_name strict settings one other pair text (compared, compares, is, wrote) left_clean right_clean = (
+  is_certified settings one compared.left compares.0 (sym (ap (λ (p : PairAnswer). is_clean p.left) is) ∙ left_clean),
+  is_certified settings other compared.right compares.1 (sym (ap (λ (p : PairAnswer). is_clean p.right) is) ∙ right_clean),
+)
+of_pair pair_job.Report left_name right_name strict settings one other pair text (style, held, (left, right), is, wrote) left_clean right_clean = (
+  of_held settings one held.left left (sym (ap (λ (p : PairAnswer). is_clean p.left) is) ∙ left_clean),
+  of_held settings other held.right right (sym (ap (λ (p : PairAnswer). is_clean p.right) is) ∙ right_clean),
+)
 
--- so where a strict comparison has an answer, each log is a recording
-pub both_certified : (strict : Bool) (settings : Settings) (one other : List ℕ) (answer : Result Compared CompareFault) (status : ℕ) → Compares MESSAGE_LIMIT settings one other answer
-    → IsStatusOfTwo strict answer status → strict ≡ true → status ≤ 1 → IsCertified MESSAGE_LIMIT settings one × IsCertified MESSAGE_LIMIT settings other
-both_certified strict settings one other (Ok compared) status compares (inl is) so low =
-    let clean = are_clean strict (is_clean compared.left.summary) (is_clean compared.right.summary) so (no_more (has_unclean strict compared) compared.comparison status is low) in
-    (is_certified settings one compared.left compares.0 clean.0, is_certified settings other compared.right compares.1 clean.1)
-both_certified strict settings one other (Ok compared) status compares (inr is) so low = absurd (omega (arith, is, low))
-both_certified strict settings one other (Err fault) status compares is so low = absurd (refused_high (fault_in fault) status is low)
+-- so where a strict run over two logs has an answer, each log is a recording
+pub both_certified : (job : PairJob) (left_name right_name : List ℕ) (strict wrote : Bool) (settings : Settings) (one other : List ℕ) (answer : Result PairAnswer CompareFault) (text : List ℕ) (status : ℕ)
+    → PairEngineAnswers job left_name right_name strict MESSAGE_LIMIT settings one other answer text → status ≡ status_of_run_of_two wrote strict answer → strict ≡ true → status ≤ 1
+    → IsCertified MESSAGE_LIMIT settings one × IsCertified MESSAGE_LIMIT settings other
+both_certified job left_name right_name strict wrote settings one other answer text status engine is so low =
+    let done = accepted_pair strict wrote answer status is low in
+    let clean = are_clean strict (is_clean done.0.left) (is_clean done.0.right) so done.3 in
+    of_pair job left_name right_name strict settings one other done.0 text (subst (λ a. PairEngineAnswers job left_name right_name strict MESSAGE_LIMIT settings one other a text) done.2 engine) clean.0 clean.1

@@ -13,7 +13,7 @@ use Rattle.clap.specs.declared.parser.matches.Found.{Found}
 use Rattle.clap.proofs.ValueTestLemmas.{Accepts-accepts, accepts-Accepts}
 use Rattle.clap.proofs.WalkLemmas.{one_text-rows}
 use Rattle.trace_canon.specs.Settings.{Settings}
-use Rattle.udsnorm.specs.declared.commands.Job.{Job}
+use Rattle.udsnorm.specs.declared.commands.Task.{Task}
 use Rattle.udsnorm.specs.declared.job.Plan.{Plan}
 use Rattle.udsnorm.specs.declared.job.WordsFault.{WordsFault}
 use Rattle.udsnorm.specs.declared.job.WordsFault.TheVariants.{Help, Words, Identifier, Config, Memory}
@@ -90,16 +90,16 @@ of_fault None unit limit fault by =
     subst IsOfValues (sym is) tt
 
 -- why there is no configuration is why there is no plan
-pub refused_for : (job : Option Job) (rows : List Row) (fault : WordsFault) → IsConfiguredIn rows (Err fault) → IsRefusedFor job rows fault
-refused_for job rows (Help text) by = of_fault (tester_in rows) (unit_in rows) (limit_in rows) (Help text) by
-refused_for job rows (Words text) by = absurd (of_fault (tester_in rows) (unit_in rows) (limit_in rows) (Words text) by)
-refused_for job rows Identifier by = by
-refused_for job rows (Config fault) by = by
-refused_for job rows Memory by = tt
+pub refused_for : (asked : Task) (rows : List Row) (fault : WordsFault) → IsConfiguredIn rows (Err fault) → IsRefusedFor asked rows fault
+refused_for asked rows (Help text) by = of_fault (tester_in rows) (unit_in rows) (limit_in rows) (Help text) by
+refused_for asked rows (Words text) by = absurd (of_fault (tester_in rows) (unit_in rows) (limit_in rows) (Words text) by)
+refused_for asked rows Identifier by = by
+refused_for asked rows (Config fault) by = by
+refused_for asked rows Memory by = tt
 
 -- the same, as a `?` hands it on
-pub refused_when : (job : Option Job) (rows : List Row) (result : Result Plan WordsFault) (fault : WordsFault) (config : Result Settings WordsFault)
-    → IsErrAnd result (λ f. f ≡ fault) → config ≡ Err fault → IsConfiguredIn rows config → IfErr result (IsRefusedFor job rows)
-refused_when job rows (Ok plan) fault config is failed by = tt
-refused_when job rows (Err other) fault config is failed by =
-    subst (IsRefusedFor job rows) (sym is) (refused_for job rows fault (subst (IsConfiguredIn rows) failed by))
+pub refused_when : (asked : Task) (rows : List Row) (result : Result Plan WordsFault) (fault : WordsFault) (config : Result Settings WordsFault)
+    → IsErrAnd result (λ f. f ≡ fault) → config ≡ Err fault → IsConfiguredIn rows config → IfErr result (IsRefusedFor asked rows)
+refused_when asked rows (Ok plan) fault config is failed by = tt
+refused_when asked rows (Err other) fault config is failed by =
+    subst (IsRefusedFor asked rows) (sym is) (refused_for asked rows fault (subst (IsConfiguredIn rows) failed by))

@@ -1,55 +1,50 @@
 -- What was done where the exit status is 0.
 use Rattle.std.proofs.Common.{◌≡◌, ◌≤◌, ◌+◌, ℕ, inl, inr, List, [], ◌++◌, Option, Some, None, Result, Ok, Err, arith, ap, refl, sym, subst, ◌∙◌, Bool, true, false}
-use Rattle.std.specs.Prelude.{if◌then◌else◌, string_bytes}
+use Rattle.std.specs.Prelude.{string_bytes}
 use Rattle.isotp_receive.specs.declared.TheConstants.{MESSAGE_LIMIT}
 use Rattle.clap.specs.Walk.{Text}
-use Rattle.trace_canon.specs.Compared.{Compares, fault_in}
-use Rattle.trace_canon.specs.ComparisonText.{comparison_text}
 use Rattle.trace_canon.specs.Settings.{Settings}
-use Rattle.trace_canon.specs.declared.comparing.Compared.{Compared}
-use Rattle.trace_canon.specs.declared.comparing.Comparison.{Comparison}
-use Rattle.trace_canon.specs.declared.comparing.Comparison.TheVariants.{Same, Different}
-use Rattle.trace_canon.specs.declared.comparison_lines.ComparisonStyle.{ComparisonStyle}
+use Rattle.trace_canon.specs.declared.comparing.Comparison.TheVariants.{Same}
 use Rattle.trace_canon.specs.declared.fault.CompareFault.{CompareFault}
 use Rattle.trace_canon.specs.declared.fault.Fault.{Fault}
 use Rattle.trace_canon.specs.declared.summary.Summary.{Summary}
 use Rattle.trace_io.specs.declared.device.Source.{Ghosts as SourceGhosts}
 use Rattle.trace_io.specs.declared.device.Target.{Ghosts as TargetGhosts}
 use Rattle.udsnorm.specs.Asked.{Did, DidAsked, DidWords, IsDone, IsDoneBy, ToldWords}
-use Rattle.udsnorm.specs.Ending.{flushes, has_unclean, is_unclean, status_of_comparison}
-use Rattle.udsnorm.specs.Commands.{EngineAnswers}
+use Rattle.udsnorm.specs.Ending.{flushes, has_unclean, is_unclean, status_of_run_of_two}
+use Rattle.udsnorm.specs.Commands.{EngineAnswers, PairEngineAnswers}
 use Rattle.udsnorm.specs.Values.{page_name}
-use Rattle.udsnorm.specs.Run.{RanOne, IsStatusOfTwo, TookComparison}
+use Rattle.udsnorm.specs.Run.{RanOne, RanTwo}
+use Rattle.udsnorm.specs.Telling.{WroteText}
 use Rattle.udsnorm.specs.declared.commands.Job.{Job}
+use Rattle.udsnorm.specs.declared.pair_jobs.PairAnswer.{PairAnswer}
+use Rattle.udsnorm.specs.declared.pair_jobs.PairJob.{PairJob}
 use Rattle.udsnorm.specs.declared.ended.Known.{Known}
 use Rattle.udsnorm.specs.declared.job.Plan.{Plan}
 use Rattle.udsnorm.specs.declared.job.Plan.TheVariants.{One, Two}
 use Rattle.udsnorm.specs.declared.job.WordsFault.{WordsFault}
 use Rattle.udsnorm.specs.declared.job.WordsFault.TheVariants as words
-use Rattle.udsnorm.proofs.Statuses.{agrees_from_start, answers_from_start, answers_on_more, faults_are_told, summary_of_done}
+use Rattle.udsnorm.proofs.Pairs.{accepted_pair, same_of_zero}
+use Rattle.udsnorm.proofs.Statuses.{agrees_from_start, answers_from_start, answers_on_more, summary_of_done}
 
 is_not_four : (status : ℕ) → status ≡ 0 → status ≡ 4 → ⊥
 is_not_four status zero four = absurd (omega (arith, zero, four))
 
-same_by_status : (unclean : Bool) (comparison : Comparison) → ◌≡◌ {A = ℕ} (if unclean then 6 else status_of_comparison comparison) 0 → (unclean ≡ false) × (comparison ≡ Same)
-same_by_status true comparison zero = absurd (omega (arith, zero))
-same_by_status false Same zero = (refl, refl)
-same_by_status false (Different item) zero = absurd (omega (arith, zero))
-
--- the logs are the same, and clean where they have to be, and the output took that text
-same_of_done : (strict : Bool) (style : ComparisonStyle) (settings : Settings) (one other : List ℕ) (answer : Result Compared CompareFault) (status : ℕ) (old new : List ℕ)
-    → Compares MESSAGE_LIMIT settings one other answer → IsStatusOfTwo strict answer status → TookComparison strict style answer status old new → status ≡ 0
-    → (compared : Compared) × Compares MESSAGE_LIMIT settings one other (Ok compared) × (has_unclean strict compared ≡ false) × (compared.comparison ≡ Same) × (new ≡ old ++ comparison_text style compared)
-same_of_done strict style settings one other (Ok compared) status old new compares (inl is) text zero =
-    let same = same_by_status (has_unclean strict compared) compared.comparison (sym is ∙ zero) in (
-      compared,
-      compares,
-      same.0,
-      same.1,
-      text.1 (is_not_four status zero) ∙ ap (λ unclean. old ++ (if unclean then [] else comparison_text style compared)) same.0,
+-- the logs are the same, and clean where they have to be, and the output took the text of that
+same_of_done : {W : Type 0} (output : TargetGhosts W) (job : PairJob) (left_name right_name : List ℕ) (strict wrote : Bool) (settings : Settings) (one other : List ℕ)
+    (answer : Result PairAnswer CompareFault) (text : List ℕ) (status : ℕ) (old new : W)
+    → PairEngineAnswers job left_name right_name strict MESSAGE_LIMIT settings one other answer text → status ≡ status_of_run_of_two wrote strict answer
+    → WroteText output text wrote old new → status ≡ 0
+    → (pair : PairAnswer) × (has_unclean strict pair ≡ false) × (pair.comparison ≡ Same)
+    × PairEngineAnswers job left_name right_name strict MESSAGE_LIMIT settings one other (Ok pair) text × (output.taken new ≡ output.taken old ++ text)
+same_of_done output job left_name right_name strict wrote settings one other answer text status old new engine is told zero =
+    let done = accepted_pair strict wrote answer status is (omega (arith, zero)) in (
+      done.0,
+      done.3,
+      same_of_zero done.0.comparison (sym zero ∙ done.4),
+      subst (λ a. PairEngineAnswers job left_name right_name strict MESSAGE_LIMIT settings one other a text) done.2 engine,
+      told.whole done.1,
     )
-same_of_done strict style settings one other (Ok compared) status old new compares (inr is) text zero = absurd (is_not_four status zero is)
-same_of_done strict style settings one other (Err fault) status old new compares is text zero = absurd (faults_are_told (fault_in fault) (sym is ∙ zero))
 
 accepted : (job : Job) (name : List ℕ) (strict : Bool) (settings : Settings) (log : List ℕ) (n : ℕ) (answer : Result Summary Fault) (old new : List ℕ)
     → EngineAnswers job name MESSAGE_LIMIT settings log n answer old new → (summary : Summary) × (answer ≡ Ok summary) × (is_unclean strict summary ≡ false)
@@ -73,19 +68,20 @@ done_by file source output errors (Ok (One job strict settings (Some name))) bef
     (log, done.0, done.1, done.2)
 done_by file source output errors (Ok (One job strict settings (Some name))) before old unsaid status known after new said log (same, inr unopened) zero grown =
     absurd (is_not_four status zero unopened.0)
-done_by file source output errors (Ok (Two strict style settings left right)) before old unsaid status known after new said log (same, inl found) zero grown =
+done_by file source output errors (Ok (Two job strict settings left right)) before old unsaid status known after new said log (same, inl found) zero grown =
     let ran = found.ran in
     let one = file.given found.one_left in
     let other = file.given found.other_left in
-    let compares = ran.compares one other (agrees_from_start (file.given found.one) one (file.is_over found.one_left) found.from_start)
+    let engine = ran.engine one other (agrees_from_start (file.given found.one) one (file.is_over found.one_left) found.from_start)
     (agrees_from_start (file.given found.other) other (file.is_over found.other_left) found.from_start_too) in
-    let done = same_of_done strict style settings one other ran.answer status (output.taken old) (output.taken new) compares ran.status_is ran.text zero in
-    (one, other, done.0, done.1, done.2, done.3, done.4)
-done_by file source output errors (Ok (Two strict style settings left right)) before old unsaid status known after new said log (same, inr (inl unopened)) zero grown =
+    let done = same_of_done output job (page_name (Some (string_bytes left))) (page_name (Some (string_bytes right))) strict ran.wrote settings one other ran.answer ran.text status old new engine
+    ran.status_is ran.output_is zero in
+    (one, other, ran.text, done.0, done.1, done.2, done.3, done.4)
+done_by file source output errors (Ok (Two job strict settings left right)) before old unsaid status known after new said log (same, inr (inl unopened)) zero grown =
     absurd (is_not_four status zero unopened.0)
-done_by file source output errors (Ok (Two strict style settings left right)) before old unsaid status known after new said log (same, inr (inr (inl unopened))) zero grown =
+done_by file source output errors (Ok (Two job strict settings left right)) before old unsaid status known after new said log (same, inr (inr (inl unopened))) zero grown =
     absurd (is_not_four status zero unopened.0)
-done_by file source output errors (Ok (Two strict style settings left right)) before old unsaid status known after new said log (same, inr (inr (inr one))) zero grown =
+done_by file source output errors (Ok (Two job strict settings left right)) before old unsaid status known after new said log (same, inr (inr (inr one))) zero grown =
     absurd (omega (arith, one.0, zero))
 done_by file source output errors (Err (words.Help text)) before old unsaid status known after new said log (same, known_is, inl told) zero grown = told.1
 done_by file source output errors (Err (words.Help text)) before old unsaid status known after new said log (same, known_is, inr failed) zero grown =
@@ -103,6 +99,17 @@ pub ran_named : {R W E : Type 0} {source : SourceGhosts R} {output : TargetGhost
 ran_named {source = source} {output = output} {errors = errors} {job = job} {strict = strict} {limit = limit} {settings = settings} {before = before} {old = old} {unsaid = unsaid} {status = status}
     {outcome = outcome} {after = after} {new = new} {said = said} same ran =
     subst (λ (called : List ℕ). RanOne source output errors job called strict limit settings before old unsaid status outcome after new said) same ran
+
+-- the same of the logs of two names
+pub ran_named_two : {A B W E : Type 0} {left : SourceGhosts A} {right : SourceGhosts B} {output : TargetGhosts W} {errors : TargetGhosts E} {job : PairJob} {one_name one_same other_name other_same : List ℕ}
+    {strict : Bool} {limit : ℕ} {settings : Settings} {one : A} {other : B} {old : W} {unsaid : E} {status : ℕ} {fault : Option CompareFault} {one_now : A} {other_now : B} {new : W} {said : E}
+    → one_name ≡ one_same → other_name ≡ other_same
+    → RanTwo left right output errors job one_name other_name strict limit settings one other old unsaid status fault one_now other_now new said
+    → RanTwo left right output errors job one_same other_same strict limit settings one other old unsaid status fault one_now other_now new said
+ran_named_two {left = left} {right = right} {output = output} {errors = errors} {job = job} {one_same = one_same} {other_name = other_name} {strict = strict} {limit = limit} {settings = settings}
+    {one = one} {other = other} {old = old} {unsaid = unsaid} {status = status} {fault = fault} {one_now = one_now} {other_now = other_now} {new = new} {said = said} first second ran =
+    subst (λ (called : List ℕ). RanTwo left right output errors job one_same called strict limit settings one other old unsaid status fault one_now other_now new said) second
+    (subst (λ (called : List ℕ). RanTwo left right output errors job called other_name strict limit settings one other old unsaid status fault one_now other_now new said) first ran)
 
 -- what was done of a plan was done of its equal
 pub did_of_equal : {F R W E : Type 0} (file : SourceGhosts F) (source : SourceGhosts R) (output : TargetGhosts W) (errors : TargetGhosts E) (plan other : Plan)

@@ -1,4 +1,5 @@
 pub mod Statuses
+pub mod Pairs
 pub mod Certificates
 pub mod Done
 pub mod Configured

@@ -3,18 +3,15 @@ use Rattle.std.proofs.Common.{◌≡◌, ◌≢◌, ◌≤◌, ◌⊎◌, ◌+�
 use Rattle.std.specs.Prelude.{if◌then◌else◌, ◌&&◌, not, IfOk}
 use Rattle.std.specs.Io.KnownBytes.{Appends, Keeps}
 use Rattle.trace_canon.specs.Failing.{FailedIf}
-use Rattle.trace_canon.specs.declared.comparing.Compared.{Compared}
 use Rattle.trace_canon.specs.Laws.{IsCertified}
 use Rattle.trace_canon.specs.Summing.{is_clean}
-use Rattle.trace_canon.specs.declared.fault.CompareFault.{CompareFault}
 use Rattle.trace_canon.specs.declared.fault.Fault.{Fault}
 use Rattle.trace_canon.specs.declared.fault.Fault.TheVariants as fault
 use Rattle.trace_canon.specs.Settings.{Settings}
 use Rattle.trace_canon.specs.declared.summary.Summary.{Summary}
 use Rattle.trace_io.specs.Stream.{Agrees, Took}
-use Rattle.udsnorm.specs.Ending.{ComesTo, EndsAs, EndsTwoWith, flushes, is_unclean, status_of_run}
+use Rattle.udsnorm.specs.Ending.{ComesTo, EndsAs, flushes, is_unclean, status_of_run}
 use Rattle.udsnorm.specs.Commands.{EngineAnswers}
-use Rattle.udsnorm.specs.Run.{IsStatusOfTwo}
 use Rattle.udsnorm.specs.Status.{status_of}
 use Rattle.udsnorm.specs.declared.commands.Job.{Job}
 
@@ -96,13 +93,6 @@ took_still first old new held held_then held_now took same kept = record {
   grown = same ∙ took.grown;
   held = held_still took.bytes held held_then held_now took.held kept;
 }
-
--- ---- over two logs
-
-pub status_of_end_of_two : (strict : Bool) (answer : Result Compared CompareFault) (old new status : ℕ) → EndsTwoWith strict answer old new status → IsStatusOfTwo strict answer status
-status_of_end_of_two strict (Ok compared) old new status (inl done) = inl done.0
-status_of_end_of_two strict (Ok compared) old new status (inr failed) = inr failed.0
-status_of_end_of_two strict (Err why) old new status ends = ends.0
 
 -- ---- what a source that was read from its start gave
 

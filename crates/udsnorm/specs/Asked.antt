@@ -2,12 +2,8 @@
 use Rattle.std.specs.Prelude.{◌≡◌, ℕ, ◌+◌, ◌⊎◌, Bool, List, [], ◌++◌, length, true, false, Option, Some, None, Result, Ok, Err, string_bytes}
 use Rattle.isotp_receive.specs.declared.TheConstants.{MESSAGE_LIMIT}
 use Rattle.clap.specs.Walk.{Text}
-use Rattle.trace_canon.specs.Compared.{Compares}
-use Rattle.trace_canon.specs.ComparisonText.{comparison_text}
 use Rattle.trace_canon.specs.Settings.{Settings}
-use Rattle.trace_canon.specs.declared.comparing.Compared.{Compared}
 use Rattle.trace_canon.specs.declared.comparing.Comparison.TheVariants.{Same}
-use Rattle.trace_canon.specs.declared.comparison_lines.ComparisonStyle.{ComparisonStyle}
 use Rattle.trace_canon.specs.declared.fault.CompareFault.{CompareFault}
 use Rattle.trace_canon.specs.declared.fault.CompareFault.TheVariants.{Left, Right}
 use Rattle.trace_canon.specs.declared.fault.Fault.{Fault}
@@ -16,7 +12,7 @@ use Rattle.trace_canon.specs.declared.summary.Summary.{Summary}
 use Rattle.trace_io.specs.Written.{HasFront}
 use Rattle.trace_io.specs.declared.device.Source.{Ghosts as SourceGhosts}
 use Rattle.trace_io.specs.declared.device.Target.{Ghosts as TargetGhosts}
-use Rattle.udsnorm.specs.Commands.{EngineAnswers}
+use Rattle.udsnorm.specs.Commands.{EngineAnswers, PairEngineAnswers}
 use Rattle.udsnorm.specs.FaultLines.{fault_line, one_stream_line, side_line, words_text}
 use Rattle.udsnorm.specs.Ending.{has_unclean, is_unclean}
 use Rattle.udsnorm.specs.Known.{IsKnownBy, IsKnownByTwo, IsKnownUnopened}
@@ -25,6 +21,8 @@ use Rattle.udsnorm.specs.Telling.{TookText}
 use Rattle.udsnorm.specs.Values.{page_name}
 use Rattle.udsnorm.specs.Words.{IsPlanned}
 use Rattle.udsnorm.specs.declared.commands.Job.{Job}
+use Rattle.udsnorm.specs.declared.pair_jobs.PairAnswer.{PairAnswer}
+use Rattle.udsnorm.specs.declared.pair_jobs.PairJob.{PairJob}
 use Rattle.udsnorm.specs.declared.ended.Known.{Known}
 use Rattle.udsnorm.specs.declared.ended.Which.{Which}
 use Rattle.udsnorm.specs.declared.ended.Which.TheVariants.{First, Second}
@@ -74,8 +72,8 @@ Unopened errors line which old unsaid status known new said = (status ≡ 4) × 
 abbrev pub OneStream : {W E : Type 0} → TargetGhosts E → W → E → ℕ → Option Known → W → E → Type 0
 OneStream errors old unsaid status known new said = (status ≡ 2) × (new ≡ old) × Took errors one_stream_line unsaid said × (known ≡ None)
 
--- A run over the logs of two files, each from its first byte.
-pub record RanFiles {F W E : Type 0} (file : SourceGhosts F) (output : TargetGhosts W) (errors : TargetGhosts E) (strict : Bool) (style : ComparisonStyle) (limit : ℕ) (settings : Settings)
+-- A run over the logs of two files, which have these names on a page, each from its first byte.
+pub record RanFiles {F W E : Type 0} (file : SourceGhosts F) (output : TargetGhosts W) (errors : TargetGhosts E) (job : PairJob) (left_name right_name : List ℕ) (strict : Bool) (limit : ℕ) (settings : Settings)
     (old : W) (unsaid : E) (status : ℕ) (known : Option Known) (new : W) (said : E) : Type 0 where
   pub one : F
   pub other : F
@@ -84,7 +82,7 @@ pub record RanFiles {F W E : Type 0} (file : SourceGhosts F) (output : TargetGho
   pub from_start : file.given one ≡ []
   pub from_start_too : file.given other ≡ []
   pub fault : Option CompareFault
-  pub ran : RanTwo file file output errors strict style limit settings one other old unsaid status fault one_left other_left new said
+  pub ran : RanTwo file file output errors job left_name right_name strict limit settings one other old unsaid status fault one_left other_left new said
   pub known_is : IsKnownByTwo settings (file.given one_left) (file.is_over one_left) (file.given other_left) (file.is_over other_left) fault known
 
 -- What was done of a plan, and what is known of that: over the input where it names no file, and the input was left alone where
@@ -96,8 +94,8 @@ Did file source output errors (One job strict settings None) before old unsaid s
 Did file source output errors (One job strict settings (Some name)) before old unsaid status known after new said =
     (after ≡ before) × (RanFile file output errors job (page_name (Some (string_bytes name))) strict MESSAGE_LIMIT settings old unsaid status known new said
     ⊎ Unopened errors (fault_line Read) First old unsaid status known new said)
-Did file source output errors (Two strict style settings left right) before old unsaid status known after new said =
-    (after ≡ before) × (RanFiles file output errors strict style MESSAGE_LIMIT settings old unsaid status known new said
+Did file source output errors (Two job strict settings left right) before old unsaid status known after new said =
+    (after ≡ before) × (RanFiles file output errors job (page_name (Some (string_bytes left))) (page_name (Some (string_bytes right))) strict MESSAGE_LIMIT settings old unsaid status known new said
     ⊎ (Unopened errors (side_line (Left Read)) First old unsaid status known new said ⊎ (Unopened errors (side_line (Right Read)) Second old unsaid status known new said
     ⊎ OneStream errors old unsaid status known new said)))
 
@@ -120,9 +118,10 @@ IsDoneBy (Ok (One job strict settings None)) log before after =
     (summary : Summary) × (is_unclean strict summary ≡ false) × EngineAnswers job (page_name None) MESSAGE_LIMIT settings log (length log) (Ok summary) before after
 IsDoneBy (Ok (One job strict settings (Some name))) log before after =
     (one : List ℕ) × (summary : Summary) × (is_unclean strict summary ≡ false) × EngineAnswers job (page_name (Some (string_bytes name))) MESSAGE_LIMIT settings one (length one) (Ok summary) before after
-IsDoneBy (Ok (Two strict style settings left right)) log before after =
-    (one other : List ℕ) × (compared : Compared) × Compares MESSAGE_LIMIT settings one other (Ok compared) × (has_unclean strict compared ≡ false) × (compared.comparison ≡ Same)
-    × (after ≡ before ++ comparison_text style compared)
+IsDoneBy (Ok (Two job strict settings left right)) log before after =
+    (one other text : List ℕ) × (pair : PairAnswer) × (has_unclean strict pair ≡ false) × (pair.comparison ≡ Same)
+    × PairEngineAnswers job (page_name (Some (string_bytes left))) (page_name (Some (string_bytes right))) strict MESSAGE_LIMIT settings one other (Ok pair) text
+    × (after ≡ before ++ text)
 IsDoneBy (Err (words.Help text)) log before after = after ≡ before ++ string_bytes text
 IsDoneBy (Err (words.Words text)) log before after = ⊥
 IsDoneBy (Err words.Identifier) log before after = ⊥

@@ -1,14 +1,16 @@
--- The commands of the program: the options and files of each, as the parser takes them, the job that it asks for, and
--- what the engine answers and reads that does the job. A command is one entry of `command_entries`, and its job a case
--- of `engine_of`.
-use Rattle.std.specs.Prelude.{ℕ, Bool, true, false, List, [], ◌∷◌, ◌++◌, map, Some, None, Option, Result, codes, bytes_eq, if◌then◌else◌}
+-- The commands of the program: the options and files of each, as the parser takes them, the task that it asks for, and
+-- what the engine answers and reads that does its job. A command is one entry of `command_entries`, and its job a case
+-- of `engine_of`; or, where it is over two logs, of `left_file`, `right_file`, `has_text` and `engine_of_pair`.
+use Rattle.std.specs.Prelude.{◌≡◌, ℕ, Bool, true, false, not, List, [], ◌∷◌, ◌++◌, map, Some, None, Option, Result, Ok, Err, codes, bytes_eq, if◌then◌else◌}
 use Rattle.clap.specs.Faults.{fault_of}
 use Rattle.clap.specs.Kinds.{Kinds}
 use Rattle.clap.specs.Simple.{App, Shape, new_rule, new_shape, subcommand_of}
-use Rattle.clap.specs.Walk.{Row, Rule, Text}
+use Rattle.clap.specs.Walk.{Row, Rule, Text, first_of}
 use Rattle.clap.specs.declared.builder.action.ArgAction.TheVariants.{SetTrue}
 use Rattle.clap.specs.declared.builder.value_parser.ValueParser.TheVariants.{Unsigned}
 use Rattle.trace_canon.specs.Answers.{Answers, ReadsWhile}
+use Rattle.trace_canon.specs.Compared.{Compares, fault_in}
+use Rattle.trace_canon.specs.ComparisonText.{comparison_text}
 use Rattle.trace_canon.specs.ExplainScript.{explain_script}
 use Rattle.trace_canon.specs.Found.{Finds}
 use Rattle.trace_canon.specs.Listed.{Lists}
@@ -17,13 +19,26 @@ use Rattle.trace_canon.specs.Refusal.{HasNoBadPlaceWithin, IsNotRefusedWithin}
 use Rattle.trace_canon.specs.Settings.{Settings}
 use Rattle.trace_canon.specs.Told.{Script, AnswersTold, answers_counts}
 use Rattle.trace_canon.specs.WatchScript.{watching_script}
+use Rattle.trace_canon.specs.declared.comparing.Compared.{Compared}
+use Rattle.trace_canon.specs.declared.comparison_lines.ComparisonStyle.{ComparisonStyle}
+use Rattle.trace_canon.specs.declared.fault.CompareFault.{CompareFault}
 use Rattle.trace_canon.specs.declared.fault.Fault.{Fault}
 use Rattle.trace_canon.specs.declared.summary.Summary.{Summary}
 use Rattle.trace_report.specs.Front.{page_title}
+use Rattle.trace_report.specs.Held.{HoldsTwo, comparison_in}
 use Rattle.trace_report.specs.Page.{report_script}
-use Rattle.udsnorm.specs.Values.{notation_in, style_in}
+use Rattle.trace_report.specs.PairPage.{pair_page, pair_title}
+use Rattle.trace_report.specs.declared.held_session.Held.{Held}
+use Rattle.udsnorm.specs.Ending.{has_unclean}
+use Rattle.udsnorm.specs.Status.{is_refusal}
+use Rattle.udsnorm.specs.Values.{comparison_style_in, notation_in, style_in}
 use Rattle.udsnorm.specs.declared.commands.Job.{Job}
 use Rattle.udsnorm.specs.declared.commands.Job.TheVariants as job
+use Rattle.udsnorm.specs.declared.pair_jobs.PairAnswer.{PairAnswer}
+use Rattle.udsnorm.specs.declared.pair_jobs.PairJob.{PairJob}
+use Rattle.udsnorm.specs.declared.pair_jobs.PairJob.TheVariants as pair_job
+use Rattle.udsnorm.specs.declared.commands.Task.{Task}
+use Rattle.udsnorm.specs.declared.commands.Task.TheVariants as task
 
 -- ---- options and files
 
@@ -75,30 +90,38 @@ as_json = flag (codes "json") ∷ []
 abbrev pub one_log : List Rule
 one_log = file (codes "LOG") false ∷ []
 
+-- one log that may be named, or two
+abbrev pub one_or_two_logs : List Rule
+one_or_two_logs = file (codes "LOG") false ∷ file (codes "OTHER") false ∷ []
+
 -- two logs that have to be named
 abbrev pub two_logs : List Rule
 two_logs = file (codes "A") true ∷ file (codes "B") true ∷ []
 
 -- ---- the commands
 
--- a command: its name, its options and files, and its job over one log, by what they are given; a command over two logs
--- has none
+-- the task of `report`: over two logs where a second one is named
+abbrev pub report_task : Option Text → Task
+report_task None = task.One job.Report
+report_task (Some other) = task.Two pair_job.Report
+
+-- a command: its name, its options and files, and its task, by what they are given
 pub record CommandEntry : Type 0 where
   pub name : Text
   pub rules : List Rule
-  pub job : List Row → Option Job
+  pub task : List Row → Task
 
 -- all of them, in the order of the program's help
 abbrev pub command_entries : List CommandEntry
 command_entries =
-    record { name = codes "normalise"; rules = sides ++ usual_limit ++ one_log ++ strictly; job = λ rows. Some job.Normalise }
-    ∷ record { name = codes "list"; rules = sides ++ usual_limit ++ one_log ++ without_numbers ++ as_json ++ strictly; job = λ rows. Some (job.List (style_in rows)) }
-    ∷ record { name = codes "watch"; rules = sides ++ largest_limit ++ one_log ++ without_numbers ++ as_json ++ strictly; job = λ rows. Some (job.Watch (style_in rows)) }
-    ∷ record { name = codes "explain"; rules = sides ++ usual_limit ++ one_log ++ as_json ++ strictly; job = λ rows. Some (job.Explain (notation_in rows)) }
-    ∷ record { name = codes "messages"; rules = sides ++ largest_limit ++ one_log ++ as_json ++ strictly; job = λ rows. Some (job.Messages (notation_in rows)) }
-    ∷ record { name = codes "report"; rules = sides ++ largest_limit ++ one_log ++ strictly; job = λ rows. Some job.Report }
-    ∷ record { name = codes "find"; rules = usual_limit ++ one_log ++ as_json; job = λ rows. Some (job.Find (notation_in rows)) }
-    ∷ record { name = codes "compare"; rules = sides ++ usual_limit ++ two_logs ++ showing ++ as_json ++ strictly; job = λ rows. None }
+    record { name = codes "normalise"; rules = sides ++ usual_limit ++ one_log ++ strictly; task = λ rows. task.One job.Normalise }
+    ∷ record { name = codes "list"; rules = sides ++ usual_limit ++ one_log ++ without_numbers ++ as_json ++ strictly; task = λ rows. task.One (job.List (style_in rows)) }
+    ∷ record { name = codes "watch"; rules = sides ++ largest_limit ++ one_log ++ without_numbers ++ as_json ++ strictly; task = λ rows. task.One (job.Watch (style_in rows)) }
+    ∷ record { name = codes "explain"; rules = sides ++ usual_limit ++ one_log ++ as_json ++ strictly; task = λ rows. task.One (job.Explain (notation_in rows)) }
+    ∷ record { name = codes "messages"; rules = sides ++ largest_limit ++ one_log ++ as_json ++ strictly; task = λ rows. task.One (job.Messages (notation_in rows)) }
+    ∷ record { name = codes "report"; rules = sides ++ largest_limit ++ one_or_two_logs ++ strictly; task = λ rows. report_task (first_of (codes "OTHER") rows) }
+    ∷ record { name = codes "find"; rules = usual_limit ++ one_log ++ as_json; task = λ rows. task.One (job.Find (notation_in rows)) }
+    ∷ record { name = codes "compare"; rules = sides ++ usual_limit ++ two_logs ++ showing ++ as_json ++ strictly; task = λ rows. task.Two (pair_job.Compare (comparison_style_in rows)) }
     ∷ []
 
 -- What is known of a call that reads a log and writes a text: what it answers, and what it then writes; and that nothing refuses
@@ -134,6 +157,72 @@ EngineAnswers job name = (engine_of job name).answers
 abbrev pub EngineReads : Job → List ℕ → ℕ → Settings → List ℕ → ℕ → ℕ → ℕ → Type 0
 EngineReads job name limit settings log = ReadsWhile ((engine_of job name).unrefused limit settings log)
 
+-- ---- two logs
+
+-- what the parser calls the left file of this job
+abbrev pub left_file : PairJob → Text
+left_file (pair_job.Compare style) = codes "A"
+left_file pair_job.Report = codes "LOG"
+
+-- and the right one
+abbrev pub right_file : PairJob → Text
+right_file (pair_job.Compare style) = codes "B"
+right_file pair_job.Report = codes "OTHER"
+
+-- What is known of a call that reads two logs and writes a text: what it answers, where they have to be clean or not, and the text;
+-- and that nothing refuses a log for it among so many of its bytes.
+pub record PairEngine : Type 1 where
+  pub answers : Bool → ℕ → Settings → List ℕ → List ℕ → Result PairAnswer CompareFault → List ℕ → Type 0
+  pub unrefused : ℕ → Settings → List ℕ → ℕ → Type 0
+
+-- what a comparison answers, without what the logs mean
+abbrev pub pair_of : Compared → PairAnswer
+pair_of compared = record { comparison = compared.comparison; left = compared.left.summary; right = compared.right.summary }
+
+-- what is written of a comparison: its text, and nothing where a log has to be clean and is not
+abbrev pub text_of_compared : Bool → ComparisonStyle → Compared → List ℕ
+text_of_compared strict style compared = if has_unclean strict (pair_of compared) then [] else comparison_text style compared
+
+-- how the logs compare, and what is written of that; nothing is written of a fault
+abbrev pub ComparesPair : ComparisonStyle → Bool → ℕ → Settings → List ℕ → List ℕ → Result PairAnswer CompareFault → List ℕ → Type 0
+ComparesPair style strict limit settings one other (Ok pair) text =
+    (compared : Compared) × Compares limit settings one other (Ok compared) × (pair ≡ pair_of compared) × (text ≡ text_of_compared strict style compared)
+ComparesPair style strict limit settings one other (Err fault) text = Compares limit settings one other (Err fault) × (text ≡ [])
+
+-- what two logs that are held are to each other, without what they say
+abbrev pub pair_held : Held → PairAnswer
+pair_held held = record { comparison = comparison_in held; left = held.left.summary; right = held.right.summary }
+
+-- what both logs say, and the page of that, in some style, or of a log that is refused
+abbrev pub PagesPair : List ℕ → List ℕ → Bool → ℕ → Settings → List ℕ → List ℕ → Result PairAnswer CompareFault → List ℕ → Type 0
+PagesPair left_name right_name strict limit settings one other (Ok pair) text =
+    (style : List ℕ) × (held : Held) × HoldsTwo limit settings one other (Ok held) × (pair ≡ pair_held held)
+    × (text ≡ pair_page (pair_title style left_name right_name settings) (Ok held))
+PagesPair left_name right_name strict limit settings one other (Err fault) text =
+    (style : List ℕ) × HoldsTwo limit settings one other (Err fault) × (text ≡ pair_page (pair_title style left_name right_name settings) (Err fault))
+
+-- the job has a text of this answer: a comparison of logs of which each is clean that has to be; a page of all logs but those of which a
+-- device failed or memory was refused
+abbrev pub has_text : PairJob → Bool → Result PairAnswer CompareFault → Bool
+has_text (pair_job.Compare style) strict (Ok pair) = not (has_unclean strict pair)
+has_text (pair_job.Compare style) strict (Err fault) = false
+has_text pair_job.Report strict (Ok pair) = true
+has_text pair_job.Report strict (Err fault) = is_refusal (fault_in fault)
+
+-- the engine that does this job over two logs, which have these names on a page
+abbrev pub engine_of_pair : PairJob → List ℕ → List ℕ → PairEngine
+engine_of_pair (pair_job.Compare style) left_name right_name = record { answers = ComparesPair style; unrefused = IsNotRefusedWithin }
+engine_of_pair pair_job.Report left_name right_name =
+    record { answers = PagesPair left_name right_name; unrefused = λ limit settings. HasNoBadPlaceWithin }
+
+-- what it answers, and what it writes
+abbrev pub PairEngineAnswers : PairJob → List ℕ → List ℕ → Bool → ℕ → Settings → List ℕ → List ℕ → Result PairAnswer CompareFault → List ℕ → Type 0
+PairEngineAnswers job left_name right_name = (engine_of_pair job left_name right_name).answers
+
+-- how near to what refuses a log it stops reading
+abbrev pub PairEngineReads : PairJob → List ℕ → List ℕ → ℕ → Settings → List ℕ → ℕ → ℕ → ℕ → Type 0
+PairEngineReads job left_name right_name limit settings log = ReadsWhile ((engine_of_pair job left_name right_name).unrefused limit settings log)
+
 -- ---- the program
 
 -- a command as the parser takes it
@@ -154,14 +243,14 @@ program = record (new_shape (codes "udsnorm")) {
 abbrev pub commands : App
 commands = record { top = record program { is_leaf = false }; subs = map shape_of command_entries }
 
--- the job of the command of this name among these; what is none of them is `normalise`
-abbrev pub job_in : List CommandEntry → Text → List Row → Option Job
-job_in [] name rows = Some job.Normalise
-job_in (entry ∷ below) name rows = if bytes_eq name entry.name then entry.job rows else job_in below name rows
+-- the task of the command of this name among these; what is none of them is `normalise`
+abbrev pub task_in : List CommandEntry → Text → List Row → Task
+task_in [] name rows = task.One job.Normalise
+task_in (entry ∷ below) name rows = if bytes_eq name entry.name then entry.task rows else task_in below name rows
 
 -- the same among all
-abbrev pub job_named : Text → List Row → Option Job
-job_named = job_in command_entries
+abbrev pub task_named : Text → List Row → Task
+task_named = task_in command_entries
 
 -- the words, or what stands for none
 abbrev pub words_or_normalise : List Text → List Text

@@ -1,7 +1,6 @@
 -- How a run ends: what was written is flushed, and only then a fault is told.
-use Rattle.std.specs.Prelude.{◌≡◌, ℕ, ◌+◌, ◌&&◌, not, nat_lt, ◌⊎◌, Bool, true, false, List, length, Result, Ok, Err, if◌then◌else◌}
+use Rattle.std.specs.Prelude.{◌≡◌, ℕ, ◌+◌, ◌&&◌, not, nat_lt, ◌⊎◌, Bool, true, false, List, length, Option, Some, None, Result, Ok, Err, if◌then◌else◌}
 use Rattle.trace_canon.specs.Compared.{fault_in}
-use Rattle.trace_canon.specs.declared.comparing.Compared.{Compared}
 use Rattle.trace_canon.specs.Summing.{is_clean}
 use Rattle.trace_canon.specs.declared.comparing.Comparison.{Comparison}
 use Rattle.trace_canon.specs.declared.comparing.Comparison.TheVariants.{Same, Different}
@@ -10,6 +9,7 @@ use Rattle.trace_canon.specs.declared.fault.Fault.{Fault}
 use Rattle.trace_canon.specs.declared.fault.Fault.TheVariants.{Write}
 use Rattle.trace_canon.specs.declared.summary.Summary.{Summary}
 use Rattle.udsnorm.specs.Status.{is_refusal, status_of}
+use Rattle.udsnorm.specs.declared.pair_jobs.PairAnswer.{PairAnswer}
 
 -- Whether the output is flushed after this answer, where it took these bytes: after an `Ok`, and after a refused log where it
 -- took any. After a failed device or refused memory it is not.
@@ -44,19 +44,20 @@ status_of_comparison Same = 0
 status_of_comparison (Different item) = 1
 
 -- one of two logs has to be clean, and is not
-abbrev pub has_unclean : Bool → Compared → Bool
-has_unclean strict compared = strict && not (is_clean compared.left.summary && is_clean compared.right.summary)
+abbrev pub has_unclean : Bool → PairAnswer → Bool
+has_unclean strict pair = strict && not (is_clean pair.left && is_clean pair.right)
 
 -- the exit status of an answer about two logs, which have to be clean where the run is strict
-abbrev pub status_of_compared : Bool → Compared → ℕ
-status_of_compared strict compared = if has_unclean strict compared then 6 else status_of_comparison compared.comparison
+abbrev pub status_of_pair : Bool → Result PairAnswer CompareFault → ℕ
+status_of_pair strict (Ok pair) = if has_unclean strict pair then 6 else status_of_comparison pair.comparison
+status_of_pair strict (Err fault) = status_of (fault_in fault)
 
--- the output did not fail and the status is this, or it failed once and the status is 4
-abbrev pub EndsWell : ℕ → ℕ → ℕ → ℕ → Type 0
-EndsWell well failures failures_after status =
-    ((status ≡ well) × (failures_after ≡ failures)) ⊎ ((status ≡ 4) × (failures_after ≡ failures + 1))
+-- that of a run over two logs: the answer's, or 4 where its text was not written and flushed
+abbrev pub status_of_run_of_two : Bool → Bool → Result PairAnswer CompareFault → ℕ
+status_of_run_of_two wrote strict answer = if wrote then status_of_pair strict answer else status_of Write
 
--- over two logs
-abbrev pub EndsTwoWith : Bool → Result Compared CompareFault → ℕ → ℕ → ℕ → Type 0
-EndsTwoWith strict (Ok compared) failures failures_after status = EndsWell (status_of_compared strict compared) failures failures_after status
-EndsTwoWith strict (Err fault) failures failures_after status = (status ≡ status_of (fault_in fault)) × (failures_after ≡ failures)
+-- the fault of a log that such a run tells, if it tells one
+abbrev pub fault_of : Bool → Result PairAnswer CompareFault → Option CompareFault
+fault_of true (Err fault) = Some fault
+fault_of true (Ok pair) = None
+fault_of false answer = None

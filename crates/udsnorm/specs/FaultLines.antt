@@ -1,7 +1,6 @@
 -- What is told of each fault, as bytes.
 use Rattle.std.specs.Prelude.{ℕ, ◌==◌, ◌&&◌, not, nat_lt, Bool, List, [], ◌++◌, codes, Result, Ok, Err, string_bytes, if◌then◌else◌}
 use Rattle.std.specs.Fmt.{decimal}
-use Rattle.trace_canon.specs.declared.comparing.Compared.{Compared}
 use Rattle.trace_canon.specs.declared.fault.CompareFault.{CompareFault}
 use Rattle.trace_canon.specs.declared.fault.CompareFault.TheVariants.{Left, Right}
 use Rattle.trace_canon.specs.declared.fault.ConfigFault.{ConfigFault}
@@ -11,6 +10,7 @@ use Rattle.trace_canon.specs.declared.fault.Fault.TheVariants as fault
 use Rattle.trace_canon.specs.declared.summary.Summary.{Summary}
 use Rattle.trace_canon.specs.Summing.{is_clean}
 use Rattle.udsnorm.specs.Ending.{has_unclean, is_unclean}
+use Rattle.udsnorm.specs.declared.pair_jobs.PairAnswer.{PairAnswer}
 use Rattle.udsnorm.specs.declared.job.WordsFault.{WordsFault}
 use Rattle.udsnorm.specs.declared.job.WordsFault.TheVariants as words
 
@@ -68,8 +68,8 @@ abbrev pub unclean_side : List ℕ → Summary → List ℕ
 unclean_side log summary = clause (not (is_clean summary)) (log ++ unclean_line summary)
 
 -- those of both
-abbrev pub unclean_sides : Compared → List ℕ
-unclean_sides compared = unclean_side (codes "left: ") compared.left.summary ++ unclean_side (codes "right: ") compared.right.summary
+abbrev pub unclean_sides : PairAnswer → List ℕ
+unclean_sides pair = unclean_side (codes "left: ") pair.left ++ unclean_side (codes "right: ") pair.right
 
 -- What the error output takes of a run over one log that comes to this: the line of the fault, or that of a log which has
 -- to be clean and is not, and else nothing.
@@ -77,8 +77,12 @@ abbrev pub run_text : Bool → Result Summary Fault → List ℕ
 run_text strict (Ok summary) = if is_unclean strict summary then unclean_line summary else []
 run_text strict (Err fault) = fault_line fault
 
--- What it takes of a run over two logs that ends with this status: the line of the fault; after an answer that of the output,
--- where the status says that it failed, or those of the logs that have to be clean and are not, and else nothing.
-abbrev pub run_two_text : Bool → Result Compared CompareFault → ℕ → List ℕ
-run_two_text strict (Ok compared) status = if status == 4 then fault_line fault.Write else clause (has_unclean strict compared) (unclean_sides compared)
-run_two_text strict (Err fault) status = side_line fault
+-- What it takes of an answer about two logs: the line of the fault, or those of the logs that have to be clean and are not, and
+-- else nothing.
+abbrev pub pair_text : Bool → Result PairAnswer CompareFault → List ℕ
+pair_text strict (Ok pair) = clause (has_unclean strict pair) (unclean_sides pair)
+pair_text strict (Err fault) = side_line fault
+
+-- what it takes of a run over two logs: that, or the line of the output where its text was not written and flushed
+abbrev pub run_two_text : Bool → Bool → Result PairAnswer CompareFault → List ℕ
+run_two_text wrote strict answer = if wrote then pair_text strict answer else fault_line fault.Write

@@ -95,8 +95,8 @@ subject_seen subject = record { about = subject.matter; log = option_map (λ t. 
 -- the name of this log of a plan, if it has one
 abbrev pub name_in : Plan → Which → Option (List ℕ)
 name_in (One job strict settings log) which = option_map string_bytes log
-name_in (Two strict style settings left right) First = Some (string_bytes left)
-name_in (Two strict style settings left right) Second = Some (string_bytes right)
+name_in (Two job strict settings left right) First = Some (string_bytes left)
+name_in (Two job strict settings left right) Second = Some (string_bytes right)
 
 -- a hint of a plan is about what is known of the end of its run, and there is none where nothing is
 abbrev pub subject_of_plan : Plan → Option Known → Option Subject

@@ -6,9 +6,10 @@ use Rattle.clap.specs.declared.error.kind.ErrorKind.{ErrorKind}
 use Rattle.clap.specs.declared.error.kind.ErrorKind.TheVariants.{DisplayHelp, DisplayVersion, OutOfMemory}
 use Rattle.can_log.specs.declared.frame.Id.{Id}
 use Rattle.trace_canon.specs.Settings.{Settings, Configures}
-use Rattle.udsnorm.specs.Commands.{command_in, job_named, refusals}
-use Rattle.udsnorm.specs.Values.{comparison_style_in, is_strict, limit_in, tester_in, unit_in}
-use Rattle.udsnorm.specs.declared.commands.Job.{Job}
+use Rattle.udsnorm.specs.Commands.{command_in, left_file, refusals, right_file, task_named}
+use Rattle.udsnorm.specs.Values.{is_strict, limit_in, tester_in, unit_in}
+use Rattle.udsnorm.specs.declared.commands.Task.{Task}
+use Rattle.udsnorm.specs.declared.commands.Task.TheVariants as task
 use Rattle.udsnorm.specs.declared.job.Plan.{Plan}
 use Rattle.udsnorm.specs.declared.job.Plan.TheVariants.{One, Two}
 use Rattle.udsnorm.specs.declared.job.WordsFault.{WordsFault}
@@ -33,34 +34,34 @@ IsConfiguredBy None unit limit result = result ≡ Err Identifier
 abbrev pub IsConfiguredIn : List Row → Result Settings WordsFault → Type 0
 IsConfiguredIn rows result = IsConfiguredBy (tester_in rows) (unit_in rows) (limit_in rows) result
 
--- the plan that the options and files of a command ask for: of this job over LOG, if it is there; or, where there is none, of
--- a comparison of A and B
-abbrev pub IsPlanOf : Option Job → List Row → Plan → Type 0
-IsPlanOf (Some named) rows (One job strict config log) =
+-- the plan that the options and files of a command ask for: of its job over LOG, if it is there; or of its job over two files
+abbrev pub IsPlanOf : Task → List Row → Plan → Type 0
+IsPlanOf (task.One named) rows (One job strict config log) =
     (job ≡ named) × (strict ≡ is_strict rows) × IsConfiguredIn rows (Ok config) × (option_map string_bytes log ≡ first_of (codes "LOG") rows)
-IsPlanOf None rows (Two strict style config left right) =
-    (strict ≡ is_strict rows) × (style ≡ comparison_style_in rows) × IsConfiguredIn rows (Ok config) × (Some (string_bytes left) ≡ first_of (codes "A") rows) × (Some (string_bytes right) ≡ first_of (codes "B") rows)
-IsPlanOf (Some named) rows (Two strict style config left right) = ⊥
-IsPlanOf None rows (One job strict config log) = ⊥
+IsPlanOf (task.Two named) rows (Two job strict config left right) =
+    (job ≡ named) × (strict ≡ is_strict rows) × IsConfiguredIn rows (Ok config) × (Some (string_bytes left) ≡ first_of (left_file named) rows)
+    × (Some (string_bytes right) ≡ first_of (right_file named) rows)
+IsPlanOf (task.One named) rows (Two job strict config left right) = ⊥
+IsPlanOf (task.Two named) rows (One job strict config log) = ⊥
 
--- a comparison of which a file is not named
-abbrev pub LacksFile : Option Job → List Row → Type 0
-LacksFile None rows = (first_of (codes "A") rows ≡ None) ⊎ (first_of (codes "B") rows ≡ None)
-LacksFile (Some job) rows = ⊥
+-- a job over two files of which one is not named
+abbrev pub LacksFile : Task → List Row → Type 0
+LacksFile (task.Two job) rows = (first_of (left_file job) rows ≡ None) ⊎ (first_of (right_file job) rows ≡ None)
+LacksFile (task.One job) rows = ⊥
 
 -- why there is no such plan: the identifiers, the configuration, a file that is not named, or that memory is refused
-abbrev pub IsRefusedFor : Option Job → List Row → WordsFault → Type 0
-IsRefusedFor job rows Identifier = IsConfiguredIn rows (Err Identifier)
-IsRefusedFor job rows (Config fault) = IsConfiguredIn rows (Err (Config fault))
-IsRefusedFor job rows (Help text) = ⊥
-IsRefusedFor job rows (Words text) = LacksFile job rows
-IsRefusedFor job rows Memory = ⊤
+abbrev pub IsRefusedFor : Task → List Row → WordsFault → Type 0
+IsRefusedFor asked rows Identifier = IsConfiguredIn rows (Err Identifier)
+IsRefusedFor asked rows (Config fault) = IsConfiguredIn rows (Err (Config fault))
+IsRefusedFor asked rows (Help text) = ⊥
+IsRefusedFor asked rows (Words text) = LacksFile asked rows
+IsRefusedFor asked rows Memory = ⊤
 
 -- a plan for the command that was found, or why there is none
 abbrev pub IsPlannedFrom : Option (Text × List Row) → Result Plan WordsFault → Type 0
 IsPlannedFrom None result = ⊥
-IsPlannedFrom (Some found) (Ok plan) = IsPlanOf (job_named found.0 found.1) found.1 plan
-IsPlannedFrom (Some found) (Err fault) = IsRefusedFor (job_named found.0 found.1) found.1 fault
+IsPlannedFrom (Some found) (Ok plan) = IsPlanOf (task_named found.0 found.1) found.1 plan
+IsPlannedFrom (Some found) (Err fault) = IsRefusedFor (task_named found.0 found.1) found.1 fault
 
 -- what an error of the parser of this kind is called
 abbrev pub IsCalled : ErrorKind → WordsFault → Type 0

@@ -1,4 +1,6 @@
 -- Devices of proof, apart from the definitions that the promises are made of.
+pub mod Flushed
+pub mod Pairs
 pub mod Parts
 pub mod Pieces
 pub mod Rows

@@ -10,7 +10,7 @@ use clap::{Arg, ArgAction, Command, value_parser};
 use std::alloc::{AllocError, Global};
 
 /// The number of this version, as the file `VERSION` has it.
-const VERSION: &str = "0.1.0";
+const VERSION: &str = "1.0.0";
 
 /// What follows the list of commands in the program's help.
 const OF_THE_PROGRAM: &str = "\

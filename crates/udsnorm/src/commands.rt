@@ -1,15 +1,16 @@
-//! The commands: the words and the help of each, the job that it asks for, and the engine that does it. What is said of
-//! a command stands here and in `specs/Commands.antt`, in the same order.
+//! The commands: the words and the help of each, the task that it asks for, and the engine that does its job. What is said
+//! of a command stands here and in `specs/Commands.antt`, in the same order.
 
-ghost use Rattle.std.specs.Prelude.{◌≡◌, ◌-◌, ℕ, List, length};
+ghost use Rattle.std.specs.Prelude.{◌≡◌, ◌-◌, ℕ, List, codes, length};
 ghost use Rattle.isotp_receive.specs.declared.TheConstants.{MESSAGE_LIMIT};
 ghost use Rattle.trace_canon.specs.Devices.{ReadFrom, WroteTo};
 ghost use Rattle.trace_io.specs.Counted.{AreLowCounts, IsLowCount};
 ghost use Rattle.trace_io.specs.Stream.{Agrees};
-ghost use Rattle.clap.specs.Words.{found_of, rows_of};
-ghost use Rattle.udsnorm.specs.Commands.{EngineAnswers, EngineReads, job_named};
+ghost use Rattle.clap.specs.Words.{first_of, found_of, rows_of};
+ghost use Rattle.udsnorm.specs.Commands.{EngineAnswers, EngineReads, report_task, task_named};
 
-use crate::values::{notation, style};
+use crate::pair_jobs::PairJob;
+use crate::values::{comparison_style, notation, style, text_of};
 use clap::ArgMatches;
 use std::alloc::Global;
 use trace_canon::{
@@ -35,6 +36,15 @@ pub enum Job {
     Report,
     /// Writes the pairs of identifiers that ask and answer, in this notation.
     Find(Notation),
+}
+
+/// What a command asks for.
+#[derive(Clone, Copy, PartialEq, Eq)]
+pub enum Task {
+    /// A job over one log.
+    One(Job),
+    /// A job over two.
+    Two(PairJob),
 }
 
 /// A command as the parser and its help have it.
@@ -122,7 +132,7 @@ pub(crate) const COMMANDS: &[CommandRow] = &[
         name: "report",
         about: "Writes the session as a page of HTML, to look at",
         after_help: OF_REPORT,
-        arguments: &[SIDES, LARGEST_LIMIT, ONE_LOG, STRICTLY],
+        arguments: &[SIDES, LARGEST_LIMIT, ONE_OR_TWO_LOGS, STRICTLY],
     },
     CommandRow {
         name: "find",
@@ -154,6 +164,8 @@ pub(crate) const JSON: &str = "json";
 pub(crate) const SHOW: &str = "show";
 
 pub(crate) const LOG: &str = "LOG";
+
+pub(crate) const OTHER: &str = "OTHER";
 
 pub(crate) const LEFT: &str = "A";
 
@@ -208,6 +220,19 @@ const ONE_LOG: &[Argument] = &[Argument::File {
     help: "The recorded log; without it standard input is read",
 }];
 
+const ONE_OR_TWO_LOGS: &[Argument] = &[
+    Argument::File {
+        name: LOG,
+        is_required: false,
+        help: "The recorded log; without it standard input is read",
+    },
+    Argument::File {
+        name: OTHER,
+        is_required: false,
+        help: "A second log: the page shows where the two differ",
+    },
+];
+
 const TWO_LOGS: &[Argument] = &[
     Argument::File {
         name: LEFT,
@@ -221,20 +246,30 @@ const TWO_LOGS: &[Argument] = &[
     },
 ];
 
-/// The job of a command over one log, with its own options. The one over two has none.
-pub(crate) fn job_named(name: &str, found: &ArgMatches<'_>) -> Option<Job>
-    ensures { result ≡ job_named name.now (rows_of (found_of found.now)) }
+/// The task of a command, with its own options.
+pub(crate) fn task_named(name: &str, found: &ArgMatches<'_>) -> Task
+    ensures { result ≡ task_named name.now (rows_of (found_of found.now)) }
 {
     match name {
-        "normalise" => Some(Job::Normalise),
-        "list" => Some(Job::List(style(found))),
-        "watch" => Some(Job::Watch(style(found))),
-        "explain" => Some(Job::Explain(notation(found))),
-        "messages" => Some(Job::Messages(notation(found))),
-        "report" => Some(Job::Report),
-        "find" => Some(Job::Find(notation(found))),
-        "compare" => None,
-        _ => Some(Job::Normalise),
+        "normalise" => Task::One(Job::Normalise),
+        "list" => Task::One(Job::List(style(found))),
+        "watch" => Task::One(Job::Watch(style(found))),
+        "explain" => Task::One(Job::Explain(notation(found))),
+        "messages" => Task::One(Job::Messages(notation(found))),
+        "report" => report_task(found),
+        "find" => Task::One(Job::Find(notation(found))),
+        "compare" => Task::Two(PairJob::Compare(comparison_style(found))),
+        _ => Task::One(Job::Normalise),
+    }
+}
+
+/// The task of `report`: over two logs where a second one is named.
+fn report_task(found: &ArgMatches<'_>) -> Task
+    ensures { result ≡ report_task (first_of (codes "OTHER") (rows_of (found_of found.now))) }
+{
+    match text_of(found, OTHER) {
+        Some(_) => Task::Two(PairJob::Report),
+        None => Task::One(Job::Report),
     }
 }
 
@@ -335,11 +370,14 @@ The page is one file, which fetches nothing: for a browser, a mail or a printer.
 row for each message, and for what was dropped or is missing, in the order of the log. Above it
 stands the verdict, with links to what needs a look.
 
+Of two logs the page says whether they are the same session, and shows side by side where they
+differ first, as in `udsnorm report yesterday.log today.log > difference.html`.
+
 A log that is refused has a page, too: of what stands before the refused line.
 
-Exit status: 0 done, 2 wrong words, 3 the log is refused,
-4 a file can't be opened, or reading or writing failed, 5 out of memory,
-6 with `--strict`: it was done, and the log is not clean.
+Exit status: 0 done, and two logs are the same, 1 two logs differ, 2 wrong words,
+3 a log is refused, 4 a file can't be opened, or reading or writing failed, 5 out of memory,
+6 with `--strict`: it was done, and a log is not clean.
 
 Example: udsnorm report recorded.log > recorded.html";
 

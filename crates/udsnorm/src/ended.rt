@@ -35,7 +35,7 @@ pub struct OneEnd {
 pub struct TwoEnd {
     /// The exit status.
     pub status: u8,
-    /// The fault of one of the logs.
+    /// The fault of one of the logs, where that was told.
     pub fault: Option<CompareFault>,
 }
 

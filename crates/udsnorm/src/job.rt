@@ -4,9 +4,10 @@ ghost use Rattle.std.specs.Prelude.{◌≡◌};
 ghost use Rattle.udsnorm.specs.declared.job.WordsFault.TheVariants as words_fault;
 
 use crate::commands::Job;
+use crate::pair_jobs::PairJob;
 use std::alloc::AllocError;
 use thiserror::Error;
-use trace_canon::{ComparisonStyle, Config, ConfigFault};
+use trace_canon::{Config, ConfigFault};
 
 /// What a command line asks for.
 #[derive(Drop)]
@@ -18,10 +19,10 @@ pub enum Plan {
         config: Config,
         log: Option<String>,
     },
-    /// Says whether the logs of two files have the same meaning. Where it is strict, both have to be clean.
+    /// Does a job over the logs of two files. Where it is strict, both have to be clean.
     Two {
+        job: PairJob,
         strict: bool,
-        style: ComparisonStyle,
         config: Config,
         left: String,
         right: String,

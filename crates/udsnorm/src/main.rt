@@ -13,11 +13,15 @@
 #![tactic(auto)]
 
 ghost use Rattle.std.specs.Prelude.{◌≡◌, ◌+◌, ◌≤◌, ◌⊎◌, ℕ, List, ◌++◌, length, true, map, string_bytes, Some};
+ghost use Rattle.trace_canon.specs.Compared.{fault_in};
 ghost use Rattle.trace_io.specs.Counted.{AreLowCounts, IsLowCount};
 ghost use Rattle.udsnorm.specs.Asked.{Did, DidWords, IsDone, OneStream, RanFile, RanFiles, Unopened};
 ghost use Rattle.isotp_receive.specs.declared.TheConstants.{MESSAGE_LIMIT};
 ghost use Rattle.udsnorm.specs.FaultLines.{fault_line, side_line};
 ghost use Rattle.udsnorm.specs.Commands.{words_or_normalise};
+ghost use Rattle.udsnorm.specs.Known.{IsKnownUnopened};
+ghost use Rattle.udsnorm.specs.Status.{status_of};
+ghost use Rattle.udsnorm.specs.Telling.{TookText};
 ghost use Rattle.udsnorm.specs.Values.{page_name as page_name_of};
 
 mod command;
@@ -29,6 +33,7 @@ mod identifiers;
 mod job;
 mod looks;
 mod noticing;
+mod pair_jobs;
 mod run;
 mod stream;
 mod tell;
@@ -41,6 +46,7 @@ use crate::ended::{End, Run, Which, known_of_file, known_of_files, known_of_inpu
 use crate::hints::give_hint;
 use crate::job::{Plan, WordsFault};
 use crate::noticing::Noticing;
+use crate::pair_jobs::PairJob;
 use crate::run::{run_one, run_two};
 use crate::stream::is_one_stream;
 use crate::tell::{tell, tell_fault, tell_one_stream, tell_side};
@@ -51,7 +57,7 @@ use std::io::{ErrorKind, Input, IsTerminal, Print, Read};
 use std::process::ExitCode;
 use std::rt::Files;
 use std::{env, fs, io};
-use trace_canon::{CompareFault, ComparisonStyle, Config, Fault};
+use trace_canon::{CompareFault, Config, Fault};
 use trace_io::{Source, Target, Writing};
 
 /// What is told of a command line that is no text.
@@ -176,12 +182,12 @@ where
             Some(name) => run_file(rt, *job, *strict, config, name, out, err),
         },
         Plan::Two {
+            job,
             strict,
-            style,
             config,
             left,
             right,
-        } => run_files(rt, *strict, *style, config, left, right, out, err),
+        } => run_files(rt, *job, *strict, config, left, right, out, err),
     }
 }
 
@@ -228,11 +234,11 @@ fn run_file<R: AllocGlobal + Files, W: Target, E: Target>(
     }
 }
 
-/// Compares the logs of two files. Both are opened before either is read, and neither is where they are one stream.
+/// Does a job over the logs of two files. Both are opened before either is read, and neither is where they are one stream.
 fn run_files<R: AllocGlobal + Files, W: Target, E: Target>(
     rt: &R,
+    job: PairJob,
     strict: bool,
-    style: ComparisonStyle,
     config: &Config,
     left: &String,
     right: &String,
@@ -243,7 +249,7 @@ where
     R::File: IsTerminal,
     requires out { IsLowCount (W.failures out.old) }
     requires err { IsLowCount (E.failures err.old) }
-    ensures ran { RanFiles ⟦<Noticing<R::File> as Source>⟧ W.Target E.Target strict style MESSAGE_LIMIT config.now out.old err.old result.status result.known out.new err.new
+    ensures ran { RanFiles ⟦<Noticing<R::File> as Source>⟧ W.Target E.Target job (page_name_of (Some (string_bytes left.now))) (page_name_of (Some (string_bytes right.now))) strict MESSAGE_LIMIT config.now out.old err.old result.status result.known out.new err.new
         ⊎ (Unopened E.Target (side_line (CompareFault.Left Fault.Read)) Which.First out.old err.old result.status result.known out.new err.new
         ⊎ (Unopened E.Target (side_line (CompareFault.Right Fault.Read)) Which.Second out.old err.old result.status result.known out.new err.new
         ⊎ OneStream E.Target out.old err.old result.status result.known out.new err.new)) }
@@ -251,44 +257,60 @@ where
     ensures once { result.status ≡ 0 → W.flushes out.new ≡ W.flushes out.old + 1 }
     ensures flushes { W.flushes out.new ≤ W.flushes out.old + 1 }
 {
-    let left = match fs::open(rt, left.as_str()) {
+    let one = match fs::open(rt, left.as_str()) {
         Ok(file) => file,
         Err(error) => {
-            return End {
-                status: tell_side(CompareFault::Left(Fault::Read), err),
-                known: unopened(Which::First, &error),
-            };
+            let fault = CompareFault::Left(Fault::Read);
+            return tell_unopened(fault, Which::First, &error, err);
         }
     };
-    let right = match fs::open(rt, right.as_str()) {
+    let other = match fs::open(rt, right.as_str()) {
         Ok(file) => file,
         Err(error) => {
-            return End {
-                status: tell_side(CompareFault::Right(Fault::Read), err),
-                known: unopened(Which::Second, &error),
-            };
+            let fault = CompareFault::Right(Fault::Read);
+            return tell_unopened(fault, Which::Second, &error, err);
         }
     };
-    if is_one_stream(&left, &right) {
+    if is_one_stream(&one, &other) {
         return End {
             status: tell_one_stream(err),
             known: None,
         };
     }
-    let mut left = Noticing::new(left);
-    let mut right = Noticing::new(right);
+    let mut one = Noticing::new(one);
+    let mut other = Noticing::new(other);
     let end = run_two(
         rt.alloc(),
+        job,
+        page_name(Some(left.as_str())),
+        page_name(Some(right.as_str())),
         strict,
-        style,
         config,
-        &mut left,
-        &mut right,
+        &mut one,
+        &mut other,
         out,
         err,
     );
     End {
         status: end.status,
-        known: known_of_files(config, end.fault, left, right),
+        known: known_of_files(config, end.fault, one, other),
+    }
+}
+
+/// Tells that the file of one of two logs can't be opened. Answers how that ended, with why it can't.
+fn tell_unopened<E: Target>(
+    fault: CompareFault,
+    which: Which,
+    error: &io::Error,
+    err: &mut E,
+) -> End
+    requires { IsLowCount (E.failures err.old) }
+    ensures status { result.status ≡ status_of (fault_in fault) }
+    ensures told { TookText (side_line fault) (E.failures err.old) (E.failures err.new) (E.taken err.old) (E.taken err.new) }
+    ensures known { IsKnownUnopened which result.known }
+{
+    End {
+        status: tell_side(fault, err),
+        known: unopened(which, error),
     }
 }

@@ -1,26 +1,24 @@
 //! Runs of the program over devices that are open.
 
-ghost use Rattle.std.specs.Prelude.{◌≡◌, ℕ, ◌+◌, ◌-◌, ◌^◌, ◌<◌, ◌≤◌, ◌⊎◌, ◌↔◌, List, ◌++◌, true, OnOk, IfErr, MatchResult, length};
+ghost use Rattle.std.specs.Prelude.{◌≡◌, ℕ, ◌+◌, ◌-◌, ◌^◌, ◌<◌, ◌≤◌, ◌⊎◌, ◌↔◌, ◌&&◌, List, ◌++◌, true, OnOk, IfErr, MatchResult, length};
 ghost use Rattle.std.specs.Io.KnownBytes.{Keeps};
 ghost use Rattle.isotp_receive.specs.declared.TheConstants.{MESSAGE_LIMIT};
-ghost use Rattle.trace_canon.specs.ComparisonText.{comparison_text};
 ghost use Rattle.trace_canon.specs.Laws.{IsCertified};
 ghost use Rattle.trace_io.specs.Counted.{AreLowCounts, IsLowCount};
 ghost use Rattle.trace_io.specs.Stream.{Agrees};
 ghost use Rattle.trace_io.specs.Written.{HasFront};
-ghost use Rattle.udsnorm.specs.Ending.{EndsAs, EndsTwoWith, flushes, has_unclean, status_of_comparison, status_of_run};
+ghost use Rattle.udsnorm.specs.Ending.{EndsAs, fault_of, flushes, status_of_comparison, status_of_run, status_of_run_of_two};
 ghost use Rattle.udsnorm.specs.FaultLines.{run_text, run_two_text};
-ghost use Rattle.udsnorm.specs.Run.{RanOne, RanTwo, TookComparison, fault_of};
+ghost use Rattle.udsnorm.specs.Run.{RanOne, RanTwo};
 ghost use Rattle.udsnorm.specs.Telling.{TookText};
+ghost use Rattle.udsnorm.specs.proving.Flushed.{FlushedIf};
 
 use crate::commands::{Job, do_job};
 use crate::ended::{OneEnd, TwoEnd};
+use crate::pair_jobs::{PairAnswer, PairJob, do_pair_job, has_text, has_unclean};
 use crate::tell::{is_refusal, tell_fault, tell_side, tell_unclean, tell_unclean_sides};
 use std::alloc::Global;
-use trace_canon::{
-    CompareFault, Compared, Comparison, ComparisonStyle, Config, Fault, Summary, compare,
-    write_comparison,
-};
+use trace_canon::{CompareFault, Comparison, Config, Fault, Summary};
 use trace_io::{Source, Target, write_all};
 
 /// Does a job over one log, which has this name on a page, and answers how that ended. The text goes to the output, which is flushed before a fault of the
@@ -113,13 +111,15 @@ fn tell_outcome<E: Target>(outcome: Result<Summary, Fault>, strict: bool, err: &
     }
 }
 
-/// Compares two logs, the left one read whole before the right one, and answers how that ended. The text goes to the
-/// output, which is flushed, and that of a fault to the error output, as far as that takes it. Where the run is strict and a log
-/// is not clean, that is told, and nothing is written.
+/// Does a job over two logs, which have these names on a page, the left one read whole before the right one, and answers how
+/// that ended. The text goes to the output, which is flushed before a fault of a log is told, or which one is not clean, where
+/// the run is strict; and what is told to the error output, as far as that takes it.
 pub fn run_two<A: Source, B: Source, W: Target, E: Target>(
     alloc: Global,
+    job: PairJob,
+    left_name: &str,
+    right_name: &str,
     strict: bool,
-    style: ComparisonStyle,
     config: &Config,
     left: &mut A,
     right: &mut B,
@@ -131,16 +131,16 @@ pub fn run_two<A: Source, B: Source, W: Target, E: Target>(
     requires out { IsLowCount (W.failures out.old) }
     requires err { IsLowCount (E.failures err.old) }
 
-    // How the logs compare, what was read and written, and what the run came to: its status and what is told of it.
-    ensures ran { RanTwo A.Source B.Source W.Target E.Target strict style MESSAGE_LIMIT config.now left.old right.old out.old err.old result.status result.fault left.new right.new out.new err.new }
+    // What the engine answered, what was read and written, and what the run came to: its status and what is told of it.
+    ensures ran { RanTwo A.Source B.Source W.Target E.Target job left_name.now right_name.now strict MESSAGE_LIMIT config.now left.old right.old out.old err.old result.status result.fault left.new right.new out.new err.new }
 
-    // Where the logs were compared, the output was flushed last and once, and nothing was told.
+    // Where both logs were accepted, and clean where they had to be, the output was flushed last and once, and nothing was told.
     ensures flushed { result.status ≤ 1 → W.is_flushed out.new ≡ true }
     ensures once { result.status ≤ 1 → W.flushes out.new ≡ W.flushes out.old + 1 }
     ensures flushes { W.flushes out.new ≤ W.flushes out.old + 1 }
     ensures quiet { result.status ≤ 1 → err.new ≡ err.old }
 
-    // Where a strict run compared the logs, each is a recording of exactly the messages that it delivers.
+    // Where a strict run ends so, each log is a recording of exactly the messages that it delivers.
     ensures recording { strict ≡ true → result.status ≤ 1 → (one other : List ℕ)
         → Agrees (A.given left.old) (A.given left.new) (A.is_over left.new) one → Agrees (B.given right.old) (B.given right.new) (B.is_over right.new) other
         → IsCertified MESSAGE_LIMIT config.now one × IsCertified MESSAGE_LIMIT config.now other }
@@ -152,84 +152,59 @@ pub fn run_two<A: Source, B: Source, W: Target, E: Target>(
     ensures device { (result.status ≡ 4) ↔ ((A.failures left.old < A.failures left.new)
         ⊎ ((B.failures right.old < B.failures right.new) ⊎ (W.failures out.old < W.failures out.new))) }
 {
-    let answer = compare(alloc, config, left, right);
-    let fault = fault_of(&answer);
+    let done = do_pair_job(
+        alloc, job, left_name, right_name, strict, config, left, right, out,
+    );
+    let due = has_text(job, strict, &done.answer);
+    let wrote = flush_written(due, done.wrote, out);
     TwoEnd {
-        status: end_comparison(answer, strict, style, out, err),
-        fault,
+        status: tell_pair(&done.answer, wrote, strict, err),
+        fault: fault_of(wrote, &done.answer),
     }
 }
 
-/// The fault of an answer about two logs, if that is one.
-fn fault_of(answer: &Result<Compared, CompareFault>) -> Option<CompareFault>
-    ensures { result ≡ fault_of answer.now }
+/// Flushes a text that was written, where there is one. Answers whether neither failed.
+fn flush_written<W: Target>(due: bool, wrote: bool, out: &mut W) -> bool
+    requires { W.failures out.old ≤ 2 ^ 62 + 1 }
+    ensures { FlushedIf W.Target (due && wrote) wrote out.old result out.new }
+{
+    if due && wrote {
+        out.flush().is_ok()
+    } else {
+        wrote
+    }
+}
+
+/// The fault of a log that a run over two logs tells, if it tells one.
+fn fault_of(wrote: bool, answer: &Result<PairAnswer, CompareFault>) -> Option<CompareFault>
+    ensures { result ≡ fault_of wrote answer.now }
 {
     match answer {
-        Ok(_) => None,
-        Err(fault) => Some(*fault),
+        Err(fault) if wrote => Some(*fault),
+        _ => None,
     }
 }
 
-/// Ends a comparison: writes its text, or tells the fault, or which log has to be clean and is not. Answers the exit status.
-fn end_comparison<W: Target, E: Target>(
-    answer: Result<Compared, CompareFault>,
+/// Tells what a run over two logs came to, where its text was not written, or that is a fault, or a log has to be clean and is
+/// not. Answers the exit status.
+fn tell_pair<E: Target>(
+    answer: &Result<PairAnswer, CompareFault>,
+    wrote: bool,
     strict: bool,
-    style: ComparisonStyle,
-    out: &mut W,
     err: &mut E,
 ) -> u8
-    requires out { IsLowCount (W.failures out.old) }
-    requires err { IsLowCount (E.failures err.old) }
-    ensures status { EndsTwoWith strict answer (W.failures out.old) (W.failures out.new) result }
-    ensures failed { OnOk answer (result ≡ 4 → W.failures out.old < W.failures out.new) }
-    ensures text { TookComparison strict style answer result (W.taken out.old) (W.taken out.new) }
-    ensures flushed { result ≤ 1 → W.is_flushed out.new ≡ true }
-    ensures once { result ≤ 1 → W.flushes out.new ≡ W.flushes out.old + 1 }
-    ensures flushes { W.flushes out.new ≤ W.flushes out.old + 1 }
+    requires { IsLowCount (E.failures err.old) }
+    ensures status { result ≡ status_of_run_of_two wrote strict answer.now }
     ensures quiet { result ≤ 1 → err.new ≡ err.old }
-    ensures told { TookText (run_two_text strict answer result) (E.failures err.old) (E.failures err.new) (E.taken err.old) (E.taken err.new) }
-    ensures no_empty_write { W.had_empty_write out.new ≡ W.had_empty_write out.old }
+    ensures told { TookText (run_two_text wrote strict answer.now) (E.failures err.old) (E.failures err.new) (E.taken err.old) (E.taken err.new) }
 {
-    match answer {
-        Ok(compared) if has_unclean(strict, &compared) => tell_unclean_sides(&compared, err),
-        Ok(compared) => match write_comparison_flushed(&compared, style, out) {
-            Ok(()) => comparison_status(compared.comparison),
-            Err(fault) => tell_fault(fault, err),
-        },
-        Err(fault) => tell_side(fault, err),
+    if !wrote {
+        return tell_fault(Fault::Write, err);
     }
-}
-
-/// Whether one of two logs has to be clean, and is not.
-fn has_unclean(strict: bool, compared: &Compared) -> bool
-    ensures { result ≡ has_unclean strict compared.now }
-{
-    strict && !(compared.left.summary.is_clean() && compared.right.summary.is_clean())
-}
-
-/// Writes how two logs compare, and flushes it.
-fn write_comparison_flushed<W: Target>(
-    compared: &Compared,
-    style: ComparisonStyle,
-    out: &mut W,
-) -> Result<(), Fault>
-    requires { IsLowCount (W.failures out.old) }
-    ensures taken { HasFront (W.taken out.old) (comparison_text style compared.now) (W.taken out.new) }
-    ensures whole { OnOk result (W.taken out.new ≡ W.taken out.old ++ comparison_text style compared.now) }
-    ensures fault { IfErr result (λ fault. fault ≡ Fault.Write) }
-    ensures flushed { OnOk result (W.is_flushed out.new ≡ true) }
-    ensures flushes { MatchResult result
-        (λ _. W.flushes out.new ≡ W.flushes out.old + 1) (λ _. W.flushes out.new ≡ W.flushes out.old) }
-    ensures failures { MatchResult result
-        (λ _. W.failures out.new ≡ W.failures out.old) (λ _. W.failures out.new ≡ W.failures out.old + 1) }
-    ensures no_empty_write { W.had_empty_write out.new ≡ W.had_empty_write out.old }
-{
-    match write_comparison(compared, style, out) {
-        Ok(()) => match out.flush() {
-            Ok(()) => Ok(()),
-            Err(_) => Err(Fault::Write),
-        },
-        Err(_) => Err(Fault::Write),
+    match answer {
+        Ok(pair) if has_unclean(strict, pair) => tell_unclean_sides(pair, err),
+        Ok(pair) => comparison_status(pair.comparison),
+        Err(fault) => tell_side(*fault, err),
     }
 }
 

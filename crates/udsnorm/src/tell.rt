@@ -10,8 +10,9 @@ ghost use Rattle.udsnorm.specs.Telling.{TookText};
 
 use crate::fault_lines::{fault_line, side_line, unclean_line, unclean_side, words_text};
 use crate::job::WordsFault;
+use crate::pair_jobs::PairAnswer;
 use crate::run::write_flushed;
-use trace_canon::{CompareFault, Compared, Fault, Summary};
+use trace_canon::{CompareFault, Fault, Summary};
 use trace_io::{Target, write_all};
 
 /// Tells why the words ask for nothing that the program does: help or the version on the output, which is flushed, anything
@@ -92,13 +93,13 @@ pub(crate) fn tell_unclean<E: Target>(summary: &Summary, err: &mut E) -> u8
 }
 
 /// Tells which of two logs are not clean, a line each, and answers the exit status.
-pub(crate) fn tell_unclean_sides<E: Target>(compared: &Compared, err: &mut E) -> u8
+pub(crate) fn tell_unclean_sides<E: Target>(pair: &PairAnswer, err: &mut E) -> u8
     requires { IsLowCount (E.failures err.old) }
     ensures status { result ≡ 6 }
-    ensures told { TookText (unclean_sides compared.now) (E.failures err.old) (E.failures err.new) (E.taken err.old) (E.taken err.new) }
+    ensures told { TookText (unclean_sides pair.now) (E.failures err.old) (E.failures err.new) (E.taken err.old) (E.taken err.new) }
 {
-    let left = unclean_side("left: ", &compared.left.summary);
-    let right = unclean_side("right: ", &compared.right.summary);
+    let left = unclean_side("left: ", &pair.left);
+    let right = unclean_side("right: ", &pair.right);
     if let Ok(()) = write_all(err, left.as_slice()) {
         tell_text(right.as_slice(), err);
     }

@@ -7,12 +7,11 @@ ghost use Rattle.udsnorm.specs.Identifiers.{identifier_of};
 ghost use Rattle.udsnorm.specs.Words.{IsCalled, IsConfiguredBy, IsConfiguredIn, IsPlanOf, IsPlanned, IsPlannedFrom, IsRefusedFor};
 
 use crate::command::command;
-use crate::commands::{
-    Job, LEFT, LIMIT, LOG, RIGHT, TESTER, UNIT, USUAL_TESTER, USUAL_UNIT, job_named,
-};
+use crate::commands::{Job, LIMIT, LOG, TESTER, Task, UNIT, USUAL_TESTER, USUAL_UNIT, task_named};
 use crate::identifiers::identifier;
 use crate::job::{Plan, WordsFault};
-use crate::values::{comparison_style, is_strict, text_of};
+use crate::pair_jobs::{PairJob, left_file, right_file};
+use crate::values::{is_strict, text_of};
 use clap::error::ErrorKind;
 use clap::{ArgMatches, Error};
 use std::alloc::{AllocError, Global};
@@ -64,9 +63,9 @@ fn planned(alloc: Global, matches: &ArgMatches<'_>) -> Result<Plan, WordsFault>
     ensures from { IsPlannedFrom (subcommand_rows_of matches.now) result }
 {
     match matches.subcommand() {
-        Some((name, found)) => match job_named(name, found) {
-            Some(job) => plan_of_one(alloc, job, found),
-            None => plan_of_two(alloc, found),
+        Some((name, found)) => match task_named(name, found) {
+            Task::One(job) => plan_of_one(alloc, job, found),
+            Task::Two(job) => plan_of_two(alloc, job, found),
         },
         None => unreachable!(),
     }
@@ -74,8 +73,8 @@ fn planned(alloc: Global, matches: &ArgMatches<'_>) -> Result<Plan, WordsFault>
 
 /// The plan of a job over one log, by the options and the file of its command.
 fn plan_of_one(alloc: Global, job: Job, found: &ArgMatches<'_>) -> Result<Plan, WordsFault>
-    ensures plan { IfOk result (IsPlanOf (Some job) (rows_of (found_of found.now))) }
-    ensures fault { IfErr result (IsRefusedFor (Some job) (rows_of (found_of found.now))) }
+    ensures plan { IfOk result (IsPlanOf (Task.One job) (rows_of (found_of found.now))) }
+    ensures fault { IfErr result (IsRefusedFor (Task.One job) (rows_of (found_of found.now))) }
 {
     let config = configuration(found)?;
     let log = copied(alloc, text_of(found, LOG))?;
@@ -87,21 +86,23 @@ fn plan_of_one(alloc: Global, job: Job, found: &ArgMatches<'_>) -> Result<Plan, 
     })
 }
 
-/// The plan of a comparison, by the options and the files of its command.
-fn plan_of_two(alloc: Global, found: &ArgMatches<'_>) -> Result<Plan, WordsFault>
-    ensures plan { IfOk result (IsPlanOf None (rows_of (found_of found.now))) }
-    ensures fault { IfErr result (IsRefusedFor None (rows_of (found_of found.now))) }
+/// The plan of a job over two logs, by the options and the files of its command.
+fn plan_of_two(alloc: Global, job: PairJob, found: &ArgMatches<'_>) -> Result<Plan, WordsFault>
+    ensures plan { IfOk result (IsPlanOf (Task.Two job) (rows_of (found_of found.now))) }
+    ensures fault { IfErr result (IsRefusedFor (Task.Two job) (rows_of (found_of found.now))) }
 {
     let config = configuration(found)?;
-    let (Some(left), Some(right)) = (text_of(found, LEFT), text_of(found, RIGHT)) else {
+    let left = text_of(found, left_file(job));
+    let right = text_of(found, right_file(job));
+    let (Some(left), Some(right)) = (left, right) else {
         // The parser asks for both.
         return Err(WordsFault::Words(String::new(alloc)));
     };
     let left = String::from_str(alloc, left)?;
     let right = String::from_str(alloc, right)?;
     Ok(Plan::Two {
+        job,
         strict: is_strict(found),
-        style: comparison_style(found),
         config,
         left,
         right,

@@ -36,4 +36,4 @@ put_at_front text old = if nat_le (length text) (length old) then text ++ drop (
 
 -- the version: its three numbers, a byte for each
 abbrev pub version : ℕ
-version = 0x000100
+version = 0x010000

@@ -25,7 +25,7 @@ use std::alloc::Global;
 use trace_canon::{counted, in_memory};
 
 /// The numbers of the version, a byte for each: that of `VERSION` at the top.
-const VERSION: u32 = 0x00_01_00;
+const VERSION: u32 = 0x01_00_00;
 
 /// The canonical log of a log.
 #[unsafe(no_mangle)]

@@ -1,8 +1,6 @@
 -- Devices of proof: what the code holds of a session, and lends of it, without where its bytes lie in memory.
-use Rattle.std.specs.Prelude.{◌≡◌, ℕ, ◌≤◌, ◌^◌, List, [], ◌∷◌, ◌++◌, length, map, option_map, Option, Some, None}
-use Rattle.isotp_receive.specs.declared.TheConstants.{MESSAGE_LIMIT}
-use Rattle.isotp_receive.specs.Trace.{Entry}
-use Rattle.trace_report.specs.Events.{rows_of}
+use Rattle.std.specs.Prelude.{ℕ, List, [], ◌∷◌, ◌-◌, map, option_map, take, Option, Some, None}
+use Rattle.trace_report.specs.Contrast.{FirstContrast}
 use Rattle.trace_report.specs.Items.{PlacedMessage, PlacedItem, ItemPair, both, only_left, only_right, items_in, pairs_of}
 use Rattle.trace_report.specs.Rows.{RowValue, message, no_answer, dropped, ended, unfinished}
 use Rattle.trace_report.specs.declared.held_session.HeldRow.{HeldRow}
@@ -13,6 +11,7 @@ use Rattle.trace_report.specs.declared.items.LentPair.{LentPair}
 use Rattle.trace_report.specs.declared.items.LentPair.TheVariants as lent
 use Rattle.trace_report.specs.declared.items.NextItem.{NextItem}
 use Rattle.trace_report.specs.declared.items.NextPair.{NextPair}
+use Rattle.trace_report.specs.declared.pairs.FoundContrast.{FoundContrast}
 use Rattle.trace_report.specs.declared.reporter.Span.{Span}
 
 -- a row that is held
@@ -59,3 +58,12 @@ items_with (Some next) = item_of next.item ∷ items_in (held_rows next.rest.now
 abbrev pub pairs_with : Option NextPair → List ItemPair
 pairs_with None = []
 pairs_with (Some next) = pair_of next.pair ∷ pairs_of (items_in (held_rows next.left.now)) (items_in (held_rows next.right.now))
+
+-- at the most so many of those items, number by number
+abbrev pub taken_with : ℕ → Option NextPair → List ItemPair
+taken_with most None = []
+taken_with most (Some next) = pair_of next.pair ∷ take (most - 1) (pairs_of (items_in (held_rows next.left.now)) (items_in (held_rows next.right.now)))
+
+-- the first difference that was found
+abbrev pub contrast_found : FoundContrast → FirstContrast
+contrast_found found = record { before = found.before; pair = pair_of found.pair; how = found.how }

@@ -1,5 +1,7 @@
-use Rattle.std.proofs.Common.{inl, ap, List, ℕ}
+use Rattle.std.proofs.Common.{inl, ap, ◌∙◌, List, ℕ, Some}
+use Rattle.udsnorm.specs.Values.{page_name}
 use Rattle.trace_io.specs.Counted.{CountedReader}
+use Rattle.udsnorm.proofs.Done.{ran_named_two}
 use Rattle.udsnorm.proofs.run_files.Goals as goal
 
 abbrev given_by : {R : Type 0} → CountedReader R → List ℕ
@@ -7,13 +9,13 @@ given_by r = r.given
 
 pub returns-clause-ran : goal.returns-clause-ran
 returns-clause-ran g c = inl (record {
-  one = c.new-left.result;
-  other = c.new-right.result;
+  one = c.new-one.result;
+  other = c.new-other.result;
   one_left = c.run_two-end.new.left;
   other_left = c.run_two-end.new.right;
-  from_start = ap given_by c.new-left.ensures;
-  from_start_too = ap given_by c.new-right.ensures;
+  from_start = ap given_by c.new-one.ensures;
+  from_start_too = ap given_by c.new-other.ensures;
   fault = c.run_two-end.result.fault;
-  ran = c.run_two-end.ensures.ran;
+  ran = ran_named_two (c.page_name.ensures ∙ ap (λ path. page_name (Some path)) c.as_str-3.ensures.value) (c.page_name-2.ensures ∙ ap (λ path. page_name (Some path)) c.as_str-4.ensures.value) c.run_two-end.ensures.ran;
   known_is = c.known_of_files.ensures;
 })

@@ -1,3 +1,4 @@
+use Rattle.std.proofs.Common.{[], Err}
 use Rattle.trace_canon.proofs.Promises.{given_agrees, never_write}
 use Rattle.isotp_receive.specs.declared.TheConstants.{MESSAGE_LIMIT}
 use Rattle.trace_report.specs.proving.Heard.{answers_heard, quiet_script}
@@ -6,13 +7,13 @@ use Rattle.trace_report.proofs.holder.hold.Goals as goal
 
 pub returns-in-Ok-finished-clause-answer : goal.returns-in-Ok-finished-clause-answer
 returns-in-Ok-finished-clause-answer g c = λ log agrees.
-    read_so c.args.config.now log _ _ _ c.in-Ok.heard c.in-Ok-finished.session c.in-Ok-finished.ensures (c.in-Ok.ensures.ran.answer log agrees)
+    read_so c.args.config.now log _ [] [] c.in-Ok.heard c.in-Ok-finished.session c.in-Ok-finished.ensures (c.in-Ok.ensures.ran.answer log agrees)
 
 pub returns-in-Err-clause-answer : goal.returns-in-Err-clause-answer
-returns-in-Err-clause-answer g c = λ log agrees. unread_so c.args.config.now log _ _ _ c.in-Err.fault (c.in-Err.ensures.ran.answer log agrees)
+returns-in-Err-clause-answer g c = λ log agrees. unread_so c.args.config.now log _ [] [] c.in-Err.fault (c.in-Err.ensures.ran.answer log agrees)
 
 pub returns-in-Err-clause-never_write : goal.returns-in-Err-clause-never_write
 returns-in-Err-clause-never_write g c =
     let ran = c.in-Err.ensures.ran in
     let gave = ran.read.gave in
-    never_write quiet_script quiet_tells_nothing answers_heard MESSAGE_LIMIT c.args.config.now gave.bytes _ _ _ _ (ran.answer gave.bytes (given_agrees gave))
+    never_write quiet_script quiet_tells_nothing answers_heard MESSAGE_LIMIT c.args.config.now gave.bytes _ [] [] (Err c.in-Err.fault) (ran.answer gave.bytes (given_agrees gave))

@@ -1,0 +1,11 @@
+use Rattle.trace_report.proofs.pair_items.say_difference.Goals as goal
+
+pub returns : goal.returns
+returns g c = λ few.
+    g.met.S.TextSink.onward _ _ _ _ _ (g.met.S.TextSink.onward _ _ _ _ _ (g.met.S.TextSink.onward _ _ _ _ _ (g.met.S.TextSink.onward _ _ _ _ _ (g.met.S.TextSink.onward _ _ _ _ _ (g.met.S.TextSink.onward _ _ _ _ _ (g.met.S.TextSink.onward _ _ _ _ _ c.say_text.ensures c.say_place.ensures)
+    c.say_text-2.ensures)
+    c.say_contrast_words.ensures)
+    c.say_text-3.ensures)
+    (c.say_contrast_side.ensures few))
+    (c.say_contrast_side-2.ensures few))
+    c.say_text-4.ensures

@@ -1,0 +1,140 @@
+//! The verdict of a page of two logs, and what was found of each of them.
+ghost use Rattle.std.specs.Prelude.{◌≡◌, length};
+ghost use Rattle.trace_report.specs.Contrast.{first_contrast};
+ghost use Rattle.trace_report.specs.Counts.{counts_text};
+ghost use Rattle.trace_report.specs.Held.{pairs_in};
+ghost use Rattle.trace_report.specs.PairPage.{different_verdict, same_before, same_verdict, session_text, sessions_text, state_text, unclean_state, verdict_by};
+ghost use Rattle.trace_report.specs.Sorts.{counts_in};
+ghost use Rattle.trace_report.specs.Verdict.{span_of};
+ghost use Rattle.trace_report.specs.proving.Holding.{contrast_found};
+ghost use Rattle.trace_report.specs.proving.Pages.{pair_title_of};
+
+use crate::contrast::{LogName, say_contrast_words};
+use crate::counts::say_counts;
+use crate::held_session::{Held, HeldSession};
+use crate::pair_page::{PairTitle, say_lettered_name};
+use crate::pairs::{FoundContrast, count_numbers, counts_of, first_difference};
+use crate::verdict::{say_span_of, say_unclean_reason};
+use trace_canon::say::{say_number, say_place, say_text};
+use trace_canon::{Summary, TextSink};
+
+/// Says whether the two sessions are the same.
+pub(crate) fn say_pair_verdict<S: TextSink>(held: &Held, out: &mut S)
+    ensures { S.says out.old (verdict_by (length (pairs_in held.now)) (first_contrast (pairs_in held.now))) out.new }
+{
+    match first_difference(held) {
+        None => say_same_verdict(count_numbers(held), out),
+        Some(found) => say_different_verdict(&found, out),
+    }
+}
+
+/// Says that they are, with so many items.
+fn say_same_verdict<S: TextSink>(count: usize, out: &mut S)
+    ensures { S.says out.old (same_verdict count) out.new }
+{
+    say_text(
+        out,
+        "<section id=\"verdict\" class=\"good\">\n<h2><span aria-hidden=\"true\">=</span> The two sessions are the same</h2>\n<p>Each of the ",
+    );
+    say_number(out, count as u64);
+    say_text(
+        out,
+        " items is equal in both, byte for byte: so are the canonical logs.</p>\n",
+    );
+}
+
+/// Says where they first differ.
+fn say_different_verdict<S: TextSink>(found: &FoundContrast<'_>, out: &mut S)
+    ensures { S.says out.old (different_verdict (contrast_found found.now)) out.new }
+{
+    say_text(
+        out,
+        "<section id=\"verdict\" class=\"warn\">\n<h2><span aria-hidden=\"true\">&#8800;</span> The two sessions differ, first at item ",
+    );
+    say_place(out, found.before);
+    say_text(out, "</h2>\n<p>");
+    say_contrast_words(found.pair, found.how, out);
+    say_text(out, " <a href=\"#difference\">See it.</a>");
+    say_same_before(found.before, out);
+    say_text(out, "</p>\n");
+}
+
+/// Says that items before a difference are the same, where there are some.
+fn say_same_before<S: TextSink>(count: usize, out: &mut S)
+    ensures { S.says out.old (same_before count) out.new }
+{
+    if count > 0 {
+        say_text(out, " The items before it are the same.");
+    }
+}
+
+/// Says what was found of both logs.
+pub(crate) fn say_sessions<S: TextSink>(title: &PairTitle<'_>, held: &Held, out: &mut S)
+    ensures { S.says out.old (sessions_text (pair_title_of title.now) held.now) out.new }
+{
+    say_text(out, "<div class=\"two\">\n");
+    say_session(LogName::A, title.left, &held.left, out);
+    say_session(LogName::B, title.right, &held.right, out);
+    say_text(out, "</div>\n</section>\n");
+}
+
+/// Says what was found of one.
+fn say_session<S: TextSink>(log: LogName, name: &[u8], session: &HeldSession, out: &mut S)
+    ensures { S.says out.old (session_text log name.now session.now) out.new }
+{
+    say_text(out, "<section>\n<h3>");
+    say_lettered_name(log, name, out);
+    say_text(out, "</h3>\n<p>");
+    say_state_of(session, out);
+    say_text(out, "</p>\n");
+    say_counts_of(session, out);
+    say_span_of_session(session, out);
+    say_text(out, "</section>\n");
+}
+
+/// Says whether its recording is clean.
+fn say_state_of<S: TextSink>(session: &HeldSession, out: &mut S)
+    ensures { S.says out.old (state_text session.now.summary) out.new }
+{
+    say_state(&session.summary(), out);
+}
+
+/// Says whether a recording is clean.
+fn say_state<S: TextSink>(summary: &Summary, out: &mut S)
+    ensures { S.says out.old (state_text summary.now) out.new }
+{
+    if summary.frames == 0 {
+        say_text(out, "<b>No frame is of the tester or the unit.</b>");
+    } else if summary.is_clean() {
+        say_text(out, "The recording is clean.");
+    } else {
+        say_unclean_state(summary, out);
+    }
+}
+
+/// Says why it is not.
+fn say_unclean_state<S: TextSink>(summary: &Summary, out: &mut S)
+    ensures { S.says out.old (unclean_state summary.now) out.new }
+{
+    say_text(out, "<b>The recording is not clean:</b> ");
+    say_unclean_reason(summary, out);
+}
+
+/// Says the counts of a session.
+fn say_counts_of<S: TextSink>(session: &HeldSession, out: &mut S)
+    ensures { S.says out.old (counts_text (counts_in session.now.rows) session.now.summary) out.new }
+{
+    say_counts(&counts_of(session.rows()), &session.summary(), out);
+}
+
+/// Says from when to when it goes.
+fn say_span_of_session<S: TextSink>(session: &HeldSession, out: &mut S)
+    ensures { S.says out.old (span_of session.now.summary.frames session.now.first session.now.last) out.new }
+{
+    say_span_of(
+        session.summary().frames,
+        session.first(),
+        session.last(),
+        out,
+    );
+}

@@ -1,0 +1,47 @@
+use Rattle.std.proofs.Common.{List, ℕ, Result, subst, sym}
+use Rattle.isotp_receive.specs.declared.TheConstants.{MESSAGE_LIMIT}
+use Rattle.trace_canon.specs.declared.fault.CompareFault.{CompareFault}
+use Rattle.trace_report.specs.PairPage.{pair_page, pair_title}
+use Rattle.udsnorm.specs.Commands.{ComparesPair, PagesPair}
+use Rattle.udsnorm.specs.proving.Pairs.{text_of_answer}
+use Rattle.udsnorm.specs.declared.pair_jobs.PairAnswer.{PairAnswer}
+use Rattle.udsnorm.proofs.Pairs.{compared_pair, pages_pair}
+use Rattle.udsnorm.proofs.pair_jobs.do_pair_job.Goals as goal
+
+pub returns-in-Compare-clause-engine : goal.returns-in-Compare-clause-engine
+returns-in-Compare-clause-engine g c =
+    let style = c.in-Compare.style in
+    let settings = c.args.config.now in
+    let text = text_of_answer c.args.strict style c.compare-answer.result in
+    rw c.in-Compare.is (
+      text,
+      λ one other agrees_one agrees_other. subst (λ (told : Result PairAnswer CompareFault). ComparesPair style c.args.strict MESSAGE_LIMIT settings one other told text) (sym c.answer_of.ensures)
+          (compared_pair style c.args.strict MESSAGE_LIMIT settings one other c.compare-answer.result (c.compare-answer.ensures.answer one other agrees_one agrees_other)),
+      c.write_answer.ensures.text,
+    )
+
+pub returns-in-Compare-clause-left_near : goal.returns-in-Compare-clause-left_near
+returns-in-Compare-clause-left_near g c = λ log agrees. rw c.in-Compare.is (c.compare-answer.ensures.left_near log agrees)
+
+pub returns-in-Compare-clause-right_near : goal.returns-in-Compare-clause-right_near
+returns-in-Compare-clause-right_near g c = λ log agrees. rw c.in-Compare.is (c.compare-answer.ensures.right_near log agrees)
+
+pub returns-in-Report-clause-engine : goal.returns-in-Report-clause-engine
+returns-in-Report-clause-engine g c =
+    let left = c.args.left_name.now in
+    let right = c.args.right_name.now in
+    let settings = c.args.config.now in
+    let page = c.write_page.ensures.text in
+    let text = pair_page (pair_title page.0 left right settings) c.hold_two-answer.result in
+    rw c.in-Report.is (
+      text,
+      λ one other agrees_one agrees_other. subst (λ (told : Result PairAnswer CompareFault). PagesPair left right c.args.strict MESSAGE_LIMIT settings one other told text) (sym c.answer_held.ensures)
+          (pages_pair page.0 left right c.args.strict MESSAGE_LIMIT settings one other c.hold_two-answer.result (c.hold_two-answer.ensures.answer one other agrees_one agrees_other)),
+      page.1,
+    )
+
+pub returns-in-Report-clause-left_near : goal.returns-in-Report-clause-left_near
+returns-in-Report-clause-left_near g c = λ log agrees. rw c.in-Report.is (c.hold_two-answer.ensures.left_near log agrees)
+
+pub returns-in-Report-clause-right_near : goal.returns-in-Report-clause-right_near
+returns-in-Report-clause-right_near g c = λ log agrees. rw c.in-Report.is (c.hold_two-answer.ensures.right_near log agrees)

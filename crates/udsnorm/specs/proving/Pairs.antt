@@ -1,0 +1,23 @@
+-- Devices of proof: an answer of `compare`, what is told of it, and its text.
+use Rattle.std.specs.Prelude.{ℕ, Bool, List, [], Result, Ok, Err}
+use Rattle.trace_canon.specs.declared.comparing.Compared.{Compared}
+use Rattle.trace_canon.specs.declared.comparison_lines.ComparisonStyle.{ComparisonStyle}
+use Rattle.trace_canon.specs.declared.fault.CompareFault.{CompareFault}
+use Rattle.trace_report.specs.declared.held_session.Held.{Held}
+use Rattle.udsnorm.specs.Commands.{pair_held, pair_of, text_of_compared}
+use Rattle.udsnorm.specs.declared.pair_jobs.PairAnswer.{PairAnswer}
+
+-- an answer, without what the logs mean
+abbrev pub answer_of : Result Compared CompareFault → Result PairAnswer CompareFault
+answer_of (Ok compared) = Ok (pair_of compared)
+answer_of (Err fault) = Err fault
+
+-- what is written of it
+abbrev pub text_of_answer : Bool → ComparisonStyle → Result Compared CompareFault → List ℕ
+text_of_answer strict style (Ok compared) = text_of_compared strict style compared
+text_of_answer strict style (Err fault) = []
+
+-- an answer about logs that are held, without what they say
+abbrev pub answer_held : Result Held CompareFault → Result PairAnswer CompareFault
+answer_held (Ok held) = Ok (pair_held held)
+answer_held (Err fault) = Err fault

@@ -1,0 +1,239 @@
+//! What the program does with two logs: the engine of each job, what it answers, and its text.
+
+ghost use Rattle.std.specs.Prelude.{◌≡◌, ◌≢◌, ◌-◌, ℕ, List, Err, IfErr, false, length, true};
+ghost use Rattle.isotp_receive.specs.declared.TheConstants.{MESSAGE_LIMIT};
+ghost use Rattle.trace_canon.specs.Compared.{fault_in};
+ghost use Rattle.trace_canon.specs.Devices.{ReadFrom};
+ghost use Rattle.trace_canon.specs.declared.fault.Fault.{Fault as FaultValue};
+ghost use Rattle.trace_io.specs.Counted.{AreLowCounts, IsLowCount};
+ghost use Rattle.trace_io.specs.Stream.{Agrees};
+ghost use Rattle.trace_report.specs.PairPage.{pair_page, pair_title};
+ghost use Rattle.udsnorm.specs.Commands.{PairEngineAnswers, PairEngineReads, has_text, left_file, pair_of, right_file};
+ghost use Rattle.udsnorm.specs.Ending.{has_unclean};
+ghost use Rattle.udsnorm.specs.Telling.{WroteText};
+ghost use Rattle.udsnorm.specs.proving.Pairs.{answer_held, answer_of, text_of_answer};
+
+use crate::commands::{LEFT, LOG, OTHER, RIGHT};
+use crate::tell::is_refusal;
+use std::alloc::Global;
+use trace_canon::{
+    CompareFault, Compared, Comparison, ComparisonStyle, Config, Fault, Summary, compare,
+    write_comparison,
+};
+use trace_io::{Source, Target};
+use trace_report::{Held, PairTitle, hold_two, report_style, write_pair_page};
+
+/// What the program does with two logs.
+#[derive(Clone, Copy, PartialEq, Eq)]
+pub enum PairJob {
+    /// Says whether they have the same meaning, in this style.
+    Compare(ComparisonStyle),
+    /// Writes where they differ as a page of HTML.
+    Report,
+}
+
+/// What two accepted logs are to each other, and what was counted in each.
+#[derive(Clone, Copy)]
+pub struct PairAnswer {
+    pub comparison: Comparison,
+    pub left: Summary,
+    pub right: Summary,
+}
+
+/// What a job over two logs came to.
+#[derive(Clone, Copy)]
+pub struct PairDone {
+    pub answer: Result<PairAnswer, CompareFault>,
+    /// Whether its text was written. Where it has none, there is nothing that could fail.
+    pub wrote: bool,
+}
+
+/// What the parser calls the left file of a job over two logs.
+pub(crate) fn left_file(job: PairJob) -> &'static str
+    ensures { result.now ≡ left_file job }
+{
+    match job {
+        PairJob::Compare(_) => LEFT,
+        PairJob::Report => LOG,
+    }
+}
+
+/// What it calls the right one.
+pub(crate) fn right_file(job: PairJob) -> &'static str
+    ensures { result.now ≡ right_file job }
+{
+    match job {
+        PairJob::Compare(_) => RIGHT,
+        PairJob::Report => OTHER,
+    }
+}
+
+/// Whether a job over two logs has a text of this answer.
+pub(crate) fn has_text(
+    job: PairJob,
+    strict: bool,
+    answer: &Result<PairAnswer, CompareFault>,
+) -> bool
+    ensures { result ≡ has_text job strict answer.now }
+{
+    match job {
+        PairJob::Compare(_) => match answer {
+            Ok(pair) => !has_unclean(strict, pair),
+            Err(_) => false,
+        },
+        PairJob::Report => match answer {
+            Ok(_) => true,
+            Err(fault) => is_refusal(fault_in(*fault)),
+        },
+    }
+}
+
+/// The fault of either log.
+fn fault_in(fault: CompareFault) -> Fault
+    ensures { result ≡ fault_in fault }
+{
+    match fault {
+        CompareFault::Left(fault) | CompareFault::Right(fault) => fault,
+    }
+}
+
+/// Whether one of two logs has to be clean, and is not.
+pub(crate) fn has_unclean(strict: bool, pair: &PairAnswer) -> bool
+    ensures { result ≡ has_unclean strict pair.now }
+{
+    strict && !(pair.left.is_clean() && pair.right.is_clean())
+}
+
+/// What the engine comes to that does the job, over two logs that have these names on a page. The left one is read whole
+/// before the right one, and the text is not flushed.
+pub(crate) fn do_pair_job<A: Source, B: Source, W: Target>(
+    alloc: Global,
+    job: PairJob,
+    left_name: &str,
+    right_name: &str,
+    strict: bool,
+    config: &Config,
+    left: &mut A,
+    right: &mut B,
+    out: &mut W,
+) -> PairDone
+    requires left { AreLowCounts (A.reads left.old) (length (A.given left.old)) (A.failures left.old) }
+    requires right { AreLowCounts (B.reads right.old) (length (B.given right.old)) (B.failures right.old) }
+    requires out { IsLowCount (W.failures out.old) }
+
+    // What is answered, and the text of that, for all logs with which the bytes that were read agree.
+    ensures engine { (text : List ℕ)
+        × ((one other : List ℕ) → Agrees (A.given left.old) (A.given left.new) (A.is_over left.new) one → Agrees (B.given right.old) (B.given right.new) (B.is_over right.new) other
+        → PairEngineAnswers job left_name.now right_name.now strict MESSAGE_LIMIT config.now one other result.answer text)
+        × WroteText W.Target text result.wrote out.old out.new }
+    ensures left_alone { has_text job strict result.answer ≡ false → (result.wrote ≡ true) × (out.new ≡ out.old) }
+    ensures flushes { W.flushes out.new ≡ W.flushes out.old }
+
+    // After a fault of the left log nothing of the right one was read.
+    ensures unread { (fault : FaultValue) → result.answer ≡ Err (CompareFault.Left fault) → right.new ≡ right.old }
+    ensures left_near { (one : List ℕ) → Agrees (A.given left.old) (A.given left.new) (A.is_over left.new) one
+        → PairEngineReads job left_name.now right_name.now MESSAGE_LIMIT config.now one (length (A.given left.new) - length (A.given left.old)) (A.failures left.old) (A.failures left.new) }
+    ensures right_near { (other : List ℕ) → Agrees (B.given right.old) (B.given right.new) (B.is_over right.new) other
+        → PairEngineReads job left_name.now right_name.now MESSAGE_LIMIT config.now other (length (B.given right.new) - length (B.given right.old)) (B.failures right.old) (B.failures right.new) }
+    ensures left_read { ReadFrom A.Source (CompareFault.Left Fault.Read) config.now.max_bytes result.answer left.old left.new }
+    ensures right_read { ReadFrom B.Source (CompareFault.Right Fault.Read) config.now.max_bytes result.answer right.old right.new }
+    ensures never_write { IfErr result.answer (λ fault. fault_in fault ≢ Fault.Write) }
+{
+    match job {
+        PairJob::Compare(style) => {
+            let answer = compare(alloc, config, left, right);
+            PairDone {
+                answer: answer_of(&answer),
+                wrote: write_answer(&answer, strict, style, out),
+            }
+        }
+        PairJob::Report => {
+            let answer = hold_two(alloc, config, left, right);
+            PairDone {
+                answer: answer_held(&answer),
+                wrote: write_page(left_name, right_name, config, &answer, out),
+            }
+        }
+    }
+}
+
+/// An answer about two logs, without what they mean.
+fn answer_of(answer: &Result<Compared, CompareFault>) -> Result<PairAnswer, CompareFault>
+    ensures { result ≡ answer_of answer.now }
+{
+    match answer {
+        Ok(compared) => Ok(pair_of(compared)),
+        Err(fault) => Err(*fault),
+    }
+}
+
+/// What two accepted logs are to each other, and what was counted in each.
+fn pair_of(compared: &Compared) -> PairAnswer
+    ensures { result ≡ pair_of compared.now }
+{
+    PairAnswer {
+        comparison: compared.comparison,
+        left: compared.left.summary,
+        right: compared.right.summary,
+    }
+}
+
+/// Writes how two logs compare, where each is clean that has to be. Answers whether that did not fail.
+fn write_answer<W: Target>(
+    answer: &Result<Compared, CompareFault>,
+    strict: bool,
+    style: ComparisonStyle,
+    out: &mut W,
+) -> bool
+    requires { IsLowCount (W.failures out.old) }
+    ensures text { WroteText W.Target (text_of_answer strict style answer.now) result out.old out.new }
+    ensures left_alone { has_text (PairJob.Compare style) strict (answer_of answer.now) ≡ false → (result ≡ true) × (out.new ≡ out.old) }
+    ensures flushes { W.flushes out.new ≡ W.flushes out.old }
+{
+    match answer {
+        Ok(compared) if !has_unclean(strict, &pair_of(compared)) => {
+            write_comparison(compared, style, out).is_ok()
+        }
+        _ => true,
+    }
+}
+
+/// An answer about two logs that are held, without what they say.
+fn answer_held(answer: &Result<Held, CompareFault>) -> Result<PairAnswer, CompareFault>
+    ensures { result ≡ answer_held answer.now }
+{
+    match answer {
+        Ok(held) => Ok(PairAnswer {
+            comparison: held.comparison(),
+            left: held.left.summary(),
+            right: held.right.summary(),
+        }),
+        Err(fault) => Err(*fault),
+    }
+}
+
+/// Writes the page of two logs, which have these names there, where there is one. Answers whether that did not fail.
+fn write_page<W: Target>(
+    left_name: &str,
+    right_name: &str,
+    config: &Config,
+    answer: &Result<Held, CompareFault>,
+    out: &mut W,
+) -> bool
+    requires { IsLowCount (W.failures out.old) }
+    ensures text { (style : List ℕ) × WroteText W.Target (pair_page (pair_title style left_name.now right_name.now config.now) answer.now) result out.old out.new }
+    ensures left_alone { has_text PairJob.Report false (answer_held answer.now) ≡ false → (result ≡ true) × (out.new ≡ out.old) }
+    ensures flushes { W.flushes out.new ≡ W.flushes out.old }
+{
+    let title = PairTitle {
+        style: report_style(),
+        left: left_name.as_bytes(),
+        right: right_name.as_bytes(),
+        tester: config.tester(),
+        unit: config.unit(),
+    };
+    match answer {
+        Err(fault) if !is_refusal(fault_in(*fault)) => true,
+        _ => write_pair_page(&title, answer, out).is_ok(),
+    }
+}
