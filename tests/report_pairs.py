@@ -119,8 +119,9 @@ REFUSALS = [
 SHORT_LINES = 50 * b"(0.000000) a 7E0#0322F190\n"
 LONG_ANNOUNCEMENT = log_of(REQUEST, "7E8#10000010000062F1", ANSWER)
 
-# How much more memory a page may take than a comparison, and the number of items for which it is measured.
-MEMORY_FACTOR = 8
+# How much more memory a page may take than a comparison, and how many bytes more for a frame that is dropped: it is a row that is
+# held, of which a comparison holds nothing. Then the number of items of a log for which it is measured.
+MEMORY_FACTOR, DROPPED_BYTES = 3, 128
 MEASURED_ITEMS = 100_000
 
 # Elements whose end tags HTML lets out, and those that have none.
@@ -518,7 +519,9 @@ def memory(cases):
             compared = peak(cases.program, ["compare", left, "/dev/stdin"], log).kilobytes
             kilobytes, status = peak_of_page(cases.program, ["report", left, right])
         wrong = differences("status", status, DONE)
-        wrong += [] if kilobytes <= MEMORY_FACTOR * compared else [f"more than {MEMORY_FACTOR} times {compared} kB"]
+        dropped = 2 * MEASURED_ITEMS * frames.count(UNKNOWN)
+        most = MEMORY_FACTOR * compared + dropped * DROPPED_BYTES // 1024
+        wrong += [] if kilobytes <= most else [f"more than {most} kB"]
         cases.report(f"a page of twice {MEASURED_ITEMS} {name}: {kilobytes} kB, {compared} kB to compare them", wrong)
 
 
