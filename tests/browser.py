@@ -9,6 +9,7 @@ skipped, and nothing is installed.
 Prints a line for each case and ends with `N passed, M failed`; its status is 1 where a case failed.
 """
 
+import json
 import os
 import re
 import shutil
@@ -167,10 +168,16 @@ def leaves_what_needs_a_look(browser, page):
     wanted, before = ask(browser, "exchangesToLookAt()"), ask(browser, "exchangesShown()")
     browser.ask("document.getElementById('only').focus()")
     browser.press(["Space"])
-    left = ask(browser, "exchangesShown()")
+    left = shown_in_a_while(browser, wanted)
     browser.press(["Space"])
     wrong = [] if left == wanted else [f"it leaves {first_difference(left, wanted)}"]
-    return wrong + ([] if ask(browser, "exchangesShown()") == before else ["without it others are shown than before"])
+    return wrong + ([] if shown_in_a_while(browser, before) == before else ["without it others are shown than before"])
+
+
+def shown_in_a_while(browser, wanted):
+    """The exchanges that are shown, once they are these, or else in the end: a browser opens a folded block when it next draws."""
+    becomes(browser, f"JSON.stringify(exchangesShown()) === {json.dumps(json.dumps(wanted, separators=(',', ':')))}")
+    return ask(browser, "exchangesShown()")
 
 
 def leaves_the_items_that_are_known(browser, page):
@@ -178,7 +185,7 @@ def leaves_the_items_that_are_known(browser, page):
     show(browser, page)
     browser.ask("document.getElementById('only').focus()")
     browser.press(["Space"])
-    left = ask(browser, "exchangesShown()")
+    left = shown_in_a_while(browser, report_logs.TO_LOOK_AT)
     return [] if left == report_logs.TO_LOOK_AT else [f"it leaves {left}, not {report_logs.TO_LOOK_AT}"]
 
 
