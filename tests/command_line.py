@@ -96,10 +96,12 @@ MESSAGES_HELP = [
 ]
 REPORT_HELP = [
     b"Writes the session as a page of HTML, to look at",
-    b"Usage: udsnorm report [OPTIONS] [LOG]",
-    b"  [LOG]  The recorded log; without it standard input is read",
-    FAILED_DEVICE + b",",
-    NOT_CLEAN,
+    b"Usage: udsnorm report [OPTIONS] [LOG] [OTHER]",
+    b"  [LOG]    The recorded log; without it standard input is read",
+    b"  [OTHER]  A second log: the page shows where the two differ",
+    b"Exit status: 0 done, and two logs are the same, 1 two logs differ, 2 wrong words,",
+    b"3 a log is refused, " + FAILED_DEVICE + b",",
+    b"6 with `--strict`: it was done, and a log is not clean.",
     b"Example: udsnorm report recorded.log > recorded.html",
 ]
 FIND_HELP = [
@@ -369,7 +371,7 @@ def wrong_words(cases):
         ["--limit", "5", "list"], ["a.log"], ["compare"], ["compare", "a"], ["compare", "--", "a"], ["compare", "--limit", "5", "a"], ["compare", "a", "b", "c"], ["list", "a", "b"],
         ["list", "--limit"], ["list", "--limit", "1", "--limit", "2"], ["list", "--tester=7E0", "--tester=7E0"],
         ["list", "--limi", "1"], ["list", "--limit=x"], ["list", "--json=1"], ["list", "--json", "--json"], ["explain", "--json=1"], ["messages", "--json", "--json"], ["normalise", "--json"], ["--json"], ["find", "--tester", "7E0"], ["find", "--unit=7E8"], ["find", "--strict"], ["find", "--no-numbers"], ["find", "--json=1"], ["find", "a", "b"], ["list", "--no-numbers=1"], ["list", "--no-numbers", "--no-numbers"], ["watch", "--no-numbers=1"], ["watch", "--json=1"], ["normalise", "--no-numbers"], ["explain", "--no-numbers"],
-        ["report", "--json"], ["report", "--no-numbers"], ["report", "--show"], ["report", "--strict=1"], ["report", "a", "b"],
+        ["report", "--json"], ["report", "--no-numbers"], ["report", "--show"], ["report", "--strict=1"], ["report", "a", "b", "c"],
         ["compare", "--no-numbers", "a", "b"], ["compare", "--strict", "a"], ["compare", "--strict=1", "a", "b"], ["compare", "--show=1", "a", "b"], ["compare", "--show", "--show", "a", "b"], ["compare", "--json=1", "a", "b"], ["list", "--show"], ["--show"], ["--strict"], ["list", "--strict=1"], ["--no-numbers"], ["list", "--limit=-1"], ["list", "--limit=1.5"], ["list", "--limit="],
         ["list", "--limit=18446744073709551616"], ["list", "--tester", "7E", "--limit", "x"], ["list", "-x"],
     ]:

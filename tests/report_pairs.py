@@ -24,7 +24,7 @@ from cases import DEVICE, DIFFERENT, DONE, REFUSAL, UNCLEAN, WORDS, Cases
 from differential import random_logs
 from oracle import TESTER, UNIT
 from report import ANSWER, EXTENDED, FIRST, NAMES, OUT_OF_ORDER, REFUSED, REQUEST, STRAY, UNKNOWN, WRONG_VALUES, log_of, page_differences, text_faults
-from runs import differences, files, peak, peak_kilobytes, start
+from runs import differences, files, peak_kilobytes, start
 from tables import EXAMPLES, VIN
 from told import LONG_LOG, READ_FAILED, WRITE_FAILED, place
 
@@ -119,9 +119,8 @@ REFUSALS = [
 SHORT_LINES = 50 * b"(0.000000) a 7E0#0322F190\n"
 LONG_ANNOUNCEMENT = log_of(REQUEST, "7E8#10000010000062F1", ANSWER)
 
-# How much more memory a page may take than a comparison, and how many bytes more for a frame that is dropped: it is a row that is
-# held, of which a comparison holds nothing. Then the number of items of a log for which it is measured.
-MEMORY_FACTOR, DROPPED_BYTES = 3, 128
+# The most memory that a row of a log may take, with the bytes of its short message, and the number of items for which it is measured.
+BYTES_OF_A_ROW = 170
 MEASURED_ITEMS = 100_000
 
 # Elements whose end tags HTML lets out, and those that have none.
@@ -512,17 +511,17 @@ def devices(cases):
 
 
 def memory(cases):
-    """Both sessions are held, in not much more memory than a comparison takes, and the page is not."""
-    for name, frames in [("exchanges", [REQUEST, ANSWER]), ("requests", [REQUEST]), ("strays", [STRAY]), ("dropped frames", [UNKNOWN])]:
+    """The rows of both sessions are held, and the page is not."""
+    with files(b"", b"") as (left, right):
+        least, _ = peak_of_page(cases.program, ["report", left, right])
+    for name, frames, rows in [("exchanges", [REQUEST, ANSWER], 2), ("requests", [REQUEST], 2), ("strays", [STRAY], 1), ("dropped frames", [UNKNOWN], 1)]:
         log = MEASURED_ITEMS * log_of(*frames)
         with files(log, log) as (left, right):
-            compared = peak(cases.program, ["compare", left, "/dev/stdin"], log).kilobytes
             kilobytes, status = peak_of_page(cases.program, ["report", left, right])
+        most = least + 2 * MEASURED_ITEMS * rows * BYTES_OF_A_ROW // 1024
         wrong = differences("status", status, DONE)
-        dropped = 2 * MEASURED_ITEMS * frames.count(UNKNOWN)
-        most = MEMORY_FACTOR * compared + dropped * DROPPED_BYTES // 1024
         wrong += [] if kilobytes <= most else [f"more than {most} kB"]
-        cases.report(f"a page of twice {MEASURED_ITEMS} {name}: {kilobytes} kB, {compared} kB to compare them", wrong)
+        cases.report(f"a page of twice {MEASURED_ITEMS} {name}: {kilobytes} kB", wrong)
 
 
 def peak_of_page(program, words):
