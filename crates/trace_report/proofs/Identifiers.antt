@@ -6,7 +6,6 @@ use Rattle.std.specs.List.{AllByRecursion, flat_map, list_all}
 use Rattle.std.proofs.lemmas.Bool.{and_parts, cases_Bool}
 use Rattle.std.proofs.lemmas.Fmt.{decimal_injective}
 use Rattle.std.proofs.lemmas.Slice.Eq.{bytes_eq-Decides}
-use Rattle.direction.specs.Dir.{Message}
 use Rattle.direction.specs.declared.Dir.{Dir}
 use Rattle.direction.specs.declared.Dir.TheVariants as dir
 use Rattle.can_log.proofs.Promises.{AllByRecursion-append, AllByRecursion-tested, AllByRecursion-weaker}
@@ -17,7 +16,7 @@ use Rattle.isotp_receive.specs.Trace.{Entry}
 use Rattle.isotp_receive.specs.Verdict.{messages}
 use Rattle.trace_canon.specs.Settings.{Settings}
 use Rattle.trace_canon.specs.Trace.{trace}
-use Rattle.uds_exchange.proofs.Promises.{items_are_few, none_is_lost}
+use Rattle.uds_exchange.proofs.Promises.{items_within_messages}
 use Rattle.uds_exchange.specs.Meaning.{meaning}
 use Rattle.trace_report.specs.Events.{rows_of}
 use Rattle.trace_report.specs.Laws.{AreDistinct, IdentifiersStandOnce, LinksHaveTargets}
@@ -136,9 +135,6 @@ stand-once items lines sides rows few some are =
     (AllByRecursion-weaker (IsWithin items lines sides) IsNumbered (numbered items lines sides few some) places are.within) are.distinct)
     (all-apart fixed_identifiers places each-apart)
 
-items-few : (M : List Message) → length (meaning M) ≤ length M
-items-few M = let few = items_are_few (meaning M) in let all = none_is_lost M in omega (arith, few, all)
-
 pub identifiers_stand_once : IdentifiersStandOnce
 identifiers_stand_once settings meanings few =
     let T = trace settings meanings in
@@ -147,7 +143,7 @@ identifiers_stand_once settings meanings few =
     let placed = rows-placed T 1 lines grow in
     let frames = grown-few 1 lines T grow in
     let sent = messages_are_few MESSAGE_LIMIT T in
-    let told = items-few (messages MESSAGE_LIMIT T) in
+    let told = items_within_messages (messages MESSAGE_LIMIT T) in
     let items = length (meaning (messages MESSAGE_LIMIT T)) in
     let low : items < 2 ^ 64 = omega (arith, frames, sent, told, few) in
     let some : lines ≤ 2 ^ 64 = omega (arith, few) in

@@ -15,6 +15,7 @@ use Rattle.trace_report.specs.Items.{PlacedMessage, PlacedItem, both, item_value
 use Rattle.trace_report.specs.Laws.{ComparisonIsOfItems}
 use Rattle.trace_report.specs.declared.contrast.Contrast.{Contrast}
 use Rattle.trace_report.specs.declared.contrast.Contrast.TheVariants as contrast
+use Rattle.trace_report.proofs.ItemValues.{bytes_in}
 
 -- Bytes that differ at no place are the same, and the other way round.
 
@@ -47,9 +48,6 @@ none-place xs ys same = ap (λ zs. first_place xs zs) (sym same) ∙ same-place 
 map-none : (place : Option ℕ) → option_map contrast.Answers place ≡ None → place ≡ None
 map-none None is = refl
 map-none (Some place) is = absurd (none-some (contrast.Answers place) (sym is))
-
-abbrev bytes_in : Option PlacedMessage → Option (List ℕ)
-bytes_in reply = option_map (λ (sent : PlacedMessage). sent.bytes) reply
 
 answers-none : (a b : Option PlacedMessage) → contrast_of_answers a b ≡ None → bytes_in a ≡ bytes_in b
 answers-none None None is = refl

@@ -54,7 +54,7 @@ values_of (answers bytes ∷ rest) = values_of rest
 values_of (strays d bytes ∷ rest) = stray d bytes ∷ values_of rest
 values_of (nothing ∷ rest) = values_of rest
 
-abbrev bytes_in : Option PlacedMessage → Option (List ℕ)
+abbrev pub bytes_in : Option PlacedMessage → Option (List ℕ)
 bytes_in reply = option_map (λ (sent : PlacedMessage). sent.bytes) reply
 
 answer-by-kinds : (rows : List RowValue) → bytes_in (answer_in rows) ≡ answer_of (map kind rows)

@@ -60,7 +60,8 @@ items-few (exchange r None ∷ its) = let rest = items-few its in omega arith
 items-few (exchange r (Some a) ∷ its) = let rest = items-few its in omega arith
 items-few (stray d m ∷ its) = let rest = items-few its in omega arith
 
-few-items : (M : List Message) → length (meaning M) ≤ length M
+-- nor than those of the list
+pub few-items : (M : List Message) → length (meaning M) ≤ length M
 few-items M = let few = items-few (meaning M) in let all = none-lost M in omega arith
 
 -- where a request waits, it is an item before those that are held
