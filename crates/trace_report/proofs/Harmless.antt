@@ -1,5 +1,5 @@
 -- What comes from a log opens and closes nothing in HTML.
-use Rattle.std.proofs.Common.{◌≡◌, ℕ, ◌/◌, ◌%◌, ◌<◌, Bool, true, false, List, [], ◌∷◌, ◌++◌, arith, refl, inl, inr, codes}
+use Rattle.std.proofs.Common.{◌≡◌, ◌∙◌, ℕ, ◌/◌, ◌%◌, ◌<◌, Bool, true, false, List, [], ◌∷◌, ◌++◌, arith, refl, inl, inr, codes}
 use Rattle.std.specs.Prelude.{nat_le, ◌==◌, ◌&&◌, ◌||◌, not, if◌then◌else◌}
 use Rattle.std.specs.List.{AllByRecursion, flat_map}
 use Rattle.std.proofs.lemmas.Bool.{cases_Bool, and_parts}
@@ -7,7 +7,7 @@ use Rattle.std.proofs.lemmas.Bool.Decides.{nat_tests}
 use Rattle.can_log.specs.Digits.{digit, digits, hexadecimal}
 use Rattle.can_log.proofs.Promises.{AllByRecursion-append}
 use Rattle.trace_report.specs.Front.{name_byte, name_text, plain_byte, numbered_byte}
-use Rattle.trace_report.specs.Laws.{is_harmless, LettersAreHarmless, NameIsHarmless}
+use Rattle.trace_report.specs.Laws.{is_escaped, is_harmless, LettersAreHarmless, NameIsHarmless}
 use Rattle.trace_report.specs.Words.{is_mark, is_within, letter_text, letters, shown_byte}
 
 abbrev AreHarmless : List ℕ → Type 0
@@ -46,14 +46,55 @@ byte_harmless b =
       ]
     ]
 
-pub name_is_harmless : NameIsHarmless
-name_is_harmless [] = tt
-name_is_harmless (b ∷ name) = AllByRecursion-append (λ x. is_harmless x ≡ true) (name_byte b) (name_text name) (byte_harmless b) (name_is_harmless name)
+bytes_harmless : (name : List ℕ) → AreHarmless (name_text name)
+bytes_harmless [] = tt
+bytes_harmless (b ∷ name) = AllByRecursion-append (λ x. is_harmless x ≡ true) (name_byte b) (name_text name) (byte_harmless b) (bytes_harmless name)
 
-mark_harmless : (b : ℕ) → (is_mark b || b == 32) ≡ true → is_harmless b ≡ true
+-- Each & is that of a sign.
+
+digit_apart : (d : ℕ) → d < 16 → (digit d == 38) ≡ false
+digit_apart d small = grind (arith, nat_tests)
+
+plain_escaped : (b : ℕ) (rest : List ℕ) → (b == 38) ≡ false → is_escaped (plain_byte b ++ rest) ≡ is_escaped rest
+unfolding digits
+plain_escaped b rest other =
+    elim (cases_Bool (is_within 32 126 b)) [
+      | inl e ↦ rw (e, other) refl
+      | inr e ↦ rw (e, digit_apart (b / 16 % 16) (omega arith), digit_apart (b % 16) (omega arith)) refl
+    ]
+
+byte_escaped : (b : ℕ) (rest : List ℕ) → is_escaped (name_byte b ++ rest) ≡ is_escaped rest
+byte_escaped b rest =
+    elim (cases_Bool (b == 38)) [
+      | inl e ↦ rw e refl
+      | inr and ↦ elim (cases_Bool (b == 60)) [
+        | inl e ↦ rw (and, e) refl
+        | inr less ↦ elim (cases_Bool (b == 62)) [
+          | inl e ↦ rw (and, less, e) refl
+          | inr more ↦ elim (cases_Bool (b == 34)) [
+            | inl e ↦ rw (and, less, more, e) refl
+            | inr double ↦ elim (cases_Bool (b == 39)) [
+              | inl e ↦ rw (and, less, more, double, e) refl
+              | inr single ↦ rw (and, less, more, double, single) (plain_escaped b rest and)
+            ]
+          ]
+        ]
+      ]
+    ]
+
+bytes_escaped : (name : List ℕ) → is_escaped (name_text name) ≡ true
+bytes_escaped [] = refl
+bytes_escaped (b ∷ name) = byte_escaped b (name_text name) ∙ bytes_escaped name
+
+pub name_is_harmless : NameIsHarmless
+name_is_harmless name = (bytes_harmless name, bytes_escaped name)
+
+-- The letters of bytes.
+
+mark_harmless : (b : ℕ) → (is_mark b || b == 32) ≡ true → (is_harmless b && not (b == 38)) ≡ true
 mark_harmless b is = grind (arith, nat_tests)
 
-shown_harmless : (b : ℕ) → is_harmless (shown_byte b) ≡ true
+shown_harmless : (b : ℕ) → (is_harmless (shown_byte b) && not (shown_byte b == 38)) ≡ true
 shown_harmless b = elim (cases_Bool (is_mark b || b == 32)) [ inl e ↦ rw e (mark_harmless b e) | inr e ↦ rw e refl ]
 
 pub letters_are_harmless : LettersAreHarmless

@@ -1,7 +1,7 @@
 -- What holds of a page, whatever log it is of.
 use Prim.Native.Char.{code}
-use Rattle.std.specs.Prelude.{◌≡◌, ◌≢◌, ℕ, ◌==◌, ◌<◌, ◌^◌, ◌&&◌, not, Bool, true, ⊤, List, [], ◌∷◌, length, map, nat_le, Option, Ok}
-use Rattle.std.specs.List.{AllByRecursion}
+use Rattle.std.specs.Prelude.{◌≡◌, ◌≢◌, ℕ, ◌==◌, ◌<◌, ◌^◌, ◌&&◌, not, ◌||◌, Bool, true, ⊤, List, [], ◌∷◌, codes, length, map, nat_le, Option, Ok}
+use Rattle.std.specs.List.{AllByRecursion, starts_with}
 use Rattle.can_log.specs.declared.frame.Stamped.{Stamped}
 use Rattle.isotp_receive.specs.declared.TheConstants.{MESSAGE_LIMIT}
 use Rattle.isotp_receive.specs.Trace.{Entry}
@@ -27,13 +27,28 @@ abbrev pub is_harmless : ℕ → Bool
 is_harmless b =
     nat_le (code " ") b && (nat_le b (code "~") && (not (b == code "<") && (not (b == code ">") && (not (b == code "\"") && not (b == code "'")))))
 
--- so is each byte of the name of a log on its page, whatever its file is called
-abbrev pub NameIsHarmless : Type 0
-NameIsHarmless = (name : List ℕ) → AllByRecursion (λ b. is_harmless b ≡ true) (name_text name)
+-- the text has this front
+abbrev begins_with : List ℕ → List ℕ → Bool
+begins_with front text = starts_with (λ one other. one == other) text front
 
--- and each letter that is shown for the bytes of a message
+-- the rest of the name that HTML has for one of the five signs, behind its &
+abbrev pub begins_sign : List ℕ → Bool
+begins_sign text =
+    begins_with (codes "amp;") text || begins_with (codes "lt;") text || begins_with (codes "gt;") text
+    || begins_with (codes "quot;") text || begins_with (codes "#39;") text
+
+-- each & begins such a name
+abbrev pub is_escaped : List ℕ → Bool
+is_escaped [] = true
+is_escaped (b ∷ rest) = (not (b == code "&") || begins_sign rest) && is_escaped rest
+
+-- so is the name of a log on its page, whatever its file is called: its bytes are harmless, and an & stands for a sign alone
+abbrev pub NameIsHarmless : Type 0
+NameIsHarmless = (name : List ℕ) → AllByRecursion (λ b. is_harmless b ≡ true) (name_text name) × (is_escaped (name_text name) ≡ true)
+
+-- and so is each letter that is shown for the bytes of a message, of which none is an &
 abbrev pub LettersAreHarmless : Type 0
-LettersAreHarmless = (bytes : List ℕ) → AllByRecursion (λ b. is_harmless b ≡ true) (letters bytes)
+LettersAreHarmless = (bytes : List ℕ) → AllByRecursion (λ b. (is_harmless b && not (b == code "&")) ≡ true) (letters bytes)
 
 -- none of these is equal to one behind it
 abbrev pub AreDistinct : {X : Type 0} → List X → Type 0
