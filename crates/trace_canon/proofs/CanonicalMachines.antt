@@ -9,7 +9,7 @@ use Rattle.isotp_receive.specs.Verdict.{EventValue, message as message_of, messa
 use Rattle.isotp_segment.specs.Timed.{all_frames}
 use Rattle.uds_exchange.specs.Order.{early}
 use Rattle.uds_exchange.specs.Orderer.{IsHeld, OrdererValue, stands_after}
-use Rattle.trace_canon.specs.Needing.{CompletesHeld}
+use Rattle.trace_canon.specs.Needing.{CompletesMessage, CompletesHeld}
 use Rattle.trace_canon.specs.CanonicalScript.{place_of, lines_due, StandsCanonical}
 use Rattle.trace_canon.specs.proving.Saying.{SaysDue}
 use Rattle.trace_canon.specs.Settings.{Settings}
@@ -26,6 +26,10 @@ messages_next T e d event dir_is is =
     ∙ ap (λ x. messages MESSAGE_LIMIT T ++ told_message x (verdict MESSAGE_LIMIT T e).verdict) (sym dir_is) ∙ sym (messages_more MESSAGE_LIMIT T e))
 
 -- a frame that completes a message which is held
+pub completes_message : (T : List Entry) (e : Entry) (event : EventValue) (bytes : List ℕ) → event ≡ verdict MESSAGE_LIMIT T e → event.verdict ≡ message_of bytes
+    → CompletesMessage MESSAGE_LIMIT T e
+completes_message T e event bytes is told = (bytes, sym (ap (λ (x : EventValue). x.verdict) is) ∙ told)
+
 pub completes_held : (T : List Entry) (e : Entry) (d : Dir) (event : EventValue) (bytes : List ℕ) → e.dir ≡ d → event ≡ verdict MESSAGE_LIMIT T e → event.verdict ≡ message_of bytes
     → IsHeld (messages MESSAGE_LIMIT T) (d, bytes) → CompletesHeld MESSAGE_LIMIT T e
 completes_held T e d event bytes dir_is is told held =

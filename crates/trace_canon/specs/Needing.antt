@@ -35,6 +35,10 @@ CompletesHeld limit T e = (bytes : List ℕ) × ((verdict limit T e).verdict ≡
 abbrev pub CompletesKept : ℕ → List Entry → Entry → Type 0
 CompletesKept limit T e = (bytes : List ℕ) × ((verdict limit T e).verdict ≡ message bytes) × IsKept (messages limit T) (e.dir, bytes)
 
+-- The frame completes a message.
+abbrev pub CompletesMessage : ℕ → List Entry → Entry → Type 0
+CompletesMessage limit T e = (bytes : List ℕ) × ((verdict limit T e).verdict ≡ message bytes)
+
 -- The bytes of the frame are kept for a message of several frames: it is a first frame that begins a reception, or a
 -- consecutive frame that is stored or completes a message.
 abbrev pub IsKeptForMessage : ℕ → List Entry → Entry → Type 0
@@ -51,3 +55,7 @@ NeedsMemoryToOrder limit = HasFrame (λ T e. IsKeptForMessage limit T e ⊎ Comp
 -- or one that completes a message which is kept
 abbrev pub NeedsMemoryToDecide : ℕ → Settings → List ℕ → Type 0
 NeedsMemoryToDecide limit = HasFrame (λ T e. IsKeptForMessage limit T e ⊎ CompletesKept limit T e)
+
+-- or one that completes any message
+abbrev pub NeedsMemoryToCollect : ℕ → Settings → List ℕ → Type 0
+NeedsMemoryToCollect limit = HasFrame (λ T e. IsKeptForMessage limit T e ⊎ CompletesMessage limit T e)

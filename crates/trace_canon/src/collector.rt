@@ -2,11 +2,12 @@
 //!
 //! It lets go of all that it holds once the canonical log is certainly longer than the limit, and takes no more: what
 //! refuses the log earlier may still come, and is told first.
-ghost use Rattle.std.specs.Prelude.{◌≡◌, ◌≢◌, ◌-◌, ℕ, List, [], length, IfErr};
+ghost use Rattle.std.specs.Prelude.{◌≡◌, ◌≢◌, ◌-◌, ℕ, List, [], length, IfErr, Err};
 ghost use Rattle.isotp_receive.specs.declared.TheConstants.{MESSAGE_LIMIT};
 ghost use Rattle.trace_canon.specs.SessionScript.{Collects, has_place};
 ghost use Rattle.trace_canon.specs.Answers.{ReadsWhile, GivesMeaning, GivesSession};
 ghost use Rattle.trace_canon.specs.Devices.{ReadFrom};
+ghost use Rattle.trace_canon.specs.Needing.{NeedsMemoryToCollect};
 ghost use Rattle.trace_canon.specs.Refusal.{IsNotRefusedWithin};
 ghost use Rattle.trace_io.specs.Counted.{AreLowCounts};
 ghost use Rattle.trace_io.specs.Stream.{Agrees};
@@ -49,6 +50,10 @@ pub fn meaning_of<R: Source>(
     ensures near { (log : List ℕ) → Agrees (R.given reader.old) (R.given reader.new) (R.is_over reader.new) log
         → ReadsWhile (IsNotRefusedWithin MESSAGE_LIMIT config.now log) (length (R.given reader.new) - length (R.given reader.old)) (R.failures reader.old) (R.failures reader.new) }
 
+    // Memory is refused only for a log that needs it: for a message of several frames, or for one that is complete.
+    ensures memory { (log : List ℕ) → Agrees (R.given reader.old) (R.given reader.new) (R.is_over reader.new) log
+        → result ≡ Err Fault.Memory → NeedsMemoryToCollect MESSAGE_LIMIT config.now log }
+
     // What it did with the source. Nothing is written.
     ensures read { ReadFrom R.Source Fault.Read config.now.max_bytes result reader.old reader.new }
     ensures never_write { IfErr result (λ fault. fault ≢ Fault.Write) }
@@ -72,6 +77,8 @@ pub(crate) fn session_of<R: Source>(
     ensures answer { (log : List ℕ) → Agrees (R.given reader.old) (R.given reader.new) (R.is_over reader.new) log → GivesSession MESSAGE_LIMIT config.now log result }
     ensures near { (log : List ℕ) → Agrees (R.given reader.old) (R.given reader.new) (R.is_over reader.new) log
         → ReadsWhile (IsNotRefusedWithin MESSAGE_LIMIT config.now log) (length (R.given reader.new) - length (R.given reader.old)) (R.failures reader.old) (R.failures reader.new) }
+    ensures memory { (log : List ℕ) → Agrees (R.given reader.old) (R.given reader.new) (R.is_over reader.new) log
+        → result ≡ Err Fault.Memory → NeedsMemoryToCollect MESSAGE_LIMIT config.now log }
     ensures read { ReadFrom R.Source Fault.Read config.now.max_bytes result reader.old reader.new }
     ensures never_write { IfErr result (λ fault. fault ≢ Fault.Write) }
 {
@@ -154,6 +161,7 @@ impl Machine for Collector {
     ghost use Rattle.std.specs.Prelude.{⊤};
     ghost use Rattle.isotp_receive.specs.declared.TheConstants.{MESSAGE_LIMIT};
     ghost use Rattle.isotp_receive.specs.Verdict.{messages};
+    ghost use Rattle.trace_canon.specs.Needing.{CompletesMessage};
     ghost use Rattle.trace_canon.specs.SessionScript.{Collects, answers_session, silent_script};
 
     type Answer = Session;
@@ -164,7 +172,7 @@ impl Machine for Collector {
 
     ghost answers = { λ start. answers_session start.config };
 
-    ghost needs = { λ start T e. ⊤ };
+    ghost needs = { λ start. CompletesMessage MESSAGE_LIMIT };
 
     #[inline(always)]
     fn is_strict(&self) -> bool {

@@ -1,9 +1,10 @@
 //! `list`: the items of a log, written once they are known.
-ghost use Rattle.std.specs.Prelude.{◌≡◌, ◌≢◌, ◌-◌, ℕ, List, length, IfErr};
+ghost use Rattle.std.specs.Prelude.{◌≡◌, ◌≢◌, ◌-◌, ℕ, List, length, IfErr, Err};
 ghost use Rattle.isotp_receive.specs.declared.TheConstants.{MESSAGE_LIMIT};
 ghost use Rattle.trace_canon.specs.Answers.{ReadsWhile};
 ghost use Rattle.trace_canon.specs.Devices.{ReadFrom, WroteTo};
 ghost use Rattle.trace_canon.specs.Listed.{Lists};
+ghost use Rattle.trace_canon.specs.Needing.{NeedsMemoryToCollect};
 ghost use Rattle.trace_canon.specs.Refusal.{IsNotRefusedWithin};
 ghost use Rattle.trace_io.specs.Stream.{Agrees};
 ghost use Rattle.trace_io.specs.Counted.{IsLowCount, AreLowCounts};
@@ -43,6 +44,10 @@ pub fn list<R: Source, W: Target>(
     // failed.
     ensures near { (log : List ℕ) → Agrees (R.given reader.old) (R.given reader.new) (R.is_over reader.new) log
         → ReadsWhile (IsNotRefusedWithin MESSAGE_LIMIT config.now log) (length (R.given reader.new) - length (R.given reader.old)) (R.failures reader.old) (R.failures reader.new) }
+
+    // Memory is refused only for a log that needs it: for a message of several frames, or for one that is complete.
+    ensures memory { (log : List ℕ) → Agrees (R.given reader.old) (R.given reader.new) (R.is_over reader.new) log
+        → result ≡ Err Fault.Memory → NeedsMemoryToCollect MESSAGE_LIMIT config.now log }
 
     // What it did with the devices.
     ensures read { ReadFrom R.Source Fault.Read config.now.max_bytes result reader.old reader.new }
