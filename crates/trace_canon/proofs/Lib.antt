@@ -43,6 +43,7 @@ pub mod Runs
 pub mod RemovedCounts
 pub mod Summaries
 pub mod Needs
+mod OwnFrames
 pub mod Carryings
 pub mod Tellings
 pub mod Answered

@@ -11,3 +11,5 @@ pub use Rattle.trace_canon.proofs.LenientRuns.{never_oversize, never_output_limi
 -- A run over a script that tells nothing.
 pub use Rattle.trace_canon.proofs.QuietRuns.{never_write}
 pub use Rattle.trace_canon.proofs.Streams.{given_agrees}
+-- A log whose trace has a frame.
+pub use Rattle.trace_canon.proofs.OwnFrames.{has_own_frame}

@@ -1,8 +1,11 @@
 -- What is kept of a log that is held, with one more frame and at its end.
-use Rattle.std.proofs.Common.{◌≡◌, ℕ, false, List, [], ◌∷◌, ◌++◌, Option, Some, None, Ok, Err, refl, ap, sym}
+use Rattle.std.proofs.Common.{◌≡◌, ℕ, false, List, [], ◌∷◌, ◌++◌, Option, Some, None, Ok, Err, Result, refl, ap, sym, ◌∙◌}
+use Rattle.std.specs.Prelude.{◌≢◌}
 use Rattle.std.proofs.lemmas.Option.{none-some, same_Some}
 use Rattle.isotp_receive.specs.declared.TheConstants.{MESSAGE_LIMIT}
 use Rattle.isotp_receive.specs.Trace.{Entry}
+use Rattle.trace_canon.proofs.Promises.{has_own_frame}
+use Rattle.trace_canon.specs.Needing.{HasFrame}
 use Rattle.trace_canon.specs.Settings.{Settings}
 use Rattle.trace_canon.specs.Summing.{summary_of}
 use Rattle.trace_canon.specs.Told.{AnswersTold, IsUnreadFor, TellsNothing}
@@ -10,12 +13,13 @@ use Rattle.trace_canon.specs.Trace.{trace}
 use Rattle.trace_canon.specs.declared.fault.Fault.{Fault}
 use Rattle.trace_canon.specs.declared.fault.Fault.TheVariants.{BadLine, Oversize, LogLimit, OutputLimit, Read, Write, Memory}
 use Rattle.trace_canon.specs.declared.summary.Summary.{Summary}
-use Rattle.trace_report.specs.Held.{GivesSession}
+use Rattle.trace_report.specs.Events.{end_rows}
+use Rattle.trace_report.specs.Held.{GivesSession, HasOwnFrame}
 use Rattle.trace_report.specs.Page.{first_time, last_time}
 use Rattle.trace_report.specs.Session.{SessionValue, session_of}
 use Rattle.trace_report.specs.declared.holder.Heard.{Heard}
 use Rattle.trace_report.specs.declared.reporter.Span.{Span}
-use Rattle.trace_report.specs.proving.Following.{times_of}
+use Rattle.trace_report.specs.proving.Following.{rows_in, times_of}
 use Rattle.trace_report.specs.proving.Heard.{IsHeardOf, answers_heard, quiet_script}
 use Rattle.trace_report.specs.proving.Holding.{first_of_span, last_of_span}
 use Rattle.trace_report.proofs.Steps.{last_next, span_next}
@@ -64,3 +68,19 @@ module _ (settings : Settings) (log : List ℕ) (given : ℕ) (old new : List �
       → AnswersTold quiet_script answers_heard MESSAGE_LIMIT settings log given (Ok heard) old new → GivesSession MESSAGE_LIMIT settings log (Ok session)
   read_so heard session is (all, meanings, read, answer, wrote) =
       (meanings, read, is (trace settings meanings) (summary_of MESSAGE_LIMIT settings log meanings) answer)
+
+  -- the log has a frame where a row of its end is there
+  pub has_own_where_held : (heard : Heard) → rows_in heard.last ≢ [] → AnswersTold quiet_script answers_heard MESSAGE_LIMIT settings log given (Ok heard) old new
+      → HasOwnFrame settings log
+  has_own_where_held heard some (all, meanings, read, answer, wrote) =
+      has_own_frame settings log meanings read.1 (λ none. some (answer.last ∙ ap (λ (T : List Entry). end_rows MESSAGE_LIMIT T) none))
+
+-- and where a frame of it needs memory
+pub has_own_where_needed : (needs : List Entry → Entry → Type 0) (settings : Settings) (log : List ℕ) → HasFrame needs settings log → HasOwnFrame settings log
+has_own_where_needed needs settings log found =
+    record { before = found.before; line = found.line; frame = found.frame; begins = found.begins; own = found.own; holds = tt }
+
+-- the fault where there is one
+abbrev pub fault_of : {A : Type 0} → Result A Fault → Fault
+fault_of (Ok value) = Memory
+fault_of (Err why) = why

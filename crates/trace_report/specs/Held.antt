@@ -1,6 +1,7 @@
 -- What is answered of two logs that are held: what each of them says, or why one of them can't be read.
-use Rattle.std.specs.Prelude.{◌≡◌, ℕ, false, List, Option, Some, None, Result, Ok, Err}
+use Rattle.std.specs.Prelude.{◌≡◌, ℕ, ⊤, false, List, Option, Some, None, Result, Ok, Err}
 use Rattle.can_log.specs.declared.frame.Stamped.{Stamped}
+use Rattle.trace_canon.specs.Needing.{HasFrame}
 use Rattle.trace_canon.specs.Settings.{Settings}
 use Rattle.trace_canon.specs.Summing.{summary_of}
 use Rattle.trace_canon.specs.Told.{IsReadToEnd, IsUnreadFor}
@@ -29,6 +30,10 @@ HoldsTwo limit settings one other (Ok held) = GivesSession limit settings one (O
 HoldsTwo limit settings one other (Err (Left fault)) = GivesSession limit settings one (Err fault)
 HoldsTwo limit settings one other (Err (Right fault)) =
     ((session : SessionValue) × GivesSession limit settings one (Ok session)) × GivesSession limit settings other (Err fault)
+
+-- the log has a frame of one of the two sides
+abbrev pub HasOwnFrame : Settings → List ℕ → Type 0
+HasOwnFrame = HasFrame (λ T e. ⊤)
 
 -- the items of both, number by number
 abbrev pub pairs_in : Held → List ItemPair

@@ -9,7 +9,7 @@ ghost use Rattle.trace_canon.specs.Devices.{ReadFrom};
 ghost use Rattle.trace_canon.specs.Refusal.{HasNoBadPlaceWithin};
 ghost use Rattle.trace_io.specs.Counted.{AreLowCounts};
 ghost use Rattle.trace_io.specs.Stream.{Agrees};
-ghost use Rattle.trace_report.specs.Held.{GivesSession, HoldsTwo};
+ghost use Rattle.trace_report.specs.Held.{GivesSession, HasOwnFrame, HoldsTwo};
 ghost use Rattle.trace_report.specs.proving.Following.{row_if, rows_in, times_of};
 ghost use Rattle.trace_report.specs.Session.{session_of};
 ghost use Rattle.trace_report.specs.proving.Heard.{IsHeardOf};
@@ -53,6 +53,12 @@ pub fn hold_two<A: Source, B: Source>(
     ensures right_near { (other : List ℕ) → Agrees (B.given right.old) (B.given right.new) (B.is_over right.new) other
         → ReadsWhile (HasNoBadPlaceWithin other) (length (B.given right.new) - length (B.given right.old)) (B.failures right.old) (B.failures right.new) }
 
+    // Memory is refused only for a log that has a frame of one of the two sides.
+    ensures left_memory { (one : List ℕ) → Agrees (A.given left.old) (A.given left.new) (A.is_over left.new) one
+        → result ≡ Err (CompareFault.Left Fault.Memory) → HasOwnFrame config.now one }
+    ensures right_memory { (other : List ℕ) → Agrees (B.given right.old) (B.given right.new) (B.is_over right.new) other
+        → result ≡ Err (CompareFault.Right Fault.Memory) → HasOwnFrame config.now other }
+
     // What it did with the sources. Nothing is written.
     ensures left_read { ReadFrom A.Source (CompareFault.Left Fault.Read) config.now.max_bytes result left.old left.new }
     ensures right_read { ReadFrom B.Source (CompareFault.Right Fault.Read) config.now.max_bytes result right.old right.new }
@@ -75,6 +81,7 @@ fn hold<R: Source>(alloc: Global, config: &Config, reader: &mut R) -> Result<Hel
     ensures answer { (log : List ℕ) → Agrees (R.given reader.old) (R.given reader.new) (R.is_over reader.new) log → GivesSession MESSAGE_LIMIT config.now log result }
     ensures near { (log : List ℕ) → Agrees (R.given reader.old) (R.given reader.new) (R.is_over reader.new) log
         → ReadsWhile (HasNoBadPlaceWithin log) (length (R.given reader.new) - length (R.given reader.old)) (R.failures reader.old) (R.failures reader.new) }
+    ensures memory { (log : List ℕ) → Agrees (R.given reader.old) (R.given reader.new) (R.is_over reader.new) log → result ≡ Err Fault.Memory → HasOwnFrame config.now log }
     ensures read { ReadFrom R.Source Fault.Read config.now.max_bytes result reader.old reader.new }
     ensures never_write { IfErr result (λ fault. fault ≢ Fault.Write) }
 {
@@ -105,7 +112,8 @@ pub(crate) struct Heard {
 
 /// What a log says of which this was heard.
 fn finished(alloc: Global, heard: Heard) -> Result<HeldSession, AllocError>
-    ensures { IfOk result (λ session. (T : List Entry) (summary : SummaryValue) → IsHeardOf T summary heard → session ≡ session_of MESSAGE_LIMIT T summary) }
+    ensures session { IfOk result (λ session. (T : List Entry) (summary : SummaryValue) → IsHeardOf T summary heard → session ≡ session_of MESSAGE_LIMIT T summary) }
+    ensures refused { IfErr result (λ refused. rows_in heard.last ≢ []) }
 {
     let Heard {
         mut rows,
@@ -119,7 +127,8 @@ fn finished(alloc: Global, heard: Heard) -> Result<HeldSession, AllocError>
 
 /// Holds new rows behind those before.
 fn hold_rows(alloc: Global, rows: &mut Vec<HeldRow>, new: NewRows<'_>) -> Result<(), AllocError>
-    ensures { OnOk result (held_rows rows.new.items ≡ held_rows rows.old.items ++ rows_in new.entry) }
+    ensures held { OnOk result (held_rows rows.new.items ≡ held_rows rows.old.items ++ rows_in new.entry) }
+    ensures refused { IfErr result (λ refused. rows_in new.entry ≢ []) }
 {
     hold_row_if(alloc, rows, new.first)?;
     hold_row_if(alloc, rows, new.second)?;
@@ -132,7 +141,8 @@ fn hold_row_if(
     rows: &mut Vec<HeldRow>,
     row: Option<Row<'_>>,
 ) -> Result<(), AllocError>
-    ensures { OnOk result (held_rows rows.new.items ≡ held_rows rows.old.items ++ row_if row.entry) }
+    ensures held { OnOk result (held_rows rows.new.items ≡ held_rows rows.old.items ++ row_if row.entry) }
+    ensures refused { IfErr result (λ refused. row_if row.entry ≢ []) }
 {
     if let Some(row) = row {
         rows.push(copied_row(alloc, row)?)?;

@@ -13,7 +13,7 @@ returns-clause-ok g c = λ start T e line micros dir few seen known.
         few = omega (arith, few, length-append T (e ∷ []));
         span = c.span_with.ensures T e known.span micros;
         follows = c.take-rows.ensures.next T e here dir few seen known.follows;
-        rows = c.in_ok-hold_rows.ensures ∙ (λ i. known.rows i ++ rows i) ∙ sym (rows_next MESSAGE_LIMIT T e);
+        rows = c.in_ok-hold_rows.ensures.held ∙ (λ i. known.rows i ++ rows i) ∙ sym (rows_next MESSAGE_LIMIT T e);
       },
       g.met.S.TextSink.nothing c.args._out.now,
     )
