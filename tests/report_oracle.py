@@ -803,7 +803,13 @@ def part_of_item(row):
 SAME_VERDICT = """\
 <section id="verdict" class="good">
 <h2><span aria-hidden="true">=</span> The two sessions are the same</h2>
-<p>Each of the {count} items is equal in both, byte for byte: so are the canonical logs.</p>
+<p>Items: {count}. Each is equal in both, byte for byte: so are the canonical logs.</p>
+"""
+
+NOTHING_VERDICT = """\
+<section id="verdict" class="warn">
+<h2><span aria-hidden="true">!</span> Neither session has an item</h2>
+<p>Other identifiers may be meant: see <code>--tester</code> and <code>--unit</code>.</p>
 """
 
 DIFFERENT_VERDICT = """\
@@ -868,7 +874,7 @@ def lettered(letter, name):
 
 def pair_verdict(left, right, numbers, first):
     if first is None:
-        return SAME_VERDICT.format(count=len(numbers))
+        return SAME_VERDICT.format(count=len(numbers)) if numbers else NOTHING_VERDICT
     words = difference(item_at(left, first), item_at(right, first)).words
     before = " The items before it are the same." if first > 1 else ""
     return DIFFERENT_VERDICT.format(number=first, words=words, before=before)

@@ -70,8 +70,14 @@ pair_front title = pair_head title ++ shapes_text ++ pair_header title
 -- the two sessions are the same, with so many items
 abbrev pub same_verdict : ℕ → List ℕ
 same_verdict count =
-    codes "<section id=\"verdict\" class=\"good\">\n<h2><span aria-hidden=\"true\">=</span> The two sessions are the same</h2>\n<p>Each of the "
-    ++ decimal count ++ codes " items is equal in both, byte for byte: so are the canonical logs.</p>\n"
+    codes "<section id=\"verdict\" class=\"good\">\n<h2><span aria-hidden=\"true\">=</span> The two sessions are the same</h2>\n<p>Items: "
+    ++ decimal count ++ codes ". Each is equal in both, byte for byte: so are the canonical logs.</p>\n"
+
+-- none of the two has an item: nothing was compared
+abbrev pub nothing_verdict : List ℕ
+nothing_verdict =
+    codes "<section id=\"verdict\" class=\"warn\">\n<h2><span aria-hidden=\"true\">!</span> Neither session has an item</h2>\n"
+    ++ codes "<p>Other identifiers may be meant: see <code>--tester</code> and <code>--unit</code>.</p>\n"
 
 -- that items before a difference are the same, where there are some
 abbrev pub same_before : ℕ → List ℕ
@@ -84,9 +90,9 @@ different_verdict first =
     ++ decimal (first.before + 1) ++ codes "</h2>\n<p>" ++ contrast_words first.pair first.how ++ codes " <a href=\"#difference\">See it.</a>"
     ++ same_before first.before ++ codes "</p>\n"
 
--- either
+-- by how many items there are, and their first difference
 abbrev pub verdict_by : ℕ → Option FirstContrast → List ℕ
-verdict_by count None = same_verdict count
+verdict_by count None = if count == 0 then nothing_verdict else same_verdict count
 verdict_by count (Some first) = different_verdict first
 
 -- why a recording is not clean
