@@ -15,7 +15,7 @@ use Rattle.trace_report.specs.Counts.{counts_text}
 use Rattle.trace_report.specs.Difference.{contrast_chart}
 use Rattle.trace_report.specs.Front.{identifiers_text, name_text, notice_with, page_start, shapes_text}
 use Rattle.trace_report.specs.Held.{pairs_in}
-use Rattle.trace_report.specs.Help.{help_text}
+use Rattle.trace_report.specs.Help.{pair_help_text}
 use Rattle.trace_report.specs.ItemRows.{pair_rows}
 use Rattle.trace_report.specs.Items.{ItemPair}
 use Rattle.trace_report.specs.Session.{SessionValue}
@@ -166,7 +166,7 @@ items_by title held pairs (Some first) =
 abbrev pub pair_body : PairTitleValue → Held → List ItemPair → Option FirstContrast → List ℕ
 pair_body title held pairs first =
     verdict_by (length pairs) first ++ sessions_text title held ++ codes "<main id=\"session\">\n" ++ items_by title held pairs first ++ codes "</main>\n"
-    ++ help_text
+    ++ pair_help_text
 
 -- the page of two logs that can be read
 abbrev pub held_page : PairTitleValue → Held → List ℕ
@@ -178,7 +178,7 @@ refused_pair title log why =
     pair_front title ++ codes "<section id=\"verdict\" class=\"bad\">\n<h2><span aria-hidden=\"true\">&#10005;</span> " ++ log_letter log
     ++ codes " is refused, so nothing is compared</h2>\n<p><em>" ++ refusal_words why
     ++ codes ".</em> A report of this log alone shows the lines before that.</p>\n</section>\n<main id=\"session\">\n<h2>Items</h2>\n<p>Nothing is compared.</p>\n</main>\n"
-    ++ help_text
+    ++ pair_help_text
 
 -- a line or the limit refuses the log; no other fault has a page
 abbrev pub has_page : Fault → Bool
