@@ -734,7 +734,7 @@ def told_answer(item):
 def place_of_item(session, item):
     """Where an item stands in a log."""
     begin, last = item.begin, item.answer or item.begin
-    time = f"{seconds(session.origin, begin.last.micros)} s"
+    time = f"{seconds(session.origin, begin.last.micros)}&#160;s"
     return f"<i>{', '.join([f'{session.letter}: line {lines_text(begin.first, last.last)}', time, *after_words(last)])}</i>"
 
 

@@ -367,7 +367,7 @@ def known_texts(cases):
         ]),
         ("an item that is the same", log_of(REQUEST, ANSWER), log_of("123#00", REQUEST, PENDING, ANSWER), [
             "<p>Items: 1. Each is equal in both, byte for byte",
-            "<i>A: line 1&#8211;2, 0.000000 s, after 1.000&#160;ms</i><i>B: line 2&#8211;4, 0.000000 s, after 2.000&#160;ms</i>",
+            "<i>A: line 1&#8211;2, 0.000000&#160;s, after 1.000&#160;ms</i><i>B: line 2&#8211;4, 0.000000&#160;s, after 2.000&#160;ms</i>",
             '<details class="b">\n<summary>From item 1</summary>\n',
         ]),
         ("no item and no item, whose frame is dropped", b"", log_of(UNKNOWN), [
