@@ -53,8 +53,8 @@ run: build
 check:
 	@scripts/check $(CRATE)
 
-# Tries the wrong bodies of attacks/, those of CRATE alone where it is given: the prover has to refuse each. Some 95 minutes
-# of one processor in all, and no part of `test`, which tries those of must-fail/.
+# Tries the wrong bodies of attacks/, those of CRATE alone where it is given: the prover has to refuse each. Some 100
+# minutes of one processor in all, and no part of `test`, which tries those of must-fail/.
 attack:
 	@scripts/attack $(CRATE)
 

@@ -78,6 +78,9 @@ def taken_by_each_job(cases, name, log, messages, text):
     Path("left.log").write_bytes(canonical)
     Path("right.log").write_bytes(log)
     cases.case(f"compare: {name}", cases.run(["compare", "left.log", "right.log"]), DONE, b"same\n")
+    with open("/dev/null", "wb") as nothing:
+        for logs in (["right.log"], ["left.log", "right.log"]):
+            cases.case(f"report of {len(logs)}: {name}", cases.run(["report", *logs], stdout=nothing), DONE)
 
 
 def messages_of_each_size(cases):

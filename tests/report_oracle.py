@@ -552,8 +552,7 @@ VERDICT = """\
 HELP = """\
 <footer id="help">
 <h2>How to read this page</h2>
-<p>The left line is the tester, the right line the unit. Each arrow is a message, however many frames carried it, in the order in \
-which the messages were complete. Times are in seconds from the first frame of the two identifiers, and those of a message are of \
+{shown}Times are in seconds from the first frame of the two identifiers, and those of a message are of \
 its last frame; <i>after</i> is the time from the last frame of the request to the first frame of the reply.</p>
 <dl class="legend">
 <div class="q"><dt>request</dt><dd>opens an item; its number is that of <code>udsnorm list</code></dd></div>
@@ -568,14 +567,20 @@ its last frame; <i>after</i> is the time from the last frame of the request to t
 <div class="x"><dt>ended, unfinished</dt><dd>a message of which not all frames came</dd></div>
 </dl>
 <p>Frames with other identifiers, padding, the interface, and flow control that is in its place mean nothing here. A message of which no frame was \
-recorded leaves no trace, also in a clean recording. Grey letters after the bytes are those same bytes as text. In a long session \
-the first ten blocks are open, and the others folded and brief.</p>
+recorded leaves no trace, also in a clean recording. Grey letters after the bytes are those same bytes as text.{blocks}</p>
 </footer>
 </div>
 <p id="end">End of the report.</p>
 </body>
 </html>
 """
+
+HELP_OF_ONE = HELP.format(
+    shown="""\
+<p>The left line is the tester, the right line the unit. Each arrow is a message, however many frames carried it, in the order in \
+which the messages were complete. """,
+    blocks=" In a long session the first ten blocks are open, and the others folded and brief.",
+)
 
 
 def page(log, name, refused=None, sides=SIDES):
@@ -598,7 +603,7 @@ def page(log, name, refused=None, sides=SIDES):
     )
     blocks = blocks_text(frames[0].micros if frames else 0, rows)
     stop = STOP.format(fault=refused.fault) if refused else ""
-    return f"{front_text(name, sides)}{blocks}{stop}{verdict}{HELP}".encode("ascii")
+    return f"{front_text(name, sides)}{blocks}{stop}{verdict}{HELP_OF_ONE}".encode("ascii")
 
 
 def front_text(name, sides):
@@ -729,7 +734,7 @@ def told_answer(item):
 def place_of_item(session, item):
     """Where an item stands in a log."""
     begin, last = item.begin, item.answer or item.begin
-    time = f"{seconds(session.origin, begin.last.micros)} s"
+    time = f"{seconds(session.origin, begin.last.micros)}&#160;s"
     return f"<i>{', '.join([f'{session.letter}: line {lines_text(begin.first, last.last)}', time, *after_words(last)])}</i>"
 
 
@@ -803,8 +808,24 @@ def part_of_item(row):
 SAME_VERDICT = """\
 <section id="verdict" class="good">
 <h2><span aria-hidden="true">=</span> The two sessions are the same</h2>
-<p>Each of the {count} items is equal in both, byte for byte: so are the canonical logs.</p>
+<p>Items: {count}. Each is equal in both, byte for byte: so are the canonical logs.</p>
 """
+
+NOTHING_VERDICT = """\
+<section id="verdict" class="warn">
+<h2><span aria-hidden="true">!</span> Neither session has an item</h2>
+<p>Other identifiers may be meant: see <code>--tester</code> and <code>--unit</code>.</p>
+"""
+
+HELP_OF_TWO = HELP.format(
+    shown="""\
+<p>A and B are the two logs. Items of one number stand side by side, or once where they are the same. Around the first that differ \
+two charts show each message and each dropped frame; where the difference is a byte or the end of a message, it has a mark. All \
+other items are folded, but for the first ones behind those.</p>
+<p>In a chart the left line is the tester, the right line the unit, and an arrow from one to the other is a message, however many \
+frames carried it, in the order in which the messages were complete. An item has the time of its first message. """,
+    blocks="",
+)
 
 DIFFERENT_VERDICT = """\
 <section id="verdict" class="warn">
@@ -853,7 +874,7 @@ def pair_page(left_log, right_log, left_name, right_name, sides=SIDES):
     items = items_text(left, right, numbers, first)
     sessions = "".join(session_text(session) for session in (left, right))
     main = f'<div class="two">\n{sessions}</div>\n</section>\n<main id="session">\n{items}</main>\n'
-    return f"{pair_front(left_name, right_name, sides)}{pair_verdict(left, right, numbers, first)}{main}{HELP}".encode("ascii"), first
+    return f"{pair_front(left_name, right_name, sides)}{pair_verdict(left, right, numbers, first)}{main}{HELP_OF_TWO}".encode("ascii"), first
 
 
 def pair_front(left_name, right_name, sides):
@@ -868,7 +889,7 @@ def lettered(letter, name):
 
 def pair_verdict(left, right, numbers, first):
     if first is None:
-        return SAME_VERDICT.format(count=len(numbers))
+        return SAME_VERDICT.format(count=len(numbers)) if numbers else NOTHING_VERDICT
     words = difference(item_at(left, first), item_at(right, first)).words
     before = " The items before it are the same." if first > 1 else ""
     return DIFFERENT_VERDICT.format(number=first, words=words, before=before)
@@ -912,7 +933,7 @@ def difference_text(left, right, first):
 
 def refused_pair(letter, fault, left_name, right_name, sides=SIDES):
     """The page of two logs of which one is refused."""
-    return f"{pair_front(left_name, right_name, sides)}{REFUSED_PAIR.format(letter=letter, fault=fault)}{HELP}".encode("ascii")
+    return f"{pair_front(left_name, right_name, sides)}{REFUSED_PAIR.format(letter=letter, fault=fault)}{HELP_OF_TWO}".encode("ascii")
 
 
 def pair_reported(left, right, limit=GIBIBYTE, sides=SIDES, names=(b"left.log", b"right.log"), is_strict=False):

@@ -160,7 +160,8 @@ def verdict_of(page):
     item = re.search(rb"</span> The two sessions differ, first at item (\d+)</h2>", page)
     if item:
         return b"different at item %s\n" % item[1]
-    return b"same\n" if b"</span> The two sessions are the same</h2>" in page else b""
+    same = (b"</span> The two sessions are the same</h2>", b"</span> Neither session has an item</h2>")
+    return b"same\n" if any(words in page for words in same) else b""
 
 
 def page_faults(page):
@@ -365,9 +366,14 @@ def known_texts(cases):
             "The stray messages differ first at byte 41: <b>its end</b> in A, <b>28</b> in B.",
         ]),
         ("an item that is the same", log_of(REQUEST, ANSWER), log_of("123#00", REQUEST, PENDING, ANSWER), [
-            '<p>Each of the 1 items is equal in both',
-            "<i>A: line 1&#8211;2, 0.000000 s, after 1.000&#160;ms</i><i>B: line 2&#8211;4, 0.000000 s, after 2.000&#160;ms</i>",
+            "<p>Items: 1. Each is equal in both, byte for byte",
+            "<i>A: line 1&#8211;2, 0.000000&#160;s, after 1.000&#160;ms</i><i>B: line 2&#8211;4, 0.000000&#160;s, after 2.000&#160;ms</i>",
             '<details class="b">\n<summary>From item 1</summary>\n',
+        ]),
+        ("no item and no item, whose frame is dropped", b"", log_of(UNKNOWN), [
+            '<section id="verdict" class="warn">\n<h2><span aria-hidden="true">!</span> Neither session has an item</h2>\n<p>Other identifiers may be meant',
+            "<b>No frame is of the tester or the unit.</b>",
+            "<h2>Items</h2>\n</main>\n",
         ]),
         ("an item more", log_of(REQUEST), log_of(REQUEST, SILENT, STRAY), [
             '<tr class="d"><th scope="row">3 <i>differs</i><td><i>no item</i><td><b>stray</b> <i>from the unit</i> <code>41</code>',

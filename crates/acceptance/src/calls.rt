@@ -28,7 +28,7 @@ const UNNUMBERED: ItemStyle = ItemStyle {
 };
 
 /// A vehicle identification number, read in five classic frames.
-const LOG: &str = "\
+pub(crate) const LOG: &str = "\
 (1700000000.000000) can0 7E0#0322F190
 (1700000000.012000) can0 7E8#101462F190574241
 (1700000000.012300) can0 7E0#300000
@@ -37,7 +37,7 @@ const LOG: &str = "\
 ";
 
 /// Its canonical log.
-const CANONICAL: &str = "\
+pub(crate) const CANONICAL: &str = "\
 (0000000000.000000) can0 7E0#0322F190CCCCCCCC
 (0000000000.001000) can0 7E8#101462F190574241
 (0000000000.002000) can0 7E0#300000CCCCCCCCCC
@@ -66,7 +66,7 @@ pub(crate) enum Call {
 }
 
 /// The tester 7E0 and the unit 7E8.
-fn sides() -> Result<Config, ConfigFault> {
+pub(crate) fn sides() -> Result<Config, ConfigFault> {
     Config::new(Id::Std(0x7E0), Id::Std(0x7E8), 1 << 30)
 }
 
@@ -88,7 +88,7 @@ pub(crate) fn answer_of<R: Read + Drop, W: Write + Drop>(
 }
 
 /// A reader of the session that gives a byte a call.
-fn byte_by_byte() -> Short<&'static [u8]> {
+pub(crate) fn byte_by_byte() -> Short<&'static [u8]> {
     Short {
         inner: LOG.as_bytes(),
         most: 1,
@@ -96,7 +96,7 @@ fn byte_by_byte() -> Short<&'static [u8]> {
 }
 
 /// The same until the read after a hundred bytes fails.
-fn failing() -> FailsAt<Short<&'static [u8]>> {
+pub(crate) fn failing() -> FailsAt<Short<&'static [u8]>> {
     FailsAt {
         inner: byte_by_byte(),
         after: Some(100),
@@ -119,7 +119,7 @@ fn assert_written<R: Read + Drop>(
 }
 
 /// A call has read the whole session.
-fn assert_session(rt: &impl Abort, answer: Result<Summary, Fault>) {
+pub(crate) fn assert_session(rt: &impl Abort, answer: Result<Summary, Fault>) {
     assert!(rt;
         matches!(
             answer,
@@ -153,7 +153,7 @@ fn assert_call(
 }
 
 /// A writer that takes a byte a call, and fails after fifty of them.
-fn full(alloc: Global) -> FailsAfter<Short<Vec<u8>>> {
+pub(crate) fn full(alloc: Global) -> FailsAfter<Short<Vec<u8>>> {
     FailsAfter {
         inner: Short {
             inner: Vec::new(alloc),

@@ -6,8 +6,8 @@
 //!
 //! `message_frames` also tries the lengths at which a message has a frame more, and `sizes` those at which a buffer may grow.
 //!
-//! `calls` takes a session through each call of the engine, over devices that only a test has. What whole logs become is tested
-//! over the built program, by `tests/sessions.py`.
+//! `calls` takes a session through each call of the engine, over devices that only a test has, and `pages` through each call that
+//! makes a page. What whole logs become is tested over the built program, by `tests/sessions.py` and `tests/report.py`.
 #![tactic(auto)]
 
 #[cfg(test)]
@@ -28,6 +28,8 @@ mod log_lines;
 mod message_frames;
 #[cfg(test)]
 mod message_kinds;
+#[cfg(test)]
+mod pages;
 #[cfg(test)]
 mod pairings;
 #[cfg(test)]

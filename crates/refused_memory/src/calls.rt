@@ -9,6 +9,7 @@ use std::io::{Error, ErrorKind, Result as IoResult, Write};
 use std::test::Fail;
 use trace_canon::{CompareFault, Comparison, Config, Fault, ItemStyle, Notation, Numbering};
 use trace_io::{Reading, Writing};
+use trace_report::PairTitle;
 use uds_exchange::{Item, Meaning, MessageSink, OrderFault, Orderer, Pairing};
 
 /// How often a call was made until it answered: again, where it was refused memory.
@@ -252,6 +253,141 @@ fn compared(alloc: Global, session: Session) -> Result<Made, Fail> {
         }
     }
     Err(REFUSED_AGAIN)?
+}
+
+#[test]
+fn report(rt: HostRuntime) -> Result<(), Fail> {
+    for session in SESSIONS {
+        tell(reported(rt.alloc(), session)?, session)?;
+    }
+    Ok(())
+}
+
+/// Writes the page of a session. Where that was refused memory, a front of the page was written.
+fn reported(alloc: Global, session: Session) -> Result<Made, Fail> {
+    let mut begun = Page::new();
+    for made in TRIES {
+        let mut log = Reading::new(session.log);
+        let mut writer = Writing::new(Page::new());
+        match trace_report::report(alloc, &config()?, "", b"log", &mut log, &mut writer) {
+            Err(Fault::Memory) => begun = writer.into_inner(),
+            answer => {
+                answer?;
+                let page = writer.into_inner();
+                page.assert_begins_with(begun.bytes())?;
+                page.assert_tells(b"The recording is clean")?;
+                return Ok(made);
+            }
+        }
+    }
+    Err(REFUSED_AGAIN)?
+}
+
+#[test]
+fn hold_two(rt: HostRuntime) -> Result<(), Fail> {
+    for session in SESSIONS {
+        tell(held(rt.alloc(), session)?, session)?;
+    }
+    Ok(())
+}
+
+/// Holds the log of a session and its canonical log, and writes the page of both. Where they were refused memory, there is none.
+fn held(alloc: Global, session: Session) -> Result<Made, Fail> {
+    let title = PairTitle {
+        style: "",
+        left: b"log",
+        right: b"canonical",
+        tester: Id::Std(0x7E0),
+        unit: Id::Std(0x7E8),
+    };
+    for made in TRIES {
+        let mut log = Reading::new(session.log);
+        let mut canonical = Reading::new(session.canonical);
+        let answer = trace_report::hold_two(alloc, &config()?, &mut log, &mut canonical);
+        let mut writer = Writing::new(Page::new());
+        trace_report::write_pair_page(&title, &answer, &mut writer)?;
+        let page = writer.into_inner();
+        match answer {
+            Err(CompareFault::Left(Fault::Memory) | CompareFault::Right(Fault::Memory)) => {
+                if !page.bytes().is_empty() {
+                    Err("a page of nothing")?
+                }
+            }
+            Ok(held) if held.comparison() == Comparison::Same => {
+                page.assert_tells(b"The two sessions are the same")?;
+                return Ok(made);
+            }
+            _ => Err("not the same")?,
+        }
+    }
+    Err(REFUSED_AGAIN)?
+}
+
+/// More bytes than a page of a session has.
+const PAGE: usize = 32_768;
+
+/// What was written of a page, in memory that no call is asked for.
+#[derive(Drop)]
+struct Page {
+    bytes: [u8; PAGE],
+    len: usize,
+}
+
+impl Page {
+    fn new() -> Page {
+        Page {
+            bytes: [0; PAGE],
+            len: 0,
+        }
+    }
+
+    fn bytes(&self) -> &[u8] {
+        self.bytes.get(..self.len).unwrap_or(&[])
+    }
+
+    fn assert_begins_with(&self, front: &[u8]) -> Result<(), Fail> {
+        if self.bytes().starts_with(front) {
+            Ok(())
+        } else {
+            Err("no front of the page")?
+        }
+    }
+
+    /// It is whole, and has these words in it.
+    fn assert_tells(&self, words: &[u8]) -> Result<(), Fail> {
+        self.assert_begins_with(b"<!doctype html>\n")?;
+        if !self.bytes().ends_with(b"</body>\n</html>\n") {
+            Err("the page breaks off")?
+        }
+        for start in 0..self.len {
+            if self
+                .bytes
+                .get(start..self.len)
+                .unwrap_or(&[])
+                .starts_with(words)
+            {
+                return Ok(());
+            }
+        }
+        Err("the page does not say so")?
+    }
+}
+
+impl Write for Page {
+    fn write(&mut self, piece: &[u8]) -> IoResult<usize> {
+        for byte in piece {
+            match self.bytes.get_mut(self.len) {
+                Some(place) => *place = *byte,
+                None => return Err(Error::from(ErrorKind::WriteZero)),
+            }
+            self.len = self.len.saturating_add(1);
+        }
+        Ok(piece.len())
+    }
+
+    fn flush(&mut self) -> IoResult<()> {
+        Ok(())
+    }
 }
 
 /// What is still to be written of a text. Other bytes are refused, so that what was written is a front of it.

@@ -1,12 +1,29 @@
 -- The end of a report: how to read it, and the sign that it is whole. All of it is fixed.
 use Rattle.std.specs.Prelude.{ℕ, List, ◌++◌, codes}
 
+-- its heading
+abbrev pub help_heading : List ℕ
+help_heading = codes "<footer id=\"help\">\n<h2>How to read this page</h2>\n"
+
+-- which times are told
+abbrev pub times_words : List ℕ
+times_words =
+    codes "Times are in seconds from the first frame of the two identifiers, and those of a message are of its last frame; <i>after</i> is the time from the last frame of the request to the first frame of the reply.</p>\n"
+
 -- what a page shows, in words
 abbrev pub help_start : List ℕ
 help_start =
-    codes "<footer id=\"help\">\n<h2>How to read this page</h2>\n"
+    help_heading
     ++ codes "<p>The left line is the tester, the right line the unit. Each arrow is a message, however many frames carried it, in the order in which the messages were complete. "
-    ++ codes "Times are in seconds from the first frame of the two identifiers, and those of a message are of its last frame; <i>after</i> is the time from the last frame of the request to the first frame of the reply.</p>\n"
+    ++ times_words
+
+-- and what a page of two logs does
+abbrev pub pair_help_start : List ℕ
+pair_help_start =
+    help_heading
+    ++ codes "<p>A and B are the two logs. Items of one number stand side by side, or once where they are the same. Around the first that differ two charts show each message and each dropped frame; where the difference is a byte or the end of a message, it has a mark. All other items are folded, but for the first ones behind those.</p>\n"
+    ++ codes "<p>In a chart the left line is the tester, the right line the unit, and an arrow from one to the other is a message, however many frames carried it, in the order in which the messages were complete. An item has the time of its first message. "
+    ++ times_words
 
 -- what each row is
 abbrev pub legend_text : List ℕ
@@ -27,12 +44,20 @@ legend_text =
 abbrev pub limits_text : List ℕ
 limits_text =
     codes "<p>Frames with other identifiers, padding, the interface, and flow control that is in its place mean nothing here. A message of which no frame was recorded leaves no trace, also in a clean recording. "
-    ++ codes "Grey letters after the bytes are those same bytes as text. In a long session the first ten blocks are open, and the others folded and brief.</p>\n</footer>\n"
+    ++ codes "Grey letters after the bytes are those same bytes as text."
 
--- the sign that the page is whole, which hides the notice of its front
+-- which blocks are folded
+abbrev pub blocks_words : List ℕ
+blocks_words = codes " In a long session the first ten blocks are open, and the others folded and brief."
+
+-- the end of that, and the sign that the page is whole, which hides the notice of its front
 abbrev pub tail_text : List ℕ
-tail_text = codes "</div>\n<p id=\"end\">End of the report.</p>\n</body>\n</html>\n"
+tail_text = codes "</p>\n</footer>\n</div>\n<p id=\"end\">End of the report.</p>\n</body>\n</html>\n"
 
 -- the end of a page
 abbrev pub help_text : List ℕ
-help_text = help_start ++ legend_text ++ limits_text ++ tail_text
+help_text = help_start ++ legend_text ++ limits_text ++ blocks_words ++ tail_text
+
+-- of two logs
+abbrev pub pair_help_text : List ℕ
+pair_help_text = pair_help_start ++ legend_text ++ limits_text ++ tail_text

@@ -41,11 +41,12 @@ told_item item = told_message item.begin ++ told_reply_if (is_request_role item.
 abbrev pub last_message : PlacedItem → PlacedMessage
 last_message item = unwrap_or item.answer item.begin
 
--- when an item was: its lines in this log, the time of its first message since the first frame, and how long after that its answer came
+-- when an item was: its lines in this log, the time of its first message since the first frame, from whose unit no line break parts it,
+-- and how long after that its answer came
 abbrev pub item_note : LogName → ℕ → PlacedMessage → PlacedMessage → List ℕ
 item_note log origin begin last =
     codes "<i>" ++ log_letter log ++ codes ": line " ++ lines_text begin.place.first.line last.place.last.line ++ codes ", "
-    ++ seconds_between origin begin.place.last.micros ++ codes " s" ++ further_note (asked_at last.role) last.place.first.micros ++ codes "</i>"
+    ++ seconds_between origin begin.place.last.micros ++ codes "&#160;s" ++ further_note (asked_at last.role) last.place.first.micros ++ codes "</i>"
 
 -- of an item
 abbrev pub note_of : LogName → ℕ → PlacedItem → List ℕ

@@ -15,7 +15,7 @@ use Rattle.trace_report.specs.Counts.{counts_text}
 use Rattle.trace_report.specs.Difference.{contrast_chart}
 use Rattle.trace_report.specs.Front.{identifiers_text, name_text, notice_with, page_start, shapes_text}
 use Rattle.trace_report.specs.Held.{pairs_in}
-use Rattle.trace_report.specs.Help.{help_text}
+use Rattle.trace_report.specs.Help.{pair_help_text}
 use Rattle.trace_report.specs.ItemRows.{pair_rows}
 use Rattle.trace_report.specs.Items.{ItemPair}
 use Rattle.trace_report.specs.Session.{SessionValue}
@@ -70,8 +70,14 @@ pair_front title = pair_head title ++ shapes_text ++ pair_header title
 -- the two sessions are the same, with so many items
 abbrev pub same_verdict : ℕ → List ℕ
 same_verdict count =
-    codes "<section id=\"verdict\" class=\"good\">\n<h2><span aria-hidden=\"true\">=</span> The two sessions are the same</h2>\n<p>Each of the "
-    ++ decimal count ++ codes " items is equal in both, byte for byte: so are the canonical logs.</p>\n"
+    codes "<section id=\"verdict\" class=\"good\">\n<h2><span aria-hidden=\"true\">=</span> The two sessions are the same</h2>\n<p>Items: "
+    ++ decimal count ++ codes ". Each is equal in both, byte for byte: so are the canonical logs.</p>\n"
+
+-- none of the two has an item: nothing was compared
+abbrev pub nothing_verdict : List ℕ
+nothing_verdict =
+    codes "<section id=\"verdict\" class=\"warn\">\n<h2><span aria-hidden=\"true\">!</span> Neither session has an item</h2>\n"
+    ++ codes "<p>Other identifiers may be meant: see <code>--tester</code> and <code>--unit</code>.</p>\n"
 
 -- that items before a difference are the same, where there are some
 abbrev pub same_before : ℕ → List ℕ
@@ -84,9 +90,9 @@ different_verdict first =
     ++ decimal (first.before + 1) ++ codes "</h2>\n<p>" ++ contrast_words first.pair first.how ++ codes " <a href=\"#difference\">See it.</a>"
     ++ same_before first.before ++ codes "</p>\n"
 
--- either
+-- by how many items there are, and their first difference
 abbrev pub verdict_by : ℕ → Option FirstContrast → List ℕ
-verdict_by count None = same_verdict count
+verdict_by count None = if count == 0 then nothing_verdict else same_verdict count
 verdict_by count (Some first) = different_verdict first
 
 -- why a recording is not clean
@@ -160,7 +166,7 @@ items_by title held pairs (Some first) =
 abbrev pub pair_body : PairTitleValue → Held → List ItemPair → Option FirstContrast → List ℕ
 pair_body title held pairs first =
     verdict_by (length pairs) first ++ sessions_text title held ++ codes "<main id=\"session\">\n" ++ items_by title held pairs first ++ codes "</main>\n"
-    ++ help_text
+    ++ pair_help_text
 
 -- the page of two logs that can be read
 abbrev pub held_page : PairTitleValue → Held → List ℕ
@@ -172,7 +178,7 @@ refused_pair title log why =
     pair_front title ++ codes "<section id=\"verdict\" class=\"bad\">\n<h2><span aria-hidden=\"true\">&#10005;</span> " ++ log_letter log
     ++ codes " is refused, so nothing is compared</h2>\n<p><em>" ++ refusal_words why
     ++ codes ".</em> A report of this log alone shows the lines before that.</p>\n</section>\n<main id=\"session\">\n<h2>Items</h2>\n<p>Nothing is compared.</p>\n</main>\n"
-    ++ help_text
+    ++ pair_help_text
 
 -- a line or the limit refuses the log; no other fault has a page
 abbrev pub has_page : Fault → Bool

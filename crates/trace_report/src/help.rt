@@ -1,5 +1,5 @@
 //! The end of a report: how to read it, and the sign that it is whole.
-ghost use Rattle.trace_report.specs.Help.{help_start, help_text, legend_text, limits_text, tail_text};
+ghost use Rattle.trace_report.specs.Help.{blocks_words, help_heading, help_start, help_text, legend_text, limits_text, pair_help_start, pair_help_text, tail_text, times_words};
 
 use trace_canon::TextSink;
 use trace_canon::say::say_text;
@@ -11,6 +11,17 @@ pub(crate) fn say_help<S: TextSink>(out: &mut S)
     say_help_start(out);
     say_legend(out);
     say_limits(out);
+    say_blocks_words(out);
+    say_tail(out);
+}
+
+/// Says the end of a page of two logs.
+pub(crate) fn say_pair_help<S: TextSink>(out: &mut S)
+    ensures { S.says out.old pair_help_text out.new }
+{
+    say_pair_help_start(out);
+    say_legend(out);
+    say_limits(out);
     say_tail(out);
 }
 
@@ -18,14 +29,44 @@ pub(crate) fn say_help<S: TextSink>(out: &mut S)
 fn say_help_start<S: TextSink>(out: &mut S)
     ensures { S.says out.old help_start out.new }
 {
-    say_text(
-        out,
-        "<footer id=\"help\">\n<h2>How to read this page</h2>\n",
-    );
+    say_help_heading(out);
     say_text(
         out,
         "<p>The left line is the tester, the right line the unit. Each arrow is a message, however many frames carried it, in the order in which the messages were complete. ",
     );
+    say_times_words(out);
+}
+
+/// Says what a page of two logs shows.
+fn say_pair_help_start<S: TextSink>(out: &mut S)
+    ensures { S.says out.old pair_help_start out.new }
+{
+    say_help_heading(out);
+    say_text(
+        out,
+        "<p>A and B are the two logs. Items of one number stand side by side, or once where they are the same. Around the first that differ two charts show each message and each dropped frame; where the difference is a byte or the end of a message, it has a mark. All other items are folded, but for the first ones behind those.</p>\n",
+    );
+    say_text(
+        out,
+        "<p>In a chart the left line is the tester, the right line the unit, and an arrow from one to the other is a message, however many frames carried it, in the order in which the messages were complete. An item has the time of its first message. ",
+    );
+    say_times_words(out);
+}
+
+/// Says the heading.
+fn say_help_heading<S: TextSink>(out: &mut S)
+    ensures { S.says out.old help_heading out.new }
+{
+    say_text(
+        out,
+        "<footer id=\"help\">\n<h2>How to read this page</h2>\n",
+    );
+}
+
+/// Says which times are told.
+fn say_times_words<S: TextSink>(out: &mut S)
+    ensures { S.says out.old times_words out.new }
+{
     say_text(
         out,
         "Times are in seconds from the first frame of the two identifiers, and those of a message are of its last frame; <i>after</i> is the time from the last frame of the request to the first frame of the reply.</p>\n",
@@ -89,7 +130,17 @@ fn say_limits<S: TextSink>(out: &mut S)
     );
     say_text(
         out,
-        "Grey letters after the bytes are those same bytes as text. In a long session the first ten blocks are open, and the others folded and brief.</p>\n</footer>\n",
+        "Grey letters after the bytes are those same bytes as text.",
+    );
+}
+
+/// Says which blocks are folded.
+fn say_blocks_words<S: TextSink>(out: &mut S)
+    ensures { S.says out.old blocks_words out.new }
+{
+    say_text(
+        out,
+        " In a long session the first ten blocks are open, and the others folded and brief.",
     );
 }
 
@@ -99,6 +150,6 @@ fn say_tail<S: TextSink>(out: &mut S)
 {
     say_text(
         out,
-        "</div>\n<p id=\"end\">End of the report.</p>\n</body>\n</html>\n",
+        "</p>\n</footer>\n</div>\n<p id=\"end\">End of the report.</p>\n</body>\n</html>\n",
     );
 }

@@ -324,7 +324,7 @@ fn say_item_note<S: TextSink>(
     say_lines(begin.place.first.line, last.place.last.line, out);
     say_text(out, ", ");
     say_seconds_between(origin, begin.place.last.micros, out);
-    say_text(out, " s");
+    say_text(out, "&#160;s");
     say_reply_note(last.role, last.place.first.micros, out);
     say_text(out, "</i>");
 }

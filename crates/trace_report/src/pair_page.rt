@@ -11,7 +11,7 @@ ghost use Rattle.trace_report.specs.proving.Pages.{pair_title_of};
 use crate::contrast::{LogName, say_log_letter};
 use crate::front::{say_identifiers, say_name, say_notice_with, say_page_start, say_shapes};
 use crate::held_session::Held;
-use crate::help::say_help;
+use crate::help::say_pair_help;
 use crate::pair_items::say_items;
 use crate::pair_verdict::{say_pair_verdict, say_sessions};
 use crate::verdict::say_refusal;
@@ -85,7 +85,7 @@ fn say_pair_body<S: TextSink>(title: &PairTitle<'_>, held: &Held, out: &mut S)
     say_text(out, "<main id=\"session\">\n");
     say_items(title, held, out);
     say_text(out, "</main>\n");
-    say_help(out);
+    say_pair_help(out);
 }
 
 /// Says the front of a page.
@@ -187,5 +187,5 @@ fn say_refused_pair<S: TextSink>(title: &PairTitle<'_>, log: LogName, why: Fault
         out,
         ".</em> A report of this log alone shows the lines before that.</p>\n</section>\n<main id=\"session\">\n<h2>Items</h2>\n<p>Nothing is compared.</p>\n</main>\n",
     );
-    say_help(out);
+    say_pair_help(out);
 }

@@ -1,9 +1,9 @@
 //! The verdict of a page of two logs, and what was found of each of them.
-ghost use Rattle.std.specs.Prelude.{◌≡◌, length};
+ghost use Rattle.std.specs.Prelude.{◌≡◌, None, length};
 ghost use Rattle.trace_report.specs.Contrast.{first_contrast};
 ghost use Rattle.trace_report.specs.Counts.{counts_text};
 ghost use Rattle.trace_report.specs.Held.{pairs_in};
-ghost use Rattle.trace_report.specs.PairPage.{different_verdict, same_before, same_verdict, session_text, sessions_text, state_text, unclean_state, verdict_by};
+ghost use Rattle.trace_report.specs.PairPage.{different_verdict, nothing_verdict, same_before, same_verdict, session_text, sessions_text, state_text, unclean_state, verdict_by};
 ghost use Rattle.trace_report.specs.Sorts.{counts_in};
 ghost use Rattle.trace_report.specs.Verdict.{span_of};
 ghost use Rattle.trace_report.specs.proving.Holding.{contrast_found};
@@ -18,28 +18,53 @@ use crate::verdict::{say_span_of, say_unclean_reason};
 use trace_canon::say::{say_number, say_place, say_text};
 use trace_canon::{Summary, TextSink};
 
-/// Says whether the two sessions are the same.
+/// Says whether the two sessions are the same, if they have items.
 pub(crate) fn say_pair_verdict<S: TextSink>(held: &Held, out: &mut S)
     ensures { S.says out.old (verdict_by (length (pairs_in held.now)) (first_contrast (pairs_in held.now))) out.new }
 {
     match first_difference(held) {
-        None => say_same_verdict(count_numbers(held), out),
+        None => say_verdict_of_same(count_numbers(held), out),
         Some(found) => say_different_verdict(&found, out),
     }
 }
 
-/// Says that they are, with so many items.
+/// Says that they don't differ, with so many items.
+fn say_verdict_of_same<S: TextSink>(count: usize, out: &mut S)
+    ensures { S.says out.old (verdict_by count None) out.new }
+{
+    if count == 0 {
+        say_nothing_verdict(out);
+    } else {
+        say_same_verdict(count, out);
+    }
+}
+
+/// Says that none of the two has an item.
+fn say_nothing_verdict<S: TextSink>(out: &mut S)
+    ensures { S.says out.old nothing_verdict out.new }
+{
+    say_text(
+        out,
+        "<section id=\"verdict\" class=\"warn\">\n<h2><span aria-hidden=\"true\">!</span> Neither session has an item</h2>\n",
+    );
+    say_text(
+        out,
+        "<p>Other identifiers may be meant: see <code>--tester</code> and <code>--unit</code>.</p>\n",
+    );
+}
+
+/// Says that they are the same, with so many items.
 fn say_same_verdict<S: TextSink>(count: usize, out: &mut S)
     ensures { S.says out.old (same_verdict count) out.new }
 {
     say_text(
         out,
-        "<section id=\"verdict\" class=\"good\">\n<h2><span aria-hidden=\"true\">=</span> The two sessions are the same</h2>\n<p>Each of the ",
+        "<section id=\"verdict\" class=\"good\">\n<h2><span aria-hidden=\"true\">=</span> The two sessions are the same</h2>\n<p>Items: ",
     );
     say_number(out, count as u64);
     say_text(
         out,
-        " items is equal in both, byte for byte: so are the canonical logs.</p>\n",
+        ". Each is equal in both, byte for byte: so are the canonical logs.</p>\n",
     );
 }
 

@@ -6,4 +6,4 @@ returns g c =
     c.say_text.ensures)
     c.say_items.ensures)
     c.say_text-2.ensures)
-    c.say_help.ensures
+    c.say_pair_help.ensures

@@ -7,4 +7,4 @@ returns g c =
     c.say_text-2.ensures)
     c.say_refusal.ensures)
     c.say_text-3.ensures)
-    c.say_help.ensures
+    c.say_pair_help.ensures

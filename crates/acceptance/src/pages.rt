@@ -1,0 +1,176 @@
+//! A session through each call of `trace_report`, over devices that only a test has. What whole pages are is tested over the built
+//! program, by `tests/report.py` and `tests/report_pairs.py`.
+
+use crate::calls::{CANONICAL, LOG, assert_session, byte_by_byte, failing, full, sides};
+use crate::rows::assert_front;
+use can_log::Id;
+use std::alloc::Global;
+use std::io::{Read, Write};
+use std::process::Abort;
+use std::test::Fail;
+use trace_canon::{CompareFault, Comparison, ConfigFault, Fault, Summary};
+use trace_io::{Reading, Source, Target, Writing};
+use trace_report::{Held, PairTitle, hold_two, report, write_pair_page};
+
+/// A log of the same request, and of nothing else.
+const REQUEST: &str = "(0.000000) can0 7E0#0322F190\n";
+
+const TITLE: PairTitle<'static> = PairTitle {
+    style: "",
+    left: b"log",
+    right: b"canonical",
+    tester: Id::Std(0x7E0),
+    unit: Id::Std(0x7E8),
+};
+
+/// What `report` answers over this reader, and the writer as it left it.
+fn reported<R: Read + Drop, W: Write + Drop>(
+    alloc: Global,
+    reader: R,
+    writer: W,
+) -> Result<(Result<Summary, Fault>, Writing<W>), ConfigFault> {
+    let (mut reader, mut writer) = (Reading::new(reader), Writing::new(writer));
+    let answer = report(alloc, &sides()?, "", b"log", &mut reader, &mut writer);
+    Ok((answer, writer))
+}
+
+/// What both of these logs say, and how many reads of the right one were made.
+pub(crate) fn held<A: Read + Drop, B: Read + Drop>(
+    alloc: Global,
+    left: A,
+    right: B,
+) -> Result<(Result<Held, CompareFault>, u64), ConfigFault> {
+    let (mut left, mut right) = (Reading::new(left), Reading::new(right));
+    let answer = hold_two(alloc, &sides()?, &mut left, &mut right);
+    Ok((answer, right.reads()))
+}
+
+/// What was written of a page.
+fn page_in(writer: Writing<Vec<u8>>) -> Result<String, Fail> {
+    Ok(String::from_utf8(writer.into_inner())?)
+}
+
+/// The page of what is answered of these logs.
+fn page_of_two(alloc: Global, left: &str, right: &str) -> Result<String, Fail> {
+    let (answer, _) = held(alloc, left.as_bytes(), right.as_bytes())?;
+    let mut writer = Writing::new(Vec::new(alloc));
+    write_pair_page(&TITLE, &answer, &mut writer)?;
+    page_in(writer)
+}
+
+/// The page is whole, and has each of these texts, from one to the next.
+fn assert_page(rt: &impl Abort, page: &str, texts: &[&str]) {
+    assert!(rt; page.starts_with("<!doctype html>\n") && page.ends_with("</body>\n</html>\n"));
+    let mut rest = page;
+    for text in texts {
+        match rest.split_once(*text) {
+            Some((_, behind)) => rest = behind,
+            None => assert!(rt; false, "{text}"),
+        }
+    }
+}
+
+/// The rows of a page, and then its verdict.
+const SHOWN: [&str; 4] = [
+    "<b>ReadDataByIdentifier</b> <i>request</i> <code>22 F1 90</code>",
+    "<code>62 F1 90 57 42 41 33 41 35 43 35 30 45 46 31 32 33 34 35 36</code>",
+    "20 bytes in 3 frames, after 12.000&#160;ms",
+    "The recording is clean",
+];
+
+#[test]
+fn a_session_has_its_page(rt: HostRuntime) -> Result<(), Fail> {
+    let alloc = rt.alloc();
+    let (answer, writer) = reported(alloc, LOG.as_bytes(), Vec::new(alloc))?;
+    assert_session(&rt, answer);
+    let page = page_in(writer)?;
+    assert_page(&rt, &page, &SHOWN);
+    let (answer, writer) = reported(alloc, byte_by_byte(), Vec::new(alloc))?;
+    assert_session(&rt, answer);
+    assert!(rt; page_in(writer)? == page);
+    let (answer, writer) = reported(alloc, LOG.as_bytes(), full(alloc))?;
+    assert!(rt; answer == Err(Fault::Write) && writer.failures() == 1);
+    assert_front(&rt, writer.into_inner().inner.inner.as_slice(), &page, 50);
+    let (answer, writer) = reported(alloc, failing(), Vec::new(alloc))?;
+    assert!(rt; answer == Err(Fault::Read));
+    let begun = page_in(writer)?;
+    assert!(rt; page.starts_with(begun.as_str()) && begun.contains(SHOWN[0]));
+    assert!(rt; !begun.contains(SHOWN[1]));
+    Ok(())
+}
+
+#[test]
+fn two_sessions_are_held(rt: HostRuntime) -> Result<(), Fail> {
+    let alloc = rt.alloc();
+    let (answer, reads) = held(alloc, LOG.as_bytes(), byte_by_byte())?;
+    let both = answer.or(Err("not held"))?;
+    assert!(rt; both.comparison() == Comparison::Same && reads == 213);
+    assert!(rt; both.left.summary().frames == 5 && both.right.summary().messages == 2);
+    let (answer, _) = held(alloc, LOG.as_bytes(), REQUEST.as_bytes())?;
+    let both = answer.or(Err("not held"))?;
+    assert!(rt; both.comparison() == Comparison::Different { item: 0 });
+    assert!(rt; both.left.summary().messages == 2 && both.right.summary().messages == 1);
+    let (answer, reads) = held(alloc, failing(), byte_by_byte())?;
+    assert!(rt; answer.err() == Some(CompareFault::Left(Fault::Read)) && reads == 0);
+    let (answer, reads) = held(alloc, byte_by_byte(), failing())?;
+    assert!(rt; answer.err() == Some(CompareFault::Right(Fault::Read)) && reads == 101);
+    Ok(())
+}
+
+#[test]
+fn two_sessions_have_their_page(rt: HostRuntime) -> Result<(), Fail> {
+    let alloc = rt.alloc();
+    let page = page_of_two(alloc, LOG, CANONICAL)?;
+    assert_page(
+        &rt,
+        &page,
+        &[
+            "<title>log and canonical",
+            "The two sessions are the same",
+            "Items: 1.",
+            SHOWN[1],
+        ],
+    );
+    let page = page_of_two(alloc, "", "")?;
+    assert_page(&rt, &page, &["Neither session has an item"]);
+    let page = page_of_two(alloc, LOG, REQUEST)?;
+    assert_page(
+        &rt,
+        &page,
+        &[
+            "differ, first at item 1<",
+            "It is answered in A and not in B.",
+            SHOWN[1],
+            "no answer",
+        ],
+    );
+    let page = page_of_two(alloc, "x\n", REQUEST)?;
+    assert_page(
+        &rt,
+        &page,
+        &["A is refused", "line 1 column 1: not a log line"],
+    );
+    let page = page_of_two(alloc, REQUEST, "x\n")?;
+    assert_page(
+        &rt,
+        &page,
+        &["B is refused", "line 1 column 1: not a log line"],
+    );
+    Ok(())
+}
+
+#[test]
+fn two_sessions_whose_page_can_not_be_written(rt: HostRuntime) -> Result<(), Fail> {
+    let alloc = rt.alloc();
+    let page = page_of_two(alloc, LOG, CANONICAL)?;
+    let (answer, _) = held(alloc, LOG.as_bytes(), CANONICAL.as_bytes())?;
+    let mut writer = Writing::new(full(alloc));
+    let written = write_pair_page(&TITLE, &answer, &mut writer);
+    assert!(rt; written == Err(Fault::Write) && writer.failures() == 1);
+    assert_front(&rt, writer.into_inner().inner.inner.as_slice(), &page, 50);
+    let (answer, _) = held(alloc, failing(), LOG.as_bytes())?;
+    let mut writer = Writing::new(Vec::new(alloc));
+    write_pair_page(&TITLE, &answer, &mut writer)?;
+    assert!(rt; writer.into_inner().is_empty());
+    Ok(())
+}
