@@ -819,9 +819,9 @@ NOTHING_VERDICT = """\
 
 HELP_OF_TWO = HELP.format(
     shown="""\
-<p>A and B are the two logs. Items of one number stand side by side, or once where they are the same. Around the first that differ \
-two charts show each message and each dropped frame; where the difference is a byte or the end of a message, it has a mark. All \
-other items are folded, but for the first ones behind those.</p>
+<p>A and B are the two logs. Items of one number stand side by side, or once where they are the same. Two charts show each \
+message and each dropped frame around the first items that differ; where the difference is a byte or the end of a message, it has a \
+mark. All other items are folded, but for the first ones behind those.</p>
 <p>In a chart the left line is the tester, the right line the unit, and an arrow from one to the other is a message, however many \
 frames carried it, in the order in which the messages were complete. An item has the time of its first message. """,
     blocks="",

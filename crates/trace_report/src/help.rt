@@ -44,7 +44,7 @@ fn say_pair_help_start<S: TextSink>(out: &mut S)
     say_help_heading(out);
     say_text(
         out,
-        "<p>A and B are the two logs. Items of one number stand side by side, or once where they are the same. Around the first that differ two charts show each message and each dropped frame; where the difference is a byte or the end of a message, it has a mark. All other items are folded, but for the first ones behind those.</p>\n",
+        "<p>A and B are the two logs. Items of one number stand side by side, or once where they are the same. Two charts show each message and each dropped frame around the first items that differ; where the difference is a byte or the end of a message, it has a mark. All other items are folded, but for the first ones behind those.</p>\n",
     );
     say_text(
         out,
