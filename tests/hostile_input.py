@@ -7,6 +7,7 @@ Prints a line for each case, with what was measured, and ends with `N passed, M 
 """
 
 import itertools
+import math
 import os
 import re
 import sys
@@ -217,7 +218,8 @@ def pair_page_growth(cases):
 
 
 def pair_page_grown(cases, lines, others):
-    """How many bytes more a page of two logs has for each byte of both, where they go on with these lines."""
+    """How many bytes more a page of two logs has for each byte of both, where they go on with these lines; without end where there
+    is no such page."""
     lengths = []
     with tempfile.NamedTemporaryFile() as left:
         for number in (100, 200):
@@ -225,8 +227,9 @@ def pair_page_grown(cases, lines, others):
             left.seek(0)
             left.write(REQUEST * 1000 + lines * number)
             left.flush()
-            lengths.append(len(cases.run(["report", left.name, "/dev/stdin"], REQUEST * 1000 + others * number).output))
-    return Fraction(lengths[1] - lengths[0], 100 * len(lines + others))
+            found = cases.run(["report", left.name, "/dev/stdin"], REQUEST * 1000 + others * number)
+            lengths.append(len(found.output) if found.status in (DONE, DIFFERENT) else math.inf)
+    return math.inf if math.inf in lengths else Fraction(lengths[1] - lengths[0], 100 * len(lines + others))
 
 
 def drops(cases):
@@ -406,8 +409,8 @@ def memory_of_two(cases):
             holds_at_most(cases, words, f"{REQUEST!r} alone, with {name} on the right", right, 2 * MEANT * len(right), status)
         for line in [REQUEST, ONE_BYTE, CONSECUTIVE, REQUEST + ANSWER, FIRST + REQUEST, FIRST]:
             right = line * (MEASURED // len(line))
-            words = ["report", left.name, "/dev/stdin"]
-            holds_at_most(cases, words, f"{REQUEST!r} alone, with {line!r} on the right", right, ROWS * (len(log) + len(right)), DONE if line == REQUEST else DIFFERENT)
+            words, status = ["report", left.name, "/dev/stdin"], DONE if line == REQUEST else DIFFERENT
+            holds_at_most(cases, words, f"{REQUEST!r} alone, with {line!r} on the right", right, ROWS * len(log + right), status)
 
 
 def two_receptions():
