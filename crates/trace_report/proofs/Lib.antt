@@ -14,4 +14,8 @@ mod Agreeing
 mod PairTexts
 mod PairCounting
 mod FewPairs
+mod Distinct
+mod LineOrder
+mod RowTargets
+mod Identifiers
 pub mod Harmless

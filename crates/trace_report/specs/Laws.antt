@@ -1,7 +1,8 @@
 -- What holds of a page, whatever log it is of.
 use Prim.Native.Char.{code}
-use Rattle.std.specs.Prelude.{◌≡◌, ℕ, ◌==◌, ◌&&◌, not, Bool, true, List, map, nat_le, Ok}
+use Rattle.std.specs.Prelude.{◌≡◌, ◌≢◌, ℕ, ◌==◌, ◌<◌, ◌^◌, ◌&&◌, not, Bool, true, ⊤, List, [], ◌∷◌, length, map, nat_le, Option, Ok}
 use Rattle.std.specs.List.{AllByRecursion}
+use Rattle.can_log.specs.declared.frame.Stamped.{Stamped}
 use Rattle.isotp_receive.specs.declared.TheConstants.{MESSAGE_LIMIT}
 use Rattle.isotp_receive.specs.Trace.{Entry}
 use Rattle.isotp_receive.specs.Verdict.{messages}
@@ -9,11 +10,14 @@ use Rattle.uds_exchange.specs.Difference.{IsFirstDifference}
 use Rattle.uds_exchange.specs.Meaning.{meaning}
 use Rattle.trace_canon.specs.Compared.{Compares, difference}
 use Rattle.trace_canon.specs.Settings.{Settings}
+use Rattle.trace_canon.specs.Trace.{trace}
 use Rattle.trace_canon.specs.declared.comparing.Compared.{Compared}
 use Rattle.trace_report.specs.Contrast.{first_contrast}
+use Rattle.trace_report.specs.Events.{rows_of}
 use Rattle.trace_report.specs.Front.{name_text}
 use Rattle.trace_report.specs.Held.{HoldsTwo, comparison_by, comparison_in}
 use Rattle.trace_report.specs.Items.{PlacedItem, item_value, items_in, pairs_of}
+use Rattle.trace_report.specs.Linked.{HasEachTarget, identifiers_in}
 use Rattle.trace_report.specs.Page.{all_rows}
 use Rattle.trace_report.specs.Words.{letters}
 use Rattle.trace_report.specs.declared.held_session.Held.{Held}
@@ -30,6 +34,23 @@ NameIsHarmless = (name : List ℕ) → AllByRecursion (λ b. is_harmless b ≡ t
 -- and each letter that is shown for the bytes of a message
 abbrev pub LettersAreHarmless : Type 0
 LettersAreHarmless = (bytes : List ℕ) → AllByRecursion (λ b. is_harmless b ≡ true) (letters bytes)
+
+-- none of these is equal to one behind it
+abbrev pub AreDistinct : {X : Type 0} → List X → Type 0
+AreDistinct [] = ⊤
+AreDistinct (x ∷ rest) = AllByRecursion (λ later. x ≢ later) rest × AreDistinct rest
+
+-- each identifier stands once on the page of a log whose lines mean this: on that of the whole log, and on one that ends where the
+-- log is refused
+abbrev pub IdentifiersStandOnce : Type 0
+IdentifiersStandOnce = (settings : Settings) (meanings : List (Option Stamped)) → length meanings < 2 ^ 62
+    → AreDistinct (identifiers_in (all_rows MESSAGE_LIMIT (trace settings meanings)))
+    × AreDistinct (identifiers_in (rows_of MESSAGE_LIMIT (trace settings meanings)))
+
+-- and each link of its verdict leads to one of its rows
+abbrev pub LinksHaveTargets : Type 0
+LinksHaveTargets = (settings : Settings) (meanings : List (Option Stamped))
+    → HasEachTarget (all_rows MESSAGE_LIMIT (trace settings meanings)) × HasEachTarget (rows_of MESSAGE_LIMIT (trace settings meanings))
 
 -- what the page of two sessions says of their items is so: they are the same exactly if their values are, and else differ first where
 -- these do

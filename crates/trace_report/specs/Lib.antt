@@ -1,5 +1,6 @@
 pub mod Words
 pub mod Front
+pub mod Targets
 pub mod Rows
 pub mod Blocks
 pub mod Events
@@ -9,6 +10,7 @@ pub mod Counts
 pub mod Verdict
 pub mod Help
 pub mod Page
+pub mod Linked
 pub mod Items
 pub mod Contrast
 pub mod Marks

@@ -2,7 +2,9 @@
 use Rattle.std.specs.Prelude.{ℕ, ◌-◌, ◌==◌, ◌&&◌, Bool, List, [], ◌∷◌, ◌++◌, codes, nat_lt, if◌then◌else◌}
 use Rattle.std.specs.Fmt.{decimal}
 use Rattle.std.specs.List.{flat_map}
+use Rattle.direction.specs.declared.Dir.TheVariants as dir
 use Rattle.trace_report.specs.Sorts.{most_links}
+use Rattle.trace_report.specs.Targets.{identifier, of_item, of_line, of_side}
 use Rattle.trace_report.specs.declared.counts.SortCounts.{SortCounts}
 use Rattle.trace_report.specs.declared.links.Link.{Link}
 use Rattle.trace_report.specs.declared.links.Link.TheVariants as link
@@ -10,15 +12,17 @@ use Rattle.trace_report.specs.declared.tally.Tally.{Tally}
 
 -- a link to an item
 abbrev pub item_link : ℕ → List ℕ
-item_link number = codes "<a href=\"#i" ++ decimal number ++ codes "\">item " ++ decimal number ++ codes "</a>"
+item_link number = codes "<a href=\"#" ++ identifier (of_item number) ++ codes "\">item " ++ decimal number ++ codes "</a>"
 
 -- a link to a line
 abbrev pub line_link : ℕ → List ℕ
-line_link line = codes "<a href=\"#l" ++ decimal line ++ codes "\">line " ++ decimal line ++ codes "</a>"
+line_link number = codes "<a href=\"#" ++ identifier (of_line number) ++ codes "\">line " ++ decimal number ++ codes "</a>"
 
--- a link to what stands of a side at the end
+-- a link to what stands of a side at the end, by the number of the side
 abbrev pub side_link : ℕ → List ℕ
-side_link side = if side == 0 then codes "<a href=\"#et\">of the tester</a>" else codes "<a href=\"#eu\">of the unit</a>"
+side_link number =
+    if number == 0 then codes "<a href=\"#" ++ identifier (of_side dir.Tester) ++ codes "\">of the tester</a>"
+    else codes "<a href=\"#" ++ identifier (of_side dir.Unit) ++ codes "\">of the unit</a>"
 
 -- a link
 abbrev pub link_text : Link → ℕ → List ℕ

@@ -20,6 +20,7 @@ use Rattle.trace_report.specs.declared.row.MessagePlace.{MessagePlace}
 use Rattle.trace_report.specs.declared.row.MessageRole.{MessageRole}
 use Rattle.trace_report.specs.declared.row.MessageRole.TheVariants as role
 use Rattle.trace_canon.specs.ExplainText.{cause_text, reason_text}
+use Rattle.trace_report.specs.Targets.{identifier, of_item, of_line, of_side, side_text}
 use Rattle.trace_report.specs.Words.{brief_data, data_text, milliseconds_between, seconds_between}
 use Rattle.trace_canon.specs.Words.{direction_text, service_text, code_text}
 
@@ -35,11 +36,6 @@ pub data RowValue : Type 0 where
   ended : FramePlace → Ended → RowValue
   -- at the end of the log a reception stands: its direction, the line of its first frame, and the bytes that this announced
   unfinished : Dir → ℕ → ℕ → RowValue
-
--- the lifeline of a side
-abbrev pub side_text : Dir → List ℕ
-side_text dir.Tester = codes "t"
-side_text dir.Unit = codes "u"
 
 -- the end of an arrow: a head, a cross, or a bar
 abbrev pub arrow_text : Arrow → List ℕ
@@ -78,7 +74,7 @@ begins_item role.Stray = true
 
 -- the number of its item as the header of the row, to which links lead on a page of one log
 abbrev pub item_header : Bool → ℕ → List ℕ
-item_header true number = codes "\" id=\"i" ++ decimal number ++ codes "\"><th scope=\"row\">" ++ decimal number
+item_header true number = codes "\" id=\"" ++ identifier (of_item number) ++ codes "\"><th scope=\"row\">" ++ decimal number
 item_header false number = codes "\"><th scope=\"row\">" ++ decimal number
 
 -- and repeated
@@ -229,7 +225,7 @@ no_answer_row number silent = if silent then silent_row number else unanswered_r
 
 -- a line of the log, to which links lead
 abbrev pub line_target : ℕ → List ℕ
-line_target line = codes " id=\"l" ++ decimal line ++ codes "\""
+line_target number = codes " id=\"" ++ identifier (of_line number) ++ codes "\""
 
 -- unless those of this line lead to the row before
 abbrev pub target_unless : Bool → ℕ → List ℕ
@@ -287,7 +283,7 @@ ended_row linked origin place end =
 
 -- a side, to which links lead on a page of one log
 abbrev pub side_target : Bool → Dir → List ℕ
-side_target true d = codes " id=\"e" ++ side_text d ++ codes "\""
+side_target true d = codes " id=\"" ++ identifier (of_side d) ++ codes "\""
 side_target false d = []
 
 -- the row of a reception that stands at the end

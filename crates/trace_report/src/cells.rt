@@ -1,5 +1,6 @@
 //! The cells of a report's chart, in which words stand at the sender's side and an arrow fills the rest.
-ghost use Rattle.trace_report.specs.Rows.{arrow_text, cell_end, cell_front, side_text};
+ghost use Rattle.trace_report.specs.Rows.{arrow_text, cell_end, cell_front};
+ghost use Rattle.trace_report.specs.Targets.{side_text};
 
 use crate::row::Arrow;
 use direction::Dir;

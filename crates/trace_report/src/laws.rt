@@ -1,6 +1,6 @@
 //! What holds of a page, whatever log it is of. A law is its contract; a call does nothing.
 
-ghost use Rattle.trace_report.specs.Laws.{AgreesWithCompare, ComparisonIsOfItems, ItemsAreTheMeaning, LettersAreHarmless, NameIsHarmless};
+ghost use Rattle.trace_report.specs.Laws.{AgreesWithCompare, ComparisonIsOfItems, IdentifiersStandOnce, ItemsAreTheMeaning, LettersAreHarmless, LinksHaveTargets, NameIsHarmless};
 
 /// The name of a log opens and closes nothing on its page.
 pub fn name_is_harmless()
@@ -10,6 +10,16 @@ pub fn name_is_harmless()
 /// Nor do the letters that are shown for bytes of a message.
 pub fn letters_are_harmless()
     ensures { LettersAreHarmless }
+{}
+
+/// No two identifiers of a page are the same.
+pub fn identifiers_stand_once()
+    ensures { IdentifiersStandOnce }
+{}
+
+/// Each link of a verdict leads to a row.
+pub fn links_have_targets()
+    ensures { LinksHaveTargets }
 {}
 
 /// What the page of two sessions says of their items is so.

@@ -4,12 +4,12 @@ use Rattle.std.specs.Prelude.{slice_set}
 use Rattle.std.proofs.lemmas.Bool.{cases_Bool}
 use Rattle.direction.specs.Dir.{Message}
 use Rattle.uds_exchange.specs.Meaning.{ItemValue, exchange, stray, stray_of, is_tester_request, is_answer_to, is_pending_reply_to, meaning, flattened}
-use Rattle.uds_exchange.specs.Order.{held, early}
+use Rattle.uds_exchange.specs.Order.{has_exchange, held, held_in, early, open_request, open_request_in}
 use Rattle.uds_exchange.specs.Orderer.{OrdererValue, stands_after}
 use Rattle.uds_exchange.specs.proving.Pairing.{waiting, waiting_sid, join_by, join}
 use Rattle.uds_exchange.specs.OneMessage.{step_of}
 use Rattle.uds_exchange.specs.proving.Steps.{advance_for}
-use Rattle.uds_exchange.specs.Numbering.{step_after, number_by, number_after, CountsItems, advanced, number_in}
+use Rattle.uds_exchange.specs.Numbering.{step_after, number_by, number_after, items_with, CountsItems, advanced, number_in}
 use Rattle.uds_exchange.specs.declared.numbers.Numbers.{Numbers}
 use Rattle.uds_exchange.specs.declared.step.Step.{Step}
 use Rattle.uds_exchange.specs.declared.step.Step.TheVariants as step
@@ -18,14 +18,6 @@ use Rattle.uds_exchange.proofs.MustWait.{none-lost-in-order}
 use Rattle.uds_exchange.proofs.NextStep.{stands-is, stands-next}
 use Rattle.uds_exchange.proofs.OneMore.{meaning-append}
 use Rattle.uds_exchange.proofs.Waiting.{sid_of}
-
--- how many items there are after a message of which this becomes
-items_by : Step → ℕ → ℕ
-items_by (step.Request service) n = n + 1
-items_by step.Answer n = n
-items_by step.Removed n = n
-items_by step.Hold n = n + 1
-items_by step.Pass n = n + 1
 
 set-length : (its : List ItemValue) (i : ℕ) (item : ItemValue) → length (slice_set its i item) ≡ length its
 set-length [] i item = refl
@@ -36,8 +28,7 @@ one-longer : (its : List ItemValue) (item : ItemValue) → length (its ++ item �
 one-longer its item = length-append its (item ∷ [])
 
 join-by-length : (its : List ItemValue) (x : Message) (w : Option (ℕ × List ℕ)) → is_tester_request x ≡ false
-    → length (join_by w its x) ≡ items_by (step_of (sid_of w) x) (length its)
-unfolding items_by
+    → length (join_by w its x) ≡ items_with (step_of (sid_of w) x) (length its)
 join-by-length its x None r = rw r (one-longer its (stray_of x))
 join-by-length its x (Some w) r =
     elim (cases_Bool (is_answer_to w.1 x)) [
@@ -48,8 +39,7 @@ join-by-length its x (Some w) r =
       ]
     ]
 
-join-length : (its : List ItemValue) (x : Message) → length (join its x) ≡ items_by (step_of (waiting_sid its) x) (length its)
-unfolding items_by
+join-length : (its : List ItemValue) (x : Message) → length (join its x) ≡ items_with (step_of (waiting_sid its) x) (length its)
 join-length its x =
     elim (cases_Bool (is_tester_request x)) [
       | inl e ↦ rw e (one-longer its (exchange x.1 None))
@@ -59,9 +49,9 @@ join-length its x =
 pub step-is : (M : List Message) (x : Message) → step_of (waiting_sid (meaning M)) x ≡ step_after M x
 step-is M x = ap (λ (o : OrdererValue). step_of o.open_sid x) (sym (stands-is M))
 
-items-next : (M : List Message) (x : Message) → length (meaning (M ++ x ∷ [])) ≡ items_by (step_after M x) (length (meaning M))
+pub items-next : (M : List Message) (x : Message) → length (meaning (M ++ x ∷ [])) ≡ items_with (step_after M x) (length (meaning M))
 items-next M x =
-    ap length (meaning-append M x) ∙ join-length (meaning M) x ∙ ap (λ s. items_by s (length (meaning M))) (step-is M x)
+    ap length (meaning-append M x) ∙ join-length (meaning M) x ∙ ap (λ s. items_with s (length (meaning M))) (step-is M x)
 
 -- each item has a message, so that there are no more items than messages
 pub items-few : (its : List ItemValue) → length its ≤ length (flattened its)
@@ -73,13 +63,31 @@ items-few (stray d m ∷ its) = let rest = items-few its in omega arith
 few-items : (M : List Message) → length (meaning M) ≤ length M
 few-items M = let few = items-few (meaning M) in let all = none-lost M in omega arith
 
+-- where a request waits, it is an item before those that are held
+strays-long : (its : List ItemValue) → has_exchange its ≡ false → length (flattened its) ≡ length its
+strays-long [] none = refl
+strays-long (exchange r a ∷ its) none = cc
+strays-long (stray d m ∷ its) none = ap (λ n. suc n) (strays-long its none)
+
+held-fewer : (its : List ItemValue) (r : List ℕ) → open_request_in its ≡ Some r → length (held_in its) < length its
+held-fewer [] r waits = cc
+held-fewer (stray d m ∷ its) r waits = let rest = held-fewer its r waits in omega (arith, rest)
+held-fewer (exchange q (Some a) ∷ its) r waits = let rest = held-fewer its r waits in omega (arith, rest)
+held-fewer (exchange q None ∷ its) r waits =
+    elim (cases_Bool (has_exchange its)) [
+      | inl e ↦ (let rest = held-fewer its r (rw e at waits) in rw e (omega (arith, rest)))
+      | inr e ↦ (let long = strays-long its e in rw e (omega (arith, long)))
+    ]
+
+pub held_are_fewer : (M : List Message) (request : List ℕ) → open_request M ≡ Some request → length (held M) < length (meaning M)
+held_are_fewer M request waits = held-fewer (meaning M) request waits
+
 few-held : (M : List Message) → length (held M) ≤ length M
 few-held M = let both = length-append (early M) (held M) in let all = none-lost-in-order M in omega arith
 
 next-by : (s : Step) (M : List Message) (x : Message) (numbers : Numbers) → length M < 2 ^ 62 → CountsItems M numbers
-    → stands_after (M ++ x ∷ []) ≡ advance_for s (stands_after M) x → length (meaning (M ++ x ∷ [])) ≡ items_by s (length (meaning M))
+    → stands_after (M ++ x ∷ []) ≡ advance_for s (stands_after M) x → length (meaning (M ++ x ∷ [])) ≡ items_with s (length (meaning M))
     → CountsItems (M ++ x ∷ []) (advanced s numbers)
-unfolding items_by
 next-by (step.Request service) M x numbers few counts stands grown =
     let few_items = few-items M in let is = counts.items in record {
       waits = ap (λ (o : OrdererValue). o.open_sid) (sym stands);

@@ -35,6 +35,14 @@ number_by step.Pass M = next_number M
 abbrev pub number_after : List Message → Message → ℕ
 number_after M message = number_by (step_after M message) M
 
+-- how many items there are with one more message of which this becomes, where there were so many
+abbrev pub items_with : Step → ℕ → ℕ
+items_with (step.Request service) count = count + 1
+items_with step.Answer count = count
+items_with step.Removed count = count
+items_with step.Hold count = count + 1
+items_with step.Pass count = count + 1
+
 -- This is what is kept of these messages: which request waits, how many items there are, and how many strays are held.
 pub record CountsItems (M : List Message) (numbers : Numbers) : Type 0 where
   pub waits : numbers.open_sid ≡ option_map sid (open_request M)
