@@ -7,6 +7,7 @@ Prints a line for each case, with what was measured, and ends with `N passed, M 
 """
 
 import itertools
+import math
 import os
 import re
 import sys
@@ -51,6 +52,9 @@ LONGEST_PLACE_OBJECT = (
     '"start":"0.000000","end":"0.000000","message":"2C"}}\n'
 )
 
+# What a page of two logs has for each byte of strays that the other log has not, where numbers have four digits.
+STRAY_OF_TWO = Fraction(330 + 4 * 4, 22)
+
 # Who sends a message of each role.
 ROLES = {"request tester", "stray tester", "answer unit", "pending unit", "stray unit"}
 
@@ -60,6 +64,7 @@ FOURTEEN_BYTES = b"(0.000000) a 7E8##0000E" + b"11" * 14 + b"\n"
 REQUEST = b"(0.000000) a 7E0#012C\n"
 ANSWER = b"(0.000000) a 7E8#016C\n"
 LONG_REQUEST = b"(0.000000) a 7E0#072C000000000000\n"
+STRAY = b"(0.000000) a 7E0#016C\n"
 CONSECUTIVE = b"(0.000000) a 7E0#21\n"
 SHORT_FIRST = b"(0.000000) a 7E0#10\n"
 FIRST = b"(0.000000) a 7E0#10000000FFFF4142\n"
@@ -83,6 +88,9 @@ HELD = Fraction(17, 22)
 MEANT = Fraction(96, 22)
 
 FOUND = Fraction(100, 44)
+
+# Those of the rows of a log, of which a page of two logs holds both.
+ROWS = Fraction(240, 22)
 
 # Those of what a log means for each byte of its canonical log.
 MEANT_CANONICAL = Fraction(96, 46)
@@ -192,6 +200,36 @@ def page_grown(cases, lines):
     """How many bytes more a page has for each byte of its log, where that goes on with these lines."""
     one, other = (cases.run(["report"], REQUEST * 1000 + lines * number) for number in (100, 200))
     return Fraction(len(other.output) - len(one.output), 100 * len(lines))
+
+
+def pair_page_growth(cases):
+    """No lines of a log have more of a page of two logs, for each of their bytes, than strays that the other log has not: each has
+    a row in the chart of the difference, and one in the table behind it. The other log goes on with nothing, or with other
+    lines."""
+    most = pair_page_grown(cases, STRAY, b"")
+    wrong = [] if most == STRAY_OF_TWO else [f"not {STRAY_OF_TWO}"]
+    single = [b"", b"00", b"10", b"21", b"30", b"40", b"012C", b"016C", b"026C26", b"022C80", b"023E80", b"037F3178", b"300000"]
+    frames = [b"(0.000000) a %s#%s\n" % frame for frame in itertools.product((b"7E0", b"7E8"), single)]
+    more = [REQUEST + ANSWER, FIRST + REQUEST, FOURTEEN_BYTES, FIRST, FOREIGN, LONGEST]
+    for lines, other in itertools.product((*frames, *more), (b"", ONE_BYTE, SHORT_FIRST, REQUEST)):
+        grown = pair_page_grown(cases, lines, other)
+        wrong += [f"{lines!r} beside {other!r}: {float(grown):.2f}"] if grown > most else []
+    cases.report(f"report of two logs writes at most {float(most):.2f} bytes for each byte of {STRAY!r}", wrong)
+
+
+def pair_page_grown(cases, lines, others):
+    """How many bytes more a page of two logs has for each byte of both, where they go on with these lines; without end where there
+    is no such page."""
+    lengths = []
+    with tempfile.NamedTemporaryFile() as left:
+        for number in (100, 200):
+            left.truncate(0)
+            left.seek(0)
+            left.write(REQUEST * 1000 + lines * number)
+            left.flush()
+            found = cases.run(["report", left.name, "/dev/stdin"], REQUEST * 1000 + others * number)
+            lengths.append(len(found.output) if found.status in (DONE, DIFFERENT) else math.inf)
+    return math.inf if math.inf in lengths else Fraction(lengths[1] - lengths[0], 100 * len(lines + others))
 
 
 def drops(cases):
@@ -360,7 +398,8 @@ def watched_requests(cases):
 
 
 def memory_of_two(cases):
-    """What both logs of a comparison mean is held, up to their last items."""
+    """What both logs of a comparison mean is held, up to their last items, and of a page the rows of both. A line has most of them
+    where it is a request that has no answer."""
     log = REQUEST * (MEASURED // len(REQUEST))
     with tempfile.NamedTemporaryFile() as left:
         left.write(log)
@@ -368,6 +407,10 @@ def memory_of_two(cases):
         for name, right, status in [("as many", log, DONE), ("one more", log + REQUEST, DIFFERENT)]:
             words = ["compare", left.name, "/dev/stdin"]
             holds_at_most(cases, words, f"{REQUEST!r} alone, with {name} on the right", right, 2 * MEANT * len(right), status)
+        for line in [REQUEST, ONE_BYTE, CONSECUTIVE, REQUEST + ANSWER, FIRST + REQUEST, FIRST]:
+            right = line * (MEASURED // len(line))
+            words, status = ["report", left.name, "/dev/stdin"], DONE if line == REQUEST else DIFFERENT
+            holds_at_most(cases, words, f"{REQUEST!r} alone, with {line!r} on the right", right, ROWS * len(log + right), status)
 
 
 def two_receptions():
@@ -408,7 +451,7 @@ def main():
     if len(sys.argv) != 2:
         sys.exit(__doc__)
     cases = Cases(os.path.abspath(sys.argv[1]))
-    for test in [canonical_growth, longest_texts, page_growth, drops, places, longest_lines, one_line_of_error, memory, work]:
+    for test in [canonical_growth, longest_texts, page_growth, pair_page_growth, drops, places, longest_lines, one_line_of_error, memory, work]:
         test(cases)
     cases.end()
 
