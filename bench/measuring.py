@@ -1,6 +1,7 @@
 """What the scripts of this folder share: the programs, the logs, how a run is measured, and tables in markdown."""
 
 import pathlib
+import re
 import resource
 import shutil
 import subprocess
@@ -35,6 +36,16 @@ def build_rival():
     words = ["cargo", "build", "--release", "--offline", "--quiet", "--target-dir", "out"]
     subprocess.run(words, cwd=RIVAL_FOLDER, check=True)
     return True
+
+
+def commands():
+    """Those of the program over one log, as its help names them, and two as JSON."""
+    names = re.findall(r"^  ([a-z]+)  ", told_by("--help"), re.M)
+    return [*(name for name in names if " [LOG]" in told_by(name, "--help")), "list --json", "messages --json"]
+
+
+def told_by(*words):
+    return subprocess.run([UDSNORM, *words], capture_output=True, text=True, check=True).stdout
 
 
 def make_log(folder, megabytes, mix, foreign):

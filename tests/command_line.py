@@ -8,10 +8,12 @@ Prints a line for each case and ends with `N passed, M failed`; its status is 1 
 
 import difflib
 import os
+import re
 import sys
 import tempfile
 from pathlib import Path
 
+import commands
 import report_oracle
 from cases import DEVICE, DIFFERENT, DONE, REFUSAL, UNCLEAN, WORDS, Cases
 from counts import counts_line
@@ -27,7 +29,6 @@ LIST_JSON = b'{"item":1,"kind":"exchange","service":"ReadDataByIdentifier","requ
 EXPLANATION = counts_line(LOG, CANONICAL)
 PLACES = b"1 request tester lines 1 to 1 at 1700000000.000000 to 1700000000.000000 22F190\n"
 TEXTS = {"normalise": CANONICAL, "list": LIST, "watch": LIST, "explain": EXPLANATION, "messages": PLACES, "find": b""}
-JOBS = [*TEXTS, "report"]
 
 NO_LOG_LINE = b"(1.000000) can0 7E0#0\n"
 OVERSIZE = b"(1.000000) can0 7E8#1000001000004142\n"
@@ -141,13 +142,13 @@ HELPS = [
 def text_of(job, file=None):
     """What a job writes of the log, which is in this file where one is given. A page has its name."""
     name = report_oracle.STANDARD_INPUT if file is None else report_oracle.last_part(file.encode())
-    return report_oracle.page(LOG, name) if job == "report" else TEXTS[job]
+    return report_oracle.page(LOG, name) if job == "report" else TEXTS[job] if job in TEXTS else commands.ORACLES[job](LOG).written
 
 
 def jobs(cases):
     """Each job, over standard input and over a file, whose name may look like an option."""
     cases.case("no words", cases.run([], LOG), DONE, CANONICAL)
-    for job in JOBS:
+    for job in commands.over_one_log(cases.program):
         cases.case(f"{job} of standard input", cases.run([job], LOG), DONE, text_of(job))
         cases.case(f"{job} of a file", cases.run([job, "a.log"]), DONE, text_of(job, "a.log"))
     cases.case("a file named -", cases.run(["list", "-"], b""), DONE, LIST)
@@ -180,9 +181,7 @@ def options(cases):
 def strict_runs(cases):
     """A log has to be clean, which is told after its text; a refusal and a failed device come before that."""
     lacks_answer = b"not clean: frames 1 dropped 0 ended 0 unfinished 0, no frame of the unit\n"
-    for job in JOBS:
-        if job == "find":
-            continue
+    for job in commands.over_one_log(cases.program, "--strict"):
         cases.case(f"{job} --strict", cases.run([job, "--strict"], LOG), UNCLEAN, text_of(job), lacks_answer)
         cases.case(f"{job} of a file, --strict", cases.run([job, "clean.log", "--strict"]), DONE, None, b"")
     cases.case("--strict, a refused log", cases.run(["list", "--strict"], NO_LOG_LINE), REFUSAL, b"", BAD_PLACE)
@@ -297,7 +296,7 @@ def comparisons(cases):
 
 
 def files_that_fail(cases):
-    for job in JOBS:
+    for job in commands.over_one_log(cases.program):
         cases.case(f"{job} of a file that is not there", cases.run([job, "missing"]), DEVICE, b"", READ_FAILED)
         cases.case(f"{job} of a directory", cases.run([job, "."]), DEVICE, b"", READ_FAILED)
         cases.case(f"{job} of an empty name", cases.run([job, ""]), DEVICE, b"", READ_FAILED)
@@ -316,12 +315,13 @@ def path_of(size):
 
 def paths_of_each_size(cases):
     """A path is opened up to the longest one, and memory suffices for those beyond it."""
+    jobs = commands.over_one_log(cases.program)
     for size in sizes():
         path = path_of(size)
         if 0 < size < 7:
             Path(path).write_bytes(LOG)
         is_path = 0 < size < PATH_MAX
-        for job in JOBS:
+        for job in jobs:
             want = (DONE, text_of(job, path), b"") if is_path else (DEVICE, b"", READ_FAILED)
             cases.case(f"{job} of a path of {size} bytes", cases.run([job, path]), *want)
         for words, side in [([path, "a.log"], b"left: "), (["a.log", path], b"right: ")]:
@@ -342,9 +342,19 @@ def words_of_each_size(cases):
             cases.case(f"a limit of {size} digits", cases.run(["list", "--limit", "46".zfill(size), "a.log"]), DONE, LIST)
 
 
+def helps(cases):
+    """Words that ask for help, and lines of it. The help of each command begins as the program's has it, and ends with an example."""
+    of_program = commands.help_of(cases.program)
+    yield from HELPS
+    for command in commands.all_commands(cases.program):
+        about = re.search(rf"^  {command} +(.*)$", of_program, re.M)[1]
+        example = re.search(rf"^Example: .*udsnorm {command}\b.*\Z", commands.help_of(cases.program, command).rstrip("\n"), re.M)
+        yield [command, "--help"], [about.encode(), example[0].encode() if example else b"Example: .."]
+
+
 def help_texts(cases):
     """Each help begins with what the program or the command does, and fits on a screen."""
-    for words, lines in HELPS:
+    for words, lines in helps(cases):
         status, output, error = cases.run(words)
         told = output.split(b"\n")
         wrong = [] if status == DONE and not error else [f"status {status}, error output {error!r}"]

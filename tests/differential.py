@@ -4,7 +4,7 @@
     tests/differential.py crates/udsnorm/out/udsnorm [--seconds NUMBER] [--seed NUMBER]
 
 First examples/vin.log, 212 bytes, with each of its bytes replaced by each of seven bytes that a line may and may not have:
-1,484 logs, each through normalise, watch, explain, messages, report and find. Each is accepted, or refused at the place that the oracle finds by
+1,484 logs, each through each command over one log. Each is accepted, or refused at the place that the oracle finds by
 trying what could follow. Then, until the seconds are over, random ones: half of them are sessions whose frames are lost,
 repeated, exchanged and late; the others are made of a sample log or a session by changing bytes. Each of these goes through
 one of the jobs, with `--strict` or without it, half of them under a limit about the length of the log. The same seed gives the same runs; it is 1
@@ -22,8 +22,8 @@ import time
 from functools import partial
 from pathlib import Path
 
+import commands
 import oracle
-import report_oracle
 from runs import run
 from tables import EXAMPLES
 
@@ -32,25 +32,9 @@ MICROS = (0, 1, 1000, 999_999, 1_000_000, 1_000_001, -1, -1_000_000, 241, 97_000
 BYTES = b"\n\r (#_)RT0123456789ABCDEFabcdf.7E\xff\x00\x21\x7e"
 REPLACEMENTS = b"\0\n\r (F\xff"
 
-NO_NUMBERS = "list --no-numbers"
-LIST_JSON = "list --json"
-ORACLES = {
-    "normalise": oracle.outcome,
-    "list": oracle.listed,
-    NO_NUMBERS: partial(oracle.listed, write=partial(oracle.list_text, has_numbers=False)),
-    LIST_JSON: partial(oracle.listed, write=oracle.list_objects),
-    f"{LIST_JSON} --no-numbers": partial(oracle.listed, write=partial(oracle.list_objects, has_numbers=False)),
-    "watch": oracle.watched,
-    "watch --json": partial(oracle.watched, write=oracle.list_objects),
-    "explain": oracle.explained,
-    "explain --json": partial(oracle.explained, write=oracle.in_objects),
-    "messages": oracle.placed,
-    "messages --json": partial(oracle.placed, write=oracle.in_objects),
-    "report": report_oracle.reported,
-}
-FIND = {"find": oracle.found, "find --json": partial(oracle.found, write=oracle.pairs_objects)}
-ORACLES |= {f"{job} --strict": partial(oracle.strictly, came) for job, came in ORACLES.items()}
-ORACLES |= FIND
+# What each command comes to, also over a log that has to be clean: `find` alone has no such option.
+ORACLES = dict(commands.ORACLES)
+ORACLES |= {f"{job} --strict": partial(oracle.strictly, came) for job, came in ORACLES.items() if job.split()[0] != "find"}
 
 # The same over two logs.
 COMPARISONS = {
@@ -244,8 +228,9 @@ def unlike(words, log, found, came):
 
 
 def differences(program, logs):
-    """What is found of each of these logs by normalise, by watch, by explain, by messages, by report and by find."""
-    return (difference(program, job, log) for log in logs for job in ("normalise", "watch", "explain", "messages", "report", "find"))
+    """What is found of each of these logs by each command over one log."""
+    jobs = commands.over_one_log(program)
+    return (difference(program, job, log) for log in logs for job in jobs)
 
 
 def list_difference(program, log):

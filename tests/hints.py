@@ -17,6 +17,7 @@ import tty
 from pathlib import Path
 
 from cases import DEVICE, REFUSAL, UNCLEAN, WORDS, Cases
+from commands import over_one_log
 from runs import Ended
 from tables import EXAMPLES
 
@@ -192,7 +193,7 @@ def looks(cases, folder):
     ]:
         Path(folder, name).write_bytes(log)
         hinted(cases, f"a log as {name}", ["list", name], folder, REFUSAL, hint and f"{name} {hint}")
-    for job in ["normalise", "watch", "explain", "messages", "find"]:
+    for job in over_one_log(cases.program):
         hinted(cases, f"{job} of a compressed log", [job, "a.zst"], folder, REFUSAL, f"a.zst {zstandard}")
     hinted(cases, "a compressed standard input", ["list"], folder, REFUSAL, f"standard input {zstandard}", log=Path(folder, "a.zst").read_bytes())
     hinted(cases, "a compressed left log", ["compare", "a.zst", "mine.log"], folder, REFUSAL, f"a.zst {zstandard}")
@@ -220,7 +221,7 @@ def drops(cases, folder):
     hinted(cases, "a notice in the right log", ["compare", "mine.log", "notice.log"], folder, REFUSAL, hint.format(6))
     Path(folder, "lost.log").write_bytes(LOST.read_bytes())
     hint = "dropped frames in lost.log: 1; udsnorm explain shows where"
-    for job in ["normalise", "list", "watch", "messages"]:
+    for job in sorted({*over_one_log(cases.program)} - {"explain", "find"}):
         hinted(cases, f"{job} of a log with a dropped frame", [job, "lost.log"], folder, 0, hint)
     hinted(cases, "a log with a dropped frame that has to be clean", ["list", "--strict", "lost.log"], folder, UNCLEAN, hint)
     for given, status in [(["explain", "lost.log"], 0), (["find", "lost.log"], 0), (["compare", "lost.log", "mine.log"], 1)]:

@@ -15,11 +15,11 @@ import tempfile
 import time
 from fractions import Fraction
 
+import commands
 import oracle
-import report_oracle
 from cases import DIFFERENT, DONE, REFUSAL, Cases
 from counts import counts_line
-from runs import peak
+from runs import Ended, differences, peak
 from told import place
 
 # The lengths that a frame may have, and those that a first frame may have.
@@ -101,16 +101,8 @@ end: tester reception from line 1 of 1048575 bytes unfinished
 end: unit reception from line 2 of 1048575 bytes unfinished
 """
 
-# Logs of which normalise and list tell an error, and what the other jobs write of the last one.
+# Logs of which normalise and list tell an error; of the last one the other commands tell none.
 REFUSED_LOGS = [b"x", b"(", b"\n" * 1000 + b"\xff" * 1000, LONGEST + b"(1.0\n" * 1000, b"(0.000000) a 7E8#1000FFFFFFFF4142\n" * 1000]
-ANNOUNCED = {
-    "explain": b"".join(b"line %d: unit frame dropped: 4294967295 bytes announced\n" % line for line in range(1, 1001))
-    + counts_line(REFUSED_LOGS[4], dropped=1000),
-    "messages": b"",
-    "report": report_oracle.reported(REFUSED_LOGS[4]).written,
-    "find": b"",
-    "watch": b"",
-}
 
 
 def frame_line(identifier, data):
@@ -307,12 +299,13 @@ def longest_lines(cases):
 
 
 def one_line_of_error(cases):
-    for job in ["normalise", "list", "watch", "explain", "messages", "report", "find"]:
+    for job in commands.over_one_log(cases.program):
         for number, log in enumerate(REFUSED_LOGS):
-            status, text, error = cases.run([job], log)
-            is_told = number == 4 and (status, text, error) == (DONE, ANNOUNCED.get(job), b"")
-            is_line = status == REFUSAL and error.count(b"\n") == 1 and error.endswith(b"\n") and len(error) < 80
-            cases.report(f"{job} of refused log {number}: {error!r}", [] if is_told or is_line else [f"status {status}"])
+            came = commands.ORACLES[job](log)
+            told = f"{came.fault}\n".encode() if came.fault else b""
+            wrong = [] if len(told) < 80 else [f"{len(told)} bytes"]
+            wrong += differences("the run", cases.run([job], log), Ended(came.status, came.written, told))
+            cases.report(f"{job} of refused log {number}: {told!r}", wrong)
 
 
 def holds_at_most(cases, words, name, log, most, wanted):
@@ -376,7 +369,7 @@ def memory(cases):
     holds_at_most(cases, ["find"], "pairs of identifiers, each with one answer", pairs, FOUND * len(pairs), DONE)
     answered = (REQUEST + ANSWER) * (MEASURED // len(REQUEST + ANSWER))
     holds_at_most(cases, ["find"], "one pair with many answers", answered, 0, DONE)
-    for job in ["normalise", "watch", "explain", "messages", "report", "find"]:
+    for job in commands.over_one_log(cases.program):
         holds_at_most(cases, [job], "no log", b"", 0, DONE)
         holds_at_most(cases, [job], "two of the longest messages without their last frames", log, RECEPTION_BYTES, DONE)
     memory_of_two(cases)

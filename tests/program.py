@@ -17,6 +17,7 @@ import tempfile
 import tty
 from pathlib import Path
 
+import commands
 import oracle
 from cases import DEVICE, DIFFERENT, DONE, REFUSAL, WORDS, Cases
 from counts import counts_line
@@ -408,7 +409,10 @@ def each_fails(cases, refuser, name, words, kind, told, error=errno.EIO):
 def memory(cases):
     """A log of 100 MB through a pipe takes no more memory than a short one."""
     log, _ = long_log(1_000_000)
-    for job in ("normalise", "watch", "explain", "messages", "find"):
+    for job in commands.over_one_log(cases.program):
+        # What a log means is held, and a page is many times as long.
+        if job in ("list", "report"):
+            continue
         program = start(cases.program, [job], stdout=subprocess.DEVNULL, stderr=None)
         give(program, log, 100)
         peak = peak_kilobytes(program)

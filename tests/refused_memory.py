@@ -26,6 +26,7 @@ from itertools import groupby
 from pathlib import Path
 
 from cases import DONE, MEMORY, Cases
+from commands import over_one_log
 from refuser import GROWTH, Refuser
 from runs import run
 from tables import EXAMPLES
@@ -181,6 +182,17 @@ def the_program(cases, refuser, folder):
             job_refused(cases, refuser, f"{job} of {row}", [*words, *map(str, files)], begun[missing], told_of_job(job, numbers))
 
 
+def the_other_commands(cases, refuser):
+    """Those without a column, as what writes a page: each growth is told, over one log."""
+    columns = {job for growths in table(JOB_GROWTHS).values() for job in growths}
+    log = EXAMPLES / "both-directions.log"
+    for job in over_one_log(cases.program):
+        if job not in columns:
+            told = told_of_each(cases.program, refuser, [job, log])
+            holds = OUT_OF_MEMORY in told and are_of_words(told)
+            cases.report(f"{job} of {log.name}, each of {len(told)} growths refused", [] if holds else in_short(told))
+
+
 def build_calls(cases):
     """The tests of the calls of the libraries, proved and built."""
     words = ["rt", "test"]
@@ -224,6 +236,7 @@ def main():
     with tempfile.TemporaryDirectory() as folder:
         refuser = Refuser(folder)
         the_program(cases, refuser, Path(folder))
+        the_other_commands(cases, refuser)
         the_libraries(cases, refuser)
     cases.end()
 

@@ -21,6 +21,7 @@ import oracle
 import report_oracle
 import tables
 from cases import DIFFERENT, DONE, REFUSAL, UNCLEAN, WORDS, Cases
+from commands import over_one_log
 from counts import counts_in, counts_line
 from devices import devices
 from objects import in_objects
@@ -204,18 +205,22 @@ def reported(program, row):
 READERS = [["python3", "-m", "json.tool", "--json-lines", "--compact"], ["jq", "-c", "."]]
 
 
-def objects(program):
+def commands_of_rows(program):
     readers = [reader for reader in READERS if shutil.which(reader[0])]
-    for row in tables.table("objects"):
-        yield f"objects: {row.name}", partial(objects_written, program, row, readers)
+    for name in tables.of_commands():
+        for row in tables.table(name):
+            yield f"{name}: {row.name}", partial(written, program, row, readers)
 
 
-def objects_written(program, row, readers):
-    """The command of a row writes its objects and its counts, and each reader of JSON finds them there."""
-    found, refused = program.run(row.texts("with")[0].split(" "), row.log()), row.text("refused")
+def written(program, row, readers):
+    """The command of a row writes its lines, or its objects and its counts, also byte by byte; and each reader of JSON finds the
+    objects there."""
+    words = [*row.texts("with")[0].split(" "), *sides(row)]
+    found, refused = program.run(words, row.log()), row.text("refused")
     counts = in_objects("explain", row.counts()) if row.has("counts") else b""
-    wrong = differences("objects", found, Ended(REFUSAL if refused else DONE, row.text("object") + counts, refused))
-    for reader in readers:
+    wrong = differences("text", found, Ended(REFUSAL if refused else DONE, row.text("found") + row.text("object") + counts, refused))
+    wrong += differences("byte by byte", program.run_short(words, row.log()), found)
+    for reader in readers if row.has("object") else []:
         again = subprocess.run(reader, input=found.output, stdout=subprocess.PIPE, timeout=60)
         wrong += differences(f"read by {reader[0]}", again.stdout, found.output)
     return wrong
@@ -443,7 +448,7 @@ def strictly(program, row):
     """Each job writes of a log that has to be clean what it writes otherwise, and then tells what the row says."""
     log, wrong = row.log(), []
     told = b"".join(f"not clean: {text}\n".encode() for text in row.texts("lacks"))
-    for job in [*JOBS, "watch", "list --json", "messages --json", "watch --no-numbers"]:
+    for job in [*over_one_log(program.path, "--strict"), "list --json", "messages --json", "watch --no-numbers"]:
         words = job.split(" ")
         want = Ended(UNCLEAN if told else DONE, program.run(words, log).output, told)
         wrong += differences(job, program.run([*words, "--strict"], log), want)
@@ -621,7 +626,7 @@ def main():
     with tempfile.TemporaryDirectory() as folder, ThreadPoolExecutor() as workers:
         program = Program(cases.program, Refuser(folder))
         kinds = [
-            sessions, places, pages, objects, decided_items, pairs_found, logs_without_message, frames_without_part, refused_lines, recording_that_breaks_off, names_listed,
+            sessions, places, pages, commands_of_rows, decided_items, pairs_found, logs_without_message, frames_without_part, refused_lines, recording_that_breaks_off, names_listed,
             limits, strict_runs, configurations, comparisons, recordings, long_logs, devices,
         ]
         names, checks = zip(*(case for kind in kinds for case in kind(program)))

@@ -16,7 +16,8 @@ import sys
 import tempfile
 from pathlib import Path
 
-from cases import DONE, Cases
+from cases import Cases
+from commands import all_commands, help_of, named_in, options_of
 from runs import differences
 from tables import EXAMPLES
 
@@ -36,18 +37,6 @@ SHELLS = {
 }
 
 
-def help_of(cases, *words):
-    """A help text; nothing where the program doesn't end well."""
-    found = cases.run([*words, "--help"])
-    return found.output.decode() if (found.status, found.error) == (DONE, b"") else ""
-
-
-def named_in(text, heading):
-    """The first words of the lines below a heading of a help text."""
-    below = re.search(rf"^{heading}:\n((?: .*\n)+)", text, re.M)
-    return re.findall(r"^ +(?:-\w, +)?([\w-]+)", below.group(1), re.M) if below else []
-
-
 def defaults_in(text):
     return re.findall(r"\[default: (\w+)\]", text)
 
@@ -63,17 +52,17 @@ def commands_of_the_table():
 
 
 def names_are_complete(cases):
-    commands = named_in(help_of(cases), "Commands")
+    commands = all_commands(cases.program)
     cases.report("the help names the commands of the table", [] if commands == commands_of_the_table() else [str(commands)])
     text = manual_of(cases).replace("\\-", "-")
     wrong = [f"no {word}" for word in missing_in(text, commands)] if commands else ["no commands in the help"]
-    wrong += [f"no {option}" for option in missing_in(text, named_in(help_of(cases), "Options"))]
+    wrong += [f"no {option}" for option in missing_in(text, named_in(help_of(cases.program), "Options"))]
     for command in commands:
-        options = named_in(help_of(cases, command), "Options")
+        options = options_of(cases.program, command)
         wrong += ["no options in the help"] if len(options) < 3 else []
         wrong += [f"no {option} of {command}" for option in missing_in(text, options)]
     cases.report("the manual page names every command and option", wrong)
-    defaults = defaults_in(help_of(cases, "list"))
+    defaults = defaults_in(help_of(cases.program, "list"))
     wrong = missing_in(text, defaults) if len(defaults) == 3 else [f"{len(defaults)} defaults in the help"]
     cases.report("the manual page has the defaults of the help", wrong)
 
@@ -106,7 +95,7 @@ def shells_complete(cases):
         begin = sorted(command for command in commands_of_the_table() if command.startswith("co"))
         wrong = differences("commands that begin with co", offered(shell, program, ["co"]), begin)
         for command in commands_of_the_table():
-            options = [option for option in named_in(help_of(cases, command), "Options") if option.startswith("--")]
+            options = [option for option in options_of(cases.program, command) if option.startswith("--")]
             wrong += differences(f"options of {command}", offered(shell, program, [command, "--"]), sorted(options))
         cases.report(f"{shell} completes commands and options", wrong)
 

@@ -25,7 +25,8 @@ What is told of the log is the lines with the mark `told`, and last its counts:
     page TEXT            another line that stands there
     lacks TEXT           what is told of a log that has to be clean and is not
 
-    with WORDS           a command with its options
+    with WORDS           a command with its options: a table whose rows or whose head have it is taken as soon as it is there
+    found TEXT           a line that it writes
     object TEXT          an object that it writes; where the row has counts, too, their object comes last
 
     between TESTER UNIT  the identifiers, where they are not 7E0 and 7E8
@@ -121,9 +122,19 @@ def stamped(number, frame):
 
 def paragraphs(name):
     """The head of a table, and its rows, as lists of lines."""
-    taken.add(name)
     text = (ROWS / f"{name}.txt").read_text().removesuffix("\n")
     return [[unescaped(line) for line in paragraph.split("\n")] for paragraph in text.split("\n\n")]
+
+
+def of_commands():
+    """The names of the tables that say with which words the program runs over each of their logs."""
+    return sorted(path.stem for path in ROWS.iterdir() if "with" in marks(path.stem) and not marks(path.stem) & {"left", "right"})
+
+
+def marks(name):
+    """The marks of a table: those of its head, and those behind the names of its rows."""
+    head, *rows = paragraphs(name)
+    return {line.partition(" ")[0] for row in [head, *(row[1:] for row in rows)] for line in row}
 
 
 def left():
@@ -137,6 +148,7 @@ def unescaped(line):
 
 def table(name):
     """The rows of a table."""
+    taken.add(name)
     head, *rows = paragraphs(name)
     of_each = [line for line in head if not line.startswith("#")]
     return [Row(row[0], row[1:] + of_each) for row in rows]
@@ -144,5 +156,6 @@ def table(name):
 
 def lines(name):
     """The rows of a table whose rows are lines without a name."""
+    taken.add(name)
     _, rows = paragraphs(name)
     return rows

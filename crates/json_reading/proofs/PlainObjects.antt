@@ -1,6 +1,7 @@
 -- The objects that are told have plain texts.
-use Rattle.std.proofs.Common.{◌≡◌, ℕ, ◌+◌, Bool, true, false, List, Option, Some, None, refl, codes}
-use Rattle.std.specs.Prelude.{slice_get}
+use Rattle.std.proofs.Common.{◌≡◌, ℕ, ◌+◌, Bool, true, false, true≢false, List, Option, Some, None, refl, sym, codes}
+use Rattle.std.specs.List.{list_all}
+use Rattle.std.specs.Prelude.{◌&&◌, slice_get}
 use Rattle.direction.specs.declared.Dir.{Dir}
 use Rattle.direction.specs.declared.Dir.TheVariants as dir
 use Rattle.isotp_pdu.specs.declared.PduFault.{PduFault}
@@ -23,12 +24,13 @@ use Rattle.trace_canon.specs.declared.remark.Remark.TheVariants as remark
 use Rattle.trace_canon.specs.ComparisonText.{shown_members, shown_value, comparison_members}
 use Rattle.trace_canon.specs.ExplainText.{cause_text, layout_fault_text, reason_members, remark_members}
 use Rattle.trace_canon.specs.Found.{pair_object}
+use Rattle.trace_canon.specs.Json.{Members, null, truth, number, string, object, nothing, member}
 use Rattle.trace_canon.specs.ListText.{answer_members, outcome_members, item_members, item_object}
 use Rattle.trace_canon.specs.MessageLines.{PlacedMessage, placed_members, role_text, stamp_text}
 use Rattle.trace_canon.specs.Words.{bytes_text, direction_text, service_text, code_text}
 use Rattle.trace_canon.proofs.Promises.{bytes_word, service_word, code_word}
 use Rattle.json_reading.specs.Laws.{ItemsAreReadAsMeant, MessagesAreReadAsMeant, RemarksAreReadAsMeant, ComparisonsAreReadAsMeant, PairsAreReadAsMeant}
-use Rattle.json_reading.proofs.PlainTexts.{IsPlain, plain, word_plain, identifier_plain, stamp_plain}
+use Rattle.json_reading.proofs.PlainTexts.{IsPlain, is_plain, plain, word_plain, identifier_plain, stamp_plain}
 use Rattle.json_reading.proofs.ReadTrees.{IsPlainValue, ArePlain, read_as_meant}
 
 -- ---- the words between quotes
@@ -56,6 +58,32 @@ layout_fault_plain pdu.SingleLength = plain (codes "single frame length") refl
 layout_fault_plain pdu.FirstLength = plain (codes "first frame length") refl
 layout_fault_plain pdu.FlowShort = plain (codes "flow control too short") refl
 layout_fault_plain pdu.FlowStatus = plain (codes "flow control status") refl
+
+-- ---- members of known words and of numbers
+
+-- whether each key and each string is plain, by its bytes
+abbrev all_plain : Members → Bool
+all_plain nothing = true
+all_plain (member key (number n) later) = list_all is_plain key && all_plain later
+all_plain (member key (string text) later) = list_all is_plain key && (list_all is_plain text && all_plain later)
+all_plain (member key other later) = false
+
+and_both : (one other : Bool) → (one && other) ≡ true → (one ≡ true) × (other ≡ true)
+and_both true other so = (refl, so)
+and_both false other so = absurd (true≢false (sym so))
+
+are_plain : (deep : ℕ) (members : Members) → all_plain members ≡ true → ArePlain deep members
+are_plain deep nothing so = tt
+are_plain deep (member key (number n) later) so =
+    let both = and_both (list_all is_plain key) (all_plain later) so in
+    (plain key both.0, tt, are_plain deep later both.1)
+are_plain deep (member key (string text) later) so =
+    let first = and_both (list_all is_plain key) (list_all is_plain text && all_plain later) so in
+    let second = and_both (list_all is_plain text) (all_plain later) first.1 in
+    (plain key first.0, plain text second.0, are_plain deep later second.1)
+are_plain deep (member key null later) so = absurd (true≢false (sym so))
+are_plain deep (member key (truth b) later) so = absurd (true≢false (sym so))
+are_plain deep (member key (object members) later) so = absurd (true≢false (sym so))
 
 -- ---- items
 
@@ -252,39 +280,7 @@ remark_plain (remark.Unfinished d line len) = (
     ),
   ),
 )
-remark_plain (remark.Counts summary) = (
-  plain (codes "event") refl,
-  plain (codes "counts") refl,
-  (
-    plain (codes "lines") refl,
-    tt,
-    (
-      plain (codes "frames") refl,
-      tt,
-      (
-        plain (codes "messages") refl,
-        tt,
-        (
-          plain (codes "dropped") refl,
-          tt,
-          (
-            plain (codes "ended") refl,
-            tt,
-            (
-              plain (codes "unfinished") refl,
-              tt,
-              (
-                plain (codes "pending") refl,
-                tt,
-                tt,
-              ),
-            ),
-          ),
-        ),
-      ),
-    ),
-  ),
-)
+remark_plain (remark.Counts summary) = are_plain 0 (remark_members (remark.Counts summary)) refl
 
 pub remarks_are_read_as_meant : RemarksAreReadAsMeant
 remarks_are_read_as_meant told = read_as_meant (remark_members told) (remark_plain told)

@@ -7,9 +7,10 @@ use Rattle.trace_canon.specs.Laws.{Certifies}
 use Rattle.trace_canon.specs.Needing.{HasFrame, IsKeptForMessage, NeedsMemoryToReceive}
 use Rattle.trace_canon.specs.Settings.{Settings}
 use Rattle.trace_canon.specs.Summing.{summary_of}
-use Rattle.trace_canon.specs.Told.{Script, AnswersTold, IsUnreadFor, answers_counts}
+use Rattle.trace_canon.specs.Told.{Script, Answering, AnswersTold, IsUnreadFor, answers_counts}
 use Rattle.trace_canon.specs.declared.fault.Fault.{Fault}
 use Rattle.trace_canon.specs.declared.fault.Fault.TheVariants.{BadLine, Oversize, LogLimit, OutputLimit, Read, Write, Memory}
+use Rattle.trace_canon.specs.declared.machine.Stop.TheVariants as stop
 use Rattle.trace_canon.specs.declared.summary.Summary.{Summary}
 use Rattle.trace_canon.specs.Trace.{trace}
 use Rattle.trace_canon.proofs.ReadAgain.{lines_certify}
@@ -52,10 +53,42 @@ module _ (word : List Entry → Entry → List ℕ) (last : List Entry → Summa
       subst (Certifies MESSAGE_LIMIT settings log) same (lines_certify MESSAGE_LIMIT settings log meanings (omega arith) is.1)
   certifies settings log given (Err why) old new answers = tt
 
--- no line needs memory to be told: so a frame that needed some is kept
-pub needs_to_receive : (settings : Settings) (log : List ℕ) → HasFrame (λ T e. IsKeptForMessage MESSAGE_LIMIT T e ⊎ ⊥) settings log → NeedsMemoryToReceive MESSAGE_LIMIT settings log
-needs_to_receive settings log found = record { before = found.before; line = found.line; frame = found.frame; begins = found.begins; own = found.own; holds = kept found.holds }
+-- the same of any script that is not strict, and of what is answered at the end, if that is never that the output is too long
+module _ {A : Type 0} (script : Script) (answers : Answering A) (is_lenient : script.strict ≡ false)
+    (has_answer : (T : List Entry) (summary : Summary) → answers T summary (Err stop.OutputLimit) → ⊥) where
+  unread : (settings : Settings) (log : List ℕ) (given : ℕ) (fault : Fault) (old new : List ℕ)
+      → AnswersTold script answers MESSAGE_LIMIT settings log given (Err fault) old new → IsUnreadFor false MESSAGE_LIMIT settings log fault
+  unread settings log given (BadLine line column) old new (is, wrote) = subst (λ strict. IsUnreadFor strict MESSAGE_LIMIT settings log (BadLine line column)) is_lenient is
+  unread settings log given (Oversize line announced) old new (is, wrote) = subst (λ strict. IsUnreadFor strict MESSAGE_LIMIT settings log (Oversize line announced)) is_lenient is
+  unread settings log given LogLimit old new (is, wrote) = subst (λ strict. IsUnreadFor strict MESSAGE_LIMIT settings log LogLimit) is_lenient is
+  unread settings log given OutputLimit old new (whole, meanings, read, answered, wrote) = absurd (has_answer (trace settings meanings) (summary_of MESSAGE_LIMIT settings log meanings) answered)
+  unread settings log given Read old new is = tt
+  unread settings log given Write old new is = tt
+  unread settings log given Memory old new is = tt
+
+  pub no_oversize : (settings : Settings) (log : List ℕ) (given : ℕ) (result : Result A Fault) (old new : List ℕ)
+      → AnswersTold script answers MESSAGE_LIMIT settings log given result old new → IfErr result (λ why. (line announced : ℕ) → why ≢ Oversize line announced)
+  no_oversize settings log given (Ok value) old new told = tt
+  no_oversize settings log given (Err why) old new told = λ line announced is.
+      subst (IsUnreadFor false MESSAGE_LIMIT settings log) is (unread settings log given why old new told)
+
+  pub no_output_limit : (settings : Settings) (log : List ℕ) (given : ℕ) (result : Result A Fault) (old new : List ℕ)
+      → AnswersTold script answers MESSAGE_LIMIT settings log given result old new → IfErr result (λ why. why ≢ OutputLimit)
+  no_output_limit settings log given (Ok value) old new told = tt
+  no_output_limit settings log given (Err why) old new told = λ is.
+      subst (IsUnreadFor false MESSAGE_LIMIT settings log) is (unread settings log given why old new told)
+
+-- a frame that needed memory is kept, where no line needs some to be told
+pub needs_when_none : (needs : List Entry → Entry → Type 0) → ((T : List Entry) (e : Entry) → needs T e → ⊥) → (settings : Settings) (log : List ℕ)
+    → HasFrame (λ T e. IsKeptForMessage MESSAGE_LIMIT T e ⊎ needs T e) settings log → NeedsMemoryToReceive MESSAGE_LIMIT settings log
+needs_when_none needs none settings log found =
+    record { before = found.before; line = found.line; frame = found.frame; begins = found.begins; own = found.own; holds = kept found.holds }
   where
-    kept : IsKeptForMessage MESSAGE_LIMIT (trace settings found.before) found.frame ⊎ ⊥ → IsKeptForMessage MESSAGE_LIMIT (trace settings found.before) found.frame
+    kept : IsKeptForMessage MESSAGE_LIMIT (trace settings found.before) found.frame ⊎ needs (trace settings found.before) found.frame
+        → IsKeptForMessage MESSAGE_LIMIT (trace settings found.before) found.frame
     kept (inl holds) = holds
-    kept (inr none) = absurd none
+    kept (inr needed) = absurd (none _ _ needed)
+
+-- so where none needs any
+pub needs_to_receive : (settings : Settings) (log : List ℕ) → HasFrame (λ T e. IsKeptForMessage MESSAGE_LIMIT T e ⊎ ⊥) settings log → NeedsMemoryToReceive MESSAGE_LIMIT settings log
+needs_to_receive = needs_when_none (λ T e. ⊥) (λ T e none. none)

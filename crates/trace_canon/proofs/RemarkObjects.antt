@@ -7,7 +7,6 @@ use Rattle.isotp_receive.specs.declared.event.Reason.{Reason}
 use Rattle.isotp_receive.specs.declared.event.Reason.TheVariants as reason
 use Rattle.isotp_pdu.specs.declared.PduFault.{PduFault}
 use Rattle.trace_canon.specs.declared.remark.Remark.TheVariants as remark
-use Rattle.trace_canon.specs.declared.summary.Summary.{Summary}
 use Rattle.trace_canon.specs.ExplainText.{cause_text, layout_fault_text, reason_members, remark_members}
 use Rattle.trace_canon.specs.Json.{object_line}
 use Rattle.trace_canon.specs.Words.{direction_text}
@@ -28,14 +27,6 @@ pub unfinished_object : (d : Dir) (line len announced : ℕ) (side : List ℕ) �
     ++ (decimal len ++ (codes "}\n" ++ [])))))) ≡ object_line (remark_members (remark.Unfinished d line announced))
 unfinished_object d line len announced side side_is len_is =
     rw (side_is, len_is) (sym (line_is (remark_members (remark.Unfinished d line announced))))
-
--- the counts
-pub summary_object : (summary : Summary)
-    → codes "{\"event\":\"counts\",\"lines\":" ++ (decimal summary.lines ++ (codes ",\"frames\":" ++ (decimal summary.frames ++ (codes ",\"messages\":"
-    ++ (decimal summary.messages ++ (codes ",\"dropped\":" ++ (decimal summary.dropped ++ (codes ",\"ended\":" ++ (decimal summary.ended
-    ++ (codes ",\"unfinished\":" ++ (decimal summary.unfinished ++ (codes ",\"pending\":" ++ (decimal summary.pending ++ (codes "}\n" ++ []))))))))))))))
-    ≡ object_line (remark_members (remark.Counts summary))
-summary_object summary = sym (line_is (remark_members (remark.Counts summary)))
 
 -- why a frame was dropped, to the end of its line: that it has no layout
 pub layout_reason : (why : Reason) (fault : PduFault) (name : List ℕ) → why ≡ reason.Pdu fault → name ≡ layout_fault_text fault

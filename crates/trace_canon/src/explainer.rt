@@ -15,7 +15,7 @@ ghost use Rattle.trace_io.specs.Stream.{Agrees};
 ghost use Rattle.trace_io.specs.Counted.{IsLowCount, AreLowCounts};
 
 use crate::config::Config;
-use crate::driver::run;
+use crate::driver::run_lenient;
 use crate::fault::Fault;
 use crate::machine::{Machine, Stop};
 use crate::notation::Notation;
@@ -69,7 +69,7 @@ pub fn explain<R: Source, W: Target>(
     ensures read { ReadFrom R.Source Fault.Read config.now.max_bytes result reader.old reader.new }
     ensures wrote { WroteTo W.Target Fault.Write result writer.old writer.new }
 {
-    run(alloc, config, Explainer { notation }, reader, writer)
+    run_lenient(alloc, config, Explainer { notation }, reader, writer)
 }
 
 /// Says the lines of each frame.

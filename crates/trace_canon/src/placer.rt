@@ -13,7 +13,7 @@ ghost use Rattle.trace_io.specs.Counted.{IsLowCount, AreLowCounts};
 
 use crate::begun::{Begun, FramePlace};
 use crate::config::Config;
-use crate::driver::run;
+use crate::driver::run_lenient;
 use crate::fault::Fault;
 use crate::machine::{Machine, Stop};
 use crate::message_objects::say_message_object;
@@ -74,7 +74,7 @@ pub fn messages<R: Source, W: Target>(
         numbers: Numbers::new(),
         begun: Begun::start(),
     };
-    run(alloc, config, machine, reader, writer)
+    run_lenient(alloc, config, machine, reader, writer)
 }
 
 /// Says the line of each message. It keeps no message.

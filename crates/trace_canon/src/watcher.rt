@@ -16,7 +16,7 @@ ghost use Rattle.trace_io.specs.Stream.{Agrees};
 ghost use Rattle.trace_io.specs.Counted.{IsLowCount, AreLowCounts};
 
 use crate::config::Config;
-use crate::driver::run;
+use crate::driver::run_lenient;
 use crate::fault::Fault;
 use crate::item_lines::{ItemStyle, say_item};
 use crate::machine::{Machine, Stop};
@@ -76,7 +76,7 @@ pub fn watch<R: Source, W: Target>(
         style,
         number: 1,
     };
-    run(alloc, config, machine, reader, writer)
+    run_lenient(alloc, config, machine, reader, writer)
 }
 
 /// Says the line of each item as soon as it is decided.

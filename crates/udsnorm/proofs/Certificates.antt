@@ -15,15 +15,12 @@ use Rattle.trace_canon.specs.declared.fault.Fault.{Fault}
 use Rattle.trace_canon.specs.declared.machine.Stop.{Stop}
 use Rattle.trace_canon.specs.declared.summary.Summary.{Summary}
 use Rattle.trace_canon.proofs.Promises.{clean_log_is_recording, clean_summary_is_certificate, summary_certifies}
-use Rattle.trace_canon.specs.Told.{AnswersTold, answers_counts}
-use Rattle.trace_report.specs.Front.{PageTitle, page_title}
+use Rattle.trace_canon.specs.Told.{AnswersTold, IsReadToEnd, Script, answers_counts}
 use Rattle.trace_report.specs.Held as Holds
-use Rattle.trace_report.specs.Page.{report_script}
 use Rattle.trace_report.specs.Session.{SessionValue}
-use Rattle.udsnorm.specs.Commands.{EngineAnswers, PairEngineAnswers}
+use Rattle.udsnorm.specs.Commands.{Engine, normalises, lists, finds, runs, runs_in_style, EngineAnswers, PairEngineAnswers, answers_of, engine_of}
 use Rattle.udsnorm.specs.Ending.{status_of_run_of_two}
 use Rattle.udsnorm.specs.declared.commands.Job.{Job}
-use Rattle.udsnorm.specs.declared.commands.Job.TheVariants as job
 use Rattle.udsnorm.specs.declared.pair_jobs.PairAnswer.{PairAnswer}
 use Rattle.udsnorm.specs.declared.pair_jobs.PairJob.{PairJob}
 use Rattle.udsnorm.specs.declared.pair_jobs.PairJob.TheVariants as pair_job
@@ -52,26 +49,30 @@ of_told settings log meanings summary means counted =
     let same : summary_of MESSAGE_LIMIT settings log meanings ≡ summary = cc counted in
     of_clean settings log summary (subst (Certifies MESSAGE_LIMIT settings log) same (of_lines settings log meanings means))
 
--- those of a log whose page was written
-of_page : (title : PageTitle) (settings : Settings) (log : List ℕ) (given : ℕ) (summary : Summary) (old new : List ℕ)
-    → AnswersTold (report_script title MESSAGE_LIMIT) answers_counts MESSAGE_LIMIT settings log given (Ok summary) old new → is_clean summary ≡ true → IsCertified MESSAGE_LIMIT settings log
-of_page title settings log given summary old new (all, meanings, read, counted, wrote) = of_told settings log meanings summary read.1 counted
+-- the lines of a log that can be read to its end mean this
+of_read : (strict : Bool) (settings : Settings) (log : List ℕ) (meanings : List (Option Stamped)) → IsReadToEnd strict MESSAGE_LIMIT settings log meanings → LogMeans log meanings
+of_read true settings log meanings read = read.means
+of_read false settings log meanings read = read.1
+
+-- those of a log over which a machine ran, whatever it said
+of_script : (script : Script) (settings : Settings) (log : List ℕ) (given : ℕ) (summary : Summary) (old new : List ℕ)
+    → AnswersTold script answers_counts MESSAGE_LIMIT settings log given (Ok summary) old new → is_clean summary ≡ true → IsCertified MESSAGE_LIMIT settings log
+of_script script settings log given summary old new (all, meanings, read, counted, wrote) =
+    of_told settings log meanings summary (of_read script.strict settings log meanings read) counted
 
 -- `find` counts no frames of either side, so no log is clean by its counts
-of_job : (job : Job) (name : List ℕ) (settings : Settings) (log : List ℕ) (given : ℕ) (summary : Summary) (old new : List ℕ) → EngineAnswers job name MESSAGE_LIMIT settings log given (Ok summary) old new
+of_engine : (engine : Engine) (settings : Settings) (log : List ℕ) (given : ℕ) (summary : Summary) (old new : List ℕ) → answers_of engine MESSAGE_LIMIT settings log given (Ok summary) old new
     → is_clean summary ≡ true → IsCertified MESSAGE_LIMIT settings log
-of_job job.Normalise name settings log given summary old new (accepted, outcome, counted, wrote) = of_clean settings log summary (of_accepted settings log accepted summary outcome counted)
-of_job (job.List style) name settings log given summary old new (items, is, wrote) = of_clean settings log summary (of_accepted settings log is.accepted summary is.outcome is.counted)
-of_job (job.Watch style) name settings log given summary old new (all, meanings, read, counted, wrote) = of_told settings log meanings summary read.1 counted
-of_job (job.Explain notation) name settings log given summary old new (all, meanings, read, counted, wrote) = of_told settings log meanings summary read.1 counted
-of_job (job.Messages notation) name settings log given summary old new (all, meanings, read, counted, wrote) = of_told settings log meanings summary read.1 counted
-of_job job.Report name settings log given summary old new (style, told) = of_page (page_title style name settings) settings log given summary old new told
-of_job (job.Find notation) name settings log given summary old new (pairs, (meanings, read, found), wrote) = λ clean. absurd (true≢false (sym clean ∙ ap is_clean found.1))
+of_engine normalises settings log given summary old new (accepted, outcome, counted, wrote) = of_clean settings log summary (of_accepted settings log accepted summary outcome counted)
+of_engine (lists style) settings log given summary old new (items, is, wrote) = of_clean settings log summary (of_accepted settings log is.accepted summary is.outcome is.counted)
+of_engine (finds notation) settings log given summary old new (pairs, (meanings, read, found), wrote) = λ clean. absurd (true≢false (sym clean ∙ ap is_clean found.1))
+of_engine (runs script) settings log given summary old new told = of_script (script MESSAGE_LIMIT) settings log given summary old new told
+of_engine (runs_in_style script) settings log given summary old new (style, told) = of_script (script style settings MESSAGE_LIMIT) settings log given summary old new told
 
 -- whatever the job
 pub answer_certifies : (job : Job) (name : List ℕ) (settings : Settings) (log : List ℕ) (given : ℕ) (answer : Result Summary Fault) (old new : List ℕ)
     → EngineAnswers job name MESSAGE_LIMIT settings log given answer old new → IfOk answer (λ summary. is_clean summary ≡ true → IsCertified MESSAGE_LIMIT settings log)
-answer_certifies job name settings log given (Ok summary) old new engine = of_job job name settings log given summary old new engine
+answer_certifies job name settings log given (Ok summary) old new engine = of_engine (engine_of job name) settings log given summary old new engine
 answer_certifies job name settings log given (Err fault) old new engine = tt
 
 -- both logs of a comparison are clean where they have to be

@@ -23,6 +23,8 @@ use Rattle.trace_canon.specs.declared.comparing.Compared.{Compared}
 use Rattle.trace_canon.specs.declared.comparison_lines.ComparisonStyle.{ComparisonStyle}
 use Rattle.trace_canon.specs.declared.fault.CompareFault.{CompareFault}
 use Rattle.trace_canon.specs.declared.fault.Fault.{Fault}
+use Rattle.trace_canon.specs.declared.item_lines.ItemStyle.{ItemStyle}
+use Rattle.trace_canon.specs.declared.notation.Notation.{Notation}
 use Rattle.trace_canon.specs.declared.summary.Summary.{Summary}
 use Rattle.trace_report.specs.Front.{page_title}
 use Rattle.trace_report.specs.Held.{HoldsTwo, comparison_in}
@@ -124,38 +126,50 @@ command_entries =
     ∷ record { name = codes "compare"; rules = sides ++ usual_limit ++ two_logs ++ showing ++ as_json ++ strictly; task = λ rows. task.Two (pair_job.Compare (comparison_style_in rows)) }
     ∷ []
 
--- What is known of a call that reads a log and writes a text: what it answers, and what it then writes; and that nothing refuses
--- the log for it among so many of its bytes.
-pub record Engine : Type 1 where
-  pub answers : ℕ → Settings → List ℕ → ℕ → Result Summary Fault → List ℕ → List ℕ → Type 0
-  pub unrefused : ℕ → Settings → List ℕ → ℕ → Type 0
+-- What is known of the call that does a job over one log: it is one of `trace_canon` that has a statement of its own, or the run of
+-- a machine, of which all is known by its script. A page's script is in some style.
+pub data Engine : Type 0 where
+  normalises : Engine
+  lists : ItemStyle → Engine
+  finds : Notation → Engine
+  runs : (ℕ → Script) → Engine
+  runs_in_style : (List ℕ → Settings → ℕ → Script) → Engine
 
--- the engine of a script, for which no length that is announced refuses a log
-abbrev pub engine_of_script : (ℕ → Script) → Engine
-engine_of_script script =
-    record { answers = λ limit. AnswersTold (script limit) answers_counts limit; unrefused = λ limit settings. HasNoBadPlaceWithin }
+-- what it answers, and what it then writes
+abbrev pub answers_of : Engine → ℕ → Settings → List ℕ → ℕ → Result Summary Fault → List ℕ → List ℕ → Type 0
+answers_of normalises limit settings log given result old new = Answers limit settings log given result old new
+answers_of (lists style) limit settings log given result old new = Lists style limit settings log result old new
+answers_of (finds notation) limit settings log given result old new = Finds notation settings log result old new
+answers_of (runs script) limit settings log given result old new = AnswersTold (script limit) answers_counts limit settings log given result old new
+answers_of (runs_in_style script) limit settings log given result old new =
+    (style : List ℕ) × AnswersTold (script style settings limit) answers_counts limit settings log given result old new
 
--- the engine that does this job over one log, which has this name on a page; a page is in some style
+-- how near it stops reading to what refuses the log for it; no length that is announced does this for one that is known by its script,
+-- nor for `find`
+abbrev pub reads_of : Engine → ℕ → Settings → List ℕ → ℕ → ℕ → ℕ → Type 0
+reads_of normalises limit settings log given before after = ReadsWhile (IsNotRefusedWithin limit settings log) given before after
+reads_of (lists style) limit settings log given before after = ReadsWhile (IsNotRefusedWithin limit settings log) given before after
+reads_of (finds notation) limit settings log given before after = ReadsWhile (HasNoBadPlaceWithin log) given before after
+reads_of (runs script) limit settings log given before after = ReadsWhile (HasNoBadPlaceWithin log) given before after
+reads_of (runs_in_style script) limit settings log given before after = ReadsWhile (HasNoBadPlaceWithin log) given before after
+
+-- the engine that does this job over one log, which has this name on a page
 abbrev pub engine_of : Job → List ℕ → Engine
-engine_of job.Normalise name = record { answers = Answers; unrefused = IsNotRefusedWithin }
-engine_of (job.List style) name = record { answers = λ limit settings log given. Lists style limit settings log; unrefused = IsNotRefusedWithin }
-engine_of (job.Watch style) name = engine_of_script (λ limit. watching_script style)
-engine_of (job.Explain notation) name = engine_of_script (explain_script notation)
-engine_of (job.Messages notation) name = engine_of_script (placing_script notation)
-engine_of job.Report name = record {
-  answers = λ limit settings log given result old new. (style : List ℕ)
-      × AnswersTold (report_script (page_title style name settings) limit) answers_counts limit settings log given result old new;
-  unrefused = λ limit settings. HasNoBadPlaceWithin;
-}
-engine_of (job.Find notation) name = record { answers = λ limit settings log given. Finds notation settings log; unrefused = λ limit settings. HasNoBadPlaceWithin }
+engine_of job.Normalise name = normalises
+engine_of (job.List style) name = lists style
+engine_of (job.Watch style) name = runs (λ limit. watching_script style)
+engine_of (job.Explain notation) name = runs (explain_script notation)
+engine_of (job.Messages notation) name = runs (placing_script notation)
+engine_of job.Report name = runs_in_style (λ style settings. report_script (page_title style name settings))
+engine_of (job.Find notation) name = finds notation
 
 -- what it answers, and what it writes
 abbrev pub EngineAnswers : Job → List ℕ → ℕ → Settings → List ℕ → ℕ → Result Summary Fault → List ℕ → List ℕ → Type 0
-EngineAnswers job name = (engine_of job name).answers
+EngineAnswers job name = answers_of (engine_of job name)
 
 -- how near to what refuses the log it stops reading
 abbrev pub EngineReads : Job → List ℕ → ℕ → Settings → List ℕ → ℕ → ℕ → ℕ → Type 0
-EngineReads job name limit settings log = ReadsWhile ((engine_of job name).unrefused limit settings log)
+EngineReads job name = reads_of (engine_of job name)
 
 -- ---- two logs
 

@@ -62,13 +62,9 @@ knows_dropped count = if nat_lt 0 count then knows First (matter.Dropped count) 
 -- What is known of a log that was accepted, by the job over it, by its counts and by what the output took: that it has no pair,
 -- where the job was to find some; and else how many frames were dropped, where the job is not to explain that.
 abbrev pub known_of_done : Job → Summary → List ℕ → Option Known
-known_of_done job.Normalise summary taken = knows_dropped summary.dropped
-known_of_done (job.List style) summary taken = knows_dropped summary.dropped
-known_of_done (job.Watch style) summary taken = knows_dropped summary.dropped
-known_of_done (job.Explain notation) summary taken = None
-known_of_done (job.Messages notation) summary taken = knows_dropped summary.dropped
-known_of_done job.Report summary taken = knows_dropped summary.dropped
 known_of_done (job.Find notation) summary taken = knows_no_pair taken
+known_of_done (job.Explain notation) summary taken = None
+known_of_done other summary taken = knows_dropped summary.dropped
 
 -- what is known of a log by the outcome of a job over it, whose source gave these bytes and was over or not, and of which the
 -- output took this
