@@ -14,6 +14,7 @@
 - a line of prose stands above each definition that a public function's contract or a law cites;
 - docs/architecture.md says of each crate of the kit that the program stands on where it is called, and the call stands there;
 - the page for callers of each crate names each clause of its public calls, and docs/proved.md cites no other;
+- what introduces the program or the library has the words by which somebody looks for such a tool;
 - each fault displays the line that the program tells of it, as the page for callers of udsnorm says;
 - the number of the version stands in the program's source once, and is that of the file VERSION;
 - nothing in the project is a symbolic link, what is built included: the gate, which runs last, would take none.
@@ -43,6 +44,13 @@ PROGRAM = "udsnorm"
 LIBRARY = "udsnorm_c"
 SVG = "{http://www.w3.org/2000/svg}"
 
+# The words by which somebody looks for such a tool, and what has to have them.
+SEARCHED = ["UDS", "ISO 14229", "ISO-TP", "ISO 15765-2", "DoCAN", "candump", "SocketCAN", "CAN FD", "ECU", "regression test", "diagnostic traces"]
+INTRODUCING = [
+    "README.md", "docs/library.md", "library/udsnorm.h", "packaging/INSTALL.md", "packaging/deb", "packaging/deb-library", "python/pyproject.toml",
+    "share/man/udsnorm.1.in",
+]
+DESCRIPTIONS = [("pyproject.toml", r'description = "(.*)"'), ("wheel_builder.py", r"Summary: (.*)")]
 
 
 def files_below(folder):
@@ -286,6 +294,14 @@ def named_clauses(cases):
         cases.report(f"{name_of(PROVED)} cites no clause that {crate} has not", wrong)
 
 
+def searched_words(cases):
+    for name in INTRODUCING:
+        text = re.sub(r"\s+(\* )?", " ", (TOP / name).read_text())
+        cases.report(f"{name} has the words that are searched", [f"no {word}" for word in SEARCHED if word not in text])
+    told = [re.search(pattern, (TOP / "python" / file).read_text())[1] for file, pattern in DESCRIPTIONS]
+    cases.report("the Python package has one description", [] if told[0] == told[1] else told)
+
+
 def lines_of_faults(cases):
     for name, wrong in fault_lines.compared(TOP / "crates"):
         cases.report(f"what {name} displays is the line that is told of it", wrong)
@@ -309,7 +325,7 @@ def main():
     cases = Cases(None)
     for test in [
         picture, style, links, lengths_of_lines, named_files, wrong_bodies, tried_by_the_gate, definitions, citations, calls_of_the_kit,
-        named_clauses, lines_of_faults, version_of_the_source, symbolic_links,
+        named_clauses, searched_words, lines_of_faults, version_of_the_source, symbolic_links,
     ]:
         test(cases)
     cases.end()
