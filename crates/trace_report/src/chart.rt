@@ -31,6 +31,7 @@ impl Chart {
     }
 
     /// Says new rows, in a page whose first frame has the time `origin`.
+    #[inline(always)]
     pub(crate) fn say_rows<S: TextSink>(&mut self, origin: u64, rows: NewRows<'_>, out: &mut S)
         ensures stands { (before : List RowValue) → length before < 2 ^ 64 - 3 → IsChartOf before self.old → IsChartOf (before ++ rows_in rows.entry) self.new }
         ensures says { (before : List RowValue) → length before < 2 ^ 64 - 3 → IsChartOf before self.old
@@ -42,6 +43,7 @@ impl Chart {
     }
 
     /// Says a row, if there is one.
+    #[inline(always)]
     fn say_row_if<S: TextSink>(&mut self, origin: u64, row: Option<Row<'_>>, out: &mut S)
         ensures stands { (before : List RowValue) → length before < 2 ^ 64 - 1 → IsChartOf before self.old → IsChartOf (before ++ row_if row.entry) self.new }
         ensures says { (before : List RowValue) → length before < 2 ^ 64 - 1 → IsChartOf before self.old

@@ -54,7 +54,9 @@ impl Follower {
         }
     }
 
-    /// Takes what a frame did that stands here, and answers its rows.
+    /// Takes what a frame did that stands here, and answers its rows. Most frames add none: laid in line, so that no room is cleared
+    /// for rows then.
+    #[inline(always)]
     pub(crate) fn take<'a>(&mut self, here: FramePlace, dir: Dir, event: Event<'a>) -> NewRows<'a>
         ensures next { (T : List Entry) (e : Entry) → here ≡ place_of e → e.dir ≡ dir → length T < 2 ^ 62
             → seen_event event.entry ≡ verdict MESSAGE_LIMIT T e → Follows T self.old → Follows (T ++ e ∷ []) self.new }
