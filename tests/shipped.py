@@ -180,23 +180,21 @@ OF_PROGRAM += [f"tests/{test}.py" for test in ["command_line", "program", "sessi
 
 
 def make_check_goes_upwards(cases):
-    """`make check` with another `rt`, up to the step that fails: each crate comes after those that it stands on, and the program
-    before those that it doesn't stand on."""
+    """`make check` with another `rt`, up to the step that fails: the program comes before the crates that it doesn't stand on, and
+    each of these after those that it stands on."""
     for crate, failing, steps in [
         ("uds_message", "uds_message check", ["uds_message: rt fmt", "uds_message: rt check"]),
         (
             "uds_message",
             "udsnorm run",
-            ["uds_message: rt fmt", "uds_message: rt check"]
-            + [f"{user}: rt check" for user in ["uds_exchange", "uds_find", "trace_canon", "trace_report"]]
-            + [OF_PROGRAM[0]],
+            ["uds_message: rt fmt", "uds_message: rt check", OF_PROGRAM[0]],
         ),
         ("udsnorm", "udsnorm run", ["udsnorm: rt fmt", "udsnorm: rt check", OF_PROGRAM[0]]),
         ("acceptance", "acceptance test", ["acceptance: rt fmt", "acceptance: rt check", "acceptance: rt test"]),
         (
             "isotp_segment",
             "acceptance test",
-            ["isotp_segment: rt fmt", "isotp_segment: rt check", "trace_canon: rt check", "trace_report: rt check", *OF_PROGRAM]
+            ["isotp_segment: rt fmt", "isotp_segment: rt check", *OF_PROGRAM]
             + [f"{user}: rt check" for user in ["json_reading", "udsnorm_c", "layer_bench", "refused_memory", "acceptance"]]
             + ["acceptance: rt test"],
         ),
