@@ -26,7 +26,7 @@ use Rattle.trace_canon.specs.ExplainText.{cause_text, layout_fault_text, reason_
 use Rattle.trace_canon.specs.Found.{pair_object}
 use Rattle.trace_canon.specs.Json.{Members, null, truth, number, string, object, nothing, member}
 use Rattle.trace_canon.specs.ListText.{answer_members, outcome_members, item_members, item_object}
-use Rattle.trace_canon.specs.MessageLines.{PlacedMessage, placed_members, role_text, stamp_text}
+use Rattle.trace_canon.specs.MessageLines.{placed_members, role_text}
 use Rattle.trace_canon.specs.Words.{bytes_text, direction_text, service_text, code_text}
 use Rattle.trace_canon.proofs.Promises.{bytes_word, service_word, code_word}
 use Rattle.json_reading.specs.Laws.{ItemsAreReadAsMeant, MessagesAreReadAsMeant, RemarksAreReadAsMeant, ComparisonsAreReadAsMeant, PairsAreReadAsMeant}

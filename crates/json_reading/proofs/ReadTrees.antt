@@ -11,7 +11,7 @@ use Rattle.json.proofs.Printed.Tokens.{tokens-print}
 use Rattle.json.proofs.Printed.Trees.{ArePrintable-json_tokens, value-json_tokens}
 use Rattle.serde_json.specs.Data as reader
 use Rattle.serde_json.specs.Data.{put}
-use Rattle.serde_json.specs.Read.{read, max_depth, of_json, of_members}
+use Rattle.serde_json.specs.Read.{max_depth, of_json, of_members}
 use Rattle.serde_json.proofs.Numbers.{number_of-decimal}
 use Rattle.json_reading.specs.ReadBack.{meant, with_members, HasNumbersOf64Bits, HaveNumbersOf64Bits, IsReadAsMeant}
 use Rattle.json_reading.proofs.PlainTexts.{IsPlain, quoted_plain}

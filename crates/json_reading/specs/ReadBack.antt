@@ -1,6 +1,6 @@
 -- What a reader of JSON (RFC 8259) finds in a text that is told: the object that is meant. The reader is the kit's
 -- `serde_json`, which keeps each key once, in the order of the keys.
-use Rattle.std.specs.Prelude.{◌≡◌, ℕ, ◌<◌, ◌^◌, Some, ⊤}
+use Rattle.std.specs.Prelude.{◌≡◌, ◌<◌, ◌^◌, Some, ⊤}
 use Rattle.serde_json.specs.Data as reader
 use Rattle.serde_json.specs.Data.{Data, unsigned, put}
 use Rattle.serde_json.specs.Read.{read}

@@ -1,5 +1,5 @@
 -- What a run over a script that is not strict answers, and never answers.
-use Rattle.std.proofs.Common.{◌⊎◌, inl, inr, ◌≢◌, ℕ, List, [], Result, Ok, Err, false, ◌≡◌, arith, subst}
+use Rattle.std.proofs.Common.{◌⊎◌, inl, inr, ◌≢◌, ℕ, List, Result, Ok, Err, false, ◌≡◌, arith, subst}
 use Rattle.std.specs.Result.{IfOk, IfErr}
 use Rattle.isotp_receive.specs.declared.TheConstants.{MESSAGE_LIMIT}
 use Rattle.isotp_receive.specs.Trace.{Entry}

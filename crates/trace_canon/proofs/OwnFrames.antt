@@ -3,7 +3,6 @@ use Rattle.std.proofs.Common.{◌≡◌, ℕ, List, [], ◌∷◌, ◌++◌, Opt
 use Rattle.std.specs.Prelude.{⊤, ◌≢◌}
 use Rattle.direction.specs.declared.Dir.{Dir}
 use Rattle.can_log.proofs.Promises.{lines_mean_one_more}
-use Rattle.can_log.specs.Line.{LineMeans}
 use Rattle.can_log.specs.Log.{log_lines, LinesMean, LogMeans}
 use Rattle.can_log.specs.declared.frame.Stamped.{Stamped}
 use Rattle.trace_canon.specs.Needing.{HasFrame}

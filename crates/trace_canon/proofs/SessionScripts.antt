@@ -1,14 +1,12 @@
 -- What is answered with a log's meaning and its counts gives the session.
-use Rattle.std.proofs.Common.{◌≡◌, ℕ, List, ◌++◌, refl, sym, Result, Ok, Err}
+use Rattle.std.proofs.Common.{ℕ, List, refl, sym, Ok, Err}
 use Rattle.std.proofs.lemmas.Bool.{leb-true, leb-false}
 use Rattle.isotp_receive.specs.declared.TheConstants.{MESSAGE_LIMIT}
-use Rattle.trace_canon.specs.declared.collector.Session.{Session}
-use Rattle.trace_canon.specs.declared.fault.Fault.{Fault}
 use Rattle.trace_canon.specs.declared.fault.Fault.TheVariants.{BadLine, Oversize, LogLimit, OutputLimit, Read, Write, Memory}
 use Rattle.trace_canon.specs.declared.summary.Summary.{Summary}
 use Rattle.trace_canon.specs.Answers.{IsAcceptedWith, GivesMeaning}
 use Rattle.trace_canon.specs.CanonicalLog.{canonical_log_of_lines}
-use Rattle.trace_canon.specs.SessionScript.{SessionIsTheSame, silent_script, answers_session}
+use Rattle.trace_canon.specs.SessionScript.{SessionIsTheSame, silent_script}
 use Rattle.trace_canon.specs.Settings.{Settings}
 use Rattle.trace_canon.specs.Summing.{summary_of}
 use Rattle.trace_canon.specs.Told.{TellsNothing}

@@ -1,12 +1,12 @@
 -- What a page of two logs says of them is what `compare` answers.
-use Rattle.std.proofs.Common.{◌≡◌, ◌≢◌, ◌<◌, ◌≤◌, ℕ, zero, suc, List, [], ◌∷◌, Option, Some, None, map, take, arith, refl, ap, sym, subst, ◌∙◌, inl, inr, Ok}
+use Rattle.std.proofs.Common.{◌≡◌, ◌<◌, ℕ, zero, suc, List, [], ◌∷◌, Option, Some, None, map, take, arith, refl, ap, sym, subst, ◌∙◌, inl, inr, Ok}
 use Rattle.std.specs.Prelude.{slice_get}
 use Rattle.std.proofs.lemmas.Bool.{cases_lt}
 use Rattle.std.proofs.lemmas.Option.{none-some}
 use Rattle.can_log.proofs.Promises.{log_means_at_most_one}
 use Rattle.isotp_receive.specs.declared.TheConstants.{MESSAGE_LIMIT}
 use Rattle.trace_canon.specs.Answers.{GivesSession}
-use Rattle.trace_canon.specs.Compared.{Compares, difference}
+use Rattle.trace_canon.specs.Compared.{difference}
 use Rattle.trace_canon.specs.Messages.{meaning_of_lines}
 use Rattle.trace_canon.specs.Settings.{Settings}
 use Rattle.trace_canon.specs.Trace.{trace}

@@ -1,14 +1,14 @@
 -- What comes from a log opens and closes nothing in HTML.
-use Rattle.std.proofs.Common.{◌≡◌, ◌∙◌, ℕ, ◌/◌, ◌%◌, ◌<◌, Bool, true, false, List, [], ◌∷◌, ◌++◌, arith, refl, inl, inr, codes}
-use Rattle.std.specs.Prelude.{nat_le, ◌==◌, ◌&&◌, ◌||◌, not, if◌then◌else◌}
-use Rattle.std.specs.List.{AllByRecursion, flat_map}
+use Rattle.std.proofs.Common.{◌≡◌, ◌∙◌, ℕ, ◌/◌, ◌%◌, ◌<◌, true, false, List, [], ◌∷◌, ◌++◌, arith, refl, inl, inr}
+use Rattle.std.specs.Prelude.{nat_le, ◌==◌, ◌&&◌, ◌||◌, not}
+use Rattle.std.specs.List.{AllByRecursion}
 use Rattle.std.proofs.lemmas.Bool.{cases_Bool, and_parts}
 use Rattle.std.proofs.lemmas.Bool.Decides.{nat_tests}
-use Rattle.can_log.specs.Digits.{digit, digits, hexadecimal}
+use Rattle.can_log.specs.Digits.{digit, digits}
 use Rattle.can_log.proofs.Promises.{AllByRecursion-append}
 use Rattle.trace_report.specs.Front.{name_byte, name_text, plain_byte, numbered_byte}
 use Rattle.trace_report.specs.Laws.{is_escaped, is_harmless, LettersAreHarmless, NameIsHarmless}
-use Rattle.trace_report.specs.Words.{is_mark, is_within, letter_text, letters, shown_byte}
+use Rattle.trace_report.specs.Words.{is_mark, is_within, shown_byte}
 
 abbrev AreHarmless : List ℕ → Type 0
 AreHarmless = AllByRecursion (λ b. is_harmless b ≡ true)

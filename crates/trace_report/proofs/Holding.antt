@@ -22,7 +22,7 @@ use Rattle.trace_report.specs.declared.reporter.Span.{Span}
 use Rattle.trace_report.specs.proving.Following.{rows_in, times_of}
 use Rattle.trace_report.specs.proving.Heard.{IsHeardOf, answers_heard, quiet_script}
 use Rattle.trace_report.specs.proving.Holding.{first_of_span, last_of_span}
-use Rattle.trace_report.proofs.Steps.{last_next, span_next}
+use Rattle.trace_report.proofs.Steps.{span_next}
 
 -- nothing is told
 pub quiet_tells_nothing : TellsNothing quiet_script

@@ -1,20 +1,15 @@
 -- The identifiers of a page: each stands once, and each link of the verdict leads to one.
-use Rattle.std.proofs.Common.{eq-eqb, eqb-true, ◌≡◌, ◌≤◌, ◌<◌, ◌^◌, ℕ, ◌+◌, Bool, true, false, List, [], ◌∷◌, ◌++◌, length, map, Option, Some, None, IfSome, arith, refl, ap, sym, subst, ◌∙◌, inl, inr, codes}
-use Rattle.std.specs.Prelude.{⊤, ◌≢◌, ◌==◌, not, ◌&&◌, bytes_eq, slice_index_or, take, if◌then◌else◌}
-use Rattle.std.specs.Fmt.{decimal}
-use Rattle.std.specs.List.{AllByRecursion, flat_map, list_all}
+use Rattle.std.proofs.Common.{eq-eqb, eqb-true, ◌≡◌, ◌≤◌, ◌<◌, ◌^◌, ℕ, ◌+◌, Bool, true, List, [], ◌∷◌, length, map, Some, IfSome, arith, refl, ap, sym, subst, ◌∙◌, inl, inr}
+use Rattle.std.specs.Prelude.{⊤, ◌≢◌, ◌==◌, not, ◌&&◌, bytes_eq, slice_index_or, take}
+use Rattle.std.specs.List.{AllByRecursion, list_all}
 use Rattle.std.proofs.lemmas.Bool.{and_parts, cases_Bool}
 use Rattle.std.proofs.lemmas.Fmt.{decimal_injective}
 use Rattle.std.proofs.lemmas.Slice.Eq.{bytes_eq-Decides}
-use Rattle.direction.specs.declared.Dir.{Dir}
 use Rattle.direction.specs.declared.Dir.TheVariants as dir
-use Rattle.can_log.proofs.Promises.{AllByRecursion-append, AllByRecursion-tested, AllByRecursion-weaker}
-use Rattle.can_log.specs.declared.frame.Stamped.{Stamped}
+use Rattle.can_log.proofs.Promises.{AllByRecursion-tested, AllByRecursion-weaker}
 use Rattle.isotp_receive.proofs.Promises.{messages_are_few}
 use Rattle.isotp_receive.specs.declared.TheConstants.{MESSAGE_LIMIT}
-use Rattle.isotp_receive.specs.Trace.{Entry}
 use Rattle.isotp_receive.specs.Verdict.{messages}
-use Rattle.trace_canon.specs.Settings.{Settings}
 use Rattle.trace_canon.specs.Trace.{trace}
 use Rattle.uds_exchange.proofs.Promises.{items_within_messages}
 use Rattle.uds_exchange.specs.Meaning.{meaning}
@@ -31,7 +26,7 @@ use Rattle.trace_report.specs.declared.sorts.Sort.{Sort}
 use Rattle.trace_report.specs.declared.sorts.Sort.TheVariants as sort
 use Rattle.trace_report.proofs.Distinct.{distinct-append, distinct-texts, each-of-first}
 use Rattle.trace_report.proofs.LineOrder.{grown-few, trace-grows}
-use Rattle.trace_report.proofs.RowTargets.{ArePlaced, HasPlaces, IsWithin, Leads, all-placed, led_to, rows-placed}
+use Rattle.trace_report.proofs.RowTargets.{ArePlaced, IsWithin, Leads, all-placed, led_to, rows-placed}
 
 -- Different places have different identifiers.
 

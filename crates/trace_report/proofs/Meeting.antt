@@ -7,13 +7,12 @@ use Rattle.direction.specs.declared.Dir.{Dir}
 use Rattle.isotp_receive.specs.declared.TheConstants.{MESSAGE_LIMIT}
 use Rattle.isotp_receive.specs.StandingReception.{stands}
 use Rattle.isotp_receive.specs.Trace.{Entry, role}
-use Rattle.isotp_receive.specs.Verdict.{EventValue, VerdictValue, message, began, stored, flowed, dropped, messages, told_message, verdict}
+use Rattle.isotp_receive.specs.Verdict.{EventValue, message, messages, told_message, verdict}
 use Rattle.uds_exchange.specs.Laws.{open_with}
 use Rattle.uds_exchange.specs.Meaning.{is_answer_to, is_tester_request}
 use Rattle.uds_exchange.specs.Numbering.{number_after, step_after}
 use Rattle.uds_exchange.specs.OneMessage.{step_if_open, step_of}
 use Rattle.uds_exchange.specs.Order.{open_request}
-use Rattle.uds_exchange.specs.declared.step.Step.{Step}
 use Rattle.uds_exchange.proofs.Promises.{open_request_goes_on}
 use Rattle.uds_message.specs.Message.{sid, is_final_for, is_pending_for, is_suppressing}
 use Rattle.uds_exchange.specs.Meaning.{is_from_tester}

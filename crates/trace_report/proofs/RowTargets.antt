@@ -1,6 +1,6 @@
 -- The places among the rows of a trace: none stands twice, each item has one, and each link leads to one.
-use Rattle.std.proofs.Common.{◌≡◌, ◌≤◌, ◌<◌, ℕ, ◌+◌, ◌-◌, Bool, true, false, List, [], ◌∷◌, ◌++◌, length, Option, Some, None, IfSome, arith, refl, ap, sym, subst, ◌∙◌, inl, inr, append-nil, append_assoc, option_map}
-use Rattle.std.specs.Prelude.{⊤, ◌≢◌, ◌⊎◌, ◌==◌, not, ◌&&◌, if◌then◌else◌}
+use Rattle.std.proofs.Common.{◌≡◌, ◌≤◌, ◌<◌, ℕ, ◌+◌, Bool, true, false, List, [], ◌∷◌, ◌++◌, length, Option, Some, None, IfSome, arith, refl, ap, sym, subst, ◌∙◌, inl, inr, append-nil, append_assoc, option_map}
+use Rattle.std.specs.Prelude.{◌≢◌, ◌⊎◌}
 use Rattle.std.specs.List.{AllByRecursion}
 use Rattle.std.proofs.lemmas.Bool.{cases_Bool, cases_lt}
 use Rattle.direction.specs.Dir.{Message}
@@ -15,14 +15,14 @@ use Rattle.isotp_receive.specs.Verdict.{VerdictValue, message, began, stored, fl
 use Rattle.trace_canon.proofs.Promises.{messages_next}
 use Rattle.trace_canon.specs.MessageLines.{place_of}
 use Rattle.uds_exchange.proofs.Promises.{held_are_fewer, items_grow}
-use Rattle.uds_exchange.specs.Meaning.{is_from_tester, is_tester_request, meaning}
-use Rattle.uds_exchange.specs.Numbering.{items_with, next_number, number_after, number_by, open_number, step_after}
-use Rattle.uds_exchange.specs.OneMessage.{step_if_open, step_of}
+use Rattle.uds_exchange.specs.Meaning.{is_tester_request, meaning}
+use Rattle.uds_exchange.specs.Numbering.{items_with, number_after, number_by, open_number, step_after}
+use Rattle.uds_exchange.specs.OneMessage.{step_of}
 use Rattle.uds_exchange.specs.Order.{open_request}
 use Rattle.uds_exchange.specs.declared.step.Step.{Step}
 use Rattle.uds_exchange.specs.declared.step.Step.TheVariants as becomes
-use Rattle.uds_message.specs.Message.{is_final_for, is_keep_alive, is_negative_response, is_pending_for, is_suppressing, sid}
-use Rattle.trace_report.specs.Events.{asked_in, closing_rows, end_rows, ended_rows, is_there, message_place, other_role, role_of_step, rows_before, rows_of, standing_row, verdict_rows, waiting_row}
+use Rattle.uds_message.specs.Message.{is_keep_alive, is_negative_response, is_suppressing, sid}
+use Rattle.trace_report.specs.Events.{asked_in, closing_rows, ended_rows, is_there, message_place, other_role, role_of_step, rows_before, rows_of, standing_row, verdict_rows, waiting_row}
 use Rattle.trace_report.specs.Laws.{AreDistinct}
 use Rattle.trace_report.specs.Linked.{IsAmong, side_of, target_at, targets_in}
 use Rattle.trace_report.specs.Page.{all_rows}
@@ -33,7 +33,7 @@ use Rattle.trace_report.specs.Targets.{Target, of_item, of_line, of_side}
 use Rattle.trace_report.specs.declared.sorts.Sort.{Sort}
 use Rattle.trace_report.specs.declared.sorts.Sort.TheVariants as sort
 use Rattle.trace_report.proofs.Distinct.{among-front, among-last, distinct-more, found-append}
-use Rattle.trace_report.proofs.LineOrder.{Grow, grown-few}
+use Rattle.trace_report.proofs.LineOrder.{Grow}
 use Rattle.trace_report.proofs.Steps.{rows_next}
 
 -- where the link to a row of this sort leads, if one does

@@ -12,7 +12,7 @@ use Rattle.isotp_receive.specs.Trace.{Entry}
 use Rattle.isotp_receive.specs.Verdict.{VerdictValue, message, began, stored, flowed, dropped, messages, told_message, verdict}
 use Rattle.trace_canon.proofs.Promises.{messages_next}
 use Rattle.uds_exchange.proofs.Promises.{meaning_goes_on, step_by_items}
-use Rattle.uds_exchange.specs.Meaning.{ItemValue, meaning}
+use Rattle.uds_exchange.specs.Meaning.{meaning}
 use Rattle.uds_exchange.specs.Numbering.{step_after}
 use Rattle.uds_exchange.specs.OneMessage.{step_of}
 use Rattle.uds_exchange.specs.Order.{open_request}
@@ -20,7 +20,6 @@ use Rattle.uds_exchange.specs.declared.step.Step.{Step}
 use Rattle.uds_exchange.specs.declared.step.Step.TheVariants as becomes
 use Rattle.uds_exchange.specs.proving.Pairing.{join, waiting_sid}
 use Rattle.trace_report.specs.Events.{asked_in, closing_rows, end_rows, ended_rows, is_there, message_place, role_of_step, rows_before, rows_of, standing_row, verdict_rows, waiting_row}
-use Rattle.trace_report.specs.Items.{item_value, items_in}
 use Rattle.trace_report.specs.Laws.{ItemsAreTheMeaning}
 use Rattle.trace_report.specs.Page.{all_rows}
 use Rattle.trace_report.specs.Rows.{RowValue}

@@ -1,6 +1,6 @@
 -- The items of a session by its rows: each with the message that begins it and its answer, in the order of the numbers that
 -- `udsnorm list` gives them; and the items of two sessions side by side.
-use Rattle.std.specs.Prelude.{ℕ, ◌==◌, ◌&&◌, Bool, true, false, List, [], ◌∷◌, Option, Some, None, option_map, bytes_eq, if◌then◌else◌}
+use Rattle.std.specs.Prelude.{ℕ, Bool, true, false, List, [], ◌∷◌, Option, Some, None, option_map, if◌then◌else◌}
 use Rattle.direction.specs.declared.Dir.{Dir}
 use Rattle.uds_exchange.specs.Meaning.{ItemValue, exchange, stray}
 use Rattle.trace_report.specs.Blocks.{is_request_role}

@@ -1,7 +1,6 @@
 -- The text of a report: a front, the rows of the trace in blocks, and an end. It is told as the log is read: with the first frame
 -- the front, with each frame its rows, and at the end of the log, or where it is refused, the rest.
-use Rattle.std.specs.Prelude.{ℕ, false, List, [], ◌∷◌, ◌++◌, codes, length}
-use Rattle.std.specs.List.{last_or}
+use Rattle.std.specs.Prelude.{ℕ, false, List, [], ◌∷◌, ◌++◌, codes}
 use Rattle.isotp_receive.specs.Trace.{Entry}
 use Rattle.trace_report.specs.declared.blocks.Blocks.{Blocks}
 use Rattle.trace_report.specs.declared.tally.Tally.{Tally}

@@ -1,21 +1,20 @@
 -- What is decided as a meaning grows, and that a decider does just that.
-use Rattle.std.proofs.Common.{◌≡◌, ℕ, true, false, List, [], ◌∷◌, ◌++◌, map, Option, Some, None, refl, sym, ◌∙◌, ap, subst, inl, inr, append_assoc, option_map}
+use Rattle.std.proofs.Common.{◌≡◌, ℕ, false, List, [], ◌∷◌, ◌++◌, map, Option, Some, None, refl, sym, ◌∙◌, ap, inl, inr, append_assoc}
 use Rattle.std.specs.Prelude.{slice_set}
-use Rattle.std.proofs.lemmas.List.{append-nil, map-append}
+use Rattle.std.proofs.lemmas.List.{append-nil}
 use Rattle.std.proofs.lemmas.Bool.{cases_Bool}
 use Rattle.std.proofs.lemmas.Option.{same_Some, none-some}
 use Rattle.direction.specs.Dir.{Message}
 use Rattle.direction.specs.declared.Dir.{Dir}
-use Rattle.uds_message.specs.Message.{sid}
-use Rattle.uds_exchange.specs.Decided.{decided_in, decided, unanswered_items, undecided}
+use Rattle.uds_exchange.specs.Decided.{decided_in, decided, unanswered_items}
 use Rattle.uds_exchange.specs.Decider.{DeciderValue, decides_after, AreDecidedBy, IsKept}
 use Rattle.uds_exchange.specs.Laws.{open_with, DecidedThenUndecided, DecidedGrows, UndecidedMustWait}
 use Rattle.uds_exchange.specs.Meaning.{ItemValue, exchange, stray, stray_of, is_tester_request, is_answer_to, is_pending_reply_to, meaning, flattened}
 use Rattle.uds_exchange.specs.Order.{has_exchange, open_request_in, open_request, held_in, held, rejection_of}
-use Rattle.uds_exchange.specs.Orderer.{OrdererValue, stands_after, IsHeld}
-use Rattle.uds_exchange.specs.proving.Deciding.{answered_items, items_for, step_in, items_by, keep_for, keep, Refuses}
+use Rattle.uds_exchange.specs.Orderer.{OrdererValue, stands_after}
+use Rattle.uds_exchange.specs.proving.Deciding.{step_in, items_by, keep_for, keep, Refuses}
 use Rattle.uds_exchange.specs.proving.Pairing.{one_later, waiting, join_by, join}
-use Rattle.uds_exchange.specs.proving.Steps.{advance_for, advance}
+use Rattle.uds_exchange.specs.proving.Steps.{advance_for}
 use Rattle.uds_exchange.specs.declared.step.Step.{Step}
 use Rattle.uds_exchange.specs.declared.step.Step.TheVariants as step
 use Rattle.uds_exchange.proofs.MustWait.{open-request-waits, open-request-behind, rejects}

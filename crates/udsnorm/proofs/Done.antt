@@ -1,5 +1,5 @@
 -- What was done where the exit status is 0.
-use Rattle.std.proofs.Common.{◌≡◌, ◌≤◌, ◌+◌, ℕ, inl, inr, List, [], ◌++◌, Option, Some, None, Result, Ok, Err, arith, ap, refl, sym, subst, ◌∙◌, Bool, true, false}
+use Rattle.std.proofs.Common.{◌≡◌, ◌≤◌, ◌+◌, ℕ, inl, inr, List, ◌++◌, Option, Some, None, Result, Ok, Err, arith, ap, sym, subst, ◌∙◌, Bool, false}
 use Rattle.std.specs.Prelude.{string_bytes}
 use Rattle.isotp_receive.specs.declared.TheConstants.{MESSAGE_LIMIT}
 use Rattle.clap.specs.Walk.{Text}

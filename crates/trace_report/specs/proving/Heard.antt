@@ -1,5 +1,5 @@
 -- Devices of proof: what the machine keeps of a log that is held, and what it answers at its end.
-use Rattle.std.specs.Prelude.{◌≡◌, ℕ, ◌≤◌, ◌^◌, false, List, [], length, Result, Ok, Err}
+use Rattle.std.specs.Prelude.{◌≡◌, ◌≤◌, ◌^◌, false, List, [], length, Ok, Err}
 use Rattle.isotp_receive.specs.declared.TheConstants.{MESSAGE_LIMIT}
 use Rattle.isotp_receive.specs.Trace.{Entry}
 use Rattle.trace_canon.specs.Told.{Script, Answering}

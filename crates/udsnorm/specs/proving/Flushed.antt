@@ -1,5 +1,5 @@
 -- Devices of proof: a flush that is due or not, behind a text that was written or not.
-use Rattle.std.specs.Prelude.{◌≡◌, ℕ, ◌+◌, ◌⊎◌, Bool, true, false}
+use Rattle.std.specs.Prelude.{◌≡◌, ◌+◌, Bool, true, false}
 use Rattle.std.specs.Io.KnownBytes.{Keeps}
 use Rattle.trace_io.specs.declared.device.Target.{Ghosts as TargetGhosts}
 

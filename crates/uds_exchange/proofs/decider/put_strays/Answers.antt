@@ -1,7 +1,7 @@
 use Rattle.std.proofs.Common.{map, sym, subst}
 use Rattle.uds_exchange.specs.ItemSink.{PutsItems}
 use Rattle.uds_exchange.specs.Meaning.{stray_of}
-use Rattle.uds_exchange.proofs.PuttingItems.{TakesStray, strays-put, never_fails}
+use Rattle.uds_exchange.proofs.PuttingItems.{strays-put}
 use Rattle.uds_exchange.proofs.decider.put_strays.Goals as goal
 
 pub returns : goal.returns

@@ -1,4 +1,4 @@
-use Rattle.std.proofs.Common.{List, ℕ, Result, subst, sym}
+use Rattle.std.proofs.Common.{Result, subst, sym}
 use Rattle.isotp_receive.specs.declared.TheConstants.{MESSAGE_LIMIT}
 use Rattle.trace_canon.specs.declared.fault.CompareFault.{CompareFault}
 use Rattle.trace_report.specs.PairPage.{pair_page, pair_title}

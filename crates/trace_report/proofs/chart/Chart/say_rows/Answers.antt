@@ -1,4 +1,4 @@
-use Rattle.std.proofs.Common.{◌≡◌, ◌≤◌, Option, Some, None, List, arith, ap, subst, sym, ◌++◌, ◌∙◌, append_assoc, length, suc, zero-le}
+use Rattle.std.proofs.Common.{◌≡◌, ◌≤◌, Option, Some, None, List, arith, ap, subst, sym, ◌++◌, ◌∙◌, append_assoc, length}
 use Rattle.std.proofs.lemmas.List.{length-append}
 use Rattle.trace_report.specs.Rows.{RowValue}
 use Rattle.trace_report.specs.declared.row.Row.{Row}

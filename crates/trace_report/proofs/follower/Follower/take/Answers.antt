@@ -1,18 +1,10 @@
-use Rattle.std.proofs.Common.{length, ◌<◌, ◌^◌, ◌≡◌, Option, Some, None, Bool, true, false, List, ℕ, arith, ap, sym, subst, ◌∙◌, [], ◌∷◌, ◌++◌, rules, refl, append_assoc, append-nil}
-use Rattle.direction.specs.declared.Dir.{Dir}
+use Rattle.std.proofs.Common.{length, ◌<◌, ◌^◌, ◌≡◌, false, arith, ap, sym, subst, ◌∙◌, [], ◌∷◌, ◌++◌, rules, append-nil}
 use Rattle.isotp_receive.specs.declared.TheConstants.{MESSAGE_LIMIT}
-use Rattle.isotp_receive.specs.declared.event.Ended.{Ended}
-use Rattle.isotp_receive.specs.declared.event.Verdict.{Verdict}
 use Rattle.isotp_receive.specs.EventSeen.{seen_event, seen_verdict}
-use Rattle.isotp_receive.specs.Trace.{Entry}
-use Rattle.isotp_receive.specs.Verdict.{EventValue, messages, told_message, verdict}
+use Rattle.isotp_receive.specs.Verdict.{messages, told_message}
 use Rattle.isotp_receive.proofs.Promises.{messages_are_few}
-use Rattle.uds_exchange.specs.Numbering.{step_after}
-use Rattle.trace_canon.specs.MessageLines.{place_of}
-use Rattle.trace_report.specs.Events.{asked_in, completes_request_by, ended_rows, event_rows, frame_rows, is_there, message_rows, rows_before, verdict_rows}
-use Rattle.trace_report.specs.Rows.{RowValue}
-use Rattle.trace_report.specs.declared.row.Row.{Row}
-use Rattle.trace_report.specs.proving.Following.{Follows, KnowsPlaces, row_if, rows_in}
+use Rattle.trace_report.specs.Events.{completes_request_by, ended_rows, event_rows, is_there, verdict_rows}
+use Rattle.trace_report.specs.proving.Following.{KnowsPlaces, row_if}
 use Rattle.trace_report.specs.proving.Pages.{row_of}
 use Rattle.isotp_receive.specs.Verdict.{message as completes}
 use Rattle.trace_canon.specs.declared.begun.FramePlace.{FramePlace}

@@ -1,11 +1,11 @@
-use Rattle.std.proofs.Common.{◌≡◌, ◌≤◌, ◌<◌, ◌^◌, ◌-◌, List, ℕ, arith, ap, sym, subst, ◌∙◌, [], ◌∷◌, ◌++◌, length, refl}
+use Rattle.std.proofs.Common.{◌<◌, ◌^◌, ◌-◌, List, arith, ap, subst, ◌++◌, length, refl}
 use Rattle.isotp_receive.specs.declared.TheConstants.{MESSAGE_LIMIT}
 use Rattle.trace_report.specs.Blocks.{blocks_of, rows_text}
-use Rattle.trace_report.specs.Events.{end_rows, rows_of}
+use Rattle.trace_report.specs.Events.{rows_of}
 use Rattle.trace_report.specs.Front.{PageTitle}
-use Rattle.trace_report.specs.Page.{first_time, front_before, last_time, page_end, rows_after}
+use Rattle.trace_report.specs.Page.{front_before, page_end}
 use Rattle.trace_report.specs.Rows.{RowValue}
-use Rattle.trace_report.specs.proving.Following.{IsChartOf, rows_in}
+use Rattle.trace_report.specs.proving.Following.{IsChartOf}
 use Rattle.trace_report.proofs.Steps.{few_rows}
 use Rattle.trace_report.proofs.reporter.ReporterMachine.end.Goals as goal
 

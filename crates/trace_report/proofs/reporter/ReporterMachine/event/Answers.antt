@@ -1,14 +1,13 @@
-use Rattle.std.proofs.Common.{◌≡◌, ◌≤◌, ◌<◌, ◌^◌, ◌-◌, List, ℕ, arith, ap, sym, subst, ◌∙◌, [], ◌∷◌, ◌++◌, length}
+use Rattle.std.proofs.Common.{◌≡◌, ◌<◌, ◌^◌, ◌-◌, List, arith, ap, sym, subst, ◌∙◌, [], ◌∷◌, ◌++◌, length}
 use Rattle.std.proofs.lemmas.List.{length-append}
 use Rattle.isotp_receive.specs.declared.TheConstants.{MESSAGE_LIMIT}
 use Rattle.trace_canon.specs.MessageLines.{place_of}
-use Rattle.trace_canon.specs.declared.begun.FramePlace.{FramePlace}
 use Rattle.trace_report.specs.Blocks.{blocks_of, rows_text}
-use Rattle.trace_report.specs.Events.{frame_rows, rows_of}
+use Rattle.trace_report.specs.Events.{rows_of}
 use Rattle.trace_report.specs.Front.{PageTitle}
-use Rattle.trace_report.specs.Page.{first_time, front_before, rows_after}
+use Rattle.trace_report.specs.Page.{front_before}
 use Rattle.trace_report.specs.Rows.{RowValue}
-use Rattle.trace_report.specs.proving.Following.{IsChartOf, rows_in}
+use Rattle.trace_report.specs.proving.Following.{IsChartOf}
 use Rattle.trace_report.proofs.Steps.{few_rows, rows_next, span_next}
 use Rattle.trace_report.proofs.reporter.ReporterMachine.event.Goals as goal
 
