@@ -112,9 +112,9 @@ uninstall:
 	rm -f $(DESTDIR)$(HEADER) $(DESTDIR)$(PKG_CONFIG) $(DESTDIR)$(LIBDIR)/libudsnorm.a
 	rm -f $(DESTDIR)$(LIBDIR)/libudsnorm.so $(DESTDIR)$(LIBDIR)/$(SONAME) $(DESTDIR)$(LIBDIR)/libudsnorm.so.$(VERSION)
 
-# A release for other machines, as a tarball and as Debian packages: each prints its path.
-dist: build
-	@packaging/dist $(PROGRAM) out
+# A release for other machines, as a tarball and as Debian packages of the same contents: each prints its path.
+dist: build lib
+	@packaging/dist $(PROGRAM) $(LIBRARY) out
 
 deb: build lib
 	@packaging/deb $(PROGRAM) out

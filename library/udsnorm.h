@@ -1,5 +1,8 @@
 /* The canonical form of recorded UDS sessions (ISO 14229 over ISO-TP, ISO 15765-2), from candump logs, as a library.
  *
+ * candump of can-utils records such a session, of a tester and an ECU, from SocketCAN, on classic CAN or CAN FD. (ISO-TP
+ * is also called DoCAN.) The texts are for regression tests, and for diffs of diagnostic traces.
+ *
  * A call is handed a log of `candump -l` or `-L` in memory, and puts a text about it into memory of the caller. It
  * reads no file, prints nothing, keeps nothing from call to call and has no global state: any number of threads may
  * call at once.

@@ -1,10 +1,8 @@
 # What the scripts that make Debian packages share; they run it at the top of the repository. A package is what lies in a
 # folder of its own, which is called its stage. Equal files give equal packages.
-umask 022
-version=$(cat VERSION)
+. packaging/release.sh
 debian_version=$version-0upstream1
 architecture=$(dpkg --print-architecture)
-export SOURCE_DATE_EPOCH="${SOURCE_DATE_EPOCH:-$(git log -1 --format=%ct 2> /dev/null || stat -c %Y VERSION)}"
 maintainer="Yozhdyrga maintainers <maintainers@users.noreply.yozhdyrga.example>"
 
 # The newest version of the C library that a file asks for.

@@ -19,7 +19,7 @@ INFORMATION = f"udsnorm-{VERSION}.dist-info"
 METADATA = f"""Metadata-Version: 2.1
 Name: udsnorm
 Version: {VERSION}
-Summary: Compares recorded UDS sessions (ISO 14229, ISO-TP ISO 15765-2) from candump logs of CAN and CAN FD
+Summary: Compares recorded UDS sessions of an ECU (ISO 14229, ISO-TP or DoCAN, ISO 15765-2), from candump logs of SocketCAN, CAN or CAN FD, for regression tests and diffs of diagnostic traces
 License: MIT
 Classifier: License :: OSI Approved :: MIT License
 Classifier: Operating System :: POSIX :: Linux

@@ -278,12 +278,14 @@ class Firefox(Browser):
         return [event["params"] for event in self.events if event["method"] == method]
 
     def parts(self):
-        # The page tells its window of its parts bit by bit.
-        found, before = [], None
-        while not found or found != before:
+        # The page tells its window of its parts bit by bit, and late on a busy machine.
+        parts, before = [], None
+        end = time.monotonic() + ANSWER
+        while (not parts or parts != before) and time.monotonic() < end:
             time.sleep(0.5)
-            found, before = json.loads(self.evaluate(self.READER, self.window)), found
-        return [(ROLES[role], name) for role, name in found if role in ROLES]
+            found, before = json.loads(self.evaluate(self.READER, self.window)), parts
+            parts = [(ROLES[role], name) for role, name in found if role in ROLES]
+        return parts
 
     def paper(self):
         return base64.b64decode(self.tell("browsingContext.print", context=self.tab, page=PAPER)["data"])

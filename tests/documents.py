@@ -14,6 +14,8 @@
 - a line of prose stands above each definition that a public function's contract or a law cites;
 - docs/architecture.md says of each crate of the kit that the program stands on where it is called, and the call stands there;
 - the page for callers of each crate names each clause of its public calls, and docs/proved.md cites no other;
+- scripts/clauses prints a row for each call and law that docs/proved.md cites, with the clauses that it cites;
+- what introduces the program or the library has the words by which somebody looks for such a tool;
 - each fault displays the line that the program tells of it, as the page for callers of udsnorm says;
 - the number of the version stands in the program's source once, and is that of the file VERSION;
 - nothing in the project is a symbolic link, what is built included: the gate, which runs last, would take none.
@@ -29,6 +31,7 @@ from pathlib import Path
 from xml.etree import ElementTree
 
 import clauses
+import edits
 import fault_lines
 from cases import Cases
 
@@ -43,6 +46,13 @@ PROGRAM = "udsnorm"
 LIBRARY = "udsnorm_c"
 SVG = "{http://www.w3.org/2000/svg}"
 
+# The words by which somebody looks for such a tool, and what has to have them.
+SEARCHED = ["UDS", "ISO 14229", "ISO-TP", "ISO 15765-2", "DoCAN", "candump", "SocketCAN", "CAN FD", "ECU", "regression test", "diagnostic traces"]
+INTRODUCING = [
+    "README.md", "docs/library.md", "library/udsnorm.h", "packaging/INSTALL.md", "packaging/deb", "packaging/deb-library", "python/pyproject.toml",
+    "share/man/udsnorm.1.in",
+]
+DESCRIPTIONS = [("pyproject.toml", r'description = "(.*)"'), ("wheel_builder.py", r"Summary: (.*)")]
 
 
 def files_below(folder):
@@ -159,27 +169,23 @@ def named_files(cases):
 def not_there_once(edit, crate):
     """What a wrong body takes away and doesn't stand once in its file, as it is after what the body changed before. A file that
     is not there has nothing to take away."""
-    texts, wrong, path, old = {}, [], None, None
-    for kind, rest in re.findall(r"^(file|old|new): ?(.*)$", edit.read_text(), re.M):
-        if kind == "file":
-            path = crate / rest
-            texts.setdefault(path, path.read_text() if path.exists() else "")
-        elif kind == "old":
-            old = rest
-        else:
-            wrong += [old] if texts[path].count(old) != 1 else []
-            texts[path] = texts[path].replace(old, rest)
+    texts, wrong = {}, []
+    for file, old, new in edits.changes(edit):
+        path = crate / file
+        texts.setdefault(path, path.read_text() if path.exists() else "")
+        wrong += [old] if texts[path].count(old) != 1 else []
+        texts[path] = texts[path].replace(old, new)
     return wrong
 
 
 def wrong_bodies(cases):
     for crate in crates():
         folder = TOP / "crates" / crate
-        edits = [*(folder / "must-fail").glob("*.edit"), *(TOP / "attacks" / crate).glob("*.edit")]
-        wrong = [f"{edit.name}: {old}" for edit in sorted(edits) for old in not_there_once(edit, folder)]
-        names = [edit.name for edit in edits]
+        bodies = [*edits.of_the_gate(crate), *edits.beyond_it(crate)]
+        wrong = [f"{edit.name}: {old}" for edit in bodies for old in not_there_once(edit, folder)]
+        names = [edit.name for edit in bodies]
         wrong += [f"{name} stands twice" for name in sorted(set(names)) if names.count(name) > 1]
-        if edits:
+        if bodies:
             cases.report(f"the wrong bodies of {crate} can be applied", wrong)
 
 
@@ -286,6 +292,30 @@ def named_clauses(cases):
         cases.report(f"{name_of(PROVED)} cites no clause that {crate} has not", wrong)
 
 
+def printed_clauses(cases):
+    """What docs/proved.md cites is in the tables that scripts/clauses prints: each law and call in that of its crate."""
+    printed = subprocess.run([TOP / "scripts" / "clauses"], check=True, capture_output=True, text=True, timeout=60).stdout
+    tables = dict(re.findall(r"^## (\w+)\n\n(.*?)(?=\n\n|\Z)", printed, re.M | re.S))
+    wrong, count = [], 0
+    for owner, cell in clauses.cells(PROVED.read_text()):
+        for citation in clauses.citations(cell):
+            table = tables.get(citation.crate or owner, "")
+            for name in citation.names:
+                count += 1
+                rows = re.findall(rf"^\| (?:law |private )?`(?:\w+::)*{name}` \| ([^|]*) \|", table, re.M)
+                wanted = [f"`{clause}`" if clause else "without a name" for clause in citation.clauses or []]
+                wrong += [] if any(all(clause in row for clause in wanted) for row in rows) else [f"no {name} with {wanted}"]
+    cases.report("scripts/clauses prints what docs/proved.md cites", wrong if count >= 80 else [f"{count} citations alone", *wrong])
+
+
+def searched_words(cases):
+    for name in INTRODUCING:
+        text = re.sub(r"\s+(\* )?", " ", (TOP / name).read_text())
+        cases.report(f"{name} has the words that are searched", [f"no {word}" for word in SEARCHED if word not in text])
+    told = [re.search(pattern, (TOP / "python" / file).read_text())[1] for file, pattern in DESCRIPTIONS]
+    cases.report("the Python package has one description", [] if told[0] == told[1] else told)
+
+
 def lines_of_faults(cases):
     for name, wrong in fault_lines.compared(TOP / "crates"):
         cases.report(f"what {name} displays is the line that is told of it", wrong)
@@ -309,7 +339,7 @@ def main():
     cases = Cases(None)
     for test in [
         picture, style, links, lengths_of_lines, named_files, wrong_bodies, tried_by_the_gate, definitions, citations, calls_of_the_kit,
-        named_clauses, lines_of_faults, version_of_the_source, symbolic_links,
+        named_clauses, printed_clauses, searched_words, lines_of_faults, version_of_the_source, symbolic_links,
     ]:
         test(cases)
     cases.end()

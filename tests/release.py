@@ -1,7 +1,8 @@
 #!/usr/bin/env python3
 """Tests of what a release is made of: the version, the tarball and the Debian packages, each installed somewhere, run and
 removed again. The packages are tried only where dpkg-deb and strip are installed, by dpkg itself only for root, and by
-Debian's checker only where lintian is installed. Those of the library, only where its folder is given.
+Debian's checker only where lintian is installed. The tarball, which has the library, and the packages of the library only
+where its folder is given.
 
     tests/release.py crates/udsnorm/out/udsnorm [out/lib]
 
@@ -14,6 +15,7 @@ import shutil
 import subprocess
 import sys
 import tempfile
+import zipfile
 from pathlib import Path
 
 from cases import DONE, Cases
@@ -59,6 +61,20 @@ OF_THE_LIBRARY = {
 }
 PAPERS = ("copyright", "changelog.gz", "changelog.Debian.gz")
 
+# What the tarball has below a prefix: the program's files, and those of the library. Beside them lie its papers and the wheel.
+BELOW_A_PREFIX = SHIPPED | {
+    "include/udsnorm.h",
+    "lib/libudsnorm.a",
+    "lib/libudsnorm.so",
+    f"lib/libudsnorm.so.{NUMBER}",
+    f"lib/libudsnorm.so.{VERSION}",
+    "lib/pkgconfig/udsnorm.pc",
+    "share/doc/udsnorm/examples/normalise.c",
+    "share/doc/udsnorm/examples/compare.cpp",
+}
+WHEEL = f"udsnorm-{VERSION}-py3-none-linux_x86_64.whl"
+BESIDE = {"README.md", "LICENSE", "CHANGELOG.md", WHEEL}
+
 
 def output(*words, **options):
     """What a command prints, which has to end well."""
@@ -84,13 +100,13 @@ def version_is_one(cases):
     cases.report("the list of changes begins with it", [] if newest and newest[1] == VERSION else [newest[1] if newest else "no version"])
 
 
-def made(kind, program, folder, name):
-    """A release of this kind, made in a folder of its own."""
-    return Path(output(TOP / "packaging" / kind, program, folder / name).rstrip("\n"))
+def made(kind, built, folder):
+    """A release of this kind, made of what was built in a folder of its own."""
+    return Path(output(TOP / "packaging" / kind, *built, folder).rstrip("\n"))
 
 
-def is_repeatable(cases, kind, program, folder):
-    first, again = made(kind, program, folder, "first"), made(kind, program, folder, "again")
+def is_repeatable(cases, kind, built, folder):
+    first, again = (made(kind, built, folder / name) for name in ("first", "again"))
     cases.report(f"{kind} made twice is the same", [] if first.read_bytes() == again.read_bytes() else ["other bytes"])
     return first
 
@@ -101,31 +117,56 @@ def commands_of(readme, folder):
     return [block.replace("sudo ", "").replace("/usr/local", str(folder)) for block in blocks]
 
 
-def tarball(cases, folder):
-    file = is_repeatable(cases, "dist", cases.program, folder)
+def tarball(cases, library, folder):
+    file = is_repeatable(cases, "dist", [cases.program, library], folder)
     output("sha256sum", "--check", "--quiet", f"{file.name}.sha256", cwd=file.parent)
     cases.report("the checksum of the tarball", [])
     output("tar", "-xzf", file, "-C", folder)
     unpacked = folder / f"udsnorm-{VERSION}"
-    wrong = difference(files_below(unpacked), SHIPPED | {"README.md", "LICENSE", "CHANGELOG.md"})
-    cases.report("the files of the tarball", wrong)
+    cases.report("the files of the tarball", difference(files_below(unpacked), BELOW_A_PREFIX | BESIDE))
+    modules = folder / "modules"
+    zipfile.ZipFile(unpacked / WHEEL).extractall(modules)
+    has_all_of_the_packages(cases, files_below(unpacked) | files_below(modules))
     same = (unpacked / "bin" / "udsnorm").read_bytes() == Path(cases.program).read_bytes()
     cases.report("its program is the one that was built", [] if same else ["other bytes"])
     runs(cases, "its program where it lies", unpacked / "bin" / "udsnorm")
+    imports(cases, "its wheel", modules, {})
+    links_by_pkg_config(cases, "its library where it lies", unpacked)
     manual = (unpacked / "share" / "man" / "man1" / "udsnorm.1").read_text()
     cases.report("its manual page has the version", [] if f'"udsnorm {VERSION}"' in manual.split("\n")[0] else [manual[:80]])
     root = folder / "local"
     root.mkdir()
     install, remove = commands_of((unpacked / "README.md").read_text(), root)
     output("sh", "-ec", install, cwd=unpacked)
-    cases.report("installed as its README says", difference(files_below(root), SHIPPED))
+    cases.report("installed as its README says", difference(files_below(root), BELOW_A_PREFIX))
     runs(cases, "the installed program", root / "bin" / "udsnorm")
+    links_by_pkg_config(cases, "the installed library", root)
     output("sh", "-ec", remove, cwd=unpacked)
     cases.report("removed as its README says", difference(files_below(root), set()))
 
 
+def has_all_of_the_packages(cases, found):
+    """Each file of a package, its papers but one for Debian alone, is in the tarball or in the wheel, under the same name."""
+    here = {Path(name).name for name in found}
+    packaged = {Path(name).name for files in (PACKAGED, *OF_THE_LIBRARY.values()) for name in files} - set(PAPERS)
+    missing = sorted(name for name in packaged if name.removesuffix(".gz") not in here)
+    cases.report("the tarball has what the packages have", [f"no {name}" for name in missing])
+
+
+def links_by_pkg_config(cases, name, root):
+    """The example in C is compiled and linked as pkg-config tells below this folder, with the shared library; and once more with
+    the static one."""
+    missing = [tool for tool in ("cc", "pkg-config") if not shutil.which(tool)]
+    if missing:
+        print(f"skipped {name}: no {' and no '.join(missing)} is installed", flush=True)
+        return
+    told = output("pkg-config", "--cflags", "--libs", "udsnorm", env=os.environ | {"PKG_CONFIG_PATH": str(root / "lib/pkgconfig")})
+    links(cases, f"{name}, shared", root, "share/doc/udsnorm/examples", told.split(), {"LD_LIBRARY_PATH": str(root / "lib")})
+    links(cases, f"{name}, static", root, "share/doc/udsnorm/examples", [f"-I{root / 'include'}", root / "lib/libudsnorm.a"], {})
+
+
 def package(cases, folder):
-    file = is_repeatable(cases, "deb", cases.program, folder)
+    file = is_repeatable(cases, "deb", [cases.program], folder)
     fields = output("dpkg-deb", "--field", file, "Package", "Version", "Depends")
     want = rf"Package: udsnorm\nVersion: {re.escape(VERSION)}-0upstream1\nDepends: libc6 \(>= \d+\.\d+\)\n"
     cases.report("the fields of the package", [] if re.fullmatch(want, fields) else [fields])
@@ -154,18 +195,28 @@ def packages_of_the_library(cases, library, folder):
 
 
 def works(cases, root):
-    """What is installed below a root is compiled against, linked to and imported."""
-    found = {"LD_LIBRARY_PATH": str(root / LIBRARIES), "PATH": os.environ["PATH"]}
-    program = "import sys, udsnorm; sys.stdout.buffer.write(udsnorm.normalise(sys.argv[1]))"
-    python = run(sys.executable, ["-B", "-c", program, LOG], env=found | {"PYTHONPATH": str(root / PYTHON)})
-    cases.case("the Python package that dpkg installed", python, DONE, CANONICAL.read_bytes())
+    """What dpkg installed below a root is imported, compiled against and linked to."""
+    found = {"LD_LIBRARY_PATH": str(root / LIBRARIES)}
+    imports(cases, "the Python package that dpkg installed", root / PYTHON, found)
     if not shutil.which("cc"):
         print("skipped the example in C: no cc is installed", flush=True)
         return
+    words = [f"-I{root / 'usr/include'}", f"-L{root / LIBRARIES}", "-ludsnorm"]
+    links(cases, "the example in C, with what dpkg installed", root, "usr/share/doc/libudsnorm-dev/examples", words, found)
+
+
+def imports(cases, name, modules, found):
+    """The Python package of a folder answers a sample log, with these words of the environment alone."""
+    program = "import sys, udsnorm; sys.stdout.buffer.write(udsnorm.normalise(sys.argv[1]))"
+    environment = found | {"PATH": os.environ["PATH"], "PYTHONPATH": str(modules)}
+    cases.case(name, run(sys.executable, ["-B", "-c", program, LOG], env=environment), DONE, CANONICAL.read_bytes())
+
+
+def links(cases, name, root, examples, words, found):
+    """The example in C below a root, compiled with these words, answers a sample log."""
     built = root.parent / "normalise"
-    example = root / "usr/share/doc/libudsnorm-dev/examples/normalise.c"
-    output("cc", example, f"-I{root / 'usr/include'}", f"-L{root / LIBRARIES}", "-ludsnorm", "-o", built)
-    cases.case("the example in C, with what dpkg installed", run(built, [LOG], env=found), DONE, CANONICAL.read_bytes())
+    output("cc", root / examples / "normalise.c", *words, "-o", built)
+    cases.case(name, run(built, [LOG], env=found | {"PATH": os.environ["PATH"]}), DONE, CANONICAL.read_bytes())
 
 
 def checked(cases, files):
@@ -204,13 +255,17 @@ def main():
     missing = [tool for tool in ("dpkg-deb", "strip") if not shutil.which(tool)]
     with tempfile.TemporaryDirectory() as directory:
         folder = Path(directory)
-        tarball(cases, folder)
+        library = Path(sys.argv[2]).resolve() if len(sys.argv) == 3 else None
+        if library:
+            tarball(cases, library, folder)
+        else:
+            print("skipped the tarball: no library is given", flush=True)
         if missing:
             print(f"skipped the Debian packages: no {' and no '.join(missing)} is installed", flush=True)
         else:
             package(cases, folder)
-        if len(sys.argv) == 3 and not missing:
-            packages_of_the_library(cases, Path(sys.argv[2]).resolve(), folder)
+        if library and not missing:
+            packages_of_the_library(cases, library, folder)
     cases.end()
 
 

@@ -1,7 +1,7 @@
 #!/usr/bin/env python3
 """Tests of what is shipped beside the program: its manual page names every command and option that its help names, and its
-completions offer them, `make install` and `make uninstall` know the same files, `make run` and `make build` tell what they do, and `make
-check` does what it tells, in the order of crates.txt.
+completions offer them, `make install` and `make uninstall` know the same files, a release has program and library, `make run`
+and `make build` tell what they do, and `make check` does what it tells, in the order of crates.txt.
 
     tests/shipped.py crates/udsnorm/out/udsnorm
 
@@ -121,6 +121,15 @@ def install_is_undone(cases):
     cases.report("uninstall removes what install puts somewhere", wrong)
 
 
+def releases_have_program_and_library(cases):
+    """A tarball and packages are made once the program and the library are built."""
+    for goal, makers in [("dist", ["dist"]), ("deb", ["deb", "deb-library"])]:
+        _, told, _ = make("-n", goal)
+        steps = re.findall(r"rt (run|lib) |^packaging/(\S+)", told, re.M)
+        found = [step or maker for step, maker in steps]
+        cases.report(f"make {goal} builds program and library first", [] if found == ["run", "lib", *makers] else [str(found)])
+
+
 def make_run_tells_what_the_program_says(cases):
     """`make run` without its build: the canonical log and nothing else, and where it ends early the program's own words and status,
     with the status that make has for each failure."""
@@ -171,23 +180,21 @@ OF_PROGRAM += [f"tests/{test}.py" for test in ["command_line", "program", "sessi
 
 
 def make_check_goes_upwards(cases):
-    """`make check` with another `rt`, up to the step that fails: each crate comes after those that it stands on, and the program
-    before those that it doesn't stand on."""
+    """`make check` with another `rt`, up to the step that fails: the program comes before the crates that it doesn't stand on, and
+    each of these after those that it stands on."""
     for crate, failing, steps in [
         ("uds_message", "uds_message check", ["uds_message: rt fmt", "uds_message: rt check"]),
         (
             "uds_message",
             "udsnorm run",
-            ["uds_message: rt fmt", "uds_message: rt check"]
-            + [f"{user}: rt check" for user in ["uds_exchange", "uds_find", "trace_canon", "trace_report"]]
-            + [OF_PROGRAM[0]],
+            ["uds_message: rt fmt", "uds_message: rt check", OF_PROGRAM[0]],
         ),
         ("udsnorm", "udsnorm run", ["udsnorm: rt fmt", "udsnorm: rt check", OF_PROGRAM[0]]),
         ("acceptance", "acceptance test", ["acceptance: rt fmt", "acceptance: rt check", "acceptance: rt test"]),
         (
             "isotp_segment",
             "acceptance test",
-            ["isotp_segment: rt fmt", "isotp_segment: rt check", "trace_canon: rt check", "trace_report: rt check", *OF_PROGRAM]
+            ["isotp_segment: rt fmt", "isotp_segment: rt check", *OF_PROGRAM]
             + [f"{user}: rt check" for user in ["json_reading", "udsnorm_c", "layer_bench", "refused_memory", "acceptance"]]
             + ["acceptance: rt test"],
         ),
@@ -209,8 +216,8 @@ def main():
         sys.exit(__doc__)
     cases = Cases(os.path.abspath(sys.argv[1]))
     for test in [
-        names_are_complete, manual_is_well_formed, shells_complete, install_is_undone, make_run_tells_what_the_program_says,
-        make_build_tells_its_begin_and_end, make_check_goes_upwards,
+        names_are_complete, manual_is_well_formed, shells_complete, install_is_undone, releases_have_program_and_library,
+        make_run_tells_what_the_program_says, make_build_tells_its_begin_and_end, make_check_goes_upwards,
     ]:
         test(cases)
     cases.end()

@@ -126,6 +126,7 @@ fn finished(alloc: Global, heard: Heard) -> Result<HeldSession, AllocError>
 }
 
 /// Holds new rows behind those before.
+#[inline(always)]
 fn hold_rows(alloc: Global, rows: &mut Vec<HeldRow>, new: NewRows<'_>) -> Result<(), AllocError>
     ensures held { OnOk result (held_rows rows.new.items ≡ held_rows rows.old.items ++ rows_in new.entry) }
     ensures refused { IfErr result (λ refused. rows_in new.entry ≢ []) }
@@ -136,6 +137,7 @@ fn hold_rows(alloc: Global, rows: &mut Vec<HeldRow>, new: NewRows<'_>) -> Result
 }
 
 /// Holds a row, if there is one.
+#[inline(always)]
 fn hold_row_if(
     alloc: Global,
     rows: &mut Vec<HeldRow>,
