@@ -15,6 +15,7 @@
 - docs/architecture.md says of each crate of the kit that the program stands on where it is called, and the call stands there;
 - the page for callers of each crate names each clause of its public calls, and docs/proved.md cites no other;
 - scripts/clauses prints a row for each call and law that docs/proved.md cites, with the clauses that it cites;
+- each decision of docs/DECISIONS.md says what would change it;
 - what introduces the program or the library has the words by which somebody looks for such a tool;
 - each fault displays the line that the program tells of it, as the page for callers of udsnorm says;
 - the number of the version stands in the program's source once, and is that of the file VERSION;
@@ -308,6 +309,13 @@ def printed_clauses(cases):
     cases.report("scripts/clauses prints what docs/proved.md cites", wrong if count >= 80 else [f"{count} citations alone", *wrong])
 
 
+def decisions(cases):
+    page = (DOCS / "DECISIONS.md").read_text()
+    found = re.split(r"^(?:- (?=\*\*)|## )", page, flags=re.M)
+    lacking = [decision.splitlines()[0] for decision in found if decision.startswith("**") and "*Otherwise:*" not in decision]
+    cases.report("each decision says what would change it", lacking)
+
+
 def searched_words(cases):
     for name in INTRODUCING:
         text = re.sub(r"\s+(\* )?", " ", (TOP / name).read_text())
@@ -339,7 +347,7 @@ def main():
     cases = Cases(None)
     for test in [
         picture, style, links, lengths_of_lines, named_files, wrong_bodies, tried_by_the_gate, definitions, citations, calls_of_the_kit,
-        named_clauses, printed_clauses, searched_words, lines_of_faults, version_of_the_source, symbolic_links,
+        named_clauses, printed_clauses, decisions, searched_words, lines_of_faults, version_of_the_source, symbolic_links,
     ]:
         test(cases)
     cases.end()
