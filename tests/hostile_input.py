@@ -53,7 +53,7 @@ LONGEST_PLACE_OBJECT = (
 )
 
 # What a page of two logs has for each byte of strays that the other log has not, where numbers have four digits.
-STRAY_OF_TWO = Fraction(330 + 4 * 4, 22)
+STRAY_OF_TWO = Fraction(335 + 4 * 4, 22)
 
 # Who sends a message of each role.
 ROLES = {"request tester", "stray tester", "answer unit", "pending unit", "stray unit"}
