@@ -31,20 +31,6 @@ module _ (word : List Entry → Entry → List ℕ) (last : List Entry → Summa
   unread_for limit settings log given Write old new is = tt
   unread_for limit settings log given Memory old new is = tt
 
-  -- so an announced length refuses no log
-  pub never_oversize : (settings : Settings) (log : List ℕ) (given : ℕ) (result : Result Summary Fault) (old new : List ℕ)
-      → AnswersTold lenient answers_counts MESSAGE_LIMIT settings log given result old new → IfErr result (λ why. (line announced : ℕ) → why ≢ Oversize line announced)
-  never_oversize settings log given (Ok summary) old new answers = tt
-  never_oversize settings log given (Err why) old new answers = λ line announced is.
-      subst (IsUnreadFor false MESSAGE_LIMIT settings log) is (unread_for MESSAGE_LIMIT settings log given why old new answers)
-
-  -- nor does a canonical log that would be too long
-  pub never_output_limit : (settings : Settings) (log : List ℕ) (given : ℕ) (result : Result Summary Fault) (old new : List ℕ)
-      → AnswersTold lenient answers_counts MESSAGE_LIMIT settings log given result old new → IfErr result (λ why. why ≢ OutputLimit)
-  never_output_limit settings log given (Ok summary) old new answers = tt
-  never_output_limit settings log given (Err why) old new answers = λ is.
-      subst (IsUnreadFor false MESSAGE_LIMIT settings log) is (unread_for MESSAGE_LIMIT settings log given why old new answers)
-
   -- its counts certify what those of the lines do
   pub certifies : (settings : Settings) (log : List ℕ) (given : ℕ) (result : Result Summary Fault) (old new : List ℕ)
       → AnswersTold lenient answers_counts MESSAGE_LIMIT settings log given result old new → IfOk result (Certifies MESSAGE_LIMIT settings log)
@@ -88,7 +74,3 @@ needs_when_none needs none settings log found =
         → IsKeptForMessage MESSAGE_LIMIT (trace settings found.before) found.frame
     kept (inl holds) = holds
     kept (inr needed) = absurd (none _ _ needed)
-
--- so where none needs any
-pub needs_to_receive : (settings : Settings) (log : List ℕ) → HasFrame (λ T e. IsKeptForMessage MESSAGE_LIMIT T e ⊎ ⊥) settings log → NeedsMemoryToReceive MESSAGE_LIMIT settings log
-needs_to_receive = needs_when_none (λ T e. ⊥) (λ T e none. none)

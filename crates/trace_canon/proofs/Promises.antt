@@ -6,8 +6,6 @@ pub use Rattle.trace_canon.proofs.MessagePlaces.{role_own, role_other}
 pub use Rattle.trace_canon.proofs.PlacingScripts.{begun_next, begins_at}
 pub use Rattle.trace_canon.proofs.CanonicalMachines.{messages_next}
 pub use Rattle.trace_canon.proofs.WrittenFronts.{one_more_text}
--- What a run over a script that is not strict can't answer.
-pub use Rattle.trace_canon.proofs.LenientRuns.{never_oversize, never_output_limit, needs_to_receive}
 -- A run over a script that tells nothing.
 pub use Rattle.trace_canon.proofs.QuietRuns.{never_write}
 pub use Rattle.trace_canon.proofs.Streams.{given_agrees}

@@ -15,7 +15,10 @@ use Rattle.trace_canon.specs.Explained.{IsReadAs}
 use Rattle.trace_canon.specs.Json.{Members, nothing, member, object_line}
 use Rattle.trace_canon.specs.Json as json
 use Rattle.trace_canon.specs.Needing.{BeginsWithLines}
-use Rattle.trace_canon.specs.Printed.{WritesOnce}
+use Rattle.trace_canon.specs.Printed.{RanOnce, WritesOnce}
+use Rattle.trace_canon.specs.Refusal.{HasNoBadPlaceWithin}
+use Rattle.trace_io.specs.declared.device.Source.{Ghosts as SourceGhosts}
+use Rattle.trace_io.specs.declared.device.Target.{Ghosts as TargetGhosts}
 use Rattle.trace_canon.specs.Settings.{Settings}
 use Rattle.trace_canon.specs.Summing.{ends_in_line_feed}
 use Rattle.trace_canon.specs.Told.{IsUnreadFor}
@@ -87,3 +90,8 @@ pairs_text notation pairs = flat_map (pair_line notation) pairs
 -- What is answered on a log, and what is then written: the lines of its pairs, and its counts; else why it can't be read.
 abbrev pub Finds : Notation → Settings → List ℕ → Result Summary Fault → List ℕ → List ℕ → Type 0
 Finds notation settings log = WritesOnce (pairs_text notation) (IsFoundIn settings log) (IsUnheardFor settings log)
+
+-- the run that writes them, which needs memory where an answer is credited
+abbrev pub RanToFind : {R W : Type 0} → SourceGhosts R → TargetGhosts W → Notation → Settings → R → W → Result Summary Fault → R → W → Type 0
+RanToFind source target notation settings =
+    RanOnce source target (pairs_text notation) (IsFoundIn settings) (IsUnheardFor settings) HasNoBadPlaceWithin NeedsMemoryToFind settings.max_bytes

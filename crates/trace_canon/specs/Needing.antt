@@ -52,10 +52,6 @@ NeedsMemoryToReceive limit = HasFrame (IsKeptForMessage limit)
 abbrev pub NeedsMemoryToOrder : ℕ → Settings → List ℕ → Type 0
 NeedsMemoryToOrder limit = HasFrame (λ T e. IsKeptForMessage limit T e ⊎ CompletesHeld limit T e)
 
--- or one that completes a message which is kept
-abbrev pub NeedsMemoryToDecide : ℕ → Settings → List ℕ → Type 0
-NeedsMemoryToDecide limit = HasFrame (λ T e. IsKeptForMessage limit T e ⊎ CompletesKept limit T e)
-
 -- or one that completes any message
 abbrev pub NeedsMemoryToCollect : ℕ → Settings → List ℕ → Type 0
 NeedsMemoryToCollect limit = HasFrame (λ T e. IsKeptForMessage limit T e ⊎ CompletesMessage limit T e)

@@ -1,11 +1,14 @@
 -- A text that is written by itself, once all of it is known.
-use Rattle.std.specs.Prelude.{◌≡◌, List, ℕ, ◌++◌, Result, Ok, Err, IfErr}
+use Rattle.std.specs.Prelude.{◌≡◌, ◌≢◌, ◌-◌, List, ℕ, ◌++◌, length, Result, Ok, Err, IfErr}
+use Rattle.trace_io.specs.Stream.{Agrees}
 use Rattle.trace_io.specs.Written.{HasFront, HasWritten}
+use Rattle.trace_io.specs.declared.device.Source.{Ghosts as SourceGhosts}
 use Rattle.trace_io.specs.declared.device.Target.{Ghosts}
 use Rattle.trace_canon.specs.declared.fault.Fault.{Fault}
 use Rattle.trace_canon.specs.declared.fault.Fault.TheVariants.{BadLine, Oversize, LogLimit, OutputLimit, Read, Write, Memory}
 use Rattle.trace_canon.specs.declared.summary.Summary.{Summary}
-use Rattle.trace_canon.specs.Devices.{WroteTo}
+use Rattle.trace_canon.specs.Answers.{ReadsWhile}
+use Rattle.trace_canon.specs.Devices.{ReadFrom, WroteTo}
 
 -- A target took all of a text, or a front of it where writing failed.
 pub record Prints {A W : Type 0} (target : Ghosts W) (text : List ℕ) (old : W) (result : Result A Fault) (new : W) : Type 0 where
@@ -29,3 +32,22 @@ LeavesOnce text Is Memory old new = new ≡ old
 abbrev pub WritesOnce : {V : Type 0} → (V → List ℕ) → (V → Summary → Type 0) → (Fault → Type 0) → Result Summary Fault → List ℕ → List ℕ → Type 0
 WritesOnce {V = V} text Is IsFault (Ok summary) old new = (value : V) × Is value summary × (new ≡ old ++ text value)
 WritesOnce text Is IsFault (Err fault) old new = IsFault fault × LeavesOnce text Is fault old new
+
+-- A run that reads a log, and then writes a text of it by itself: all that a caller knows of it. `Is` says of which logs what is
+-- the text's, `IsFault` why a log has none, `IsUnrefused` that nothing refuses a log among so many of its bytes, and
+-- `NeedsMemory` which logs may need some.
+pub record RanOnce {V R W : Type 0} (source : SourceGhosts R) (target : Ghosts W) (text : V → List ℕ) (Is : List ℕ → V → Summary → Type 0) (IsFault : List ℕ → Fault → Type 0) (IsUnrefused : List ℕ → ℕ → Type 0)
+    (NeedsMemory : List ℕ → Type 0) (max_bytes : ℕ) (before : R) (old : W) (result : Result Summary Fault) (after : R) (new : W) : Type 0 where
+  -- what is answered and written, for each log with which the bytes that were read agree
+  pub answer : (log : List ℕ) → Agrees (source.given before) (source.given after) (source.is_over after) log
+      → WritesOnce text (Is log) (IsFault log) result (target.taken old) (target.taken new)
+  -- where there is no such text, the target is left alone
+  pub unwritten : IfErr result (λ fault. fault ≢ Write → new ≡ old)
+  -- reading stops within one piece
+  pub near : (log : List ℕ) → Agrees (source.given before) (source.given after) (source.is_over after) log
+      → ReadsWhile (IsUnrefused log) (length (source.given after) - length (source.given before)) (source.failures before) (source.failures after)
+  -- memory is refused only for a log that needs it
+  pub memory : (log : List ℕ) → Agrees (source.given before) (source.given after) (source.is_over after) log → result ≡ Err Memory → NeedsMemory log
+  -- what it did with its devices
+  pub read : ReadFrom source Read max_bytes result before after
+  pub wrote : WroteTo target Write result old new

@@ -1,6 +1,6 @@
 -- What is answered and written by a run that tells something of each frame of a log as it comes, and something at the end:
 -- one statement over any script. A command says which script is its own.
-use Rattle.std.specs.Prelude.{◌≡◌, ℕ, ◌-◌, ◌≤◌, List, [], ◌∷◌, ◌++◌, Option, Result, Ok, Err, length, true, ◌⊎◌, ◌<◌, Bool, false, ⊤}
+use Rattle.std.specs.Prelude.{◌≡◌, ◌≢◌, ℕ, ◌-◌, ◌≤◌, List, [], ◌∷◌, ◌++◌, Option, Result, Ok, Err, IfErr, length, true, ◌⊎◌, ◌<◌, Bool, false, ⊤}
 use Rattle.can_log.specs.declared.frame.Stamped.{Stamped}
 use Rattle.isotp_receive.specs.Trace.{Entry}
 use Rattle.trace_io.specs.Stream.{Agrees}
@@ -20,7 +20,7 @@ use Rattle.trace_canon.specs.Summing.{summary_of}
 use Rattle.trace_canon.specs.LinesRead.{AreReadBefore, WritesTextOfRead, WritesFrontOfRead}
 use Rattle.trace_canon.specs.Explained.{no_line, too_long, takes_all, IsReadAs}
 use Rattle.trace_canon.specs.Devices.{ReadFrom, WroteTo}
-use Rattle.trace_canon.specs.Needing.{HasFrame, IsKeptForMessage}
+use Rattle.trace_canon.specs.Needing.{HasFrame, IsKeptForMessage, NeedsMemoryToReceive}
 use Rattle.trace_canon.specs.Refusal.{announces_within, HasNoBadPlaceWithin, IsNotRefusedWithin}
 
 -- What a command tells: of a frame, by the frames before it; at the end, by all frames and the counts; and where a line or the
@@ -201,3 +201,18 @@ pub record Ran {R W A : Type 0} (source : SourceGhosts R) (target : TargetGhosts
   -- what it did with its devices
   pub read : ReadFrom source Read settings.max_bytes result before after
   pub wrote : WroteTo target Write result old new
+
+-- a machine may be refused memory for no frame
+abbrev pub needs_none : List Entry → Entry → Type 0
+needs_none T e = ⊥
+
+-- The same of a script that is not strict, where there is an answer at the end of each log.
+pub record RanLenient {R W A : Type 0} (source : SourceGhosts R) (target : TargetGhosts W) (script : Script) (answers : Answering A) (needs : List Entry → Entry → Type 0) (limit : ℕ) (settings : Settings) (before : R) (old : W)
+    (result : Result A Fault) (after : R) (new : W) : Type 0 where
+  pub run : Ran source target script answers needs limit settings before old result after new
+  -- no announced length refuses a log, and no canonical log
+  pub never_oversize : IfErr result (λ fault. (line announced : ℕ) → fault ≢ Oversize line announced)
+  pub never_output_limit : IfErr result (λ fault. fault ≢ OutputLimit)
+  -- where the machine needs no memory, it is refused only for a message of several frames
+  pub memory : ((T : List Entry) (e : Entry) → needs T e → ⊥) → (log : List ℕ) → Agrees (source.given before) (source.given after) (source.is_over after) log
+      → result ≡ Err Memory → NeedsMemoryToReceive limit settings log

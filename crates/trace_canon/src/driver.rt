@@ -1,5 +1,5 @@
 //! A log told by a machine: the one place where a command reads, writes and fails.
-ghost use Rattle.std.specs.Prelude.{◌≡◌, ◌≢◌, ℕ, ◌^◌, ◌<◌, ◌≤◌, List, [], ◌∷◌, ◌++◌, length, Err, IfErr, OnOk, OnErr, Option, false};
+ghost use Rattle.std.specs.Prelude.{◌≡◌, ℕ, ◌^◌, ◌<◌, List, [], ◌∷◌, ◌++◌, length, Err, IfErr, OnOk, OnErr, Option, false};
 ghost use Rattle.can_log.specs.declared.frame.Stamped.{Stamped as StampedValue};
 ghost use Rattle.isotp_receive.specs.declared.TheConstants.{MESSAGE_LIMIT};
 ghost use Rattle.isotp_receive.specs.Capacities.{KeepsWithin};
@@ -14,13 +14,10 @@ ghost use Rattle.trace_canon.specs.proving.LeftOut.{CountsRemoved};
 ghost use Rattle.trace_canon.specs.proving.Receiving.{Receives};
 ghost use Rattle.trace_canon.specs.Settings.{Settings};
 ghost use Rattle.trace_canon.specs.Summing.{ends_in_line_feed};
-ghost use Rattle.trace_canon.specs.Told.{Ran};
+ghost use Rattle.trace_canon.specs.Told.{Ran, RanLenient};
 ghost use Rattle.trace_canon.specs.Trace.{trace};
-ghost use Rattle.trace_canon.specs.Needing.{NeedsMemoryToReceive};
-ghost use Rattle.trace_canon.specs.declared.fault.Fault.TheVariants.{Memory};
 ghost use Rattle.trace_canon.specs.declared.machine.Stop.TheVariants.{OutputLimit};
 ghost use Rattle.trace_canon.specs.declared.summary.Summary.{Summary as SummaryValue};
-ghost use Rattle.trace_io.specs.Stream.{Agrees};
 
 use crate::config::Config;
 use crate::fault::Fault;
@@ -61,7 +58,7 @@ pub fn run<M: Machine + Drop, R: Source, W: Target>(
 }
 
 /// The same of a machine that no announced length stops, and that has an answer at the end of each log.
-pub(crate) fn run_lenient<M: Machine + Drop, R: Source, W: Target>(
+pub fn run_lenient<M: Machine + Drop, R: Source, W: Target>(
     alloc: Global,
     config: &Config,
     machine: M,
@@ -73,13 +70,7 @@ pub(crate) fn run_lenient<M: Machine + Drop, R: Source, W: Target>(
     requires has_answer { (T : List Entry) (summary : SummaryValue) → M.answers machine T summary (Err OutputLimit) → ⊥ }
     requires reader { AreLowCounts (R.reads reader.old) (length (R.given reader.old)) (R.failures reader.old) }
     requires writer { IsLowCount (W.failures writer.old) }
-    ensures ran { Ran R.Source W.Target (M.script machine) (M.answers machine) (M.needs machine) MESSAGE_LIMIT config.now reader.old writer.old result reader.new writer.new }
-    ensures never_oversize { IfErr result (λ fault. (line announced : ℕ) → fault ≢ Fault.Oversize line announced) }
-    ensures never_output_limit { IfErr result (λ fault. fault ≢ Fault.OutputLimit) }
-
-    // Where the machine needs no memory, it is refused only for a message of several frames.
-    ensures memory { ((T : List Entry) (e : Entry) → M.needs machine T e → ⊥) → (log : List ℕ) → Agrees (R.given reader.old) (R.given reader.new) (R.is_over reader.new) log
-        → result ≡ Err Memory → NeedsMemoryToReceive MESSAGE_LIMIT config.now log }
+    ensures ran { RanLenient R.Source W.Target (M.script machine) (M.answers machine) (M.needs machine) MESSAGE_LIMIT config.now reader.old writer.old result reader.new writer.new }
 {
     run(alloc, config, machine, reader, writer)
 }

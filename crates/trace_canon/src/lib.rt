@@ -35,7 +35,8 @@
 //!
 //! Each command is a machine: [`normalise`] (`normaliser`, and `canonical_sink` for its lines), [`explain`] (`explainer`),
 //! [`messages`] (`placer`, and `begun` for where a message began), [`watch`] (`watcher`) and the one that collects what a
-//! log means (`collector`). On that stand [`meaning_of`], [`list`] (`lister`, `item_lines`) and [`compare`] (`comparing`).
+//! log means (`collector`). On that stand [`meaning_of`], [`compare`]
+//! (`comparing`), and each text of the items (`item_text`), as that of [`list`] (`lister`, `item_lines`).
 #![tactic(auto)]
 
 pub mod begun;
@@ -56,6 +57,7 @@ mod hearing;
 pub mod in_memory;
 mod item_lines;
 mod item_objects;
+mod item_text;
 pub mod laws;
 mod length;
 mod lines;
@@ -86,11 +88,12 @@ pub use collector::{Session, meaning_of};
 pub use comparing::{Compared, Comparison, compare};
 pub use comparison_lines::{ComparisonStyle, write_comparison};
 pub use config::{Config, LARGEST_LIMIT};
-pub use driver::run;
+pub use driver::{run, run_lenient};
 pub use explainer::explain;
 pub use fault::{CompareFault, ConfigFault, Fault};
 pub use finding::find;
 pub use item_lines::{ItemStyle, Numbering};
+pub use item_text::{ItemText, write_items};
 pub use lister::list;
 pub use machine::{Machine, Stop};
 pub use normaliser::normalise;

@@ -1,14 +1,8 @@
 //! `messages`: a machine that says each message with its place in the log, as it is delivered.
-ghost use Rattle.std.specs.Prelude.{◌≡◌, ◌≢◌, ◌-◌, ℕ, List, [], length, IfErr, Err};
+ghost use Rattle.std.specs.Prelude.{length};
 ghost use Rattle.isotp_receive.specs.declared.TheConstants.{MESSAGE_LIMIT};
-ghost use Rattle.trace_canon.specs.Answers.{ReadsWhile};
-ghost use Rattle.trace_canon.specs.Devices.{ReadFrom, WroteTo};
 ghost use Rattle.trace_canon.specs.MessageLines.{placed_line, placed_text, placing_script};
-ghost use Rattle.trace_canon.specs.Needing.{NeedsMemoryToReceive};
-ghost use Rattle.trace_canon.specs.Refusal.{HasNoBadPlaceWithin};
-ghost use Rattle.trace_canon.specs.Told.{AnswersTold, TellsEagerly, answers_counts};
-ghost use Rattle.trace_canon.specs.declared.fault.Fault.TheVariants.{Memory};
-ghost use Rattle.trace_io.specs.Stream.{Agrees};
+ghost use Rattle.trace_canon.specs.Told.{RanLenient, answers_counts, needs_none};
 ghost use Rattle.trace_io.specs.Counted.{IsLowCount, AreLowCounts};
 
 use crate::begun::{Begun, FramePlace};
@@ -44,30 +38,8 @@ pub fn messages<R: Source, W: Target>(
     requires reader { AreLowCounts (R.reads reader.old) (length (R.given reader.old)) (R.failures reader.old) }
     requires writer { IsLowCount (W.failures writer.old) }
 
-    // What is answered and written, for each log with which the bytes that were read agree.
-    ensures answer { (log : List ℕ) → Agrees (R.given reader.old) (R.given reader.new) (R.is_over reader.new) log
-        → AnswersTold (placing_script notation MESSAGE_LIMIT) answers_counts MESSAGE_LIMIT config.now log (length (R.given reader.new) - length (R.given reader.old)) result (W.taken writer.old) (W.taken writer.new) }
-
-    // Before each read the lines of all that was read were written.
-    ensures eager { (log : List ℕ) → Agrees (R.given reader.old) (R.given reader.new) (R.is_over reader.new) log
-        → TellsEagerly (placing_script notation MESSAGE_LIMIT) MESSAGE_LIMIT config.now log (length (R.given reader.new) - length (R.given reader.old)) (W.taken writer.old) (W.taken writer.new) }
-
-    // Reading stops within one piece: there is no refused place among all bytes given but the last 4,096, and none among all
-    // where a read failed.
-    ensures near { (log : List ℕ) → Agrees (R.given reader.old) (R.given reader.new) (R.is_over reader.new) log
-        → ReadsWhile (HasNoBadPlaceWithin log) (length (R.given reader.new) - length (R.given reader.old)) (R.failures reader.old) (R.failures reader.new) }
-
-    // No announced length and no canonical log refuses it.
-    ensures never_oversize { IfErr result (λ fault. (line announced : ℕ) → fault ≢ Fault.Oversize line announced) }
-    ensures never_output_limit { IfErr result (λ fault. fault ≢ Fault.OutputLimit) }
-
-    // Memory is refused only for a log that needs it: for a message of several frames.
-    ensures memory { (log : List ℕ) → Agrees (R.given reader.old) (R.given reader.new) (R.is_over reader.new) log
-        → result ≡ Err Memory → NeedsMemoryToReceive MESSAGE_LIMIT config.now log }
-
-    // What it did with the devices.
-    ensures read { ReadFrom R.Source Fault.Read config.now.max_bytes result reader.old reader.new }
-    ensures wrote { WroteTo W.Target Fault.Write result writer.old writer.new }
+    // What is answered and written; that it is written before more is read; and what was done with the devices.
+    ensures ran { RanLenient R.Source W.Target (placing_script notation MESSAGE_LIMIT) answers_counts needs_none MESSAGE_LIMIT config.now reader.old writer.old result reader.new writer.new }
 {
     let machine = Placer {
         notation,

@@ -1,17 +1,13 @@
 //! `watch`: a machine that says the line of each item as soon as it is decided.
-ghost use Rattle.std.specs.Prelude.{◌≡◌, ◌≢◌, ◌-◌, ℕ, List, [], ◌∷◌, ◌++◌, length, IfErr, OnOk, OnErr, Err};
+ghost use Rattle.std.specs.Prelude.{◌≡◌, ℕ, List, [], ◌∷◌, ◌++◌, length, OnOk, OnErr, Err};
 ghost use Rattle.direction.specs.Dir.{Message};
 ghost use Rattle.isotp_receive.specs.declared.TheConstants.{MESSAGE_LIMIT};
 ghost use Rattle.uds_exchange.specs.Decided.{undecided};
 ghost use Rattle.uds_exchange.specs.Decider.{decides_after, IsKept};
-ghost use Rattle.trace_canon.specs.Answers.{ReadsWhile};
-ghost use Rattle.trace_canon.specs.Devices.{ReadFrom, WroteTo};
-ghost use Rattle.trace_canon.specs.Needing.{NeedsMemoryToDecide};
-ghost use Rattle.trace_canon.specs.Refusal.{HasNoBadPlaceWithin};
-ghost use Rattle.trace_canon.specs.Told.{AnswersTold, TellsEagerly, answers_counts};
+ghost use Rattle.trace_canon.specs.Needing.{CompletesKept};
+ghost use Rattle.trace_canon.specs.Told.{RanLenient, answers_counts};
 ghost use Rattle.trace_canon.specs.WatchScript.{watching_script, WritesTheList};
 ghost use Rattle.trace_canon.specs.proving.Watching.{SaysDecided, SaysLines};
-ghost use Rattle.trace_canon.specs.declared.fault.Fault.TheVariants.{Memory};
 ghost use Rattle.trace_io.specs.Stream.{Agrees};
 ghost use Rattle.trace_io.specs.Counted.{IsLowCount, AreLowCounts};
 
@@ -42,34 +38,12 @@ pub fn watch<R: Source, W: Target>(
     requires reader { AreLowCounts (R.reads reader.old) (length (R.given reader.old)) (R.failures reader.old) }
     requires writer { IsLowCount (W.failures writer.old) }
 
-    // What is answered and written, for each log with which the bytes that were read agree.
-    ensures answer { (log : List ℕ) → Agrees (R.given reader.old) (R.given reader.new) (R.is_over reader.new) log
-        → AnswersTold (watching_script style) answers_counts MESSAGE_LIMIT config.now log (length (R.given reader.new) - length (R.given reader.old)) result (W.taken writer.old) (W.taken writer.new) }
+    // What is answered and written; that it is written before more is read; and what was done with the devices.
+    ensures ran { RanLenient R.Source W.Target (watching_script style) answers_counts (CompletesKept MESSAGE_LIMIT) MESSAGE_LIMIT config.now reader.old writer.old result reader.new writer.new }
 
     // At the end of the log that is the list of its meaning.
     ensures whole { (log : List ℕ) → Agrees (R.given reader.old) (R.given reader.new) (R.is_over reader.new) log
         → OnOk result (WritesTheList style MESSAGE_LIMIT config.now log (W.taken writer.old) (W.taken writer.new)) }
-
-    // Before each read the lines of what is decided by all that was read were written.
-    ensures eager { (log : List ℕ) → Agrees (R.given reader.old) (R.given reader.new) (R.is_over reader.new) log
-        → TellsEagerly (watching_script style) MESSAGE_LIMIT config.now log (length (R.given reader.new) - length (R.given reader.old)) (W.taken writer.old) (W.taken writer.new) }
-
-    // Reading stops within one piece: there is no refused place among all bytes given but the last 4,096, and none among all
-    // where a read failed.
-    ensures near { (log : List ℕ) → Agrees (R.given reader.old) (R.given reader.new) (R.is_over reader.new) log
-        → ReadsWhile (HasNoBadPlaceWithin log) (length (R.given reader.new) - length (R.given reader.old)) (R.failures reader.old) (R.failures reader.new) }
-
-    // No announced length and no canonical log refuses it.
-    ensures never_oversize { IfErr result (λ fault. (line announced : ℕ) → fault ≢ Fault.Oversize line announced) }
-    ensures never_output_limit { IfErr result (λ fault. fault ≢ Fault.OutputLimit) }
-
-    // Memory is refused only for a log that needs it: for a message of several frames, or for one that is kept.
-    ensures memory { (log : List ℕ) → Agrees (R.given reader.old) (R.given reader.new) (R.is_over reader.new) log
-        → result ≡ Err Memory → NeedsMemoryToDecide MESSAGE_LIMIT config.now log }
-
-    // What it did with the devices.
-    ensures read { ReadFrom R.Source Fault.Read config.now.max_bytes result reader.old reader.new }
-    ensures wrote { WroteTo W.Target Fault.Write result writer.old writer.new }
 {
     let machine = Watcher {
         decider: Decider::new(alloc),

@@ -1,14 +1,8 @@
 //! `report`: a machine that says a session as a page, each row as its frame comes.
-ghost use Rattle.std.specs.Prelude.{◌≡◌, ◌≢◌, ◌-◌, ℕ, List, [], ◌∷◌, ◌++◌, length, IfErr, Err, Option};
+ghost use Rattle.std.specs.Prelude.{◌≡◌, List, [], ◌∷◌, ◌++◌, length, Option};
 ghost use Rattle.isotp_receive.specs.declared.TheConstants.{MESSAGE_LIMIT};
 ghost use Rattle.isotp_receive.specs.Trace.{Entry};
-ghost use Rattle.trace_canon.specs.Answers.{ReadsWhile};
-ghost use Rattle.trace_canon.specs.Devices.{ReadFrom, WroteTo};
-ghost use Rattle.trace_canon.specs.Needing.{NeedsMemoryToReceive};
-ghost use Rattle.trace_canon.specs.Refusal.{HasNoBadPlaceWithin};
-ghost use Rattle.trace_canon.specs.Told.{AnswersTold, TellsEagerly, answers_counts};
-ghost use Rattle.trace_canon.specs.declared.fault.Fault.TheVariants.{Memory};
-ghost use Rattle.trace_io.specs.Stream.{Agrees};
+ghost use Rattle.trace_canon.specs.Told.{RanLenient, answers_counts, needs_none};
 ghost use Rattle.trace_io.specs.Counted.{IsLowCount, AreLowCounts};
 ghost use Rattle.trace_report.specs.Front.{page_title};
 ghost use Rattle.trace_report.specs.Page.{first_time, front_before, last_time, page_end, refused_end, report_script};
@@ -27,7 +21,7 @@ use isotp_receive::{Event, Pair};
 use std::alloc::{AllocError, Global};
 use trace_canon::begun::FramePlace;
 use trace_canon::say::say_text;
-use trace_canon::{Config, Fault, Machine, Stop, Summary, TextSink, run};
+use trace_canon::{Config, Fault, Machine, Stop, Summary, TextSink, run_lenient};
 use trace_io::{Source, Target};
 
 /// Reads a log and writes its session as a page of HTML, with this style and the name of the log: each row as its frame comes, and
@@ -45,30 +39,8 @@ pub fn report<R: Source, W: Target>(
     requires reader { AreLowCounts (R.reads reader.old) (length (R.given reader.old)) (R.failures reader.old) }
     requires writer { IsLowCount (W.failures writer.old) }
 
-    // What is answered and written, for each log with which the bytes that were read agree.
-    ensures answer { (log : List ℕ) → Agrees (R.given reader.old) (R.given reader.new) (R.is_over reader.new) log
-        → AnswersTold (report_script (page_title style.now name.now config.now) MESSAGE_LIMIT) answers_counts MESSAGE_LIMIT config.now log (length (R.given reader.new) - length (R.given reader.old)) result (W.taken writer.old) (W.taken writer.new) }
-
-    // Before each read the rows of all that was read were written.
-    ensures eager { (log : List ℕ) → Agrees (R.given reader.old) (R.given reader.new) (R.is_over reader.new) log
-        → TellsEagerly (report_script (page_title style.now name.now config.now) MESSAGE_LIMIT) MESSAGE_LIMIT config.now log (length (R.given reader.new) - length (R.given reader.old)) (W.taken writer.old) (W.taken writer.new) }
-
-    // Reading stops within one piece: there is no refused place among all bytes given but the last 4,096, and none among all
-    // where a read failed.
-    ensures near { (log : List ℕ) → Agrees (R.given reader.old) (R.given reader.new) (R.is_over reader.new) log
-        → ReadsWhile (HasNoBadPlaceWithin log) (length (R.given reader.new) - length (R.given reader.old)) (R.failures reader.old) (R.failures reader.new) }
-
-    // No announced length and no canonical log refuses it.
-    ensures never_oversize { IfErr result (λ fault. (line announced : ℕ) → fault ≢ Fault.Oversize line announced) }
-    ensures never_output_limit { IfErr result (λ fault. fault ≢ Fault.OutputLimit) }
-
-    // Memory is refused only for a log that needs it: for a message of several frames.
-    ensures memory { (log : List ℕ) → Agrees (R.given reader.old) (R.given reader.new) (R.is_over reader.new) log
-        → result ≡ Err Memory → NeedsMemoryToReceive MESSAGE_LIMIT config.now log }
-
-    // What it did with the devices.
-    ensures read { ReadFrom R.Source Fault.Read config.now.max_bytes result reader.old reader.new }
-    ensures wrote { WroteTo W.Target Fault.Write result writer.old writer.new }
+    // What is answered and written; that it is written before more is read; and what was done with the devices.
+    ensures ran { RanLenient R.Source W.Target (report_script (page_title style.now name.now config.now) MESSAGE_LIMIT) answers_counts needs_none MESSAGE_LIMIT config.now reader.old writer.old result reader.new writer.new }
 {
     let machine = Reporter {
         title: Title {
@@ -81,7 +53,7 @@ pub fn report<R: Source, W: Target>(
         follower: Follower::start(),
         chart: Chart::start(),
     };
-    run(alloc, config, machine, reader, writer)
+    run_lenient(alloc, config, machine, reader, writer)
 }
 
 /// The times of the first frame of a trace, and of its last one.

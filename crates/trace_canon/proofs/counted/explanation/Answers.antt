@@ -7,7 +7,7 @@ use Rattle.trace_canon.proofs.counted.explanation.Goals as goal
 pub returns : goal.returns
 returns c =
     let script = explain_script c.args.notation MESSAGE_LIMIT in
-    let ran = c.explain-answer.ensures in
+    let ran = c.explain-answer.ensures.ran.run in
     let agrees = agrees_in_memory c.args.log.now c.new-2.result c.explain-answer.new.reader c.new-2.ensures ran.read.gave ran.read.ended in
     let empty = ap (λ w. w.taken) c.new-writer.ensures in
     let held = taken_is_held empty (ap (λ w. w.inner.items) c.new-writer.ensures ∙ c.new.ensures.items) ran.wrote.took in

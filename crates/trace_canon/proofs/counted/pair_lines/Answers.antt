@@ -5,7 +5,7 @@ use Rattle.trace_canon.proofs.counted.pair_lines.Goals as goal
 
 pub returns : goal.returns
 returns c =
-    let ran = c.find-answer.ensures in
+    let ran = c.find-answer.ensures.ran in
     let agrees = agrees_in_memory c.args.log.now c.new-2.result c.find-answer.new.reader c.new-2.ensures ran.read.gave ran.read.ended in
     let empty = ap (λ w. w.taken) c.new-writer.ensures in
     let held = taken_is_held empty (ap (λ w. w.inner.items) c.new-writer.ensures ∙ c.new.ensures.items) ran.wrote.took in

@@ -6,4 +6,4 @@ use Rattle.trace_canon.proofs.explainer.explain.Goals as goal
 pub returns-clause-certificate : goal.returns-clause-certificate
 returns-clause-certificate g c = λ log agrees.
     let script = explain_script c.args.notation MESSAGE_LIMIT in
-    certifies script.word script.last script.refused c.args.config.now log _ c.run_lenient.result _ _ (c.run_lenient.ensures.ran.answer log agrees)
+    certifies script.word script.last script.refused c.args.config.now log _ c.run_lenient.result _ _ (c.run_lenient.ensures.ran.run.answer log agrees)

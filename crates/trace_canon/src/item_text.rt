@@ -1,0 +1,69 @@
+//! A text of the items of a log, written once they are known: what a command says that needs the whole meaning.
+ghost use Rattle.std.specs.Prelude.{ℕ, length};
+ghost use Rattle.isotp_receive.specs.declared.TheConstants.{MESSAGE_LIMIT};
+ghost use Rattle.trace_canon.specs.Listed.{RanOverItems};
+ghost use Rattle.trace_io.specs.Counted.{IsLowCount, AreLowCounts};
+
+use crate::collector::session_of;
+use crate::config::Config;
+use crate::fault::Fault;
+use crate::printer::{Printable, print};
+use crate::summary::Summary;
+use crate::text_sink::TextSink;
+use std::alloc::Global;
+use trace_io::{Source, Target};
+use uds_exchange::Meaning;
+
+/// A text of items.
+pub trait ItemText {
+    ghost use Rattle.std.specs.Prelude.{List, ℕ};
+    ghost use Rattle.uds_exchange.specs.Meaning.{ItemValue};
+
+    /// What it is of some items.
+    ghost text: { Self → List ItemValue → List ℕ };
+
+    /// Says it.
+    fn say<S: TextSink>(&self, items: &Meaning, out: &mut S)
+        ensures { S.says out.old (text self.now items.now) out.new };
+}
+
+/// Reads a log, and then writes this text of the items of its meaning. Where the log is refused nothing is written.
+///
+/// The target is not flushed.
+pub fn write_items<T: ItemText, R: Source, W: Target>(
+    alloc: Global,
+    config: &Config,
+    text: &T,
+    reader: &mut R,
+    writer: &mut W,
+) -> Result<Summary, Fault>
+    requires reader { AreLowCounts (R.reads reader.old) (length (R.given reader.old)) (R.failures reader.old) }
+    requires writer { IsLowCount (W.failures writer.old) }
+    ensures ran { RanOverItems R.Source W.Target (T.text text.now) MESSAGE_LIMIT config.now reader.old writer.old result reader.new writer.new }
+{
+    match session_of(alloc, config, reader) {
+        Ok(session) => {
+            let items = &session.meaning;
+            match print(&OfItems { text, items }, writer) {
+                Ok(()) => Ok(session.summary),
+                Err(_failed) => Err(Fault::Write),
+            }
+        }
+        Err(fault) => Err(fault),
+    }
+}
+
+/// A text of these items.
+#[derive(Drop)]
+struct OfItems<'a, T> {
+    text: &'a T,
+    items: &'a Meaning,
+}
+
+impl<'a, T: ItemText> Printable for OfItems<'a, T> {
+    ghost text = { λ of. T.text of.text.now of.items.now };
+
+    fn say<S: TextSink>(&self, out: &mut S) {
+        self.text.say(self.items, out);
+    }
+}
