@@ -2,7 +2,8 @@
 cites.
 
 In the page for callers, each clause of a public function stands in the rows, items and paragraphs that name the function or its
-type. In docs/proved.md the last column of a table of promises cites clauses, in parts between semicolons. Of these are the names
+type. What all runs of a kind promise is one clause `ran`, a record of trace_canon: its fields are clauses, too, and stand there or
+where the page of trace_canon names the record. A call needs no row where that says all of its clauses. In docs/proved.md the last column of a table of promises cites clauses, in parts between semicolons. Of these are the names
 in backticks read:
 
     `normalise`, `list`: `read`, `wrote`, by `SomeDefinition`       these clauses of each of these calls
@@ -14,10 +15,12 @@ in backticks read:
 
 import re
 from collections import namedtuple
+from pathlib import Path
 
 # A function of a crate by its path, as `normaliser::normalise` or `scanner::Scanner::scan`, with the names of the clauses that its
-# contract ensures. That of a lone clause is empty. A law stands in a public module, and does nothing.
-Function = namedtuple("Function", "path clauses is_public is_law")
+# contract ensures. That of a lone clause is empty. Those of a run are also the fields of its record, and `run` has the names of that.
+# A law stands in a public module, and does nothing.
+Function = namedtuple("Function", "path clauses is_public is_law run")
 
 # What a part of a cell says of some names: what they are, the names, their clauses, None where it names none, and their crate,
 # None where that is the crate of the section.
@@ -50,14 +53,15 @@ def after_braces(text, at):
 
 
 def ensured(text, at):
-    """The names of what a function ensures whose name ends here: its clauses stand before its body, or before a semicolon."""
+    """What a function ensures whose name ends here, by the clauses before its body, or before a semicolon: their names, each with the
+    word with which it begins."""
     names = []
     while True:
         stop = re.search(r"[{;]", text[at:]).start() + at
         clause = CLAUSE.search(text[at:stop]) if text[stop] == "{" else None
         if clause is None:
             return names
-        names += [clause[2]] if clause[1] == "ensures" else []
+        names += [(clause[2], re.match(r"\W*(\w*)", text[stop:])[1])] if clause[1] == "ensures" else []
         at = after_braces(text, stop)
 
 
@@ -70,12 +74,29 @@ def owner(kind, head):
 
 
 def functions_in(text):
-    """The functions of a source file: owner or None, name, clauses, whether it is as public as its owner."""
+    """The functions of a source file: owner or None, name, clauses with their first words, whether it is as public as its owner."""
     text = bare(text)
     blocks = [(block.start(), block.end(), *owner(block[2], block[3])) for block in BLOCK.finditer(text)]
     for found in FUNCTION.finditer(text):
         of, is_shared = next(((of, is_shared) for start, end, of, is_shared in blocks if start < found.start() < end), (None, False))
         yield of, found[2], ensured(text, found.end()), found[1] is not None or is_shared
+
+
+# The files with the records of runs.
+RUNS = [Path(__file__).resolve().parent.parent / "crates/trace_canon/specs" / f"{name}.antt" for name in ("Told", "Printed", "Listed", "Found")]
+RUN = "ran"
+
+
+def run_of(name):
+    """The records of runs that a definition is, and has: the names, and the fields."""
+    text = "".join(path.read_text() for path in RUNS)
+    is_short_for = re.search(rf"^{name} .*=\s+(\w+)", text, re.M)
+    record = re.search(rf"^pub record {name} (.*?)(?:\n\n|\Z)", text, re.M | re.S)
+    names, fields = [name], re.findall(r"^  pub (\w+) : (\w*)", record[1], re.M) if record else []
+    for below in [is_short_for[1]] if is_short_for else [head for _, head in fields if head.startswith("Ran")]:
+        more, of_more = run_of(below)
+        names, fields = names + more, [field for field in fields if field[1] != below] + of_more
+    return names, fields
 
 
 def exported(root):
@@ -93,12 +114,14 @@ def functions(crate):
     names, modules = exported(library.read_text()) if library.exists() else (None, set())
     found = []
     for path in sorted((crate / "src").glob("*.rt")):
-        for of, name, clauses, is_public in functions_in(path.read_text()):
+        for of, name, ensures, is_public in functions_in(path.read_text()):
+            run, fields = run_of(dict(ensures)[RUN]) if RUN in dict(ensures) else ([], [])
+            clauses = list(dict.fromkeys(clause for clause, _ in [*ensures, *fields]))
             is_in_module = path.stem in modules and of is None
             is_seen = is_public and (is_in_module or names is None or (of or name) in names)
             is_law = is_in_module and path.stem == "laws"
             full = "::".join(part for part in (path.stem, of, name) if part)
-            found.append(Function(full, clauses, is_seen, is_law and is_seen))
+            found.append(Function(full, clauses, is_seen, is_law and is_seen, run if fields else []))
     return found
 
 
@@ -116,22 +139,30 @@ def blocks(page):
     yield "\n".join(block)
 
 
-def unnamed(page, function):
-    """The clauses of a public function that the page for callers leaves out; a lone one stands where the function does."""
+def names_one(names, text):
+    return re.search(rf"`(?:\w+::)*({'|'.join(names)})\b", text) is not None
+
+
+def unnamed(page, of_runs, function):
+    """The clauses of a public function that the page for callers leaves out; a lone one stands where the function does. Those of a run
+    may stand where the page of runs names its record, and where that is this page and says all of them, the function need not stand
+    there."""
     of_type = [part for part in function.path.split("::")[:-1] if part[0].isupper()]
-    names = "|".join([*of_type, function.path.rpartition("::")[2]])
-    about = [block for block in blocks(page) if re.search(rf"`(?:\w+::)*({names})\b", block)]
-    if not about:
+    about = [block for block in blocks(page) if names_one([*of_type, function.path.rpartition("::")[2]], block)]
+    of_run = [block for block in blocks(of_runs) if function.run and names_one(function.run, block)]
+    if not about and not (of_run and page == of_runs):
         return [f"{function.path} is not named"]
-    return [f"{function.path}: {clause} is not named" for clause in function.clauses if clause and f"`{clause}`" not in "\n".join(about)]
+    said = "\n".join(about + of_run)
+    return [f"{function.path}: {clause} is not named" for clause in function.clauses if clause and f"`{clause}`" not in said]
 
 
 def left_out(folder):
     """What the page for callers leaves out, for each crate that has one."""
+    of_runs = (folder / FIRST / "CALLING.md").read_text()
     for path in sorted(folder.glob("*/CALLING.md")):
         page = path.read_text()
         public = [function for function in functions(path.parent) if function.is_public]
-        yield path.parent.name, [missing for function in public for missing in unnamed(page, function)]
+        yield path.parent.name, [missing for function in public for missing in unnamed(page, of_runs, function)]
 
 
 # --- The page of the proofs ---------------------------------------------------------------------------------------------

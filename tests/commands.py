@@ -1,15 +1,31 @@
 """The commands of the built program, as its help names them, and what each comes to by the oracles. A test of what every command
-does asks here, so that none is left out."""
+does asks here, so that none is left out. A command over one log has a file of outputs/:
 
+    OUTCOMES         what it comes to with these words, by the oracles: a function of a log and of the limit
+    HOLDS_MEANING    whether it holds what a log means, up to its end; without it, that it does not
+    ROWS             logs and what is written of each, as in a table of rows/; none without it
+"""
+
+import importlib
 import re
+from pathlib import Path
 
-import oracle
-import report_oracle
 from cases import DONE
 from runs import run
 
+OUTPUTS = {path.stem: importlib.import_module(f"outputs.{path.stem}") for path in sorted(Path(__file__).with_name("outputs").glob("*.py"))}
+
 # What a command with these words comes to, over one log.
-ORACLES = oracle.COMMANDS | {"report": report_oracle.reported}
+ORACLES = {words: outcome for output in OUTPUTS.values() for words, outcome in output.OUTCOMES.items()}
+
+
+def rows():
+    """The text of the rows of each command that has some."""
+    return {name: output.ROWS for name, output in OUTPUTS.items() if hasattr(output, "ROWS")}
+
+
+def holds_meaning(job):
+    return getattr(OUTPUTS[job], "HOLDS_MEANING", False)
 
 
 def help_of(program, *words):

@@ -323,6 +323,7 @@ def holds_at_most(cases, words, name, log, most, wanted):
 def memory(cases):
     """Held strays take 17 bytes for 22 bytes of a log; what a log means takes 96; receptions take what they announce, once as
     much has come. Nothing else is held: no piece, unfinished line or text that is written takes memory as a log goes on."""
+    meaning = [job for job in commands.over_one_log(cases.program) if commands.holds_meaning(job)]
     for job, begun, line, most in [
         ("normalise", REQUEST, ONE_BYTE, HELD),
         ("normalise", b"", REQUEST, 0),
@@ -351,14 +352,14 @@ def memory(cases):
         ("report", b"", FIRST, 0),
         ("report", b"", FOURTEEN_BYTES, 0),
         ("report", b"", LONGEST, 0),
-        ("list", REQUEST, ONE_BYTE, MEANT),
-        ("list", b"", REQUEST, MEANT),
+        *((job, begun, line, MEANT) for job in meaning for begun, line in [(REQUEST, ONE_BYTE), (b"", REQUEST)]),
     ]:
         log = begun + line * (MEASURED // len(line))
         holds_at_most(cases, job.split(), f"{begun!r} and then {line[:40]!r}", log, most * len(log), DONE)
     log = ONE_BYTE * (MEASURED // len(ONE_BYTE))
-    words = ["list", "--limit", str(len(log))]
-    holds_at_most(cases, words, "a canonical log above the limit", log, MEANT_CANONICAL * len(log), REFUSAL)
+    for job in meaning:
+        words = [job, "--limit", str(len(log))]
+        holds_at_most(cases, words, "a canonical log above the limit", log, MEANT_CANONICAL * len(log), REFUSAL)
     log = REQUEST + ONE_BYTE * 500_000
     holds_at_most(cases, ["normalise"], "strays that are held, and as many after the next request", 2 * log, HELD * len(log), DONE)
     log = two_receptions()

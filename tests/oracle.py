@@ -14,7 +14,6 @@ import json
 import re
 import sys
 from collections import namedtuple
-from functools import partial
 
 TESTER, UNIT = "tester", "unit"
 OTHER = {TESTER: UNIT, UNIT: TESTER}
@@ -759,24 +758,6 @@ def found(log, limit=GIBIBYTE, write=pairs_text):
     """The pairs of a log whose identifiers nobody told. Nothing is written of a refused log."""
     refused = refusal(log, limit, is_long_refused=False)
     return Outcome(REFUSED, refused.fault, b"") if refused else Outcome(DONE, None, write(pairs_in(cut(log))).encode())
-
-
-# What each command with these words comes to over one log.
-COMMANDS = {
-    "normalise": outcome,
-    "list": listed,
-    "list --no-numbers": partial(listed, write=partial(list_text, has_numbers=False)),
-    "list --json": partial(listed, write=list_objects),
-    "list --json --no-numbers": partial(listed, write=partial(list_objects, has_numbers=False)),
-    "watch": watched,
-    "watch --json": partial(watched, write=list_objects),
-    "explain": explained,
-    "explain --json": partial(explained, write=in_objects),
-    "messages": placed,
-    "messages --json": partial(placed, write=in_objects),
-    "find": found,
-    "find --json": partial(found, write=pairs_objects),
-}
 
 
 def strictly(job, log, limit=GIBIBYTE):

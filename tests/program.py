@@ -411,7 +411,7 @@ def memory(cases):
     log, _ = long_log(1_000_000)
     for job in commands.over_one_log(cases.program):
         # What a log means is held, and a page is many times as long.
-        if job in ("list", "report"):
+        if commands.holds_meaning(job) or job == "report":
             continue
         program = start(cases.program, [job], stdout=subprocess.DEVNULL, stderr=None)
         give(program, log, 100)

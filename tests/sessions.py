@@ -17,11 +17,11 @@ from collections import namedtuple
 from concurrent.futures import ThreadPoolExecutor
 from functools import partial
 
+import commands
 import oracle
 import report_oracle
 import tables
 from cases import DIFFERENT, DONE, REFUSAL, UNCLEAN, WORDS, Cases
-from commands import over_one_log
 from counts import counts_in, counts_line
 from devices import devices
 from objects import in_objects
@@ -207,8 +207,9 @@ READERS = [["python3", "-m", "json.tool", "--json-lines", "--compact"], ["jq", "
 
 def commands_of_rows(program):
     readers = [reader for reader in READERS if shutil.which(reader[0])]
-    for name in tables.of_commands():
-        for row in tables.table(name):
+    of_commands = {name: tables.table(name) for name in tables.of_commands()}
+    for name, rows in [*of_commands.items(), *((name, tables.rows_in(text)) for name, text in commands.rows().items())]:
+        for row in rows:
             yield f"{name}: {row.name}", partial(written, program, row, readers)
 
 
@@ -448,7 +449,7 @@ def strictly(program, row):
     """Each job writes of a log that has to be clean what it writes otherwise, and then tells what the row says."""
     log, wrong = row.log(), []
     told = b"".join(f"not clean: {text}\n".encode() for text in row.texts("lacks"))
-    for job in [*over_one_log(program.path, "--strict"), "list --json", "messages --json", "watch --no-numbers"]:
+    for job in [*commands.over_one_log(program.path, "--strict"), "list --json", "messages --json", "watch --no-numbers"]:
         words = job.split(" ")
         want = Ended(UNCLEAN if told else DONE, program.run(words, log).output, told)
         wrong += differences(job, program.run([*words, "--strict"], log), want)

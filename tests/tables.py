@@ -1,4 +1,4 @@
-r"""Tables of logs and of what is expected of them: the files of rows/.
+r"""Tables of logs and of what is expected of them: the files of rows/, and the rows in the files of outputs/.
 
 Rows are separated by a blank line. A row begins with its name; each other line is a mark and a text. The head of a table, its
 first paragraph, says in lines that begin with `#` what it has, and its other lines are lines of each row, after the row's own.
@@ -122,8 +122,11 @@ def stamped(number, frame):
 
 def paragraphs(name):
     """The head of a table, and its rows, as lists of lines."""
-    text = (ROWS / f"{name}.txt").read_text().removesuffix("\n")
-    return [[unescaped(line) for line in paragraph.split("\n")] for paragraph in text.split("\n\n")]
+    return paragraphs_of((ROWS / f"{name}.txt").read_text())
+
+
+def paragraphs_of(text):
+    return [[unescaped(line) for line in paragraph.split("\n")] for paragraph in text.strip("\n").split("\n\n")]
 
 
 def of_commands():
@@ -149,7 +152,16 @@ def unescaped(line):
 def table(name):
     """The rows of a table."""
     taken.add(name)
-    head, *rows = paragraphs(name)
+    return rows_of(paragraphs(name))
+
+
+def rows_in(text):
+    """The rows of a table that is this text."""
+    return rows_of(paragraphs_of(text))
+
+
+def rows_of(found):
+    head, *rows = found
     of_each = [line for line in head if not line.startswith("#")]
     return [Row(row[0], row[1:] + of_each) for row in rows]
 

@@ -18,7 +18,7 @@ use Rattle.trace_canon.proofs.Promises.{clean_log_is_recording, clean_summary_is
 use Rattle.trace_canon.specs.Told.{AnswersTold, IsReadToEnd, Script, answers_counts}
 use Rattle.trace_report.specs.Held as Holds
 use Rattle.trace_report.specs.Session.{SessionValue}
-use Rattle.udsnorm.specs.Commands.{Engine, normalises, lists, finds, runs, runs_in_style, EngineAnswers, PairEngineAnswers, answers_of, engine_of}
+use Rattle.udsnorm.specs.Commands.{Engine, normalises, writes, finds, runs, runs_in_style, EngineAnswers, PairEngineAnswers, answers_of, engine_of}
 use Rattle.udsnorm.specs.Ending.{status_of_run_of_two}
 use Rattle.udsnorm.specs.declared.commands.Job.{Job}
 use Rattle.udsnorm.specs.declared.pair_jobs.PairAnswer.{PairAnswer}
@@ -64,9 +64,9 @@ of_script script settings log given summary old new (all, meanings, read, counte
 of_engine : (engine : Engine) (settings : Settings) (log : List ℕ) (given : ℕ) (summary : Summary) (old new : List ℕ) → answers_of engine MESSAGE_LIMIT settings log given (Ok summary) old new
     → is_clean summary ≡ true → IsCertified MESSAGE_LIMIT settings log
 of_engine normalises settings log given summary old new (accepted, outcome, counted, wrote) = of_clean settings log summary (of_accepted settings log accepted summary outcome counted)
-of_engine (lists style) settings log given summary old new (items, is, wrote) = of_clean settings log summary (of_accepted settings log is.accepted summary is.outcome is.counted)
+of_engine (writes text) settings log given summary old new (items, is, wrote) = of_clean settings log summary (of_accepted settings log is.accepted summary is.outcome is.counted)
 of_engine (finds notation) settings log given summary old new (pairs, (meanings, read, found), wrote) = λ clean. absurd (true≢false (sym clean ∙ ap is_clean found.1))
-of_engine (runs script) settings log given summary old new told = of_script (script MESSAGE_LIMIT) settings log given summary old new told
+of_engine (runs script needs) settings log given summary old new told = of_script (script MESSAGE_LIMIT) settings log given summary old new told
 of_engine (runs_in_style script) settings log given summary old new (style, told) = of_script (script style settings MESSAGE_LIMIT) settings log given summary old new told
 
 -- whatever the job

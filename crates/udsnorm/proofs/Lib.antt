@@ -2,6 +2,7 @@ pub mod Statuses
 pub mod Pairs
 pub mod Certificates
 pub mod Done
+pub mod Engines
 pub mod Configured
 pub mod Built
 pub mod Taken

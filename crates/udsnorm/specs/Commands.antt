@@ -1,7 +1,7 @@
 -- The commands of the program: the options and files of each, as the parser takes them, the task that it asks for, and
 -- what the engine answers and reads that does its job. A command is one entry of `command_entries`, and its job a case
 -- of `engine_of`; or, where it is over two logs, of `left_file`, `right_file`, `has_text` and `engine_of_pair`.
-use Rattle.std.specs.Prelude.{◌≡◌, ℕ, Bool, true, false, not, List, [], ◌∷◌, ◌++◌, map, Some, None, Option, Result, Ok, Err, codes, bytes_eq, if◌then◌else◌}
+use Rattle.std.specs.Prelude.{◌≡◌, ◌-◌, ℕ, length, Bool, true, false, not, List, [], ◌∷◌, ◌++◌, map, Some, None, Option, Result, Ok, Err, codes, bytes_eq, if◌then◌else◌}
 use Rattle.clap.specs.Faults.{fault_of}
 use Rattle.clap.specs.Kinds.{Kinds}
 use Rattle.clap.specs.Simple.{App, Shape, new_rule, new_shape, subcommand_of}
@@ -11,21 +11,28 @@ use Rattle.clap.specs.declared.builder.value_parser.ValueParser.TheVariants.{Uns
 use Rattle.trace_canon.specs.Answers.{Answers, ReadsWhile}
 use Rattle.trace_canon.specs.Compared.{Compares, fault_in}
 use Rattle.trace_canon.specs.ComparisonText.{comparison_text}
+use Rattle.trace_canon.specs.Devices.{ReadFrom, WroteTo}
 use Rattle.trace_canon.specs.ExplainScript.{explain_script}
-use Rattle.trace_canon.specs.Found.{Finds}
-use Rattle.trace_canon.specs.Listed.{Lists}
+use Rattle.trace_canon.specs.Found.{Finds, RanToFind}
+use Rattle.trace_canon.specs.ListText.{list_text}
+use Rattle.trace_canon.specs.Listed.{RanOverItems, TextOfItems, WritesItems}
 use Rattle.trace_canon.specs.MessageLines.{placing_script}
+use Rattle.trace_canon.specs.Needing.{CompletesKept}
 use Rattle.trace_canon.specs.Refusal.{HasNoBadPlaceWithin, IsNotRefusedWithin}
 use Rattle.trace_canon.specs.Settings.{Settings}
-use Rattle.trace_canon.specs.Told.{Script, AnswersTold, answers_counts}
+use Rattle.trace_canon.specs.Told.{Script, AnswersTold, RanLenient, answers_counts, needs_none}
 use Rattle.trace_canon.specs.WatchScript.{watching_script}
 use Rattle.trace_canon.specs.declared.comparing.Compared.{Compared}
 use Rattle.trace_canon.specs.declared.comparison_lines.ComparisonStyle.{ComparisonStyle}
 use Rattle.trace_canon.specs.declared.fault.CompareFault.{CompareFault}
 use Rattle.trace_canon.specs.declared.fault.Fault.{Fault}
-use Rattle.trace_canon.specs.declared.item_lines.ItemStyle.{ItemStyle}
+use Rattle.trace_canon.specs.declared.fault.Fault.TheVariants.{Read, Write}
 use Rattle.trace_canon.specs.declared.notation.Notation.{Notation}
 use Rattle.trace_canon.specs.declared.summary.Summary.{Summary}
+use Rattle.isotp_receive.specs.Trace.{Entry}
+use Rattle.trace_io.specs.Stream.{Agrees}
+use Rattle.trace_io.specs.declared.device.Source.{Ghosts as SourceGhosts}
+use Rattle.trace_io.specs.declared.device.Target.{Ghosts as TargetGhosts}
 use Rattle.trace_report.specs.Front.{page_title}
 use Rattle.trace_report.specs.Held.{HoldsTwo, comparison_in}
 use Rattle.trace_report.specs.Page.{report_script}
@@ -126,40 +133,59 @@ command_entries =
     ∷ record { name = codes "compare"; rules = sides ++ usual_limit ++ two_logs ++ showing ++ as_json ++ strictly; task = λ rows. task.Two (pair_job.Compare (comparison_style_in rows)) }
     ∷ []
 
--- What is known of the call that does a job over one log: it is one of `trace_canon` that has a statement of its own, or the run of
--- a machine, of which all is known by its script. A page's script is in some style.
-pub data Engine : Type 0 where
+-- What is known of the call that does a job over one log: it is `normalise`, or writes a text of the items of the meaning, or of the
+-- pairs of identifiers, at the end; or it is the run of a machine, of which all is known by its script and by the frames for which
+-- the machine needs memory. A page's script is in some style.
+pub data Engine : Type 1 where
   normalises : Engine
-  lists : ItemStyle → Engine
+  writes : TextOfItems → Engine
   finds : Notation → Engine
-  runs : (ℕ → Script) → Engine
+  runs : (ℕ → Script) → (ℕ → List Entry → Entry → Type 0) → Engine
   runs_in_style : (List ℕ → Settings → ℕ → Script) → Engine
 
 -- what it answers, and what it then writes
 abbrev pub answers_of : Engine → ℕ → Settings → List ℕ → ℕ → Result Summary Fault → List ℕ → List ℕ → Type 0
 answers_of normalises limit settings log given result old new = Answers limit settings log given result old new
-answers_of (lists style) limit settings log given result old new = Lists style limit settings log result old new
+answers_of (writes text) limit settings log given result old new = WritesItems text limit settings log result old new
 answers_of (finds notation) limit settings log given result old new = Finds notation settings log result old new
-answers_of (runs script) limit settings log given result old new = AnswersTold (script limit) answers_counts limit settings log given result old new
+answers_of (runs script needs) limit settings log given result old new = AnswersTold (script limit) answers_counts limit settings log given result old new
 answers_of (runs_in_style script) limit settings log given result old new =
     (style : List ℕ) × AnswersTold (script style settings limit) answers_counts limit settings log given result old new
 
--- how near it stops reading to what refuses the log for it; no length that is announced does this for one that is known by its script,
--- nor for `find`
-abbrev pub reads_of : Engine → ℕ → Settings → List ℕ → ℕ → ℕ → ℕ → Type 0
-reads_of normalises limit settings log given before after = ReadsWhile (IsNotRefusedWithin limit settings log) given before after
-reads_of (lists style) limit settings log given before after = ReadsWhile (IsNotRefusedWithin limit settings log) given before after
-reads_of (finds notation) limit settings log given before after = ReadsWhile (HasNoBadPlaceWithin log) given before after
-reads_of (runs script) limit settings log given before after = ReadsWhile (HasNoBadPlaceWithin log) given before after
-reads_of (runs_in_style script) limit settings log given before after = ReadsWhile (HasNoBadPlaceWithin log) given before after
+-- nothing refuses the log for it among so many of its bytes; no length that is announced does this for one that is known by its
+-- script, nor for `find`
+abbrev pub unrefused_of : Engine → ℕ → Settings → List ℕ → ℕ → Type 0
+unrefused_of normalises limit settings log = IsNotRefusedWithin limit settings log
+unrefused_of (writes text) limit settings log = IsNotRefusedWithin limit settings log
+unrefused_of (finds notation) limit settings log = HasNoBadPlaceWithin log
+unrefused_of (runs script needs) limit settings log = HasNoBadPlaceWithin log
+unrefused_of (runs_in_style script) limit settings log = HasNoBadPlaceWithin log
+
+-- What is known of a run of any engine: what was answered and written, how near to what refuses the log it stopped reading, and what
+-- it did with its devices.
+pub record RanAny {R W : Type 0} (source : SourceGhosts R) (target : TargetGhosts W) (engine : Engine) (limit : ℕ) (settings : Settings) (before : R) (old : W) (result : Result Summary Fault) (after : R) (new : W) : Type 0 where
+  pub answer : (log : List ℕ) → Agrees (source.given before) (source.given after) (source.is_over after) log
+      → answers_of engine limit settings log (length (source.given after) - length (source.given before)) result (target.taken old) (target.taken new)
+  pub near : (log : List ℕ) → Agrees (source.given before) (source.given after) (source.is_over after) log
+      → ReadsWhile (unrefused_of engine limit settings log) (length (source.given after) - length (source.given before)) (source.failures before) (source.failures after)
+  pub read : ReadFrom source Read settings.max_bytes result before after
+  pub wrote : WroteTo target Write result old new
+
+-- what its call promises of it
+abbrev pub RanBy : {R W : Type 0} → SourceGhosts R → TargetGhosts W → Engine → ℕ → Settings → R → W → Result Summary Fault → R → W → Type 0
+RanBy source target normalises limit settings = RanAny source target normalises limit settings
+RanBy source target (writes text) limit settings = RanOverItems source target text limit settings
+RanBy source target (finds notation) limit settings = RanToFind source target notation settings
+RanBy source target (runs script needs) limit settings = RanLenient source target (script limit) answers_counts (needs limit) limit settings
+RanBy source target (runs_in_style script) limit settings = RanAny source target (runs_in_style script) limit settings
 
 -- the engine that does this job over one log, which has this name on a page
 abbrev pub engine_of : Job → List ℕ → Engine
 engine_of job.Normalise name = normalises
-engine_of (job.List style) name = lists style
-engine_of (job.Watch style) name = runs (λ limit. watching_script style)
-engine_of (job.Explain notation) name = runs (explain_script notation)
-engine_of (job.Messages notation) name = runs (placing_script notation)
+engine_of (job.List style) name = writes (list_text style)
+engine_of (job.Watch style) name = runs (λ limit. watching_script style) CompletesKept
+engine_of (job.Explain notation) name = runs (explain_script notation) (λ limit. needs_none)
+engine_of (job.Messages notation) name = runs (placing_script notation) (λ limit. needs_none)
 engine_of job.Report name = runs_in_style (λ style settings. report_script (page_title style name settings))
 engine_of (job.Find notation) name = finds notation
 
@@ -169,7 +195,7 @@ EngineAnswers job name = answers_of (engine_of job name)
 
 -- how near to what refuses the log it stops reading
 abbrev pub EngineReads : Job → List ℕ → ℕ → Settings → List ℕ → ℕ → ℕ → ℕ → Type 0
-EngineReads job name = reads_of (engine_of job name)
+EngineReads job name limit settings log = ReadsWhile (unrefused_of (engine_of job name) limit settings log)
 
 -- ---- two logs
 

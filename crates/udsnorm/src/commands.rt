@@ -1,13 +1,11 @@
 //! The commands: the words and the help of each, the task that it asks for, and the engine that does its job. What is said
 //! of a command stands here and in `specs/Commands.antt`, in the same order.
 
-ghost use Rattle.std.specs.Prelude.{◌≡◌, ◌-◌, ℕ, List, codes, length};
+ghost use Rattle.std.specs.Prelude.{◌≡◌, codes, length};
 ghost use Rattle.isotp_receive.specs.declared.TheConstants.{MESSAGE_LIMIT};
-ghost use Rattle.trace_canon.specs.Devices.{ReadFrom, WroteTo};
 ghost use Rattle.trace_io.specs.Counted.{AreLowCounts, IsLowCount};
-ghost use Rattle.trace_io.specs.Stream.{Agrees};
 ghost use Rattle.clap.specs.Words.{first_of, found_of, rows_of};
-ghost use Rattle.udsnorm.specs.Commands.{EngineAnswers, EngineReads, report_task, task_named};
+ghost use Rattle.udsnorm.specs.Commands.{RanAny, RanBy, engine_of, report_task, task_named};
 
 use crate::pair_jobs::PairJob;
 use crate::values::{comparison_style, notation, style, text_of};
@@ -284,12 +282,23 @@ pub(crate) fn do_job<R: Source, W: Target>(
 ) -> Result<Summary, Fault>
     requires input { AreLowCounts (R.reads input.old) (length (R.given input.old)) (R.failures input.old) }
     requires out { IsLowCount (W.failures out.old) }
-    ensures engine { (log : List ℕ) → Agrees (R.given input.old) (R.given input.new) (R.is_over input.new) log
-        → EngineAnswers job name.now MESSAGE_LIMIT config.now log (length (R.given input.new) - length (R.given input.old)) result (W.taken out.old) (W.taken out.new) }
-    ensures near { (log : List ℕ) → Agrees (R.given input.old) (R.given input.new) (R.is_over input.new) log
-        → EngineReads job name.now MESSAGE_LIMIT config.now log (length (R.given input.new) - length (R.given input.old)) (R.failures input.old) (R.failures input.new) }
-    ensures read { ReadFrom R.Source Fault.Read config.now.max_bytes result input.old input.new }
-    ensures wrote { WroteTo W.Target Fault.Write result out.old out.new }
+    ensures ran { RanAny R.Source W.Target (engine_of job name.now) MESSAGE_LIMIT config.now input.old out.old result input.new out.new }
+{
+    call_engine(alloc, job, name, config, input, out)
+}
+
+/// The call that does the job.
+fn call_engine<R: Source, W: Target>(
+    alloc: Global,
+    job: Job,
+    name: &str,
+    config: &Config,
+    input: &mut R,
+    out: &mut W,
+) -> Result<Summary, Fault>
+    requires input { AreLowCounts (R.reads input.old) (length (R.given input.old)) (R.failures input.old) }
+    requires out { IsLowCount (W.failures out.old) }
+    ensures ran { RanBy R.Source W.Target (engine_of job name.now) MESSAGE_LIMIT config.now input.old out.old result input.new out.new }
 {
     match job {
         Job::Normalise => normalise(alloc, config, input, out),

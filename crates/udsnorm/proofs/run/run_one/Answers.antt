@@ -14,15 +14,15 @@ returns-clause-ran g c =
     let old = g.W.Target.failures c.do_job-answer.new.out in
     let new = g.W.Target.failures c.flushed_one-outcome.new.out in
     let is_flushed = g.W.Target.is_flushed c.flushed_one-outcome.new.out in
-    let wrote = c.do_job-answer.ensures.wrote in
+    let wrote = c.do_job-answer.ensures.ran.wrote in
     let times = g.W.Target.flushes c.do_job-answer.new.out in
     let times_now = g.W.Target.flushes c.flushed_one-outcome.new.out in
     let ends = subst (λ t. EndsAs (flushes answer t) answer old new times times_now is_flushed outcome) (sym kept) c.flushed_one-outcome.ensures.ends in
     record {
       answer = answer;
-      engine = λ log agrees. rw kept (c.do_job-answer.ensures.engine log agrees);
-      near = c.do_job-answer.ensures.near;
-      read = c.do_job-answer.ensures.read;
+      engine = λ log agrees. rw kept (c.do_job-answer.ensures.ran.answer log agrees);
+      near = c.do_job-answer.ensures.ran.near;
+      read = c.do_job-answer.ensures.ran.read;
       comes = comes_to (flushes answer taken) answer outcome old new times times_now is_flushed ends;
       status_is = c.tell_outcome.ensures.status;
       flushed = is_flushed_then (flushes answer taken) answer outcome old new times times_now is_flushed ends;
@@ -44,7 +44,7 @@ returns-clause-recording g c = λ strict zero log agrees.
     let due = flushes answer (W.taken out) in
     recorded_then c.args.strict due answer outcome c.tell_outcome.result _ _ log
     (comes_to due answer outcome (W.failures out) (W.failures now) (W.flushes out) (W.flushes now) (W.is_flushed now) c.flushed_one-outcome.ensures.ends)
-    c.tell_outcome.ensures.status zero strict (answer_certifies c.args.job c.args.name.now _ log _ answer _ _ (c.do_job-answer.ensures.engine log agrees))
+    c.tell_outcome.ensures.status zero strict (answer_certifies c.args.job c.args.name.now _ log _ answer _ _ (c.do_job-answer.ensures.ran.answer log agrees))
 
 pub returns-clause-once : goal.returns-clause-once
 returns-clause-once g c = λ zero.
@@ -52,13 +52,13 @@ returns-clause-once g c = λ zero.
     let out = c.do_job-answer.new.out in
     let now = c.flushed_one-outcome.new.out in
     done_once c.args.strict c.do_job-answer.result c.flushed_one-outcome.result (W.taken out) (W.failures out) (W.failures now) (W.flushes out) (W.flushes now) (W.is_flushed now) c.tell_outcome.result
-    c.flushed_one-outcome.ensures.ends c.tell_outcome.ensures.status zero ∙ ap (λ n. n + 1) c.do_job-answer.ensures.wrote.flushes
+    c.flushed_one-outcome.ensures.ends c.tell_outcome.ensures.status zero ∙ ap (λ n. n + 1) c.do_job-answer.ensures.ran.wrote.flushes
 
 pub returns-clause-flushes : goal.returns-clause-flushes
 returns-clause-flushes g c =
     let W = g.W.Target in
     let out = c.do_job-answer.new.out in
     let now = c.flushed_one-outcome.new.out in
-    subst (λ n. W.flushes now ≤ n + 1) c.do_job-answer.ensures.wrote.flushes
+    subst (λ n. W.flushes now ≤ n + 1) c.do_job-answer.ensures.ran.wrote.flushes
     (flushed_at_most_once (flushes c.do_job-answer.result (W.taken out)) c.do_job-answer.result c.flushed_one-outcome.result (W.failures out) (W.failures now) (W.flushes out) (W.flushes now) (W.is_flushed now)
     c.flushed_one-outcome.ensures.ends)

@@ -1,0 +1,5 @@
+"""The canonical log."""
+
+import oracle
+
+OUTCOMES = {"normalise": oracle.outcome}

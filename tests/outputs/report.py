@@ -1,0 +1,5 @@
+"""The page of a log."""
+
+import report_oracle
+
+OUTCOMES = {"report": report_oracle.reported}
