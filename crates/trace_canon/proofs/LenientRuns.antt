@@ -1,5 +1,5 @@
 -- What a run over a script that is not strict answers, and never answers.
-use Rattle.std.proofs.Common.{◌⊎◌, inl, inr, ◌≢◌, ℕ, List, Result, Ok, Err, false, ◌≡◌, arith, subst}
+use Rattle.std.proofs.Common.{◌⊎◌, inl, inr, ◌≢◌, ℕ, Bool, List, Result, Ok, Err, false, ◌≡◌, arith, subst}
 use Rattle.std.specs.Result.{IfOk, IfErr}
 use Rattle.isotp_receive.specs.declared.TheConstants.{MESSAGE_LIMIT}
 use Rattle.isotp_receive.specs.Trace.{Entry}
@@ -7,7 +7,9 @@ use Rattle.trace_canon.specs.Laws.{Certifies}
 use Rattle.trace_canon.specs.Needing.{HasFrame, IsKeptForMessage, NeedsMemoryToReceive}
 use Rattle.trace_canon.specs.Settings.{Settings}
 use Rattle.trace_canon.specs.Summing.{summary_of}
-use Rattle.trace_canon.specs.Told.{Script, Answering, AnswersTold, IsUnreadFor, answers_counts}
+use Rattle.trace_canon.specs.Told.{Script, Answering, AnswersTold, IsUnreadFor, StopsNothingWithin, answers_counts}
+use Rattle.trace_canon.specs.Answers.{ReadsWhile}
+use Rattle.trace_canon.specs.Refusal.{HasNoBadPlaceWithin}
 use Rattle.trace_canon.specs.declared.fault.Fault.{Fault}
 use Rattle.trace_canon.specs.declared.fault.Fault.TheVariants.{BadLine, Oversize, LogLimit, OutputLimit, Read, Write, Memory}
 use Rattle.trace_canon.specs.declared.machine.Stop.TheVariants as stop
@@ -63,6 +65,12 @@ module _ {A : Type 0} (script : Script) (answers : Answering A) (is_lenient : sc
   no_output_limit settings log given (Ok value) old new told = tt
   no_output_limit settings log given (Err why) old new told = λ is.
       subst (IsUnreadFor false MESSAGE_LIMIT settings log) is (unread settings log given why old new told)
+
+-- what is read is near to a refused place, where the script is not strict
+pub near_when_lenient : {strict : Bool} → strict ≡ false → (settings : Settings) (log : List ℕ) {given before after : ℕ}
+    → ReadsWhile (StopsNothingWithin strict MESSAGE_LIMIT settings log) given before after → ReadsWhile (HasNoBadPlaceWithin log) given before after
+near_when_lenient {strict} is settings log {given} {before} {after} near =
+    subst (λ (s : Bool). ReadsWhile (StopsNothingWithin s MESSAGE_LIMIT settings log) given before after) is near
 
 -- a frame that needed memory is kept, where no line needs some to be told
 pub needs_when_none : (needs : List Entry → Entry → Type 0) → ((T : List Entry) (e : Entry) → needs T e → ⊥) → (settings : Settings) (log : List ℕ)

@@ -210,6 +210,9 @@ needs_none T e = ⊥
 pub record RanLenient {R W A : Type 0} (source : SourceGhosts R) (target : TargetGhosts W) (script : Script) (answers : Answering A) (needs : List Entry → Entry → Type 0) (limit : ℕ) (settings : Settings) (before : R) (old : W)
     (result : Result A Fault) (after : R) (new : W) : Type 0 where
   pub run : Ran source target script answers needs limit settings before old result after new
+  -- reading stops within one piece of a refused place
+  pub near : (log : List ℕ) → Agrees (source.given before) (source.given after) (source.is_over after) log
+      → ReadsWhile (HasNoBadPlaceWithin log) (length (source.given after) - length (source.given before)) (source.failures before) (source.failures after)
   -- no announced length refuses a log, and no canonical log
   pub never_oversize : IfErr result (λ fault. (line announced : ℕ) → fault ≢ Oversize line announced)
   pub never_output_limit : IfErr result (λ fault. fault ≢ OutputLimit)

@@ -29,21 +29,15 @@ pub fn list<R: Source, W: Target>(
     requires writer { IsLowCount (W.failures writer.old) }
     ensures ran { RanOverItems R.Source W.Target (list_text style) MESSAGE_LIMIT config.now reader.old writer.old result reader.new writer.new }
 {
-    write_items(alloc, config, &Lines { style }, reader, writer)
+    write_items(alloc, config, &style, reader, writer)
 }
 
-/// The lines of items, in a style.
-#[derive(Drop)]
-struct Lines {
-    style: ItemStyle,
-}
-
-impl ItemText for Lines {
+impl ItemText for ItemStyle {
     ghost use Rattle.trace_canon.specs.ListText.{list_text};
 
-    ghost text = { λ lines. list_text lines.style };
+    ghost text = { λ style. list_text style };
 
     fn say<S: TextSink>(&self, items: &Meaning, out: &mut S) {
-        say_items(items, self.style, out);
+        say_items(items, *self, out);
     }
 }

@@ -1,5 +1,5 @@
 -- What is known of a run of any engine, by what its call promises.
-use Rattle.std.proofs.Common.{◌≡◌, ℕ, Result}
+use Rattle.std.proofs.Common.{ℕ, Result}
 use Rattle.trace_io.specs.declared.device.Source.{Ghosts as SourceGhosts}
 use Rattle.trace_io.specs.declared.device.Target.{Ghosts as TargetGhosts}
 use Rattle.trace_canon.specs.Settings.{Settings}
@@ -15,5 +15,5 @@ ran_any source target (writes text) limit settings before old result after new r
 ran_any source target (finds notation) limit settings before old result after new ran =
     record { answer = ran.answer; near = ran.near; read = ran.read; wrote = ran.wrote }
 ran_any source target (runs script needs) limit settings before old result after new ran =
-    record { answer = ran.run.answer; near = ran.run.near; read = ran.run.read; wrote = ran.run.wrote }
+    record { answer = ran.run.answer; near = ran.near; read = ran.run.read; wrote = ran.run.wrote }
 ran_any source target (runs_in_style script) limit settings before old result after new ran = ran

@@ -12,18 +12,20 @@ use crate::values::{comparison_style, notation, style, text_of};
 use clap::ArgMatches;
 use std::alloc::Global;
 use trace_canon::{
-    Config, Fault, ItemStyle, Notation, Summary, explain, find, list, messages, normalise, watch,
+    Config, Fault, ItemStyle, ItemText, Notation, Summary, TextSink, explain, find, messages,
+    normalise, watch, write_items,
 };
 use trace_io::{Source, Target};
 use trace_report::{report, report_style};
+use uds_exchange::Meaning;
 
 /// What the program does with one log.
 #[derive(Clone, Copy, PartialEq, Eq)]
 pub enum Job {
     /// Writes the canonical log.
     Normalise,
-    /// Writes the exchanges and stray messages, in this style.
-    List(ItemStyle),
+    /// Writes this text of the exchanges and stray messages, once the log has ended.
+    Items(ItemsJob),
     /// Writes the same while the log comes, each line as soon as its item is decided.
     Watch(ItemStyle),
     /// Writes which frames were dropped, and which receptions ended early, and why, in this notation.
@@ -34,6 +36,25 @@ pub enum Job {
     Report,
     /// Writes the pairs of identifiers that ask and answer, in this notation.
     Find(Notation),
+}
+
+/// A text of the exchanges and stray messages of a log.
+#[derive(Clone, Copy, PartialEq, Eq)]
+pub enum ItemsJob {
+    /// A line for each, in this style.
+    List(ItemStyle),
+}
+
+impl ItemText for ItemsJob {
+    ghost use Rattle.udsnorm.specs.Commands.{text_of_items};
+
+    ghost text = { λ job. text_of_items job };
+
+    fn say<S: TextSink>(&self, items: &Meaning, out: &mut S) {
+        match *self {
+            ItemsJob::List(style) => style.say(items, out),
+        }
+    }
 }
 
 /// What a command asks for.
@@ -250,7 +271,7 @@ pub(crate) fn task_named(name: &str, found: &ArgMatches<'_>) -> Task
 {
     match name {
         "normalise" => Task::One(Job::Normalise),
-        "list" => Task::One(Job::List(style(found))),
+        "list" => Task::One(Job::Items(ItemsJob::List(style(found)))),
         "watch" => Task::One(Job::Watch(style(found))),
         "explain" => Task::One(Job::Explain(notation(found))),
         "messages" => Task::One(Job::Messages(notation(found))),
@@ -302,7 +323,7 @@ fn call_engine<R: Source, W: Target>(
 {
     match job {
         Job::Normalise => normalise(alloc, config, input, out),
-        Job::List(style) => list(alloc, config, style, input, out),
+        Job::Items(text) => write_items(alloc, config, &text, input, out),
         Job::Watch(style) => watch(alloc, config, style, input, out),
         Job::Explain(notation) => explain(alloc, config, notation, input, out),
         Job::Messages(notation) => messages(alloc, config, notation, input, out),

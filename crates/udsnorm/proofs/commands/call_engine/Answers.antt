@@ -1,4 +1,4 @@
-use Rattle.std.proofs.Common.{◌-◌, ℕ, List, length, rules, subst}
+use Rattle.std.proofs.Common.{◌-◌, ℕ, List, length, subst}
 use Rattle.isotp_receive.specs.declared.TheConstants.{MESSAGE_LIMIT}
 use Rattle.trace_canon.specs.Told.{AnswersTold, answers_counts}
 use Rattle.trace_report.specs.Front.{page_title}
@@ -9,6 +9,18 @@ pub returns-in-Normalise : goal.returns-in-Normalise
 returns-in-Normalise g c =
     let ran = c.normalise.ensures in
     record { ran = rw c.in-Normalise.is (record { answer = ran.answer; near = ran.near; read = ran.read; wrote = ran.wrote }) }
+
+pub returns-in-Items : goal.returns-in-Items
+returns-in-Items g c = record { ran = rw c.in-Items.is c.write_items.ensures.ran }
+
+pub returns-in-Watch : goal.returns-in-Watch
+returns-in-Watch g c = record { ran = rw c.in-Watch.is c.watch.ensures.ran }
+
+pub returns-in-Explain : goal.returns-in-Explain
+returns-in-Explain g c = record { ran = rw c.in-Explain.is c.explain.ensures.ran }
+
+pub returns-in-Messages : goal.returns-in-Messages
+returns-in-Messages g c = record { ran = rw c.in-Messages.is c.messages.ensures.ran }
 
 pub returns-in-Report : goal.returns-in-Report
 returns-in-Report g c =
@@ -26,3 +38,6 @@ returns-in-Report g c =
         wrote = ran.wrote;
       });
     }
+
+pub returns-in-Find : goal.returns-in-Find
+returns-in-Find g c = record { ran = rw c.in-Find.is c.find.ensures.ran }
