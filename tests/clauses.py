@@ -2,9 +2,11 @@
 cites.
 
 In the page for callers, each clause of a public function stands in the rows, items and paragraphs that name the function or its
-type. What all runs of a kind promise is one clause `ran`, a record of trace_canon: its fields are clauses, too, and stand there or
-where the page of trace_canon names the record. A call needs no row where that says all of its clauses. In docs/proved.md the last column of a table of promises cites clauses, in parts between semicolons. Of these are the names
-in backticks read:
+type. What all runs of a kind promise is one clause `ran`, a record of trace_canon. Its fields are clauses, too; they stand there, or
+in the item of trace_canon's page that begins with the record. A call needs no row where these items say all of its clauses.
+
+In docs/proved.md the last column of a table of promises cites clauses, in parts between semicolons. Of these are the names in
+backticks read:
 
     `normalise`, `list`: `read`, `wrote`, by `SomeDefinition`       these clauses of each of these calls
     `Pair::new`, `open`: their clauses                             those that have no name; `open` is one of `Pair`, too
@@ -139,20 +141,17 @@ def blocks(page):
     yield "\n".join(block)
 
 
-def names_one(names, text):
-    return re.search(rf"`(?:\w+::)*({'|'.join(names)})\b", text) is not None
-
-
 def unnamed(page, of_runs, function):
     """The clauses of a public function that the page for callers leaves out; a lone one stands where the function does. Those of a run
-    may stand where the page of runs names its record, and where that is this page and says all of them, the function need not stand
+    may stand in the items of the page of runs that are about its record. Where that is this page, the function itself need not stand
     there."""
     of_type = [part for part in function.path.split("::")[:-1] if part[0].isupper()]
-    about = [block for block in blocks(page) if names_one([*of_type, function.path.rpartition("::")[2]], block)]
-    of_run = [block for block in blocks(of_runs) if function.run and names_one(function.run, block)]
+    names = "|".join([*of_type, function.path.rpartition("::")[2]])
+    about = [block for block in blocks(page) if re.search(rf"`(?:\w+::)*({names})\b", block)]
+    of_run = [block for block in blocks(of_runs) if any(block.startswith(f"- **`{record}`") for record in function.run)]
     if not about and not (of_run and page == of_runs):
         return [f"{function.path} is not named"]
-    said = "\n".join(about + of_run)
+    said = "\n".join([*about, *of_run, *(f"`{RUN}`" for _ in of_run)])
     return [f"{function.path}: {clause} is not named" for clause in function.clauses if clause and f"`{clause}`" not in said]
 
 
