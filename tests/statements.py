@@ -1,0 +1,68 @@
+"""What a statement is made of: the definitions of its crate that it reaches, by the `use` lines of the file in which each stands. A
+name may be that of two definitions, in two files; each is another one."""
+
+import re
+
+# The line with which a definition, or an equation of it, begins; and a case of a list of cases.
+DEFINED = re.compile(r"(?:(?:abbrev|unfoldable|pub|record|data) )*([\w']+)\b")
+CASE = re.compile(r"^  ([\w']+) :", re.M)
+NO_DEFINITION = ("use", "precedence", "rank")
+
+USED = re.compile(r"\buse Rattle\.(\w+)\.specs\.([\w.]+?)(?:\.\{([^}]*)\}| as (\w+)|(?=\s))")
+# A name, and where a file stands for the first part, a name in it. What follows a value and a dot is a field.
+NAME = re.compile(r"(?<![\w'.»)])([\w']+)(?:\.([\w']+))?")
+
+
+class Definitions:
+    """The definitions of a crate: the texts of each file by their names, and what each file uses."""
+
+    def __init__(self, crate):
+        self.crate, self.texts, self.cases, self.used = crate.name, {}, {}, {}
+        for path in sorted((crate / "specs").rglob("*.antt")):
+            file = str(path.relative_to(crate))
+            self.texts[file] = definitions_in(path.read_text())
+            self.cases[file] = {case: name for name, text in self.texts[file].items() if "data " in text for case in CASE.findall(text)}
+            self.used[file] = self.uses(path.read_text())
+
+    def uses(self, text):
+        """What the `use` lines of a text name of this crate: for each name the file and the name there, None for the whole file."""
+        found = {}
+        for crate, module, names, alias in USED.findall(text):
+            file = f"specs/{module.replace('.', '/')}.antt"
+            if crate != self.crate:
+                continue
+            for name in re.findall(r"([\w']+)(?: as ([\w']+))?", names):
+                found[name[1] or name[0]] = (file, name[0])
+            if not names:
+                found[alias or module.rpartition(".")[2]] = (file, None)
+        return found
+
+    def named(self, text, file, used):
+        """The definitions that a text names which stands in this file and sees what is used: file and name of each."""
+        for first, second in NAME.findall(text):
+            of, name = used.get(first, (file, first))
+            name = second if name is None else name
+            name = self.cases.get(of, {}).get(name, name)
+            if name in self.texts.get(of, {}):
+                yield of, name
+
+    def reached(self, statement, used):
+        """The definitions that a statement is made of, over any number of others, by file and name."""
+        found, left = set(), [(statement, None, used)]
+        while left:
+            for of, name in set(self.named(*left.pop())) - found:
+                found.add((of, name))
+                left.append((self.texts[of][name], of, self.used[of]))
+        return found
+
+
+def definitions_in(text):
+    """The definitions of a file by their names, each with its equations."""
+    texts, name = {}, None
+    for line in text.splitlines():
+        begin = DEFINED.match(line)
+        if begin:
+            name = begin[1] if begin[1] not in NO_DEFINITION else None
+        if name and not line.startswith("--"):
+            texts[name] = texts.get(name, "") + line + "\n"
+    return texts
