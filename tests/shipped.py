@@ -1,6 +1,6 @@
 #!/usr/bin/env python3
-"""Tests of what is shipped beside the program: its manual page names every command and option that its help names, and its
-completions offer them, `make install` and `make uninstall` know the same files, a release has program and library, `make run`
+"""Tests of what is shipped beside the program: its manual page has below each heading every command and option that its help
+names, and its completions offer them, `make install` and `make uninstall` know the same files, a release has program and library, `make run`
 and `make build` tell what they do, and `make check` does what it tells, in the order of crates.txt.
 
     tests/shipped.py crates/udsnorm/out/udsnorm
@@ -52,23 +52,53 @@ def commands_of_the_table():
 
 
 def names_are_complete(cases):
-    commands = all_commands(cases.program)
+    """What the manual page has below each of its headings, beside what the help tells."""
+    commands, page = all_commands(cases.program), sections(manual_of(cases))
     cases.report("the help names the commands of the table", [] if commands == commands_of_the_table() else [str(commands)])
-    text = manual_of(cases).replace("\\-", "-")
-    wrong = [f"no {word}" for word in missing_in(text, commands)] if commands else ["no commands in the help"]
-    wrong += [f"no {option}" for option in missing_in(text, named_in(help_of(cases.program), "Options"))]
-    for command in commands:
-        options = options_of(cases.program, command)
-        wrong += ["no options in the help"] if len(options) < 3 else []
-        wrong += [f"no {option} of {command}" for option in missing_in(text, options)]
-    cases.report("the manual page names every command and option", wrong)
-    defaults = defaults_in(help_of(cases.program, "list"))
-    wrong = missing_in(text, defaults) if len(defaults) == 3 else [f"{len(defaults)} defaults in the help"]
+    helps = {command: help_of(cases.program, command) for command in commands}
+    cases.report("the synopsis has each command", synopsis_lacks(page.get("SYNOPSIS", ""), helps))
+    cases.report("the manual page tells what each command does", commands_lack(page.get("COMMANDS", ""), helps))
+    options = {option for text in [help_of(cases.program), *helps.values()] for option in named_in(text, "Options")}
+    wrong = [f"no {option}" for option in missing_in(page.get("OPTIONS", ""), sorted(options))]
+    cases.report("the manual page tells what each option does", wrong if len(options) >= 8 else [f"{options} in the help"])
+    defaults = defaults_in(helps["list"])
+    wrong = missing_in(page.get("OPTIONS", ""), defaults) if len(defaults) == 3 else [f"{len(defaults)} defaults in the help"]
     cases.report("the manual page has the defaults of the help", wrong)
 
 
 def manual_of(cases):
     return subprocess.run([MANUAL, cases.program], stdout=subprocess.PIPE, text=True, check=True, timeout=60).stdout
+
+
+def sections(page):
+    """The text below each heading of a manual page."""
+    found = re.split(r"^\.SH (.*)\n", page.replace("\\-", "-"), flags=re.M)
+    return dict(zip(found[1::2], found[2::2]))
+
+
+def shown(text):
+    """What the lines of a manual page show, in one line: the words of `.RB [ --limit` have no space between."""
+    lines = [re.sub(r"^\.(R[BI]|[BI]R) (.*)$", lambda line: line[2].replace(" ", ""), line) for line in text.splitlines()]
+    return " ".join(re.sub(r"^\.[BI] ", "", line) for line in lines)
+
+
+def synopsis_lacks(text, helps):
+    """Of each command its options, each in brackets, and the files as its help has them."""
+    rows = {row.split()[1]: row for row in map(shown, text.split(".br\n")) if len(row.split()) > 1}
+    wrong = [] if helps else ["no command in the help"]
+    for command, told in helps.items():
+        row = rows.get(command, "")
+        options = [option for option in named_in(told, "Options") if option not in ("--help", "-h")]
+        files = re.search(r"^Usage: .*\[OPTIONS\] (.*)$", told, re.M)[1].replace("<", "").replace(">", "")
+        wrong += [f"no [{option} of {command}" for option in options if f"[{option}" not in row]
+        wrong += [] if row.endswith(f" {files}") else [f"{command} has no {files}: {row}"]
+    return wrong
+
+
+def commands_lack(text, helps):
+    """Of each command the first line of its help."""
+    told = dict(re.findall(r"^\.TP\n\.B ([\w-]+)\n(.*)\.$", re.sub(r"\\f[BP]", "`", text), re.M))
+    return [f"no line of {command}" for command, text in helps.items() if told.get(command) != text.splitlines()[0]]
 
 
 def manual_is_well_formed(cases):
