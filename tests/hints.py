@@ -36,7 +36,14 @@ NAMES = {
     "\x1b[2J\n": "$'\\x1B[2J\\x0A'",
     "Prüf~": "$'Pr\\xC3\\xBCf~'",
     "$HOME": "$'$HOME'",
+    "-": "-",
 }
+
+# What a log looks like that begins with the sign of zstd.
+ZSTANDARD = "looks compressed with zstd; zstdcat unpacks it"
+
+# The number of a user who owns nothing.
+NOBODY = 65534
 
 
 def told_by(program, words, folder, log=b"", **options):
@@ -89,11 +96,21 @@ def files(cases, folder):
     descriptor = os.open(folder, os.O_RDONLY)
     hinted(cases, "a folder for standard input", ["list"], folder, DEVICE, "reading standard input failed", stdin=descriptor)
     os.close(descriptor)
-    denied = Path(folder, "denied.log")
-    denied.write_bytes(b"")
-    denied.chmod(0)
-    if not os.access(denied, os.R_OK):
-        hinted(cases, "list denied.log", ["list", "denied.log"], folder, DEVICE, "no permission to read denied.log")
+
+
+def denied(cases, folder):
+    """A file that can't be opened by whoever runs the program: nobody, where this user may read each file."""
+    log = Path(folder, "denied.log")
+    log.write_bytes(b"")
+    log.chmod(0)
+    Path(folder).chmod(0o755)
+    options = {"user": NOBODY} if os.access(log, os.R_OK) else {}
+    try:
+        subprocess.run([cases.program, "--version"], stdout=subprocess.DEVNULL, timeout=60, **options)
+    except (OSError, subprocess.SubprocessError) as why:
+        print(f"skipped list denied.log: nobody else can run the program here ({why})", flush=True)
+        return
+    hinted(cases, "list denied.log", ["list", "denied.log"], folder, DEVICE, "no permission to read denied.log", **options)
 
 
 def limits(cases, folder):
@@ -157,7 +174,7 @@ def pairs(cases, folder):
 
 
 def looks(cases, folder):
-    """What a log looks like that is refused in its first line, and a last line that breaks off."""
+    """What a log looks like that is refused in its first line."""
     lines = VIN.read_bytes()
     body = b" can0 7E0#0322F190\n"
     date = "looks like a log whose stamps have a date; date +%s.%6N makes seconds of one"
@@ -165,11 +182,10 @@ def looks(cases, folder):
     screen = "looks like candump's form for the screen; candump -L and candump -l record a log"
     mark = "begins with a byte order mark, which an editor has put in front; save it without"
     asc, csv = "looks like a Vector ASC file; asc2log converts it", "looks like a CSV file; python-can converts one"
-    zstandard = "looks compressed with zstd; zstdcat unpacks it"
     for name, log, hint in [
         ("a.gz", gzip.compress(lines), "looks compressed with gzip; zcat unpacks it"),
         ("a.xz", lzma.compress(lines), "looks compressed with xz; xzcat unpacks it"),
-        ("a.zst", bytes.fromhex("28B52FFD0458C90100"), zstandard),
+        ("a.zst", bytes.fromhex("28B52FFD0458C90100"), ZSTANDARD),
         ("short.zst", bytes.fromhex("28B52FFE0458C90100"), None),
         ("mark.log", b"\xef\xbb\xbf" + lines, mark),
         ("little.log", b"\xff\xfe" + lines.decode().encode("utf-16-le"), mark),
@@ -193,17 +209,26 @@ def looks(cases, folder):
     ]:
         Path(folder, name).write_bytes(log)
         hinted(cases, f"a log as {name}", ["list", name], folder, REFUSAL, hint and f"{name} {hint}")
+
+
+def compressed(cases, folder):
+    """A compressed log, of each command, and at each place."""
     for job in over_one_log(cases.program):
-        hinted(cases, f"{job} of a compressed log", [job, "a.zst"], folder, REFUSAL, f"a.zst {zstandard}")
-    hinted(cases, "a compressed standard input", ["list"], folder, REFUSAL, f"standard input {zstandard}", log=Path(folder, "a.zst").read_bytes())
-    hinted(cases, "a compressed left log", ["compare", "a.zst", "mine.log"], folder, REFUSAL, f"a.zst {zstandard}")
-    hinted(cases, "a compressed right log", ["compare", "mine.log", "a.zst"], folder, REFUSAL, f"a.zst {zstandard}")
-    cut = "the last line of {} looks cut; sed '$d' leaves it out, and a frame is missing"
+        hinted(cases, f"{job} of a compressed log", [job, "a.zst"], folder, REFUSAL, f"a.zst {ZSTANDARD}")
+    hinted(cases, "a compressed standard input", ["list"], folder, REFUSAL, f"standard input {ZSTANDARD}", log=Path(folder, "a.zst").read_bytes())
+    hinted(cases, "a compressed left log", ["compare", "a.zst", "mine.log"], folder, REFUSAL, f"a.zst {ZSTANDARD}")
+    hinted(cases, "a compressed right log", ["compare", "mine.log", "a.zst"], folder, REFUSAL, f"a.zst {ZSTANDARD}")
+
+
+def cut(cases, folder):
+    """A last line that breaks off."""
+    lines = VIN.read_bytes()
+    hint = "the last line of {} looks cut; sed '$d' leaves it out, and a frame is missing"
     for length in [1, 12, 18, 200, 30]:
         Path(folder, "cut.log").write_bytes(lines[:length])
-        hinted(cases, f"a log cut after {length} bytes", ["list", "cut.log"], folder, REFUSAL, cut.format("cut.log"))
-    hinted(cases, "a cut standard input", ["list"], folder, REFUSAL, cut.format("standard input"), log=lines * 100 + lines[:200])
-    hinted(cases, "a cut right log", ["compare", "mine.log", "cut.log"], folder, REFUSAL, cut.format("cut.log"))
+        hinted(cases, f"a log cut after {length} bytes", ["list", "cut.log"], folder, REFUSAL, hint.format("cut.log"))
+    hinted(cases, "a cut standard input", ["list"], folder, REFUSAL, hint.format("standard input"), log=lines * 100 + lines[:200])
+    hinted(cases, "a cut right log", ["compare", "mine.log", "cut.log"], folder, REFUSAL, hint.format("cut.log"))
     for name, log in [("refused.log", lines + b"(x"), ("ended.log", lines[:200] + b"\n")]:
         Path(folder, name).write_bytes(log)
         hinted(cases, f"no cut log {name}", ["list", name], folder, REFUSAL, None)
@@ -244,7 +269,7 @@ def main():
         sys.exit(__doc__)
     cases = Cases(os.path.abspath(sys.argv[1]))
     with tempfile.TemporaryDirectory() as folder:
-        for test in [files, limits, names, words, pairs, looks, drops, silent]:
+        for test in [files, denied, limits, names, words, pairs, looks, compressed, cut, drops, silent]:
             test(cases, folder)
     cases.end()
 
