@@ -377,13 +377,21 @@ def version(cases):
 
 def wrong_words(cases):
     for words in [
-        ["lis"], ["Normalise"], [""], ["help"], ["--version=1"], ["-v"], ["list", "--version"], ["list", "-V"], ["--tester", "7E0"],
-        ["--limit", "5", "list"], ["a.log"], ["compare"], ["compare", "a"], ["compare", "--", "a"], ["compare", "--limit", "5", "a"], ["compare", "a", "b", "c"], ["list", "a", "b"],
-        ["list", "--limit"], ["list", "--limit", "1", "--limit", "2"], ["list", "--tester=7E0", "--tester=7E0"],
-        ["list", "--limi", "1"], ["list", "--limit=x"], ["list", "--json=1"], ["list", "--json", "--json"], ["explain", "--json=1"], ["messages", "--json", "--json"], ["normalise", "--json"], ["--json"], ["find", "--tester", "7E0"], ["find", "--unit=7E8"], ["find", "--strict"], ["find", "--no-numbers"], ["find", "--json=1"], ["find", "a", "b"], ["list", "--no-numbers=1"], ["list", "--no-numbers", "--no-numbers"], ["watch", "--no-numbers=1"], ["watch", "--json=1"], ["normalise", "--no-numbers"], ["explain", "--no-numbers"],
-        ["report", "--json"], ["report", "--no-numbers"], ["report", "--show"], ["report", "--strict=1"], ["report", "a", "b", "c"],
-        ["compare", "--no-numbers", "a", "b"], ["compare", "--strict", "a"], ["compare", "--strict=1", "a", "b"], ["compare", "--show=1", "a", "b"], ["compare", "--show", "--show", "a", "b"], ["compare", "--json=1", "a", "b"], ["list", "--show"], ["--show"], ["--strict"], ["list", "--strict=1"], ["--no-numbers"], ["list", "--limit=-1"], ["list", "--limit=1.5"], ["list", "--limit="],
-        ["list", "--limit=18446744073709551616"], ["list", "--tester", "7E", "--limit", "x"], ["list", "-x"],
+        ["lis"], ["Normalise"], [""], ["help"], ["--version=1"], ["-v"], ["list", "--version"], ["list", "-V"],
+        ["--tester", "7E0"], ["--limit", "5", "list"], ["a.log"], ["compare"], ["compare", "a"], ["compare", "--", "a"],
+        ["compare", "--limit", "5", "a"], ["compare", "a", "b", "c"], ["list", "a", "b"], ["list", "--limit"],
+        ["list", "--limit", "1", "--limit", "2"], ["list", "--tester=7E0", "--tester=7E0"], ["list", "--limi", "1"],
+        ["list", "--limit=x"], ["list", "--json=1"], ["list", "--json", "--json"], ["explain", "--json=1"],
+        ["messages", "--json", "--json"], ["normalise", "--json"], ["--json"], ["find", "--tester", "7E0"],
+        ["find", "--unit=7E8"], ["find", "--strict"], ["find", "--no-numbers"], ["find", "--json=1"], ["find", "a", "b"],
+        ["list", "--no-numbers=1"], ["list", "--no-numbers", "--no-numbers"], ["watch", "--no-numbers=1"],
+        ["watch", "--json=1"], ["normalise", "--no-numbers"], ["explain", "--no-numbers"], ["report", "--json"],
+        ["report", "--no-numbers"], ["report", "--show"], ["report", "--strict=1"], ["report", "a", "b", "c"],
+        ["compare", "--no-numbers", "a", "b"], ["compare", "--strict", "a"], ["compare", "--strict=1", "a", "b"],
+        ["compare", "--show=1", "a", "b"], ["compare", "--show", "--show", "a", "b"], ["compare", "--json=1", "a", "b"],
+        ["list", "--show"], ["--show"], ["--strict"], ["list", "--strict=1"], ["--no-numbers"], ["list", "--limit=-1"],
+        ["list", "--limit=1.5"], ["list", "--limit="], ["list", "--limit=18446744073709551616"],
+        ["list", "--tester", "7E", "--limit", "x"], ["list", "-x"],
     ]:
         status, output, error = cases.run(words, LOG)
         wrong = [] if status == WORDS and output == b"" else [f"status {status}, output {output!r}"]
@@ -437,7 +445,10 @@ def main():
         for name, log in files.items():
             Path(folder, name).write_bytes(log)
         os.chdir(folder)
-        for test in [jobs, options, strict_runs, strict_comparisons, shown_comparisons, lists_without_numbers, extended_identifiers, comparisons, files_that_fail, paths_of_each_size, words_of_each_size, help_texts, version, wrong_words, wrong_values]:
+        for test in [
+            jobs, options, strict_runs, strict_comparisons, shown_comparisons, lists_without_numbers, extended_identifiers, comparisons,
+            files_that_fail, paths_of_each_size, words_of_each_size, help_texts, version, wrong_words, wrong_values,
+        ]:
             test(cases)
         os.chdir("/")
     cases.end()

@@ -19,7 +19,7 @@ import commands
 import oracle
 from cases import DIFFERENT, DONE, REFUSAL, Cases
 from counts import counts_line
-from runs import Ended, differences, peak
+from runs import PROGRAM_BYTES, Ended, differences, peak
 from told import place
 
 # The lengths that a frame may have, and those that a first frame may have.
@@ -79,9 +79,8 @@ ONE_BYTE_MORE = [(35, b" "), (50, b"p"), (66, b" "), (206, b"0"), (222, b" ")]
 # The length of the logs whose memory is measured. With a message for 22 bytes there are more than 2^20 of them.
 MEASURED = 24_000_000
 
-# Bytes that the program has without a log, at most; those of the two receptions; those that it has where it watches requests
-# that are answered; and those that it holds for each byte of a log.
-PROGRAM_BYTES = 2_500_000
+# Bytes of the two receptions, at most; those that the program has where it watches requests that are answered; and those that
+# it holds for each byte of a log.
 RECEPTION_BYTES = 2 * oracle.MESSAGE_LIMIT
 WATCHED_BYTES = 2**21
 HELD = Fraction(17, 22)
@@ -356,8 +355,13 @@ def memory(cases):
     ]:
         log = begun + line * (MEASURED // len(line))
         holds_at_most(cases, job.split(), f"{begun!r} and then {line[:40]!r}", log, most * len(log), DONE)
+
+
+def memory_of_logs(cases):
+    """The same of logs that are more than a line and its repetitions: long canonical logs, strays of two requests, open receptions,
+    pairs of identifiers, and no log."""
     log = ONE_BYTE * (MEASURED // len(ONE_BYTE))
-    for job in meaning:
+    for job in filter(commands.holds_meaning, commands.over_one_log(cases.program)):
         words = [job, "--limit", str(len(log))]
         holds_at_most(cases, words, "a canonical log above the limit", log, MEANT_CANONICAL * len(log), REFUSAL)
     log = REQUEST + ONE_BYTE * 500_000
@@ -445,7 +449,10 @@ def main():
     if len(sys.argv) != 2:
         sys.exit(__doc__)
     cases = Cases(os.path.abspath(sys.argv[1]))
-    for test in [canonical_growth, longest_texts, page_growth, pair_page_growth, drops, places, longest_lines, one_line_of_error, memory, work]:
+    for test in [
+        canonical_growth, longest_texts, page_growth, pair_page_growth, drops, places, longest_lines, one_line_of_error, memory, memory_of_logs,
+        work,
+    ]:
         test(cases)
     cases.end()
 

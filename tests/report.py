@@ -25,7 +25,7 @@ from differential import random_logs
 from oracle import TESTER, UNIT
 from recordings import message_of
 from report_reader import counts_in, counts_of_rows, counts_told, explanation_told, has_brief_rows, list_told, rows_in, shortened
-from runs import differences, end, give, peak, start
+from runs import PROGRAM_BYTES, differences, end, give, peak, start
 from tables import EXAMPLES, VIN
 from told import LONG_LOG, READ_FAILED, WRITE_FAILED, place
 
@@ -79,8 +79,7 @@ WRONG_VALUES = [["--limit", "0"], ["--tester", "7E"], ["--tester", "800"], ["--u
 THOUSAND_ITEMS = 600_000
 ITEM_MORE = 550
 
-# The most memory that the program has, whatever the log, and the number of items of the logs for which it is measured.
-PROGRAM_BYTES = 2_500_000
+# The number of items of the logs for which memory is measured.
 MEASURED_ITEMS = 100_000
 
 
@@ -369,7 +368,7 @@ def sizes(cases):
 
 
 def memory(cases):
-    """No page is held, nor any of its rows or items."""
+    """No page is held, nor any of its rows or items: whatever the log, the program has no more than without one."""
     for name, frames in [("exchanges", [REQUEST, ANSWER]), ("requests", [REQUEST]), ("strays", [STRAY]), ("dropped frames", [UNKNOWN])]:
         found = peak(cases.program, ["report"], MEASURED_ITEMS * log_of(*frames))
         wrong = differences("status", found.status, DONE)

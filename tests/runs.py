@@ -15,6 +15,9 @@ Ended = namedtuple("Ended", "status output error")
 # What a run took: its most kilobytes, or none, and its status.
 Peak = namedtuple("Peak", "kilobytes status")
 
+# Bytes that the program has without a log, at most.
+PROGRAM_BYTES = 2_500_000
+
 PIPES = {"stdout": subprocess.PIPE, "stderr": subprocess.PIPE}
 
 
