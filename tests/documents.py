@@ -6,7 +6,7 @@
 - the picture of the crates is the one that scripts/draw-crates draws of crates.txt, and names each crate and dependency;
 - the style that the program embeds in a report is that of crates/trace_report/style/report.css;
 - each link of each document to a file of the repository, and to a heading in it, leads somewhere;
-- no line of their prose has more than 120 characters;
+- no line of their prose has more than 120 characters, and each table has a head;
 - the source files that documents name are there;
 - each wrong body of must-fail/ and attacks/ can be applied: what it takes away stands once;
 - those that the first table of docs/proved.md names are tried by the gate, one or more for each part of the headline;
@@ -14,7 +14,8 @@
 - a line of prose stands above each definition that a public function's contract or a law cites;
 - docs/architecture.md says of each crate of the kit that the program stands on where it is called, and the call stands there;
 - the page for callers of each crate names each clause of its public calls, and docs/proved.md cites no other;
-- scripts/clauses prints a row for each call and law that docs/proved.md cites, with the clauses that it cites;
+- scripts/clauses prints a row for each call and law that docs/proved.md cites, with the clauses that it cites, and what a law is
+  made of are the definitions that its `use` lines name, and no others of the same names;
 - each decision of docs/DECISIONS.md says what would change it;
 - what introduces the program or the library has the words by which somebody looks for such a tool;
 - each fault displays the line that the program tells of it, as the page for callers of udsnorm says;
@@ -34,6 +35,7 @@ from xml.etree import ElementTree
 import clauses
 import edits
 import fault_lines
+import statements
 from cases import Cases
 
 TOP = Path(__file__).resolve().parent.parent
@@ -158,12 +160,22 @@ def lengths_of_lines(cases):
         cases.report(f"no line of prose of {name_of(document)} is too long", wrong)
 
 
+def heads_of_tables(cases):
+    """A row that follows a blank line is one of no table: it shows as plain text."""
+    for document in DOCUMENTS:
+        tables = re.findall(r"(?:^\|.*\n)+", prose(document), re.M)
+        wrong = [table.splitlines()[0][:60] for table in tables if not re.match(r"\|.*\n\|[-|: ]+\n\|", table)]
+        cases.report(f"each table of {name_of(document)} has a head", wrong)
+
+
 def named_files(cases):
-    """A source file is named by the end of its path, from its crate or from the top. Answers to open goals come and go."""
+    """A source file is named by the end of its path, from its crate or from the top. Answers to open goals come and go, and a
+    script that stands on a page is saved by its reader."""
     paths = [f"/{name_of(path)}" for path in FILES]
     for document in DOCUMENTS:
         names = [name for words in re.findall(r"`([^`\n]+)`", prose(document)) for name in re.findall(r"[\w./-]+\.(?:rt|antt|py)\b", words)]
-        wrong = [f"no {name}" for name in names if not name.endswith("Answers.antt") and not any(path.endswith(f"/{name}") for path in paths)]
+        not_here = ["Answers.antt", *re.findall(r"^```python (\S+)$", document.read_text(), re.M)]
+        wrong = [f"no {name}" for name in names if not name.endswith(tuple(not_here)) and not any(path.endswith(f"/{name}") for path in paths)]
         cases.report(f"the source files that {name_of(document)} names", wrong)
 
 
@@ -309,6 +321,29 @@ def printed_clauses(cases):
     cases.report("scripts/clauses prints what docs/proved.md cites", wrong if count >= 80 else [f"{count} citations alone", *wrong])
 
 
+# A crate in which two files define one name, and what a law says by it.
+SAME_NAMES = {
+    "Left.antt": "pub same : ℕ\nsame = part\n\npart : ℕ\npart = 1\n",
+    "Right.antt": "pub same : ℕ\nsame = other\n\npub other : ℕ\nother = 2\n",
+    "Laws.antt": "use Rattle.made.specs.Left.{same}\nuse Rattle.made.specs.Right as right\n\n"
+    "pub One : Type 0\nOne = same ≡ 1\n\npub Two : Type 0\nTwo = right.same ≡ 2\n",
+}
+OF_A_LAW = "ghost use Rattle.made.specs.Laws.{One, Two};"
+
+
+def names_of_two_definitions(cases):
+    with tempfile.TemporaryDirectory() as folder:
+        crate = Path(folder, "made")
+        (crate / "specs").mkdir(parents=True)
+        for name, text in SAME_NAMES.items():
+            (crate / "specs" / name).write_text(text)
+        known = statements.Definitions(crate)
+    for law, want in [("One", {("Left", "same"), ("Left", "part")}), ("Two", {("Right", "same"), ("Right", "other")})]:
+        found = known.reached(f"ensures {{ {law} }}", known.uses(OF_A_LAW))
+        wanted = {("specs/Laws.antt", law)} | {(f"specs/{file}.antt", name) for file, name in want}
+        cases.report(f"the law {law} is made of the definitions of one file", [] if found == wanted else [str(sorted(found ^ wanted))])
+
+
 def decisions(cases):
     page = (DOCS / "DECISIONS.md").read_text()
     found = re.split(r"^(?:- (?=\*\*)|## )", page, flags=re.M)
@@ -346,8 +381,8 @@ def main():
         sys.exit(__doc__)
     cases = Cases(None)
     for test in [
-        picture, style, links, lengths_of_lines, named_files, wrong_bodies, tried_by_the_gate, definitions, citations, calls_of_the_kit,
-        named_clauses, printed_clauses, decisions, searched_words, lines_of_faults, version_of_the_source, symbolic_links,
+        picture, style, links, lengths_of_lines, heads_of_tables, named_files, wrong_bodies, tried_by_the_gate, definitions, citations, calls_of_the_kit,
+        named_clauses, printed_clauses, names_of_two_definitions, decisions, searched_words, lines_of_faults, version_of_the_source, symbolic_links,
     ]:
         test(cases)
     cases.end()
