@@ -6,11 +6,12 @@ their commands, taken out of the page itself, print what it shows.
 
 Each section is a session of bash in a folder of its own, with the sample logs in its folder examples/. Its blocks are:
 
-- `sh` without a name: the commands that copy sample logs to /tmp/try, done once a section, with the section's folder in its place;
+- `sh` without a name: the commands that make /tmp/try, copy sample logs to it and go there, done once a section, with the section's
+  folder, which isn't there before, in its place;
 - `console TOOL...`: commands, each after `$`, and what they print. Where a tool is missing the block is skipped, by the tool's
   name. One of `candump` needs a bus and is always skipped; `vcan0` is an interface, `pandas` and `python-can` are modules of
   Python;
-- `sh NAME`, `python NAME`: a script, saved as NAME for this section and those after it;
+- `sh NAME`, `python NAME`: a script, saved as NAME for this section and those after it; the prose above says "Save as `NAME`";
 - `yaml`: a job of CI, whose commands stand in blocks of its section, too; the files that it keeps are there behind them.
 
 Prints a line for each case and ends with `N passed, M failed`; its status is 1 where a case failed.
@@ -161,9 +162,16 @@ def run_job(cases, title, job, commands_run, folder):
         cases.report(f"{title}: a job keeps {name}", [] if made else ["it is not there, or empty"])
 
 
-def copy_logs(blocks, folder, environment):
-    script = "\n".join(line for words, _, text in blocks if words == ["sh"] for line in text)
-    subprocess.run(["bash", "-ec", script.replace("/tmp/try", str(folder))], cwd=TOP, env=environment, check=True, timeout=60)
+def set_up(blocks, folder, environment):
+    """What is wrong with the set-up of a page, if it has one: it makes this folder, and ends in it."""
+    lines = [line.replace("/tmp/try", str(folder)) for words, _, text in blocks if words == ["sh"] for line in text]
+    if not lines:
+        folder.mkdir()
+        return []
+    script = "\n".join(["set -e", *lines, "pwd"])
+    done = subprocess.run(["bash", "-c", script], cwd=TOP, env=environment, capture_output=True, text=True, timeout=60)
+    folder.mkdir(exist_ok=True)
+    return [] if done.stdout == f"{folder}\n" else [f"it ends in {done.stdout!r}: {done.stderr!r}"]
 
 
 def save_scripts(blocks, folder):
@@ -174,14 +182,23 @@ def save_scripts(blocks, folder):
             script.chmod(0o755)
 
 
+def scripts_are_named(cases, page):
+    """A rendered page shows no name behind a fence: the prose right above each script says it."""
+    for above, name in re.findall(r"^(.*)\n+```(?:sh|python) (\S+)$", page.read_text(), re.M):
+        cases.report(f"{page.name} says to save {name}", [] if f"ave as `{name}`" in above else [f"above it stands {above!r}"])
+
+
 def run_page(cases, page, home, environment):
     """Each section of a page in a folder of its own, with the scripts of those before it."""
+    scripts_are_named(cases, page)
     found = sections(page.read_text())
+    (home / page.stem).mkdir()
     for number, (title, blocks) in enumerate(found):
         folder = home / page.stem / str(number)
-        folder.mkdir(parents=True)
+        wrong = set_up(found[0][1], folder, environment)
+        if wrong or number == 0:
+            cases.report(f"the set-up of {page.name} for {title}", wrong)
         (folder / "examples").symlink_to(TOP / "examples")
-        copy_logs(found[0][1], folder, environment)
         for _, before in found[: number + 1]:
             save_scripts(before, folder)
         run_section(cases, page, title, blocks, folder, environment)
