@@ -14,7 +14,7 @@ NAME = re.compile(r"(?<![\w'.»)])([\w']+)(?:\.([\w']+))?")
 
 
 class Definitions:
-    """The definitions of a crate: the texts of each file by their names, and what each file uses."""
+    """The definitions of a crate: of each file their texts by name, the cases of its lists of cases, and what it uses."""
 
     def __init__(self, crate):
         self.crate, self.texts, self.cases, self.used = crate.name, {}, {}, {}
@@ -63,6 +63,6 @@ def definitions_in(text):
         begin = DEFINED.match(line)
         if begin:
             name = begin[1] if begin[1] not in NO_DEFINITION else None
-        if name and not line.startswith("--"):
+        if name and not line.lstrip().startswith("--"):
             texts[name] = texts.get(name, "") + line + "\n"
     return texts
