@@ -1,13 +1,15 @@
-"""The last line of what `explain` writes: how many there are of each thing. No other test has the whole line, but for the oracle,
-which shares nothing.
+"""The last line of what `explain` writes: how many there are of each thing. The names are those of docs/formats.md. No test has
+them all, but for the oracle, which shares nothing.
 
 A test says the counts that it is about. Of the others the lines and the frames are counted in the log, and the messages in its
 canonical log, to which the pending replies come that are left out there. All others are zero.
 """
 
 import re
+from pathlib import Path
 
-NAMES = ["lines", "frames", "messages", "dropped", "ended", "unfinished", "pending"]
+FORMATS = Path(__file__).resolve().parent.parent / "docs" / "formats.md"
+NAMES = re.findall(r"(\w+) [A-Z]\b", re.search(r"^- `(lines A( \w+ [A-Z])+)`", FORMATS.read_text(), re.M)[1])
 
 # The identifiers of the tester and the unit where nothing else is said.
 SIDES = ("7E0", "7E8")

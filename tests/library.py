@@ -31,6 +31,7 @@ import header
 import tables
 import told
 from cases import DIFFERENT, DONE, REFUSAL, Cases
+from counts import counts_in
 from runs import differences, files, run
 
 TOP = Path(__file__).resolve().parent.parent
@@ -65,7 +66,6 @@ JOBS = {
     "find objects": ["find", "--json"],
 }
 STYLES = {"unnumbered": 1, "objects": 2, "unnumbered objects": 3, "message objects": 2, "explain objects": 2, "find objects": 2}
-COUNTS = ["lines", "frames", "messages", "dropped", "ended", "unfinished", "pending"]
 TABLES = [
     "one_session", "sessions", "examples", "equal_numbers", "lost_frames", "late_frames", "long_announcements",
     "long_announcements_told", "written_before_a_refused_line", "places", "decided", "frames_without_part",
@@ -87,6 +87,11 @@ class Answer(ctypes.Structure):
     """The answer of a call, by the crate's source."""
 
     _fields_ = [(name, {"u32": ctypes.c_uint32, "u64": ctypes.c_uint64}[of]) for name, of in header.fields()]
+
+
+# The counts that an answer has, which are its last fields.
+FIELDS = [name for name, _ in header.fields()]
+COUNTS = FIELDS[FIELDS.index("lines"):]
 
 
 def identifier(digits):
@@ -265,8 +270,8 @@ def beside_the_program(loaded, program, job, session):
     wrong += differences(f"the status of {job}", answer.status == STATUSES["DONE"], found.status == DONE)
     wrong += differences(f"the text of {job}", text, found.output if found.status == DONE else b"")
     if job == "explain" and found.status == DONE:
-        counts = " ".join(f"{name} {getattr(answer, name)}" for name in COUNTS)
-        wrong += differences("the counts", counts.encode(), found.output.splitlines()[-1])
+        counts = counts_in(found.output)
+        wrong += differences("the counts", {name: getattr(answer, name) for name in COUNTS}, {name: counts[name] for name in COUNTS})
     return wrong
 
 

@@ -13,7 +13,7 @@ import shutil
 import subprocess
 import sys
 import tempfile
-from collections import namedtuple
+from collections import Counter, namedtuple
 from concurrent.futures import ThreadPoolExecutor
 from functools import partial
 
@@ -326,7 +326,6 @@ def breaks_off(program):
 
 FIRST = "line (0.000000) can0 7E8#101462F190574241"
 NEXT = "line (1.00000{late}) can0 7E8#2133413543353045"
-COUNTS = "counts dropped={dropped} ended={late} unfinished={open}"
 IS_OPEN = ["told end: unit reception from line 1 of 20 bytes unfinished"]
 IS_LATE = [
     "told line 3: unit reception from line 1 of 20 bytes ended: late",
@@ -335,12 +334,15 @@ IS_LATE = [
 
 
 def frames_without_part(program):
-    """After such a frame a reception goes on a second after its first frame, and is late a microsecond later."""
+    """After such a frame a reception goes on a second after its first frame, and is late a microsecond later. What is counted of a
+    late frame, the table of them says."""
+    of_late_frame = next(row.said() for row in tables.table("late_frames") if row.name == "late by one microsecond")
     for row in tables.table("frames_without_part"):
-        for late, end in enumerate([IS_OPEN, IS_LATE]):
-            counts = dict(dropped=len(row.texts("told")) + late, late=late, open=1 - late)
+        for late, (end, said) in enumerate([(IS_OPEN, {"unfinished": 1}), (IS_LATE, of_late_frame)]):
+            counts = Counter(said) + Counter(dropped=len(row.texts("told")))
+            counted = "counts " + " ".join(f"{name}={number}" for name, number in counts.items())
             lines = [f"{mark} {text}" for mark, text in row.lines]
-            whole = Row(row.name, [FIRST, *lines, NEXT.format(late=late), *end, COUNTS.format(**counts)])
+            whole = Row(row.name, [FIRST, *lines, NEXT.format(late=late), *end, counted])
             name = f"frames_without_part: {row.name}, {['on time', 'late'][late]}"
             yield name, partial(session, program, whole)
 

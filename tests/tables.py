@@ -90,10 +90,14 @@ class Row:
         """The identifiers of the tester and the unit."""
         return tuple((self.texts("between") or [" ".join(SIDES)])[0].split(" "))
 
+    def said(self):
+        """The counts that the row is about, by their names."""
+        said = dict(word.split("=") for text in self.texts("counts") for word in text.split())
+        return {name: int(number) for name, number in said.items()}
+
     def counts(self):
         """The line with the counts of the log."""
-        said = dict(word.split("=") for text in self.texts("counts") for word in text.split())
-        return counts_line(self.log(), self.canonical(), self.sides(), **{name: int(number) for name, number in said.items()})
+        return counts_line(self.log(), self.canonical(), self.sides(), **self.said())
 
     def side(self, mark):
         """The log of one side of a comparison: after the mark of the side stands a frame, or a line with its own mark."""

@@ -205,14 +205,24 @@ fn explain(rt: HostRuntime) -> Result<(), Fail> {
     Ok(())
 }
 
+/// Explains a session. Where that was refused memory, a front of the text was written.
 fn explained(alloc: Global, session: Session) -> Result<Made, Fail> {
-    written!(
-        trace_canon::explain,
-        alloc,
-        [Notation::Text],
-        session.log,
-        session.explained
-    )
+    let mut begun = Page::new();
+    for made in TRIES {
+        let mut log = Reading::new(session.log);
+        let mut writer = Writing::new(Page::new());
+        match trace_canon::explain(alloc, &config()?, Notation::Text, &mut log, &mut writer) {
+            Err(Fault::Memory) => begun = writer.into_inner(),
+            answer => {
+                answer?;
+                let text = writer.into_inner();
+                text.assert_begins_with(begun.bytes())?;
+                text.assert_begins_with(session.explained)?;
+                return Ok(made);
+            }
+        }
+    }
+    Err(REFUSED_AGAIN)?
 }
 
 #[test]
@@ -326,7 +336,7 @@ fn held(alloc: Global, session: Session) -> Result<Made, Fail> {
 /// More bytes than a page of a session has.
 const PAGE: usize = 32_768;
 
-/// What was written of a page, in memory that no call is asked for.
+/// What was written of a page or of an explanation, in memory that no call is asked for.
 #[derive(Drop)]
 struct Page {
     bytes: [u8; PAGE],
@@ -349,7 +359,7 @@ impl Page {
         if self.bytes().starts_with(front) {
             Ok(())
         } else {
-            Err("no front of the page")?
+            Err("another front")?
         }
     }
 

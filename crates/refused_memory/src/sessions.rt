@@ -18,6 +18,7 @@ pub(crate) struct Session {
     pub(crate) ordered: &'static [Message],
     pub(crate) canonical: &'static [u8],
     pub(crate) listed: &'static [u8],
+    /// What its explanation begins with, the line of the counts.
     pub(crate) explained: &'static [u8],
     pub(crate) found: &'static [u8],
 }
@@ -47,7 +48,7 @@ const VIN: Session = Session {
     (0000000000.003000) can0 7E8#2133413543353045\n\
     (0000000000.004000) can0 7E8#2246313233343536\n",
     listed: b"1 exchange ReadDataByIdentifier 22F190 -> positive 62F1905742413341354335304546313233343536\n",
-    explained: b"lines 5 frames 5 messages 2 dropped 0 ended 0 unfinished 0 pending 0\n",
+    explained: b"lines 5 frames 5 messages 2 ",
     found: b"1 --tester 7E0 --unit 7E8\n",
 };
 
@@ -82,7 +83,7 @@ const STRAY: Session = Session {
     (0000000000.002000) can0 7E0#023E80CCCCCCCCCC\n",
     listed: b"1 exchange ReadDataByIdentifier 22F190 -> positive 62F19041\n\
     2 stray tester 3E80\n",
-    explained: b"lines 3 frames 3 messages 3 dropped 0 ended 0 unfinished 0 pending 0\n",
+    explained: b"lines 3 frames 3 messages 3 ",
     found: b"1 --tester 7E0 --unit 7E8\n",
 };
 
@@ -126,7 +127,7 @@ const BOTH: Session = Session {
     (0000000000.018000) can0 7E0#2144454647CCCCCC\n",
     listed: b"1 stray unit 000102030405060708090A0B0C0D0E0F101112131415161718191A1B1C1D1E1F202122232425262728292A2B2C2D2E2F303132333435363738393A3B3C3D3E3F404142434445464748494A4B4C4D4E4F505152535455565758595A5B5C5D5E5F60616263\n\
     2 exchange WriteDataByIdentifier 2EF19041424344454647 -> unanswered\n",
-    explained: b"lines 6 frames 6 messages 2 dropped 0 ended 0 unfinished 0 pending 0\n",
+    explained: b"lines 6 frames 6 messages 2 ",
     found: b"",
 };
 

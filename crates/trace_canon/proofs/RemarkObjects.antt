@@ -1,5 +1,5 @@
 -- The objects that explain a log, in the parts that are said.
-use Rattle.std.proofs.Common.{◌≡◌, ℕ, List, [], ◌++◌, refl, sym, ◌∙◌, append_assoc, codes}
+use Rattle.std.proofs.Common.{◌≡◌, ℕ, List, [], ◌∷◌, ◌++◌, refl, sym, ap, ◌∙◌, append_assoc, codes}
 use Rattle.std.specs.Fmt.{decimal}
 use Rattle.direction.specs.declared.Dir.{Dir}
 use Rattle.isotp_receive.specs.declared.event.Ended.{Ended}
@@ -7,10 +7,14 @@ use Rattle.isotp_receive.specs.declared.event.Reason.{Reason}
 use Rattle.isotp_receive.specs.declared.event.Reason.TheVariants as reason
 use Rattle.isotp_pdu.specs.declared.PduFault.{PduFault}
 use Rattle.trace_canon.specs.declared.remark.Remark.TheVariants as remark
-use Rattle.trace_canon.specs.ExplainText.{cause_text, layout_fault_text, reason_members, remark_members}
+use Rattle.trace_canon.specs.declared.summary.Count.{Count}
+use Rattle.trace_canon.specs.declared.summary.Summary.{Summary}
+use Rattle.trace_canon.specs.ExplainText.{cause_text, count_members, layout_fault_text, reason_members, remark_members}
 use Rattle.trace_canon.specs.Json.{object_line}
+use Rattle.trace_canon.specs.Summing.{named_counts, seen_counts}
 use Rattle.trace_canon.specs.Words.{direction_text}
-use Rattle.trace_canon.specs.proving.Spelling.{later_then}
+use Rattle.trace_canon.specs.proving.Parts.{counts_between}
+use Rattle.trace_canon.specs.proving.Spelling.{later_then, quotes_then}
 use Rattle.trace_canon.proofs.JsonTexts.{line_is}
 
 -- the object of a reception that ended
@@ -55,3 +59,22 @@ dropped_object line d why side side_is =
     rw side_is
     (five_and (codes "{\"line\":") (decimal line) (codes ",\"event\":\"dropped\",\"direction\":\"") (direction_text d) (codes "\"")
     (later_then (reason_members why) (codes "}\n")) ∙ sym (line_is (remark_members (remark.Dropped line d why))))
+
+one_member : (name number later behind : List ℕ) → ((codes ",\"" ++ (name ++ (codes "\":" ++ number))) ++ later) ++ behind
+    ≡ codes "," ++ quotes_then name (codes ":" ++ (number ++ (later ++ behind)))
+one_member name number later behind = simp append_assoc
+
+-- counts are members
+count_members_are : (counts : List Count) (behind : List ℕ)
+    → counts_between (codes ",\"") (codes "\":") counts ++ behind ≡ later_then (count_members (seen_counts counts)) behind
+count_members_are [] behind = refl
+count_members_are (count ∷ later) behind =
+    one_member count.0.now (decimal count.1) (counts_between (codes ",\"") (codes "\":") later) behind
+    ∙ ap (λ l. codes "," ++ quotes_then count.0.now (codes ":" ++ (decimal count.1 ++ l))) (count_members_are later behind)
+
+-- the object of the counts
+pub counts_object : (summary : Summary) (counts : List Count) → seen_counts counts ≡ named_counts summary
+    → codes "{\"event\":\"counts\"" ++ (counts_between (codes ",\"") (codes "\":") counts ++ codes "}\n") ≡ object_line (remark_members (remark.Counts summary))
+counts_object summary counts are =
+    ap (λ l. codes "{\"event\":\"counts\"" ++ l) (count_members_are counts (codes "}\n") ∙ ap (λ c. later_then (count_members c) (codes "}\n")) are)
+    ∙ sym (line_is (remark_members (remark.Counts summary)))

@@ -20,7 +20,7 @@ use Rattle.trace_canon.specs.Refusal.{HasNoBadPlaceWithin}
 use Rattle.trace_io.specs.declared.device.Source.{Ghosts as SourceGhosts}
 use Rattle.trace_io.specs.declared.device.Target.{Ghosts as TargetGhosts}
 use Rattle.trace_canon.specs.Settings.{Settings}
-use Rattle.trace_canon.specs.Summing.{ends_in_line_feed}
+use Rattle.trace_canon.specs.Summing.{counted_in, ends_in_line_feed}
 use Rattle.trace_canon.specs.Told.{IsUnreadFor}
 use Rattle.uds_find.specs.Credit.{HasCredit}
 use Rattle.uds_find.specs.Finding.{AreCreditLines}
@@ -34,16 +34,8 @@ frames_in (Some stamped ∷ meanings) = stamped.frame ∷ frames_in meanings
 
 -- what is counted in a log whose lines mean this, where nobody told the identifiers: no frame is of a side
 abbrev pub summary_of_lines : List ℕ → List (Option Stamped) → Summary
-summary_of_lines log meanings = record {
+summary_of_lines log meanings = record (counted_in MESSAGE_LIMIT []) {
   lines = length meanings;
-  frames = 0;
-  tester_frames = 0;
-  unit_frames = 0;
-  messages = 0;
-  dropped = 0;
-  ended = 0;
-  unfinished = 0;
-  pending = 0;
   ends_in_line_feed = ends_in_line_feed log;
 }
 

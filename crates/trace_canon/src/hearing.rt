@@ -83,15 +83,8 @@ fn summary(lines: u64, ended: bool) -> Summary
 {
     Summary {
         lines,
-        frames: 0,
-        tester_frames: 0,
-        unit_frames: 0,
-        messages: 0,
-        dropped: 0,
-        ended: 0,
-        unfinished: 0,
-        pending: 0,
         ends_in_line_feed: ended,
+        ..Summary::nothing()
     }
 }
 

@@ -4,59 +4,29 @@ ghost use Rattle.can_log.specs.declared.frame.Stamped.{Stamped as StampedValue};
 ghost use Rattle.isotp_receive.specs.declared.TheConstants.{MESSAGE_LIMIT};
 ghost use Rattle.isotp_pdu.specs.Reading.{layout_of};
 ghost use Rattle.isotp_receive.specs.Capacities.{CapacitiesGrow};
-ghost use Rattle.isotp_receive.specs.EventSeen.{seen_event};
 ghost use Rattle.isotp_receive.specs.StandingReception.{receptions_after};
 ghost use Rattle.isotp_receive.specs.Trace.{Entry};
 ghost use Rattle.isotp_receive.specs.Verdict.{verdict};
 ghost use Rattle.trace_canon.specs.proving.Carrying.{Tells, StopsTelling, WroteTold};
+ghost use Rattle.trace_canon.specs.Summing.{counted_more};
 ghost use Rattle.trace_canon.specs.proving.Reading.{IsOfTaker};
-ghost use Rattle.trace_canon.specs.proving.Receiving.{CountsEvent};
 
 use crate::config::Config;
 use crate::driver::Telling;
 use crate::fault::Fault;
 use crate::lines::LineTaker;
 use crate::machine::Machine;
+use crate::summary::Summary;
 use can_log::{Frame, Stamped, Wanted};
 use direction::Dir;
-use isotp_receive::{Event, Pair, Verdict};
+use isotp_receive::Pair;
 use trace_io::Target;
-
-/// What was counted in the frames of a log so far.
-#[derive(Clone, Copy, Debug)]
-pub(crate) struct Counts {
-    pub tester_frames: u64,
-    pub unit_frames: u64,
-    pub messages: u64,
-    pub dropped: u64,
-    pub ended: u64,
-}
-
-impl Counts {
-    /// Counts what one more frame of a direction did.
-    fn count(&mut self, dir: Dir, event: Event<'_>)
-        ensures { CountsEvent self.old dir (seen_event event.entry) self.new }
-    {
-        match dir {
-            Dir::Tester => self.tester_frames = self.tester_frames.saturating_add(1),
-            Dir::Unit => self.unit_frames = self.unit_frames.saturating_add(1),
-        }
-        if event.ended.is_some() {
-            self.ended = self.ended.saturating_add(1);
-        }
-        match event.verdict {
-            Verdict::Message(_) => self.messages = self.messages.saturating_add(1),
-            Verdict::Dropped(_) => self.dropped = self.dropped.saturating_add(1),
-            Verdict::Began | Verdict::Stored | Verdict::Flow => {}
-        }
-    }
-}
 
 /// Takes one more frame of a direction. A pair asks for memory only where the frame's bytes are kept for a message of
 /// several frames.
 fn receive<M: Machine, W: Target>(
     pair: &mut Pair,
-    counts: &mut Counts,
+    counts: &mut Summary,
     taker: &mut Telling<M, W>,
     target: &mut W,
     line: u64,
@@ -69,7 +39,7 @@ fn receive<M: Machine, W: Target>(
         → pair.new.receptions ≡ receptions_after MESSAGE_LIMIT (T ++ record { line = line; micros = micros; dir = dir; frame = frame.now } ∷ [])) }
     ensures grew { OnOk result (CapacitiesGrow MESSAGE_LIMIT dir (layout_of frame.now) pair.old pair.new) }
     ensures counts { OnOk result ((T : List Entry) → pair.old.receptions ≡ receptions_after MESSAGE_LIMIT T
-        → CountsEvent counts.old dir (verdict MESSAGE_LIMIT T (record { line = line; micros = micros; dir = dir; frame = frame.now })) counts.new) }
+        → counts.new ≡ counted_more dir (verdict MESSAGE_LIMIT T (record { line = line; micros = micros; dir = dir; frame = frame.now })) counts.old) }
     ensures ok { OnOk result ((start : W) (first : M) (T : List Entry) → pair.old.receptions ≡ receptions_after MESSAGE_LIMIT T → length T < 2 ^ 62
         → Tells (M.stands first) W.Target (M.script first) start T taker.old.machine taker.old.pending taker.old.page.failed taker.old.page.block target.old
         → Tells (M.stands first) W.Target (M.script first) start (T ++ record { line = line; micros = micros; dir = dir; frame = frame.now } ∷ [])
@@ -98,7 +68,7 @@ pub(crate) struct Receiver<M, W> {
     pub config: Config,
     pub pair: Pair,
     pub lines: u64,
-    pub counts: Counts,
+    pub counts: Summary,
     pub taker: Telling<M, W>,
 }
 
@@ -117,13 +87,7 @@ impl<M, W> Receiver<M, W> {
             config: *config,
             pair,
             lines: 0,
-            counts: Counts {
-                tester_frames: 0,
-                unit_frames: 0,
-                messages: 0,
-                dropped: 0,
-                ended: 0,
-            },
+            counts: Summary::nothing(),
             taker,
         }
     }

@@ -1,13 +1,14 @@
 //! What a line that explains a log tells.
-ghost use Rattle.trace_canon.specs.ExplainText.{reason_line, remark_line, remark_text, summary_line};
+ghost use Rattle.trace_canon.specs.ExplainText.{counts_text, reason_line, remark_line, remark_text, summary_line};
+ghost use Rattle.trace_canon.specs.Summing.{seen_counts};
 ghost use Rattle.trace_canon.specs.declared.remark.Remark.TheVariants as remark;
 
 use crate::names::{cause_name, direction_name, layout_fault_name};
 use crate::notation::Notation;
 use crate::parts::Part;
 use crate::remark_objects::say_remark_object;
-use crate::say::say_parts;
-use crate::summary::Summary;
+use crate::say::{say_counts, say_parts, say_text};
+use crate::summary::{Count, Summary};
 use crate::text_sink::TextSink;
 use direction::Dir;
 use isotp_receive::{Ended, Reason};
@@ -141,24 +142,17 @@ fn say_unfinished_line<S: TextSink>(dir: Dir, line: u64, len: u32, out: &mut S)
 fn say_summary_line<S: TextSink>(summary: &Summary, out: &mut S)
     ensures { S.says out.old (summary_line summary.now) out.new }
 {
-    say_parts(
-        out,
-        &[
-            Part::Text("lines "),
-            Part::Number(summary.lines),
-            Part::Text(" frames "),
-            Part::Number(summary.frames),
-            Part::Text(" messages "),
-            Part::Number(summary.messages),
-            Part::Text(" dropped "),
-            Part::Number(summary.dropped),
-            Part::Text(" ended "),
-            Part::Number(summary.ended),
-            Part::Text(" unfinished "),
-            Part::Number(summary.unfinished),
-            Part::Text(" pending "),
-            Part::Number(summary.pending),
-            Part::Text("\n"),
-        ],
-    );
+    say_counts_words(&summary.named(), out);
+    say_text(out, "\n");
+}
+
+/// Says counts, each but the first behind a space.
+fn say_counts_words<S: TextSink>(counts: &[Count], out: &mut S)
+    ensures { S.says out.old (counts_text (seen_counts counts.now)) out.new }
+{
+    let Some((first, later)) = counts.split_first() else {
+        return;
+    };
+    say_counts("", " ", &[*first], out);
+    say_counts(" ", " ", later, out);
 }

@@ -8,7 +8,7 @@ ghost use Rattle.trace_canon.specs.proving.Spelling.{later_then};
 use crate::names::{cause_name, direction_name, layout_fault_name};
 use crate::parts::Part;
 use crate::remark::Remark;
-use crate::say::say_parts;
+use crate::say::{say_counts, say_parts, say_text};
 use crate::summary::Summary;
 use crate::text_sink::TextSink;
 use direction::Dir;
@@ -137,24 +137,7 @@ fn say_unfinished_object<S: TextSink>(dir: Dir, line: u64, len: u32, out: &mut S
 fn say_summary_object<S: TextSink>(summary: &Summary, out: &mut S)
     ensures { S.says out.old (object_line (remark_members (remark.Counts summary.now))) out.new }
 {
-    say_parts(
-        out,
-        &[
-            Part::Text("{\"event\":\"counts\",\"lines\":"),
-            Part::Number(summary.lines),
-            Part::Text(",\"frames\":"),
-            Part::Number(summary.frames),
-            Part::Text(",\"messages\":"),
-            Part::Number(summary.messages),
-            Part::Text(",\"dropped\":"),
-            Part::Number(summary.dropped),
-            Part::Text(",\"ended\":"),
-            Part::Number(summary.ended),
-            Part::Text(",\"unfinished\":"),
-            Part::Number(summary.unfinished),
-            Part::Text(",\"pending\":"),
-            Part::Number(summary.pending),
-            Part::Text("}\n"),
-        ],
-    );
+    say_text(out, "{\"event\":\"counts\"");
+    say_counts(",\"", "\":", &summary.named(), out);
+    say_text(out, "}\n");
 }

@@ -1,7 +1,7 @@
 //! The parts of a line of text, said one after another.
 ghost use Rattle.std.specs.Prelude.{◌+◌, ◌++◌};
 ghost use Rattle.std.specs.Fmt.{decimal};
-ghost use Rattle.trace_canon.specs.proving.Parts.{part_text, parts_text};
+ghost use Rattle.trace_canon.specs.proving.Parts.{counts_between, part_text, parts_text};
 ghost use Rattle.can_log.specs.Digits.{hexadecimal};
 ghost use Rattle.can_log.specs.Digits as digits;
 ghost use Rattle.trace_canon.specs.ExplainText.{cause_text, layout_fault_text};
@@ -12,6 +12,7 @@ use crate::parts::{
     Part, hexadecimal_digits, last_digit, numbered_code, numbered_service, six_decimals,
     three_decimals,
 };
+use crate::summary::Count;
 use crate::text_sink::TextSink;
 use can_log::digits_of_bytes;
 use direction::Dir;
@@ -26,6 +27,28 @@ pub(crate) fn say_parts<S: TextSink>(out: &mut S, parts: &[Part<'_>])
 {
     'parts: for part in parts {
         say_part(out, *part);
+    }
+}
+
+/// Says counts: before each name this, and between it and its number that.
+pub(crate) fn say_counts<S: TextSink>(
+    before: &'static str,
+    between: &'static str,
+    counts: &[Count],
+    out: &mut S,
+)
+    ensures { S.says out.old (counts_between before.now between.now counts.now) out.new }
+{
+    'counts: for count in counts {
+        say_parts(
+            out,
+            &[
+                Part::Text(before),
+                Part::Text(count.0),
+                Part::Text(between),
+                Part::Number(count.1),
+            ],
+        );
     }
 }
 

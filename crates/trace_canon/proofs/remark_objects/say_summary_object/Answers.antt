@@ -1,8 +1,8 @@
-use Rattle.std.proofs.Common.{subst, sym}
-use Rattle.trace_canon.specs.ExplainText.{remark_members}
-use Rattle.trace_canon.specs.declared.remark.Remark.TheVariants as remark
-use Rattle.trace_canon.proofs.JsonTexts.{line_is}
+use Rattle.std.proofs.Common.{subst}
+use Rattle.trace_canon.proofs.RemarkObjects.{counts_object}
 use Rattle.trace_canon.proofs.remark_objects.say_summary_object.Goals as goal
 
 pub returns : goal.returns
-returns g c = subst (λ text. g.S.TextSink.says c.args.out.now text c.say_parts.new.out) (sym (line_is (remark_members (remark.Counts c.args.summary.now)))) c.say_parts.ensures
+returns g c =
+    subst (λ text. g.S.TextSink.says c.args.out.now text c.say_text-2.new.out) (counts_object c.args.summary.now c.named.result c.named.ensures)
+    (g.met.S.TextSink.onward _ _ _ _ _ c.say_text.ensures (g.met.S.TextSink.onward _ _ _ _ _ c.say_counts.ensures c.say_text-2.ensures))
