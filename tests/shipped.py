@@ -1,7 +1,7 @@
 #!/usr/bin/env python3
 """Tests of what is shipped beside the program: its manual page names every command and option that its help names, and its
 completions offer them, `make install` and `make uninstall` know the same files, a release has program and library, `make run`
-and `make build` tell what they do, and `make check` does what it tells, in the order of crates.txt.
+and `make build` tell what they do, and `make check` does each step after those that it waits for.
 
     tests/shipped.py crates/udsnorm/out/udsnorm
 
