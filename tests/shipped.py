@@ -1,7 +1,7 @@
 #!/usr/bin/env python3
 """Tests of what is shipped beside the program: its manual page has below each heading every command and option that its help
-names, and its completions offer them, `make install` and `make uninstall` know the same files, a release has program and library, `make run`
-and `make build` tell what they do, and `make check` does what it tells, in the order of crates.txt.
+names, and its completions offer them, `make install` and `make uninstall` know the same files, a release has program and
+library, `make run` and `make build` tell what they do, and `make check` does each step after those that it waits for.
 
     tests/shipped.py crates/udsnorm/out/udsnorm
 
@@ -204,41 +204,70 @@ case "$1" in tests/*) exit;; esac
 exec '{sys.executable}' "$@"
 """
 
-# What `make check` does with the program.
-OF_PROGRAM = ["udsnorm: make build"]
-OF_PROGRAM += [f"tests/{test}.py" for test in ["command_line", "program", "sessions", "documents", "shipped", "recipes", "release"]]
+# What `make check` does of a change of uds_message, each step with those of the steps that it comes after.
+OF_LIBRARIES = {
+    "uds_message: rt fmt": [],
+    "uds_message: proofs": ["uds_message: rt fmt"],
+    "uds_exchange: proofs": ["uds_message: proofs"],
+    "uds_find: proofs": ["uds_message: proofs"],
+    "trace_canon: proofs": ["uds_exchange: proofs", "uds_find: proofs"],
+    "trace_report: proofs": ["trace_canon: proofs"],
+}
+OF_PROGRAM = {"udsnorm: make build": ["trace_report: proofs"]}
+OF_PROGRAM |= {f"tests/{test}.py": ["udsnorm: make build"] for test in ["command_line", "program", "sessions", "shipped", "recipes", "release"]}
+OF_THE_REST = {
+    "tests/documents.py": [],
+    "json_reading: proofs": ["trace_canon: proofs"],
+    "udsnorm_c: proofs": ["trace_canon: proofs"],
+    "layer_bench: proofs": ["uds_exchange: proofs"],
+    "acceptance: proofs": ["trace_report: proofs"],
+    "refused_memory: proofs": ["trace_report: proofs"],
+}
+ALL_STEPS = OF_LIBRARIES | OF_PROGRAM | OF_THE_REST
+
+
+def waiting_for(failing):
+    """The steps that don't begin where this one fails."""
+    direct = {step for step, before in ALL_STEPS.items() if failing in before}
+    return direct.union(*(waiting_for(step) for step in direct))
+
+
+def check_told(cases, crate, failing):
+    """The status of `make check` of a crate with another `rt`, the steps that it told, and its lines about one that failed."""
+    with tempfile.TemporaryDirectory() as folder:
+        for name, text in [("rt", FAILING_RT % failing), ("python3", IDLE_PYTHON)]:
+            stub = Path(folder, name)
+            stub.write_text(text)
+            stub.chmod(0o755)
+        path = f"{folder}:{os.environ['PATH']}"
+        status, output, _ = make("check", f"CRATE={crate}", f"PROGRAM_CRATE={folder}/udsnorm", PATH=path)
+    lines = [re.sub(r" +(failed after )?\d+\.\d s$", r" \1", line) for line in output.splitlines()]
+    failed = next((n for n, line in enumerate(lines) if line.endswith(" failed after ")), len(lines))
+    return status, [line.rstrip() for line in lines[:failed]], lines[failed:]
 
 
 def make_check_goes_upwards(cases):
-    """`make check` with another `rt`, up to the step that fails: the program comes before the crates that it doesn't stand on, and
-    each of these after those that it stands on."""
-    for crate, failing, steps in [
-        ("uds_message", "uds_message check", ["uds_message: rt fmt", "uds_message: rt check"]),
-        (
-            "uds_message",
-            "udsnorm run",
-            ["uds_message: rt fmt", "uds_message: rt check", OF_PROGRAM[0]],
-        ),
-        ("udsnorm", "udsnorm run", ["udsnorm: rt fmt", "udsnorm: rt check", OF_PROGRAM[0]]),
-        ("acceptance", "acceptance test", ["acceptance: rt fmt", "acceptance: rt check", "acceptance: rt test"]),
-        (
-            "isotp_segment",
-            "acceptance test",
-            ["isotp_segment: rt fmt", "isotp_segment: rt check", *OF_PROGRAM]
-            + [f"{user}: rt check" for user in ["json_reading", "udsnorm_c", "layer_bench", "refused_memory", "acceptance"]]
-            + ["acceptance: rt test"],
-        ),
+    """`make check` with another `rt`: each step comes after those that it waits for, and none is left out; where one fails, what
+    waits for it does not begin, and the check ends."""
+    status, told, _ = check_told(cases, "uds_message", "")
+    end, *steps = reversed(told)
+    wrong = [] if status == 0 and end.startswith("uds_message is checked") else [f"status {status}, {end}"]
+    wrong += sorted({*steps} ^ {*ALL_STEPS}) if len(steps) == len(ALL_STEPS) else [f"{len(steps)} steps"]
+    wrong += [f"{step} before {first}" for n, step in enumerate(steps) for first in ALL_STEPS.get(step, []) if first not in steps[n:]]
+    cases.report("make check of uds_message", wrong)
+    for failing, step in [
+        ("uds_message fmt", "uds_message: rt fmt"),
+        ("uds_exchange lib", "uds_exchange: proofs"),
+        ("trace_report lib", "trace_report: proofs"),
+        ("udsnorm run", "udsnorm: make build"),
+        ("acceptance test", "acceptance: proofs"),
     ]:
-        with tempfile.TemporaryDirectory() as folder:
-            for name, text in [("rt", FAILING_RT % failing), ("python3", IDLE_PYTHON)]:
-                stub = Path(folder, name)
-                stub.write_text(text)
-                stub.chmod(0o755)
-            path = f"{folder}:{os.environ['PATH']}"
-            status, output, error = make("check", f"CRATE={crate}", f"PROGRAM_CRATE={folder}/udsnorm", PATH=path)
-        lines = re.sub(r" +(failed after )?\d+\.\d s$", r" \1", output, flags=re.M).splitlines()
-        want = [f"{step} " for step in steps[:-1]] + [f"{steps[-1]} failed after ", "  error: no proof", "The whole output is in out/check.txt"]
-        cases.report(f"make check of {crate} where {failing} fails", [] if status and lines == want else [str(lines), error])
+        status, told, failed = check_told(cases, "uds_message", failing)
+        file = step.replace(": ", "-").replace(" ", "-")
+        want = [f"{step} failed after ", "  error: no proof", f"The whole output is in out/check/{file}.txt"]
+        wrong = [] if status and failed[:3] == want else [f"status {status}, {failed}"]
+        wrong += sorted({*told} & waiting_for(step)) + [f"no {before}" for before in ALL_STEPS[step] if before not in told]
+        cases.report(f"make check of uds_message where {step} fails", wrong)
 
 
 def main():
