@@ -71,7 +71,7 @@ pair_front title = pair_head title ++ shapes_text ++ pair_header title
 abbrev pub same_verdict : ℕ → List ℕ
 same_verdict count =
     codes "<section id=\"verdict\" class=\"good\">\n<h2><span aria-hidden=\"true\">=</span> The two sessions are the same</h2>\n<p>Items: "
-    ++ decimal count ++ codes ". Each is equal in both, byte for byte: so are the canonical logs.</p>\n"
+    ++ decimal count ++ codes ". Each is equal in both, byte for byte.</p>\n"
 
 -- none of the two has an item: nothing was compared
 abbrev pub nothing_verdict : List ℕ

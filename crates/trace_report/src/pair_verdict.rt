@@ -62,10 +62,7 @@ fn say_same_verdict<S: TextSink>(count: usize, out: &mut S)
         "<section id=\"verdict\" class=\"good\">\n<h2><span aria-hidden=\"true\">=</span> The two sessions are the same</h2>\n<p>Items: ",
     );
     say_number(out, count as u64);
-    say_text(
-        out,
-        ". Each is equal in both, byte for byte: so are the canonical logs.</p>\n",
-    );
+    say_text(out, ". Each is equal in both, byte for byte.</p>\n");
 }
 
 /// Says where they first differ.
