@@ -1,5 +1,5 @@
--- Where two sessions first differ: of both the rows from the request at or before the item to the next request, so that a frame
--- which was dropped there stands where it explains the difference.
+-- Where two sessions first differ: of both the rows from the request at or before the item to the next request, so that
+-- a frame which was dropped there stands where it explains the difference.
 use Rattle.std.specs.Prelude.{ℕ, ◌==◌, ◌&&◌, Bool, true, false, List, [], ◌∷◌, ◌++◌, codes, length, Option, Some, None, if◌then◌else◌}
 use Rattle.std.specs.List.{list_any}
 use Rattle.direction.specs.declared.Dir.{Dir}
@@ -22,7 +22,8 @@ begins_number number (dropped place d named why) = false
 begins_number number (ended place end) = false
 begins_number number (unfinished d line len) = false
 
--- the rows up to the one that begins the item of this number, which is the last of them; all rows where there is no such item
+-- the rows up to the one that begins the item of this number, which is the last of them; all rows where there is no
+-- such item
 abbrev pub rows_to_item : ℕ → List RowValue → List RowValue
 rows_to_item number [] = []
 rows_to_item number (row ∷ rest) = row ∷ (if begins_number number row then [] else rows_to_item number rest)
@@ -42,8 +43,8 @@ abbrev pub rows_to_request : List RowValue → List RowValue
 rows_to_request [] = []
 rows_to_request (row ∷ rest) = if begins_exchange row then [] else row ∷ rows_to_request rest
 
--- the rows around the item of this number: from the last request on that stands at or before it, or before the end where there is
--- no such item, up to the next request
+-- the rows around the item of this number: from the last request on that stands at or before it, or before the end
+-- where there is no such item, up to the next request
 abbrev pub rows_around : ℕ → List RowValue → List RowValue
 rows_around number rows = last_exchange (rows_to_item number rows) ++ rows_to_request (rows_behind_item number rows)
 

@@ -45,7 +45,8 @@ abbrev pub is_escaped : List ℕ → Bool
 is_escaped [] = true
 is_escaped (b ∷ rest) = (not (b == code "&") || begins_sign rest) && is_escaped rest
 
--- so is the name of a log on its page, whatever its file is called: its bytes are harmless, and an & stands for a sign alone
+-- so is the name of a log on its page, whatever its file is called: its bytes are harmless, and an & stands for a sign
+-- alone
 abbrev pub NameIsHarmless : Type 0
 NameIsHarmless = (name : List ℕ) → AllByRecursion (λ b. is_harmless b ≡ true) (name_text name) × (is_escaped (name_text name) ≡ true)
 
@@ -58,8 +59,8 @@ abbrev pub AreDistinct : {X : Type 0} → List X → Type 0
 AreDistinct [] = ⊤
 AreDistinct (x ∷ rest) = AllByRecursion (λ later. x ≢ later) rest × AreDistinct rest
 
--- each identifier stands once on the page of a log whose lines mean this: on that of the whole log, and on one that ends where the
--- log is refused
+-- each identifier stands once on the page of a log whose lines mean this: on that of the whole log, and on one that
+-- ends where the log is refused
 abbrev pub IdentifiersStandOnce : Type 0
 IdentifiersStandOnce = (settings : Settings) (meanings : List (Option Stamped)) → length meanings < 2 ^ 62
     → AreDistinct (identifiers_in (all_rows MESSAGE_LIMIT (trace settings meanings)))
@@ -70,8 +71,8 @@ abbrev pub LinksHaveTargets : Type 0
 LinksHaveTargets = (settings : Settings) (meanings : List (Option Stamped))
     → HasEachTarget (all_rows MESSAGE_LIMIT (trace settings meanings)) × HasEachTarget (rows_of MESSAGE_LIMIT (trace settings meanings))
 
--- what the page of two sessions says of their items is so: they are the same exactly if their values are, and else differ first where
--- these do
+-- what the page of two sessions says of their items is so: they are the same exactly if their values are, and else
+-- differ first where these do
 abbrev pub ComparisonIsOfItems : Type 0
 ComparisonIsOfItems = (left right : List PlacedItem)
     → IsFirstDifference (map item_value left) (map item_value right) (difference (comparison_by (first_contrast (pairs_of left right))))
@@ -86,8 +87,8 @@ AgreesWithCompare = (settings : Settings) (one other : List ℕ) (held : Held) (
     → HoldsTwo MESSAGE_LIMIT settings one other (Ok held) → Compares MESSAGE_LIMIT settings one other (Ok compared)
     → comparison_in held ≡ compared.comparison
 
--- the rows around an item, which that page shows of each log, are where it is: the row that begins it is among them, if the log has
--- one; they stand behind each other in the log; and behind the first of them no other exchange begins
+-- the rows around an item, which that page shows of each log, are where it is: the row that begins it is among them, if
+-- the log has one; they stand behind each other in the log; and behind the first of them no other exchange begins
 abbrev pub RowsAroundHaveTheItem : Type 0
 RowsAroundHaveTheItem = (number : ℕ) (rows : List RowValue)
     → (find (begins_number number) (rows_around number rows) ≡ find (begins_number number) rows)

@@ -4,7 +4,8 @@ use Rattle.trace_report.specs.Blocks.{begins_exchange}
 use Rattle.trace_report.specs.Difference.{begins_number, rows_to_request}
 use Rattle.trace_report.specs.Rows.{RowValue}
 
--- the rows from the last request on that stands at or before the item of this number; `start` where none of these is a request
+-- the rows from the last request on that stands at or before the item of this number; `start` where none of these is a
+-- request
 abbrev pub rows_from_request : ℕ → List RowValue → List RowValue → List RowValue
 rows_from_request number start [] = start
 rows_from_request number start (row ∷ rest) =
