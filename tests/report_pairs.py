@@ -119,10 +119,10 @@ REFUSALS = [
 SHORT_LINES = 50 * b"(0.000000) a 7E0#0322F190\n"
 LONG_ANNOUNCEMENT = log_of(REQUEST, "7E8#10000010000062F1", ANSWER)
 
-# With limits, the items that each has, how its page ends where it has to be clean, and what `compare` tells of the left one.
+# With limits, the items that each has, and what `compare` tells of the left one. Neither recording is clean.
 REFUSED_BY_COMPARE = [
-    ("a canonical log that is too long", SHORT_LINES, len(SHORT_LINES), 50, DONE, LONG_CANONICAL),
-    ("a message that announces too much", LONG_ANNOUNCEMENT, None, 1, UNCLEAN, oversize(2, 0x100000)),
+    ("a canonical log that is too long", SHORT_LINES, len(SHORT_LINES), 50, LONG_CANONICAL),
+    ("a message that announces too much", LONG_ANNOUNCEMENT, None, 1, oversize(2, 0x100000)),
 ]
 
 # The most memory that a row of a log may take, with the bytes of its short message, and the number of items for which it is measured.
@@ -412,13 +412,13 @@ def refused_logs(cases):
 
 def refused_by_compare(cases):
     """A log that `compare` alone refuses has its page beside itself. There the sessions are the same, and no canonical log is named."""
-    for name, log, limit, items, strict_status, told in REFUSED_BY_COMPARE:
+    for name, log, limit, items, told in REFUSED_BY_COMPARE:
         words = ["--limit", str(limit)] if limit else []
         with files(log, log) as names:
             found, strict, compared = (cases.run([*job, *words, *names]) for job in (["report"], ["report", "--strict"], ["compare"]))
         text = f"</span> The two sessions are the same</h2>\n<p>Items: {items}. Each is equal in both, byte for byte.</p>\n"
         wrong = differences("how it ends", (found.status, found.error), (DONE, b""))
-        wrong += differences("how it ends where it has to be clean", (strict.status, strict.output), (strict_status, found.output))
+        wrong += differences("how it ends where it has to be clean", (strict.status, strict.output), (UNCLEAN, found.output))
         wrong += differences("how `compare` ends", (compared.status, compared.error), (REFUSAL, b"left: " + told))
         wrong += [] if text.encode() in found.output else [f"{text!r} is not there"]
         wrong += ["a canonical log is named"] if b"canonical" in found.output else []
