@@ -88,7 +88,7 @@ AgreesWithCompare = (settings : Settings) (one other : List ℕ) (held : Held) (
     → comparison_in held ≡ compared.comparison
 
 -- the rows around an item, which that page shows of each log, are where it is: the row that begins it is among them, if
--- the log has one; they stand behind each other in the log; and behind the first of them no other exchange begins
+-- the log has one; they are one piece of the log's rows; and behind the first of them no other exchange begins
 abbrev pub RowsAroundHaveTheItem : Type 0
 RowsAroundHaveTheItem = (number : ℕ) (rows : List RowValue)
     → (find (begins_number number) (rows_around number rows) ≡ find (begins_number number) rows)
