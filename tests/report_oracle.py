@@ -808,7 +808,7 @@ def part_of_item(row):
 SAME_VERDICT = """\
 <section id="verdict" class="good">
 <h2><span aria-hidden="true">=</span> The two sessions are the same</h2>
-<p>Items: {count}. Each is equal in both, byte for byte: so are the canonical logs.</p>
+<p>Items: {count}. Each is equal in both, byte for byte.</p>
 """
 
 NOTHING_VERDICT = """\

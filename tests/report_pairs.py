@@ -26,7 +26,7 @@ from oracle import TESTER, UNIT
 from report import ANSWER, EXTENDED, FIRST, NAMES, OUT_OF_ORDER, REFUSED, REQUEST, STRAY, UNKNOWN, WRONG_VALUES, log_of, page_differences, text_faults
 from runs import differences, files, peak_kilobytes, start
 from tables import EXAMPLES, VIN
-from told import LONG_LOG, READ_FAILED, WRITE_FAILED, place
+from told import LONG_CANONICAL, LONG_LOG, READ_FAILED, WRITE_FAILED, oversize, place
 
 RANDOM_PAIRS, SEED = 300, 2
 
@@ -119,6 +119,12 @@ REFUSALS = [
 SHORT_LINES = 50 * b"(0.000000) a 7E0#0322F190\n"
 LONG_ANNOUNCEMENT = log_of(REQUEST, "7E8#10000010000062F1", ANSWER)
 
+# With limits, the items that each has, and what `compare` tells of the left one. Neither recording is clean.
+REFUSED_BY_COMPARE = [
+    ("a canonical log that is too long", SHORT_LINES, len(SHORT_LINES), 50, LONG_CANONICAL),
+    ("a message that announces too much", LONG_ANNOUNCEMENT, None, 1, oversize(2, 0x100000)),
+]
+
 # The most memory that a row of a log may take, with the bytes of its short message, and the number of items for which it is measured.
 BYTES_OF_A_ROW = 170
 MEASURED_ITEMS = 100_000
@@ -147,7 +153,8 @@ def pair_faults(cases, left, right, sides=oracle.SIDES, limit=None, is_strict=Fa
 
 
 def compared_otherwise(found, compared):
-    """How a page says something else than `compare`, which also refuses logs by messages that they announce and by their canonical logs."""
+    """How a page says something else than `compare`. That also refuses logs by messages that they announce and by their canonical logs,
+    of which `refused_by_compare` is."""
     if re.search(rb": canonical log longer|bytes announced", compared.error):
         return []
     wrong = differences("how it ends", (found.status, found.error), (compared.status, compared.error))
@@ -403,6 +410,21 @@ def refused_logs(cases):
         cases.report(f"refused: {name}", wrong + (["it has a row"] if b"<tr" in found.output else []))
 
 
+def refused_by_compare(cases):
+    """A log that `compare` alone refuses has its page beside itself. There the sessions are the same, and no canonical log is named."""
+    for name, log, limit, items, told in REFUSED_BY_COMPARE:
+        words = ["--limit", str(limit)] if limit else []
+        with files(log, log) as names:
+            found, strict, compared = (cases.run([*job, *words, *names]) for job in (["report"], ["report", "--strict"], ["compare"]))
+        text = f"</span> The two sessions are the same</h2>\n<p>Items: {items}. Each is equal in both, byte for byte.</p>\n"
+        wrong = differences("how it ends", (found.status, found.error), (DONE, b""))
+        wrong += differences("how it ends where it has to be clean", (strict.status, strict.output), (UNCLEAN, found.output))
+        wrong += differences("how `compare` ends", (compared.status, compared.error), (REFUSAL, b"left: " + told))
+        wrong += [] if text.encode() in found.output else [f"{text!r} is not there"]
+        wrong += ["a canonical log is named"] if b"canonical" in found.output else []
+        cases.report(f"a page of what `compare` refuses: {name}", wrong)
+
+
 # --- Names and options --------------------------------------------------------------------------------------------------
 
 
@@ -544,7 +566,7 @@ def main():
     if len(sys.argv) != 2:
         sys.exit(__doc__)
     cases = Cases(os.path.abspath(sys.argv[1]))
-    for test in [pages, told_differences, known_texts, refused_logs, names, options, strict_runs, streams, devices, memory]:
+    for test in [pages, told_differences, known_texts, refused_logs, refused_by_compare, names, options, strict_runs, streams, devices, memory]:
         test(cases)
     cases.end()
 

@@ -59,7 +59,7 @@ same-comparison (Different item) (Different place) is = ap (λ (p : Option ℕ).
     of (Some n) = Different n
 
 -- the items of a log that is held are those that `compare` has
-same-items : (settings : Settings) (log : List ℕ) (held : SessionValue) (session : Session) → Holds.GivesSession MESSAGE_LIMIT settings log (Ok held)
+same-items : (settings : Settings) (log : List ℕ) (held : SessionValue) (session : Session) → Holds.HoldsOne MESSAGE_LIMIT settings log (Ok held)
     → GivesSession MESSAGE_LIMIT settings log (Ok session) → map item_value (items_in held.rows) ≡ session.meaning
 same-items settings log held session (meanings, read, is) accepted =
     ap (λ (s : SessionValue). map item_value (items_in s.rows)) is ∙ items_are_the_meaning (trace settings meanings)

@@ -1,9 +1,9 @@
 -- Two sessions have no more numbers than rows.
 use Rattle.std.proofs.Common.{◌≤◌, ◌+◌, List, [], ◌∷◌, length, Option, Some, None, arith}
-use Rattle.trace_report.specs.Items.{PlacedItem, PlacedMessage, beginning, items_by, items_in, message_in, pairs_of}
+use Rattle.trace_report.specs.Items.{PlacedItem, RowMessage, beginning, items_by, items_in, message_in, pairs_of}
 use Rattle.trace_report.specs.Rows.{RowValue}
 
-few_begun : (begin : Option PlacedMessage) (rest : List RowValue) → length (items_in rest) ≤ length rest
+few_begun : (begin : Option RowMessage) (rest : List RowValue) → length (items_in rest) ≤ length rest
     → length (items_by begin rest (items_in rest)) ≤ length rest + 1
 few_begun None rest few = omega (arith, few)
 few_begun (Some begin) rest few = omega (arith, few)

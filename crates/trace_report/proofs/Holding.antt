@@ -14,7 +14,7 @@ use Rattle.trace_canon.specs.declared.fault.Fault.{Fault}
 use Rattle.trace_canon.specs.declared.fault.Fault.TheVariants.{BadLine, Oversize, LogLimit, OutputLimit, Read, Write, Memory}
 use Rattle.trace_canon.specs.declared.summary.Summary.{Summary}
 use Rattle.trace_report.specs.Events.{end_rows}
-use Rattle.trace_report.specs.Held.{GivesSession, HasOwnFrame}
+use Rattle.trace_report.specs.Held.{HoldsOne, HasOwnFrame}
 use Rattle.trace_report.specs.Page.{first_time, last_time}
 use Rattle.trace_report.specs.Session.{SessionValue, session_of}
 use Rattle.trace_report.specs.declared.holder.Heard.{Heard}
@@ -65,7 +65,7 @@ module _ (settings : Settings) (log : List ℕ) (given : ℕ) (old new : List �
   -- and of one that can, where this session is of what was heard
   pub read_so : (heard : Heard) (session : SessionValue)
       → ((T : List Entry) (summary : Summary) → IsHeardOf T summary heard → session ≡ session_of MESSAGE_LIMIT T summary)
-      → AnswersTold quiet_script answers_heard MESSAGE_LIMIT settings log given (Ok heard) old new → GivesSession MESSAGE_LIMIT settings log (Ok session)
+      → AnswersTold quiet_script answers_heard MESSAGE_LIMIT settings log given (Ok heard) old new → HoldsOne MESSAGE_LIMIT settings log (Ok session)
   read_so heard session is (all, meanings, read, answer, wrote) =
       (meanings, read, is (trace settings meanings) (summary_of MESSAGE_LIMIT settings log meanings) answer)
 

@@ -11,7 +11,7 @@ use Rattle.uds_exchange.specs.Meaning.{ItemValue, exchange, stray}
 use Rattle.trace_report.specs.Blocks.{is_request_role}
 use Rattle.trace_report.specs.Contrast.{FirstContrast, contrast_by, contrast_of, contrast_of_answers, contrast_of_kinds, first_by, first_contrast, first_place, is_same_side, place_behind}
 use Rattle.trace_report.specs.Held.{comparison_by}
-use Rattle.trace_report.specs.Items.{PlacedMessage, PlacedItem, both, item_value, pairs_of}
+use Rattle.trace_report.specs.Items.{RowMessage, PlacedItem, both, item_value, pairs_of}
 use Rattle.trace_report.specs.Laws.{ComparisonIsOfItems}
 use Rattle.trace_report.specs.declared.contrast.Contrast.{Contrast}
 use Rattle.trace_report.specs.declared.contrast.Contrast.TheVariants as contrast
@@ -49,13 +49,13 @@ map-none : (place : Option ℕ) → option_map contrast.Answers place ≡ None �
 map-none None is = refl
 map-none (Some place) is = absurd (none-some (contrast.Answers place) (sym is))
 
-answers-none : (a b : Option PlacedMessage) → contrast_of_answers a b ≡ None → bytes_in a ≡ bytes_in b
+answers-none : (a b : Option RowMessage) → contrast_of_answers a b ≡ None → bytes_in a ≡ bytes_in b
 answers-none None None is = refl
 answers-none (Some a) None is = absurd (none-some _ (sym is))
 answers-none None (Some b) is = absurd (none-some _ (sym is))
 answers-none (Some a) (Some b) is = ap (λ bytes. Some bytes) (place-none a.bytes b.bytes (map-none (first_place a.bytes b.bytes) is))
 
-none-answers : (a b : Option PlacedMessage) → bytes_in a ≡ bytes_in b → contrast_of_answers a b ≡ None
+none-answers : (a b : Option RowMessage) → bytes_in a ≡ bytes_in b → contrast_of_answers a b ≡ None
 none-answers None None same = refl
 none-answers (Some a) None same = absurd (none-some a.bytes (sym same))
 none-answers None (Some b) same = absurd (none-some b.bytes same)

@@ -7,6 +7,7 @@ mod Holding
 mod FirstPlaces
 mod SaidParts
 mod ContrastTexts
+mod RowsAround
 mod ItemComparisons
 mod ItemValues
 mod SessionItems

@@ -1,5 +1,5 @@
--- The blocks of a report: rows stand in tables of some 200, which fold, so that a browser draws a long session in time. The first
--- ten are written open, and the rows of the others are brief.
+-- The blocks of a report: rows stand in tables of some 200, which fold, so that a browser draws a long session in time.
+-- The first ten are written open, and the rows of the others are brief.
 use Rattle.std.specs.Prelude.{ℕ, ◌+◌, ◌==◌, Bool, true, false, ◌&&◌, ◌||◌, List, [], ◌∷◌, ◌++◌, codes, nat_le, nat_lt, if◌then◌else◌}
 use Rattle.std.specs.Fmt.{decimal}
 use Rattle.trace_canon.specs.declared.begun.FramePlace.{FramePlace}

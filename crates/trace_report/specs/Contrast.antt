@@ -6,7 +6,7 @@ use Rattle.direction.specs.declared.Dir.{Dir}
 use Rattle.direction.specs.declared.Dir.TheVariants as dir
 use Rattle.trace_canon.specs.Words.{direction_text}
 use Rattle.trace_report.specs.Blocks.{is_request_role}
-use Rattle.trace_report.specs.Items.{PlacedMessage, PlacedItem, ItemPair, both, only_left, only_right}
+use Rattle.trace_report.specs.Items.{RowMessage, PlacedItem, ItemPair, both, only_left, only_right}
 use Rattle.trace_report.specs.declared.contrast.Contrast.{Contrast}
 use Rattle.trace_report.specs.declared.contrast.Contrast.TheVariants as contrast
 use Rattle.trace_report.specs.declared.contrast.LogName.{LogName}
@@ -25,7 +25,7 @@ first_place [] (b ∷ right) = Some 0
 first_place (a ∷ left) (b ∷ right) = if a == b then place_behind (first_place left right) else Some 0
 
 -- how two answers differ, if they do
-abbrev pub contrast_of_answers : Option PlacedMessage → Option PlacedMessage → Option Contrast
+abbrev pub contrast_of_answers : Option RowMessage → Option RowMessage → Option Contrast
 contrast_of_answers None None = None
 contrast_of_answers (Some a) None = Some (contrast.Unanswered B)
 contrast_of_answers None (Some b) = Some (contrast.Unanswered A)
@@ -59,7 +59,8 @@ contrast_of (both a b) = contrast_of_kinds (is_request_role a.begin.role) (is_re
 contrast_of (only_left a) = Some (contrast.Lacks B)
 contrast_of (only_right b) = Some (contrast.Lacks A)
 
--- The first difference of two sessions: how many items of both are the same before it, the items there, and how they differ.
+-- The first difference of two sessions: how many items of both are the same before it, the items there, and how they
+-- differ.
 pub record FirstContrast : Type 0 where
   pub before : ℕ
   pub pair : ItemPair
@@ -104,7 +105,7 @@ bytes_words what place left right =
     ++ byte_or_end (drop place right) ++ codes "</b> in B."
 
 -- the bytes of an answer, if there is one
-abbrev pub answer_bytes : Option PlacedMessage → List ℕ
+abbrev pub answer_bytes : Option RowMessage → List ℕ
 answer_bytes None = []
 answer_bytes (Some reply) = reply.bytes
 

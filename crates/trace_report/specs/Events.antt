@@ -39,8 +39,8 @@ completes_request_by limit T e (dropped reason) = false
 abbrev pub completes_request : ℕ → List Entry → Entry → Bool
 completes_request limit T e = completes_request_by limit T e (verdict limit T e).verdict
 
--- the time of the last of these frames that completes a request, where the frames `past` came before them; `earlier` where none
--- of them does
+-- the time of the last of these frames that completes a request, where the frames `past` came before them; `earlier`
+-- where none of them does
 abbrev pub asked_behind : ℕ → ℕ → List Entry → List Entry → ℕ
 asked_behind limit earlier past [] = earlier
 asked_behind limit earlier past (e ∷ rest) =

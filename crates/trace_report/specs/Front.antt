@@ -1,5 +1,5 @@
--- The front of a report: what stands before its rows. All of it is fixed but the style, the name of the log, which stands in it
--- twice, and the two identifiers.
+-- The front of a report: what stands before its rows. All of it is fixed but the style, the name of the log, which
+-- stands in it twice, and the two identifiers.
 use Prim.Native.Char.{code}
 use Rattle.std.specs.Prelude.{ℕ, ◌==◌, ◌++◌, List, [], ◌∷◌, codes, if◌then◌else◌}
 use Rattle.std.specs.List.{flat_map}
@@ -65,7 +65,8 @@ shapes_text =
     ++ codes "<g id=\"ue\"><line class=\"l\" x1=\"40%\" x2=\"100%\" y1=\"6\" y2=\"6\"/><svg x=\"40%\" overflow=\"visible\"><path class=\"k\" d=\"M-1 0v12m-5-12v12\"/></svg></g>\n"
     ++ codes "</defs></svg>\n"
 
--- the links of the page, which has this in its middle, and the notice of a page that breaks off, which the end of the page hides
+-- the links of the page, which has this in its middle, and the notice of a page that breaks off, which the end of the
+-- page hides
 abbrev pub notice_with : List ℕ → List ℕ
 notice_with middle =
     codes "<p class=\"skip\"><a href=\"#verdict\">Verdict</a> <a href=\"#session\">" ++ middle ++ codes "</a> <a href=\"#help\">How to read this page</a></p>\n"

@@ -16,20 +16,21 @@ use Rattle.trace_report.specs.Items.{ItemPair, items_in, pairs_of}
 use Rattle.trace_report.specs.Session.{SessionValue, session_of}
 use Rattle.trace_report.specs.declared.held_session.Held.{Held}
 
--- What is answered of a log: what it says, where it can be read to its end, and else why it can't. No length that is announced and no
--- canonical log refuses it.
-abbrev pub GivesSession : ℕ → Settings → List ℕ → Result SessionValue Fault → Type 0
-GivesSession limit settings log (Ok session) =
+-- What is answered of a log: what it says, where it can be read to its end, and else why it can't. No length that is
+-- announced and no canonical log refuses it.
+abbrev pub HoldsOne : ℕ → Settings → List ℕ → Result SessionValue Fault → Type 0
+HoldsOne limit settings log (Ok session) =
     (meanings : List (Option Stamped)) × IsReadToEnd false limit settings log meanings
     × (session ≡ session_of limit (trace settings meanings) (summary_of limit settings log meanings))
-GivesSession limit settings log (Err fault) = IsUnreadFor false limit settings log fault
+HoldsOne limit settings log (Err fault) = IsUnreadFor false limit settings log fault
 
--- What is answered of two logs: what both say; else why the first can't be read; or why the second can't, where the first can.
+-- What is answered of two logs: what both say; else why the first can't be read; or why the second can't, where the
+-- first can.
 abbrev pub HoldsTwo : ℕ → Settings → List ℕ → List ℕ → Result Held CompareFault → Type 0
-HoldsTwo limit settings one other (Ok held) = GivesSession limit settings one (Ok held.left) × GivesSession limit settings other (Ok held.right)
-HoldsTwo limit settings one other (Err (Left fault)) = GivesSession limit settings one (Err fault)
+HoldsTwo limit settings one other (Ok held) = HoldsOne limit settings one (Ok held.left) × HoldsOne limit settings other (Ok held.right)
+HoldsTwo limit settings one other (Err (Left fault)) = HoldsOne limit settings one (Err fault)
 HoldsTwo limit settings one other (Err (Right fault)) =
-    ((session : SessionValue) × GivesSession limit settings one (Ok session)) × GivesSession limit settings other (Err fault)
+    ((session : SessionValue) × HoldsOne limit settings one (Ok session)) × HoldsOne limit settings other (Err fault)
 
 -- the log has a frame of one of the two sides
 abbrev pub HasOwnFrame : Settings → List ℕ → Type 0

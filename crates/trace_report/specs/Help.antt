@@ -25,20 +25,27 @@ pair_help_start =
     ++ codes "<p>In a chart the left line is the tester, the right line the unit, and an arrow from one to the other is a message, however many frames carried it, in the order in which the messages were complete. An item has the time of its first message. "
     ++ times_words
 
--- what each row is
-abbrev pub legend_text : List ℕ
-legend_text =
-    codes "<dl class=\"legend\">\n"
-    ++ codes "<div class=\"q\"><dt>request</dt><dd>opens an item; its number is that of <code>udsnorm list</code></dd></div>\n"
+-- what the rows of an exchange are
+abbrev pub exchange_legend : List ℕ
+exchange_legend =
+    codes "<div class=\"q\"><dt>request</dt><dd>opens an item; its number is that of <code>udsnorm list</code></dd></div>\n"
     ++ codes "<div class=\"ok\"><dt>positive</dt><dd>the answer of the unit</dd></div>\n"
     ++ codes "<div class=\"n\"><dt>negative</dt><dd>the answer of the unit, with the name of its response code</dd></div>\n"
     ++ codes "<div class=\"p\"><dt>pending</dt><dd>says that the answer will be late; no part of what is compared</dd></div>\n"
     ++ codes "<div class=\"m\"><dt>no answer</dt><dd>none came before the next request or the end of the log</dd></div>\n"
     ++ codes "<div class=\"p\"><dt>silent</dt><dd>none came, and the request asked for none</dd></div>\n"
-    ++ codes "<div class=\"p\"><dt>keep-alive</dt><dd>3E 80, which wants no answer</dd></div>\n"
+
+-- what the other rows are
+abbrev pub others_legend : List ℕ
+others_legend =
+    codes "<div class=\"p\"><dt>keep-alive</dt><dd>3E 80, which wants no answer</dd></div>\n"
     ++ codes "<div class=\"s\"><dt>stray</dt><dd>a message that belongs to no exchange, an item of its own</dd></div>\n"
     ++ codes "<div class=\"x\"><dt>dropped</dt><dd>a frame that belongs to no complete message</dd></div>\n"
-    ++ codes "<div class=\"x\"><dt>ended, unfinished</dt><dd>a message of which not all frames came</dd></div>\n</dl>\n"
+    ++ codes "<div class=\"x\"><dt>ended, unfinished</dt><dd>a message of which not all frames came</dd></div>\n"
+
+-- what each row is
+abbrev pub legend_text : List ℕ
+legend_text = codes "<dl class=\"legend\">\n" ++ exchange_legend ++ others_legend ++ codes "</dl>\n"
 
 -- what it does not show
 abbrev pub limits_text : List ℕ

@@ -1,11 +1,11 @@
--- The rows of a page of two sessions that tell items: one for each number, with the item of both logs. They stand in tables of 200,
--- which fold.
+-- The rows of a page of two sessions that tell items: one for each number, with the item of both logs. They stand in
+-- tables of 200, which fold.
 use Rattle.std.specs.Prelude.{ℕ, ◌+◌, ◌==◌, Bool, false, List, [], ◌∷◌, ◌++◌, codes, nat_le, Option, Some, None, unwrap_or, if◌then◌else◌}
 use Rattle.std.specs.Fmt.{decimal}
 use Rattle.uds_message.specs.Message.{is_suppressing}
 use Rattle.trace_report.specs.Blocks.{block_end, full_block, is_request_role}
 use Rattle.trace_report.specs.Contrast.{contrast_of, log_letter}
-use Rattle.trace_report.specs.Items.{PlacedMessage, PlacedItem, ItemPair, both, only_left, only_right}
+use Rattle.trace_report.specs.Items.{RowMessage, PlacedItem, ItemPair, both, only_left, only_right}
 use Rattle.trace_report.specs.Rows.{asked_at, further_note, lines_text, role_words}
 use Rattle.trace_report.specs.Words.{data_text, seconds_between}
 use Rattle.trace_report.specs.declared.contrast.Contrast.{Contrast}
@@ -13,7 +13,7 @@ use Rattle.trace_report.specs.declared.contrast.LogName.{LogName}
 use Rattle.trace_report.specs.declared.contrast.LogName.TheVariants.{A, B}
 
 -- a message: what it is, and its bytes
-abbrev pub told_message : PlacedMessage → List ℕ
+abbrev pub told_message : RowMessage → List ℕ
 told_message sent = role_words sent.role sent.dir sent.bytes ++ data_text sent.bytes
 
 -- what stands in place of an answer
@@ -21,16 +21,16 @@ abbrev pub no_answer_text : Bool → List ℕ
 no_answer_text silent = if silent then codes "<b>silent</b>" else codes "<b class=\"no\">no answer</b>"
 
 -- the answer to a request, or what stands in its place
-abbrev pub told_answer : List ℕ → Option PlacedMessage → List ℕ
+abbrev pub told_answer : List ℕ → Option RowMessage → List ℕ
 told_answer request None = no_answer_text (is_suppressing request)
 told_answer request (Some reply) = told_message reply
 
 -- that, behind an arrow
-abbrev pub told_reply : List ℕ → Option PlacedMessage → List ℕ
+abbrev pub told_reply : List ℕ → Option RowMessage → List ℕ
 told_reply request reply = codes " &#8594; " ++ told_answer request reply
 
 -- where the first message is a request
-abbrev pub told_reply_if : Bool → List ℕ → Option PlacedMessage → List ℕ
+abbrev pub told_reply_if : Bool → List ℕ → Option RowMessage → List ℕ
 told_reply_if is_request request reply = if is_request then told_reply request reply else []
 
 -- an item
@@ -38,12 +38,12 @@ abbrev pub told_item : PlacedItem → List ℕ
 told_item item = told_message item.begin ++ told_reply_if (is_request_role item.begin.role) item.begin.bytes item.answer
 
 -- the last message of an item
-abbrev pub last_message : PlacedItem → PlacedMessage
+abbrev pub last_message : PlacedItem → RowMessage
 last_message item = unwrap_or item.answer item.begin
 
--- when an item was: its lines in this log, the time of its first message since the first frame, from whose unit no line break parts it,
--- and how long after that its answer came
-abbrev pub item_note : LogName → ℕ → PlacedMessage → PlacedMessage → List ℕ
+-- when an item was: its lines in this log, the time of its first message since the first frame, from whose unit no line
+-- break parts it, and how long after that its answer came
+abbrev pub item_note : LogName → ℕ → RowMessage → RowMessage → List ℕ
 item_note log origin begin last =
     codes "<i>" ++ log_letter log ++ codes ": line " ++ lines_text begin.place.first.line last.place.last.line ++ codes ", "
     ++ seconds_between origin begin.place.last.micros ++ codes "&#160;s" ++ further_note (asked_at last.role) last.place.first.micros ++ codes "</i>"
@@ -102,7 +102,8 @@ table_opening opened number =
 abbrev pub next_table : ℕ → List ℕ
 next_table number = block_end 1 ++ table_opening false number
 
--- what begins before a row of this number, where so many rows stand in the last table, if there is one: the first table may be open
+-- what begins before a row of this number, where so many rows stand in the last table, if there is one: the first table
+-- may be open
 abbrev pub row_opening : Bool → ℕ → ℕ → List ℕ
 row_opening opened placed number =
     if placed == 0 then table_opening opened number else if nat_le full_block placed then next_table number else []

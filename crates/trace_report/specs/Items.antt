@@ -10,7 +10,7 @@ use Rattle.trace_report.specs.declared.row.MessageRole.{MessageRole}
 use Rattle.trace_report.specs.declared.row.MessageRole.TheVariants as role
 
 -- A message of a session: what it is to its item, who sent it, where it stands, and its bytes.
-pub record PlacedMessage : Type 0 where
+pub record RowMessage : Type 0 where
   pub role : MessageRole
   pub dir : Dir
   pub place : MessagePlace
@@ -18,8 +18,8 @@ pub record PlacedMessage : Type 0 where
 
 -- An item: the message that begins it, and its answer, if it has one.
 pub record PlacedItem : Type 0 where
-  pub begin : PlacedMessage
-  pub answer : Option PlacedMessage
+  pub begin : RowMessage
+  pub answer : Option RowMessage
 
 -- the message answers a request
 abbrev pub is_answer_role : MessageRole → Bool
@@ -31,7 +31,7 @@ is_answer_role role.KeepAlive = false
 is_answer_role role.Stray = false
 
 -- the message that a row tells, if it tells one
-abbrev pub message_in : RowValue → Option PlacedMessage
+abbrev pub message_in : RowValue → Option RowMessage
 message_in (message is d place bytes) = Some (record { role = is; dir = d; place = place; bytes = bytes })
 message_in (no_answer number silent) = None
 message_in (dropped place d named why) = None
@@ -39,30 +39,30 @@ message_in (ended place end) = None
 message_in (unfinished d line len) = None
 
 -- the answer to a request, by the message of the row behind it and by the answer among the rows behind that
-abbrev pub answer_by : Option PlacedMessage → Option PlacedMessage → Option PlacedMessage
+abbrev pub answer_by : Option RowMessage → Option RowMessage → Option RowMessage
 answer_by None later = later
 answer_by (Some sent) later = if is_request_role sent.role then None else if is_answer_role sent.role then Some sent else later
 
 -- the answer to a request among the rows behind it: the first one that stands before the next request
-abbrev pub answer_in : List RowValue → Option PlacedMessage
+abbrev pub answer_in : List RowValue → Option RowMessage
 answer_in [] = None
 answer_in (row ∷ rest) = answer_by (message_in row) (answer_in rest)
 
 -- the answer to a message of this role: only a request has one
-abbrev pub answer_to : MessageRole → List RowValue → Option PlacedMessage
+abbrev pub answer_to : MessageRole → List RowValue → Option RowMessage
 answer_to is rest = if is_request_role is then answer_in rest else None
 
 -- the item that a message begins, by the rows behind it
-abbrev pub item_begun : PlacedMessage → List RowValue → PlacedItem
+abbrev pub item_begun : RowMessage → List RowValue → PlacedItem
 item_begun begin rest = record { begin = begin; answer = answer_to begin.role rest }
 
 -- the message, where it begins an item
-abbrev pub beginning : Option PlacedMessage → Option PlacedMessage
+abbrev pub beginning : Option RowMessage → Option RowMessage
 beginning None = None
 beginning (Some sent) = if begins_item sent.role then Some sent else None
 
 -- the items of rows, by the message with which the first one begins an item, if it does, the others, and the items of those
-abbrev pub items_by : Option PlacedMessage → List RowValue → List PlacedItem → List PlacedItem
+abbrev pub items_by : Option RowMessage → List RowValue → List PlacedItem → List PlacedItem
 items_by None rest later = later
 items_by (Some begin) rest later = item_begun begin rest ∷ later
 
@@ -74,7 +74,7 @@ items_in (row ∷ rest) = items_by (beginning (message_in row)) rest (items_in r
 -- what an item is without its places: a request with its answer, or a message of no exchange
 abbrev pub item_value : PlacedItem → ItemValue
 item_value item =
-    if is_request_role item.begin.role then exchange item.begin.bytes (option_map (λ (reply : PlacedMessage). reply.bytes) item.answer)
+    if is_request_role item.begin.role then exchange item.begin.bytes (option_map (λ (reply : RowMessage). reply.bytes) item.answer)
     else stray item.begin.dir item.begin.bytes
 
 -- What two sessions have of one number: an item each, or one of them has none.

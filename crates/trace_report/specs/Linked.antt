@@ -1,4 +1,5 @@
--- Where the links of a page of one log lead: which of its rows have an identifier, and which identifiers stand on it besides.
+-- Where the links of a page of one log lead: which of its rows have an identifier, and which identifiers stand on it
+-- besides.
 use Rattle.std.specs.Prelude.{◌≡◌, ℕ, ◌==◌, List, ◌∷◌, [], ◌++◌, codes, map, slice_get, Option, Some, None, if◌then◌else◌}
 use Rattle.std.specs.List.{AllByRecursion, filter_map}
 use Rattle.arrayvec.specs.ArrayVec.{ArrayVec}

@@ -26,8 +26,8 @@ marked_bytes place bytes = bytes_ahead (take place bytes) ++ mark_first (drop pl
 abbrev pub shown_before : ℕ
 shown_before = 16
 
--- the place of the first byte that is shown of a message of this many bytes: the first one, unless the message is longer than
--- what is shown whole and the mark stands behind the first ones
+-- the place of the first byte that is shown of a message of this many bytes: the first one, unless the message is
+-- longer than what is shown whole and the mark stands behind the first ones
 abbrev pub window_start : ℕ → ℕ → ℕ
 window_start place count =
     if nat_le count most_shown then 0 else if nat_lt place shown_first then 0 else place - shown_before

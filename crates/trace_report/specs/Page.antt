@@ -1,5 +1,5 @@
--- The text of a report: a front, the rows of the trace in blocks, and an end. It is told as the log is read: with the first frame
--- the front, with each frame its rows, and at the end of the log, or where it is refused, the rest.
+-- The text of a report: a front, the rows of the trace in blocks, and an end. It is told as the log is read: with the
+-- first frame the front, with each frame its rows, and at the end of the log, or where it is refused, the rest.
 use Rattle.std.specs.Prelude.{ℕ, false, List, [], ◌∷◌, ◌++◌, codes}
 use Rattle.isotp_receive.specs.Trace.{Entry}
 use Rattle.trace_report.specs.declared.blocks.Blocks.{Blocks}
@@ -60,8 +60,8 @@ abbrev pub last_text : PageTitle → ℕ → List Entry → Summary → List ℕ
 last_text title limit T summary =
     front_before title T ++ rows_after limit (first_time T) T (end_rows limit T) ++ page_end_behind (all_rows limit T) T summary
 
--- what is told where a log is refused for this reason, behind the frames T. What is open there is neither unfinished nor without an
--- answer: so no row is told of it.
+-- what is told where a log is refused for this reason, behind the frames T. What is open there is neither unfinished
+-- nor without an answer: so no row is told of it.
 abbrev pub refused_text : PageTitle → ℕ → List Entry → Summary → Fault → List ℕ
 refused_text title limit T summary why =
     front_before title T ++ refused_end why (blocks_of (rows_of limit T)) (tally_of (rows_of limit T)) summary (first_time T) (last_time 0 T)

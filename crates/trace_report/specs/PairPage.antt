@@ -1,5 +1,5 @@
--- The page of two logs: whether they are the same session; the items before the first difference, that difference, and the items
--- behind it. Both sessions are held, so the verdict is written first.
+-- The page of two logs: whether they are the same session; the items before the first difference, that difference, and
+-- the items behind it. Both sessions are held, so the verdict is written first.
 use Rattle.std.specs.Prelude.{ℕ, ◌+◌, ◌==◌, Bool, true, false, List, [], ◌∷◌, ◌++◌, codes, length, take, drop, Option, Some, None, Result, Ok, Err, if◌then◌else◌}
 use Rattle.std.specs.Fmt.{decimal}
 use Rattle.can_log.specs.declared.frame.Id.{Id}
@@ -71,7 +71,7 @@ pair_front title = pair_head title ++ shapes_text ++ pair_header title
 abbrev pub same_verdict : ℕ → List ℕ
 same_verdict count =
     codes "<section id=\"verdict\" class=\"good\">\n<h2><span aria-hidden=\"true\">=</span> The two sessions are the same</h2>\n<p>Items: "
-    ++ decimal count ++ codes ". Each is equal in both, byte for byte: so are the canonical logs.</p>\n"
+    ++ decimal count ++ codes ". Each is equal in both, byte for byte.</p>\n"
 
 -- none of the two has an item: nothing was compared
 abbrev pub nothing_verdict : List ℕ
@@ -124,13 +124,13 @@ abbrev pub same_items : Held → List ItemPair → List ℕ
 same_items held pairs = codes "<h2>Items</h2>\n" ++ pair_rows false held.left.first held.right.first 0 1 pairs
 
 -- the rows of so many items before the first difference
-abbrev pub rows_before : Held → ℕ → List ItemPair → List ℕ
-rows_before held count pairs =
+abbrev pub rows_to_difference : Held → ℕ → List ItemPair → List ℕ
+rows_to_difference held count pairs =
     if count == 0 then codes "<p>Nothing: the first item differs.</p>\n" else pair_rows false held.left.first held.right.first 0 1 (take count pairs)
 
 -- what stands before it
 abbrev pub items_before : Held → ℕ → List ItemPair → List ℕ
-items_before held count pairs = codes "<h2>Before the difference</h2>\n" ++ rows_before held count pairs
+items_before held count pairs = codes "<h2>Before the difference</h2>\n" ++ rows_to_difference held count pairs
 
 -- a side of the difference
 abbrev pub contrast_side : LogName → List ℕ → FirstContrast → SessionValue → List ℕ
@@ -157,15 +157,15 @@ items_after held number [] = []
 items_after held number (pair ∷ rest) = later_items held number (pair ∷ rest)
 
 -- all items, by the first difference
-abbrev pub items_by : PairTitleValue → Held → List ItemPair → Option FirstContrast → List ℕ
-items_by title held pairs None = same_items held pairs
-items_by title held pairs (Some first) =
+abbrev pub items_text : PairTitleValue → Held → List ItemPair → Option FirstContrast → List ℕ
+items_text title held pairs None = same_items held pairs
+items_text title held pairs (Some first) =
     items_before held first.before pairs ++ difference_text title held first ++ items_after held (first.before + 2) (drop (first.before + 1) pairs)
 
 -- the page behind its front
 abbrev pub pair_body : PairTitleValue → Held → List ItemPair → Option FirstContrast → List ℕ
 pair_body title held pairs first =
-    verdict_by (length pairs) first ++ sessions_text title held ++ codes "<main id=\"session\">\n" ++ items_by title held pairs first ++ codes "</main>\n"
+    verdict_by (length pairs) first ++ sessions_text title held ++ codes "<main id=\"session\">\n" ++ items_text title held pairs first ++ codes "</main>\n"
     ++ pair_help_text
 
 -- the page of two logs that can be read

@@ -1,6 +1,6 @@
--- The rows of a report: what each tells, and its text. A row is one line of HTML: the number of its item, the lines of the log,
--- the time since the first frame of the two sides, and a cell of the chart, in which words stand at the sender's side and an
--- arrow fills the rest. End tags are left out where HTML lets one.
+-- The rows of a report: what each tells, and its text. A row is one line of HTML: the number of its item, the lines of
+-- the log, the time since the first frame of the two sides, and a cell of the chart, in which words stand at the
+-- sender's side and an arrow fills the rest. End tags are left out where HTML lets one.
 use Rattle.std.specs.Prelude.{ℕ, ◌==◌, Bool, true, false, not, List, [], ◌++◌, codes, length, nat_lt, Option, Some, None, if◌then◌else◌}
 use Rattle.std.specs.Fmt.{decimal}
 use Rattle.direction.specs.declared.Dir.{Dir}

@@ -1,5 +1,5 @@
--- The verdict of a report: whether the recording is clean, what needs a look, and all counts. It is known at the end, and written
--- there; the style shows it first.
+-- The verdict of a report: whether the recording is clean, what needs a look, and all counts. It is known at the end,
+-- and written there; the style shows it first.
 use Rattle.std.specs.Fmt.{decimal}
 use Rattle.std.specs.Prelude.{ℕ, ◌==◌, ◌&&◌, Bool, List, [], ◌++◌, codes, if◌then◌else◌}
 use Rattle.trace_canon.specs.MessageLines.{stamp_text}

@@ -1,5 +1,5 @@
--- The words of a report: times as differences, bytes with blanks between, bytes as letters, and the bytes of a message as far
--- as a row shows them.
+-- The words of a report: times as differences, bytes with blanks between, bytes as letters, and the bytes of a message
+-- as far as a row shows them.
 use Prim.Native.Char.{code}
 use Rattle.std.specs.Prelude.{ℕ, ◌-◌, ◌/◌, Bool, false, ◌&&◌, ◌||◌, ◌==◌, List, [], ◌∷◌, ◌++◌, codes, length, take, drop, nat_le, if◌then◌else◌}
 use Rattle.std.specs.Fmt.{decimal}

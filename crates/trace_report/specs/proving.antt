@@ -4,3 +4,4 @@ pub mod Following
 pub mod Tallying
 pub mod Holding
 pub mod Heard
+pub mod Charting

@@ -69,7 +69,7 @@ fn say_brief_front<S: TextSink>(
     say_text(out, "\">");
 }
 
-/// Says a request.
+/// Says the brief row of a request.
 fn say_request<S: TextSink>(origin: u64, dir: Dir, place: MessagePlace, message: &[u8], out: &mut S)
     ensures { S.says out.old (brief_message origin Request dir place message.now) out.new }
 {
@@ -78,7 +78,7 @@ fn say_request<S: TextSink>(origin: u64, dir: Dir, place: MessagePlace, message:
     say_text(out, "\n");
 }
 
-/// Says its words.
+/// Says the words of the brief row of a request.
 fn say_request_words<S: TextSink>(message: &[u8], out: &mut S)
     ensures { S.says out.old (brief_request message.now) out.new }
 {
@@ -88,7 +88,7 @@ fn say_request_words<S: TextSink>(message: &[u8], out: &mut S)
     say_text(out, " &#8594;");
 }
 
-/// Says a positive answer.
+/// Says the brief row of a positive answer.
 fn say_positive<S: TextSink>(
     origin: u64,
     asked: u64,
@@ -132,7 +132,7 @@ fn say_reply_words<S: TextSink>(kind: &str, asked: u64, first: u64, message: &[u
     say_after(asked, first, out);
 }
 
-/// Says the keep-alive.
+/// Says the brief row of a keep-alive.
 fn say_keep_alive<S: TextSink>(
     origin: u64,
     dir: Dir,
@@ -147,7 +147,7 @@ fn say_keep_alive<S: TextSink>(
     say_text(out, "\n");
 }
 
-/// Says its words.
+/// Says the words of the brief row of a keep-alive.
 fn say_keep_alive_words<S: TextSink>(message: &[u8], out: &mut S)
     ensures { S.says out.old (brief_keep_alive message.now) out.new }
 {

@@ -16,9 +16,9 @@ use trace_canon::say::{say_byte, say_direction, say_place, say_text};
 /// One of the two logs of a page, by its letter there.
 #[derive(Clone, Copy, Debug)]
 pub(crate) enum LogName {
-    /// The left one.
+    /// The left log.
     A,
-    /// The right one.
+    /// The right log.
     B,
 }
 
@@ -155,7 +155,7 @@ fn say_begins_words<S: TextSink>(what: &str, place: usize, pair: LentPair<'_>, o
     say_bytes_words(what, place, begin_left(pair), begin_right(pair), out);
 }
 
-/// Says at which byte their answers differ.
+/// Says at which byte the answers of the items differ.
 fn say_answers_words<S: TextSink>(place: usize, pair: LentPair<'_>, out: &mut S)
     ensures { S.says out.old (contrast_words (pair_of pair.entry) (Answers place)) out.new }
 {
@@ -235,7 +235,7 @@ fn say_byte_or_end<S: TextSink>(place: usize, bytes: &[u8], out: &mut S)
     }
 }
 
-/// Says the name of a log.
+/// Says the letter of a log.
 pub(crate) fn say_log_letter<S: TextSink>(log: LogName, out: &mut S)
     ensures { S.says out.old (Spec.log_letter log) out.new }
 {
@@ -245,7 +245,7 @@ pub(crate) fn say_log_letter<S: TextSink>(log: LogName, out: &mut S)
     }
 }
 
-/// Says the name of the other one.
+/// Says the letter of the other log.
 fn say_other_letter<S: TextSink>(log: LogName, out: &mut S)
     ensures { S.says out.old (Spec.log_letter (Spec.other_log log)) out.new }
 {
@@ -275,7 +275,7 @@ fn begin_left<'a>(pair: LentPair<'a>) -> &'a [u8]
     }
 }
 
-/// Of that of B.
+/// The bytes of the first message of the item of B, none where it has no item.
 fn begin_right<'a>(pair: LentPair<'a>) -> &'a [u8]
     ensures { result.now ≡ Spec.begin_right (pair_of pair.entry) }
 {
@@ -295,7 +295,7 @@ fn answer_left<'a>(pair: LentPair<'a>) -> &'a [u8]
     }
 }
 
-/// Of that in B.
+/// The bytes of the answer in B, none where it has none.
 fn answer_right<'a>(pair: LentPair<'a>) -> &'a [u8]
     ensures { result.now ≡ Spec.answer_right (pair_of pair.entry) }
 {

@@ -1,7 +1,9 @@
 //! The chart of the rows around the item at which two sessions first differ.
 ghost use Rattle.std.specs.Prelude.{◌≡◌};
-ghost use Rattle.trace_report.specs.Difference.{contrast_chart, contrast_data, contrast_message, contrast_row, contrast_rows, exchange_rows, rows_to_request};
+ghost use Rattle.trace_report.specs.Difference.{contrast_chart, contrast_data, contrast_message, contrast_row, contrast_rows, rows_around, rows_to_request};
 ghost use Rattle.trace_report.specs.Difference as Spec;
+ghost use Rattle.trace_report.specs.proving.Charting.{exchange_rows};
+ghost use Rattle.trace_report.specs.proving.Charting as Charting;
 ghost use Rattle.trace_report.specs.proving.Holding.{held_rows};
 ghost use Rattle.trace_report.specs.proving.Pages.{row_of};
 
@@ -43,14 +45,14 @@ fn say_rows_around<S: TextSink>(
     rows: &[HeldRow],
     out: &mut S,
 )
-    ensures { S.says out.old (contrast_rows number how origin (Spec.rows_around number (held_rows rows.now))) out.new }
+    ensures { S.says out.old (contrast_rows number how origin (rows_around number (held_rows rows.now))) out.new }
 {
     say_exchange_rows(number, how, origin, rows_from_request(number, rows), out);
 }
 
 /// The rows from the last request on that stands at or before the item, or before the end where there is no such item.
 fn rows_from_request<'a>(number: u64, rows: &'a [HeldRow]) -> &'a [HeldRow]
-    ensures { held_rows result.now ≡ Spec.rows_from_request number (held_rows rows.now) (held_rows rows.now) }
+    ensures { held_rows result.now ≡ Charting.rows_from_request number (held_rows rows.now) (held_rows rows.now) }
 {
     let mut start = rows;
     let mut rest = rows;

@@ -54,8 +54,8 @@ impl Follower {
         }
     }
 
-    /// Takes what a frame did that stands here, and answers its rows. Most frames add none: laid in line, so that no room is cleared
-    /// for rows then.
+    /// Takes what a frame did that stands here, and answers its rows. Most frames add none: laid in line, so that no
+    /// room is cleared for rows then.
     #[inline(always)]
     pub(crate) fn take<'a>(&mut self, here: FramePlace, dir: Dir, event: Event<'a>) -> NewRows<'a>
         ensures next { (T : List Entry) (e : Entry) → here ≡ place_of e → e.dir ≡ dir → length T < 2 ^ 62
@@ -92,7 +92,8 @@ impl Follower {
         }
     }
 
-    /// Takes a message that a frame here completed. Answers the row of the item that it closes, if it closes one, and its own.
+    /// Takes a message that a frame here completed. Answers the row of the item that it closes, if it closes one, and
+    /// its own.
     fn take_message<'a>(
         &mut self,
         here: FramePlace,
@@ -166,7 +167,8 @@ fn ended_row<'a>(here: FramePlace, ended: Option<Ended>) -> Option<Row<'a>>
     }
 }
 
-/// The row of a reception that stands at the end, if one does: the line of its first frame, and the bytes that this announced.
+/// The row of a reception that stands at the end, if one does: the line of its first frame, and the bytes that this
+/// announced.
 fn unfinished_row<'a>(dir: Dir, begun: Option<(u64, u32)>) -> Option<Row<'a>>
     ensures { row_if result ≡ unfinished_if dir begun }
 {

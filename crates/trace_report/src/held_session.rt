@@ -161,14 +161,14 @@ impl HeldSession {
         }
     }
 
-    /// Its rows.
+    /// The rows of the session.
     pub(crate) fn rows(&self) -> &[HeldRow]
         ensures { held_rows result.now ≡ self.now.rows }
     {
         self.rows.as_slice()
     }
 
-    /// Its counts.
+    /// The counts of the session.
     pub fn summary(&self) -> Summary
         ensures { result ≡ self.now.summary }
     {

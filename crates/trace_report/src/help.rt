@@ -1,5 +1,5 @@
 //! The end of a report: how to read it, and the sign that it is whole.
-ghost use Rattle.trace_report.specs.Help.{blocks_words, help_heading, help_start, help_text, legend_text, limits_text, pair_help_start, pair_help_text, tail_text, times_words};
+ghost use Rattle.trace_report.specs.Help.{blocks_words, exchange_legend, help_heading, help_start, help_text, legend_text, limits_text, others_legend, pair_help_start, pair_help_text, tail_text, times_words};
 
 use trace_canon::TextSink;
 use trace_canon::say::say_text;
@@ -78,6 +78,15 @@ fn say_legend<S: TextSink>(out: &mut S)
     ensures { S.says out.old legend_text out.new }
 {
     say_text(out, "<dl class=\"legend\">\n");
+    say_exchange_legend(out);
+    say_others_legend(out);
+    say_text(out, "</dl>\n");
+}
+
+/// Says what the rows of an exchange are.
+fn say_exchange_legend<S: TextSink>(out: &mut S)
+    ensures { S.says out.old exchange_legend out.new }
+{
     say_text(
         out,
         "<div class=\"q\"><dt>request</dt><dd>opens an item; its number is that of <code>udsnorm list</code></dd></div>\n",
@@ -102,6 +111,12 @@ fn say_legend<S: TextSink>(out: &mut S)
         out,
         "<div class=\"p\"><dt>silent</dt><dd>none came, and the request asked for none</dd></div>\n",
     );
+}
+
+/// Says what the rows of no exchange are.
+fn say_others_legend<S: TextSink>(out: &mut S)
+    ensures { S.says out.old others_legend out.new }
+{
     say_text(
         out,
         "<div class=\"p\"><dt>keep-alive</dt><dd>3E 80, which wants no answer</dd></div>\n",
@@ -116,7 +131,7 @@ fn say_legend<S: TextSink>(out: &mut S)
     );
     say_text(
         out,
-        "<div class=\"x\"><dt>ended, unfinished</dt><dd>a message of which not all frames came</dd></div>\n</dl>\n",
+        "<div class=\"x\"><dt>ended, unfinished</dt><dd>a message of which not all frames came</dd></div>\n",
     );
 }
 

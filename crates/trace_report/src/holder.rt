@@ -9,7 +9,7 @@ ghost use Rattle.trace_canon.specs.Devices.{ReadFrom};
 ghost use Rattle.trace_canon.specs.Refusal.{HasNoBadPlaceWithin};
 ghost use Rattle.trace_io.specs.Counted.{AreLowCounts};
 ghost use Rattle.trace_io.specs.Stream.{Agrees};
-ghost use Rattle.trace_report.specs.Held.{GivesSession, HasOwnFrame, HoldsTwo};
+ghost use Rattle.trace_report.specs.Held.{HoldsOne, HasOwnFrame, HoldsTwo};
 ghost use Rattle.trace_report.specs.proving.Following.{row_if, rows_in, times_of};
 ghost use Rattle.trace_report.specs.Session.{session_of};
 ghost use Rattle.trace_report.specs.proving.Heard.{IsHeardOf};
@@ -27,8 +27,8 @@ use trace_canon::begun::FramePlace;
 use trace_canon::{CompareFault, Config, Fault, Machine, Nowhere, Stop, Summary, TextSink, run};
 use trace_io::Source;
 
-/// Reads two logs, the first one whole before the second, and answers what both say. No announcement and no canonical log is too
-/// long for it.
+/// Reads two logs, the first one whole before the second, and answers what both say. No announcement and no canonical
+/// log is too long for it.
 pub fn hold_two<A: Source, B: Source>(
     alloc: Global,
     config: &Config,
@@ -46,8 +46,8 @@ pub fn hold_two<A: Source, B: Source>(
     // After a fault of the first log nothing of the second was read.
     ensures unread { (fault : FaultValue) → result ≡ Err (CompareFault.Left fault) → right.new ≡ right.old }
 
-    // Reading stops within one piece: there is no refused place among all bytes given of a log but the last 4,096, and none among
-    // all where a read of it failed.
+    // Reading stops within one piece: there is no refused place among all bytes given of a log but the last 4,096, and
+    // none among all where a read of it failed.
     ensures left_near { (one : List ℕ) → Agrees (A.given left.old) (A.given left.new) (A.is_over left.new) one
         → ReadsWhile (HasNoBadPlaceWithin one) (length (A.given left.new) - length (A.given left.old)) (A.failures left.old) (A.failures left.new) }
     ensures right_near { (other : List ℕ) → Agrees (B.given right.old) (B.given right.new) (B.is_over right.new) other
@@ -78,7 +78,7 @@ pub fn hold_two<A: Source, B: Source>(
 /// Reads a log, and answers what it says.
 fn hold<R: Source>(alloc: Global, config: &Config, reader: &mut R) -> Result<HeldSession, Fault>
     requires reader { AreLowCounts (R.reads reader.old) (length (R.given reader.old)) (R.failures reader.old) }
-    ensures answer { (log : List ℕ) → Agrees (R.given reader.old) (R.given reader.new) (R.is_over reader.new) log → GivesSession MESSAGE_LIMIT config.now log result }
+    ensures answer { (log : List ℕ) → Agrees (R.given reader.old) (R.given reader.new) (R.is_over reader.new) log → HoldsOne MESSAGE_LIMIT config.now log result }
     ensures near { (log : List ℕ) → Agrees (R.given reader.old) (R.given reader.new) (R.is_over reader.new) log
         → ReadsWhile (HasNoBadPlaceWithin log) (length (R.given reader.new) - length (R.given reader.old)) (R.failures reader.old) (R.failures reader.new) }
     ensures memory { (log : List ℕ) → Agrees (R.given reader.old) (R.given reader.new) (R.is_over reader.new) log → result ≡ Err Fault.Memory → HasOwnFrame config.now log }

@@ -19,8 +19,8 @@ use trace_canon::TextSink;
 use trace_canon::say::{say_number, say_text};
 use uds_message::is_suppressing;
 
-/// Says the rows of what these sessions have of each number, at the most so many, the first of them under this number, in tables
-/// of which the first may be open.
+/// Says the rows of what these sessions have of each number, at the most so many, the first of them under this number,
+/// in tables of which the first may be open.
 pub(crate) fn say_pair_rows<S: TextSink>(
     opened: bool,
     left_origin: u64,
@@ -125,7 +125,7 @@ fn say_pair_row<S: TextSink>(left: u64, right: u64, number: u64, pair: LentPair<
     }
 }
 
-/// Says the row of two items.
+/// Says the row of a number of which both logs have an item.
 fn say_both_row<S: TextSink>(
     left: u64,
     right: u64,
@@ -191,7 +191,7 @@ fn say_item_sides<S: TextSink>(left: u64, right: u64, pair: LentPair<'_>, out: &
     }
 }
 
-/// Says the items of both.
+/// Says the items of both logs.
 fn say_both_sides<S: TextSink>(left: u64, right: u64, a: LentItem<'_>, b: LentItem<'_>, out: &mut S)
     ensures { S.says out.old (item_sides left right (both (item_of a.entry) (item_of b.entry))) out.new }
 {
@@ -199,7 +199,7 @@ fn say_both_sides<S: TextSink>(left: u64, right: u64, a: LentItem<'_>, b: LentIt
     say_item_side(LogName::B, right, b, out);
 }
 
-/// Says the item of A alone.
+/// Says the item of A, where B has none.
 fn say_left_side<S: TextSink>(left: u64, right: u64, item: LentItem<'_>, out: &mut S)
     ensures { S.says out.old (item_sides left right (only_left (item_of item.entry))) out.new }
 {
@@ -207,7 +207,7 @@ fn say_left_side<S: TextSink>(left: u64, right: u64, item: LentItem<'_>, out: &m
     say_no_item(out);
 }
 
-/// Says the item of B alone.
+/// Says the item of B, where A has none.
 fn say_right_side<S: TextSink>(left: u64, right: u64, item: LentItem<'_>, out: &mut S)
     ensures { S.says out.old (item_sides left right (only_right (item_of item.entry))) out.new }
 {
@@ -225,14 +225,14 @@ fn say_item_side<S: TextSink>(log: LogName, origin: u64, item: LentItem<'_>, out
     say_note_of(log, origin, item, out);
 }
 
-/// Says that a log has none.
+/// Says that a log has no item of a number.
 fn say_no_item<S: TextSink>(out: &mut S)
     ensures { S.says out.old no_item out.new }
 {
     say_text(out, "<td><i>no item</i>");
 }
 
-/// Says an item.
+/// Says an item, without its places.
 fn say_told_item<S: TextSink>(item: LentItem<'_>, out: &mut S)
     ensures { S.says out.old (told_item (item_of item.entry)) out.new }
 {
@@ -240,7 +240,7 @@ fn say_told_item<S: TextSink>(item: LentItem<'_>, out: &mut S)
     say_told_reply_if(item.begin.role, item.begin.message, item.answer, out);
 }
 
-/// Says a message.
+/// Says a message, without its place.
 fn say_told_message<S: TextSink>(sent: LentMessage<'_>, out: &mut S)
     ensures { S.says out.old (told_message (message_of sent.entry)) out.new }
 {
@@ -262,7 +262,7 @@ fn say_told_reply_if<S: TextSink>(
     }
 }
 
-/// Says it behind an arrow.
+/// Says the answer to a request, or what stands in its place, behind an arrow.
 fn say_told_reply<S: TextSink>(request: &[u8], reply: Option<LentMessage<'_>>, out: &mut S)
     ensures { S.says out.old (told_reply request.now (option_map message_of reply.entry)) out.new }
 {

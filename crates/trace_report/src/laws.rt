@@ -1,6 +1,6 @@
 //! What holds of a page, whatever log it is of. A law is its contract; a call does nothing.
 
-ghost use Rattle.trace_report.specs.Laws.{AgreesWithCompare, ComparisonIsOfItems, IdentifiersStandOnce, ItemsAreTheMeaning, LettersAreHarmless, LinksHaveTargets, NameIsHarmless};
+ghost use Rattle.trace_report.specs.Laws.{AgreesWithCompare, ComparisonIsOfItems, IdentifiersStandOnce, ItemsAreTheMeaning, LettersAreHarmless, LinksHaveTargets, NameIsHarmless, RowsAroundHaveTheItem};
 
 /// The name of a log opens and closes nothing on its page.
 pub fn name_is_harmless()
@@ -35,4 +35,9 @@ pub fn items_are_the_meaning()
 /// A page says of two logs what `compare` answers.
 pub fn agrees_with_compare()
     ensures { AgreesWithCompare }
+{}
+
+/// The chart of the first difference shows the item that differs.
+pub fn rows_around_have_the_item()
+    ensures { RowsAroundHaveTheItem }
 {}

@@ -7,24 +7,25 @@
 //! event -> Follower -> rows -> Chart -> page
 //! ```
 //!
-//! [`report`] is a machine over the driver of `trace_canon` (`reporter`). A `follower` knows what the rows to come depend on: the
-//! numbers of items, the request that waits, and the `places` where messages begin. It answers the rows of a frame (`row`). The
-//! `chart` says them, in `blocks` that fold, and keeps a `tally` for the verdict.
+//! [`report`] is a machine over the driver of `trace_canon` (`reporter`). A `follower` knows what the rows to come
+//! depend on: the numbers of items, the request that waits, and the `places` where messages begin. It answers the rows
+//! of a frame (`row`). The `chart` says them, in `blocks` that fold, and keeps a `tally` for the verdict.
 //!
-//! The text of a page is in pieces: its `front`; the rows of messages (`message_rows`, `brief_rows`) and of what is missing
-//! (`lost_rows`), by `cells` and `words`; the `verdict`, with `links` and `counts`; and the `help`. The style is no part of what is
-//! proved.
+//! The text of a page is in pieces: its `front`; the rows of messages (`message_rows`, `brief_rows`) and of what is
+//! missing (`lost_rows`), by `cells` and `words`; the `verdict`, with `links` and `counts`; and the `help`. The style
+//! is no part of what is proved.
 //!
-//! Of two logs a page says first whether they are the same. So both are held: [`hold_two`] keeps the rows of each (`holder`), and
-//! [`write_pair_page`] writes the page of both.
+//! Of two logs a page says first whether they are the same. So both are held: [`hold_two`] keeps the rows of each
+//! (`holder`), and [`write_pair_page`] writes the page of both.
 //!
 //! ```text
 //! event -> Follower -> rows -> Holder -> HeldSession -> items, pairs -> page
 //! ```
 //!
-//! The `items` are found again among the rows, and those of both logs stand side by side. The first `contrast` of a pair (`pairs`) is the
-//! difference that the page tells (`pair_verdict`) and shows by the rows around it (`difference`), with a mark at the byte (`marks`). The
-//! items before and behind it are rows of a table (`item_rows`, `pair_items`).
+//! The `items` are found again among the rows, and those of both logs stand side by side. The first `contrast` of a
+//! pair (`pairs`) is the difference that the page tells (`pair_verdict`) and shows by the rows around it
+//! (`difference`), with a mark at the byte (`marks`). The items before and behind it are rows of a table (`item_rows`,
+//! `pair_items`).
 #![tactic(auto)]
 
 mod blocks;

@@ -5,7 +5,7 @@ use arrayvec::ArrayVec;
 use trace_canon::TextSink;
 use trace_canon::say::{say_number, say_text};
 
-/// So many are linked to.
+/// So many rows of a sort are linked to.
 const MOST_LINKS: u64 = 10;
 
 /// Where a link leads.

@@ -30,7 +30,7 @@ fn window_start(place: usize, count: usize) -> usize
     }
 }
 
-/// How many bytes are shown from there.
+/// How many bytes are shown, at the most, of a message of this many bytes.
 fn window_length(count: usize) -> usize
     ensures { result ≡ Spec.window_length count }
 {
@@ -88,7 +88,7 @@ fn say_before<S: TextSink>(count: u64, out: &mut S)
     }
 }
 
-/// Says that so many do.
+/// Says that so many bytes stand before those that are shown.
 fn say_count_before<S: TextSink>(count: u64, out: &mut S)
     ensures { S.says out.old (count_before count) out.new }
 {
@@ -97,7 +97,7 @@ fn say_count_before<S: TextSink>(count: u64, out: &mut S)
     say_text(out, " bytes:</i> ");
 }
 
-/// Says how many stand behind them, where some do.
+/// Says how many bytes stand behind those that are shown, where some do.
 fn say_behind<S: TextSink>(count: u64, out: &mut S)
     ensures { S.says out.old (behind_text count) out.new }
 {
@@ -106,7 +106,7 @@ fn say_behind<S: TextSink>(count: u64, out: &mut S)
     }
 }
 
-/// Says that so many do.
+/// Says that so many bytes stand behind those that are shown.
 fn say_count_behind<S: TextSink>(count: u64, out: &mut S)
     ensures { S.says out.old (count_behind count) out.new }
 {
@@ -133,7 +133,7 @@ fn say_bytes_ahead<S: TextSink>(bytes: &[u8], out: &mut S)
     }
 }
 
-/// Says two digits and a blank.
+/// Says two digits and a blank for a byte.
 fn say_byte_ahead<S: TextSink>(byte: u8, out: &mut S)
     ensures { S.says out.old (byte_ahead byte) out.new }
 {

@@ -85,7 +85,7 @@ fn say_item_cell<S: TextSink>(linked: bool, role: MessageRole, number: u64, out:
     }
 }
 
-/// Says it as the header of its row.
+/// Says the number of an item as the header of a row.
 fn say_item_header<S: TextSink>(linked: bool, number: u64, out: &mut S)
     ensures { S.says out.old (item_header linked number) out.new }
 {
@@ -96,7 +96,7 @@ fn say_item_header<S: TextSink>(linked: bool, number: u64, out: &mut S)
     }
 }
 
-/// Says it as the header of a row to which links lead.
+/// Says the number of an item as the header of a row to which links lead.
 fn say_linked_header<S: TextSink>(number: u64, out: &mut S)
     ensures { S.says out.old (item_header true number) out.new }
 {
@@ -106,7 +106,7 @@ fn say_linked_header<S: TextSink>(number: u64, out: &mut S)
     say_number(out, number);
 }
 
-/// Says it as the header of another row.
+/// Says the number of an item as the header of a row to which no link leads.
 fn say_plain_header<S: TextSink>(number: u64, out: &mut S)
     ensures { S.says out.old (item_header false number) out.new }
 {
@@ -114,7 +114,7 @@ fn say_plain_header<S: TextSink>(number: u64, out: &mut S)
     say_number(out, number);
 }
 
-/// Says it again.
+/// Says the number of an item again, in the row of another message of it.
 fn say_item_repeated<S: TextSink>(number: u64, out: &mut S)
     ensures { S.says out.old (item_repeated number) out.new }
 {
@@ -235,7 +235,7 @@ pub(crate) fn say_further_note<S: TextSink>(asked: Option<u64>, first: u64, out:
     }
 }
 
-/// Says it behind another note.
+/// Says how long after a request a frame came, behind another note.
 fn say_after_other<S: TextSink>(asked: u64, first: u64, out: &mut S)
     ensures { S.says out.old (after_other asked first) out.new }
 {
@@ -243,7 +243,7 @@ fn say_after_other<S: TextSink>(asked: u64, first: u64, out: &mut S)
     say_after(asked, first, out);
 }
 
-/// Says the same of a message of one frame.
+/// Says how long after its request a message of one frame came, if it replies to one.
 fn say_single_note<S: TextSink>(asked: Option<u64>, first: u64, out: &mut S)
     ensures { S.says out.old (single_note asked first) out.new }
 {
@@ -252,7 +252,7 @@ fn say_single_note<S: TextSink>(asked: Option<u64>, first: u64, out: &mut S)
     }
 }
 
-/// Says it alone.
+/// Says how long after a request a frame came, where no other note stands.
 fn say_after_alone<S: TextSink>(asked: u64, first: u64, out: &mut S)
     ensures { S.says out.old (after_alone asked first) out.new }
 {

@@ -4,7 +4,7 @@ ghost use Rattle.trace_report.specs.Contrast.{first_contrast};
 ghost use Rattle.trace_report.specs.Held.{pairs_in};
 ghost use Rattle.trace_report.specs.ItemRows.{pair_rows};
 ghost use Rattle.trace_report.specs.Items.{items_in, pairs_of};
-ghost use Rattle.trace_report.specs.PairPage.{contrast_side, difference_text, items_after, items_before, items_by, later_items, rows_before, same_items};
+ghost use Rattle.trace_report.specs.PairPage.{contrast_side, difference_text, items_after, items_before, items_text, later_items, rows_to_difference, same_items};
 ghost use Rattle.trace_report.specs.Difference.{contrast_chart};
 ghost use Rattle.trace_report.specs.proving.Holding.{contrast_found, held_rows};
 ghost use Rattle.trace_report.specs.proving.Pages.{pair_title_of};
@@ -21,7 +21,7 @@ use trace_canon::say::{say_place, say_text};
 
 /// Says all items, with the first difference, if there is one.
 pub(crate) fn say_items<S: TextSink>(title: &PairTitle<'_>, held: &Held, out: &mut S)
-    ensures { S.says out.old (items_by (pair_title_of title.now) held.now (pairs_in held.now) (first_contrast (pairs_in held.now))) out.new }
+    ensures { S.says out.old (items_text (pair_title_of title.now) held.now (pairs_in held.now) (first_contrast (pairs_in held.now))) out.new }
 {
     match first_difference(held) {
         None => say_same_items(held, out),
@@ -37,7 +37,7 @@ fn say_same_items<S: TextSink>(held: &Held, out: &mut S)
     say_rows_of(held, out);
 }
 
-/// Says their rows.
+/// Says the rows of the items of two sessions that are the same.
 fn say_rows_of<S: TextSink>(held: &Held, out: &mut S)
     ensures { S.says out.old (pair_rows false held.now.left.first held.now.right.first 0 1 (pairs_in held.now)) out.new }
 {
@@ -86,7 +86,7 @@ fn say_different_items<S: TextSink>(
 )
     ensures { drop (found.now.before + 1) (pairs_in held.now) ≡ pairs_of (items_in (held_rows found.now.left.now)) (items_in (held_rows found.now.right.now))
         → found.now.before + 2 + (length found.now.left.now + length found.now.right.now) < 2 ^ 64
-        → S.says out.old (items_by (pair_title_of title.now) held.now (pairs_in held.now) (Some (contrast_found found.now))) out.new }
+        → S.says out.old (items_text (pair_title_of title.now) held.now (pairs_in held.now) (Some (contrast_found found.now))) out.new }
 {
     say_items_before(held, found.before, out);
     say_difference(title, held, found, out);
@@ -98,12 +98,12 @@ fn say_items_before<S: TextSink>(held: &Held, count: usize, out: &mut S)
     ensures { S.says out.old (items_before held.now count (pairs_in held.now)) out.new }
 {
     say_text(out, "<h2>Before the difference</h2>\n");
-    say_rows_before(held, count, out);
+    say_rows_to_difference(held, count, out);
 }
 
-/// Says the rows of so many items before it.
-fn say_rows_before<S: TextSink>(held: &Held, count: usize, out: &mut S)
-    ensures { S.says out.old (rows_before held.now count (pairs_in held.now)) out.new }
+/// Says the rows of so many items before the first difference.
+fn say_rows_to_difference<S: TextSink>(held: &Held, count: usize, out: &mut S)
+    ensures { S.says out.old (rows_to_difference held.now count (pairs_in held.now)) out.new }
 {
     if count == 0 {
         say_text(out, "<p>Nothing: the first item differs.</p>\n");
@@ -128,7 +128,7 @@ fn say_first_rows<S: TextSink>(held: &Held, count: usize, out: &mut S)
     );
 }
 
-/// Says the difference.
+/// Says the first difference.
 fn say_difference<S: TextSink>(
     title: &PairTitle<'_>,
     held: &Held,
@@ -147,7 +147,7 @@ fn say_difference<S: TextSink>(
     say_text(out, "</div>\n</section>\n");
 }
 
-/// Says a side of it.
+/// Says the difference as one of the logs has it.
 fn say_contrast_side<S: TextSink>(
     log: LogName,
     name: &[u8],
@@ -173,7 +173,7 @@ fn say_chart_of<S: TextSink>(found: &FoundContrast<'_>, session: &HeldSession, o
     say_contrast_chart(number, found.how, session.first(), session.rows(), out);
 }
 
-/// Says what stands behind the difference, where there are items.
+/// Says the items behind the difference, where there are some.
 fn say_items_after<S: TextSink>(held: &Held, found: &FoundContrast<'_>, out: &mut S)
     ensures { found.now.before + 2 + (length found.now.left.now + length found.now.right.now) < 2 ^ 64
         → S.says out.old (items_after held.now (found.now.before + 2) (pairs_of (items_in (held_rows found.now.left.now)) (items_in (held_rows found.now.right.now)))) out.new }
@@ -183,7 +183,7 @@ fn say_items_after<S: TextSink>(held: &Held, found: &FoundContrast<'_>, out: &mu
     }
 }
 
-/// Says it.
+/// Says the items behind the difference, below their heading.
 fn say_later_items<S: TextSink>(held: &Held, found: &FoundContrast<'_>, out: &mut S)
     ensures { found.now.before + 2 + (length found.now.left.now + length found.now.right.now) < 2 ^ 64
         → S.says out.old (later_items held.now (found.now.before + 2) (pairs_of (items_in (held_rows found.now.left.now)) (items_in (held_rows found.now.right.now)))) out.new }
@@ -195,7 +195,7 @@ fn say_later_items<S: TextSink>(held: &Held, found: &FoundContrast<'_>, out: &mu
     say_later_rows(held, found, out);
 }
 
-/// Says its rows.
+/// Says the rows of the items behind the difference.
 fn say_later_rows<S: TextSink>(held: &Held, found: &FoundContrast<'_>, out: &mut S)
     ensures { found.now.before + 2 + (length found.now.left.now + length found.now.right.now) < 2 ^ 64
         → S.says out.old (pair_rows true held.now.left.first held.now.right.first 0 (found.now.before + 2) (pairs_of (items_in (held_rows found.now.left.now)) (items_in (held_rows found.now.right.now)))) out.new }

@@ -97,7 +97,7 @@ fn say_pair_front<S: TextSink>(title: &PairTitle<'_>, out: &mut S)
     say_pair_header(title, out);
 }
 
-/// Says its head.
+/// Says the head of a page of two logs.
 fn say_pair_head<S: TextSink>(title: &PairTitle<'_>, out: &mut S)
     ensures { S.says out.old (pair_head (pair_title_of title.now)) out.new }
 {
@@ -109,7 +109,7 @@ fn say_pair_head<S: TextSink>(title: &PairTitle<'_>, out: &mut S)
     say_text(out, "</style>\n</head>\n<body>\n");
 }
 
-/// Says both names.
+/// Says the names of both logs.
 fn say_both_names<S: TextSink>(left: &[u8], right: &[u8], out: &mut S)
     ensures { S.says out.old (both_names left.now right.now) out.new }
 {

@@ -28,7 +28,7 @@ pub(crate) fn say_pair_verdict<S: TextSink>(held: &Held, out: &mut S)
     }
 }
 
-/// Says that they don't differ, with so many items.
+/// Says that the two sessions don't differ, with so many items.
 fn say_verdict_of_same<S: TextSink>(count: usize, out: &mut S)
     ensures { S.says out.old (verdict_by count None) out.new }
 {
@@ -53,7 +53,7 @@ fn say_nothing_verdict<S: TextSink>(out: &mut S)
     );
 }
 
-/// Says that they are the same, with so many items.
+/// Says that the two sessions are the same, with so many items.
 fn say_same_verdict<S: TextSink>(count: usize, out: &mut S)
     ensures { S.says out.old (same_verdict count) out.new }
 {
@@ -62,13 +62,10 @@ fn say_same_verdict<S: TextSink>(count: usize, out: &mut S)
         "<section id=\"verdict\" class=\"good\">\n<h2><span aria-hidden=\"true\">=</span> The two sessions are the same</h2>\n<p>Items: ",
     );
     say_number(out, count as u64);
-    say_text(
-        out,
-        ". Each is equal in both, byte for byte: so are the canonical logs.</p>\n",
-    );
+    say_text(out, ". Each is equal in both, byte for byte.</p>\n");
 }
 
-/// Says where they first differ.
+/// Says where the two sessions first differ.
 fn say_different_verdict<S: TextSink>(found: &FoundContrast<'_>, out: &mut S)
     ensures { S.says out.old (different_verdict (contrast_found found.now)) out.new }
 {
@@ -103,7 +100,7 @@ pub(crate) fn say_sessions<S: TextSink>(title: &PairTitle<'_>, held: &Held, out:
     say_text(out, "</div>\n</section>\n");
 }
 
-/// Says what was found of one.
+/// Says what was found of one log.
 fn say_session<S: TextSink>(log: LogName, name: &[u8], session: &HeldSession, out: &mut S)
     ensures { S.says out.old (session_text log name.now session.now) out.new }
 {
@@ -117,7 +114,7 @@ fn say_session<S: TextSink>(log: LogName, name: &[u8], session: &HeldSession, ou
     say_text(out, "</section>\n");
 }
 
-/// Says whether its recording is clean.
+/// Says whether the recording of a session is clean.
 fn say_state_of<S: TextSink>(session: &HeldSession, out: &mut S)
     ensures { S.says out.old (state_text session.now.summary) out.new }
 {
@@ -137,7 +134,7 @@ fn say_state<S: TextSink>(summary: &Summary, out: &mut S)
     }
 }
 
-/// Says why it is not.
+/// Says why a recording is not clean.
 fn say_unclean_state<S: TextSink>(summary: &Summary, out: &mut S)
     ensures { S.says out.old (unclean_state summary.now) out.new }
 {
@@ -152,7 +149,7 @@ fn say_counts_of<S: TextSink>(session: &HeldSession, out: &mut S)
     say_counts(&counts_of(session.rows()), &session.summary(), out);
 }
 
-/// Says from when to when it goes.
+/// Says from when to when a session goes.
 fn say_span_of_session<S: TextSink>(session: &HeldSession, out: &mut S)
     ensures { S.says out.old (span_of session.now.summary.frames session.now.first session.now.last) out.new }
 {

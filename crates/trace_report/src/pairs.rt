@@ -13,8 +13,8 @@ use crate::items::{LentPair, next_pair};
 use crate::sorts::sort_of;
 use trace_canon::Comparison;
 
-/// The first difference of two sessions: how many items of both are the same before it, the items there, how they differ, and the
-/// rows of both behind them.
+/// The first difference of two sessions: how many items of both are the same before it, the items there, how they
+/// differ, and the rows of both behind them.
 #[derive(Clone, Copy, Debug)]
 pub(crate) struct FoundContrast<'a> {
     pub before: usize,

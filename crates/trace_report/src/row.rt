@@ -62,7 +62,8 @@ pub(crate) enum Row<'a> {
         place: FramePlace,
         ended: Ended,
     },
-    /// A reception stands at the end of the log: its direction, the line of its first frame and the bytes that this announced.
+    /// A reception stands at the end of the log: its direction, the line of its first frame and the bytes that this
+    /// announced.
     Unfinished {
         dir: Dir,
         line: u64,

@@ -147,7 +147,7 @@ fn say_look<S: TextSink>(tally: &Tally, out: &mut S)
     }
 }
 
-/// Whether nothing does.
+/// Whether nothing needs a look.
 fn needs_no_look(counts: &SortCounts) -> bool
     ensures { result ≡ Links.needs_no_look counts.now }
 {
@@ -159,7 +159,7 @@ fn needs_no_look(counts: &SortCounts) -> bool
         && counts.strays == 0
 }
 
-/// Says the list of what does.
+/// Says the list of what needs a look.
 fn say_look_list<S: TextSink>(tally: &Tally, out: &mut S)
     ensures { S.says out.old (look_list tally.now) out.new }
 {
@@ -168,7 +168,7 @@ fn say_look_list<S: TextSink>(tally: &Tally, out: &mut S)
     say_text(out, "</ul>\n");
 }
 
-/// Says it for each reason.
+/// Says what needs a look, by its sort.
 fn say_look_lines<S: TextSink>(tally: &Tally, out: &mut S)
     ensures { S.says out.old (look_lines tally.now) out.new }
 {

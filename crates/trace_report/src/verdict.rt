@@ -7,7 +7,7 @@ use crate::words::{say_seconds_between, say_stamp};
 use trace_canon::say::{say_length, say_number, say_text};
 use trace_canon::{Fault, Summary, TextSink};
 
-/// Says the heading, and its sentence.
+/// Says the heading of a log that is read to its end, and its sentence.
 pub(crate) fn say_heading<S: TextSink>(summary: &Summary, out: &mut S)
     ensures { S.says out.old (heading_text summary.now) out.new }
 {
@@ -48,7 +48,7 @@ fn say_clean_verdict<S: TextSink>(out: &mut S)
     );
 }
 
-/// Says that something is.
+/// Says that something of the two sides is known to be missing, or may be.
 fn say_unclean_verdict<S: TextSink>(summary: &Summary, out: &mut S)
     ensures { S.says out.old (unclean_verdict summary.now) out.new }
 {
@@ -59,7 +59,7 @@ fn say_unclean_verdict<S: TextSink>(summary: &Summary, out: &mut S)
     say_unclean_reason(summary, out);
 }
 
-/// Says what it is.
+/// Says why a recording is not clean.
 pub(crate) fn say_unclean_reason<S: TextSink>(summary: &Summary, out: &mut S)
     ensures { S.says out.old (unclean_reason summary.now) out.new }
 {
@@ -84,11 +84,14 @@ fn is_whole(summary: &Summary) -> bool
     summary.dropped == 0 && summary.ended == 0 && summary.unfinished == 0
 }
 
-/// Says whether each answer is positive.
+/// Says whether each answer is positive, where something was asked.
 pub(crate) fn say_answers<S: TextSink>(asked: u64, refused: u64, missing: u64, out: &mut S)
     ensures { S.says out.old (answers_text asked refused missing) out.new }
 {
-    if asked == 0 {} else if refused == 0 && missing == 0 {
+    if asked == 0 {
+        return;
+    }
+    if refused == 0 && missing == 0 {
         say_text(out, " No answer is negative, and none is missing.");
     } else {
         say_text(out, " Not every request has a positive answer.");
@@ -104,7 +107,7 @@ pub(crate) fn say_span_of<S: TextSink>(frames: u64, first: u64, last: u64, out: 
     }
 }
 
-/// Says from when to when.
+/// Says from when to when a log goes.
 fn say_span<S: TextSink>(first: u64, last: u64, out: &mut S)
     ensures { S.says out.old (span_text first last) out.new }
 {

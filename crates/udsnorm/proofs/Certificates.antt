@@ -88,7 +88,7 @@ is_certified settings log session gives clean =
     clean_log_is_recording MESSAGE_LIMIT settings log session.summary (of_accepted settings log gives.accepted session.summary gives.outcome gives.counted) clean
 
 -- a log that is held is clean
-of_held : (settings : Settings) (log : List ℕ) (session : SessionValue) → Holds.GivesSession MESSAGE_LIMIT settings log (Ok session) → is_clean session.summary ≡ true → IsCertified MESSAGE_LIMIT settings log
+of_held : (settings : Settings) (log : List ℕ) (session : SessionValue) → Holds.HoldsOne MESSAGE_LIMIT settings log (Ok session) → is_clean session.summary ≡ true → IsCertified MESSAGE_LIMIT settings log
 of_held settings log session (meanings, read, is) = of_told settings log meanings session.summary read.1 (ap (λ (s : SessionValue). Ok s.summary) is)
 
 -- what is certified of two logs by the answer of a job over them

@@ -51,8 +51,8 @@ pub record CountFrames (T : List Entry) (counts : FrameCounts) : Type 0 where
   pub tester : IsTaken Tester T counts.tester
   pub unit : IsTaken Unit T counts.unit
 
--- how many frames carry a message that a frame completed, where the reception began there that stood and that the frame did not end,
--- if one did, and took so many consecutive frames
+-- how many frames carry a message that a frame completed, where the reception began there that stood and that the frame
+-- did not end, if one did, and took so many consecutive frames
 abbrev pub frames_with : Option FramePlace → ℕ → ℕ
 frames_with None taken = 1
 frames_with (Some begun) taken = min (taken + 2) 18446744073709551615

@@ -1,7 +1,7 @@
 -- Devices of proof: what the code holds of a session, and lends of it, without where its bytes lie in memory.
 use Rattle.std.specs.Prelude.{ℕ, List, [], ◌∷◌, ◌-◌, map, option_map, take, Option, Some, None}
 use Rattle.trace_report.specs.Contrast.{FirstContrast}
-use Rattle.trace_report.specs.Items.{PlacedMessage, PlacedItem, ItemPair, both, only_left, only_right, items_in, pairs_of}
+use Rattle.trace_report.specs.Items.{RowMessage, PlacedItem, ItemPair, both, only_left, only_right, items_in, pairs_of}
 use Rattle.trace_report.specs.Rows.{RowValue, message, no_answer, dropped, ended, unfinished}
 use Rattle.trace_report.specs.declared.held_session.HeldRow.{HeldRow}
 use Rattle.trace_report.specs.declared.held_session.HeldRow.TheVariants as held
@@ -36,7 +36,7 @@ last_of_span None = 0
 last_of_span (Some span) = span.last
 
 -- a message that is lent
-abbrev pub message_of : LentMessage → PlacedMessage
+abbrev pub message_of : LentMessage → RowMessage
 message_of sent = record { role = sent.role; dir = sent.dir; place = sent.place; bytes = sent.message.now }
 
 -- an item that is

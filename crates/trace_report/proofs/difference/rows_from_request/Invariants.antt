@@ -1,5 +1,5 @@
 use Rattle.std.proofs.Common.{◌≡◌, length}
-use Rattle.trace_report.specs.Difference.{rows_from_request}
+use Rattle.trace_report.specs.proving.Charting.{rows_from_request}
 use Rattle.trace_report.specs.proving.Holding.{held_rows}
 use Rattle.trace_report.proofs.difference.rows_from_request.Given as goal
 

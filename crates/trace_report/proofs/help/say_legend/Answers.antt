@@ -2,13 +2,4 @@ use Rattle.trace_report.proofs.help.say_legend.Goals as goal
 
 pub returns : goal.returns
 returns g c =
-    g.met.S.TextSink.onward _ _ _ _ _ (g.met.S.TextSink.onward _ _ _ _ _ (g.met.S.TextSink.onward _ _ _ _ _ (g.met.S.TextSink.onward _ _ _ _ _ (g.met.S.TextSink.onward _ _ _ _ _ (g.met.S.TextSink.onward _ _ _ _ _ (g.met.S.TextSink.onward _ _ _ _ _ (g.met.S.TextSink.onward _ _ _ _ _ (g.met.S.TextSink.onward _ _ _ _ _ (g.met.S.TextSink.onward _ _ _ _ _ c.say_text.ensures c.say_text-2.ensures)
-    c.say_text-3.ensures)
-    c.say_text-4.ensures)
-    c.say_text-5.ensures)
-    c.say_text-6.ensures)
-    c.say_text-7.ensures)
-    c.say_text-8.ensures)
-    c.say_text-9.ensures)
-    c.say_text-10.ensures)
-    c.say_text-11.ensures
+    g.met.S.TextSink.onward _ _ _ _ _ (g.met.S.TextSink.onward _ _ _ _ _ (g.met.S.TextSink.onward _ _ _ _ _ c.say_text.ensures c.say_exchange_legend.ensures) c.say_others_legend.ensures) c.say_text-2.ensures
