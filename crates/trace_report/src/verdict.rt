@@ -1,11 +1,126 @@
-//! The parts of a report's verdict: its heading, whether each answer is positive, and the time that the log spans.
+//! The verdict of a report: its heading, whether each answer is positive, what needs a look, the counts, and the time
+//! that the log spans.
 ghost use Rattle.std.specs.Prelude.{◌≡◌};
-ghost use Rattle.trace_report.specs.Verdict.{answers_text, clean_verdict, empty_verdict, heading_text, place_words, refusal_words, refused_heading, span_of, span_text, stop_line, unclean_reason, unclean_verdict};
+ghost use Rattle.trace_report.specs.Links.{look_lines, look_list, look_text};
+ghost use Rattle.trace_report.specs.Links as Links;
+ghost use Rattle.trace_report.specs.Verdict.{answers_text, clean_verdict, empty_verdict, findings_text, heading_text, place_words, refusal_words, refused_heading, refused_verdict, span_of, span_text, stop_line, unclean_reason, unclean_verdict, verdict_text};
 ghost use Rattle.trace_report.specs.Verdict as Spec;
 
+use crate::counts::{SortCounts, say_answers_of, say_counts};
+use crate::links::{Link, say_look_line};
+use crate::tally::Tally;
 use crate::words::{say_seconds_between, say_stamp};
 use trace_canon::say::{say_length, say_number, say_text};
 use trace_canon::{Fault, Summary, TextSink};
+
+/// Says the verdict of a log with this tally, whose first frame and last one have these times.
+pub(crate) fn say_verdict<S: TextSink>(
+    tally: &Tally,
+    summary: &Summary,
+    first: u64,
+    last: u64,
+    out: &mut S,
+)
+    ensures { S.says out.old (verdict_text tally.now summary.now first last) out.new }
+{
+    say_heading(summary, out);
+    say_answers_of(&tally.counts, out);
+    say_text(out, "</p>\n");
+    say_findings(tally, summary, first, last, out);
+}
+
+/// Says the verdict of a log that is refused, by what the lines before say.
+pub(crate) fn say_refused_verdict<S: TextSink>(
+    why: Fault,
+    tally: &Tally,
+    summary: &Summary,
+    first: u64,
+    last: u64,
+    out: &mut S,
+)
+    ensures { S.says out.old (refused_verdict why tally.now summary.now first last) out.new }
+{
+    say_refused_heading(why, out);
+    say_findings(tally, summary, first, last, out);
+}
+
+/// Says what was found of a log with this tally, whose first frame and last one have these times.
+fn say_findings<S: TextSink>(tally: &Tally, summary: &Summary, first: u64, last: u64, out: &mut S)
+    ensures { S.says out.old (findings_text tally.now summary.now first last) out.new }
+{
+    say_look(tally, out);
+    say_counts(&tally.counts, summary, out);
+    say_span_of(summary.frames, first, last, out);
+    say_text(out, "</section>\n");
+}
+
+/// Says what needs a look, where something does.
+fn say_look<S: TextSink>(tally: &Tally, out: &mut S)
+    ensures { S.says out.old (look_text tally.now) out.new }
+{
+    if !needs_no_look(&tally.counts) {
+        say_look_list(tally, out);
+    }
+}
+
+/// Whether nothing needs a look.
+fn needs_no_look(counts: &SortCounts) -> bool
+    ensures { result ≡ Links.needs_no_look counts.now }
+{
+    counts.drops == 0
+        && counts.ends == 0
+        && counts.partials == 0
+        && counts.negatives == 0
+        && counts.unanswered == 0
+        && counts.strays == 0
+}
+
+/// Says the list of what needs a look.
+fn say_look_list<S: TextSink>(tally: &Tally, out: &mut S)
+    ensures { S.says out.old (look_list tally.now) out.new }
+{
+    say_text(out, "<ul class=\"look\">\n");
+    say_look_lines(tally, out);
+    say_text(out, "</ul>\n");
+}
+
+/// Says what needs a look, by its sort.
+fn say_look_lines<S: TextSink>(tally: &Tally, out: &mut S)
+    ensures { S.says out.old (look_lines tally.now) out.new }
+{
+    let counts = &tally.counts;
+    let first = &tally.first;
+    say_look_line(
+        "dropped frames",
+        Link::Line,
+        counts.drops,
+        &first.drops,
+        out,
+    );
+    say_look_line("ended early", Link::Line, counts.ends, &first.ends, out);
+    say_look_line(
+        "unfinished",
+        Link::Side,
+        counts.partials,
+        &first.partials,
+        out,
+    );
+    say_look_line(
+        "negative answers",
+        Link::Item,
+        counts.negatives,
+        &first.negatives,
+        out,
+    );
+    say_look_line(
+        "without an answer",
+        Link::Item,
+        counts.unanswered,
+        &first.unanswered,
+        out,
+    );
+    say_look_line("strays", Link::Item, counts.strays, &first.strays, out);
+}
 
 /// Says the heading of a log that is read to its end, and its sentence.
 pub(crate) fn say_heading<S: TextSink>(summary: &Summary, out: &mut S)

@@ -1,4 +1,4 @@
-use Rattle.trace_report.proofs.tally.say_look_list.Goals as goal
+use Rattle.trace_report.proofs.verdict.say_look_list.Goals as goal
 
 pub returns : goal.returns
 returns g c =

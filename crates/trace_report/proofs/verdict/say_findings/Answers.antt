@@ -1,4 +1,4 @@
-use Rattle.trace_report.proofs.tally.say_findings.Goals as goal
+use Rattle.trace_report.proofs.verdict.say_findings.Goals as goal
 
 pub returns : goal.returns
 returns g c =

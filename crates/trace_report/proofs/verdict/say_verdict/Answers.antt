@@ -1,4 +1,4 @@
-use Rattle.trace_report.proofs.tally.say_verdict.Goals as goal
+use Rattle.trace_report.proofs.verdict.say_verdict.Goals as goal
 
 pub returns : goal.returns
 returns g c =
