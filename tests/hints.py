@@ -152,8 +152,40 @@ def pairs(cases, folder):
     for given in [["find", "request.log"], ["find", "--json", "request.log"]]:
         hinted(cases, f"no pair for {shlex.join(given)}", given, folder, 0, hint.format("request.log"))
     hinted(cases, "no pair in no log", ["find"], folder, 0, hint.format("standard input"))
-    for given in [["find", "mine.log"], ["find", "--json", "mine.log"], ["list", "--tester", "701", "--unit", "709", "mine.log"]]:
+    for given in [["find", "mine.log"], ["find", "--json", "mine.log"]]:
         hinted(cases, f"nothing of {shlex.join(given)}", given, folder, 0, None)
+
+
+def foreign(cases, folder):
+    """A log that has lines, and no frame of either identifier: each job but `find` is told so."""
+    other = VIN.read_bytes().replace(b"7E0#", b"18DA10F1#").replace(b"7E8#", b"18DAF110#")
+    no_frame = b"(1.000000) can0 20000080#0000000000000000\n"
+    for name, log in [("other.log", other), ("an other.log", other), ("-other.log", other), ("error.log", no_frame), ("blank.log", b"\n"), ("empty.log", b"")]:
+        Path(folder, name).write_bytes(log)
+    hint = "{} has no frame of {}; udsnorm find{} names its identifiers"
+    usual = hint.format("other.log", "7E0 or 7E8", " other.log")
+    for job in over_one_log(cases.program):
+        told = "nothing in {} answers another identifier; find needs the frames of both sides, and looks at each identifier up to 1FFFFFFF"
+        found = job == "find"
+        hinted(cases, f"{job} of other identifiers", [job, "other.log"], folder, 0, None if found else usual)
+        hinted(cases, f"{job} of no frames", [job, "error.log"], folder, 0, told.format("error.log") if found else hint.format("error.log", "7E0 or 7E8", " error.log"))
+        hinted(cases, f"{job} of a blank line", [job, "blank.log"], folder, 0, told.format("blank.log") if found else hint.format("blank.log", "7E0 or 7E8", " blank.log"))
+        hinted(cases, f"{job} of an empty log", [job, "empty.log"], folder, 0, told.format("empty.log") if found else None)
+    for given, hint_of in [
+        (["list", "an other.log"], ("$'an other.log'", "7E0 or 7E8", " $'an other.log'")),
+        (["list", "--", "-other.log"], ("-other.log", "7E0 or 7E8", " -- -other.log")),
+        (["list", "--tester", "7e1", "--unit", "00000709", "mine.log"], ("mine.log", "7E1 or 00000709", " mine.log")),
+    ]:
+        hinted(cases, f"no frame of {shlex.join(given)}", given, folder, 0, hint.format(*hint_of))
+    hinted(cases, "no frame of standard input", ["list"], folder, 0, hint.format("standard input", "7E0 or 7E8", ""), log=other)
+    hinted(cases, "no frame of a log that has to be clean", ["list", "--strict", "other.log"], folder, UNCLEAN, usual)
+    hinted(cases, "one frame of a side", ["list", "--tester", "7E0", "--unit", "7FF", "mine.log"], folder, 0, None)
+    for job in ["compare", "report"]:
+        for left, right, status in [("other.log", "mine.log", 1), ("mine.log", "other.log", 1), ("other.log", "an other.log", 0)]:
+            hinted(cases, f"{job} {left} {right}", [job, left, right], folder, status, usual)
+        hinted(cases, f"{job} mine.log empty.log", [job, "mine.log", "empty.log"], folder, 1, None)
+        hinted(cases, f"{job} empty.log other.log", [job, "empty.log", "other.log"], folder, 0, usual)
+    hinted(cases, "compare --strict", ["compare", "--strict", "mine.log", "other.log"], folder, UNCLEAN, usual)
 
 
 def looks(cases, folder):
@@ -244,7 +276,7 @@ def main():
         sys.exit(__doc__)
     cases = Cases(os.path.abspath(sys.argv[1]))
     with tempfile.TemporaryDirectory() as folder:
-        for test in [files, limits, names, words, pairs, looks, drops, silent]:
+        for test in [files, limits, names, words, pairs, foreign, looks, drops, silent]:
             test(cases, folder)
     cases.end()
 

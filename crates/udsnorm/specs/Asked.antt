@@ -81,9 +81,9 @@ pub record RanFiles {F W E : Type 0} (file : SourceGhosts F) (output : TargetGho
   pub other_left : F
   pub from_start : file.given one ≡ []
   pub from_start_too : file.given other ≡ []
-  pub fault : Option CompareFault
-  pub ran : RanTwo file file output errors job left_name right_name strict limit settings one other old unsaid status fault one_left other_left new said
-  pub known_is : IsKnownByTwo settings (file.given one_left) (file.is_over one_left) (file.given other_left) (file.is_over other_left) fault known
+  pub written : Option (Result PairAnswer CompareFault)
+  pub ran : RanTwo file file output errors job left_name right_name strict limit settings one other old unsaid status written one_left other_left new said
+  pub known_is : IsKnownByTwo settings (file.given one_left) (file.is_over one_left) (file.given other_left) (file.is_over other_left) written known
 
 -- What was done of a plan, and what is known of that: over the input where it names no file, and the input was left alone where
 -- it names one.

@@ -56,8 +56,6 @@ status_of_pair strict (Err fault) = status_of (fault_in fault)
 abbrev pub status_of_run_of_two : Bool → Bool → Result PairAnswer CompareFault → ℕ
 status_of_run_of_two wrote strict answer = if wrote then status_of_pair strict answer else status_of Write
 
--- the fault of a log that such a run tells, if it tells one
-abbrev pub fault_of : Bool → Result PairAnswer CompareFault → Option CompareFault
-fault_of true (Err fault) = Some fault
-fault_of true (Ok pair) = None
-fault_of false answer = None
+-- the answer of such a run, where its text was written
+abbrev pub answer_written : Bool → Result PairAnswer CompareFault → Option (Result PairAnswer CompareFault)
+answer_written wrote answer = if wrote then Some answer else None

@@ -4,7 +4,9 @@ use Rattle.std.specs.Prelude.{◌≡◌, ℕ, ◌/◌, ◌%◌, ◌==◌, ◌&&�
 use Rattle.std.specs.Char.{is_ascii_alphanumeric}
 use Rattle.std.specs.Fmt.{decimal}
 use Rattle.std.specs.List.{flat_map, list_all}
+use Rattle.can_log.specs.Canonical.{identifier_text}
 use Rattle.can_log.specs.Digits.{digit}
+use Rattle.can_log.specs.declared.frame.Id.{Id}
 use Rattle.clap.specs.Walk.{Text}
 use Rattle.trace_io.specs.declared.device.Target.{Ghosts as TargetGhosts}
 use Rattle.udsnorm.specs.Telling.{TookText}
@@ -50,6 +52,20 @@ abbrev pub named : Option (List ℕ) → List ℕ
 named None = codes "standard input"
 named (Some name) = quoted name
 
+-- the words before a name: `--`, too, where it begins with a dash, since it is no option behind that
+abbrev pub before_name : List ℕ → List ℕ
+before_name (b ∷ rest) = if b == code "-" then codes "udsnorm find -- " else codes "udsnorm find "
+before_name [] = codes "udsnorm find "
+
+-- the words that name the identifiers of a log: standard input has no name among them
+abbrev pub find_words : Option (List ℕ) → List ℕ
+find_words None = codes "udsnorm find"
+find_words (Some name) = before_name name ++ quoted name
+
+-- one of two identifiers
+abbrev pub either_text : Id → Id → List ℕ
+either_text tester unit = identifier_text tester ++ codes " or " ++ identifier_text unit
+
 -- ---- the line
 
 -- what is said behind its name of a log that looks so, with what mends it
@@ -74,6 +90,8 @@ hint_line matter.Unread log = codes "hint: reading " ++ named log ++ codes " fai
 hint_line (matter.Limit limit) log = codes "hint: the limit is " ++ decimal limit ++ codes " bytes; --limit sets it, up to 1099511627776\n"
 hint_line matter.NoPair log =
     codes "hint: nothing in " ++ named log ++ codes " answers another identifier; find needs the frames of both sides, and looks at each identifier up to 1FFFFFFF\n"
+hint_line (matter.Foreign tester unit) log =
+    codes "hint: " ++ named log ++ codes " has no frame of " ++ either_text tester unit ++ codes "; " ++ find_words log ++ codes " names its identifiers\n"
 hint_line (matter.Looks look) log = codes "hint: " ++ named log ++ look_words look
 hint_line matter.Cut log = codes "hint: the last line of " ++ named log ++ codes " looks cut; sed '$d' leaves it out, and a frame is missing\n"
 hint_line (matter.NoStamp line) log =

@@ -12,7 +12,7 @@ use Rattle.trace_io.specs.Stream.{Agrees, Took}
 use Rattle.trace_io.specs.declared.device.Source.{Ghosts as SourceGhosts}
 use Rattle.trace_io.specs.declared.device.Target.{Ghosts as TargetGhosts}
 use Rattle.udsnorm.specs.Commands.{EngineAnswers, EngineReads, PairEngineAnswers, PairEngineReads, has_text}
-use Rattle.udsnorm.specs.Ending.{ComesTo, fault_of, flushes, status_of_run, status_of_run_of_two}
+use Rattle.udsnorm.specs.Ending.{ComesTo, answer_written, flushes, status_of_run, status_of_run_of_two}
 use Rattle.udsnorm.specs.FaultLines.{run_text, run_two_text}
 use Rattle.udsnorm.specs.Telling.{TookText, WroteText}
 use Rattle.udsnorm.specs.declared.commands.Job.{Job}
@@ -46,9 +46,9 @@ pub record RanOne {R W E : Type 0} (source : SourceGhosts R) (output : TargetGho
   pub told : TookText (run_text strict outcome) (errors.failures unsaid) (errors.failures said) (errors.taken unsaid) (errors.taken said)
 
 -- What a run over two logs did, which have these names on a page and have to be clean where the run is strict: from its inputs to
--- its output and its error output, its exit status, and the fault of a log that was told, if there is one.
+-- its output and its error output, its exit status, and what was answered, where the text of that was written.
 pub record RanTwo {A B W E : Type 0} (left : SourceGhosts A) (right : SourceGhosts B) (output : TargetGhosts W) (errors : TargetGhosts E) (job : PairJob) (left_name right_name : List ℕ)
-    (strict : Bool) (limit : ℕ) (settings : Settings) (one : A) (other : B) (old : W) (unsaid : E) (status : ℕ) (fault : Option CompareFault) (one_now : A) (other_now : B) (new : W) (said : E) : Type 0 where
+    (strict : Bool) (limit : ℕ) (settings : Settings) (one : A) (other : B) (old : W) (unsaid : E) (status : ℕ) (written : Option (Result PairAnswer CompareFault)) (one_now : A) (other_now : B) (new : W) (said : E) : Type 0 where
   -- what the engine answered, and its text, for all logs with which the bytes that were read agree
   pub answer : Result PairAnswer CompareFault
   pub text : List ℕ
@@ -71,7 +71,7 @@ pub record RanTwo {A B W E : Type 0} (left : SourceGhosts A) (right : SourceGhos
   pub flushed_once : has_text job strict answer ≡ true → wrote ≡ true → output.flushes new ≡ output.flushes old + 1
   pub not_flushed : wrote ≡ false → output.flushes new ≡ output.flushes old
   pub left_alone : has_text job strict answer ≡ false → (wrote ≡ true) × (new ≡ old)
-  -- the status and the fault are the answer's, or those of a failed write, and the error output took the text of that
+  -- the status is the answer's, or that of a failed write, and the error output took the text of that
   pub status_is : status ≡ status_of_run_of_two wrote strict answer
-  pub fault_is : fault ≡ fault_of wrote answer
+  pub written_is : written ≡ answer_written wrote answer
   pub told : TookText (run_two_text wrote strict answer) (errors.failures unsaid) (errors.failures said) (errors.taken unsaid) (errors.taken said)

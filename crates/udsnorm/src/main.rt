@@ -293,7 +293,7 @@ where
     );
     End {
         status: end.status,
-        known: known_of_files(config, end.fault, one, other),
+        known: known_of_files(config, end.answer, one, other),
     }
 }
 

@@ -7,7 +7,7 @@ ghost use Rattle.trace_canon.specs.Laws.{IsCertified};
 ghost use Rattle.trace_io.specs.Counted.{AreLowCounts, IsLowCount};
 ghost use Rattle.trace_io.specs.Stream.{Agrees};
 ghost use Rattle.trace_io.specs.Written.{HasFront};
-ghost use Rattle.udsnorm.specs.Ending.{EndsAs, fault_of, flushes, status_of_comparison, status_of_run, status_of_run_of_two};
+ghost use Rattle.udsnorm.specs.Ending.{EndsAs, answer_written, flushes, status_of_comparison, status_of_run, status_of_run_of_two};
 ghost use Rattle.udsnorm.specs.FaultLines.{run_text, run_two_text};
 ghost use Rattle.udsnorm.specs.Run.{RanOne, RanTwo};
 ghost use Rattle.udsnorm.specs.Telling.{TookText};
@@ -132,7 +132,7 @@ pub fn run_two<A: Source, B: Source, W: Target, E: Target>(
     requires err { IsLowCount (E.failures err.old) }
 
     // What the engine answered, what was read and written, and what the run came to: its status and what is told of it.
-    ensures ran { RanTwo A.Source B.Source W.Target E.Target job left_name.now right_name.now strict MESSAGE_LIMIT config.now left.old right.old out.old err.old result.status result.fault left.new right.new out.new err.new }
+    ensures ran { RanTwo A.Source B.Source W.Target E.Target job left_name.now right_name.now strict MESSAGE_LIMIT config.now left.old right.old out.old err.old result.status result.answer left.new right.new out.new err.new }
 
     // Where both logs were accepted, and clean where they had to be, the output was flushed last and once, and nothing was told.
     ensures flushed { result.status ≤ 1 → W.is_flushed out.new ≡ true }
@@ -159,7 +159,7 @@ pub fn run_two<A: Source, B: Source, W: Target, E: Target>(
     let wrote = flush_written(due, done.wrote, out);
     TwoEnd {
         status: tell_pair(&done.answer, wrote, strict, err),
-        fault: fault_of(wrote, &done.answer),
+        answer: answer_written(wrote, done.answer),
     }
 }
 
@@ -175,14 +175,14 @@ fn flush_written<W: Target>(due: bool, wrote: bool, out: &mut W) -> bool
     }
 }
 
-/// The fault of a log that a run over two logs tells, if it tells one.
-fn fault_of(wrote: bool, answer: &Result<PairAnswer, CompareFault>) -> Option<CompareFault>
-    ensures { result ≡ fault_of wrote answer.now }
+/// The answer of a run over two logs, where its text was written.
+fn answer_written(
+    wrote: bool,
+    answer: Result<PairAnswer, CompareFault>,
+) -> Option<Result<PairAnswer, CompareFault>>
+    ensures { result ≡ answer_written wrote answer }
 {
-    match answer {
-        Err(fault) if wrote => Some(*fault),
-        _ => None,
-    }
+    if wrote { Some(answer) } else { None }
 }
 
 /// Tells what a run over two logs came to, where its text was not written, or that is a fault, or a log has to be clean and is
