@@ -193,7 +193,7 @@ def looks(cases, folder):
     lines = VIN.read_bytes()
     body = b" can0 7E0#0322F190\n"
     date = "looks like a log whose stamps have a date; date +%s.%6N makes seconds of one"
-    nanoseconds = "looks like a log whose stamps have nine decimals; leave out the last three"
+    decimals = "looks like a log whose stamps have more than six decimals; leave out those behind the sixth"
     screen = "looks like candump's form for the screen; candump -L and candump -l record a log"
     mark = "begins with a byte order mark, which an editor has put in front; save it without"
     asc, csv = "looks like a Vector ASC file; asc2log converts it", "looks like a CSV file; python-can converts one"
@@ -217,8 +217,9 @@ def looks(cases, folder):
         ("late.csv", b"0123456789ABCDEF,1\n", None),
         ("date.log", b"(2023-11-14 22:13:20.000000)" + body, date),
         ("bracket.log", b"(1700000000,000000)" + body, None),
-        ("nine.log", b"(1700000000.000000000)" + body, nanoseconds),
-        ("since.log", b"(0.000000000)" + body, nanoseconds),
+        ("nine.log", b"(1700000000.000000000)" + body, decimals),
+        ("seven.log", b"(1700000000.0000000)" + body, decimals),
+        ("since.log", b"(0.000000000)" + body, decimals),
         ("five.log", b"(1700000000.00000)" + body, None),
         ("second.log", lines + b"(1700000001.000000000)" + body, None),
         ("text.log", b"no log\n", None),

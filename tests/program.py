@@ -237,7 +237,7 @@ def devices(cases):
 
 
 def one_stream(cases):
-    """One pipe, socket or terminal for both logs of a comparison is told before a byte of it is read; a file is read twice."""
+    """One pipe or terminal for both logs of a comparison is told before a byte of it is read; a file is read twice."""
     words, told = ["compare", "/dev/stdin", "/dev/fd/0"], b"both logs are the same stream\n"
     for name, (ours, theirs) in [("pipe", os.pipe()[::-1]), ("terminal", os.openpty())]:
         os.write(ours, FIRST_LOG + b"\n")

@@ -67,8 +67,8 @@ pub record RanFile {F W E : Type 0} (file : SourceGhosts F) (output : TargetGhos
 abbrev pub Unopened : {W E : Type 0} → TargetGhosts E → List ℕ → Which → W → E → ℕ → Option Known → W → E → Type 0
 Unopened errors line which old unsaid status known new said = (status ≡ 4) × (new ≡ old) × Took errors line unsaid said × IsKnownUnopened which known
 
--- both logs are one pipe, socket or terminal, of which each byte is read once: that is told, no more is known, and the output
--- is left alone
+-- both logs are one pipe or terminal, of which each byte is read once: that is told, no more is known, and the output is left
+-- alone
 abbrev pub OneStream : {W E : Type 0} → TargetGhosts E → W → E → ℕ → Option Known → W → E → Type 0
 OneStream errors old unsaid status known new said = (status ≡ 2) × (new ≡ old) × Took errors one_stream_line unsaid said × (known ≡ None)
 

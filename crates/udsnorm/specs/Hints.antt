@@ -78,7 +78,7 @@ look_words look.Screen = codes " looks like candump's form for the screen; candu
 look_words look.Asc = codes " looks like a Vector ASC file; asc2log converts it\n"
 look_words look.Date = codes " looks like a log whose stamps have a date; date +%s.%6N makes seconds of one\n"
 look_words look.Csv = codes " looks like a CSV file; python-can converts one\n"
-look_words look.Nanoseconds = codes " looks like a log whose stamps have nine decimals; leave out the last three\n"
+look_words look.Nanoseconds = codes " looks like a log whose stamps have more than six decimals; leave out those behind the sixth\n"
 
 -- the line of a hint about this log
 abbrev pub hint_line : Matter → Option (List ℕ) → List ℕ

@@ -238,7 +238,7 @@ fn look_words(look: Look) -> &'static str
         }
         Look::Csv => " looks like a CSV file; python-can converts one\n",
         Look::Nanoseconds => {
-            " looks like a log whose stamps have nine decimals; leave out the last three\n"
+            " looks like a log whose stamps have more than six decimals; leave out those behind the sixth\n"
         }
     }
 }
