@@ -6,12 +6,12 @@ use Rattle.trace_canon.specs.Failing.{FailedIf}
 use Rattle.trace_canon.specs.declared.fault.CompareFault.{CompareFault}
 use Rattle.trace_canon.specs.declared.fault.CompareFault.TheVariants.{Left, Right}
 use Rattle.trace_canon.specs.declared.fault.Fault.{Fault}
-use Rattle.trace_canon.specs.declared.fault.Fault.TheVariants.{Read, Write}
+use Rattle.trace_canon.specs.declared.fault.Fault.TheVariants.{Memory, Read, Write}
 use Rattle.trace_canon.specs.declared.summary.Summary.{Summary}
 use Rattle.trace_io.specs.Stream.{Agrees, Took}
 use Rattle.trace_io.specs.declared.device.Source.{Ghosts as SourceGhosts}
 use Rattle.trace_io.specs.declared.device.Target.{Ghosts as TargetGhosts}
-use Rattle.udsnorm.specs.Commands.{EngineAnswers, EngineReads, PairEngineAnswers, PairEngineReads, has_text}
+use Rattle.udsnorm.specs.Commands.{EngineAnswers, EngineNeeds, EngineReads, PairEngineAnswers, PairEngineNeeds, PairEngineReads, has_text}
 use Rattle.udsnorm.specs.Ending.{ComesTo, answer_written, flushes, status_of_run, status_of_run_of_two}
 use Rattle.udsnorm.specs.FaultLines.{run_text, run_two_text}
 use Rattle.udsnorm.specs.Telling.{TookText, WroteText}
@@ -27,6 +27,8 @@ pub record RanOne {R W E : Type 0} (source : SourceGhosts R) (output : TargetGho
   pub answer : Result Summary Fault
   pub engine : (log : List ℕ) → Agrees (source.given before) (source.given after) (source.is_over after) log
       → EngineAnswers job name limit settings log (length (source.given after) - length (source.given before)) answer (output.taken old) (output.taken new)
+  -- memory was refused, with status 5, only for a log that needs it
+  pub memory : (log : List ℕ) → Agrees (source.given before) (source.given after) (source.is_over after) log → status ≡ 5 → EngineNeeds job name limit settings log
   -- reading stopped within one piece of what refuses the log
   pub near : (log : List ℕ) → Agrees (source.given before) (source.given after) (source.is_over after) log
       → EngineReads job name limit settings log (length (source.given after) - length (source.given before)) (source.failures before) (source.failures after)
@@ -56,6 +58,11 @@ pub record RanTwo {A B W E : Type 0} (left : SourceGhosts A) (right : SourceGhos
       → PairEngineAnswers job left_name right_name strict limit settings a b answer text
   -- after a fault of the left log nothing of the right one was read
   pub unread : (fault : Fault) → answer ≡ Err (Left fault) → other_now ≡ other
+  -- memory was refused only for a log that needs it
+  pub left_memory : (a : List ℕ) → Agrees (left.given one) (left.given one_now) (left.is_over one_now) a → answer ≡ Err (Left Memory)
+      → PairEngineNeeds job left_name right_name limit settings a
+  pub right_memory : (b : List ℕ) → Agrees (right.given other) (right.given other_now) (right.is_over other_now) b → answer ≡ Err (Right Memory)
+      → PairEngineNeeds job left_name right_name limit settings b
   -- reading stopped within one piece of what refuses a log
   pub left_near : (a : List ℕ) → Agrees (left.given one) (left.given one_now) (left.is_over one_now) a
       → PairEngineReads job left_name right_name limit settings a (length (left.given one_now) - length (left.given one)) (left.failures one) (left.failures one_now)
