@@ -135,9 +135,9 @@ command_entries =
     ∷ record { name = codes "compare"; rules = sides ++ usual_limit ++ two_logs ++ showing ++ as_json ++ strictly; task = λ rows. task.Two (pair_job.Compare (comparison_style_in rows)) }
     ∷ []
 
--- What is known of the call that does a job over one log: it is `normalise`, or writes a text of the items of the meaning, or of the
--- pairs of identifiers, at the end; or it is the run of a machine, of which all is known by its script and by the frames for which
--- the machine needs memory. A page's script is in some style.
+-- What is known of the call that does a job over one log: it is `normalise`, or writes a text of the items of the
+-- meaning, or of the pairs of identifiers, at the end; or it is the run of a machine, of which all is known by its
+-- script and by the frames for which the machine needs memory. A page's script is in some style.
 pub data Engine : Type 1 where
   normalises : Engine
   writes : TextOfItems → Engine
@@ -154,8 +154,8 @@ answers_of (runs script needs) limit settings log given result old new = Answers
 answers_of (runs_in_style script) limit settings log given result old new =
     (style : List ℕ) × AnswersTold (script style settings limit) answers_counts limit settings log given result old new
 
--- nothing refuses the log for it among so many of its bytes; no length that is announced does this for one that is known by its
--- script, nor for `find`
+-- nothing refuses the log for it among so many of its bytes; no length that is announced does this for one that is
+-- known by its script, nor for `find`
 abbrev pub unrefused_of : Engine → ℕ → Settings → List ℕ → ℕ → Type 0
 unrefused_of normalises limit settings log = IsNotRefusedWithin limit settings log
 unrefused_of (writes text) limit settings log = IsNotRefusedWithin limit settings log
@@ -163,8 +163,8 @@ unrefused_of (finds notation) limit settings log = HasNoBadPlaceWithin log
 unrefused_of (runs script needs) limit settings log = HasNoBadPlaceWithin log
 unrefused_of (runs_in_style script) limit settings log = HasNoBadPlaceWithin log
 
--- The log needs memory for it: it has a frame whose bytes are kept for a message of several, or one that completes a message which
--- the engine keeps; or, for `find`, an answer that is credited.
+-- The log needs memory for it: it has a frame whose bytes are kept for a message of several, or one that completes a
+-- message which the engine keeps; or, for `find`, an answer that is credited.
 abbrev pub needs_of : Engine → ℕ → Settings → List ℕ → Type 0
 needs_of normalises limit settings log = NeedsMemoryToOrder limit settings log
 needs_of (writes text) limit settings log = NeedsMemoryToCollect limit settings log
@@ -172,8 +172,8 @@ needs_of (finds notation) limit settings log = NeedsMemoryToFind log
 needs_of (runs script needs) limit settings log = HasFrame (λ T e. IsKeptForMessage limit T e ⊎ needs limit T e) settings log
 needs_of (runs_in_style script) limit settings log = NeedsMemoryToReceive limit settings log
 
--- What is known of a run of any engine: what was answered and written, that memory was refused only for a log that needs it, how near
--- to what refuses the log it stopped reading, and what it did with its devices.
+-- What is known of a run of any engine: what was answered and written, that memory was refused only for a log that
+-- needs it, how near to what refuses the log it stopped reading, and what it did with its devices.
 pub record RanAny {R W : Type 0} (source : SourceGhosts R) (target : TargetGhosts W) (engine : Engine) (limit : ℕ) (settings : Settings) (before : R) (old : W) (result : Result Summary Fault) (after : R) (new : W) : Type 0 where
   pub answer : (log : List ℕ) → Agrees (source.given before) (source.given after) (source.is_over after) log
       → answers_of engine limit settings log (length (source.given after) - length (source.given before)) result (target.taken old) (target.taken new)
@@ -229,8 +229,9 @@ abbrev pub right_file : PairJob → Text
 right_file (pair_job.Compare style) = codes "B"
 right_file pair_job.Report = codes "OTHER"
 
--- What is known of a call that reads two logs and writes a text: what it answers, where they have to be clean or not, and the text;
--- for which log it may be refused memory; and that nothing refuses a log for it among so many of its bytes.
+-- What is known of a call that reads two logs and writes a text: what it answers, where they have to be clean or not,
+-- and the text; for which log it may be refused memory; and that nothing refuses a log for it among so many of its
+-- bytes.
 pub record PairEngine : Type 1 where
   pub answers : Bool → ℕ → Settings → List ℕ → List ℕ → Result PairAnswer CompareFault → List ℕ → Type 0
   pub needs : ℕ → Settings → List ℕ → Type 0
@@ -262,8 +263,8 @@ PagesPair left_name right_name strict limit settings one other (Ok pair) text =
 PagesPair left_name right_name strict limit settings one other (Err fault) text =
     (style : List ℕ) × HoldsTwo limit settings one other (Err fault) × (text ≡ pair_page (pair_title style left_name right_name settings) (Err fault))
 
--- the job has a text of this answer: a comparison of logs of which each is clean that has to be; a page of all logs but those of which a
--- device failed or memory was refused
+-- the job has a text of this answer: a comparison of logs of which each is clean that has to be; a page of all logs but
+-- those of which a device failed or memory was refused
 abbrev pub has_text : PairJob → Bool → Result PairAnswer CompareFault → Bool
 has_text (pair_job.Compare style) strict (Ok pair) = not (has_unclean strict pair)
 has_text (pair_job.Compare style) strict (Err fault) = false

@@ -11,14 +11,14 @@ use Rattle.trace_canon.specs.declared.summary.Summary.{Summary}
 use Rattle.udsnorm.specs.Status.{is_refusal, status_of}
 use Rattle.udsnorm.specs.declared.pair_jobs.PairAnswer.{PairAnswer}
 
--- Whether the output is flushed after this answer, where it took these bytes: after an `Ok`, and after a refused log where it
--- took any. After a failed device or refused memory it is not.
+-- Whether the output is flushed after this answer, where it took these bytes: after an `Ok`, and after a refused log
+-- where it took any. After a failed device or refused memory it is not.
 abbrev pub flushes : {A : Type 0} → Result A Fault → List ℕ → Bool
 flushes (Ok value) taken = true
 flushes (Err fault) taken = is_refusal fault && nat_lt 0 (length taken)
 
--- What a run comes to that is flushed after this answer or is not, by the failures and the flushes of its output and whether
--- that is flushed: the answer, with one flush more or none, or a failed write where the flush failed.
+-- What a run comes to that is flushed after this answer or is not, by the failures and the flushes of its output and
+-- whether that is flushed: the answer, with one flush more or none, or a failed write where the flush failed.
 abbrev pub EndsAs : {A : Type 0} → Bool → Result A Fault → ℕ → ℕ → ℕ → ℕ → Bool → Result A Fault → Type 0
 EndsAs false answer failures failures_now times times_now is_flushed outcome = (outcome ≡ answer) × (failures_now ≡ failures) × (times_now ≡ times)
 EndsAs true answer failures failures_now times times_now is_flushed outcome =

@@ -126,8 +126,8 @@ abbrev pub subject_of_words : List Text → Option Subject
 subject_of_words [] = None
 subject_of_words (word ∷ rest) = Some (record { about = matter.NoCommand; log = Some word })
 
--- what the hint is about: what is known of the run, or of words that ask for nothing that the first is a file's name, which the
--- file system says
+-- what the hint is about: what is known of the run, or of words that ask for nothing that the first is a file's name,
+-- which the file system says
 abbrev pub IsSubject : Result Plan WordsFault → List Text → Option Known → Option Subject → Type 0
 IsSubject (Ok plan) given known subject = subject ≡ subject_of_plan plan known
 IsSubject (Err (words.Words text)) given known subject = (subject ≡ None) ⊎ (subject ≡ subject_of_words given)

@@ -32,17 +32,18 @@ abbrev pub knows_look : Which → Option Look → Option Known
 knows_look which None = None
 knows_look which (Some look) = knows which (matter.Looks look)
 
--- What is known of this log that is refused at this place, whose source gave these bytes and was over or not. Where it was over,
--- nothing before the end was refused: the last line is cut. Else it is known that a line lacks its stamp, or what the log looks
--- like.
+-- What is known of this log that is refused at this place, whose source gave these bytes and was over or not. Where it
+-- was over, nothing before the end was refused: the last line is cut. Else it is known that a line lacks its stamp, or
+-- what the log looks like.
 abbrev pub knows_refused : Which → List ℕ → Bool → ℕ → ℕ → Option Known
 knows_refused which given is_over line column =
     if is_over then knows which matter.Cut
     else if lacks_stamp (take KEPT given) line column then knows which (matter.NoStamp line)
     else knows_look which (look_of (take KEPT given) line column)
 
--- What is known of a log by the fault of a run over it, whose source gave these bytes and was over or not: what it looks like
--- where it is no log, the limit where that is passed, and that the log can't be read, which a folder can't; and else nothing.
+-- What is known of a log by the fault of a run over it, whose source gave these bytes and was over or not: what it
+-- looks like where it is no log, the limit where that is passed, and that the log can't be read, which a folder can't;
+-- and else nothing.
 abbrev pub IsKnownByFault : Which → Settings → List ℕ → Bool → Fault → Option Known → Type 0
 IsKnownByFault which settings given is_over (BadLine line column) known = known ≡ knows_refused which given is_over line column
 IsKnownByFault which settings given is_over (Oversize line announced) known = known ≡ None
@@ -73,25 +74,27 @@ abbrev pub knows_dropped_for : Job → ℕ → Option Known
 knows_dropped_for (job.Explain notation) count = None
 knows_dropped_for other count = knows_dropped count
 
--- What is known of a log that was accepted, by the job over it, the identifiers, its counts and what the output took: that it has
--- no pair, where the job was to find some; and else that it has no frame with one of the identifiers, or how many were dropped.
+-- What is known of a log that was accepted, by the job over it, the identifiers, its counts and what the output took:
+-- that it has no pair, where the job was to find some; and else that it has no frame with one of the identifiers, or
+-- how many were dropped.
 abbrev pub known_of_done : Job → Settings → Summary → List ℕ → Option Known
 known_of_done (job.Find notation) settings summary taken = knows_no_pair taken
 known_of_done other settings summary taken = if is_foreign summary then knows_foreign First settings else knows_dropped_for other summary.dropped
 
--- what is known of two logs that were accepted: of the first one that has no frame with one of the identifiers, that it has none
+-- what is known of two logs that were accepted: of the first one that has no frame with one of the identifiers, that it
+-- has none
 abbrev pub known_of_pair : Settings → PairAnswer → Option Known
 known_of_pair settings pair =
     if is_foreign pair.left then knows_foreign First settings else if is_foreign pair.right then knows_foreign Second settings else None
 
--- what is known of a log by the outcome of a job over it, whose source gave these bytes and was over or not, and of which the
--- output took this
+-- what is known of a log by the outcome of a job over it, whose source gave these bytes and was over or not, and of
+-- which the output took this
 abbrev pub IsKnownBy : Job → Settings → List ℕ → Bool → Result Summary Fault → List ℕ → Option Known → Type 0
 IsKnownBy job settings given is_over (Ok summary) taken known = known ≡ known_of_done job settings summary taken
 IsKnownBy job settings given is_over (Err fault) taken known = IsKnownByFault First settings given is_over fault known
 
--- what is known of one of two logs by an answer of which the text was written: of the one of which a fault is told, by what the
--- sources of both gave and whether they were over, and else by the counts of both
+-- what is known of one of two logs by an answer of which the text was written: of the one of which a fault is told, by
+-- what the sources of both gave and whether they were over, and else by the counts of both
 abbrev pub IsKnownByTwo : Settings → List ℕ → Bool → List ℕ → Bool → Option (Result PairAnswer CompareFault) → Option Known → Type 0
 IsKnownByTwo settings left left_over right right_over None known = known ≡ None
 IsKnownByTwo settings left left_over right right_over (Some (Ok pair)) known = known ≡ known_of_pair settings pair

@@ -19,8 +19,8 @@ use Rattle.udsnorm.specs.declared.commands.Job.{Job}
 use Rattle.udsnorm.specs.declared.pair_jobs.PairAnswer.{PairAnswer}
 use Rattle.udsnorm.specs.declared.pair_jobs.PairJob.{PairJob}
 
--- What a run over one log did, which has this name on a page and has to be clean where the run is strict: from its input to its output and its error
--- output, its exit status, and the outcome that this is of.
+-- What a run over one log did, which has this name on a page and has to be clean where the run is strict: from its
+-- input to its output and its error output, its exit status, and the outcome that this is of.
 pub record RanOne {R W E : Type 0} (source : SourceGhosts R) (output : TargetGhosts W) (errors : TargetGhosts E) (job : Job) (name : List ℕ) (strict : Bool) (limit : ℕ) (settings : Settings)
     (before : R) (old : W) (unsaid : E) (status : ℕ) (outcome : Result Summary Fault) (after : R) (new : W) (said : E) : Type 0 where
   -- what the engine answered, and what the output took, for each log with which the bytes that were read agree
@@ -47,8 +47,9 @@ pub record RanOne {R W E : Type 0} (source : SourceGhosts R) (output : TargetGho
   -- the error output took the text of what it came to
   pub told : TookText (run_text strict outcome) (errors.failures unsaid) (errors.failures said) (errors.taken unsaid) (errors.taken said)
 
--- What a run over two logs did, which have these names on a page and have to be clean where the run is strict: from its inputs to
--- its output and its error output, its exit status, and what was answered, where the text of that was written.
+-- What a run over two logs did, which have these names on a page and have to be clean where the run is strict: from its
+-- inputs to its output and its error output, its exit status, and what was answered, where the text of that was
+-- written.
 pub record RanTwo {A B W E : Type 0} (left : SourceGhosts A) (right : SourceGhosts B) (output : TargetGhosts W) (errors : TargetGhosts E) (job : PairJob) (left_name right_name : List ℕ)
     (strict : Bool) (limit : ℕ) (settings : Settings) (one : A) (other : B) (old : W) (unsaid : E) (status : ℕ) (written : Option (Result PairAnswer CompareFault)) (one_now : A) (other_now : B) (new : W) (said : E) : Type 0 where
   -- what the engine answered, and its text, for all logs with which the bytes that were read agree

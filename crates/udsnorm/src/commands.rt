@@ -166,7 +166,14 @@ pub(crate) const COMMANDS: &[CommandRow] = &[
         name: "compare",
         about: "Says whether two logs have the same exchanges and stray messages",
         after_help: OF_COMPARE,
-        arguments: &[SIDES, USUAL_LIMIT_OF_BOTH, TWO_LOGS, SHOWING, AS_JSON, STRICTLY],
+        arguments: &[
+            SIDES,
+            USUAL_LIMIT_OF_BOTH,
+            TWO_LOGS,
+            SHOWING,
+            AS_JSON,
+            STRICTLY,
+        ],
     },
 ];
 

@@ -276,8 +276,8 @@ fn known_of<R>(which: Which, config: &Config, fault: Fault, log: &Noticing<R>) -
     }
 }
 
-/// What is known of a log that is refused at this place. Nothing is read behind a refused byte: so where all of the log was,
-/// the place is behind its last one.
+/// What is known of a log that is refused at this place. Nothing is read behind a refused byte: so where all of the log
+/// was, the place is behind its last one.
 fn known_of_place<R>(which: Which, line: u64, column: u32, log: &Noticing<R>) -> Option<Known>
     ensures { result ≡ knows_refused which log.now.given log.now.is_over line column }
 {

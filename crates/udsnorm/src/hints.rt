@@ -48,8 +48,8 @@ pub(crate) struct Subject<'a> {
     pub(crate) log: Option<&'a str>,
 }
 
-/// Tells the hint of a run, where there is one. Where the text of the run could not be told, or memory is refused, it is left
-/// out.
+/// Tells the hint of a run, where there is one. Where the text of the run could not be told, or memory is refused, it
+/// is left out.
 pub fn give_hint<R: AllocGlobal + Files, E: Target>(
     rt: &R,
     words: &[String],

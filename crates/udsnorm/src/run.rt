@@ -21,9 +21,9 @@ use std::alloc::Global;
 use trace_canon::{CompareFault, Comparison, Config, Fault, Summary};
 use trace_io::{Source, Target, write_all};
 
-/// Does a job over one log, which has this name on a page, and answers how that ended. The text goes to the output, which is flushed before a fault of the
-/// log is told, or that it is not clean, where the run is strict; and what is told to the error output, as far as that takes
-/// it.
+/// Does a job over one log, which has this name on a page, and answers how that ended. The text goes to the output,
+/// which is flushed before a fault of the log is told, or that it is not clean, where the run is strict; and what is
+/// told to the error output, as far as that takes it.
 pub fn run_one<R: Source, W: Target, E: Target>(
     alloc: Global,
     job: Job,
@@ -111,9 +111,9 @@ fn tell_outcome<E: Target>(outcome: Result<Summary, Fault>, strict: bool, err: &
     }
 }
 
-/// Does a job over two logs, which have these names on a page, the left one read whole before the right one, and answers how
-/// that ended. The text goes to the output, which is flushed before a fault of a log is told, or which one is not clean, where
-/// the run is strict; and what is told to the error output, as far as that takes it.
+/// Does a job over two logs, which have these names on a page, the left one read whole before the right one, and
+/// answers how that ended. The text goes to the output, which is flushed before a fault of a log is told, or which one
+/// is not clean, where the run is strict; and what is told to the error output, as far as that takes it.
 pub fn run_two<A: Source, B: Source, W: Target, E: Target>(
     alloc: Global,
     job: PairJob,
@@ -134,7 +134,8 @@ pub fn run_two<A: Source, B: Source, W: Target, E: Target>(
     // What the engine answered, what was read and written, and what the run came to: its status and what is told of it.
     ensures ran { RanTwo A.Source B.Source W.Target E.Target job left_name.now right_name.now strict MESSAGE_LIMIT config.now left.old right.old out.old err.old result.status result.answer left.new right.new out.new err.new }
 
-    // Where both logs were accepted, and clean where they had to be, the output was flushed last and once, and nothing was told.
+    // Where both logs were accepted, and clean where they had to be, the output was flushed last and once, and nothing
+    // was told.
     ensures flushed { result.status ≤ 1 → W.is_flushed out.new ≡ true }
     ensures once { result.status ≤ 1 → W.flushes out.new ≡ W.flushes out.old + 1 }
     ensures flushes { W.flushes out.new ≤ W.flushes out.old + 1 }
@@ -185,8 +186,8 @@ fn answer_written(
     if wrote { Some(answer) } else { None }
 }
 
-/// Tells what a run over two logs came to, where its text was not written, or that is a fault, or a log has to be clean and is
-/// not. Answers the exit status.
+/// Tells what a run over two logs came to, where its text was not written, or that is a fault, or a log has to be clean
+/// and is not. Answers the exit status.
 fn tell_pair<E: Target>(
     answer: &Result<PairAnswer, CompareFault>,
     wrote: bool,
