@@ -179,7 +179,7 @@ def foreign(cases, folder):
         hinted(cases, f"no frame of {shlex.join(given)}", given, folder, 0, hint.format(*hint_of))
     hinted(cases, "no frame of standard input", ["list"], folder, 0, hint.format("standard input", "7E0 or 7E8", ""), log=other)
     hinted(cases, "no frame of a log that has to be clean", ["list", "--strict", "other.log"], folder, UNCLEAN, usual)
-    hinted(cases, "one frame of a side", ["list", "--tester", "7E0", "--unit", "7FF", "mine.log"], folder, 0, None)
+    hinted(cases, "one frame of a side", ["list", "--tester", "7E0", "--unit", "7FF", "mine.log"], folder, 0, "dropped frames in mine.log: 1; udsnorm explain shows where")
     for job in ["compare", "report"]:
         for left, right, status in [("other.log", "mine.log", 1), ("mine.log", "other.log", 1), ("other.log", "an other.log", 0)]:
             hinted(cases, f"{job} {left} {right}", [job, left, right], folder, status, usual)

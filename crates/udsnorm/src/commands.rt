@@ -227,7 +227,7 @@ const USUAL_LIMIT: &[Argument] = &[Argument::Limit {
 /// Where a canonical log has the same limit.
 const USUAL_LIMIT_OF_BOTH: &[Argument] = &[Argument::Limit {
     default: USUALLY,
-    help: "Most bytes of a log, and of its canonical log, up to 2^40",
+    help: "Most bytes of log and canonical log, up to 2^40",
 }];
 
 const LARGEST_LIMIT: &[Argument] = &[Argument::Limit {
@@ -238,7 +238,7 @@ const LARGEST_LIMIT: &[Argument] = &[Argument::Limit {
 /// The limit that most commands have where none is given: a gibibyte.
 const USUALLY: &str = "1073741824";
 
-const OF_THE_LOG: &str = "Most bytes of a log, up to 2^40";
+const OF_THE_LOG: &str = "Most bytes of the log, up to 2^40";
 
 const WITHOUT_NUMBERS: &[Argument] = &[Argument::Flag {
     name: NO_NUMBERS,
