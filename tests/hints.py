@@ -169,8 +169,40 @@ def pairs(cases, folder):
     for given in [["find", "request.log"], ["find", "--json", "request.log"]]:
         hinted(cases, f"no pair for {shlex.join(given)}", given, folder, 0, hint.format("request.log"))
     hinted(cases, "no pair in no log", ["find"], folder, 0, hint.format("standard input"))
-    for given in [["find", "mine.log"], ["find", "--json", "mine.log"], ["list", "--tester", "701", "--unit", "709", "mine.log"]]:
+    for given in [["find", "mine.log"], ["find", "--json", "mine.log"]]:
         hinted(cases, f"nothing of {shlex.join(given)}", given, folder, 0, None)
+
+
+def foreign(cases, folder):
+    """A log that has lines, and no frame of either identifier: each job but `find` is told so."""
+    other = VIN.read_bytes().replace(b"7E0#", b"18DA10F1#").replace(b"7E8#", b"18DAF110#")
+    no_frame = b"(1.000000) can0 20000080#0000000000000000\n"
+    for name, log in [("other.log", other), ("an other.log", other), ("-other.log", other), ("error.log", no_frame), ("blank.log", b"\n"), ("empty.log", b"")]:
+        Path(folder, name).write_bytes(log)
+    hint = "{} has no frame of {}; udsnorm find{} names its identifiers"
+    usual = hint.format("other.log", "7E0 or 7E8", " other.log")
+    for job in over_one_log(cases.program):
+        told = "nothing in {} answers another identifier; find needs the frames of both sides, and looks at each identifier up to 1FFFFFFF"
+        found = job == "find"
+        hinted(cases, f"{job} of other identifiers", [job, "other.log"], folder, 0, None if found else usual)
+        hinted(cases, f"{job} of no frames", [job, "error.log"], folder, 0, told.format("error.log") if found else hint.format("error.log", "7E0 or 7E8", " error.log"))
+        hinted(cases, f"{job} of a blank line", [job, "blank.log"], folder, 0, told.format("blank.log") if found else hint.format("blank.log", "7E0 or 7E8", " blank.log"))
+        hinted(cases, f"{job} of an empty log", [job, "empty.log"], folder, 0, told.format("empty.log") if found else None)
+    for given, hint_of in [
+        (["list", "an other.log"], ("$'an other.log'", "7E0 or 7E8", " $'an other.log'")),
+        (["list", "--", "-other.log"], ("-other.log", "7E0 or 7E8", " -- -other.log")),
+        (["list", "--tester", "7e1", "--unit", "00000709", "mine.log"], ("mine.log", "7E1 or 00000709", " mine.log")),
+    ]:
+        hinted(cases, f"no frame of {shlex.join(given)}", given, folder, 0, hint.format(*hint_of))
+    hinted(cases, "no frame of standard input", ["list"], folder, 0, hint.format("standard input", "7E0 or 7E8", ""), log=other)
+    hinted(cases, "no frame of a log that has to be clean", ["list", "--strict", "other.log"], folder, UNCLEAN, usual)
+    hinted(cases, "one frame of a side", ["list", "--tester", "7E0", "--unit", "7FF", "mine.log"], folder, 0, "dropped frames in mine.log: 1; udsnorm explain shows where")
+    for job in ["compare", "report"]:
+        for left, right, status in [("other.log", "mine.log", 1), ("mine.log", "other.log", 1), ("other.log", "an other.log", 0)]:
+            hinted(cases, f"{job} {left} {right}", [job, left, right], folder, status, usual)
+        hinted(cases, f"{job} mine.log empty.log", [job, "mine.log", "empty.log"], folder, 1, None)
+        hinted(cases, f"{job} empty.log other.log", [job, "empty.log", "other.log"], folder, 0, usual)
+    hinted(cases, "compare --strict", ["compare", "--strict", "mine.log", "other.log"], folder, UNCLEAN, usual)
 
 
 def looks(cases, folder):
@@ -178,7 +210,7 @@ def looks(cases, folder):
     lines = VIN.read_bytes()
     body = b" can0 7E0#0322F190\n"
     date = "looks like a log whose stamps have a date; date +%s.%6N makes seconds of one"
-    nanoseconds = "looks like a log whose stamps have nine decimals; leave out the last three"
+    decimals = "looks like a log whose stamps have more than six decimals; leave out those behind the sixth"
     screen = "looks like candump's form for the screen; candump -L and candump -l record a log"
     mark = "begins with a byte order mark, which an editor has put in front; save it without"
     asc, csv = "looks like a Vector ASC file; asc2log converts it", "looks like a CSV file; python-can converts one"
@@ -201,8 +233,9 @@ def looks(cases, folder):
         ("late.csv", b"0123456789ABCDEF,1\n", None),
         ("date.log", b"(2023-11-14 22:13:20.000000)" + body, date),
         ("bracket.log", b"(1700000000,000000)" + body, None),
-        ("nine.log", b"(1700000000.000000000)" + body, nanoseconds),
-        ("since.log", b"(0.000000000)" + body, nanoseconds),
+        ("nine.log", b"(1700000000.000000000)" + body, decimals),
+        ("seven.log", b"(1700000000.0000000)" + body, decimals),
+        ("since.log", b"(0.000000000)" + body, decimals),
         ("five.log", b"(1700000000.00000)" + body, None),
         ("second.log", lines + b"(1700000001.000000000)" + body, None),
         ("text.log", b"no log\n", None),
@@ -269,7 +302,7 @@ def main():
         sys.exit(__doc__)
     cases = Cases(os.path.abspath(sys.argv[1]))
     with tempfile.TemporaryDirectory() as folder:
-        for test in [files, denied, limits, names, words, pairs, looks, compressed, cut, drops, silent]:
+        for test in [files, denied, limits, names, words, pairs, foreign, looks, compressed, cut, drops, silent]:
             test(cases, folder)
     cases.end()
 

@@ -56,7 +56,8 @@ known IsFault Read memory is not = absurd (not refl)
 known IsFault Write memory is not = (memory, record { no_read = λ wrong. absurd (cc wrong); no_write = λ wrong. absurd (cc wrong) })
 known IsFault Memory memory is not = (memory, record { no_read = λ wrong. absurd (cc wrong); no_write = λ wrong. absurd (cc wrong) })
 
--- So an answer over devices is one over memory: what it says of the text and the counts, and of a fault, is said of what was gathered.
+-- So an answer over devices is one over memory: what it says of the text and the counts, and of a fault, is said of
+-- what was gathered.
 pub gathered : {C : Type 0} (IsCounted : C → Type 0) (IsFault : Fault → Type 0) (counted_with : Summary → C) (answer : Result Summary Fault) (result : Result C Fault)
     → MatchResult answer (λ summary. IsCounted (counted_with summary)) (λ fault. IsFault (fault_in_memory fault))
     → MatchResult answer (λ summary. result ≡ Ok (counted_with summary)) (λ fault. result ≡ Err (fault_in_memory fault))

@@ -41,7 +41,8 @@ module _ (word : List Entry → Entry → List ℕ) (last : List Entry → Summa
       subst (Certifies MESSAGE_LIMIT settings log) same (lines_certify MESSAGE_LIMIT settings log meanings (omega arith) is.1)
   certifies settings log given (Err why) old new answers = tt
 
--- the same of any script that is not strict, and of what is answered at the end, if that is never that the output is too long
+-- the same of any script that is not strict, and of what is answered at the end, if that is never that the output is
+-- too long
 module _ {A : Type 0} (script : Script) (answers : Answering A) (is_lenient : script.strict ≡ false)
     (has_answer : (T : List Entry) (summary : Summary) → answers T summary (Err stop.OutputLimit) → ⊥) where
   unread : (settings : Settings) (log : List ℕ) (given : ℕ) (fault : Fault) (old new : List ℕ)

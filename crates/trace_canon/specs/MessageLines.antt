@@ -1,5 +1,5 @@
--- The text that places the messages of a log: a line for each message that is delivered, in the order of delivery, in words or
--- as an object of JSON.
+-- The text that places the messages of a log: a line for each message that is delivered, in the order of delivery, in
+-- words or as an object of JSON.
 use Rattle.std.specs.Prelude.{ℕ, ◌/◌, Bool, true, false, List, [], ◌∷◌, ◌++◌, codes, if◌then◌else◌}
 use Rattle.std.specs.Fmt.{decimal}
 use Rattle.can_log.specs.Digits as digits

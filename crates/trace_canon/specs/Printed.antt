@@ -16,8 +16,8 @@ pub record Prints {A W : Type 0} (target : Ghosts W) (text : List ℕ) (old : W)
   pub wrote : WroteTo target Write result old new
   pub only : IfErr result (λ fault. fault ≡ Write)
 
--- What is written after `old` where a log has no such text: a front of one where writing failed, and else nothing. `Is` says of
--- what a text is made, with the counts of the log.
+-- What is written after `old` where a log has no such text: a front of one where writing failed, and else nothing. `Is`
+-- says of what a text is made, with the counts of the log.
 abbrev pub LeavesOnce : {V : Type 0} → (V → List ℕ) → (V → Summary → Type 0) → Fault → List ℕ → List ℕ → Type 0
 LeavesOnce {V = V} text Is Write old new = (value : V) × (summary : Summary) × Is value summary × HasFront old (text value) new
 LeavesOnce text Is (BadLine line column) old new = new ≡ old
@@ -27,15 +27,15 @@ LeavesOnce text Is OutputLimit old new = new ≡ old
 LeavesOnce text Is Read old new = new ≡ old
 LeavesOnce text Is Memory old new = new ≡ old
 
--- What is answered by a call that writes a text at its end alone, and what is then written where `old` was before: the text,
--- and the counts; else a fault, which is known for what it is, and what that leaves.
+-- What is answered by a call that writes a text at its end alone, and what is then written where `old` was before: the
+-- text, and the counts; else a fault, which is known for what it is, and what that leaves.
 abbrev pub WritesOnce : {V : Type 0} → (V → List ℕ) → (V → Summary → Type 0) → (Fault → Type 0) → Result Summary Fault → List ℕ → List ℕ → Type 0
 WritesOnce {V = V} text Is IsFault (Ok summary) old new = (value : V) × Is value summary × (new ≡ old ++ text value)
 WritesOnce text Is IsFault (Err fault) old new = IsFault fault × LeavesOnce text Is fault old new
 
--- A run that reads a log, and then writes a text of it by itself: all that a caller knows of it. `Is` says of which logs what is
--- the text's, `IsFault` why a log has none, `IsUnrefused` that nothing refuses a log among so many of its bytes, and
--- `NeedsMemory` which logs may need some.
+-- A run that reads a log, and then writes a text of it by itself: all that a caller knows of it. `Is` says of which
+-- logs what is the text's, `IsFault` why a log has none, `IsUnrefused` that nothing refuses a log among so many of its
+-- bytes, and `NeedsMemory` which logs may need some.
 pub record RanOnce {V R W : Type 0} (source : SourceGhosts R) (target : Ghosts W) (text : V → List ℕ) (Is : List ℕ → V → Summary → Type 0) (IsFault : List ℕ → Fault → Type 0) (IsUnrefused : List ℕ → ℕ → Type 0)
     (NeedsMemory : List ℕ → Type 0) (max_bytes : ℕ) (before : R) (old : W) (result : Result Summary Fault) (after : R) (new : W) : Type 0 where
   -- what is answered and written, for each log with which the bytes that were read agree

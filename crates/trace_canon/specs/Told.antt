@@ -23,9 +23,9 @@ use Rattle.trace_canon.specs.Devices.{ReadFrom, WroteTo}
 use Rattle.trace_canon.specs.Needing.{HasFrame, IsKeptForMessage, NeedsMemoryToReceive}
 use Rattle.trace_canon.specs.Refusal.{announces_within, HasNoBadPlaceWithin, IsNotRefusedWithin}
 
--- What a command tells: of a frame, by the frames before it; at the end, by all frames and the counts; and where a line or the
--- limit refuses the log, by the frames and the counts of the lines before, and by the reason. A strict one refuses a log for a
--- first frame that announces a message above the limit.
+-- What a command tells: of a frame, by the frames before it; at the end, by all frames and the counts; and where a line
+-- or the limit refuses the log, by the frames and the counts of the lines before, and by the reason. A strict one
+-- refuses a log for a first frame that announces a message above the limit.
 pub record Script : Type 0 where
   pub strict : Bool
   pub word : List Entry → Entry → List ℕ
@@ -56,7 +56,8 @@ abbrev pub whole_of_lines : Script → ℕ → Settings → List ℕ → List (O
 whole_of_lines script limit settings log meanings =
     told script.word (trace settings meanings) ++ script.last (trace settings meanings) (summary_of limit settings log meanings)
 
--- what is told of a refusal for this reason, after lines that mean this; the counts are those of a log without a last line feed
+-- what is told of a refusal for this reason, after lines that mean this; the counts are those of a log without a last
+-- line feed
 abbrev pub refusal_of_lines : Script → ℕ → Settings → Fault → List (Option Stamped) → List ℕ
 refusal_of_lines script limit settings why meanings = script.refused (trace settings meanings) (summary_of limit settings [] meanings) why
 
@@ -160,9 +161,10 @@ FailsToTell script limit settings log given old new =
     (WritesFrontOfTold script limit settings log given Write old new × (HasToldSome script limit settings log given ⊎ EndsUnwritten script limit settings log old new))
     ⊎ RefusesUnwritten script limit settings log given old new
 
--- What is answered on a log, of which `given` bytes were given, and what is then written where `old` was before: all that is
--- told of one that can be read, and an answer or that it is too long; what is told of the lines read before, where it can't be, or reading failed,
--- and behind it what is told of a refusal for a line or the limit; and a front of what is told where writing failed or memory was refused.
+-- What is answered on a log, of which `given` bytes were given, and what is then written where `old` was before: all
+-- that is told of one that can be read, and an answer or that it is too long; what is told of the lines read before,
+-- where it can't be, or reading failed, and behind it what is told of a refusal for a line or the limit; and a front of
+-- what is told where writing failed or memory was refused.
 abbrev pub AnswersTold : {A : Type 0} → Script → Answering A → ℕ → Settings → List ℕ → ℕ → Result A Fault → List ℕ → List ℕ → Type 0
 AnswersTold script answers limit settings log given (Ok value) old new = EndsWith script answers limit settings log given (Ok value) old new
 AnswersTold script answers limit settings log given (Err OutputLimit) old new = EndsWith script answers limit settings log given (Err stop.OutputLimit) old new
@@ -192,7 +194,8 @@ pub record Ran {R W A : Type 0} (source : SourceGhosts R) (target : TargetGhosts
   -- before each read what was told was written
   pub eager : (log : List ℕ) → Agrees (source.given before) (source.given after) (source.is_over after) log
       → TellsEagerly script limit settings log (length (source.given after) - length (source.given before)) (target.taken old) (target.taken new)
-  -- memory is refused only for a log that needs it: for a message of several frames, or for a frame for which the machine needs some
+  -- memory is refused only for a log that needs it: for a message of several frames, or for a frame for which the
+  -- machine needs some
   pub memory : (log : List ℕ) → Agrees (source.given before) (source.given after) (source.is_over after) log
       → result ≡ Err Memory → HasFrame (λ T e. IsKeptForMessage limit T e ⊎ needs T e) settings log
   -- reading stops within one piece

@@ -75,8 +75,8 @@ pub fn run_lenient<M: Machine + Drop, R: Source, W: Target>(
     run(alloc, config, machine, reader, writer)
 }
 
-/// Ends a run on a fault, and answers what that is called. The machine is told of a line or a limit that refuses the log, and
-/// what was said is written. A fault of a device stands as it is.
+/// Ends a run on a fault, and answers what that is called. The machine is told of a line or a limit that refuses the
+/// log, and what was said is written. A fault of a device stands as it is.
 fn give_up<M: Machine + Drop, W: Target>(
     fault: Fault,
     receiver: Receiver<M, W>,

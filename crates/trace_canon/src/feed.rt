@@ -14,8 +14,8 @@ use crate::lines::{LineTaker, PIECE, take_last_line, take_lines};
 use can_log::Scanner;
 use trace_io::Source;
 
-/// Takes the lines of a log one by one, as they come, and answers whether its last byte is a line feed. Before each read the
-/// taker writes what is due. A fault of a device is [`Fault::Read`] or [`Fault::Write`].
+/// Takes the lines of a log one by one, as they come, and answers whether its last byte is a line feed. Before each
+/// read the taker writes what is due. A fault of a device is [`Fault::Read`] or [`Fault::Write`].
 pub(crate) fn feed_lines<R: Source, T: LineTaker>(
     max_bytes: u64,
     reader: &mut R,

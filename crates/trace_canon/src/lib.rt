@@ -33,10 +33,15 @@
 //! a `page`, which is written where it is full and before more is read. The machine sees no device: `driver` joins the two
 //! ends, and makes each fault of theirs one of [`Fault`].
 //!
-//! Each command is a machine: [`normalise`] (`normaliser`, and `canonical_sink` for its lines), [`explain`] (`explainer`),
-//! [`messages`] (`placer`, and `begun` for where a message began), [`watch`] (`watcher`) and the one that collects what a
-//! log means (`collector`). On that stand [`meaning_of`], [`compare`]
-//! (`comparing`), and each text of the items (`item_text`), as that of [`list`] (`lister`, `item_lines`).
+//! What tells of a log while it comes is a machine: [`normalise`] (`normaliser`, and `canonical_sink` for its lines),
+//! [`explain`] (`explainer`, and `remark` for what a line of it tells), [`messages`] (`placer`, and `begun` for where a
+//! message began) and [`watch`] (`watcher`). So is what collects the meaning of a log (`collector`): on it stand
+//! [`meaning_of`], [`compare`] (`comparing`), and each text of the items (`item_text`), as that of [`list`] (`lister`,
+//! `item_lines`).
+//!
+//! [`find`] (`finding`) is none: it hears every frame, whatever its identifier (`hearing`), and has no receiver.
+//! [`counted`] answers of a log in memory with a text and the counts, and [`in_memory`] with a text, a meaning or a
+//! comparison alone.
 #![tactic(auto)]
 
 pub mod begun;

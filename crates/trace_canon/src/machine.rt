@@ -24,8 +24,8 @@ pub enum Stop {
     OutputLimit,
 }
 
-/// A command's machine. It is handed what each frame did, in order, and the end or why the log is refused, and says its text. It
-/// sees no source and no target.
+/// A command's machine. It is handed what each frame did, in order, and the end or why the log is refused, and says its
+/// text. It sees no source and no target.
 pub trait Machine {
     /// What it answers at the end.
     type Answer: Drop;
@@ -75,8 +75,8 @@ pub trait Machine {
         ensures answered { (start : Self) (T : List Entry) → stands start T self → pair.now.receptions ≡ receptions_after MESSAGE_LIMIT T
             → answers start T summary.now result };
 
-    /// Takes why the log is refused, where a line or the limit of the log refuses it, and the counts of the lines before. No event
-    /// and no end follows. The counts are those of a log that ends in no line feed.
+    /// Takes why the log is refused, where a line or the limit of the log refuses it, and the counts of the lines
+    /// before. No event and no end follows. The counts are those of a log that ends in no line feed.
     fn refused<S: TextSink>(self, summary: &Summary, why: Fault, out: &mut S)
         ensures says { (start : Self) (T : List Entry) → stands start T self → S.says out.old ((script start).refused T summary.now why) out.new };
 }

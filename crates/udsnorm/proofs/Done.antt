@@ -102,14 +102,14 @@ ran_named {source = source} {output = output} {errors = errors} {job = job} {str
 
 -- the same of the logs of two names
 pub ran_named_two : {A B W E : Type 0} {left : SourceGhosts A} {right : SourceGhosts B} {output : TargetGhosts W} {errors : TargetGhosts E} {job : PairJob} {one_name one_same other_name other_same : List ℕ}
-    {strict : Bool} {limit : ℕ} {settings : Settings} {one : A} {other : B} {old : W} {unsaid : E} {status : ℕ} {fault : Option CompareFault} {one_now : A} {other_now : B} {new : W} {said : E}
+    {strict : Bool} {limit : ℕ} {settings : Settings} {one : A} {other : B} {old : W} {unsaid : E} {status : ℕ} {written : Option (Result PairAnswer CompareFault)} {one_now : A} {other_now : B} {new : W} {said : E}
     → one_name ≡ one_same → other_name ≡ other_same
-    → RanTwo left right output errors job one_name other_name strict limit settings one other old unsaid status fault one_now other_now new said
-    → RanTwo left right output errors job one_same other_same strict limit settings one other old unsaid status fault one_now other_now new said
+    → RanTwo left right output errors job one_name other_name strict limit settings one other old unsaid status written one_now other_now new said
+    → RanTwo left right output errors job one_same other_same strict limit settings one other old unsaid status written one_now other_now new said
 ran_named_two {left = left} {right = right} {output = output} {errors = errors} {job = job} {one_same = one_same} {other_name = other_name} {strict = strict} {limit = limit} {settings = settings}
-    {one = one} {other = other} {old = old} {unsaid = unsaid} {status = status} {fault = fault} {one_now = one_now} {other_now = other_now} {new = new} {said = said} first second ran =
-    subst (λ (called : List ℕ). RanTwo left right output errors job one_same called strict limit settings one other old unsaid status fault one_now other_now new said) second
-    (subst (λ (called : List ℕ). RanTwo left right output errors job called other_name strict limit settings one other old unsaid status fault one_now other_now new said) first ran)
+    {one = one} {other = other} {old = old} {unsaid = unsaid} {status = status} {written = written} {one_now = one_now} {other_now = other_now} {new = new} {said = said} first second ran =
+    subst (λ (called : List ℕ). RanTwo left right output errors job one_same called strict limit settings one other old unsaid status written one_now other_now new said) second
+    (subst (λ (called : List ℕ). RanTwo left right output errors job called other_name strict limit settings one other old unsaid status written one_now other_now new said) first ran)
 
 -- what was done of a plan was done of its equal
 pub did_of_equal : {F R W E : Type 0} (file : SourceGhosts F) (source : SourceGhosts R) (output : TargetGhosts W) (errors : TargetGhosts E) (plan other : Plan)

@@ -44,6 +44,15 @@ pub pages_pair : (style left_name right_name : List ℕ) (strict : Bool) (limit 
 pages_pair style left_name right_name strict limit settings one other (Ok held) holds = (style, held, holds, refl, refl)
 pages_pair style left_name right_name strict limit settings one other (Err why) holds = (style, holds, refl)
 
+-- a fault of the answer is one of what the answer leaves out
+pub fault_compared : (answer : Result Compared CompareFault) (why : CompareFault) → answer_of answer ≡ Err why → answer ≡ Err why
+fault_compared (Ok compared) why is = cc
+fault_compared (Err other) why is = cc
+
+pub fault_held : (answer : Result Held CompareFault) (why : CompareFault) → answer_held answer ≡ Err why → answer ≡ Err why
+fault_held (Ok held) why is = cc
+fault_held (Err other) why is = cc
+
 -- ---- the status
 
 refused_high : (why : Fault) (status : ℕ) → status ≡ status_of why → status ≤ 1 → ⊥

@@ -123,6 +123,28 @@ pub answers_from_start : (job : Job) (name : List ℕ) (limit : ℕ) (settings :
 answers_from_start job name limit settings old new is_over answer before after none engine =
     answers_on_more job name limit settings old new new is_over answer before after (ap (λ o. o ++ new) (sym none)) engine
 
+-- ---- where memory is refused
+
+memory_of_fault : (why : Fault) → status_of why ≡ 5 → why ≡ fault.Memory
+memory_of_fault (fault.BadLine line column) five = absurd (omega (arith, five))
+memory_of_fault (fault.Oversize line announced) five = absurd (omega (arith, five))
+memory_of_fault fault.LogLimit five = absurd (omega (arith, five))
+memory_of_fault fault.OutputLimit five = absurd (omega (arith, five))
+memory_of_fault fault.Read five = absurd (omega (arith, five))
+memory_of_fault fault.Write five = absurd (omega (arith, five))
+memory_of_fault fault.Memory five = refl
+
+no_five : (unclean : Bool) → ◌≡◌ {A = ℕ} (if unclean then 6 else 0) 5 → ⊥
+no_five true five = omega (arith, five)
+no_five false five = omega (arith, five)
+
+-- 5 is the status of refused memory alone: so the engine answered that
+pub memory_of_five : (strict due : Bool) (answer outcome : Result Summary Fault) (status : ℕ) → ComesTo due answer outcome → status ≡ status_of_run strict outcome → status ≡ 5
+    → answer ≡ Err fault.Memory
+memory_of_five strict due answer (Ok summary) status comes is five = absurd (no_five (is_unclean strict summary) (sym is ∙ five))
+memory_of_five strict due answer (Err why) status (inl same) is five = sym same ∙ ap Err (memory_of_fault why (sym is ∙ five))
+memory_of_five strict due answer (Err why) status (inr failed) is five = absurd (omega (arith, ap (status_of_run strict) failed.1, is, five))
+
 -- ---- where it is done
 
 -- a fault has a status of its own

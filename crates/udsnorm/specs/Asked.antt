@@ -35,8 +35,8 @@ use Rattle.udsnorm.specs.declared.job.WordsFault.TheVariants as words
 abbrev pub Took : {W : Type 0} → TargetGhosts W → List ℕ → W → W → Type 0
 Took target text old new = TookText text (target.failures old) (target.failures new) (target.taken old) (target.taken new)
 
--- Help or the version was told: the output took all of it and is flushed, by one flush, and the error output is left alone; or
--- the output failed, and the error output took the line of that.
+-- Help or the version was told: the output took all of it and is flushed, by one flush, and the error output is left
+-- alone; or the output failed, and the error output took the line of that.
 abbrev pub ToldHelp : {W E : Type 0} → TargetGhosts W → TargetGhosts E → List ℕ → W → E → ℕ → W → E → Type 0
 ToldHelp output errors text old unsaid status new said =
     ((status ≡ 0) × (output.taken new ≡ output.taken old ++ text) × (output.is_flushed new ≡ true) × (output.failures new ≡ output.failures old) × (said ≡ unsaid)
@@ -67,7 +67,7 @@ pub record RanFile {F W E : Type 0} (file : SourceGhosts F) (output : TargetGhos
 abbrev pub Unopened : {W E : Type 0} → TargetGhosts E → List ℕ → Which → W → E → ℕ → Option Known → W → E → Type 0
 Unopened errors line which old unsaid status known new said = (status ≡ 4) × (new ≡ old) × Took errors line unsaid said × IsKnownUnopened which known
 
--- both logs are one pipe, socket or terminal, of which each byte is read once: that is told, no more is known, and the output
+-- both logs are one pipe or terminal, of which each byte is read once: that is told, no more is known, and the output
 -- is left alone
 abbrev pub OneStream : {W E : Type 0} → TargetGhosts E → W → E → ℕ → Option Known → W → E → Type 0
 OneStream errors old unsaid status known new said = (status ≡ 2) × (new ≡ old) × Took errors one_stream_line unsaid said × (known ≡ None)
@@ -81,12 +81,12 @@ pub record RanFiles {F W E : Type 0} (file : SourceGhosts F) (output : TargetGho
   pub other_left : F
   pub from_start : file.given one ≡ []
   pub from_start_too : file.given other ≡ []
-  pub fault : Option CompareFault
-  pub ran : RanTwo file file output errors job left_name right_name strict limit settings one other old unsaid status fault one_left other_left new said
-  pub known_is : IsKnownByTwo settings (file.given one_left) (file.is_over one_left) (file.given other_left) (file.is_over other_left) fault known
+  pub written : Option (Result PairAnswer CompareFault)
+  pub ran : RanTwo file file output errors job left_name right_name strict limit settings one other old unsaid status written one_left other_left new said
+  pub known_is : IsKnownByTwo settings (file.given one_left) (file.is_over one_left) (file.given other_left) (file.is_over other_left) written known
 
--- What was done of a plan, and what is known of that: over the input where it names no file, and the input was left alone where
--- it names one.
+-- What was done of a plan, and what is known of that: over the input where it names no file, and the input was left
+-- alone where it names one.
 abbrev pub Did : {F R W E : Type 0} → SourceGhosts F → SourceGhosts R → TargetGhosts W → TargetGhosts E → Plan → R → W → E → ℕ → Option Known → R → W → E → Type 0
 Did file source output errors (One job strict settings None) before old unsaid status known after new said =
     (outcome : Result Summary Fault) × RanOne source output errors job (page_name None) strict MESSAGE_LIMIT settings before old unsaid status outcome after new said

@@ -1,7 +1,7 @@
 -- The commands of the program: the options and files of each, as the parser takes them, the task that it asks for, and
 -- what the engine answers and reads that does its job. A command is one entry of `command_entries`, and its job a case
 -- of `engine_of`; or, where it is over two logs, of `left_file`, `right_file`, `has_text` and `engine_of_pair`.
-use Rattle.std.specs.Prelude.{◌≡◌, ◌-◌, ℕ, length, Bool, true, false, not, List, [], ◌∷◌, ◌++◌, map, Some, None, Option, Result, Ok, Err, codes, bytes_eq, if◌then◌else◌}
+use Rattle.std.specs.Prelude.{◌≡◌, ◌⊎◌, ◌-◌, ℕ, length, Bool, true, false, not, List, [], ◌∷◌, ◌++◌, map, Some, None, Option, Result, Ok, Err, codes, bytes_eq, if◌then◌else◌}
 use Rattle.clap.specs.Faults.{fault_of}
 use Rattle.clap.specs.Kinds.{Kinds}
 use Rattle.clap.specs.Simple.{App, Shape, new_rule, new_shape, subcommand_of}
@@ -13,11 +13,11 @@ use Rattle.trace_canon.specs.Compared.{Compares, fault_in}
 use Rattle.trace_canon.specs.ComparisonText.{comparison_text}
 use Rattle.trace_canon.specs.Devices.{ReadFrom, WroteTo}
 use Rattle.trace_canon.specs.ExplainScript.{explain_script}
-use Rattle.trace_canon.specs.Found.{Finds, RanToFind}
+use Rattle.trace_canon.specs.Found.{Finds, NeedsMemoryToFind, RanToFind}
 use Rattle.trace_canon.specs.ListText.{list_text}
 use Rattle.trace_canon.specs.Listed.{RanOverItems, TextOfItems, WritesItems}
 use Rattle.trace_canon.specs.MessageLines.{placing_script}
-use Rattle.trace_canon.specs.Needing.{CompletesKept}
+use Rattle.trace_canon.specs.Needing.{CompletesKept, HasFrame, IsKeptForMessage, NeedsMemoryToCollect, NeedsMemoryToOrder, NeedsMemoryToReceive}
 use Rattle.trace_canon.specs.Refusal.{HasNoBadPlaceWithin, IsNotRefusedWithin}
 use Rattle.trace_canon.specs.Settings.{Settings}
 use Rattle.trace_canon.specs.Told.{Script, AnswersTold, RanLenient, answers_counts, needs_none}
@@ -26,7 +26,7 @@ use Rattle.trace_canon.specs.declared.comparing.Compared.{Compared}
 use Rattle.trace_canon.specs.declared.comparison_lines.ComparisonStyle.{ComparisonStyle}
 use Rattle.trace_canon.specs.declared.fault.CompareFault.{CompareFault}
 use Rattle.trace_canon.specs.declared.fault.Fault.{Fault}
-use Rattle.trace_canon.specs.declared.fault.Fault.TheVariants.{Read, Write}
+use Rattle.trace_canon.specs.declared.fault.Fault.TheVariants.{Memory, Read, Write}
 use Rattle.trace_canon.specs.declared.notation.Notation.{Notation}
 use Rattle.trace_canon.specs.declared.summary.Summary.{Summary}
 use Rattle.isotp_receive.specs.Trace.{Entry}
@@ -34,7 +34,7 @@ use Rattle.trace_io.specs.Stream.{Agrees}
 use Rattle.trace_io.specs.declared.device.Source.{Ghosts as SourceGhosts}
 use Rattle.trace_io.specs.declared.device.Target.{Ghosts as TargetGhosts}
 use Rattle.trace_report.specs.Front.{page_title}
-use Rattle.trace_report.specs.Held.{HoldsTwo, comparison_in}
+use Rattle.trace_report.specs.Held.{HasOwnFrame, HoldsTwo, comparison_in}
 use Rattle.trace_report.specs.Page.{report_script}
 use Rattle.trace_report.specs.PairPage.{pair_page, pair_title}
 use Rattle.trace_report.specs.declared.held_session.Held.{Held}
@@ -135,9 +135,9 @@ command_entries =
     ∷ record { name = codes "compare"; rules = sides ++ usual_limit ++ two_logs ++ showing ++ as_json ++ strictly; task = λ rows. task.Two (pair_job.Compare (comparison_style_in rows)) }
     ∷ []
 
--- What is known of the call that does a job over one log: it is `normalise`, or writes a text of the items of the meaning, or of the
--- pairs of identifiers, at the end; or it is the run of a machine, of which all is known by its script and by the frames for which
--- the machine needs memory. A page's script is in some style.
+-- What is known of the call that does a job over one log: it is `normalise`, or writes a text of the items of the
+-- meaning, or of the pairs of identifiers, at the end; or it is the run of a machine, of which all is known by its
+-- script and by the frames for which the machine needs memory. A page's script is in some style.
 pub data Engine : Type 1 where
   normalises : Engine
   writes : TextOfItems → Engine
@@ -154,8 +154,8 @@ answers_of (runs script needs) limit settings log given result old new = Answers
 answers_of (runs_in_style script) limit settings log given result old new =
     (style : List ℕ) × AnswersTold (script style settings limit) answers_counts limit settings log given result old new
 
--- nothing refuses the log for it among so many of its bytes; no length that is announced does this for one that is known by its
--- script, nor for `find`
+-- nothing refuses the log for it among so many of its bytes; no length that is announced does this for one that is
+-- known by its script, nor for `find`
 abbrev pub unrefused_of : Engine → ℕ → Settings → List ℕ → ℕ → Type 0
 unrefused_of normalises limit settings log = IsNotRefusedWithin limit settings log
 unrefused_of (writes text) limit settings log = IsNotRefusedWithin limit settings log
@@ -163,11 +163,21 @@ unrefused_of (finds notation) limit settings log = HasNoBadPlaceWithin log
 unrefused_of (runs script needs) limit settings log = HasNoBadPlaceWithin log
 unrefused_of (runs_in_style script) limit settings log = HasNoBadPlaceWithin log
 
--- What is known of a run of any engine: what was answered and written, how near to what refuses the log it stopped reading, and what
--- it did with its devices.
+-- The log needs memory for it: it has a frame whose bytes are kept for a message of several, or one that completes a
+-- message which the engine keeps; or, for `find`, an answer that is credited.
+abbrev pub needs_of : Engine → ℕ → Settings → List ℕ → Type 0
+needs_of normalises limit settings log = NeedsMemoryToOrder limit settings log
+needs_of (writes text) limit settings log = NeedsMemoryToCollect limit settings log
+needs_of (finds notation) limit settings log = NeedsMemoryToFind log
+needs_of (runs script needs) limit settings log = HasFrame (λ T e. IsKeptForMessage limit T e ⊎ needs limit T e) settings log
+needs_of (runs_in_style script) limit settings log = NeedsMemoryToReceive limit settings log
+
+-- What is known of a run of any engine: what was answered and written, that memory was refused only for a log that
+-- needs it, how near to what refuses the log it stopped reading, and what it did with its devices.
 pub record RanAny {R W : Type 0} (source : SourceGhosts R) (target : TargetGhosts W) (engine : Engine) (limit : ℕ) (settings : Settings) (before : R) (old : W) (result : Result Summary Fault) (after : R) (new : W) : Type 0 where
   pub answer : (log : List ℕ) → Agrees (source.given before) (source.given after) (source.is_over after) log
       → answers_of engine limit settings log (length (source.given after) - length (source.given before)) result (target.taken old) (target.taken new)
+  pub memory : (log : List ℕ) → Agrees (source.given before) (source.given after) (source.is_over after) log → result ≡ Err Memory → needs_of engine limit settings log
   pub near : (log : List ℕ) → Agrees (source.given before) (source.given after) (source.is_over after) log
       → ReadsWhile (unrefused_of engine limit settings log) (length (source.given after) - length (source.given before)) (source.failures before) (source.failures after)
   pub read : ReadFrom source Read settings.max_bytes result before after
@@ -199,6 +209,10 @@ engine_of (job.Find notation) name = finds notation
 abbrev pub EngineAnswers : Job → List ℕ → ℕ → Settings → List ℕ → ℕ → Result Summary Fault → List ℕ → List ℕ → Type 0
 EngineAnswers job name = answers_of (engine_of job name)
 
+-- for which logs it may be refused memory
+abbrev pub EngineNeeds : Job → List ℕ → ℕ → Settings → List ℕ → Type 0
+EngineNeeds job name = needs_of (engine_of job name)
+
 -- how near to what refuses the log it stops reading
 abbrev pub EngineReads : Job → List ℕ → ℕ → Settings → List ℕ → ℕ → ℕ → ℕ → Type 0
 EngineReads job name limit settings log = ReadsWhile (unrefused_of (engine_of job name) limit settings log)
@@ -215,10 +229,12 @@ abbrev pub right_file : PairJob → Text
 right_file (pair_job.Compare style) = codes "B"
 right_file pair_job.Report = codes "OTHER"
 
--- What is known of a call that reads two logs and writes a text: what it answers, where they have to be clean or not, and the text;
--- and that nothing refuses a log for it among so many of its bytes.
+-- What is known of a call that reads two logs and writes a text: what it answers, where they have to be clean or not,
+-- and the text; for which log it may be refused memory; and that nothing refuses a log for it among so many of its
+-- bytes.
 pub record PairEngine : Type 1 where
   pub answers : Bool → ℕ → Settings → List ℕ → List ℕ → Result PairAnswer CompareFault → List ℕ → Type 0
+  pub needs : ℕ → Settings → List ℕ → Type 0
   pub unrefused : ℕ → Settings → List ℕ → ℕ → Type 0
 
 -- what a comparison answers, without what the logs mean
@@ -247,8 +263,8 @@ PagesPair left_name right_name strict limit settings one other (Ok pair) text =
 PagesPair left_name right_name strict limit settings one other (Err fault) text =
     (style : List ℕ) × HoldsTwo limit settings one other (Err fault) × (text ≡ pair_page (pair_title style left_name right_name settings) (Err fault))
 
--- the job has a text of this answer: a comparison of logs of which each is clean that has to be; a page of all logs but those of which a
--- device failed or memory was refused
+-- the job has a text of this answer: a comparison of logs of which each is clean that has to be; a page of all logs but
+-- those of which a device failed or memory was refused
 abbrev pub has_text : PairJob → Bool → Result PairAnswer CompareFault → Bool
 has_text (pair_job.Compare style) strict (Ok pair) = not (has_unclean strict pair)
 has_text (pair_job.Compare style) strict (Err fault) = false
@@ -257,13 +273,17 @@ has_text pair_job.Report strict (Err fault) = is_refusal (fault_in fault)
 
 -- the engine that does this job over two logs, which have these names on a page
 abbrev pub engine_of_pair : PairJob → List ℕ → List ℕ → PairEngine
-engine_of_pair (pair_job.Compare style) left_name right_name = record { answers = ComparesPair style; unrefused = IsNotRefusedWithin }
+engine_of_pair (pair_job.Compare style) left_name right_name = record { answers = ComparesPair style; needs = NeedsMemoryToCollect; unrefused = IsNotRefusedWithin }
 engine_of_pair pair_job.Report left_name right_name =
-    record { answers = PagesPair left_name right_name; unrefused = λ limit settings. HasNoBadPlaceWithin }
+    record { answers = PagesPair left_name right_name; needs = λ limit. HasOwnFrame; unrefused = λ limit settings. HasNoBadPlaceWithin }
 
 -- what it answers, and what it writes
 abbrev pub PairEngineAnswers : PairJob → List ℕ → List ℕ → Bool → ℕ → Settings → List ℕ → List ℕ → Result PairAnswer CompareFault → List ℕ → Type 0
 PairEngineAnswers job left_name right_name = (engine_of_pair job left_name right_name).answers
+
+-- for which log it may be refused memory
+abbrev pub PairEngineNeeds : PairJob → List ℕ → List ℕ → ℕ → Settings → List ℕ → Type 0
+PairEngineNeeds job left_name right_name = (engine_of_pair job left_name right_name).needs
 
 -- how near to what refuses a log it stops reading
 abbrev pub PairEngineReads : PairJob → List ℕ → List ℕ → ℕ → Settings → List ℕ → ℕ → ℕ → ℕ → Type 0

@@ -11,14 +11,14 @@ use Rattle.trace_canon.specs.declared.summary.Summary.{Summary}
 use Rattle.udsnorm.specs.Status.{is_refusal, status_of}
 use Rattle.udsnorm.specs.declared.pair_jobs.PairAnswer.{PairAnswer}
 
--- Whether the output is flushed after this answer, where it took these bytes: after an `Ok`, and after a refused log where it
--- took any. After a failed device or refused memory it is not.
+-- Whether the output is flushed after this answer, where it took these bytes: after an `Ok`, and after a refused log
+-- where it took any. After a failed device or refused memory it is not.
 abbrev pub flushes : {A : Type 0} → Result A Fault → List ℕ → Bool
 flushes (Ok value) taken = true
 flushes (Err fault) taken = is_refusal fault && nat_lt 0 (length taken)
 
--- What a run comes to that is flushed after this answer or is not, by the failures and the flushes of its output and whether
--- that is flushed: the answer, with one flush more or none, or a failed write where the flush failed.
+-- What a run comes to that is flushed after this answer or is not, by the failures and the flushes of its output and
+-- whether that is flushed: the answer, with one flush more or none, or a failed write where the flush failed.
 abbrev pub EndsAs : {A : Type 0} → Bool → Result A Fault → ℕ → ℕ → ℕ → ℕ → Bool → Result A Fault → Type 0
 EndsAs false answer failures failures_now times times_now is_flushed outcome = (outcome ≡ answer) × (failures_now ≡ failures) × (times_now ≡ times)
 EndsAs true answer failures failures_now times times_now is_flushed outcome =
@@ -56,8 +56,6 @@ status_of_pair strict (Err fault) = status_of (fault_in fault)
 abbrev pub status_of_run_of_two : Bool → Bool → Result PairAnswer CompareFault → ℕ
 status_of_run_of_two wrote strict answer = if wrote then status_of_pair strict answer else status_of Write
 
--- the fault of a log that such a run tells, if it tells one
-abbrev pub fault_of : Bool → Result PairAnswer CompareFault → Option CompareFault
-fault_of true (Err fault) = Some fault
-fault_of true (Ok pair) = None
-fault_of false answer = None
+-- the answer of such a run, where its text was written
+abbrev pub answer_written : Bool → Result PairAnswer CompareFault → Option (Result PairAnswer CompareFault)
+answer_written wrote answer = if wrote then Some answer else None

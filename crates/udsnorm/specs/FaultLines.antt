@@ -77,8 +77,8 @@ abbrev pub run_text : Bool → Result Summary Fault → List ℕ
 run_text strict (Ok summary) = if is_unclean strict summary then unclean_line summary else []
 run_text strict (Err fault) = fault_line fault
 
--- What it takes of an answer about two logs: the line of the fault, or those of the logs that have to be clean and are not, and
--- else nothing.
+-- What it takes of an answer about two logs: the line of the fault, or those of the logs that have to be clean and are
+-- not, and else nothing.
 abbrev pub pair_text : Bool → Result PairAnswer CompareFault → List ℕ
 pair_text strict (Ok pair) = clause (has_unclean strict pair) (unclean_sides pair)
 pair_text strict (Err fault) = side_line fault

@@ -4,7 +4,9 @@ use Rattle.std.specs.Prelude.{◌≡◌, ℕ, ◌/◌, ◌%◌, ◌==◌, ◌&&�
 use Rattle.std.specs.Char.{is_ascii_alphanumeric}
 use Rattle.std.specs.Fmt.{decimal}
 use Rattle.std.specs.List.{flat_map, list_all}
+use Rattle.can_log.specs.Canonical.{identifier_text}
 use Rattle.can_log.specs.Digits.{digit}
+use Rattle.can_log.specs.declared.frame.Id.{Id}
 use Rattle.clap.specs.Walk.{Text}
 use Rattle.trace_io.specs.declared.device.Target.{Ghosts as TargetGhosts}
 use Rattle.udsnorm.specs.Telling.{TookText}
@@ -50,6 +52,20 @@ abbrev pub named : Option (List ℕ) → List ℕ
 named None = codes "standard input"
 named (Some name) = quoted name
 
+-- the words before a name: `--`, too, where it begins with a dash, since it is no option behind that
+abbrev pub before_name : List ℕ → List ℕ
+before_name (b ∷ rest) = if b == code "-" then codes "udsnorm find -- " else codes "udsnorm find "
+before_name [] = codes "udsnorm find "
+
+-- the words that name the identifiers of a log: standard input has no name among them
+abbrev pub find_words : Option (List ℕ) → List ℕ
+find_words None = codes "udsnorm find"
+find_words (Some name) = before_name name ++ quoted name
+
+-- one of two identifiers
+abbrev pub either_text : Id → Id → List ℕ
+either_text tester unit = identifier_text tester ++ codes " or " ++ identifier_text unit
+
 -- ---- the line
 
 -- what is said behind its name of a log that looks so, with what mends it
@@ -62,7 +78,7 @@ look_words look.Screen = codes " looks like candump's form for the screen; candu
 look_words look.Asc = codes " looks like a Vector ASC file; asc2log converts it\n"
 look_words look.Date = codes " looks like a log whose stamps have a date; date +%s.%6N makes seconds of one\n"
 look_words look.Csv = codes " looks like a CSV file; python-can converts one\n"
-look_words look.Nanoseconds = codes " looks like a log whose stamps have nine decimals; leave out the last three\n"
+look_words look.Nanoseconds = codes " looks like a log whose stamps have more than six decimals; leave out those behind the sixth\n"
 
 -- the line of a hint about this log
 abbrev pub hint_line : Matter → Option (List ℕ) → List ℕ
@@ -74,6 +90,8 @@ hint_line matter.Unread log = codes "hint: reading " ++ named log ++ codes " fai
 hint_line (matter.Limit limit) log = codes "hint: the limit is " ++ decimal limit ++ codes " bytes; --limit sets it, up to 1099511627776\n"
 hint_line matter.NoPair log =
     codes "hint: nothing in " ++ named log ++ codes " answers another identifier; find needs the frames of both sides, and looks at each identifier up to 1FFFFFFF\n"
+hint_line (matter.Foreign tester unit) log =
+    codes "hint: " ++ named log ++ codes " has no frame of " ++ either_text tester unit ++ codes "; " ++ find_words log ++ codes " names its identifiers\n"
 hint_line (matter.Looks look) log = codes "hint: " ++ named log ++ look_words look
 hint_line matter.Cut log = codes "hint: the last line of " ++ named log ++ codes " looks cut; sed '$d' leaves it out, and a frame is missing\n"
 hint_line (matter.NoStamp line) log =
@@ -108,8 +126,8 @@ abbrev pub subject_of_words : List Text → Option Subject
 subject_of_words [] = None
 subject_of_words (word ∷ rest) = Some (record { about = matter.NoCommand; log = Some word })
 
--- what the hint is about: what is known of the run, or of words that ask for nothing that the first is a file's name, which the
--- file system says
+-- what the hint is about: what is known of the run, or of words that ask for nothing that the first is a file's name,
+-- which the file system says
 abbrev pub IsSubject : Result Plan WordsFault → List Text → Option Known → Option Subject → Type 0
 IsSubject (Ok plan) given known subject = subject ≡ subject_of_plan plan known
 IsSubject (Err (words.Words text)) given known subject = (subject ≡ None) ⊎ (subject ≡ subject_of_words given)

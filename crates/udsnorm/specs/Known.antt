@@ -1,5 +1,5 @@
 -- What is known of a log for a hint, by what a run over it came to.
-use Rattle.std.specs.Prelude.{◌≡◌, ◌⊎◌, ℕ, nat_lt, Bool, List, length, take, Option, Some, None, Result, Ok, Err, if◌then◌else◌}
+use Rattle.std.specs.Prelude.{◌≡◌, ◌⊎◌, ℕ, ◌==◌, ◌&&◌, nat_lt, Bool, List, length, take, Option, Some, None, Result, Ok, Err, if◌then◌else◌}
 use Rattle.trace_canon.specs.Settings.{Settings}
 use Rattle.trace_canon.specs.declared.config.TheConstants.{LARGEST_LIMIT}
 use Rattle.trace_canon.specs.declared.fault.CompareFault.{CompareFault}
@@ -17,6 +17,7 @@ use Rattle.udsnorm.specs.declared.ended.Which.{Which}
 use Rattle.udsnorm.specs.declared.ended.Which.TheVariants.{First, Second}
 use Rattle.udsnorm.specs.declared.looks.Look.{Look}
 use Rattle.udsnorm.specs.declared.noticing.TheConstants.{KEPT}
+use Rattle.udsnorm.specs.declared.pair_jobs.PairAnswer.{PairAnswer}
 
 -- this is known of this log
 abbrev pub knows : Which → Matter → Option Known
@@ -31,17 +32,18 @@ abbrev pub knows_look : Which → Option Look → Option Known
 knows_look which None = None
 knows_look which (Some look) = knows which (matter.Looks look)
 
--- What is known of this log that is refused at this place, whose source gave these bytes and was over or not. Where it was over,
--- nothing before the end was refused: the last line is cut. Else it is known that a line lacks its stamp, or what the log looks
--- like.
+-- What is known of this log that is refused at this place, whose source gave these bytes and was over or not. Where it
+-- was over, nothing before the end was refused: the last line is cut. Else it is known that a line lacks its stamp, or
+-- what the log looks like.
 abbrev pub knows_refused : Which → List ℕ → Bool → ℕ → ℕ → Option Known
 knows_refused which given is_over line column =
     if is_over then knows which matter.Cut
     else if lacks_stamp (take KEPT given) line column then knows which (matter.NoStamp line)
     else knows_look which (look_of (take KEPT given) line column)
 
--- What is known of a log by the fault of a run over it, whose source gave these bytes and was over or not: what it looks like
--- where it is no log, the limit where that is passed, and that the log can't be read, which a folder can't; and else nothing.
+-- What is known of a log by the fault of a run over it, whose source gave these bytes and was over or not: what it
+-- looks like where it is no log, the limit where that is passed, and that the log can't be read, which a folder can't;
+-- and else nothing.
 abbrev pub IsKnownByFault : Which → Settings → List ℕ → Bool → Fault → Option Known → Type 0
 IsKnownByFault which settings given is_over (BadLine line column) known = known ≡ knows_refused which given is_over line column
 IsKnownByFault which settings given is_over (Oversize line announced) known = known ≡ None
@@ -59,24 +61,45 @@ knows_no_pair taken = if nat_lt 0 (length taken) then None else knows First matt
 abbrev pub knows_dropped : ℕ → Option Known
 knows_dropped count = if nat_lt 0 count then knows First (matter.Dropped count) else None
 
--- What is known of a log that was accepted, by the job over it, by its counts and by what the output took: that it has no pair,
--- where the job was to find some; and else how many frames were dropped, where the job is not to explain that.
-abbrev pub known_of_done : Job → Summary → List ℕ → Option Known
-known_of_done (job.Find notation) summary taken = knows_no_pair taken
-known_of_done (job.Explain notation) summary taken = None
-known_of_done other summary taken = knows_dropped summary.dropped
+-- a log with these counts has lines, and no frame of either side
+abbrev pub is_foreign : Summary → Bool
+is_foreign summary = nat_lt 0 summary.lines && summary.frames == 0
 
--- what is known of a log by the outcome of a job over it, whose source gave these bytes and was over or not, and of which the
--- output took this
+-- it is known that this log has no frame with one of the identifiers
+abbrev pub knows_foreign : Which → Settings → Option Known
+knows_foreign which settings = knows which (matter.Foreign settings.tester settings.unit)
+
+-- it is known how many frames were dropped, where the job is not to explain that
+abbrev pub knows_dropped_for : Job → ℕ → Option Known
+knows_dropped_for (job.Explain notation) count = None
+knows_dropped_for other count = knows_dropped count
+
+-- What is known of a log that was accepted, by the job over it, the identifiers, its counts and what the output took:
+-- that it has no pair, where the job was to find some; and else that it has no frame with one of the identifiers, or
+-- how many were dropped.
+abbrev pub known_of_done : Job → Settings → Summary → List ℕ → Option Known
+known_of_done (job.Find notation) settings summary taken = knows_no_pair taken
+known_of_done other settings summary taken = if is_foreign summary then knows_foreign First settings else knows_dropped_for other summary.dropped
+
+-- what is known of two logs that were accepted: of the first one that has no frame with one of the identifiers, that it
+-- has none
+abbrev pub known_of_pair : Settings → PairAnswer → Option Known
+known_of_pair settings pair =
+    if is_foreign pair.left then knows_foreign First settings else if is_foreign pair.right then knows_foreign Second settings else None
+
+-- what is known of a log by the outcome of a job over it, whose source gave these bytes and was over or not, and of
+-- which the output took this
 abbrev pub IsKnownBy : Job → Settings → List ℕ → Bool → Result Summary Fault → List ℕ → Option Known → Type 0
-IsKnownBy job settings given is_over (Ok summary) taken known = known ≡ known_of_done job summary taken
+IsKnownBy job settings given is_over (Ok summary) taken known = known ≡ known_of_done job settings summary taken
 IsKnownBy job settings given is_over (Err fault) taken known = IsKnownByFault First settings given is_over fault known
 
--- what is known of the log of two of which a fault is told, by what the sources of both gave and whether they were over
-abbrev pub IsKnownByTwo : Settings → List ℕ → Bool → List ℕ → Bool → Option CompareFault → Option Known → Type 0
+-- what is known of one of two logs by an answer of which the text was written: of the one of which a fault is told, by
+-- what the sources of both gave and whether they were over, and else by the counts of both
+abbrev pub IsKnownByTwo : Settings → List ℕ → Bool → List ℕ → Bool → Option (Result PairAnswer CompareFault) → Option Known → Type 0
 IsKnownByTwo settings left left_over right right_over None known = known ≡ None
-IsKnownByTwo settings left left_over right right_over (Some (Left fault)) known = IsKnownByFault First settings left left_over fault known
-IsKnownByTwo settings left left_over right right_over (Some (Right fault)) known = IsKnownByFault Second settings right right_over fault known
+IsKnownByTwo settings left left_over right right_over (Some (Ok pair)) known = known ≡ known_of_pair settings pair
+IsKnownByTwo settings left left_over right right_over (Some (Err (Left fault))) known = IsKnownByFault First settings left left_over fault known
+IsKnownByTwo settings left left_over right right_over (Some (Err (Right fault))) known = IsKnownByFault Second settings right right_over fault known
 
 -- it is known of this log why it can't be opened: there is none, it may not be read, or something else
 abbrev pub IsKnownUnopened : Which → Option Known → Type 0

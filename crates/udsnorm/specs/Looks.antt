@@ -56,8 +56,8 @@ text_look first =
 abbrev pub has_more_decimals : List ℕ → ℕ → Bool
 has_more_decimals first column = nat_le 10 column && has_at first (column - 8) (code ".")
 
--- A line that begins with no stamp where one is due: behind legal lines, or as the first where candump -d tells in it of lost
--- frames.
+-- A line that begins with no stamp where one is due: behind legal lines, or as the first where candump -d tells in it
+-- of lost frames.
 abbrev pub lacks_stamp : List ℕ → ℕ → ℕ → Bool
 lacks_stamp first line column = (column == 1) && (nat_lt 1 line || begins first (codes "DROPCOUNT"))
 

@@ -6,27 +6,29 @@ use Rattle.trace_canon.specs.Failing.{FailedIf}
 use Rattle.trace_canon.specs.declared.fault.CompareFault.{CompareFault}
 use Rattle.trace_canon.specs.declared.fault.CompareFault.TheVariants.{Left, Right}
 use Rattle.trace_canon.specs.declared.fault.Fault.{Fault}
-use Rattle.trace_canon.specs.declared.fault.Fault.TheVariants.{Read, Write}
+use Rattle.trace_canon.specs.declared.fault.Fault.TheVariants.{Memory, Read, Write}
 use Rattle.trace_canon.specs.declared.summary.Summary.{Summary}
 use Rattle.trace_io.specs.Stream.{Agrees, Took}
 use Rattle.trace_io.specs.declared.device.Source.{Ghosts as SourceGhosts}
 use Rattle.trace_io.specs.declared.device.Target.{Ghosts as TargetGhosts}
-use Rattle.udsnorm.specs.Commands.{EngineAnswers, EngineReads, PairEngineAnswers, PairEngineReads, has_text}
-use Rattle.udsnorm.specs.Ending.{ComesTo, fault_of, flushes, status_of_run, status_of_run_of_two}
+use Rattle.udsnorm.specs.Commands.{EngineAnswers, EngineNeeds, EngineReads, PairEngineAnswers, PairEngineNeeds, PairEngineReads, has_text}
+use Rattle.udsnorm.specs.Ending.{ComesTo, answer_written, flushes, status_of_run, status_of_run_of_two}
 use Rattle.udsnorm.specs.FaultLines.{run_text, run_two_text}
 use Rattle.udsnorm.specs.Telling.{TookText, WroteText}
 use Rattle.udsnorm.specs.declared.commands.Job.{Job}
 use Rattle.udsnorm.specs.declared.pair_jobs.PairAnswer.{PairAnswer}
 use Rattle.udsnorm.specs.declared.pair_jobs.PairJob.{PairJob}
 
--- What a run over one log did, which has this name on a page and has to be clean where the run is strict: from its input to its output and its error
--- output, its exit status, and the outcome that this is of.
+-- What a run over one log did, which has this name on a page and has to be clean where the run is strict: from its
+-- input to its output and its error output, its exit status, and the outcome that this is of.
 pub record RanOne {R W E : Type 0} (source : SourceGhosts R) (output : TargetGhosts W) (errors : TargetGhosts E) (job : Job) (name : List ℕ) (strict : Bool) (limit : ℕ) (settings : Settings)
     (before : R) (old : W) (unsaid : E) (status : ℕ) (outcome : Result Summary Fault) (after : R) (new : W) (said : E) : Type 0 where
   -- what the engine answered, and what the output took, for each log with which the bytes that were read agree
   pub answer : Result Summary Fault
   pub engine : (log : List ℕ) → Agrees (source.given before) (source.given after) (source.is_over after) log
       → EngineAnswers job name limit settings log (length (source.given after) - length (source.given before)) answer (output.taken old) (output.taken new)
+  -- memory was refused, with status 5, only for a log that needs it
+  pub memory : (log : List ℕ) → Agrees (source.given before) (source.given after) (source.is_over after) log → status ≡ 5 → EngineNeeds job name limit settings log
   -- reading stopped within one piece of what refuses the log
   pub near : (log : List ℕ) → Agrees (source.given before) (source.given after) (source.is_over after) log
       → EngineReads job name limit settings log (length (source.given after) - length (source.given before)) (source.failures before) (source.failures after)
@@ -45,10 +47,11 @@ pub record RanOne {R W E : Type 0} (source : SourceGhosts R) (output : TargetGho
   -- the error output took the text of what it came to
   pub told : TookText (run_text strict outcome) (errors.failures unsaid) (errors.failures said) (errors.taken unsaid) (errors.taken said)
 
--- What a run over two logs did, which have these names on a page and have to be clean where the run is strict: from its inputs to
--- its output and its error output, its exit status, and the fault of a log that was told, if there is one.
+-- What a run over two logs did, which have these names on a page and have to be clean where the run is strict: from its
+-- inputs to its output and its error output, its exit status, and what was answered, where the text of that was
+-- written.
 pub record RanTwo {A B W E : Type 0} (left : SourceGhosts A) (right : SourceGhosts B) (output : TargetGhosts W) (errors : TargetGhosts E) (job : PairJob) (left_name right_name : List ℕ)
-    (strict : Bool) (limit : ℕ) (settings : Settings) (one : A) (other : B) (old : W) (unsaid : E) (status : ℕ) (fault : Option CompareFault) (one_now : A) (other_now : B) (new : W) (said : E) : Type 0 where
+    (strict : Bool) (limit : ℕ) (settings : Settings) (one : A) (other : B) (old : W) (unsaid : E) (status : ℕ) (written : Option (Result PairAnswer CompareFault)) (one_now : A) (other_now : B) (new : W) (said : E) : Type 0 where
   -- what the engine answered, and its text, for all logs with which the bytes that were read agree
   pub answer : Result PairAnswer CompareFault
   pub text : List ℕ
@@ -56,6 +59,11 @@ pub record RanTwo {A B W E : Type 0} (left : SourceGhosts A) (right : SourceGhos
       → PairEngineAnswers job left_name right_name strict limit settings a b answer text
   -- after a fault of the left log nothing of the right one was read
   pub unread : (fault : Fault) → answer ≡ Err (Left fault) → other_now ≡ other
+  -- memory was refused only for a log that needs it
+  pub left_memory : (a : List ℕ) → Agrees (left.given one) (left.given one_now) (left.is_over one_now) a → answer ≡ Err (Left Memory)
+      → PairEngineNeeds job left_name right_name limit settings a
+  pub right_memory : (b : List ℕ) → Agrees (right.given other) (right.given other_now) (right.is_over other_now) b → answer ≡ Err (Right Memory)
+      → PairEngineNeeds job left_name right_name limit settings b
   -- reading stopped within one piece of what refuses a log
   pub left_near : (a : List ℕ) → Agrees (left.given one) (left.given one_now) (left.is_over one_now) a
       → PairEngineReads job left_name right_name limit settings a (length (left.given one_now) - length (left.given one)) (left.failures one) (left.failures one_now)
@@ -71,7 +79,7 @@ pub record RanTwo {A B W E : Type 0} (left : SourceGhosts A) (right : SourceGhos
   pub flushed_once : has_text job strict answer ≡ true → wrote ≡ true → output.flushes new ≡ output.flushes old + 1
   pub not_flushed : wrote ≡ false → output.flushes new ≡ output.flushes old
   pub left_alone : has_text job strict answer ≡ false → (wrote ≡ true) × (new ≡ old)
-  -- the status and the fault are the answer's, or those of a failed write, and the error output took the text of that
+  -- the status is the answer's, or that of a failed write, and the error output took the text of that
   pub status_is : status ≡ status_of_run_of_two wrote strict answer
-  pub fault_is : fault ≡ fault_of wrote answer
+  pub written_is : written ≡ answer_written wrote answer
   pub told : TookText (run_two_text wrote strict answer) (errors.failures unsaid) (errors.failures said) (errors.taken unsaid) (errors.taken said)

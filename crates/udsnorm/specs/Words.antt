@@ -34,7 +34,8 @@ IsConfiguredBy None unit limit result = result ≡ Err Identifier
 abbrev pub IsConfiguredIn : List Row → Result Settings WordsFault → Type 0
 IsConfiguredIn rows result = IsConfiguredBy (tester_in rows) (unit_in rows) (limit_in rows) result
 
--- the plan that the options and files of a command ask for: of its job over LOG, if it is there; or of its job over two files
+-- the plan that the options and files of a command ask for: of its job over LOG, if it is there; or of its job over two
+-- files
 abbrev pub IsPlanOf : Task → List Row → Plan → Type 0
 IsPlanOf (task.One named) rows (One job strict config log) =
     (job ≡ named) × (strict ≡ is_strict rows) × IsConfiguredIn rows (Ok config) × (option_map string_bytes log ≡ first_of (codes "LOG") rows)
@@ -71,8 +72,8 @@ IsCalled kind Memory = kind ≡ OutOfMemory
 IsCalled kind Identifier = ⊥
 IsCalled kind (Config fault) = ⊥
 
--- what is said of words that the parser does not take: help or the version, where one of them was asked for, or what is wrong
--- with them; or that memory is refused
+-- what is said of words that the parser does not take: help or the version, where one of them was asked for, or what is
+-- wrong with them; or that memory is refused
 abbrev pub IsRefusedBy : Kinds → WordsFault → Type 0
 IsRefusedBy kinds (Help text) = IsAmong DisplayHelp kinds ⊎ IsAmong DisplayVersion kinds
 IsRefusedBy kinds (Words text) = (kind : ErrorKind) × (kind ≢ DisplayHelp) × (kind ≢ DisplayVersion) × IsAmong kind kinds

@@ -17,9 +17,9 @@ const OF_THE_PROGRAM: &str = "\
 A LOG is what `candump -l` or `-L` writes. `udsnorm COMMAND --help` has the options of a command.
 
 Exit status:
-  0  done, even if a log holds neither identifier; compare: the logs mean the same
-  1  compare: the logs differ
-  2  the command line asks for something that there is not
+  0  done, even if a log holds neither identifier; of two logs: they mean the same
+  1  two logs differ
+  2  the command line asks for something that there is not, or both logs are one stream
   3  a log is refused
   4  a file can't be opened, or reading or writing failed
   5  out of memory
@@ -133,7 +133,7 @@ fn arg<'a>(alloc: Global, argument: Argument) -> Arg<'a>
             default,
             help,
         } => identifier(alloc, name, default, help),
-        Argument::Limit(default) => limit(alloc, default),
+        Argument::Limit { default, help } => limit(alloc, default, help),
         Argument::Flag { name, help } => flag(alloc, name, help),
         Argument::File {
             name,
@@ -156,14 +156,14 @@ fn identifier<'a>(alloc: Global, name: &'a str, default: &'a str, help: &'a str)
 }
 
 /// The option of the limit, which is this where it is not given.
-fn limit<'a>(alloc: Global, most: &'a str) -> Arg<'a>
+fn limit<'a>(alloc: Global, most: &'a str, help: &'a str) -> Arg<'a>
     ensures rule { rule_of result ≡ limit most.entry.now }
     ensures local { result.global ≡ false }
 {
     Arg::new(alloc, LIMIT)
         .long(LIMIT)
         .value_name("BYTES")
-        .help("Most bytes of log and canonical log, up to 2^40")
+        .help(help)
         .value_parser(value_parser!(u64))
         .default_value(most)
 }

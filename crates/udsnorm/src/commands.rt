@@ -87,7 +87,10 @@ pub(crate) enum Argument {
         help: &'static str,
     },
     /// The option of the limit, which is this where none is given.
-    Limit(&'static str),
+    Limit {
+        default: &'static str,
+        help: &'static str,
+    },
     /// An option without a value.
     Flag {
         name: &'static str,
@@ -107,7 +110,7 @@ pub(crate) const COMMANDS: &[CommandRow] = &[
         name: "normalise",
         about: "Writes the canonical log",
         after_help: OF_NORMALISE,
-        arguments: &[SIDES, USUAL_LIMIT, ONE_LOG, STRICTLY],
+        arguments: &[SIDES, USUAL_LIMIT_OF_BOTH, ONE_LOG, STRICTLY],
     },
     CommandRow {
         name: "list",
@@ -115,7 +118,7 @@ pub(crate) const COMMANDS: &[CommandRow] = &[
         after_help: OF_LIST,
         arguments: &[
             SIDES,
-            USUAL_LIMIT,
+            USUAL_LIMIT_OF_BOTH,
             ONE_LOG,
             WITHOUT_NUMBERS,
             AS_JSON,
@@ -163,7 +166,14 @@ pub(crate) const COMMANDS: &[CommandRow] = &[
         name: "compare",
         about: "Says whether two logs have the same exchanges and stray messages",
         after_help: OF_COMPARE,
-        arguments: &[SIDES, USUAL_LIMIT, TWO_LOGS, SHOWING, AS_JSON, STRICTLY],
+        arguments: &[
+            SIDES,
+            USUAL_LIMIT_OF_BOTH,
+            TWO_LOGS,
+            SHOWING,
+            AS_JSON,
+            STRICTLY,
+        ],
     },
 ];
 
@@ -209,9 +219,26 @@ const SIDES: &[Argument] = &[
     },
 ];
 
-const USUAL_LIMIT: &[Argument] = &[Argument::Limit("1073741824")];
+const USUAL_LIMIT: &[Argument] = &[Argument::Limit {
+    default: USUALLY,
+    help: OF_THE_LOG,
+}];
 
-const LARGEST_LIMIT: &[Argument] = &[Argument::Limit("1099511627776")];
+/// Where a canonical log has the same limit.
+const USUAL_LIMIT_OF_BOTH: &[Argument] = &[Argument::Limit {
+    default: USUALLY,
+    help: "Most bytes of log and canonical log, up to 2^40",
+}];
+
+const LARGEST_LIMIT: &[Argument] = &[Argument::Limit {
+    default: "1099511627776",
+    help: OF_THE_LOG,
+}];
+
+/// The limit that most commands have where none is given: a gibibyte.
+const USUALLY: &str = "1073741824";
+
+const OF_THE_LOG: &str = "Most bytes of the log, up to 2^40";
 
 const WITHOUT_NUMBERS: &[Argument] = &[Argument::Flag {
     name: NO_NUMBERS,
@@ -361,9 +388,9 @@ Example: udsnorm list --tester 7E1 --unit 7E9 recorded.log";
 
 const OF_WATCH: &str = "\
 A line is written as soon as nothing that follows can change it: an exchange when its answer
-is complete or the next request is, a stray message behind it then too, and the rest at the end
-of the log. A unit that is dead shows nothing until the next request; `messages` shows each
-message at once.
+is complete or the next request is, and the rest at the end of the log. A stray message behind
+an open request is written after it. A unit that is dead shows nothing until the next request;
+`messages` shows each message at once.
 
 Exit status: 0 done, 2 wrong words, 3 the log is refused,
 4 a file can't be opened, or reading or writing failed, 5 out of memory,

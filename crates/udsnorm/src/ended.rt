@@ -2,13 +2,15 @@
 
 ghost use Rattle.std.specs.Prelude.{◌≡◌, ◌⊎◌, option_map};
 ghost use Rattle.udsnorm.specs.Hints.{name_in};
-ghost use Rattle.udsnorm.specs.Known.{IsKnownBy, IsKnownByFault, IsKnownByTwo, IsKnownUnopened, known_of_done, knows_dropped, knows_limit, knows_no_pair, knows_refused};
+ghost use Rattle.udsnorm.specs.Known.{IsKnownBy, IsKnownByFault, IsKnownByTwo, IsKnownUnopened, is_foreign, known_of_done, known_of_pair, knows_dropped, knows_foreign, knows_limit, knows_no_pair, knows_refused};
 ghost use Rattle.udsnorm.specs.declared.ended.Matter.TheVariants as matter;
 
 use crate::commands::Job;
 use crate::job::{Plan, WordsFault};
 use crate::looks::{Look, lacks_stamp, look_of};
 use crate::noticing::Noticing;
+use crate::pair_jobs::PairAnswer;
+use can_log::Id;
 use std::fs::OpenFile;
 use std::io::{Error, ErrorKind};
 use trace_canon::{CompareFault, Config, Fault, LARGEST_LIMIT, Summary};
@@ -35,8 +37,8 @@ pub struct OneEnd {
 pub struct TwoEnd {
     /// The exit status.
     pub status: u8,
-    /// The fault of one of the logs, where that was told.
-    pub fault: Option<CompareFault>,
+    /// What was answered, where the text of that was written.
+    pub answer: Option<Result<PairAnswer, CompareFault>>,
 }
 
 /// How a plan ended.
@@ -81,6 +83,8 @@ pub enum Matter {
     Limit(u64),
     /// No identifier in it answers another one.
     NoPair,
+    /// It has lines, and no frame with one of these identifiers.
+    Foreign { tester: Id, unit: Id },
     /// It was named where a command has its place.
     NoCommand,
     /// It is no log, and looks like something else.
@@ -116,7 +120,7 @@ pub(crate) fn known_of_input<I, W: Target>(
     ensures { IsKnownBy job config.now input.now.given input.now.is_over outcome (W.taken out.now) result }
 {
     match outcome {
-        Ok(summary) => known_of_done(job, &summary, out),
+        Ok(summary) => known_of_done(job, config, &summary, out),
         Err(fault) => known_of(Which::First, config, fault, input),
     }
 }
@@ -132,20 +136,41 @@ pub(crate) fn known_of_file<F: OpenFile + Drop, W: Target>(
     ensures { IsKnownBy job config.now log.given log.is_over outcome (W.taken out.now) result }
 {
     match outcome {
-        Ok(summary) => known_of_done(job, &summary, out),
+        Ok(summary) => known_of_done(job, config, &summary, out),
         Err(fault) => known_of_fault(Which::First, config, fault, log),
     }
 }
 
 /// What is known of a log that was accepted.
-fn known_of_done<W: Target>(job: Job, summary: &Summary, out: &W) -> Option<Known>
-    ensures { result ≡ known_of_done job summary.now (W.taken out.now) }
+fn known_of_done<W: Target>(job: Job, config: &Config, summary: &Summary, out: &W) -> Option<Known>
+    ensures { result ≡ known_of_done job config.now summary.now (W.taken out.now) }
 {
     match job {
         Job::Find(_) => known_of_pairs(out),
+        _ if is_foreign(summary) => known_foreign(Which::First, config),
         Job::Explain(_) => None,
         _ => known_of_dropped(summary.dropped),
     }
+}
+
+/// Whether a log with these counts has lines, and no frame of either side.
+fn is_foreign(summary: &Summary) -> bool
+    ensures { result ≡ is_foreign summary.now }
+{
+    summary.lines > 0 && summary.frames == 0
+}
+
+/// What is known of a log without a frame of either side.
+fn known_foreign(which: Which, config: &Config) -> Option<Known>
+    ensures { result ≡ knows_foreign which config.now }
+{
+    Some(Known {
+        which,
+        matter: Matter::Foreign {
+            tester: config.tester(),
+            unit: config.unit(),
+        },
+    })
 }
 
 /// What is known of a log of which so many frames were dropped: that, where any was.
@@ -176,19 +201,35 @@ fn known_of_pairs<W: Target>(out: &W) -> Option<Known>
     }
 }
 
-/// What is known of one of two logs of files, by the fault of one of them.
+/// What is known of one of two logs of files, by what a job over them came to.
 pub(crate) fn known_of_files<F: OpenFile + Drop>(
     config: &Config,
-    fault: Option<CompareFault>,
+    answer: Option<Result<PairAnswer, CompareFault>>,
     left: Noticing<F>,
     right: Noticing<F>,
 ) -> Option<Known>
-    ensures { IsKnownByTwo config.now left.given left.is_over right.given right.is_over fault result }
+    ensures { IsKnownByTwo config.now left.given left.is_over right.given right.is_over answer result }
 {
-    match fault {
+    match answer {
         None => None,
-        Some(CompareFault::Left(fault)) => known_of_fault(Which::First, config, fault, left),
-        Some(CompareFault::Right(fault)) => known_of_fault(Which::Second, config, fault, right),
+        Some(Ok(pair)) => known_of_pair(config, &pair),
+        Some(Err(CompareFault::Left(fault))) => known_of_fault(Which::First, config, fault, left),
+        Some(Err(CompareFault::Right(fault))) => {
+            known_of_fault(Which::Second, config, fault, right)
+        }
+    }
+}
+
+/// What is known of one of two logs that were accepted.
+fn known_of_pair(config: &Config, pair: &PairAnswer) -> Option<Known>
+    ensures { result ≡ known_of_pair config.now pair.now }
+{
+    if is_foreign(&pair.left) {
+        known_foreign(Which::First, config)
+    } else if is_foreign(&pair.right) {
+        known_foreign(Which::Second, config)
+    } else {
+        None
     }
 }
 
@@ -235,8 +276,8 @@ fn known_of<R>(which: Which, config: &Config, fault: Fault, log: &Noticing<R>) -
     }
 }
 
-/// What is known of a log that is refused at this place. Nothing is read behind a refused byte: so where all of the log was,
-/// the place is behind its last one.
+/// What is known of a log that is refused at this place. Nothing is read behind a refused byte: so where all of the log
+/// was, the place is behind its last one.
 fn known_of_place<R>(which: Which, line: u64, column: u32, log: &Noticing<R>) -> Option<Known>
     ensures { result ≡ knows_refused which log.now.given log.now.is_over line column }
 {

@@ -1,9 +1,9 @@
 //! Hints: a line behind the text of a run, for the person at the terminal.
 
-ghost use Rattle.std.specs.Prelude.{◌≡◌, ◌<◌, ◌++◌, IfOk, OnOk, IfErr, map, option_map, string_bytes};
+ghost use Rattle.std.specs.Prelude.{◌≡◌, ◌<◌, ◌++◌, IfOk, OnOk, IfErr, Some, map, option_map, string_bytes};
 ghost use Rattle.std.specs.List.{flat_map, list_all};
 ghost use Rattle.can_log.specs.Digits.{digit};
-ghost use Rattle.udsnorm.specs.Hints.{GaveHint, IsSubject, hint_line, is_plain, is_plain_name, is_printable, look_words, quoted, quoted_byte, subject_seen};
+ghost use Rattle.udsnorm.specs.Hints.{GaveHint, IsSubject, before_name, either_text, find_words, hint_line, is_plain, is_plain_name, is_printable, look_words, quoted, quoted_byte, subject_seen};
 ghost use Rattle.udsnorm.specs.proving.Pieces.{piece_text, pieces_text};
 
 use crate::commands::COMMANDS;
@@ -11,6 +11,7 @@ use crate::ended::{Matter, Run, name_of};
 use crate::job::WordsFault;
 use crate::looks::Look;
 use crate::tell::tell_text;
+use can_log::{Id, identifier_text};
 use itoa::Buffer;
 use std::alloc::{AllocError, Global};
 use std::fs;
@@ -32,8 +33,12 @@ pub(crate) enum Piece<'a> {
     Words(&'static str),
     /// The number in decimal.
     Number(u64),
+    /// One of two identifiers.
+    Either(Id, Id),
     /// The name of a log, which has none if it is standard input.
     Log(Option<&'a str>),
+    /// The words that name the identifiers of the log.
+    Find(Option<&'a str>),
 }
 
 /// What a hint is about, and of which log.
@@ -43,8 +48,8 @@ pub(crate) struct Subject<'a> {
     pub(crate) log: Option<&'a str>,
 }
 
-/// Tells the hint of a run, where there is one. Where the text of the run could not be told, or memory is refused, it is left
-/// out.
+/// Tells the hint of a run, where there is one. Where the text of the run could not be told, or memory is refused, it
+/// is left out.
 pub fn give_hint<R: AllocGlobal + Files, E: Target>(
     rt: &R,
     words: &[String],
@@ -60,7 +65,7 @@ pub fn give_hint<R: AllocGlobal + Files, E: Target>(
     }
     match subject_of(rt, words, run) {
         Some(subject) => {
-            let line = line(rt.alloc(), subject.matter, subject.log)?;
+            let line = hint_line(rt.alloc(), subject.matter, subject.log)?;
             tell_text(line.as_slice(), err);
             Ok(())
         }
@@ -108,9 +113,10 @@ fn is_command(word: &str) -> bool {
 }
 
 /// The line of a hint about a log.
-fn line(alloc: Global, matter: Matter, log: Option<&str>) -> Result<Vec<u8>, AllocError>
+fn hint_line(alloc: Global, matter: Matter, log: Option<&str>) -> Result<Vec<u8>, AllocError>
     ensures { IfOk result (λ line. line.items ≡ hint_line matter (option_map (λ t. t.now) log.entry)) }
 {
+    let find = Piece::Find(log);
     let log = Piece::Log(log);
     let end = Piece::Words("\n");
     match matter {
@@ -153,6 +159,18 @@ fn line(alloc: Global, matter: Matter, log: Option<&str>) -> Result<Vec<u8>, All
                 Piece::Words("hint: nothing in "),
                 log,
                 Piece::Words(NO_PAIR),
+            ],
+        ),
+        Matter::Foreign { tester, unit } => line_of(
+            alloc,
+            &[
+                Piece::Words("hint: "),
+                log,
+                Piece::Words(" has no frame of "),
+                Piece::Either(tester, unit),
+                Piece::Words("; "),
+                find,
+                Piece::Words(" names its identifiers\n"),
             ],
         ),
         Matter::Looks(look) => line_of(
@@ -220,7 +238,7 @@ fn look_words(look: Look) -> &'static str
         }
         Look::Csv => " looks like a CSV file; python-can converts one\n",
         Look::Nanoseconds => {
-            " looks like a log whose stamps have nine decimals; leave out the last three\n"
+            " looks like a log whose stamps have more than six decimals; leave out those behind the sixth\n"
         }
     }
 }
@@ -243,8 +261,38 @@ fn push_piece(line: &mut Vec<u8>, piece: Piece<'_>) -> Result<(), AllocError>
     match piece {
         Piece::Words(text) => line.extend_from_slice(text.as_bytes()),
         Piece::Number(number) => line.extend_from_slice(Buffer::new().format(number).as_bytes()),
+        Piece::Either(tester, unit) => push_either(line, tester, unit),
         Piece::Log(None) => line.extend_from_slice(b"standard input"),
         Piece::Log(Some(name)) => push_quoted(line, name.as_bytes()),
+        Piece::Find(None) => line.extend_from_slice(b"udsnorm find"),
+        Piece::Find(Some(name)) => push_find(line, name.as_bytes()),
+    }
+}
+
+/// Puts one of two identifiers at the end of the line.
+fn push_either(line: &mut Vec<u8>, tester: Id, unit: Id) -> Result<(), AllocError>
+    ensures { OnOk result (line.new.items ≡ line.old.items ++ either_text tester unit) }
+{
+    line.extend_from_slice(identifier_text(tester).as_slice())?;
+    line.extend_from_slice(b" or ")?;
+    line.extend_from_slice(identifier_text(unit).as_slice())
+}
+
+/// Puts the words that name the identifiers of a log at the end of the line.
+fn push_find(line: &mut Vec<u8>, name: &[u8]) -> Result<(), AllocError>
+    ensures { OnOk result (line.new.items ≡ line.old.items ++ find_words (Some name.now)) }
+{
+    line.extend_from_slice(before_name(name))?;
+    push_quoted(line, name)
+}
+
+/// The words before a name. Behind `--` one that begins with a dash is no option.
+fn before_name(name: &[u8]) -> &'static [u8]
+    ensures { result.now ≡ before_name name.now }
+{
+    match name.first() {
+        Some(byte) if *byte == b'-' => b"udsnorm find -- ",
+        _ => b"udsnorm find ",
     }
 }
 

@@ -240,8 +240,8 @@ fn run_files<R: AllocGlobal + Files, W: Target, E: Target>(
     job: PairJob,
     strict: bool,
     config: &Config,
-    left: &String,
-    right: &String,
+    left_name: &String,
+    right_name: &String,
     out: &mut W,
     err: &mut E,
 ) -> End
@@ -249,7 +249,7 @@ where
     R::File: IsTerminal,
     requires out { IsLowCount (W.failures out.old) }
     requires err { IsLowCount (E.failures err.old) }
-    ensures ran { RanFiles ⟦<Noticing<R::File> as Source>⟧ W.Target E.Target job (page_name_of (Some (string_bytes left.now))) (page_name_of (Some (string_bytes right.now))) strict MESSAGE_LIMIT config.now out.old err.old result.status result.known out.new err.new
+    ensures ran { RanFiles ⟦<Noticing<R::File> as Source>⟧ W.Target E.Target job (page_name_of (Some (string_bytes left_name.now))) (page_name_of (Some (string_bytes right_name.now))) strict MESSAGE_LIMIT config.now out.old err.old result.status result.known out.new err.new
         ⊎ (Unopened E.Target (side_line (CompareFault.Left Fault.Read)) Which.First out.old err.old result.status result.known out.new err.new
         ⊎ (Unopened E.Target (side_line (CompareFault.Right Fault.Read)) Which.Second out.old err.old result.status result.known out.new err.new
         ⊎ OneStream E.Target out.old err.old result.status result.known out.new err.new)) }
@@ -257,43 +257,43 @@ where
     ensures once { result.status ≡ 0 → W.flushes out.new ≡ W.flushes out.old + 1 }
     ensures flushes { W.flushes out.new ≤ W.flushes out.old + 1 }
 {
-    let one = match fs::open(rt, left.as_str()) {
+    let left = match fs::open(rt, left_name.as_str()) {
         Ok(file) => file,
         Err(error) => {
             let fault = CompareFault::Left(Fault::Read);
             return tell_unopened(fault, Which::First, &error, err);
         }
     };
-    let other = match fs::open(rt, right.as_str()) {
+    let right = match fs::open(rt, right_name.as_str()) {
         Ok(file) => file,
         Err(error) => {
             let fault = CompareFault::Right(Fault::Read);
             return tell_unopened(fault, Which::Second, &error, err);
         }
     };
-    if is_one_stream(&one, &other) {
+    if is_one_stream(&left, &right) {
         return End {
             status: tell_one_stream(err),
             known: None,
         };
     }
-    let mut one = Noticing::new(one);
-    let mut other = Noticing::new(other);
+    let mut left = Noticing::new(left);
+    let mut right = Noticing::new(right);
     let end = run_two(
         rt.alloc(),
         job,
-        page_name(Some(left.as_str())),
-        page_name(Some(right.as_str())),
+        page_name(Some(left_name.as_str())),
+        page_name(Some(right_name.as_str())),
         strict,
         config,
-        &mut one,
-        &mut other,
+        &mut left,
+        &mut right,
         out,
         err,
     );
     End {
         status: end.status,
-        known: known_of_files(config, end.fault, one, other),
+        known: known_of_files(config, end.answer, left, right),
     }
 }
 

@@ -8,7 +8,7 @@ ghost use Rattle.trace_canon.specs.declared.fault.Fault.{Fault as FaultValue};
 ghost use Rattle.trace_io.specs.Counted.{AreLowCounts, IsLowCount};
 ghost use Rattle.trace_io.specs.Stream.{Agrees};
 ghost use Rattle.trace_report.specs.PairPage.{pair_page, pair_title};
-ghost use Rattle.udsnorm.specs.Commands.{PairEngineAnswers, PairEngineReads, has_text, left_file, pair_of, right_file};
+ghost use Rattle.udsnorm.specs.Commands.{PairEngineAnswers, PairEngineNeeds, PairEngineReads, has_text, left_file, pair_of, right_file};
 ghost use Rattle.udsnorm.specs.Ending.{has_unclean};
 ghost use Rattle.udsnorm.specs.Telling.{WroteText};
 ghost use Rattle.udsnorm.specs.proving.Pairs.{answer_held, answer_of, text_of_answer};
@@ -131,6 +131,14 @@ pub(crate) fn do_pair_job<A: Source, B: Source, W: Target>(
 
     // After a fault of the left log nothing of the right one was read.
     ensures unread { (fault : FaultValue) → result.answer ≡ Err (CompareFault.Left fault) → right.new ≡ right.old }
+
+    // Memory is refused only for a log that needs it.
+    ensures left_memory { (one : List ℕ) → Agrees (A.given left.old) (A.given left.new) (A.is_over left.new) one
+        → result.answer ≡ Err (CompareFault.Left Fault.Memory) → PairEngineNeeds job left_name.now right_name.now MESSAGE_LIMIT config.now one }
+    ensures right_memory { (other : List ℕ) → Agrees (B.given right.old) (B.given right.new) (B.is_over right.new) other
+        → result.answer ≡ Err (CompareFault.Right Fault.Memory) → PairEngineNeeds job left_name.now right_name.now MESSAGE_LIMIT config.now other }
+
+    // How near to what refuses a log it stops reading, and what it did with both.
     ensures left_near { (one : List ℕ) → Agrees (A.given left.old) (A.given left.new) (A.is_over left.new) one
         → PairEngineReads job left_name.now right_name.now MESSAGE_LIMIT config.now one (length (A.given left.new) - length (A.given left.old)) (A.failures left.old) (A.failures left.new) }
     ensures right_near { (other : List ℕ) → Agrees (B.given right.old) (B.given right.new) (B.is_over right.new) other

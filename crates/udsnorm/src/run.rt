@@ -7,7 +7,7 @@ ghost use Rattle.trace_canon.specs.Laws.{IsCertified};
 ghost use Rattle.trace_io.specs.Counted.{AreLowCounts, IsLowCount};
 ghost use Rattle.trace_io.specs.Stream.{Agrees};
 ghost use Rattle.trace_io.specs.Written.{HasFront};
-ghost use Rattle.udsnorm.specs.Ending.{EndsAs, fault_of, flushes, status_of_comparison, status_of_run, status_of_run_of_two};
+ghost use Rattle.udsnorm.specs.Ending.{EndsAs, answer_written, flushes, status_of_comparison, status_of_run, status_of_run_of_two};
 ghost use Rattle.udsnorm.specs.FaultLines.{run_text, run_two_text};
 ghost use Rattle.udsnorm.specs.Run.{RanOne, RanTwo};
 ghost use Rattle.udsnorm.specs.Telling.{TookText};
@@ -21,9 +21,9 @@ use std::alloc::Global;
 use trace_canon::{CompareFault, Comparison, Config, Fault, Summary};
 use trace_io::{Source, Target, write_all};
 
-/// Does a job over one log, which has this name on a page, and answers how that ended. The text goes to the output, which is flushed before a fault of the
-/// log is told, or that it is not clean, where the run is strict; and what is told to the error output, as far as that takes
-/// it.
+/// Does a job over one log, which has this name on a page, and answers how that ended. The text goes to the output,
+/// which is flushed before a fault of the log is told, or that it is not clean, where the run is strict; and what is
+/// told to the error output, as far as that takes it.
 pub fn run_one<R: Source, W: Target, E: Target>(
     alloc: Global,
     job: Job,
@@ -111,9 +111,9 @@ fn tell_outcome<E: Target>(outcome: Result<Summary, Fault>, strict: bool, err: &
     }
 }
 
-/// Does a job over two logs, which have these names on a page, the left one read whole before the right one, and answers how
-/// that ended. The text goes to the output, which is flushed before a fault of a log is told, or which one is not clean, where
-/// the run is strict; and what is told to the error output, as far as that takes it.
+/// Does a job over two logs, which have these names on a page, the left one read whole before the right one, and
+/// answers how that ended. The text goes to the output, which is flushed before a fault of a log is told, or which one
+/// is not clean, where the run is strict; and what is told to the error output, as far as that takes it.
 pub fn run_two<A: Source, B: Source, W: Target, E: Target>(
     alloc: Global,
     job: PairJob,
@@ -132,9 +132,10 @@ pub fn run_two<A: Source, B: Source, W: Target, E: Target>(
     requires err { IsLowCount (E.failures err.old) }
 
     // What the engine answered, what was read and written, and what the run came to: its status and what is told of it.
-    ensures ran { RanTwo A.Source B.Source W.Target E.Target job left_name.now right_name.now strict MESSAGE_LIMIT config.now left.old right.old out.old err.old result.status result.fault left.new right.new out.new err.new }
+    ensures ran { RanTwo A.Source B.Source W.Target E.Target job left_name.now right_name.now strict MESSAGE_LIMIT config.now left.old right.old out.old err.old result.status result.answer left.new right.new out.new err.new }
 
-    // Where both logs were accepted, and clean where they had to be, the output was flushed last and once, and nothing was told.
+    // Where both logs were accepted, and clean where they had to be, the output was flushed last and once, and nothing
+    // was told.
     ensures flushed { result.status ≤ 1 → W.is_flushed out.new ≡ true }
     ensures once { result.status ≤ 1 → W.flushes out.new ≡ W.flushes out.old + 1 }
     ensures flushes { W.flushes out.new ≤ W.flushes out.old + 1 }
@@ -159,7 +160,7 @@ pub fn run_two<A: Source, B: Source, W: Target, E: Target>(
     let wrote = flush_written(due, done.wrote, out);
     TwoEnd {
         status: tell_pair(&done.answer, wrote, strict, err),
-        fault: fault_of(wrote, &done.answer),
+        answer: answer_written(wrote, done.answer),
     }
 }
 
@@ -175,18 +176,18 @@ fn flush_written<W: Target>(due: bool, wrote: bool, out: &mut W) -> bool
     }
 }
 
-/// The fault of a log that a run over two logs tells, if it tells one.
-fn fault_of(wrote: bool, answer: &Result<PairAnswer, CompareFault>) -> Option<CompareFault>
-    ensures { result ≡ fault_of wrote answer.now }
+/// The answer of a run over two logs, where its text was written.
+fn answer_written(
+    wrote: bool,
+    answer: Result<PairAnswer, CompareFault>,
+) -> Option<Result<PairAnswer, CompareFault>>
+    ensures { result ≡ answer_written wrote answer }
 {
-    match answer {
-        Err(fault) if wrote => Some(*fault),
-        _ => None,
-    }
+    if wrote { Some(answer) } else { None }
 }
 
-/// Tells what a run over two logs came to, where its text was not written, or that is a fault, or a log has to be clean and is
-/// not. Answers the exit status.
+/// Tells what a run over two logs came to, where its text was not written, or that is a fault, or a log has to be clean
+/// and is not. Answers the exit status.
 fn tell_pair<E: Target>(
     answer: &Result<PairAnswer, CompareFault>,
     wrote: bool,

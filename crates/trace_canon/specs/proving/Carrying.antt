@@ -134,7 +134,8 @@ RefusesTelling {M = M} stands scripts target why receiver old result new =
     → CountsRemoved (messages MESSAGE_LIMIT (trace settings meanings)) receiver.taker.pending → stands first (trace settings meanings) receiver.taker.machine
     → SettlesWith (refusal_of_lines (scripts first) MESSAGE_LIMIT settings why meanings) why target receiver.taker.page.failed receiver.taker.page.block old result new
 
--- how a run ends on a fault, with what it has taken: that of a device stands as it is, and before others all that is said is written
+-- how a run ends on a fault, with what it has taken: that of a device stands as it is, and before others all that is
+-- said is written
 abbrev pub GivesUp : {M W : Type 0} → (M → List Entry → M → Type 0) → (M → Script) → Ghosts W → Fault → Receiver M W → W → Fault → W → Type 0
 GivesUp stands scripts target (fault.BadLine line column) receiver old result new = RefusesTelling stands scripts target (fault.BadLine line column) receiver old result new
 GivesUp stands scripts target fault.LogLimit receiver old result new = RefusesTelling stands scripts target fault.LogLimit receiver old result new

@@ -50,8 +50,8 @@ StopsLog stopped start m log given why now =
     (meanings : List (Option Stamped)) × (what : Option Stamped) × stopped start meanings what why now × StopsWithin m log given meanings what
 
 module _ {T : Type 0} (took rested broke : Took T) (stopped : Stopped T) (start : T) where
-  -- The log was read within its limit m, of which this many bytes were given. Where reading failed, all that was due is written, or
-  -- that failed.
+  -- The log was read within its limit m, of which this many bytes were given. Where reading failed, all that was due is
+  -- written, or that failed.
   abbrev pub FeedsLog : ℕ → List ℕ → ℕ → Result Bool Fault → T → Type 0
   FeedsLog m log given (Ok ended) now =
       (meanings : List (Option Stamped)) × (length log ≤ m) × (given ≡ length log) × LogMeans log meanings × HasEnded log meanings × took start meanings now

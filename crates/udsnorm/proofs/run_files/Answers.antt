@@ -9,13 +9,13 @@ given_by r = r.given
 
 pub returns-clause-ran : goal.returns-clause-ran
 returns-clause-ran g c = inl (record {
-  one = c.new-one.result;
-  other = c.new-other.result;
+  one = c.new-left.result;
+  other = c.new-right.result;
   one_left = c.run_two-end.new.left;
   other_left = c.run_two-end.new.right;
-  from_start = ap given_by c.new-one.ensures;
-  from_start_too = ap given_by c.new-other.ensures;
-  fault = c.run_two-end.result.fault;
+  from_start = ap given_by c.new-left.ensures;
+  from_start_too = ap given_by c.new-right.ensures;
+  written = c.run_two-end.result.answer;
   ran = ran_named_two (c.page_name.ensures ∙ ap (λ path. page_name (Some path)) c.as_str-3.ensures.value) (c.page_name-2.ensures ∙ ap (λ path. page_name (Some path)) c.as_str-4.ensures.value) c.run_two-end.ensures.ran;
   known_is = c.known_of_files.ensures;
 })

@@ -8,7 +8,7 @@ use Rattle.udsnorm.proofs.commands.call_engine.Goals as goal
 pub returns-in-Normalise : goal.returns-in-Normalise
 returns-in-Normalise g c =
     let ran = c.normalise.ensures in
-    record { ran = rw c.in-Normalise.is (record { answer = ran.answer; near = ran.near; read = ran.read; wrote = ran.wrote }) }
+    record { ran = rw c.in-Normalise.is (record { answer = ran.answer; memory = ran.memory; near = ran.near; read = ran.read; wrote = ran.wrote }) }
 
 pub returns-in-Items : goal.returns-in-Items
 returns-in-Items g c = record { ran = rw c.in-Items.is c.write_items.ensures.ran }
@@ -33,6 +33,7 @@ returns-in-Report g c =
           subst (λ (name : List ℕ). AnswersTold (report_script (page_title c.report_style.result.now name settings) MESSAGE_LIMIT) answers_counts MESSAGE_LIMIT settings log (length (g.R.Source.given c.report.new.reader) - length (g.R.Source.given c.args.input.now)) c.report.result (g.W.Target.taken c.args.out.now) (g.W.Target.taken c.report.new.writer)) c.as_bytes.ensures.value
               (ran.answer log agrees),
         );
+        memory = c.report.ensures.ran.memory (λ T e none. none);
         near = ran.near;
         read = ran.read;
         wrote = ran.wrote;

@@ -1,11 +1,11 @@
-use Rattle.std.proofs.Common.{Result, subst, sym}
+use Rattle.std.proofs.Common.{Result, subst, sym, ◌∙◌}
 use Rattle.isotp_receive.specs.declared.TheConstants.{MESSAGE_LIMIT}
 use Rattle.trace_canon.specs.declared.fault.CompareFault.{CompareFault}
 use Rattle.trace_report.specs.PairPage.{pair_page, pair_title}
 use Rattle.udsnorm.specs.Commands.{ComparesPair, PagesPair}
 use Rattle.udsnorm.specs.proving.Pairs.{text_of_answer}
 use Rattle.udsnorm.specs.declared.pair_jobs.PairAnswer.{PairAnswer}
-use Rattle.udsnorm.proofs.Pairs.{compared_pair, pages_pair}
+use Rattle.udsnorm.proofs.Pairs.{compared_pair, fault_compared, fault_held, pages_pair}
 use Rattle.udsnorm.proofs.pair_jobs.do_pair_job.Goals as goal
 
 pub returns-in-Compare-clause-engine : goal.returns-in-Compare-clause-engine
@@ -19,6 +19,14 @@ returns-in-Compare-clause-engine g c =
           (compared_pair style c.args.strict MESSAGE_LIMIT settings one other c.compare-answer.result (c.compare-answer.ensures.answer one other agrees_one agrees_other)),
       c.write_answer.ensures.text,
     )
+
+pub returns-in-Compare-clause-left_memory : goal.returns-in-Compare-clause-left_memory
+returns-in-Compare-clause-left_memory g c = λ log agrees is.
+    rw c.in-Compare.is (c.compare-answer.ensures.left_memory log agrees (fault_compared c.compare-answer.result _ (sym c.answer_of.ensures ∙ is)))
+
+pub returns-in-Compare-clause-right_memory : goal.returns-in-Compare-clause-right_memory
+returns-in-Compare-clause-right_memory g c = λ log agrees is.
+    rw c.in-Compare.is (c.compare-answer.ensures.right_memory log agrees (fault_compared c.compare-answer.result _ (sym c.answer_of.ensures ∙ is)))
 
 pub returns-in-Compare-clause-left_near : goal.returns-in-Compare-clause-left_near
 returns-in-Compare-clause-left_near g c = λ log agrees. rw c.in-Compare.is (c.compare-answer.ensures.left_near log agrees)
@@ -39,6 +47,14 @@ returns-in-Report-clause-engine g c =
           (pages_pair page.0 left right c.args.strict MESSAGE_LIMIT settings one other c.hold_two-answer.result (c.hold_two-answer.ensures.answer one other agrees_one agrees_other)),
       page.1,
     )
+
+pub returns-in-Report-clause-left_memory : goal.returns-in-Report-clause-left_memory
+returns-in-Report-clause-left_memory g c = λ log agrees is.
+    rw c.in-Report.is (c.hold_two-answer.ensures.left_memory log agrees (fault_held c.hold_two-answer.result _ (sym c.answer_held.ensures ∙ is)))
+
+pub returns-in-Report-clause-right_memory : goal.returns-in-Report-clause-right_memory
+returns-in-Report-clause-right_memory g c = λ log agrees is.
+    rw c.in-Report.is (c.hold_two-answer.ensures.right_memory log agrees (fault_held c.hold_two-answer.result _ (sym c.answer_held.ensures ∙ is)))
 
 pub returns-in-Report-clause-left_near : goal.returns-in-Report-clause-left_near
 returns-in-Report-clause-left_near g c = λ log agrees. rw c.in-Report.is (c.hold_two-answer.ensures.left_near log agrees)

@@ -1,7 +1,7 @@
 use Rattle.std.proofs.Common.{◌≤◌, ◌+◌, ap, ◌∙◌, sym, subst}
 use Rattle.udsnorm.specs.Ending.{EndsAs, flushes}
 use Rattle.udsnorm.proofs.Certificates.{answer_certifies}
-use Rattle.udsnorm.proofs.Statuses.{comes_to, done_once, failed_once, flushed_at_most_once, flushed_once_then, is_flushed_then, not_flushed_then, recorded_then, took_still}
+use Rattle.udsnorm.proofs.Statuses.{comes_to, done_once, failed_once, flushed_at_most_once, flushed_once_then, is_flushed_then, memory_of_five, not_flushed_then, recorded_then, took_still}
 use Rattle.udsnorm.proofs.run.run_one.Goals as goal
 
 pub returns-clause-ran : goal.returns-clause-ran
@@ -21,6 +21,8 @@ returns-clause-ran g c =
     record {
       answer = answer;
       engine = λ log agrees. rw kept (c.do_job-answer.ensures.ran.answer log agrees);
+      memory = λ log agrees five. c.do_job-answer.ensures.ran.memory log agrees
+          (memory_of_five c.args.strict (flushes answer taken) answer outcome c.tell_outcome.result (comes_to (flushes answer taken) answer outcome old new times times_now is_flushed ends) c.tell_outcome.ensures.status five);
       near = c.do_job-answer.ensures.ran.near;
       read = c.do_job-answer.ensures.ran.read;
       comes = comes_to (flushes answer taken) answer outcome old new times times_now is_flushed ends;

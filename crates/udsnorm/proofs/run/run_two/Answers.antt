@@ -13,6 +13,8 @@ returns-clause-ran g c =
       text = done.ensures.engine.0;
       engine = done.ensures.engine.1;
       unread = done.ensures.unread;
+      left_memory = done.ensures.left_memory;
+      right_memory = done.ensures.right_memory;
       left_near = done.ensures.left_near;
       right_near = done.ensures.right_near;
       left_read = done.ensures.left_read;
@@ -26,7 +28,7 @@ returns-clause-ran g c =
       left_alone = λ none. left_alone_then target c.has_text-due.result done.result.wrote c.flush_written-wrote.result c.args.out.now done.new.out c.flush_written-wrote.new.out ended (c.has_text-due.ensures ∙ none)
           (done.ensures.left_alone none);
       status_is = c.tell_pair.ensures.status;
-      fault_is = c.fault_of.ensures;
+      written_is = c.answer_written.ensures;
       told = c.tell_pair.ensures.told;
     }
 
