@@ -169,8 +169,7 @@ pub(crate) fn full(alloc: Global) -> FailsAfter<Short<Vec<u8>>> {
 fn each_call_writes_its_text_of_a_session(rt: HostRuntime) -> Result<(), Fail> {
     assert_call(&rt, rt.alloc(), Call::Normalise, CANONICAL, 46)?;
     assert_call(&rt, rt.alloc(), Call::List, LISTED, 0)?;
-    let explained =
-        in_memory::explanation(rt.alloc(), &sides()?, Notation::Text, LOG.as_bytes())?;
+    let explained = in_memory::explanation(rt.alloc(), &sides()?, Notation::Text, LOG.as_bytes())?;
     assert_call(
         &rt,
         rt.alloc(),
@@ -260,7 +259,9 @@ fn a_session_in_memory_has_its_counts(rt: HostRuntime) -> Result<(), Fail> {
     let found = counted::message_lines(alloc, &config, Notation::Text, log)?;
     assert!(rt; found.text.as_slice() == PLACED.as_bytes() && found.summary.messages == 2);
     let found = counted::explanation(alloc, &config, Notation::Text, log)?;
-    assert!(rt; found.text.as_slice().starts_with(EXPLAINED.as_bytes()) && found.summary.lines == 5);
+    assert!(rt;
+        found.text.as_slice().starts_with(EXPLAINED.as_bytes()) && found.summary.lines == 5
+    );
     Ok(())
 }
 
