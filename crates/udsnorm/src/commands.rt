@@ -320,6 +320,7 @@ fn report_task(found: &ArgMatches<'_>) -> Task
 }
 
 /// What the engine answers that does the job, over a log that has this name on a page.
+#[tactic(auto, using(crate::proofs::Engines::ran_any))]
 pub(crate) fn do_job<R: Source, W: Target>(
     alloc: Global,
     job: Job,
