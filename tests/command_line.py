@@ -355,15 +355,17 @@ def helps(cases):
 
 
 def help_texts(cases):
-    """Each help begins with what the program or the command does, and fits on a screen."""
+    """Each help begins with what the program or the command does, and fits on a screen, the list of the commands aside."""
+    listed = len(commands.all_commands(cases.program))
     for words, lines in helps(cases):
         status, output, error = cases.run(words)
         told = output.split(b"\n")
+        most = 23 + listed if b"\nCommands:" in output else 31
         wrong = [] if status == DONE and not error else [f"status {status}, error output {error!r}"]
         wrong += [f"no line {line!r}" for line in lines if line not in told]
         wrong += [] if told[0] == lines[0] else [f"begins with {told[0]!r}"]
         wrong += [] if output.endswith(b"\n") and not output.endswith(b"\n\n") else ["no line feed at the end"]
-        wrong += [] if len(told) <= 31 and max(map(len, told)) <= 100 else ["more than a screen"]
+        wrong += [] if len(told) <= most and max(map(len, told)) <= 100 else ["more than a screen"]
         cases.report(f"help by {words}", wrong)
     with open("/dev/full", "wb") as full:
         cases.case("help on a full disk", cases.run(["--help"], stdout=full), DEVICE, None, WRITE_FAILED)
