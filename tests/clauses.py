@@ -2,8 +2,9 @@
 cites.
 
 In the page for callers, each clause of a public function stands in the rows, items and paragraphs that name the function or its
-type. What all runs of a kind promise is one clause `ran`, a record of trace_canon. Its fields are clauses, too; they stand there, or
-in the item of trace_canon's page that begins with the record. A call needs no row where these items say all of its clauses.
+type. What all runs of a kind promise is one clause `ran`, a record. Its fields are clauses, too; they stand there, or in the item
+that begins with the record, of the page of a crate that has such records. A call needs no row where these items say all of its
+clauses.
 
 In docs/proved.md the last column of a table of promises cites clauses, in parts between semicolons. Of these are the names in
 backticks read:
@@ -25,7 +26,7 @@ from pathlib import Path
 Function = namedtuple("Function", "path clauses is_public is_law run")
 
 # What a part of a cell says of some names: what they are, the names, their clauses, None where it names none, and their crate,
-# None where that is the crate of the section.
+# None where that is one of the section's.
 Citation = namedtuple("Citation", "kind names clauses crate")
 
 CALL, PRIVATE, LAW = "call", "private", "law"
@@ -85,7 +86,9 @@ def functions_in(text):
 
 
 # The files with the records of runs.
-RUNS = [Path(__file__).resolve().parent.parent / "crates/trace_canon/specs" / f"{name}.antt" for name in ("Told", "Printed", "Listed", "Found")]
+CRATES = Path(__file__).resolve().parent.parent / "crates"
+RUNS = [CRATES / path for path in ("trace_run/specs/Told.antt", "trace_run/specs/Printed.antt", "trace_canon/specs/Listed.antt", "trace_canon/specs/Found.antt")]
+OF_RUNS = ("trace_run", "trace_canon")
 RUN = "ran"
 
 
@@ -143,13 +146,13 @@ def blocks(page):
 
 def unnamed(page, of_runs, function):
     """The clauses of a public function that the page for callers leaves out; a lone one stands where the function does. Those of a run
-    may stand in the items of the page of runs that are about its record. Where that is this page, the function itself need not stand
-    there."""
+    may stand in the items of the pages of runs that are about its record. Where this is one of them, the function itself need not
+    stand there."""
     of_type = [part for part in function.path.split("::")[:-1] if part[0].isupper()]
     names = "|".join([*of_type, function.path.rpartition("::")[2]])
     about = [block for block in blocks(page) if re.search(rf"`(?:\w+::)*({names})\b", block)]
     of_run = [block for block in blocks(of_runs) if any(block.startswith(f"- **`{record}`") for record in function.run)]
-    if not about and not (of_run and page == of_runs):
+    if not about and not (of_run and page in of_runs):
         return [f"{function.path} is not named"]
     said = "\n".join([*about, *of_run, *(f"`{RUN}`" for _ in of_run)])
     return [f"{function.path}: {clause} is not named" for clause in function.clauses if clause and f"`{clause}`" not in said]
@@ -157,7 +160,7 @@ def unnamed(page, of_runs, function):
 
 def left_out(folder):
     """What the page for callers leaves out, for each crate that has one."""
-    of_runs = (folder / FIRST / "CALLING.md").read_text()
+    of_runs = "\n\n".join((folder / name / "CALLING.md").read_text() for name in OF_RUNS)
     for path in sorted(folder.glob("*/CALLING.md")):
         page = path.read_text()
         public = [function for function in functions(path.parent) if function.is_public]
@@ -166,22 +169,21 @@ def left_out(folder):
 
 # --- The page of the proofs ---------------------------------------------------------------------------------------------
 
-# How tables of promises begin; and the crate of the one that stands before the sections of the crates.
+# How tables of promises begin; and the crates of the one that stands before the sections of the crates.
 TABLES = ("| Promise | Contract |", "| This | is carried by |")
-FIRST = "trace_canon"
+FIRST = ["trace_log", "trace_run", "trace_text", "trace_canon"]
 
 QUOTED = re.compile(r"`([\w:]+)`")
 
 
 def cells(page):
-    """The cells that say which contracts carry a promise, each with the crate of its section."""
-    crate, is_table = FIRST, False
+    """The cells that say which contracts carry a promise, each with the crates of its section."""
+    crates, is_table = FIRST, False
     for line in page.splitlines():
-        heading = re.match(r"## .*`(\w+)`$", line)
-        crate = heading[1] if heading else crate
+        crates = line.startswith("## ") and re.findall(r"`(\w+)`", line) or crates
         is_table = line in TABLES or (is_table and line.startswith("|"))
         if is_table and line not in TABLES and not line.startswith("|---"):
-            yield crate, line.strip("| ").rsplit(" | ", 1)[-1]
+            yield crates, line.strip("| ").rsplit(" | ", 1)[-1]
 
 
 def citations(cell):
@@ -214,17 +216,6 @@ class Contracts:
         self.functions = functions(crate)
         self.wrong = []
 
-    def cite(self, citation, owner):
-        """Looks up what is cited. A name without a type may be of the type before it, which is answered for the next one."""
-        for name in citation.names:
-            owner = name.split("::")[-2] if "::" in name and citation.kind == CALL else owner
-            found = self.named(citation.kind, name, owner)
-            self.wrong += [] if found else [f"there is no {citation.kind} {name}"]
-            for function in found:
-                missing = [clause for clause in citation.clauses or [] if clause not in function.clauses]
-                self.wrong += [f"{function.path} has no clause {clause}".rstrip() for clause in missing]
-        return owner
-
     def named(self, kind, name, owner):
         """The functions of this kind that a name stands for, itself or with the type."""
         of_kind = [function for function in self.functions if function.is_law == (kind == LAW) and function.is_public == (kind != PRIVATE)]
@@ -235,12 +226,25 @@ class Contracts:
         return []
 
 
+def cite(citation, several, owner):
+    """Looks up what is cited in the first of several crates that has it. A name without a type may be of the type before it, which is
+    answered for the next one."""
+    for name in citation.names:
+        owner = name.split("::")[-2] if "::" in name and citation.kind == CALL else owner
+        having = [contracts for contracts in several if contracts.named(citation.kind, name, owner)]
+        several[-1].wrong += [] if having else [f"there is no {citation.kind} {name}"]
+        for function in having[0].named(citation.kind, name, owner) if having else []:
+            missing = [clause for clause in citation.clauses or [] if clause not in function.clauses]
+            having[0].wrong += [f"{function.path} has no clause {clause}".rstrip() for clause in missing]
+    return owner
+
+
 def cited_wrongly(page, folder):
     """What is wrong with the citations of a page, for each crate that has contracts for callers."""
     crates = {path.parent.name: Contracts(path.parent) for path in sorted(folder.glob("*/CALLING.md"))}
-    for crate, cell in cells(page):
+    for section, cell in cells(page):
         owner = None
         for citation in citations(cell):
-            owner = crates[citation.crate or crate].cite(citation, owner)
+            owner = cite(citation, [crates[name] for name in ([citation.crate] if citation.crate else section)], owner)
     for name, contracts in crates.items():
         yield name, contracts.wrong

@@ -203,11 +203,11 @@ def wrong_bodies(cases):
 
 
 def tried_by_the_gate(cases):
-    """Each row of the first table of docs/proved.md names wrong bodies of trace_canon in its last cell."""
-    folder = TOP / "crates" / "trace_canon" / "must-fail"
+    """Each row of the first table of docs/proved.md names wrong bodies in its last cell."""
+    there = {path.stem for crate in clauses.FIRST for path in (TOP / "crates" / crate / "must-fail").glob("*.edit")}
     for part, _, bodies in table_below(PROVED, "What is proved, and what is not"):
         names = re.findall(r"`(\w+)`", bodies)
-        wrong = [f"{name} is not there" for name in names if not (folder / f"{name}.edit").exists()]
+        wrong = [f"{name} is not there" for name in names if name not in there]
         cases.report(f"the gate tries wrong bodies for: {part}", wrong if names else ["none is named"])
 
 
@@ -253,7 +253,7 @@ def cited(path):
 
 def prose_above(name, text):
     """The comment directly above the definition of this name."""
-    found = re.search(rf"((?:^--.*\n)+)(?:abbrev |unfoldable )?pub (?:record |data )?{re.escape(name)} ", text, re.M)
+    found = re.search(rf"((?:^ *--.*\n)+) *(?:abbrev |unfoldable )?pub (?:record |data )?{re.escape(name)} ", text, re.M)
     return found[1] if found else ""
 
 
@@ -310,9 +310,9 @@ def printed_clauses(cases):
     printed = subprocess.run([TOP / "scripts" / "clauses"], check=True, capture_output=True, text=True, timeout=60).stdout
     tables = dict(re.findall(r"^## (\w+)\n\n(.*?)(?=\n\n|\Z)", printed, re.M | re.S))
     wrong, count = [], 0
-    for owner, cell in clauses.cells(PROVED.read_text()):
+    for section, cell in clauses.cells(PROVED.read_text()):
         for citation in clauses.citations(cell):
-            table = tables.get(citation.crate or owner, "")
+            table = "\n".join(tables.get(crate, "") for crate in ([citation.crate] if citation.crate else section))
             for name in citation.names:
                 count += 1
                 rows = re.findall(rf"^\| (?:law |private )?`(?:\w+::)*{name}` \| ([^|]*) \|", table, re.M)

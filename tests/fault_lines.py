@@ -9,9 +9,9 @@ import re
 
 # The enumerations of faults: the crate and file of each, and the definition that has its lines.
 FAULTS = {
-    "Fault": ("trace_canon/src/fault.rt", "fault_line"),
-    "CompareFault": ("trace_canon/src/fault.rt", "side_line"),
-    "ConfigFault": ("trace_canon/src/fault.rt", "config_line"),
+    "Fault": ("trace_log/src/fault.rt", "fault_line"),
+    "CompareFault": ("trace_log/src/fault.rt", "side_line"),
+    "ConfigFault": ("trace_log/src/fault.rt", "config_line"),
     "WordsFault": ("udsnorm/src/job.rt", "words_text"),
 }
 LINES = "udsnorm/specs/FaultLines.antt"

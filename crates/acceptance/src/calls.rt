@@ -8,11 +8,10 @@ use std::alloc::Global;
 use std::io::{ErrorKind, Read, Write};
 use std::process::Abort;
 use std::test::Fail;
-use trace_canon::{
-    CompareFault, Comparison, Config, ConfigFault, Fault, ItemStyle, Notation, Numbering, Summary,
-    compare, counted, explain, in_memory, list, meaning_of, normalise,
-};
+use trace_canon::{Comparison, compare, counted, explain, in_memory, list, meaning_of, normalise};
 use trace_io::{FailsAfter, FailsAt, Reading, Short, Source, Target, Writing};
+use trace_log::{CompareFault, Config, ConfigFault, Fault, Summary};
+use trace_text::{ItemStyle, Notation, Numbering};
 use uds_exchange::Meaning;
 
 /// Lines in words, with their numbers.

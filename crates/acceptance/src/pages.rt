@@ -8,8 +8,9 @@ use std::alloc::Global;
 use std::io::{Read, Write};
 use std::process::Abort;
 use std::test::Fail;
-use trace_canon::{CompareFault, Comparison, ConfigFault, Fault, Summary};
+use trace_canon::Comparison;
 use trace_io::{Reading, Source, Target, Writing};
+use trace_log::{CompareFault, ConfigFault, Fault, Summary};
 use trace_report::{Held, PairTitle, hold_two, report, write_pair_page};
 
 /// A log of the same request, and of nothing else.

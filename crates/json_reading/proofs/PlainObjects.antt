@@ -17,18 +17,19 @@ use Rattle.uds_find.specs.Finding.{credit_line}
 use Rattle.uds_message.specs.Message.{sid, is_negative_response, response_code, is_suppressing}
 use Rattle.trace_canon.specs.declared.comparing.Comparison.{Comparison}
 use Rattle.trace_canon.specs.declared.comparing.Comparison.TheVariants.{Same, Different}
-use Rattle.trace_canon.specs.declared.item_lines.Numbering.{Numbering}
-use Rattle.trace_canon.specs.declared.item_lines.Numbering.TheVariants.{Shown, Hidden}
-use Rattle.trace_canon.specs.declared.remark.Remark.{Remark}
-use Rattle.trace_canon.specs.declared.remark.Remark.TheVariants as remark
+use Rattle.trace_text.specs.declared.item_lines.Numbering.{Numbering}
+use Rattle.trace_text.specs.declared.item_lines.Numbering.TheVariants.{Shown, Hidden}
+use Rattle.trace_text.specs.declared.remark.Remark.{Remark}
+use Rattle.trace_text.specs.declared.remark.Remark.TheVariants as remark
 use Rattle.trace_canon.specs.ComparisonText.{shown_members, shown_value, comparison_members}
-use Rattle.trace_canon.specs.ExplainText.{cause_text, layout_fault_text, reason_members, remark_members}
+use Rattle.trace_text.specs.ExplainText.{cause_text, layout_fault_text, reason_members, remark_members}
 use Rattle.trace_canon.specs.Found.{pair_object}
-use Rattle.trace_canon.specs.Json.{Members, null, truth, number, string, object, nothing, member}
-use Rattle.trace_canon.specs.ListText.{answer_members, outcome_members, item_members, item_object}
-use Rattle.trace_canon.specs.MessageLines.{placed_members, role_text}
-use Rattle.trace_canon.specs.Words.{bytes_text, direction_text, service_text, code_text}
-use Rattle.trace_canon.proofs.Promises.{bytes_word, service_word, code_word}
+use Rattle.trace_text.specs.Json.{Members, null, truth, number, string, object, nothing, member}
+use Rattle.trace_text.specs.ListText.{answer_members, outcome_members, item_members, item_object}
+use Rattle.trace_canon.specs.MessageLines.{placed_members}
+use Rattle.trace_text.specs.Words.{role_text}
+use Rattle.trace_text.specs.Words.{bytes_text, direction_text, service_text, code_text}
+use Rattle.trace_text.proofs.Promises.{bytes_word, service_word, code_word}
 use Rattle.json_reading.specs.Laws.{ItemsAreReadAsMeant, MessagesAreReadAsMeant, RemarksAreReadAsMeant, ComparisonsAreReadAsMeant, PairsAreReadAsMeant}
 use Rattle.json_reading.proofs.PlainTexts.{IsPlain, is_plain, plain, word_plain, identifier_plain, stamp_plain}
 use Rattle.json_reading.proofs.ReadTrees.{IsPlainValue, ArePlain, read_as_meant}

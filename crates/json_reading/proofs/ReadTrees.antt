@@ -15,7 +15,7 @@ use Rattle.serde_json.specs.Read.{max_depth, of_json, of_members}
 use Rattle.serde_json.proofs.Numbers.{number_of-decimal}
 use Rattle.json_reading.specs.ReadBack.{meant, with_members, HasNumbersOf64Bits, HaveNumbersOf64Bits, IsReadAsMeant}
 use Rattle.json_reading.proofs.PlainTexts.{IsPlain, quoted_plain}
-use Rattle.trace_canon.specs.Json.{Value, null, truth, number, string, object, Members, nothing, member, value_text, members_text, later_text}
+use Rattle.trace_text.specs.Json.{Value, null, truth, number, string, object, Members, nothing, member, value_text, members_text, later_text}
 
 -- the value as the reader's grammar has it
 abbrev mutual

@@ -4,7 +4,7 @@ use Rattle.std.specs.Prelude.{◌≡◌, ◌<◌, ◌^◌, Some, ⊤}
 use Rattle.serde_json.specs.Data as reader
 use Rattle.serde_json.specs.Data.{Data, unsigned, put}
 use Rattle.serde_json.specs.Read.{read}
-use Rattle.trace_canon.specs.Json.{Value, null, truth, number, string, object, Members, nothing, member, value_text}
+use Rattle.trace_text.specs.Json.{Value, null, truth, number, string, object, Members, nothing, member, value_text}
 
 abbrev mutual
   -- what a value is to the reader

@@ -7,9 +7,11 @@ use isotp_receive::{Pair, Verdict};
 use std::alloc::Global;
 use std::io::{Error, ErrorKind, Result as IoResult, Write};
 use std::test::Fail;
-use trace_canon::{CompareFault, Comparison, Config, Fault, ItemStyle, Notation, Numbering};
+use trace_canon::Comparison;
 use trace_io::{Reading, Writing};
+use trace_log::{CompareFault, Config, Fault};
 use trace_report::PairTitle;
+use trace_text::{ItemStyle, Notation, Numbering};
 use uds_exchange::{Item, Meaning, MessageSink, OrderFault, Orderer, Pairing};
 
 /// How often a call was made until it answered: again, where it was refused memory.

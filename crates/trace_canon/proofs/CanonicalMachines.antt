@@ -9,14 +9,14 @@ use Rattle.isotp_receive.specs.Verdict.{EventValue, message as message_of, messa
 use Rattle.isotp_segment.specs.Timed.{all_frames}
 use Rattle.uds_exchange.specs.Order.{early}
 use Rattle.uds_exchange.specs.Orderer.{IsHeld, OrdererValue, stands_after}
-use Rattle.trace_canon.specs.Needing.{CompletesMessage, CompletesHeld}
+use Rattle.trace_log.specs.Needing.{CompletesMessage, CompletesHeld}
 use Rattle.trace_canon.specs.CanonicalScript.{place_of, lines_due, StandsCanonical}
 use Rattle.trace_canon.specs.proving.Saying.{SaysDue}
-use Rattle.trace_canon.specs.Settings.{Settings}
+use Rattle.trace_log.specs.Settings.{Settings}
 use Rattle.trace_canon.specs.proving.Writing.{Place, start_of, text_from, place_after}
 use Rattle.trace_canon.proofs.CanonicalWriting.{text_none, place_append}
-use Rattle.trace_canon.proofs.OneMoreFrame.{messages_more}
-use Rattle.trace_canon.proofs.Texts.{all_frames-append}
+use Rattle.trace_log.proofs.OneMoreFrame.{messages_more}
+use Rattle.trace_log.proofs.Texts.{all_frames-append}
 
 -- the messages of a trace with one more frame, by what it did
 pub messages_next : (T : List Entry) (e : Entry) (d : Dir) (event : EventValue) → e.dir ≡ d → event ≡ verdict MESSAGE_LIMIT T e

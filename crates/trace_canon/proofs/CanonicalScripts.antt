@@ -1,10 +1,10 @@
 -- What is told of a log by its canonical lines is the text of the messages that are early.
 use Rattle.std.specs.Prelude.{OnOk, IfOk, if◌then◌else◌}
 use Rattle.direction.specs.Dir.{Message}
-use Rattle.trace_canon.specs.CanonicalLog.{canonical_log, log_of_frames, canonical_log_of_lines, early_text, fitting}
-use Rattle.trace_canon.specs.Laws.{IsCanonicalFor, Records, Certifies}
-use Rattle.trace_canon.specs.Settings.{AreSettings, Settings}
-use Rattle.trace_canon.proofs.ReadAgain.{written_is_canonical, written_of_recording, answer_certifies}
+use Rattle.trace_log.specs.CanonicalLog.{canonical_log, log_of_frames, canonical_log_of_lines, early_text, fitting}
+use Rattle.trace_log.specs.Laws.{IsCanonicalFor, Records, Certifies}
+use Rattle.trace_log.specs.Settings.{AreSettings, Settings}
+use Rattle.trace_log.proofs.ReadAgain.{written_is_canonical, written_of_recording, answer_certifies}
 use Rattle.std.proofs.Common.{arith, ◌≡◌, Bool, true, false, refl, subst, Option, Ok, Err, ◌≤◌, ◌<◌, ℕ, List, [], ◌∷◌, ◌++◌, length, drop, ap, sym, ◌∙◌, append-nil, append_assoc, Result, inl, inr}
 use Rattle.std.proofs.Math.Seq.{drop-append_seam}
 use Rattle.can_log.specs.declared.frame.Stamped.{Stamped}
@@ -17,23 +17,23 @@ use Rattle.uds_exchange.specs.Orderer.{OrdererValue}
 use Rattle.uds_exchange.specs.Meaning.{meaning, flattened}
 use Rattle.uds_exchange.proofs.Promises.{early_grows, early_then_held}
 use Rattle.trace_canon.specs.CanonicalScript.{StandsCanonical, is_too_long, answers_canonical, CanonicalTellsTheSame, canonical_script, place_of, lines_due, text_of_early, CanonicalTellsEarly}
-use Rattle.trace_canon.specs.Told.{told_after, told, told_of_lines, whole_of_lines, EndsWith, WritesTold, WritesRefused, WritesFrontOfTold, TellsEagerly}
+use Rattle.trace_run.specs.Told.{told_after, told, told_of_lines, whole_of_lines, EndsWith, WritesTold, WritesRefused, WritesFrontOfTold, TellsEagerly}
 use Rattle.trace_canon.specs.proving.Writing.{Place, start_of, text_from, place_after}
 use Rattle.trace_canon.proofs.CanonicalWriting.{text_none, text_append, place_append}
-use Rattle.trace_canon.proofs.OneMoreFrame.{messages_more}
-use Rattle.trace_canon.proofs.Texts.{all_frames-append, fitting_frames, fitting_log_begins}
+use Rattle.trace_log.proofs.OneMoreFrame.{messages_more}
+use Rattle.trace_log.proofs.Texts.{all_frames-append, fitting_frames, fitting_log_begins}
 use Rattle.trace_canon.proofs.Answered.{answers_accepted, answers_output_limit}
 use Rattle.trace_canon.proofs.FittingLines.{over_when, within_when}
-use Rattle.trace_canon.proofs.Tellings.{front_of_whole}
-use Rattle.trace_canon.specs.declared.fault.Fault.{Fault}
-use Rattle.trace_canon.specs.declared.fault.Fault.TheVariants.{BadLine, Oversize, LogLimit, OutputLimit, Read, Write, Memory}
-use Rattle.trace_canon.specs.declared.machine.Stop.TheVariants as end_stop
-use Rattle.trace_canon.specs.declared.summary.Summary.{Summary}
-use Rattle.trace_canon.specs.Answers.{Answers, WritesFront, WritesEagerly}
-use Rattle.trace_canon.specs.LinesRead.{WritesTextOfRead}
-use Rattle.trace_canon.specs.Refusal.{announces_within}
-use Rattle.trace_canon.specs.Summing.{summary_of}
-use Rattle.trace_canon.specs.Trace.{trace}
+use Rattle.trace_run.proofs.Tellings.{front_of_whole}
+use Rattle.trace_log.specs.declared.fault.Fault.{Fault}
+use Rattle.trace_log.specs.declared.fault.Fault.TheVariants.{BadLine, Oversize, LogLimit, OutputLimit, Read, Write, Memory}
+use Rattle.trace_run.specs.declared.machine.Stop.TheVariants as end_stop
+use Rattle.trace_log.specs.declared.summary.Summary.{Summary}
+use Rattle.trace_log.specs.Answers.{Answers, WritesFront, WritesEagerly}
+use Rattle.trace_log.specs.LinesRead.{WritesTextOfRead}
+use Rattle.trace_log.specs.Refusal.{announces_within}
+use Rattle.trace_log.specs.Summing.{summary_of}
+use Rattle.trace_log.specs.Trace.{trace}
 
 module _ (settings : Settings) where
   one_more : (T : List Entry) (e : Entry)

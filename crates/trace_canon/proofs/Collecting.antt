@@ -5,7 +5,7 @@ use Rattle.can_log.specs.Frame.{AreBytes}
 use Rattle.direction.specs.Dir.{Message}
 use Rattle.uds_exchange.specs.Meaning.{ItemValue, meaning, flattened}
 use Rattle.trace_canon.specs.SessionScript.{Collects, fits_within}
-use Rattle.trace_canon.specs.Settings.{Settings}
+use Rattle.trace_log.specs.Settings.{Settings}
 use Rattle.trace_canon.specs.proving.Measuring.{HaveLengths}
 use Rattle.trace_canon.proofs.Lengths.{log_has_length, never_shorter}
 

@@ -3,8 +3,8 @@ use Rattle.std.proofs.Common.{◌≡◌, ℕ, ◌<◌, ◌≤◌, true, false, L
 use Rattle.std.proofs.lemmas.Bool.{cases_lt}
 use Rattle.can_log.specs.Log.{ended_lines}
 use Rattle.direction.specs.declared.Dir.{Dir}
-use Rattle.trace_canon.specs.CanonicalLog.{canonical_lines}
-use Rattle.trace_canon.specs.Settings.{Settings}
+use Rattle.trace_log.specs.CanonicalLog.{canonical_lines}
+use Rattle.trace_log.specs.Settings.{Settings}
 use Rattle.trace_canon.specs.proving.Writing.{Place, behind, line_at, text_from, place_after}
 use Rattle.trace_canon.proofs.CanonicalWriting.{text_none, place_none, text_step, place_step, place_stop}
 

@@ -5,23 +5,22 @@ use Rattle.std.specs.Prelude.{IfOk, IfErr}
 use Rattle.can_log.specs.Frame.{FrameValue}
 use Rattle.can_log.specs.Log.{LogMeans, log_lines}
 use Rattle.can_log.specs.declared.frame.Stamped.{Stamped}
-use Rattle.trace_canon.specs.declared.fault.Fault.{Fault}
-use Rattle.trace_canon.specs.declared.fault.Fault.TheVariants as fault
+use Rattle.trace_log.specs.declared.fault.Fault.{Fault}
+use Rattle.trace_log.specs.declared.fault.Fault.TheVariants as fault
 use Rattle.trace_canon.specs.declared.hearing.Found.{Found}
 use Rattle.trace_canon.specs.declared.hearing.Hearing.{Hearing}
 use Rattle.trace_canon.specs.Found.{frames_in, GivesFound, IsFoundOf, IsUnheardFor, NeedsMemoryToFind}
-use Rattle.trace_canon.specs.Needing.{BeginsWithLines}
-use Rattle.trace_canon.specs.Settings.{Settings}
-use Rattle.trace_canon.specs.proving.Feeding.{FeedsLog, FeedsSome}
+use Rattle.trace_log.specs.Needing.{BeginsWithLines}
+use Rattle.trace_log.specs.Settings.{Settings}
+use Rattle.trace_log.specs.Feeding.{FeedsLog, FeedsSome, Took, Stopped, StopsWithin}
 use Rattle.trace_canon.specs.proving.Hearing.{HasHeard}
-use Rattle.trace_canon.specs.proving.Reading.{Took, Stopped, StopsWithin}
 use Rattle.uds_find.specs.Credit.{HasCredit, IsFirstCredit}
 use Rattle.uds_find.specs.Finding.{StandsAfter}
 use Rattle.uds_find.specs.declared.finder.Finder.{Finder}
 use Rattle.uds_find.proofs.Promises.{first_credit_is_credit}
-use Rattle.trace_canon.proofs.Needs.{begins_with_lines}
-use Rattle.trace_canon.proofs.ScannedLogs.{bad_counts, no_place_counts}
-use Rattle.trace_canon.proofs.StoppedRuns.{bad_in_front, bad_at_end}
+use Rattle.trace_log.proofs.Needs.{begins_with_lines}
+use Rattle.trace_log.proofs.ScannedLogs.{bad_counts, no_place_counts}
+use Rattle.trace_log.proofs.StoppedRuns.{bad_in_front, bad_at_end}
 
 -- ---- one line more
 

@@ -6,23 +6,24 @@ use Rattle.isotp_receive.specs.Trace.{Entry}
 use Rattle.uds_exchange.specs.Meaning.{ItemValue}
 use Rattle.trace_canon.specs.declared.comparing.Compared.{Compared}
 use Rattle.trace_canon.specs.declared.comparing.Comparison.{Comparison}
-use Rattle.trace_canon.specs.declared.fault.CompareFault.{CompareFault}
-use Rattle.trace_canon.specs.declared.fault.CompareFault.TheVariants.{Left, Right}
+use Rattle.trace_log.specs.declared.fault.CompareFault.{CompareFault}
+use Rattle.trace_log.specs.declared.fault.CompareFault.TheVariants.{Left, Right}
 use Rattle.trace_canon.specs.Compared.{Compares, fault_in}
 use Rattle.trace_io.specs.Counted.{BytesInMemory}
 use Rattle.trace_io.specs.Stream.{Agrees, Gave, Took}
 use Rattle.trace_io.proofs.Promises.{agrees_with_told}
-use Rattle.trace_canon.specs.declared.fault.Fault.{Fault}
-use Rattle.trace_canon.specs.declared.fault.Fault.TheVariants.{BadLine, Oversize, LogLimit, OutputLimit, Read, Write, Memory}
-use Rattle.trace_canon.specs.declared.summary.Summary.{Summary}
-use Rattle.trace_canon.specs.Answers.{Answers, TellsOutcome, GivesMeaning}
-use Rattle.trace_canon.specs.Failing.{FailedIf}
+use Rattle.trace_log.specs.declared.fault.Fault.{Fault}
+use Rattle.trace_log.specs.declared.fault.Fault.TheVariants.{BadLine, Oversize, LogLimit, OutputLimit, Read, Write, Memory}
+use Rattle.trace_log.specs.declared.summary.Summary.{Summary}
+use Rattle.trace_log.specs.Answers.{Answers, TellsOutcome}
+use Rattle.trace_canon.specs.Sessions.{GivesMeaning}
+use Rattle.trace_log.specs.Failing.{FailedIf}
 use Rattle.trace_canon.specs.InMemory.{IsOfMemory, IsRefused, IsUnread, IsCanonicalLogWith, IsToldWith, MeansInMemory, ComparesInMemory, fault_in_memory}
-use Rattle.trace_canon.specs.Outcome.{Accepted, IsOutcome}
-use Rattle.trace_canon.specs.Printed.{WritesOnce}
-use Rattle.trace_canon.specs.Settings.{Settings}
-use Rattle.trace_canon.specs.Told.{IsUnreadFor, AnswersTold, answers_counts, whole_of_lines}
-use Rattle.trace_canon.proofs.LenientRuns.{lenient, unread_for}
+use Rattle.trace_log.specs.Outcome.{Accepted, IsOutcome}
+use Rattle.trace_run.specs.Printed.{WritesOnce}
+use Rattle.trace_log.specs.Settings.{Settings}
+use Rattle.trace_run.specs.Told.{IsUnreadFor, AnswersTold, answers_counts, whole_of_lines}
+use Rattle.trace_run.proofs.LenientRuns.{lenient, unread_for}
 
 -- bytes of which none was read
 abbrev pub unread : List ℕ → BytesInMemory

@@ -12,13 +12,14 @@ use Rattle.isotp_receive.specs.Verdict.{EventValue, message, messages, verdict}
 use Rattle.uds_exchange.specs.Numbering.{step_after, number_after}
 use Rattle.uds_exchange.specs.declared.step.Step.{Step}
 use Rattle.trace_canon.specs.proving.Begun.{begun_after, began_at, IsBegunAt}
-use Rattle.trace_canon.specs.MessageLines.{PlacedMessage, place_of, stamp_text, extent_text, role_text, first_frame, placed_line, placed_members, placed_text, placed_behind, delivered_line}
-use Rattle.trace_canon.specs.Json.{object_line}
-use Rattle.trace_canon.specs.Words.{bytes_text, direction_text}
+use Rattle.trace_canon.specs.MessageLines.{PlacedMessage, place_of, stamp_text, extent_text, first_frame, placed_line, placed_members, placed_text, placed_behind, delivered_line}
+use Rattle.trace_text.specs.Words.{role_text}
+use Rattle.trace_text.specs.Json.{object_line}
+use Rattle.trace_text.specs.Words.{bytes_text, direction_text}
 use Rattle.trace_canon.specs.declared.begun.Begun.{Begun}
 use Rattle.trace_canon.specs.declared.begun.FramePlace.{FramePlace}
-use Rattle.trace_canon.specs.declared.notation.Notation.{Notation}
-use Rattle.trace_canon.proofs.JsonTexts.{line_is}
+use Rattle.trace_text.specs.declared.notation.Notation.{Notation}
+use Rattle.trace_text.proofs.JsonTexts.{line_is}
 use Rattle.trace_canon.proofs.MessagePlaces.{own_begun, other_begun, first_of}
 
 -- a message in these places

@@ -2,7 +2,7 @@
 use Rattle.std.proofs.Common.{◌≡◌, ℕ, ◌<◌, ◌≤◌, List, [], ◌∷◌, ◌++◌, length, refl, ap, sym, subst, ◌∙◌, append-nil, append_assoc}
 use Rattle.can_log.proofs.Promises.{canonical_line_length}
 use Rattle.direction.specs.declared.Dir.{Dir}
-use Rattle.trace_canon.specs.Settings.{Settings, id_of}
+use Rattle.trace_log.specs.Settings.{Settings, id_of}
 use Rattle.trace_canon.specs.proving.Saying.{SaysFront}
 use Rattle.trace_canon.specs.proving.Writing.{Place, behind, filled_up, line_at, text_from, place_after}
 use Rattle.trace_canon.proofs.CanonicalWriting.{text_step, place_step, text_stop, place_stop, text_full, place_full}

@@ -2,14 +2,15 @@
 use Rattle.std.proofs.Common.{ℕ, List, refl, sym, Ok, Err}
 use Rattle.std.proofs.lemmas.Bool.{leb-true, leb-false}
 use Rattle.isotp_receive.specs.declared.TheConstants.{MESSAGE_LIMIT}
-use Rattle.trace_canon.specs.declared.fault.Fault.TheVariants.{BadLine, Oversize, LogLimit, OutputLimit, Read, Write, Memory}
-use Rattle.trace_canon.specs.declared.summary.Summary.{Summary}
-use Rattle.trace_canon.specs.Answers.{IsAcceptedWith, GivesMeaning}
-use Rattle.trace_canon.specs.CanonicalLog.{canonical_log_of_lines}
+use Rattle.trace_log.specs.declared.fault.Fault.TheVariants.{BadLine, Oversize, LogLimit, OutputLimit, Read, Write, Memory}
+use Rattle.trace_log.specs.declared.summary.Summary.{Summary}
+use Rattle.trace_log.specs.Answers.{IsAcceptedWith}
+use Rattle.trace_canon.specs.Sessions.{GivesMeaning}
+use Rattle.trace_log.specs.CanonicalLog.{canonical_log_of_lines}
 use Rattle.trace_canon.specs.SessionScript.{SessionIsTheSame, silent_script}
-use Rattle.trace_canon.specs.Settings.{Settings}
-use Rattle.trace_canon.specs.Summing.{summary_of}
-use Rattle.trace_canon.specs.Told.{TellsNothing}
+use Rattle.trace_log.specs.Settings.{Settings}
+use Rattle.trace_log.specs.Summing.{summary_of}
+use Rattle.trace_run.specs.Told.{TellsNothing}
 use Rattle.uds_exchange.specs.Meaning.{ItemValue}
 
 -- it tells nothing

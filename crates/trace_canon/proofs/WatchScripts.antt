@@ -14,21 +14,21 @@ use Rattle.uds_exchange.specs.ItemSink.{PutsItems}
 use Rattle.uds_exchange.specs.Meaning.{ItemValue, meaning}
 use Rattle.uds_exchange.specs.Numbering.{one_more}
 use Rattle.uds_exchange.proofs.Promises.{decided_grows, decided_then_undecided, items_are_few, none_is_lost}
-use Rattle.trace_canon.specs.ListText.{item_line, list_text, list_text_from}
-use Rattle.trace_canon.specs.Messages.{meaning_of_lines}
-use Rattle.trace_canon.specs.Needing.{CompletesKept}
-use Rattle.trace_canon.specs.Settings.{Settings}
-use Rattle.trace_canon.specs.Summing.{summary_of}
-use Rattle.trace_canon.specs.Told.{AnswersTold, answers_counts, told_after, told}
-use Rattle.trace_canon.specs.Trace.{trace}
+use Rattle.trace_text.specs.ListText.{item_line, list_text, list_text_from}
+use Rattle.trace_log.specs.Messages.{meaning_of_lines}
+use Rattle.trace_log.specs.Needing.{CompletesKept}
+use Rattle.trace_log.specs.Settings.{Settings}
+use Rattle.trace_log.specs.Summing.{summary_of}
+use Rattle.trace_run.specs.Told.{AnswersTold, answers_counts, told_after, told}
+use Rattle.trace_log.specs.Trace.{trace}
 use Rattle.trace_canon.specs.WatchScript.{decided_of, decided_by, text_behind, watching_script, WatchTellsDecided, WatchTellsTheList, WritesTheList}
 use Rattle.trace_canon.specs.proving.Watching.{SaysLines, SaysDecided, WatchesItems}
-use Rattle.trace_canon.specs.declared.fault.Fault.{Fault}
-use Rattle.trace_canon.specs.declared.item_lines.ItemStyle.{ItemStyle}
-use Rattle.trace_canon.specs.declared.summary.Summary.{Summary}
+use Rattle.trace_log.specs.declared.fault.Fault.{Fault}
+use Rattle.trace_text.specs.declared.item_lines.ItemStyle.{ItemStyle}
+use Rattle.trace_log.specs.declared.summary.Summary.{Summary}
 use Rattle.trace_canon.specs.declared.watcher.LineSink.{LineSink}
-use Rattle.trace_canon.proofs.ItemLines.{lines-append}
-use Rattle.trace_canon.proofs.OneMoreFrame.{messages_more}
+use Rattle.trace_text.proofs.ItemLines.{lines-append}
+use Rattle.trace_log.proofs.OneMoreFrame.{messages_more}
 
 -- ---- lines said one after another
 

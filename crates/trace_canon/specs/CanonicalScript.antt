@@ -7,12 +7,12 @@ use Rattle.isotp_receive.specs.Verdict.{messages}
 use Rattle.isotp_segment.specs.Timed.{all_frames}
 use Rattle.uds_exchange.specs.Order.{early, held}
 use Rattle.uds_exchange.specs.Orderer.{OrdererValue, stands_after}
-use Rattle.trace_canon.specs.Settings.{Settings}
-use Rattle.trace_canon.specs.Told.{Script, Answering, AnswersTold, told, TellsEagerly}
-use Rattle.trace_canon.specs.Answers.{Answers}
-use Rattle.trace_canon.specs.declared.fault.Fault.{Fault}
-use Rattle.trace_canon.specs.declared.machine.Stop.TheVariants as stop
-use Rattle.trace_canon.specs.declared.summary.Summary.{Summary}
+use Rattle.trace_log.specs.Settings.{Settings}
+use Rattle.trace_run.specs.Told.{Script, Answering, AnswersTold, told, TellsEagerly}
+use Rattle.trace_log.specs.Answers.{Answers}
+use Rattle.trace_log.specs.declared.fault.Fault.{Fault}
+use Rattle.trace_run.specs.declared.machine.Stop.TheVariants as stop
+use Rattle.trace_log.specs.declared.summary.Summary.{Summary}
 use Rattle.uds_exchange.specs.Meaning.{meaning, flattened}
 use Rattle.trace_canon.specs.proving.Writing.{Place, start_of, text_from, place_after}
 

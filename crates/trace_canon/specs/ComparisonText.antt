@@ -3,16 +3,16 @@
 use Rattle.std.specs.Prelude.{ℕ, ◌+◌, Bool, true, false, List, [], ◌++◌, codes, Option, Some, None, slice_get, if◌then◌else◌}
 use Rattle.std.specs.Fmt.{decimal}
 use Rattle.uds_exchange.specs.Meaning.{ItemValue}
-use Rattle.trace_canon.specs.Json.{Value, Members, nothing, member, object_line, value_text}
-use Rattle.trace_canon.specs.Json as json
-use Rattle.trace_canon.specs.ListText.{item_object, worded_line}
+use Rattle.trace_text.specs.Json.{Value, Members, nothing, member, object_line, value_text}
+use Rattle.trace_text.specs.Json as json
+use Rattle.trace_text.specs.ListText.{item_object, worded_line}
 use Rattle.trace_canon.specs.declared.comparing.Compared.{Compared}
 use Rattle.trace_canon.specs.declared.comparing.Comparison.{Comparison}
 use Rattle.trace_canon.specs.declared.comparing.Comparison.TheVariants.{Same, Different}
 use Rattle.trace_canon.specs.declared.comparison_lines.ComparisonStyle.{ComparisonStyle}
-use Rattle.trace_canon.specs.declared.item_lines.Numbering.TheVariants.{Shown}
-use Rattle.trace_canon.specs.declared.notation.Notation.{Notation}
-use Rattle.trace_canon.specs.declared.notation.Notation.TheVariants.{Text, Json}
+use Rattle.trace_text.specs.declared.item_lines.Numbering.TheVariants.{Shown}
+use Rattle.trace_text.specs.declared.notation.Notation.{Notation}
+use Rattle.trace_text.specs.declared.notation.Notation.TheVariants.{Text, Json}
 
 -- the line that `list` has for an item of this number, or that there is none
 abbrev pub shown_line : ℕ → Option ItemValue → List ℕ

@@ -2,9 +2,9 @@
 use Rattle.std.specs.Prelude.{ℕ, false, []}
 use Rattle.isotp_receive.specs.StandingReception.{receptions_after}
 use Rattle.isotp_receive.specs.Verdict.{verdict}
-use Rattle.trace_canon.specs.ExplainText.{event_text, end_text}
-use Rattle.trace_canon.specs.declared.notation.Notation.{Notation}
-use Rattle.trace_canon.specs.Told.{Script}
+use Rattle.trace_text.specs.ExplainText.{event_text, end_text}
+use Rattle.trace_text.specs.declared.notation.Notation.{Notation}
+use Rattle.trace_run.specs.Told.{Script}
 
 -- of each frame its lines, and at the end the receptions that stand, and the counts
 abbrev pub explain_script : Notation → ℕ → Script

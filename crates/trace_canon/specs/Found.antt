@@ -6,22 +6,22 @@ use Rattle.std.specs.List.{flat_map}
 use Rattle.can_log.specs.Frame.{FrameValue}
 use Rattle.can_log.specs.declared.frame.Stamped.{Stamped}
 use Rattle.isotp_receive.specs.declared.TheConstants.{MESSAGE_LIMIT}
-use Rattle.trace_canon.specs.declared.fault.Fault.{Fault}
+use Rattle.trace_log.specs.declared.fault.Fault.{Fault}
 use Rattle.trace_canon.specs.declared.hearing.Found.{Found}
-use Rattle.trace_canon.specs.declared.notation.Notation.{Notation}
-use Rattle.trace_canon.specs.declared.notation.Notation.TheVariants.{Text, Json}
-use Rattle.trace_canon.specs.declared.summary.Summary.{Summary}
-use Rattle.trace_canon.specs.Explained.{IsReadAs}
-use Rattle.trace_canon.specs.Json.{Members, nothing, member, object_line}
-use Rattle.trace_canon.specs.Json as json
-use Rattle.trace_canon.specs.Needing.{BeginsWithLines}
-use Rattle.trace_canon.specs.Printed.{RanOnce, WritesOnce}
-use Rattle.trace_canon.specs.Refusal.{HasNoBadPlaceWithin}
+use Rattle.trace_text.specs.declared.notation.Notation.{Notation}
+use Rattle.trace_text.specs.declared.notation.Notation.TheVariants.{Text, Json}
+use Rattle.trace_log.specs.declared.summary.Summary.{Summary}
+use Rattle.trace_log.specs.Explained.{IsReadAs}
+use Rattle.trace_text.specs.Json.{Members, nothing, member, object_line}
+use Rattle.trace_text.specs.Json as json
+use Rattle.trace_log.specs.Needing.{BeginsWithLines}
+use Rattle.trace_run.specs.Printed.{RanOnce, WritesOnce}
+use Rattle.trace_log.specs.Refusal.{HasNoBadPlaceWithin}
 use Rattle.trace_io.specs.declared.device.Source.{Ghosts as SourceGhosts}
 use Rattle.trace_io.specs.declared.device.Target.{Ghosts as TargetGhosts}
-use Rattle.trace_canon.specs.Settings.{Settings}
-use Rattle.trace_canon.specs.Summing.{counted_in, ends_in_line_feed}
-use Rattle.trace_canon.specs.Told.{IsUnreadFor}
+use Rattle.trace_log.specs.Settings.{Settings}
+use Rattle.trace_log.specs.Summing.{counted_in, ends_in_line_feed}
+use Rattle.trace_run.specs.Told.{IsUnreadFor}
 use Rattle.uds_find.specs.Credit.{HasCredit}
 use Rattle.uds_find.specs.Finding.{AreCreditLines}
 use Rattle.uds_find.specs.declared.pair.CreditLine.{CreditLine}

@@ -4,23 +4,24 @@ use Rattle.can_log.specs.declared.frame.Stamped.{Stamped}
 use Rattle.uds_exchange.specs.Meaning.{ItemValue}
 use Rattle.trace_canon.specs.declared.comparing.Compared.{Compared}
 use Rattle.trace_canon.specs.declared.comparing.Comparison.{Comparison}
-use Rattle.trace_canon.specs.declared.fault.CompareFault.{CompareFault}
-use Rattle.trace_canon.specs.declared.fault.Fault.{Fault}
-use Rattle.trace_canon.specs.declared.fault.Fault.TheVariants.{BadLine, Oversize, LogLimit, OutputLimit, Read, Write, Memory}
-use Rattle.trace_canon.specs.declared.item_lines.ItemStyle.{ItemStyle}
-use Rattle.trace_canon.specs.declared.notation.Notation.{Notation}
-use Rattle.trace_canon.specs.declared.summary.Summary.{Summary}
-use Rattle.trace_canon.specs.Answers.{TellsOutcome, IsAcceptedWith, GivesMeaning}
+use Rattle.trace_log.specs.declared.fault.CompareFault.{CompareFault}
+use Rattle.trace_log.specs.declared.fault.Fault.{Fault}
+use Rattle.trace_log.specs.declared.fault.Fault.TheVariants.{BadLine, Oversize, LogLimit, OutputLimit, Read, Write, Memory}
+use Rattle.trace_text.specs.declared.item_lines.ItemStyle.{ItemStyle}
+use Rattle.trace_text.specs.declared.notation.Notation.{Notation}
+use Rattle.trace_log.specs.declared.summary.Summary.{Summary}
+use Rattle.trace_log.specs.Answers.{TellsOutcome, IsAcceptedWith}
+use Rattle.trace_canon.specs.Sessions.{GivesMeaning}
 use Rattle.trace_canon.specs.Compared.{Compares, fault_in}
-use Rattle.trace_canon.specs.Explained.{IsReadAs}
+use Rattle.trace_log.specs.Explained.{IsReadAs}
 use Rattle.trace_canon.specs.ExplainScript.{explain_script}
 use Rattle.trace_canon.specs.Found.{IsFoundIn, pairs_text}
-use Rattle.trace_canon.specs.ListText.{list_text}
-use Rattle.trace_canon.specs.Outcome.{IsOutcome}
+use Rattle.trace_text.specs.ListText.{list_text}
+use Rattle.trace_log.specs.Outcome.{IsOutcome}
 use Rattle.trace_canon.specs.MessageLines.{placing_script}
-use Rattle.trace_canon.specs.Settings.{Settings}
-use Rattle.trace_canon.specs.Summing.{summary_of}
-use Rattle.trace_canon.specs.Told.{Script, IsUnreadFor, whole_of_lines}
+use Rattle.trace_log.specs.Settings.{Settings}
+use Rattle.trace_log.specs.Summing.{summary_of}
+use Rattle.trace_run.specs.Told.{Script, IsUnreadFor, whole_of_lines}
 use Rattle.uds_find.specs.declared.pair.CreditLine.{CreditLine}
 
 -- it is not that of a device

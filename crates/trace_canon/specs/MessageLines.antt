@@ -9,26 +9,17 @@ use Rattle.isotp_receive.specs.Trace.{Entry, FrameRole, single, first, consecuti
 use Rattle.isotp_receive.specs.Verdict.{VerdictValue, message, began, stored, flowed, dropped, messages, verdict}
 use Rattle.uds_exchange.specs.Numbering.{step_after, number_after}
 use Rattle.uds_exchange.specs.declared.step.Step.{Step}
-use Rattle.uds_exchange.specs.declared.step.Step.TheVariants as becomes
-use Rattle.trace_canon.specs.Json.{Members, nothing, member, object_line}
-use Rattle.trace_canon.specs.Json as json
+use Rattle.trace_text.specs.Json.{Members, nothing, member, object_line}
+use Rattle.trace_text.specs.Json as json
 use Rattle.trace_canon.specs.declared.begun.FramePlace.{FramePlace}
-use Rattle.trace_canon.specs.declared.notation.Notation.{Notation}
-use Rattle.trace_canon.specs.declared.notation.Notation.TheVariants.{Text, Json}
-use Rattle.trace_canon.specs.Told.{Script}
-use Rattle.trace_canon.specs.Words.{bytes_text, direction_text}
+use Rattle.trace_text.specs.declared.notation.Notation.{Notation}
+use Rattle.trace_text.specs.declared.notation.Notation.TheVariants.{Text, Json}
+use Rattle.trace_run.specs.Told.{Script}
+use Rattle.trace_text.specs.Words.{bytes_text, direction_text, role_text}
 
 -- the time of a frame: its seconds without leading zeros, a dot, and six digits
 abbrev pub stamp_text : ℕ → List ℕ
 stamp_text micros = decimal (micros / 1000000) ++ codes "." ++ digits.decimal 6 micros
-
--- what a message is to its item
-abbrev pub role_text : Step → List ℕ
-role_text (becomes.Request service) = codes "request"
-role_text becomes.Answer = codes "answer"
-role_text becomes.Removed = codes "pending"
-role_text becomes.Hold = codes "stray"
-role_text becomes.Pass = codes "stray"
 
 -- where a frame stands: its line and its time
 abbrev pub place_of : Entry → FramePlace

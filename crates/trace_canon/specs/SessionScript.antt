@@ -7,13 +7,13 @@ use Rattle.direction.specs.Dir.{Message}
 use Rattle.uds_exchange.specs.Meaning.{ItemValue, meaning, flattened}
 use Rattle.uds_exchange.specs.declared.step.Step.{Step}
 use Rattle.uds_exchange.specs.declared.step.Step.TheVariants as step
-use Rattle.trace_canon.specs.Answers.{GivesSession}
-use Rattle.trace_canon.specs.CanonicalLog.{canonical_log}
-use Rattle.trace_canon.specs.Settings.{Settings}
-use Rattle.trace_canon.specs.Told.{Script, Answering, AnswersTold}
+use Rattle.trace_canon.specs.Sessions.{GivesSession}
+use Rattle.trace_log.specs.CanonicalLog.{canonical_log}
+use Rattle.trace_log.specs.Settings.{Settings}
+use Rattle.trace_run.specs.Told.{Script, Answering, AnswersTold}
 use Rattle.trace_canon.specs.declared.collector.Session.{Session}
-use Rattle.trace_canon.specs.declared.fault.Fault.{Fault}
-use Rattle.trace_canon.specs.declared.machine.Stop.TheVariants.{OutputLimit}
+use Rattle.trace_log.specs.declared.fault.Fault.{Fault}
+use Rattle.trace_run.specs.declared.machine.Stop.TheVariants.{OutputLimit}
 use Rattle.trace_canon.specs.proving.Measuring.{HaveLengths}
 
 -- what the trace means

@@ -6,12 +6,12 @@ use Rattle.isotp_receive.specs.Verdict.{messages}
 use Rattle.uds_exchange.specs.Decided.{decided, undecided}
 use Rattle.uds_exchange.specs.Meaning.{ItemValue}
 use Rattle.trace_canon.specs.SessionScript.{items_of}
-use Rattle.trace_canon.specs.ListText.{list_text, list_text_from}
-use Rattle.trace_canon.specs.Messages.{HasMeaning}
-use Rattle.trace_canon.specs.Settings.{Settings}
-use Rattle.trace_canon.specs.Told.{Script, told}
-use Rattle.trace_canon.specs.declared.item_lines.ItemStyle.{ItemStyle}
-use Rattle.trace_canon.specs.declared.summary.Summary.{Summary}
+use Rattle.trace_text.specs.ListText.{list_text, list_text_from}
+use Rattle.trace_log.specs.Messages.{HasMeaning}
+use Rattle.trace_log.specs.Settings.{Settings}
+use Rattle.trace_run.specs.Told.{Script, told}
+use Rattle.trace_text.specs.declared.item_lines.ItemStyle.{ItemStyle}
+use Rattle.trace_log.specs.declared.summary.Summary.{Summary}
 
 -- the items that the frames of a trace decide
 abbrev pub decided_of : List Entry → List ItemValue

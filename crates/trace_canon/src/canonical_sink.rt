@@ -9,20 +9,20 @@ ghost use Rattle.isotp_segment.specs.CanonicalFrames.{IsFullNext, canonical_fram
 ghost use Rattle.isotp_segment.specs.Timed.{all_frames};
 ghost use Rattle.uds_exchange.specs.Order.{held as held_after};
 ghost use Rattle.uds_exchange.specs.Orderer.{IsHeld, stands_after};
-ghost use Rattle.trace_canon.specs.Settings.{id_of};
+ghost use Rattle.trace_log.specs.Settings.{id_of};
 ghost use Rattle.trace_canon.specs.proving.Saying.{SaysDue, SaysFront};
 ghost use Rattle.trace_canon.specs.proving.Writing.{filled_up, text_from, place_after};
 
-use crate::config::Config;
 use crate::length::has_frames;
 use crate::place::Place;
-use crate::text_sink::TextSink;
 use can_log::{
     BASE_LINE, Id, LONGEST_LINE, LineClock, base_line, change_line, extended_line, line_length,
 };
 use direction::Dir;
 use isotp_segment::Segments;
 use std::alloc::AllocError;
+use trace_io::TextSink;
+use trace_log::Config;
 use uds_exchange::{MessageSink, OrderFault, Orderer};
 
 /// Eight bytes that stand for data that is still to come.

@@ -6,25 +6,21 @@
 ghost use Rattle.std.specs.Prelude.{◌≡◌, ◌≢◌, ◌-◌, ℕ, List, [], length, IfErr, Err};
 ghost use Rattle.isotp_receive.specs.declared.TheConstants.{MESSAGE_LIMIT};
 ghost use Rattle.trace_canon.specs.SessionScript.{Collects, has_place};
-ghost use Rattle.trace_canon.specs.Answers.{ReadsWhile, GivesMeaning, GivesSession};
-ghost use Rattle.trace_canon.specs.Devices.{ReadFrom};
-ghost use Rattle.trace_canon.specs.Needing.{NeedsMemoryToCollect};
-ghost use Rattle.trace_canon.specs.Refusal.{IsNotRefusedWithin};
+ghost use Rattle.trace_log.specs.Answers.{ReadsWhile};
+ghost use Rattle.trace_canon.specs.Sessions.{GivesMeaning, GivesSession};
+ghost use Rattle.trace_log.specs.Devices.{ReadFrom};
+ghost use Rattle.trace_log.specs.Needing.{NeedsMemoryToCollect};
+ghost use Rattle.trace_log.specs.Refusal.{IsNotRefusedWithin};
 ghost use Rattle.trace_io.specs.Counted.{AreLowCounts};
 ghost use Rattle.trace_io.specs.Stream.{Agrees};
 
-use crate::config::Config;
-use crate::driver::run;
-use crate::fault::Fault;
 use crate::length::message_length;
-use crate::machine::{Machine, Stop};
-use crate::nowhere::Nowhere;
-use crate::summary::Summary;
-use crate::text_sink::TextSink;
 use direction::Dir;
 use isotp_receive::{Event, Pair, Verdict};
 use std::alloc::{AllocError, Global};
-use trace_io::Source;
+use trace_io::{Source, TextSink};
+use trace_log::{Config, Fault, Summary};
+use trace_run::{Machine, Nowhere, Stop, run};
 use uds_exchange::{Meaning, Pairing, Step};
 
 /// What an accepted log means, and what was counted in it.
@@ -107,7 +103,7 @@ impl Collector {
     ghost use Rattle.std.specs.Prelude.{◌≡◌, ◌+◌, ℕ, List, [], ◌∷◌, ◌++◌, OnOk};
     ghost use Rattle.direction.specs.Dir.{Message};
     ghost use Rattle.uds_exchange.specs.Meaning.{meaning, flattened};
-    ghost use Rattle.trace_canon.specs.Settings.{Settings};
+    ghost use Rattle.trace_log.specs.Settings.{Settings};
     ghost use Rattle.trace_canon.specs.SessionScript.{Collects};
     ghost use Rattle.trace_canon.specs.proving.Measuring.{HaveLengths};
 
@@ -162,7 +158,7 @@ impl Machine for Collector {
     ghost use Rattle.std.specs.Prelude.{⊤};
     ghost use Rattle.isotp_receive.specs.declared.TheConstants.{MESSAGE_LIMIT};
     ghost use Rattle.isotp_receive.specs.Verdict.{messages};
-    ghost use Rattle.trace_canon.specs.Needing.{CompletesMessage};
+    ghost use Rattle.trace_log.specs.Needing.{CompletesMessage};
     ghost use Rattle.trace_canon.specs.SessionScript.{Collects, answers_session, silent_script};
 
     type Answer = Session;

@@ -2,20 +2,17 @@
 ghost use Rattle.std.specs.Prelude.{ℕ, ◌+◌, Some, None, slice_get};
 ghost use Rattle.uds_exchange.specs.ItemSeen.{lent_value};
 ghost use Rattle.trace_canon.specs.ComparisonText.{comparison_lines, comparison_text, shown_lines, shown_text};
-ghost use Rattle.trace_canon.specs.Printed.{Prints};
+ghost use Rattle.trace_run.specs.Printed.{Prints};
 ghost use Rattle.trace_io.specs.Counted.{IsLowCount};
 
 use crate::comparing::{Compared, Comparison};
 use crate::comparison_objects::say_comparison_object;
-use crate::fault::Fault;
-use crate::item_lines::{Numbering, say_worded};
-use crate::item_objects::say_item_object;
-use crate::notation::Notation;
-use crate::parts::Part;
-use crate::printer::{Printable, print};
-use crate::say::say_parts;
-use crate::text_sink::TextSink;
-use trace_io::Target;
+use trace_io::{Target, TextSink};
+use trace_log::Fault;
+use trace_run::{Printable, print};
+use trace_text::parts::Part;
+use trace_text::say::say_parts;
+use trace_text::{Notation, Numbering, say_item_object, say_worded};
 use uds_exchange::{LentItem, Meaning};
 
 /// How a comparison is written.

@@ -1,13 +1,13 @@
 //! A comparison as an object of JSON.
 ghost use Rattle.trace_canon.specs.ComparisonText.{comparison_members, different_members, shown_members};
-ghost use Rattle.trace_canon.specs.Json.{object_line};
+ghost use Rattle.trace_text.specs.Json.{object_line};
 
 use crate::comparing::{Compared, Comparison};
 use crate::comparison_lines::say_item_at;
-use crate::notation::Notation;
-use crate::parts::Part;
-use crate::say::say_parts;
-use crate::text_sink::TextSink;
+use trace_io::TextSink;
+use trace_text::Notation;
+use trace_text::parts::Part;
+use trace_text::say::say_parts;
 
 /// Says how two logs compare, as an object in a line.
 pub(crate) fn say_comparison_object<S: TextSink>(

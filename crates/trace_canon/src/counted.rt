@@ -3,18 +3,15 @@ ghost use Rattle.std.specs.Prelude.{◌≡◌, Ok, Err, MatchResult};
 ghost use Rattle.isotp_receive.specs.declared.TheConstants.{MESSAGE_LIMIT};
 ghost use Rattle.trace_canon.specs.InMemory.{IsCanonicalLogWith, IsExplanationWith, IsFindingWith, IsListWith, IsPlacingWith, IsRefused, IsUnread, fault_in_memory};
 
-use crate::config::Config;
 use crate::explainer::explain;
-use crate::fault::Fault;
 use crate::finding::find;
-use crate::item_lines::ItemStyle;
 use crate::lister::list;
 use crate::normaliser::normalise;
-use crate::notation::Notation;
 use crate::placer::messages;
-use crate::summary::Summary;
 use std::alloc::Global;
 use trace_io::{Bytes, Writing};
+use trace_log::{Config, Fault, Summary};
+use trace_text::{ItemStyle, Notation};
 
 /// A text about a log, and the counts of the log.
 #[derive(Debug, Drop)]

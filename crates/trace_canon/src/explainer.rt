@@ -2,25 +2,20 @@
 ghost use Rattle.std.specs.Prelude.{ℕ, List, length, IfOk};
 ghost use Rattle.isotp_receive.specs.EventSeen.{seen_event, seen_verdict};
 ghost use Rattle.isotp_receive.specs.declared.TheConstants.{MESSAGE_LIMIT};
-ghost use Rattle.trace_canon.specs.ExplainText.{dropped_text, end_text, ended_text, event_text, unfinished_line};
+ghost use Rattle.trace_text.specs.ExplainText.{dropped_text, end_text, ended_text, event_text, unfinished_line};
 ghost use Rattle.trace_canon.specs.ExplainScript.{explain_script};
-ghost use Rattle.trace_canon.specs.Laws.{Certifies};
-ghost use Rattle.trace_canon.specs.Told.{RanLenient, answers_counts, needs_none};
+ghost use Rattle.trace_log.specs.Laws.{Certifies};
+ghost use Rattle.trace_run.specs.Told.{RanLenient, answers_counts, needs_none};
 ghost use Rattle.trace_io.specs.Stream.{Agrees};
 ghost use Rattle.trace_io.specs.Counted.{IsLowCount, AreLowCounts};
 
-use crate::config::Config;
-use crate::driver::run_lenient;
-use crate::fault::Fault;
-use crate::machine::{Machine, Stop};
-use crate::notation::Notation;
-use crate::remark::{Remark, say_remark};
-use crate::summary::Summary;
-use crate::text_sink::TextSink;
 use direction::Dir;
 use isotp_receive::{Ended, Event, Pair, Verdict};
 use std::alloc::{AllocError, Global};
-use trace_io::{Source, Target};
+use trace_io::{Source, Target, TextSink};
+use trace_log::{Config, Fault, Summary};
+use trace_run::{Machine, Stop, run_lenient};
+use trace_text::{Notation, Remark, say_remark};
 
 /// Reads a log and writes a line for each reception that ended without its message and for each frame that was dropped, as
 /// they come; then the receptions that stand at the end, and the counts. In words or as objects of JSON.
@@ -54,7 +49,7 @@ struct Explainer {
 impl Machine for Explainer {
     ghost use Rattle.std.specs.Prelude.{◌≡◌};
     ghost use Rattle.isotp_receive.specs.declared.TheConstants.{MESSAGE_LIMIT};
-    ghost use Rattle.trace_canon.specs.Told.{answers_counts};
+    ghost use Rattle.trace_run.specs.Told.{answers_counts};
     ghost use Rattle.trace_canon.specs.ExplainScript.{explain_script};
 
     type Answer = Summary;

@@ -3,16 +3,13 @@ ghost use Rattle.std.specs.Prelude.{length, Err};
 ghost use Rattle.trace_canon.specs.Found.{RanToFind};
 ghost use Rattle.trace_io.specs.Counted.{IsLowCount, AreLowCounts};
 
-use crate::config::Config;
-use crate::fault::Fault;
 use crate::hearing::found_in;
-use crate::notation::Notation;
 use crate::pair_lines::say_pairs;
-use crate::printer::{Printable, print};
-use crate::summary::Summary;
-use crate::text_sink::TextSink;
 use std::alloc::Global;
-use trace_io::{Source, Target};
+use trace_io::{Source, Target, TextSink};
+use trace_log::{Config, Fault, Summary};
+use trace_run::{Printable, print};
+use trace_text::Notation;
 use uds_find::CreditLine;
 
 /// Reads a log, and then writes a line for each pair of identifiers of which one answered the other, in this notation. Of

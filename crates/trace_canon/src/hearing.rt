@@ -4,22 +4,18 @@ ghost use Rattle.std.specs.Prelude.{◌≡◌, ◌≢◌, ◌-◌, ℕ, List, []
 ghost use Rattle.can_log.specs.declared.frame.Stamped.{Stamped as StampedValue};
 ghost use Rattle.trace_io.specs.Counted.{AreLowCounts};
 ghost use Rattle.trace_io.specs.Stream.{Agrees};
-ghost use Rattle.trace_canon.specs.Answers.{ReadsWhile};
-ghost use Rattle.trace_canon.specs.Devices.{ReadFrom};
+ghost use Rattle.trace_log.specs.Answers.{ReadsWhile};
+ghost use Rattle.trace_log.specs.Devices.{ReadFrom};
 ghost use Rattle.trace_canon.specs.Found.{GivesFound, IsFoundOf, NeedsMemoryToFind, frames_in, summary_of_lines};
-ghost use Rattle.trace_canon.specs.Refusal.{HasNoBadPlaceWithin};
-ghost use Rattle.trace_canon.specs.Summing.{ends_in_line_feed};
+ghost use Rattle.trace_log.specs.Refusal.{HasNoBadPlaceWithin};
+ghost use Rattle.trace_log.specs.Summing.{ends_in_line_feed};
 ghost use Rattle.trace_canon.specs.proving.Hearing.{HasHeard};
 ghost use Rattle.uds_find.specs.Credit.{HasCredit};
 
-use crate::config::Config;
-use crate::fault::Fault;
-use crate::feed::feed_lines;
-use crate::lines::LineTaker;
-use crate::summary::Summary;
 use can_log::{Stamped, Wanted};
 use std::alloc::Global;
 use trace_io::Source;
+use trace_log::{Config, Fault, LineTaker, Summary, feed_lines};
 use uds_find::{CreditLine, Finder};
 
 /// The pairs of a log, in the order of their lines, and what was counted in it.
@@ -98,7 +94,7 @@ pub(crate) struct Hearing {
 impl LineTaker for Hearing {
     ghost use Rattle.std.specs.Prelude.{◌≡◌, ⊤, [], ◌∷◌, ◌++◌};
     ghost use Rattle.trace_canon.specs.Found.{frames_in};
-    ghost use Rattle.trace_canon.specs.declared.fault.Fault.TheVariants.{Memory};
+    ghost use Rattle.trace_log.specs.declared.fault.Fault.TheVariants.{Memory};
     ghost use Rattle.trace_canon.specs.proving.Hearing.{HasHeard};
     ghost use Rattle.uds_find.specs.Credit.{HasCredit};
 

@@ -6,13 +6,11 @@ ghost use Rattle.trace_canon.specs.InMemory.{ComparesInMemory, IsCanonicalLogWit
 
 use crate::collector::meaning_of;
 use crate::comparing::{Comparison, compare};
-use crate::config::Config;
 use crate::counted;
-use crate::fault::{CompareFault, Fault};
-use crate::item_lines::ItemStyle;
-use crate::notation::Notation;
 use std::alloc::Global;
 use trace_io::Bytes;
+use trace_log::{CompareFault, Config, Fault};
+use trace_text::{ItemStyle, Notation};
 use uds_exchange::Meaning;
 
 /// The canonical log of a log, as [`normalise`](crate::normalise) writes it.

@@ -5,13 +5,10 @@ ghost use Rattle.trace_canon.specs.Listed.{RanOverItems};
 ghost use Rattle.trace_io.specs.Counted.{IsLowCount, AreLowCounts};
 
 use crate::collector::session_of;
-use crate::config::Config;
-use crate::fault::Fault;
-use crate::printer::{Printable, print};
-use crate::summary::Summary;
-use crate::text_sink::TextSink;
 use std::alloc::Global;
-use trace_io::{Source, Target};
+use trace_io::{Source, Target, TextSink};
+use trace_log::{Config, Fault, Summary};
+use trace_run::{Printable, print};
 use uds_exchange::Meaning;
 
 /// A text of items.

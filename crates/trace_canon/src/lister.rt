@@ -1,18 +1,15 @@
 //! `list`: the items of a log, written once they are known.
 ghost use Rattle.std.specs.Prelude.{ℕ, length};
 ghost use Rattle.isotp_receive.specs.declared.TheConstants.{MESSAGE_LIMIT};
-ghost use Rattle.trace_canon.specs.ListText.{list_text};
+ghost use Rattle.trace_text.specs.ListText.{list_text};
 ghost use Rattle.trace_canon.specs.Listed.{RanOverItems};
 ghost use Rattle.trace_io.specs.Counted.{IsLowCount, AreLowCounts};
 
-use crate::config::Config;
-use crate::fault::Fault;
-use crate::item_lines::{ItemStyle, say_items};
 use crate::item_text::{ItemText, write_items};
-use crate::summary::Summary;
-use crate::text_sink::TextSink;
 use std::alloc::Global;
-use trace_io::{Source, Target};
+use trace_io::{Source, Target, TextSink};
+use trace_log::{Config, Fault, Summary};
+use trace_text::{ItemStyle, say_items};
 use uds_exchange::Meaning;
 
 /// Reads a log, and then writes a line for each item of its meaning, in this style.
@@ -33,7 +30,7 @@ pub fn list<R: Source, W: Target>(
 }
 
 impl ItemText for ItemStyle {
-    ghost use Rattle.trace_canon.specs.ListText.{list_text};
+    ghost use Rattle.trace_text.specs.ListText.{list_text};
 
     ghost text = { λ style. list_text style };
 

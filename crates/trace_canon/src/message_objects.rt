@@ -1,13 +1,13 @@
 //! The messages of a log, with their places, as objects of JSON.
-ghost use Rattle.trace_canon.specs.Json.{object_line};
+ghost use Rattle.trace_text.specs.Json.{object_line};
 ghost use Rattle.trace_canon.specs.MessageLines.{placed_members};
 
 use crate::begun::FramePlace;
-use crate::names::{direction_name, role_name};
-use crate::parts::Part;
-use crate::say::say_parts;
-use crate::text_sink::TextSink;
 use direction::Dir;
+use trace_io::TextSink;
+use trace_text::names::{direction_name, role_name};
+use trace_text::parts::Part;
+use trace_text::say::say_parts;
 use uds_exchange::Step;
 
 /// Says the line of a message, that has its first frame and its last one in these places, as an object.

@@ -3,30 +3,26 @@ ghost use Rattle.std.specs.Prelude.{◌≡◌, ◌-◌, ◌++◌, ℕ, List, [],
 ghost use Rattle.direction.specs.Dir.{Message};
 ghost use Rattle.isotp_receive.specs.declared.TheConstants.{MESSAGE_LIMIT};
 ghost use Rattle.uds_exchange.specs.Meaning.{meaning, flattened};
-ghost use Rattle.trace_canon.specs.Answers.{Answers, ReadsWhile};
-ghost use Rattle.trace_canon.specs.CanonicalLog.{canonical_log};
+ghost use Rattle.trace_log.specs.Answers.{Answers, ReadsWhile};
+ghost use Rattle.trace_log.specs.CanonicalLog.{canonical_log};
 ghost use Rattle.trace_canon.specs.CanonicalScript.{StandsCanonical};
-ghost use Rattle.trace_canon.specs.Devices.{ReadFrom, WroteTo};
-ghost use Rattle.trace_canon.specs.Needing.{NeedsMemoryToOrder};
-ghost use Rattle.trace_canon.specs.declared.fault.Fault.TheVariants.{Memory};
-ghost use Rattle.trace_canon.specs.Laws.{IsCanonicalFor, Records, Certifies};
-ghost use Rattle.trace_canon.specs.Refusal.{IsNotRefusedWithin};
-ghost use Rattle.trace_canon.specs.Settings.{AreSettings};
+ghost use Rattle.trace_log.specs.Devices.{ReadFrom, WroteTo};
+ghost use Rattle.trace_log.specs.Needing.{NeedsMemoryToOrder};
+ghost use Rattle.trace_log.specs.declared.fault.Fault.TheVariants.{Memory};
+ghost use Rattle.trace_log.specs.Laws.{IsCanonicalFor, Records, Certifies};
+ghost use Rattle.trace_log.specs.Refusal.{IsNotRefusedWithin};
+ghost use Rattle.trace_log.specs.Settings.{AreSettings};
 ghost use Rattle.trace_io.specs.Stream.{Agrees};
 ghost use Rattle.trace_io.specs.Counted.{IsLowCount, AreLowCounts};
 
 use crate::canonical_sink::{finish_to, order_to};
-use crate::config::Config;
-use crate::driver::run;
-use crate::fault::Fault;
-use crate::machine::{Machine, Stop};
 use crate::place::Place;
-use crate::summary::Summary;
-use crate::text_sink::TextSink;
 use direction::Dir;
 use isotp_receive::{Event, Pair, Verdict};
 use std::alloc::{AllocError, Global};
-use trace_io::{Source, Target};
+use trace_io::{Source, Target, TextSink};
+use trace_log::{Config, Fault, Summary};
+use trace_run::{Machine, Stop, run};
 use uds_exchange::Orderer;
 
 /// Reads a log and writes the canonical lines of its messages, each as soon as its place is known.
@@ -86,7 +82,7 @@ pub(crate) struct Canonical {
 
 impl Machine for Canonical {
     ghost use Rattle.isotp_receive.specs.declared.TheConstants.{MESSAGE_LIMIT};
-    ghost use Rattle.trace_canon.specs.Needing.{CompletesHeld};
+    ghost use Rattle.trace_log.specs.Needing.{CompletesHeld};
     ghost use Rattle.trace_canon.specs.CanonicalScript.{StandsCanonical, answers_canonical, canonical_script};
 
     type Answer = Summary;

@@ -1,10 +1,10 @@
 //! The text of the pairs of a log, said pair by pair.
 ghost use Rattle.trace_canon.specs.Found.{pair_line, pairs_text};
 
-use crate::notation::Notation;
-use crate::parts::Part;
-use crate::say::say_parts;
-use crate::text_sink::TextSink;
+use trace_io::TextSink;
+use trace_text::Notation;
+use trace_text::parts::Part;
+use trace_text::say::say_parts;
 use uds_find::CreditLine;
 
 /// Says the line of each pair, in order.

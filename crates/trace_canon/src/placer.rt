@@ -2,25 +2,21 @@
 ghost use Rattle.std.specs.Prelude.{length};
 ghost use Rattle.isotp_receive.specs.declared.TheConstants.{MESSAGE_LIMIT};
 ghost use Rattle.trace_canon.specs.MessageLines.{placed_line, placed_text, placing_script};
-ghost use Rattle.trace_canon.specs.Told.{RanLenient, answers_counts, needs_none};
+ghost use Rattle.trace_run.specs.Told.{RanLenient, answers_counts, needs_none};
 ghost use Rattle.trace_io.specs.Counted.{IsLowCount, AreLowCounts};
 
 use crate::begun::{Begun, FramePlace};
-use crate::config::Config;
-use crate::driver::run_lenient;
-use crate::fault::Fault;
-use crate::machine::{Machine, Stop};
 use crate::message_objects::say_message_object;
-use crate::names::{direction_name, role_name};
-use crate::notation::Notation;
-use crate::parts::Part;
-use crate::say::say_parts;
-use crate::summary::Summary;
-use crate::text_sink::TextSink;
 use direction::Dir;
 use isotp_receive::{Event, Pair, Verdict};
 use std::alloc::{AllocError, Global};
-use trace_io::{Source, Target};
+use trace_io::{Source, Target, TextSink};
+use trace_log::{Config, Fault, Summary};
+use trace_run::{Machine, Stop, run_lenient};
+use trace_text::Notation;
+use trace_text::names::{direction_name, role_name};
+use trace_text::parts::Part;
+use trace_text::say::say_parts;
 use uds_exchange::{Numbers, Step};
 
 /// Reads a log and writes a line for each message that is delivered, as it comes, in words or as an object of JSON: the
@@ -61,7 +57,7 @@ impl Machine for Placer {
     ghost use Rattle.isotp_receive.specs.declared.TheConstants.{MESSAGE_LIMIT};
     ghost use Rattle.trace_canon.specs.proving.Begun.{PlacesMessages};
     ghost use Rattle.trace_canon.specs.MessageLines.{placing_script};
-    ghost use Rattle.trace_canon.specs.Told.{answers_counts};
+    ghost use Rattle.trace_run.specs.Told.{answers_counts};
 
     type Answer = Summary;
 

@@ -4,24 +4,20 @@ ghost use Rattle.direction.specs.Dir.{Message};
 ghost use Rattle.isotp_receive.specs.declared.TheConstants.{MESSAGE_LIMIT};
 ghost use Rattle.uds_exchange.specs.Decided.{undecided};
 ghost use Rattle.uds_exchange.specs.Decider.{decides_after, IsKept};
-ghost use Rattle.trace_canon.specs.Needing.{CompletesKept};
-ghost use Rattle.trace_canon.specs.Told.{RanLenient, answers_counts};
+ghost use Rattle.trace_log.specs.Needing.{CompletesKept};
+ghost use Rattle.trace_run.specs.Told.{RanLenient, answers_counts};
 ghost use Rattle.trace_canon.specs.WatchScript.{watching_script, WritesTheList};
 ghost use Rattle.trace_canon.specs.proving.Watching.{SaysDecided, SaysLines};
 ghost use Rattle.trace_io.specs.Stream.{Agrees};
 ghost use Rattle.trace_io.specs.Counted.{IsLowCount, AreLowCounts};
 
-use crate::config::Config;
-use crate::driver::run_lenient;
-use crate::fault::Fault;
-use crate::item_lines::{ItemStyle, say_item};
-use crate::machine::{Machine, Stop};
-use crate::summary::Summary;
-use crate::text_sink::TextSink;
 use direction::Dir;
 use isotp_receive::{Event, Pair, Verdict};
 use std::alloc::{AllocError, Global};
-use trace_io::{Source, Target};
+use trace_io::{Source, Target, TextSink};
+use trace_log::{Config, Fault, Summary};
+use trace_run::{Machine, Stop, run_lenient};
+use trace_text::{ItemStyle, say_item};
 use uds_exchange::{Decider, ItemSink, LentItem};
 
 /// Reads a log and writes the lines of [`list`](crate::list), each as soon as its item is decided: an exchange when its
@@ -64,8 +60,8 @@ pub(crate) struct Watcher {
 
 impl Machine for Watcher {
     ghost use Rattle.isotp_receive.specs.declared.TheConstants.{MESSAGE_LIMIT};
-    ghost use Rattle.trace_canon.specs.Needing.{CompletesKept};
-    ghost use Rattle.trace_canon.specs.Told.{answers_counts};
+    ghost use Rattle.trace_log.specs.Needing.{CompletesKept};
+    ghost use Rattle.trace_run.specs.Told.{answers_counts};
     ghost use Rattle.trace_canon.specs.WatchScript.{watching_script};
     ghost use Rattle.trace_canon.specs.proving.Watching.{WatchesItems};
 
@@ -138,7 +134,7 @@ pub(crate) struct LineSink<'a, S> {
 impl<'a, S: TextSink> ItemSink for LineSink<'a, S> {
     ghost use Rattle.std.specs.Prelude.{◌≡◌};
     ghost use Rattle.uds_exchange.specs.Numbering.{one_more};
-    ghost use Rattle.trace_canon.specs.ListText.{item_line};
+    ghost use Rattle.trace_text.specs.ListText.{item_line};
 
     ghost takes = { λ s item t. (t.out.ghost_name ≡ s.out.ghost_name) × (t.number.ghost_name ≡ s.number.ghost_name) × (t.style ≡ s.style)
         × (t.number.now ≡ one_more s.number.now) × S.says s.out.now (item_line s.style s.number.now item) t.out.now };

@@ -5,11 +5,11 @@ use Rattle.std.proofs.lemmas.Bool.{cases_lt}
 use Rattle.std.proofs.lemmas.Option.{none-some}
 use Rattle.can_log.proofs.Promises.{log_means_at_most_one}
 use Rattle.isotp_receive.specs.declared.TheConstants.{MESSAGE_LIMIT}
-use Rattle.trace_canon.specs.Answers.{GivesSession}
+use Rattle.trace_canon.specs.Sessions.{GivesSession}
 use Rattle.trace_canon.specs.Compared.{difference}
-use Rattle.trace_canon.specs.Messages.{meaning_of_lines}
-use Rattle.trace_canon.specs.Settings.{Settings}
-use Rattle.trace_canon.specs.Trace.{trace}
+use Rattle.trace_log.specs.Messages.{meaning_of_lines}
+use Rattle.trace_log.specs.Settings.{Settings}
+use Rattle.trace_log.specs.Trace.{trace}
 use Rattle.trace_canon.specs.declared.collector.Session.{Session}
 use Rattle.trace_canon.specs.declared.comparing.Comparison.{Comparison}
 use Rattle.trace_canon.specs.declared.comparing.Comparison.TheVariants.{Same, Different}

@@ -4,15 +4,15 @@ use Rattle.std.specs.Prelude.{◌≢◌}
 use Rattle.std.proofs.lemmas.Option.{none-some, same_Some}
 use Rattle.isotp_receive.specs.declared.TheConstants.{MESSAGE_LIMIT}
 use Rattle.isotp_receive.specs.Trace.{Entry}
-use Rattle.trace_canon.proofs.Promises.{has_own_frame}
-use Rattle.trace_canon.specs.Needing.{HasFrame}
-use Rattle.trace_canon.specs.Settings.{Settings}
-use Rattle.trace_canon.specs.Summing.{summary_of}
-use Rattle.trace_canon.specs.Told.{AnswersTold, IsUnreadFor, TellsNothing}
-use Rattle.trace_canon.specs.Trace.{trace}
-use Rattle.trace_canon.specs.declared.fault.Fault.{Fault}
-use Rattle.trace_canon.specs.declared.fault.Fault.TheVariants.{BadLine, Oversize, LogLimit, OutputLimit, Read, Write, Memory}
-use Rattle.trace_canon.specs.declared.summary.Summary.{Summary}
+use Rattle.trace_log.proofs.Promises.{has_own_frame}
+use Rattle.trace_log.specs.Needing.{HasFrame}
+use Rattle.trace_log.specs.Settings.{Settings}
+use Rattle.trace_log.specs.Summing.{summary_of}
+use Rattle.trace_run.specs.Told.{AnswersTold, IsUnreadFor, TellsNothing}
+use Rattle.trace_log.specs.Trace.{trace}
+use Rattle.trace_log.specs.declared.fault.Fault.{Fault}
+use Rattle.trace_log.specs.declared.fault.Fault.TheVariants.{BadLine, Oversize, LogLimit, OutputLimit, Read, Write, Memory}
+use Rattle.trace_log.specs.declared.summary.Summary.{Summary}
 use Rattle.trace_report.specs.Events.{end_rows}
 use Rattle.trace_report.specs.Held.{HoldsOne, HasOwnFrame}
 use Rattle.trace_report.specs.Page.{first_time, last_time}

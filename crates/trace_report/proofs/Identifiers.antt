@@ -10,7 +10,7 @@ use Rattle.can_log.proofs.Promises.{AllByRecursion-tested, AllByRecursion-weaker
 use Rattle.isotp_receive.proofs.Promises.{messages_are_few}
 use Rattle.isotp_receive.specs.declared.TheConstants.{MESSAGE_LIMIT}
 use Rattle.isotp_receive.specs.Verdict.{messages}
-use Rattle.trace_canon.specs.Trace.{trace}
+use Rattle.trace_log.specs.Trace.{trace}
 use Rattle.uds_exchange.proofs.Promises.{items_within_messages}
 use Rattle.uds_exchange.specs.Meaning.{meaning}
 use Rattle.trace_report.specs.Events.{rows_of}

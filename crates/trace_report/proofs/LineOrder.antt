@@ -4,8 +4,8 @@ use Rattle.std.specs.Prelude.{option_to_list, option_map}
 use Rattle.direction.specs.declared.Dir.{Dir}
 use Rattle.can_log.specs.declared.frame.Stamped.{Stamped}
 use Rattle.isotp_receive.specs.Trace.{Entry}
-use Rattle.trace_canon.specs.Settings.{Settings, direction_of}
-use Rattle.trace_canon.specs.Trace.{trace_from}
+use Rattle.trace_log.specs.Settings.{Settings, direction_of}
+use Rattle.trace_log.specs.Trace.{trace_from}
 
 -- the lines of these frames grow, from `low` on and below `high`
 abbrev pub Grow : ℕ → ℕ → List Entry → Type 0

@@ -2,7 +2,7 @@
 use Rattle.std.specs.Prelude.{ℕ, ◌==◌, Bool, true, false, List, [], ◌++◌, codes, if◌then◌else◌}
 use Rattle.std.specs.Fmt.{decimal}
 use Rattle.trace_report.specs.declared.counts.SortCounts.{SortCounts}
-use Rattle.trace_canon.specs.declared.summary.Summary.{Summary}
+use Rattle.trace_log.specs.declared.summary.Summary.{Summary}
 
 -- how a count looks: faint where it is 0, and strong where what it counts needs a look
 abbrev pub count_class : Bool → ℕ → List ℕ

@@ -1,16 +1,16 @@
 -- What is answered of two logs that are held: what each of them says, or why one of them can't be read.
 use Rattle.std.specs.Prelude.{◌≡◌, ℕ, ⊤, false, List, Option, Some, None, Result, Ok, Err}
 use Rattle.can_log.specs.declared.frame.Stamped.{Stamped}
-use Rattle.trace_canon.specs.Needing.{HasFrame}
-use Rattle.trace_canon.specs.Settings.{Settings}
-use Rattle.trace_canon.specs.Summing.{summary_of}
-use Rattle.trace_canon.specs.Told.{IsReadToEnd, IsUnreadFor}
-use Rattle.trace_canon.specs.Trace.{trace}
+use Rattle.trace_log.specs.Needing.{HasFrame}
+use Rattle.trace_log.specs.Settings.{Settings}
+use Rattle.trace_log.specs.Summing.{summary_of}
+use Rattle.trace_run.specs.Told.{IsReadToEnd, IsUnreadFor}
+use Rattle.trace_log.specs.Trace.{trace}
 use Rattle.trace_canon.specs.declared.comparing.Comparison.{Comparison}
 use Rattle.trace_canon.specs.declared.comparing.Comparison.TheVariants.{Same, Different}
-use Rattle.trace_canon.specs.declared.fault.CompareFault.{CompareFault}
-use Rattle.trace_canon.specs.declared.fault.CompareFault.TheVariants.{Left, Right}
-use Rattle.trace_canon.specs.declared.fault.Fault.{Fault}
+use Rattle.trace_log.specs.declared.fault.CompareFault.{CompareFault}
+use Rattle.trace_log.specs.declared.fault.CompareFault.TheVariants.{Left, Right}
+use Rattle.trace_log.specs.declared.fault.Fault.{Fault}
 use Rattle.trace_report.specs.Contrast.{FirstContrast, first_contrast}
 use Rattle.trace_report.specs.Items.{ItemPair, items_in, pairs_of}
 use Rattle.trace_report.specs.Session.{SessionValue, session_of}

@@ -9,8 +9,8 @@ use Rattle.isotp_receive.specs.Verdict.{messages}
 use Rattle.uds_exchange.specs.Difference.{IsFirstDifference}
 use Rattle.uds_exchange.specs.Meaning.{meaning}
 use Rattle.trace_canon.specs.Compared.{Compares, difference}
-use Rattle.trace_canon.specs.Settings.{Settings}
-use Rattle.trace_canon.specs.Trace.{trace}
+use Rattle.trace_log.specs.Settings.{Settings}
+use Rattle.trace_log.specs.Trace.{trace}
 use Rattle.trace_canon.specs.declared.comparing.Compared.{Compared}
 use Rattle.trace_report.specs.Blocks.{begins_exchange}
 use Rattle.trace_report.specs.Contrast.{first_contrast}

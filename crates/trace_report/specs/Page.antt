@@ -4,7 +4,7 @@ use Rattle.std.specs.Prelude.{ℕ, false, List, [], ◌∷◌, ◌++◌, codes}
 use Rattle.isotp_receive.specs.Trace.{Entry}
 use Rattle.trace_report.specs.declared.blocks.Blocks.{Blocks}
 use Rattle.trace_report.specs.declared.tally.Tally.{Tally}
-use Rattle.trace_canon.specs.declared.summary.Summary.{Summary}
+use Rattle.trace_log.specs.declared.summary.Summary.{Summary}
 use Rattle.trace_report.specs.Blocks.{block_end, blocks_of, rows_text}
 use Rattle.trace_report.specs.Events.{frame_rows, end_rows, rows_of}
 use Rattle.trace_report.specs.Front.{PageTitle, front_text}
@@ -12,8 +12,8 @@ use Rattle.trace_report.specs.Help.{help_text}
 use Rattle.trace_report.specs.Rows.{RowValue}
 use Rattle.trace_report.specs.Sorts.{tally_of}
 use Rattle.trace_report.specs.Verdict.{refused_verdict, stop_line, verdict_text}
-use Rattle.trace_canon.specs.declared.fault.Fault.{Fault}
-use Rattle.trace_canon.specs.Told.{Script}
+use Rattle.trace_log.specs.declared.fault.Fault.{Fault}
+use Rattle.trace_run.specs.Told.{Script}
 
 -- the time of the first frame of a trace; 0 where it has none
 abbrev pub first_time : List Entry → ℕ

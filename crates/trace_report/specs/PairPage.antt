@@ -3,13 +3,13 @@
 use Rattle.std.specs.Prelude.{ℕ, ◌+◌, ◌==◌, Bool, true, false, List, [], ◌∷◌, ◌++◌, codes, length, take, drop, Option, Some, None, Result, Ok, Err, if◌then◌else◌}
 use Rattle.std.specs.Fmt.{decimal}
 use Rattle.can_log.specs.declared.frame.Id.{Id}
-use Rattle.trace_canon.specs.Settings.{Settings}
-use Rattle.trace_canon.specs.Summing.{is_clean}
-use Rattle.trace_canon.specs.declared.fault.CompareFault.{CompareFault}
-use Rattle.trace_canon.specs.declared.fault.CompareFault.TheVariants.{Left, Right}
-use Rattle.trace_canon.specs.declared.fault.Fault.{Fault}
-use Rattle.trace_canon.specs.declared.fault.Fault.TheVariants.{BadLine, LogLimit, Oversize, OutputLimit, Read, Write, Memory}
-use Rattle.trace_canon.specs.declared.summary.Summary.{Summary}
+use Rattle.trace_log.specs.Settings.{Settings}
+use Rattle.trace_log.specs.Summing.{is_clean}
+use Rattle.trace_log.specs.declared.fault.CompareFault.{CompareFault}
+use Rattle.trace_log.specs.declared.fault.CompareFault.TheVariants.{Left, Right}
+use Rattle.trace_log.specs.declared.fault.Fault.{Fault}
+use Rattle.trace_log.specs.declared.fault.Fault.TheVariants.{BadLine, LogLimit, Oversize, OutputLimit, Read, Write, Memory}
+use Rattle.trace_log.specs.declared.summary.Summary.{Summary}
 use Rattle.trace_report.specs.Contrast.{FirstContrast, contrast_words, first_contrast, log_letter}
 use Rattle.trace_report.specs.Counts.{counts_text}
 use Rattle.trace_report.specs.Difference.{contrast_chart}

@@ -1,7 +1,7 @@
 -- What a log says, held as a whole.
 use Rattle.std.specs.Prelude.{ℕ, List}
 use Rattle.isotp_receive.specs.Trace.{Entry}
-use Rattle.trace_canon.specs.declared.summary.Summary.{Summary}
+use Rattle.trace_log.specs.declared.summary.Summary.{Summary}
 use Rattle.trace_report.specs.Page.{all_rows, first_time, last_time}
 use Rattle.trace_report.specs.Rows.{RowValue}
 

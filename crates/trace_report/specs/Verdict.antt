@@ -6,12 +6,12 @@ use Rattle.trace_canon.specs.MessageLines.{stamp_text}
 use Rattle.trace_report.specs.Counts.{counts_text}
 use Rattle.trace_report.specs.Links.{look_text}
 use Rattle.trace_report.specs.Words.{seconds_between}
-use Rattle.trace_canon.specs.Summing.{is_clean}
+use Rattle.trace_log.specs.Summing.{is_clean}
 use Rattle.trace_report.specs.declared.counts.SortCounts.{SortCounts}
 use Rattle.trace_report.specs.declared.tally.Tally.{Tally}
-use Rattle.trace_canon.specs.declared.fault.Fault.{Fault}
-use Rattle.trace_canon.specs.declared.fault.Fault.TheVariants as fault
-use Rattle.trace_canon.specs.declared.summary.Summary.{Summary}
+use Rattle.trace_log.specs.declared.fault.Fault.{Fault}
+use Rattle.trace_log.specs.declared.fault.Fault.TheVariants as fault
+use Rattle.trace_log.specs.declared.summary.Summary.{Summary}
 
 -- from when to when
 abbrev pub span_text : ℕ → ℕ → List ℕ

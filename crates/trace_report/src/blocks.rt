@@ -6,9 +6,9 @@ ghost use Rattle.trace_report.specs.proving.Pages.{row_of};
 
 use crate::row::{MessagePlace, MessageRole, Row};
 use crate::words::say_seconds_between;
-use trace_canon::TextSink;
 use trace_canon::begun::FramePlace;
-use trace_canon::say::{say_number, say_text};
+use trace_io::TextSink;
+use trace_text::say::{say_number, say_text};
 
 /// A request closes a block that has this many rows.
 pub(crate) const FULL_BLOCK: u64 = 200;

@@ -8,8 +8,8 @@ use crate::message_rows::{say_after, say_message_front, say_message_row};
 use crate::row::{MessagePlace, MessageRole};
 use crate::words::say_brief_data;
 use direction::Dir;
-use trace_canon::TextSink;
-use trace_canon::say::{say_service, say_text};
+use trace_io::TextSink;
+use trace_text::say::{say_service, say_text};
 use uds_message::sid;
 
 /// Says the row of a message, in a block of brief rows or in another.

@@ -4,8 +4,8 @@ ghost use Rattle.trace_report.specs.Targets.{side_text};
 
 use crate::row::Arrow;
 use direction::Dir;
-use trace_canon::TextSink;
-use trace_canon::say::say_text;
+use trace_io::TextSink;
+use trace_text::say::say_text;
 
 /// Says a cell of the chart, up to its words.
 pub(crate) fn say_cell_front<S: TextSink>(dir: Dir, out: &mut S)

@@ -10,7 +10,7 @@ use crate::follower::NewRows;
 use crate::row::Row;
 use crate::rows::say_next_row;
 use crate::tally::Tally;
-use trace_canon::TextSink;
+use trace_io::TextSink;
 
 /// The blocks of the rows that were said, and what the verdict needs of them.
 #[derive(Debug, Drop)]

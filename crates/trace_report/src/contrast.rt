@@ -10,8 +10,8 @@ use crate::blocks::is_request_role;
 use crate::items::{LentItem, LentMessage, LentPair};
 use crate::marks::parted;
 use direction::Dir;
-use trace_canon::TextSink;
-use trace_canon::say::{say_byte, say_direction, say_place, say_text};
+use trace_io::TextSink;
+use trace_text::say::{say_byte, say_direction, say_place, say_text};
 
 /// One of the two logs of a page, by its letter there.
 #[derive(Clone, Copy, Debug)]

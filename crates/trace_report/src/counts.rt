@@ -7,8 +7,9 @@ ghost use Rattle.trace_report.specs.proving.Tallying.{counts_with};
 
 use crate::sorts::Sort;
 use crate::verdict::say_answers;
-use trace_canon::say::{say_number, say_text};
-use trace_canon::{Summary, TextSink};
+use trace_io::TextSink;
+use trace_log::Summary;
+use trace_text::say::{say_number, say_text};
 
 /// How many rows there are of each sort.
 #[derive(Clone, Copy, Debug)]

@@ -18,8 +18,8 @@ use crate::message_rows::{begins_item, say_message_front, say_note, say_role};
 use crate::row::{Arrow, MessagePlace, MessageRole, Row};
 use crate::words::say_data;
 use direction::Dir;
-use trace_canon::TextSink;
-use trace_canon::say::say_text;
+use trace_io::TextSink;
+use trace_text::say::say_text;
 
 /// Says the chart of the rows around the item of this number, where the items of both sessions differ so.
 pub(crate) fn say_contrast_chart<S: TextSink>(

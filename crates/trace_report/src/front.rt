@@ -5,8 +5,8 @@ ghost use Rattle.trace_report.specs.Front.{front_text, head_text, header_text, i
 ghost use Rattle.trace_report.specs.proving.Pages.{title_of};
 
 use can_log::{Id, identifier_text};
-use trace_canon::TextSink;
-use trace_canon::say::{say_byte, say_text};
+use trace_io::TextSink;
+use trace_text::say::{say_byte, say_text};
 
 /// What a page is made for: its style, the name of the log, and the identifiers.
 #[derive(Clone, Copy)]

@@ -9,8 +9,8 @@ use direction::Dir;
 use isotp_receive::{Ended, Reason};
 use std::alloc::{AllocError, Global};
 use std::marker::Model;
-use trace_canon::Summary;
 use trace_canon::begun::FramePlace;
+use trace_log::Summary;
 
 /// A row, with the bytes of its message. The variants are those of a row that is lent.
 #[derive(Debug, Drop)]

@@ -1,8 +1,8 @@
 //! The end of a report: how to read it, and the sign that it is whole.
 ghost use Rattle.trace_report.specs.Help.{blocks_words, exchange_legend, help_heading, help_start, help_text, legend_text, limits_text, others_legend, pair_help_start, pair_help_text, tail_text, times_words};
 
-use trace_canon::TextSink;
-use trace_canon::say::say_text;
+use trace_io::TextSink;
+use trace_text::say::say_text;
 
 /// Says the end of a page.
 pub(crate) fn say_help<S: TextSink>(out: &mut S)

@@ -2,11 +2,11 @@
 ghost use Rattle.std.specs.Prelude.{◌≡◌, ◌≢◌, ◌-◌, ℕ, List, [], ◌∷◌, ◌++◌, length, IfOk, IfErr, Err, OnOk, Some};
 ghost use Rattle.isotp_receive.specs.declared.TheConstants.{MESSAGE_LIMIT};
 ghost use Rattle.isotp_receive.specs.Trace.{Entry};
-ghost use Rattle.trace_canon.specs.Answers.{ReadsWhile};
+ghost use Rattle.trace_log.specs.Answers.{ReadsWhile};
 ghost use Rattle.trace_canon.specs.Compared.{fault_in};
-ghost use Rattle.trace_canon.specs.declared.fault.Fault.{Fault as FaultValue};
-ghost use Rattle.trace_canon.specs.Devices.{ReadFrom};
-ghost use Rattle.trace_canon.specs.Refusal.{HasNoBadPlaceWithin};
+ghost use Rattle.trace_log.specs.declared.fault.Fault.{Fault as FaultValue};
+ghost use Rattle.trace_log.specs.Devices.{ReadFrom};
+ghost use Rattle.trace_log.specs.Refusal.{HasNoBadPlaceWithin};
 ghost use Rattle.trace_io.specs.Counted.{AreLowCounts};
 ghost use Rattle.trace_io.specs.Stream.{Agrees};
 ghost use Rattle.trace_report.specs.Held.{HoldsOne, HasOwnFrame, HoldsTwo};
@@ -14,7 +14,7 @@ ghost use Rattle.trace_report.specs.proving.Following.{row_if, rows_in, times_of
 ghost use Rattle.trace_report.specs.Session.{session_of};
 ghost use Rattle.trace_report.specs.proving.Heard.{IsHeardOf};
 ghost use Rattle.trace_report.specs.proving.Holding.{held_rows};
-ghost use Rattle.trace_canon.specs.declared.summary.Summary.{Summary as SummaryValue};
+ghost use Rattle.trace_log.specs.declared.summary.Summary.{Summary as SummaryValue};
 
 use crate::follower::{Follower, NewRows};
 use crate::held_session::{Held, HeldRow, HeldSession, copied_row};
@@ -24,8 +24,9 @@ use direction::Dir;
 use isotp_receive::{Event, Pair};
 use std::alloc::{AllocError, Global};
 use trace_canon::begun::FramePlace;
-use trace_canon::{CompareFault, Config, Fault, Machine, Nowhere, Stop, Summary, TextSink, run};
-use trace_io::Source;
+use trace_io::{Source, TextSink};
+use trace_log::{CompareFault, Config, Fault, Summary};
+use trace_run::{Machine, Nowhere, Stop, run};
 
 /// Reads two logs, the first one whole before the second, and answers what both say. No announcement and no canonical
 /// log is too long for it.

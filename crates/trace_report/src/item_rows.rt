@@ -15,8 +15,8 @@ use crate::items::{LentItem, LentMessage, LentPair, NextPair, next_pair};
 use crate::message_rows::{asked_at, say_further_note, say_lines, say_role};
 use crate::row::MessageRole;
 use crate::words::{say_data, say_seconds_between};
-use trace_canon::TextSink;
-use trace_canon::say::{say_number, say_text};
+use trace_io::TextSink;
+use trace_text::say::{say_number, say_text};
 use uds_message::is_suppressing;
 
 /// Says the rows of what these sessions have of each number, at the most so many, the first of them under this number,

@@ -2,8 +2,8 @@
 ghost use Rattle.trace_report.specs.Links.{item_link, line_link, link_behind, link_text, links_behind, links_text, look_entry, look_line, more_text, others_text, side_link};
 
 use arrayvec::ArrayVec;
-use trace_canon::TextSink;
-use trace_canon::say::{say_number, say_text};
+use trace_io::TextSink;
+use trace_text::say::{say_number, say_text};
 
 /// So many rows of a sort are linked to.
 const MOST_LINKS: u64 = 10;

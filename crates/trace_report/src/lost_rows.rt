@@ -1,7 +1,7 @@
 //! The rows of a report that tell what is missing: answers, frames, and messages that are not whole.
 ghost use Rattle.std.specs.Prelude.{true};
 ghost use Rattle.isotp_receive.specs.declared.event.Reason.TheVariants as reason;
-ghost use Rattle.trace_canon.specs.ExplainText.{reason_text};
+ghost use Rattle.trace_text.specs.ExplainText.{reason_text};
 ghost use Rattle.trace_report.specs.Rows.{cause_words, dropped_row, ended_row, frame_front, layout_fault_words, line_target, no_answer_row, partial_text, reason_words, side_target, silent_row, target_unless, unanswered_row, unfinished_row};
 
 use crate::cells::{say_cell_end, say_cell_front, say_side};
@@ -10,9 +10,9 @@ use crate::words::say_seconds_between;
 use direction::Dir;
 use isotp_pdu::PduFault;
 use isotp_receive::{Cause, Ended, Reason};
-use trace_canon::TextSink;
 use trace_canon::begun::FramePlace;
-use trace_canon::say::{
+use trace_io::TextSink;
+use trace_text::say::{
     say_cause, say_digit, say_direction, say_layout_fault, say_length, say_number, say_text,
 };
 

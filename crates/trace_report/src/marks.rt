@@ -4,8 +4,8 @@ ghost use Rattle.trace_report.specs.Marks.{before_text, behind_text, byte_ahead,
 ghost use Rattle.trace_report.specs.Marks as Spec;
 
 use crate::words::{MOST_SHOWN, SHOWN_FIRST, say_bytes_behind};
-use trace_canon::TextSink;
-use trace_canon::say::{say_byte, say_number, say_text};
+use trace_io::TextSink;
+use trace_text::say::{say_byte, say_number, say_text};
 
 /// So many bytes are shown before a place that is not among the first ones.
 const SHOWN_BEFORE: usize = 16;

@@ -7,8 +7,8 @@ use crate::cells::{say_cell_end, say_cell_front};
 use crate::row::{Arrow, MessagePlace, MessageRole};
 use crate::words::{say_data, say_milliseconds_between, say_seconds_between};
 use direction::Dir;
-use trace_canon::TextSink;
-use trace_canon::say::{say_code, say_direction, say_number, say_service, say_text};
+use trace_io::TextSink;
+use trace_text::say::{say_code, say_direction, say_number, say_service, say_text};
 use uds_message::{response_code, sid};
 
 /// Says the row of a message, in a page whose first frame has the time `origin`.

@@ -16,8 +16,8 @@ use crate::item_rows::say_pair_rows;
 use crate::items::next_pair;
 use crate::pair_page::{PairTitle, say_lettered_name};
 use crate::pairs::{FoundContrast, first_difference};
-use trace_canon::TextSink;
-use trace_canon::say::{say_place, say_text};
+use trace_io::TextSink;
+use trace_text::say::{say_place, say_text};
 
 /// Says all items, with the first difference, if there is one.
 pub(crate) fn say_items<S: TextSink>(title: &PairTitle<'_>, held: &Held, out: &mut S)

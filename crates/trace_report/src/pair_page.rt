@@ -1,6 +1,6 @@
 //! The page of two logs.
 ghost use Rattle.std.specs.Prelude.{◌≡◌};
-ghost use Rattle.trace_canon.specs.Printed.{Prints};
+ghost use Rattle.trace_run.specs.Printed.{Prints};
 ghost use Rattle.trace_io.specs.Counted.{IsLowCount};
 ghost use Rattle.trace_report.specs.Held.{pairs_in};
 ghost use Rattle.trace_report.specs.Contrast.{first_contrast};
@@ -16,9 +16,10 @@ use crate::pair_items::say_items;
 use crate::pair_verdict::{say_pair_verdict, say_sessions};
 use crate::verdict::say_refusal;
 use can_log::Id;
-use trace_canon::say::say_text;
-use trace_canon::{CompareFault, Fault, Printable, TextSink, print};
-use trace_io::Target;
+use trace_io::{Target, TextSink};
+use trace_log::{CompareFault, Fault};
+use trace_run::{Printable, print};
+use trace_text::say::say_text;
 
 /// What a page of two logs is made for: its style, the names of the logs, and the identifiers.
 #[derive(Clone, Copy)]

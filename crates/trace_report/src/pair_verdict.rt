@@ -15,8 +15,9 @@ use crate::held_session::{Held, HeldSession};
 use crate::pair_page::{PairTitle, say_lettered_name};
 use crate::pairs::{FoundContrast, count_numbers, counts_of, first_difference};
 use crate::verdict::{say_span_of, say_unclean_reason};
-use trace_canon::say::{say_number, say_place, say_text};
-use trace_canon::{Summary, TextSink};
+use trace_io::TextSink;
+use trace_log::Summary;
+use trace_text::say::{say_number, say_place, say_text};
 
 /// Says whether the two sessions are the same, if they have items.
 pub(crate) fn say_pair_verdict<S: TextSink>(held: &Held, out: &mut S)

@@ -2,7 +2,7 @@
 ghost use Rattle.std.specs.Prelude.{◌≡◌, List, [], ◌∷◌, ◌++◌, length, Option};
 ghost use Rattle.isotp_receive.specs.declared.TheConstants.{MESSAGE_LIMIT};
 ghost use Rattle.isotp_receive.specs.Trace.{Entry};
-ghost use Rattle.trace_canon.specs.Told.{RanLenient, answers_counts, needs_none};
+ghost use Rattle.trace_run.specs.Told.{RanLenient, answers_counts, needs_none};
 ghost use Rattle.trace_io.specs.Counted.{IsLowCount, AreLowCounts};
 ghost use Rattle.trace_report.specs.Front.{page_title};
 ghost use Rattle.trace_report.specs.Page.{first_time, front_before, last_time, page_end, refused_end, report_script};
@@ -19,9 +19,10 @@ use direction::Dir;
 use isotp_receive::{Event, Pair};
 use std::alloc::{AllocError, Global};
 use trace_canon::begun::FramePlace;
-use trace_canon::say::say_text;
-use trace_canon::{Config, Fault, Machine, Stop, Summary, TextSink, run_lenient};
-use trace_io::{Source, Target};
+use trace_io::{Source, Target, TextSink};
+use trace_log::{Config, Fault, Summary};
+use trace_run::{Machine, Stop, run_lenient};
+use trace_text::say::say_text;
 
 /// Reads a log and writes its session as a page of HTML, with this style and the name of the log: each row as its frame comes, and
 /// at the end the verdict, which the style shows first.
@@ -74,7 +75,7 @@ pub(crate) struct Reporter<'a> {
 
 impl<'a> Machine for Reporter<'a> {
     ghost use Rattle.isotp_receive.specs.declared.TheConstants.{MESSAGE_LIMIT};
-    ghost use Rattle.trace_canon.specs.Told.{answers_counts};
+    ghost use Rattle.trace_run.specs.Told.{answers_counts};
     ghost use Rattle.trace_report.specs.Page.{report_script};
     ghost use Rattle.trace_report.specs.proving.Following.{Reports};
     ghost use Rattle.trace_report.specs.proving.Pages.{title_of};

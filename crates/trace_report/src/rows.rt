@@ -8,7 +8,7 @@ use crate::blocks::{Blocks, begins_exchange, is_brief, one_more_row, say_opening
 use crate::brief_rows::say_message;
 use crate::lost_rows::{say_dropped_row, say_ended_row, say_no_answer_row, say_unfinished_row};
 use crate::row::Row;
-use trace_canon::TextSink;
+use trace_io::TextSink;
 
 /// Says a row behind those before, and what begins before it.
 pub(crate) fn say_next_row<S: TextSink>(origin: u64, blocks: &mut Blocks, row: Row<'_>, out: &mut S)

@@ -10,8 +10,9 @@ use crate::counts::{SortCounts, say_answers_of, say_counts};
 use crate::links::{Link, say_look_line};
 use crate::tally::Tally;
 use crate::words::{say_seconds_between, say_stamp};
-use trace_canon::say::{say_length, say_number, say_text};
-use trace_canon::{Fault, Summary, TextSink};
+use trace_io::TextSink;
+use trace_log::{Fault, Summary};
+use trace_text::say::{say_length, say_number, say_text};
 
 /// Says the verdict of a log with this tally, whose first frame and last one have these times.
 pub(crate) fn say_verdict<S: TextSink>(

@@ -5,8 +5,8 @@ ghost use Rattle.trace_canon.specs.MessageLines.{stamp_text};
 ghost use Rattle.trace_report.specs.Words.{brief_cut, brief_data, byte_behind, bytes_apart, bytes_behind, cut_data, data_text, folded_data, grey_letters, letter_text, letters, letters_text, milliseconds_between, milliseconds_text, seconds_between, short_data, sign_text};
 ghost use Rattle.trace_report.specs.Words as Spec;
 
-use trace_canon::TextSink;
-use trace_canon::say::{say_byte, say_number, say_six_decimals, say_text, say_three_decimals};
+use trace_io::TextSink;
+use trace_text::say::{say_byte, say_number, say_six_decimals, say_text, say_three_decimals};
 
 /// Up to so many bytes, all of a message are shown.
 pub(crate) const MOST_SHOWN: usize = 64;

@@ -4,18 +4,18 @@ use Rattle.std.specs.Prelude.{IfOk, ◌&&◌, not}
 use Rattle.can_log.specs.Log.{LogMeans}
 use Rattle.can_log.specs.declared.frame.Stamped.{Stamped}
 use Rattle.isotp_receive.specs.declared.TheConstants.{MESSAGE_LIMIT}
-use Rattle.trace_canon.specs.Answers.{GivesSession}
-use Rattle.trace_canon.specs.Laws.{Certifies, IsCertified}
-use Rattle.trace_canon.specs.Outcome.{Accepted, IsOutcome}
-use Rattle.trace_canon.specs.Settings.{Settings}
-use Rattle.trace_canon.specs.Summing.{is_clean, summary_of}
+use Rattle.trace_canon.specs.Sessions.{GivesSession}
+use Rattle.trace_log.specs.Laws.{Certifies, IsCertified}
+use Rattle.trace_log.specs.Outcome.{Accepted, IsOutcome}
+use Rattle.trace_log.specs.Settings.{Settings}
+use Rattle.trace_log.specs.Summing.{is_clean, summary_of}
 use Rattle.trace_canon.specs.declared.collector.Session.{Session}
-use Rattle.trace_canon.specs.declared.fault.CompareFault.{CompareFault}
-use Rattle.trace_canon.specs.declared.fault.Fault.{Fault}
-use Rattle.trace_canon.specs.declared.machine.Stop.{Stop}
-use Rattle.trace_canon.specs.declared.summary.Summary.{Summary}
-use Rattle.trace_canon.proofs.Promises.{clean_log_is_recording, clean_summary_is_certificate, summary_certifies}
-use Rattle.trace_canon.specs.Told.{AnswersTold, IsReadToEnd, Script, answers_counts}
+use Rattle.trace_log.specs.declared.fault.CompareFault.{CompareFault}
+use Rattle.trace_log.specs.declared.fault.Fault.{Fault}
+use Rattle.trace_run.specs.declared.machine.Stop.{Stop}
+use Rattle.trace_log.specs.declared.summary.Summary.{Summary}
+use Rattle.trace_log.proofs.Promises.{clean_log_is_recording, clean_summary_is_certificate, summary_certifies}
+use Rattle.trace_run.specs.Told.{AnswersTold, IsReadToEnd, Script, answers_counts}
 use Rattle.trace_report.specs.Held as Holds
 use Rattle.trace_report.specs.Session.{SessionValue}
 use Rattle.udsnorm.specs.Commands.{Engine, normalises, writes, finds, runs, runs_in_style, EngineAnswers, PairEngineAnswers, answers_of, engine_of}

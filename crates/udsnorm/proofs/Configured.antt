@@ -12,7 +12,7 @@ use Rattle.clap.specs.declared.builder.value_parser.ValueParser.TheVariants.{Uns
 use Rattle.clap.specs.declared.parser.matches.Found.{Found}
 use Rattle.clap.proofs.ValueTestLemmas.{Accepts-accepts, accepts-Accepts}
 use Rattle.clap.proofs.WalkLemmas.{one_text-rows}
-use Rattle.trace_canon.specs.Settings.{Settings}
+use Rattle.trace_log.specs.Settings.{Settings}
 use Rattle.udsnorm.specs.declared.commands.Task.{Task}
 use Rattle.udsnorm.specs.declared.job.Plan.{Plan}
 use Rattle.udsnorm.specs.declared.job.WordsFault.{WordsFault}

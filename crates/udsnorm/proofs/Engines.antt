@@ -2,9 +2,9 @@
 use Rattle.std.proofs.Common.{ℕ, Result}
 use Rattle.trace_io.specs.declared.device.Source.{Ghosts as SourceGhosts}
 use Rattle.trace_io.specs.declared.device.Target.{Ghosts as TargetGhosts}
-use Rattle.trace_canon.specs.Settings.{Settings}
-use Rattle.trace_canon.specs.declared.fault.Fault.{Fault}
-use Rattle.trace_canon.specs.declared.summary.Summary.{Summary}
+use Rattle.trace_log.specs.Settings.{Settings}
+use Rattle.trace_log.specs.declared.fault.Fault.{Fault}
+use Rattle.trace_log.specs.declared.summary.Summary.{Summary}
 use Rattle.udsnorm.specs.Commands.{Engine, RanAny, RanBy, normalises, writes, finds, runs, runs_in_style}
 
 pub ran_any : {R W : Type 0} (source : SourceGhosts R) (target : TargetGhosts W) (engine : Engine) (limit : ℕ) (settings : Settings) (before : R) (old : W) (result : Result Summary Fault) (after : R) (new : W)

@@ -2,13 +2,13 @@
 use Rattle.std.proofs.Common.{◌≡◌, ◌≢◌, ◌≤◌, ◌⊎◌, ◌+◌, ◌-◌, ℕ, inl, inr, Bool, true, false, true≢false, List, [], ◌++◌, length, length-append, append-nil, Option, Some, None, Result, Ok, Err, arith, refl, ap, sym, subst, ◌∙◌}
 use Rattle.std.specs.Prelude.{if◌then◌else◌, ◌&&◌, not, IfOk}
 use Rattle.std.specs.Io.KnownBytes.{Appends, Keeps}
-use Rattle.trace_canon.specs.Failing.{FailedIf}
-use Rattle.trace_canon.specs.Laws.{IsCertified}
-use Rattle.trace_canon.specs.Summing.{is_clean}
-use Rattle.trace_canon.specs.declared.fault.Fault.{Fault}
-use Rattle.trace_canon.specs.declared.fault.Fault.TheVariants as fault
-use Rattle.trace_canon.specs.Settings.{Settings}
-use Rattle.trace_canon.specs.declared.summary.Summary.{Summary}
+use Rattle.trace_log.specs.Failing.{FailedIf}
+use Rattle.trace_log.specs.Laws.{IsCertified}
+use Rattle.trace_log.specs.Summing.{is_clean}
+use Rattle.trace_log.specs.declared.fault.Fault.{Fault}
+use Rattle.trace_log.specs.declared.fault.Fault.TheVariants as fault
+use Rattle.trace_log.specs.Settings.{Settings}
+use Rattle.trace_log.specs.declared.summary.Summary.{Summary}
 use Rattle.trace_io.specs.Stream.{Agrees, Took}
 use Rattle.udsnorm.specs.Ending.{ComesTo, EndsAs, flushes, is_unclean, status_of_run}
 use Rattle.udsnorm.specs.Commands.{EngineAnswers}

@@ -8,27 +8,27 @@ use Rattle.clap.specs.Simple.{App, Shape, new_rule, new_shape, subcommand_of}
 use Rattle.clap.specs.Walk.{Row, Rule, Text, first_of}
 use Rattle.clap.specs.declared.builder.action.ArgAction.TheVariants.{SetTrue}
 use Rattle.clap.specs.declared.builder.value_parser.ValueParser.TheVariants.{Unsigned}
-use Rattle.trace_canon.specs.Answers.{Answers, ReadsWhile}
+use Rattle.trace_log.specs.Answers.{Answers, ReadsWhile}
 use Rattle.trace_canon.specs.Compared.{Compares, fault_in}
 use Rattle.trace_canon.specs.ComparisonText.{comparison_text}
-use Rattle.trace_canon.specs.Devices.{ReadFrom, WroteTo}
+use Rattle.trace_log.specs.Devices.{ReadFrom, WroteTo}
 use Rattle.trace_canon.specs.ExplainScript.{explain_script}
 use Rattle.trace_canon.specs.Found.{Finds, NeedsMemoryToFind, RanToFind}
-use Rattle.trace_canon.specs.ListText.{list_text}
+use Rattle.trace_text.specs.ListText.{list_text}
 use Rattle.trace_canon.specs.Listed.{RanOverItems, TextOfItems, WritesItems}
 use Rattle.trace_canon.specs.MessageLines.{placing_script}
-use Rattle.trace_canon.specs.Needing.{CompletesKept, HasFrame, IsKeptForMessage, NeedsMemoryToCollect, NeedsMemoryToOrder, NeedsMemoryToReceive}
-use Rattle.trace_canon.specs.Refusal.{HasNoBadPlaceWithin, IsNotRefusedWithin}
-use Rattle.trace_canon.specs.Settings.{Settings}
-use Rattle.trace_canon.specs.Told.{Script, AnswersTold, RanLenient, answers_counts, needs_none}
+use Rattle.trace_log.specs.Needing.{CompletesKept, HasFrame, IsKeptForMessage, NeedsMemoryToCollect, NeedsMemoryToOrder, NeedsMemoryToReceive}
+use Rattle.trace_log.specs.Refusal.{HasNoBadPlaceWithin, IsNotRefusedWithin}
+use Rattle.trace_log.specs.Settings.{Settings}
+use Rattle.trace_run.specs.Told.{Script, AnswersTold, RanLenient, answers_counts, needs_none}
 use Rattle.trace_canon.specs.WatchScript.{watching_script}
 use Rattle.trace_canon.specs.declared.comparing.Compared.{Compared}
 use Rattle.trace_canon.specs.declared.comparison_lines.ComparisonStyle.{ComparisonStyle}
-use Rattle.trace_canon.specs.declared.fault.CompareFault.{CompareFault}
-use Rattle.trace_canon.specs.declared.fault.Fault.{Fault}
-use Rattle.trace_canon.specs.declared.fault.Fault.TheVariants.{Memory, Read, Write}
-use Rattle.trace_canon.specs.declared.notation.Notation.{Notation}
-use Rattle.trace_canon.specs.declared.summary.Summary.{Summary}
+use Rattle.trace_log.specs.declared.fault.CompareFault.{CompareFault}
+use Rattle.trace_log.specs.declared.fault.Fault.{Fault}
+use Rattle.trace_log.specs.declared.fault.Fault.TheVariants.{Memory, Read, Write}
+use Rattle.trace_text.specs.declared.notation.Notation.{Notation}
+use Rattle.trace_log.specs.declared.summary.Summary.{Summary}
 use Rattle.isotp_receive.specs.Trace.{Entry}
 use Rattle.trace_io.specs.Stream.{Agrees}
 use Rattle.trace_io.specs.declared.device.Source.{Ghosts as SourceGhosts}

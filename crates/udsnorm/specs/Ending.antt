@@ -1,13 +1,13 @@
 -- How a run ends: what was written is flushed, and only then a fault is told.
 use Rattle.std.specs.Prelude.{◌≡◌, ℕ, ◌+◌, ◌&&◌, not, nat_lt, ◌⊎◌, Bool, true, false, List, length, Option, Some, None, Result, Ok, Err, if◌then◌else◌}
 use Rattle.trace_canon.specs.Compared.{fault_in}
-use Rattle.trace_canon.specs.Summing.{is_clean}
+use Rattle.trace_log.specs.Summing.{is_clean}
 use Rattle.trace_canon.specs.declared.comparing.Comparison.{Comparison}
 use Rattle.trace_canon.specs.declared.comparing.Comparison.TheVariants.{Same, Different}
-use Rattle.trace_canon.specs.declared.fault.CompareFault.{CompareFault}
-use Rattle.trace_canon.specs.declared.fault.Fault.{Fault}
-use Rattle.trace_canon.specs.declared.fault.Fault.TheVariants.{Write}
-use Rattle.trace_canon.specs.declared.summary.Summary.{Summary}
+use Rattle.trace_log.specs.declared.fault.CompareFault.{CompareFault}
+use Rattle.trace_log.specs.declared.fault.Fault.{Fault}
+use Rattle.trace_log.specs.declared.fault.Fault.TheVariants.{Write}
+use Rattle.trace_log.specs.declared.summary.Summary.{Summary}
 use Rattle.udsnorm.specs.Status.{is_refusal, status_of}
 use Rattle.udsnorm.specs.declared.pair_jobs.PairAnswer.{PairAnswer}
 

@@ -1,12 +1,12 @@
 -- What is known of a log for a hint, by what a run over it came to.
 use Rattle.std.specs.Prelude.{◌≡◌, ◌⊎◌, ℕ, ◌==◌, ◌&&◌, nat_lt, Bool, List, length, take, Option, Some, None, Result, Ok, Err, if◌then◌else◌}
-use Rattle.trace_canon.specs.Settings.{Settings}
-use Rattle.trace_canon.specs.declared.config.TheConstants.{LARGEST_LIMIT}
-use Rattle.trace_canon.specs.declared.fault.CompareFault.{CompareFault}
-use Rattle.trace_canon.specs.declared.fault.CompareFault.TheVariants.{Left, Right}
-use Rattle.trace_canon.specs.declared.fault.Fault.{Fault}
-use Rattle.trace_canon.specs.declared.fault.Fault.TheVariants.{BadLine, Oversize, LogLimit, OutputLimit, Read, Write, Memory}
-use Rattle.trace_canon.specs.declared.summary.Summary.{Summary}
+use Rattle.trace_log.specs.Settings.{Settings}
+use Rattle.trace_log.specs.declared.config.TheConstants.{LARGEST_LIMIT}
+use Rattle.trace_log.specs.declared.fault.CompareFault.{CompareFault}
+use Rattle.trace_log.specs.declared.fault.CompareFault.TheVariants.{Left, Right}
+use Rattle.trace_log.specs.declared.fault.Fault.{Fault}
+use Rattle.trace_log.specs.declared.fault.Fault.TheVariants.{BadLine, Oversize, LogLimit, OutputLimit, Read, Write, Memory}
+use Rattle.trace_log.specs.declared.summary.Summary.{Summary}
 use Rattle.udsnorm.specs.Looks.{lacks_stamp, look_of}
 use Rattle.udsnorm.specs.declared.commands.Job.{Job}
 use Rattle.udsnorm.specs.declared.commands.Job.TheVariants as job

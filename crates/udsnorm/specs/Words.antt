@@ -5,7 +5,7 @@ use Rattle.clap.specs.Walk.{Row, Text, first_of}
 use Rattle.clap.specs.declared.error.kind.ErrorKind.{ErrorKind}
 use Rattle.clap.specs.declared.error.kind.ErrorKind.TheVariants.{DisplayHelp, DisplayVersion, OutOfMemory}
 use Rattle.can_log.specs.declared.frame.Id.{Id}
-use Rattle.trace_canon.specs.Settings.{Settings, Configures}
+use Rattle.trace_log.specs.Settings.{Settings, Configures}
 use Rattle.udsnorm.specs.Commands.{command_in, left_file, refusals, right_file, task_named}
 use Rattle.udsnorm.specs.Values.{is_strict, limit_in, tester_in, unit_in}
 use Rattle.udsnorm.specs.declared.commands.Task.{Task}

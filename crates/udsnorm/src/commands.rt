@@ -11,12 +11,11 @@ use crate::pair_jobs::PairJob;
 use crate::values::{comparison_style, notation, style, text_of};
 use clap::ArgMatches;
 use std::alloc::Global;
-use trace_canon::{
-    Config, Fault, ItemStyle, ItemText, Notation, Summary, TextSink, explain, find, messages,
-    normalise, watch, write_items,
-};
-use trace_io::{Source, Target};
+use trace_canon::{ItemText, explain, find, messages, normalise, watch, write_items};
+use trace_io::{Source, Target, TextSink};
+use trace_log::{Config, Fault, Summary};
 use trace_report::{report, report_style};
+use trace_text::{ItemStyle, Notation};
 use uds_exchange::Meaning;
 
 /// What the program does with one log.

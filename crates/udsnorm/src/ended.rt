@@ -13,8 +13,8 @@ use crate::pair_jobs::PairAnswer;
 use can_log::Id;
 use std::fs::OpenFile;
 use std::io::{Error, ErrorKind};
-use trace_canon::{CompareFault, Config, Fault, LARGEST_LIMIT, Summary};
 use trace_io::Target;
+use trace_log::{CompareFault, Config, Fault, LARGEST_LIMIT, Summary};
 
 /// What the words asked for, and how that ended.
 #[derive(Drop)]

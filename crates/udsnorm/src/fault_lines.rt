@@ -6,7 +6,7 @@ ghost use Rattle.udsnorm.specs.proving.Parts.{part_text};
 
 use crate::job::WordsFault;
 use crate::text::{Line, Part, line_of};
-use trace_canon::{CompareFault, ConfigFault, Fault, Summary};
+use trace_log::{CompareFault, ConfigFault, Fault, Summary};
 
 /// The line of a fault.
 pub(crate) fn fault_line(fault: Fault) -> Line

@@ -7,7 +7,7 @@ use crate::commands::Job;
 use crate::pair_jobs::PairJob;
 use std::alloc::AllocError;
 use thiserror::Error;
-use trace_canon::{Config, ConfigFault};
+use trace_log::{Config, ConfigFault};
 
 /// What a command line asks for.
 #[derive(Drop)]

@@ -57,8 +57,8 @@ use std::io::{ErrorKind, Input, IsTerminal, Print, Read};
 use std::process::ExitCode;
 use std::rt::Files;
 use std::{env, fs, io};
-use trace_canon::{CompareFault, Config, Fault};
 use trace_io::{Source, Target, Writing};
+use trace_log::{CompareFault, Config, Fault};
 
 /// What is told of a command line that is no text.
 const NO_TEXT: &str = "error: the command line is not UTF-8\n";

@@ -3,8 +3,8 @@
 ghost use Rattle.std.specs.Prelude.{◌≡◌, ◌≢◌, ◌-◌, ℕ, List, Err, IfErr, false, length, true};
 ghost use Rattle.isotp_receive.specs.declared.TheConstants.{MESSAGE_LIMIT};
 ghost use Rattle.trace_canon.specs.Compared.{fault_in};
-ghost use Rattle.trace_canon.specs.Devices.{ReadFrom};
-ghost use Rattle.trace_canon.specs.declared.fault.Fault.{Fault as FaultValue};
+ghost use Rattle.trace_log.specs.Devices.{ReadFrom};
+ghost use Rattle.trace_log.specs.declared.fault.Fault.{Fault as FaultValue};
 ghost use Rattle.trace_io.specs.Counted.{AreLowCounts, IsLowCount};
 ghost use Rattle.trace_io.specs.Stream.{Agrees};
 ghost use Rattle.trace_report.specs.PairPage.{pair_page, pair_title};
@@ -16,11 +16,9 @@ ghost use Rattle.udsnorm.specs.proving.Pairs.{answer_held, answer_of, text_of_an
 use crate::commands::{LEFT, LOG, OTHER, RIGHT};
 use crate::tell::is_refusal;
 use std::alloc::Global;
-use trace_canon::{
-    CompareFault, Compared, Comparison, ComparisonStyle, Config, Fault, Summary, compare,
-    write_comparison,
-};
+use trace_canon::{Compared, Comparison, ComparisonStyle, compare, write_comparison};
 use trace_io::{Source, Target};
+use trace_log::{CompareFault, Config, Fault, Summary};
 use trace_report::{Held, PairTitle, hold_two, report_style, write_pair_page};
 
 /// What the program does with two logs.

@@ -3,7 +3,7 @@
 ghost use Rattle.std.specs.Prelude.{◌≡◌, ℕ, ◌+◌, ◌-◌, ◌^◌, ◌<◌, ◌≤◌, ◌⊎◌, ◌↔◌, ◌&&◌, List, ◌++◌, true, OnOk, IfErr, MatchResult, length};
 ghost use Rattle.std.specs.Io.KnownBytes.{Keeps};
 ghost use Rattle.isotp_receive.specs.declared.TheConstants.{MESSAGE_LIMIT};
-ghost use Rattle.trace_canon.specs.Laws.{IsCertified};
+ghost use Rattle.trace_log.specs.Laws.{IsCertified};
 ghost use Rattle.trace_io.specs.Counted.{AreLowCounts, IsLowCount};
 ghost use Rattle.trace_io.specs.Stream.{Agrees};
 ghost use Rattle.trace_io.specs.Written.{HasFront};
@@ -18,8 +18,9 @@ use crate::ended::{OneEnd, TwoEnd};
 use crate::pair_jobs::{PairAnswer, PairJob, do_pair_job, has_text, has_unclean};
 use crate::tell::{is_refusal, tell_fault, tell_side, tell_unclean, tell_unclean_sides};
 use std::alloc::Global;
-use trace_canon::{CompareFault, Comparison, Config, Fault, Summary};
+use trace_canon::Comparison;
 use trace_io::{Source, Target, write_all};
+use trace_log::{CompareFault, Config, Fault, Summary};
 
 /// Does a job over one log, which has this name on a page, and answers how that ended. The text goes to the output,
 /// which is flushed before a fault of the log is told, or that it is not clean, where the run is strict; and what is

@@ -12,8 +12,8 @@ use crate::fault_lines::{fault_line, side_line, unclean_line, unclean_side, word
 use crate::job::WordsFault;
 use crate::pair_jobs::PairAnswer;
 use crate::run::write_flushed;
-use trace_canon::{CompareFault, Fault, Summary};
 use trace_io::{Target, write_all};
+use trace_log::{CompareFault, Fault, Summary};
 
 /// Tells why the words ask for nothing that the program does: help or the version on the output, which is flushed, anything
 /// else on the error output. Answers the exit status.

@@ -7,7 +7,8 @@ ghost use Rattle.udsnorm.specs.Values.{comparison_style_in, is_given, is_strict 
 use crate::commands::{JSON, NO_NUMBERS, SHOW, STRICT};
 use clap::ArgMatches;
 use std::path::Path;
-use trace_canon::{ComparisonStyle, ItemStyle, Notation, Numbering};
+use trace_canon::ComparisonStyle;
+use trace_text::{ItemStyle, Notation, Numbering};
 
 /// How the lines of items are written.
 pub(crate) fn style(found: &ArgMatches<'_>) -> ItemStyle

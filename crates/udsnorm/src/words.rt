@@ -15,7 +15,7 @@ use crate::values::{is_strict, text_of};
 use clap::error::ErrorKind;
 use clap::{ArgMatches, Error};
 use std::alloc::{AllocError, Global};
-use trace_canon::Config;
+use trace_log::Config;
 
 /// What is meant where there are no words.
 static NO_WORDS: [&str; 1] = ["normalise"];

@@ -2,11 +2,11 @@
 use Rattle.std.specs.Prelude.{ℕ, ◌-◌, ◌==◌, List, ◌++◌, length, drop, nat_le, Option, Some, None, if◌then◌else◌}
 use Rattle.can_log.specs.declared.frame.Id.{Id}
 use Rattle.can_log.specs.declared.frame.Id.TheVariants as id
-use Rattle.trace_canon.specs.declared.item_lines.ItemStyle.{ItemStyle}
-use Rattle.trace_canon.specs.declared.item_lines.Numbering.{Numbering}
-use Rattle.trace_canon.specs.declared.item_lines.Numbering.TheVariants.{Shown, Hidden}
-use Rattle.trace_canon.specs.declared.notation.Notation.{Notation}
-use Rattle.trace_canon.specs.declared.notation.Notation.TheVariants.{Text, Json}
+use Rattle.trace_text.specs.declared.item_lines.ItemStyle.{ItemStyle}
+use Rattle.trace_text.specs.declared.item_lines.Numbering.{Numbering}
+use Rattle.trace_text.specs.declared.item_lines.Numbering.TheVariants.{Shown, Hidden}
+use Rattle.trace_text.specs.declared.notation.Notation.{Notation}
+use Rattle.trace_text.specs.declared.notation.Notation.TheVariants.{Text, Json}
 
 -- An identifier as Linux's `canid_t` has it: with the highest bit an extended one. A number of more than 16 bits
 -- without that bit is taken for 0xFFFF, which is no base identifier either.

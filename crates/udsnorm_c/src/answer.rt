@@ -2,7 +2,8 @@
 ghost use Rattle.std.specs.Prelude.{◌≡◌};
 ghost use Rattle.udsnorm_c.specs.Answered as Spec;
 
-use trace_canon::{CompareFault, Comparison, ConfigFault, Fault, Summary};
+use trace_canon::Comparison;
+use trace_log::{CompareFault, ConfigFault, Fault, Summary};
 
 /// What came of a call. Which fields say something depends on the status; the others are 0.
 #[repr(C)]

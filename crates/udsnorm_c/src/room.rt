@@ -4,8 +4,8 @@ ghost use Rattle.udsnorm_c.specs.Answered.{IsPut};
 ghost use Rattle.udsnorm_c.specs.Spelled.{put_at_front};
 
 use crate::answer::{UdsnormAnswer, fault_answer, text_answer};
-use trace_canon::Fault;
 use trace_canon::counted::CountedText;
+use trace_log::Fault;
 
 /// Puts what was told of a log at the front of a buffer, where it has room, and answers what is known of it.
 pub(crate) fn put(told: Result<CountedText, Fault>, out: &mut [u8]) -> UdsnormAnswer

@@ -1,11 +1,12 @@
 //! What C names by numbers: identifiers and styles.
 ghost use Rattle.std.specs.Prelude.{◌≡◌};
-ghost use Rattle.trace_canon.specs.Settings.{Configures};
+ghost use Rattle.trace_log.specs.Settings.{Configures};
 ghost use Rattle.udsnorm_c.specs.Spelled.{identifier_of, list_style, written};
 ghost use Rattle.udsnorm_c.specs.Spelled as Spec;
 
 use can_log::Id;
-use trace_canon::{Config, ConfigFault, ItemStyle, Notation, Numbering};
+use trace_log::{Config, ConfigFault};
+use trace_text::{ItemStyle, Notation, Numbering};
 
 /// The identifiers where none is asked for.
 pub(crate) const USUAL_TESTER: u32 = 0x7E0;

@@ -11,7 +11,7 @@ use Rattle.uds_exchange.specs.Numbering.{CountsItems}
 use Rattle.uds_exchange.specs.declared.numbers.Numbers.{Numbers}
 use Rattle.trace_canon.specs.declared.begun.Begun.{Begun}
 use Rattle.trace_canon.specs.declared.begun.FramePlace.{FramePlace}
-use Rattle.trace_canon.specs.declared.notation.Notation.{Notation}
+use Rattle.trace_text.specs.declared.notation.Notation.{Notation}
 use Rattle.trace_canon.specs.MessageLines.{place_of, last_start}
 
 -- where a reception of d began, if one stands, after an end

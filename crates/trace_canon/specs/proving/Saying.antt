@@ -5,7 +5,7 @@ use Rattle.direction.specs.declared.Dir.{Dir}
 use Rattle.isotp_receive.specs.declared.TheConstants.{MESSAGE_LIMIT}
 use Rattle.isotp_segment.specs.Timed.{all_frames}
 use Rattle.uds_exchange.specs.Orderer.{IsDue}
-use Rattle.trace_canon.specs.Settings.{Settings}
+use Rattle.trace_log.specs.Settings.{Settings}
 use Rattle.trace_canon.specs.proving.Writing.{Place, text_from, place_after}
 
 -- the lines of the messages that are due with this one were said

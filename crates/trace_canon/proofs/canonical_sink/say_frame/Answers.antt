@@ -2,7 +2,7 @@ use Rattle.std.proofs.Common.{arith, ◌≡◌, ◌∷◌, ◌<◌, ◌≤◌, L
 use Rattle.can_log.proofs.Promises.{canonical_line_length}
 use Rattle.can_log.specs.Canonical.{canonical_line, canonical_length}
 use Rattle.direction.specs.declared.Dir.{Dir}
-use Rattle.trace_canon.specs.Settings.{id_of}
+use Rattle.trace_log.specs.Settings.{id_of}
 use Rattle.trace_canon.specs.proving.Saying.{SaysFront}
 use Rattle.trace_canon.specs.proving.Writing.{behind, line_at}
 use Rattle.trace_canon.proofs.SaidFrames.{line_said, line_stops}

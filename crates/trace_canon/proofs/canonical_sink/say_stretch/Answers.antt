@@ -2,7 +2,7 @@ use Rattle.std.proofs.Common.{arith, ◌≡◌, ◌∷◌, ℕ, ◌≤◌, List,
 use Rattle.can_log.specs.Canonical.{canonical_line}
 use Rattle.direction.specs.declared.Dir.{Dir}
 use Rattle.isotp_segment.specs.CanonicalFrames.{IsFullNext}
-use Rattle.trace_canon.specs.Settings.{id_of}
+use Rattle.trace_log.specs.Settings.{id_of}
 use Rattle.trace_canon.specs.declared.canonical_sink.TheConstants.{BLANK}
 use Rattle.trace_canon.specs.proving.Saying.{SaysFront}
 use Rattle.trace_canon.specs.proving.Writing.{behind, line_at}

@@ -1,6 +1,6 @@
 use Rattle.std.proofs.Common.{◌≡◌, ◌≤◌, ℕ, List, length}
 use Rattle.can_log.specs.Canonical.{canonical_line}
-use Rattle.trace_canon.specs.Settings.{id_of}
+use Rattle.trace_log.specs.Settings.{id_of}
 use Rattle.trace_canon.specs.proving.Saying.{SaysFront}
 use Rattle.trace_canon.proofs.canonical_sink.say_stretch.Given as goal
 

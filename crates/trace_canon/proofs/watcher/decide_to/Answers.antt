@@ -1,5 +1,5 @@
 use Rattle.std.proofs.Common.{sym, subst, ◌∙◌}
-use Rattle.trace_canon.specs.ListText.{list_text_from}
+use Rattle.trace_text.specs.ListText.{list_text_from}
 use Rattle.trace_canon.proofs.WatchScripts.{said_items}
 use Rattle.trace_canon.proofs.watcher.decide_to.Goals as goal
 

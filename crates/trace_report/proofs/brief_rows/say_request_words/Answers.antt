@@ -1,5 +1,5 @@
 use Rattle.std.proofs.Common.{subst}
-use Rattle.trace_canon.specs.Words.{service_text}
+use Rattle.trace_text.specs.Words.{service_text}
 use Rattle.trace_report.proofs.brief_rows.say_request_words.Goals as goal
 
 pub returns : goal.returns

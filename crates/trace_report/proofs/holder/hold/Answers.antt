@@ -1,7 +1,8 @@
 use Rattle.std.proofs.Common.{[], Err, ap}
-use Rattle.trace_canon.proofs.Promises.{given_agrees, never_write}
+use Rattle.trace_run.proofs.Promises.{never_write}
+use Rattle.trace_log.proofs.Promises.{given_agrees}
 use Rattle.isotp_receive.specs.declared.TheConstants.{MESSAGE_LIMIT}
-use Rattle.trace_canon.specs.declared.fault.Fault.{Fault}
+use Rattle.trace_log.specs.declared.fault.Fault.{Fault}
 use Rattle.trace_report.specs.proving.Heard.{answers_heard, quiet_script}
 use Rattle.trace_report.proofs.Holding.{fault_of, has_own_where_held, has_own_where_needed, quiet_tells_nothing, read_so, unread_so}
 use Rattle.trace_report.proofs.holder.hold.Goals as goal

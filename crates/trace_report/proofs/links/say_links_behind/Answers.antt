@@ -1,6 +1,6 @@
 use Rattle.std.proofs.Common.{refl, sym, subst}
 use Rattle.trace_report.specs.Links.{link_behind}
-use Rattle.trace_canon.proofs.Promises.{one_more_text}
+use Rattle.trace_text.proofs.Promises.{one_more_text}
 use Rattle.trace_report.proofs.links.say_links_behind.Goals as goal
 
 pub targets-init : goal.targets-init

@@ -1,6 +1,6 @@
 use Rattle.std.proofs.Common.{refl, sym, subst}
 use Rattle.trace_report.specs.Marks.{byte_ahead}
-use Rattle.trace_canon.proofs.Promises.{one_more_text}
+use Rattle.trace_text.proofs.Promises.{one_more_text}
 use Rattle.trace_report.proofs.marks.say_bytes_ahead.Goals as goal
 
 pub bytes-init : goal.bytes-init

@@ -1,6 +1,6 @@
 use Rattle.std.proofs.Common.{refl, sym, subst}
 use Rattle.trace_report.specs.Words.{letter_text}
-use Rattle.trace_canon.proofs.Promises.{one_more_text}
+use Rattle.trace_text.proofs.Promises.{one_more_text}
 use Rattle.trace_report.proofs.words.say_letters.Goals as goal
 
 pub bytes-init : goal.bytes-init

@@ -1,6 +1,6 @@
 use Rattle.std.proofs.Common.{◌-◌, ℕ, List, length, subst}
 use Rattle.isotp_receive.specs.declared.TheConstants.{MESSAGE_LIMIT}
-use Rattle.trace_canon.specs.Told.{AnswersTold, answers_counts}
+use Rattle.trace_run.specs.Told.{AnswersTold, answers_counts}
 use Rattle.trace_report.specs.Front.{page_title}
 use Rattle.trace_report.specs.Page.{report_script}
 use Rattle.udsnorm.proofs.commands.call_engine.Goals as goal

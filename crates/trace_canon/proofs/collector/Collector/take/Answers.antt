@@ -1,7 +1,7 @@
 use Rattle.std.proofs.Common.{◌≡◌, arith, ap, sym, subst, ◌+◌, ◌++◌, ◌∷◌, []}
 use Rattle.direction.specs.Dir.{Message}
 use Rattle.uds_exchange.specs.Meaning.{meaning, flattened}
-use Rattle.trace_canon.specs.Settings.{Settings}
+use Rattle.trace_log.specs.Settings.{Settings}
 use Rattle.trace_canon.specs.proving.Measuring.{HaveLengths}
 use Rattle.trace_canon.proofs.Collecting.{collects_more, collects_no_more, collects_still, keeps_all}
 use Rattle.trace_canon.proofs.Lengths.{each_is_byte}

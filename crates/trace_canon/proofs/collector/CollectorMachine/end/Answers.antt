@@ -1,7 +1,7 @@
 use Rattle.std.proofs.Common.{arith, ap}
 use Rattle.isotp_receive.specs.declared.TheConstants.{MESSAGE_LIMIT}
 use Rattle.isotp_receive.specs.Verdict.{messages}
-use Rattle.trace_canon.specs.Settings.{Settings}
+use Rattle.trace_log.specs.Settings.{Settings}
 use Rattle.trace_canon.proofs.Collecting.{fits_not_then}
 use Rattle.trace_canon.proofs.collector.CollectorMachine.end.Goals as goal
 

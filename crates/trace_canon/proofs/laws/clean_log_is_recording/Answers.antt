@@ -1,5 +1,0 @@
-use Rattle.trace_canon.proofs.ReadAgain.{clean_log_is_recording}
-use Rattle.trace_canon.proofs.laws.clean_log_is_recording.Goals as goal
-
-pub returns : goal.returns
-returns c = clean_log_is_recording

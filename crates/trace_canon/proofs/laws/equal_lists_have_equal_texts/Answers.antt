@@ -1,5 +1,0 @@
-use Rattle.trace_canon.proofs.EqualLists.{equal_lists_have_equal_texts}
-use Rattle.trace_canon.proofs.laws.equal_lists_have_equal_texts.Goals as goal
-
-pub returns : goal.returns
-returns c = equal_lists_have_equal_texts

@@ -1,5 +1,0 @@
-use Rattle.trace_canon.proofs.Summaries.{frames_are_of_two_sides}
-use Rattle.trace_canon.proofs.laws.frames_are_of_two_sides.Goals as goal
-
-pub returns : goal.returns
-returns c = frames_are_of_two_sides

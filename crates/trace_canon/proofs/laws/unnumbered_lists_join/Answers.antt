@@ -1,5 +1,0 @@
-use Rattle.trace_canon.proofs.ItemLines.{unnumbered_lists_join}
-use Rattle.trace_canon.proofs.laws.unnumbered_lists_join.Goals as goal
-
-pub returns : goal.returns
-returns c = unnumbered_lists_join

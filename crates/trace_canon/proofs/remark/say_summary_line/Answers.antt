@@ -1,8 +1,0 @@
-use Rattle.std.proofs.Common.{◌++◌, ap, codes, subst}
-use Rattle.trace_canon.specs.ExplainText.{counts_text}
-use Rattle.trace_canon.proofs.remark.say_summary_line.Goals as goal
-
-pub returns : goal.returns
-returns g c =
-    subst (λ text. g.S.TextSink.says c.args.out.now text c.say_text.new.out) (ap (λ counts. counts_text counts ++ codes "\n") c.named.ensures)
-    (g.met.S.TextSink.onward _ _ _ _ _ c.say_counts_words.ensures c.say_text.ensures)

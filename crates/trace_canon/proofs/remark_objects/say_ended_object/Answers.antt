@@ -1,8 +1,0 @@
-use Rattle.std.proofs.Common.{subst}
-use Rattle.trace_canon.proofs.RemarkObjects.{ended_object}
-use Rattle.trace_canon.proofs.remark_objects.say_ended_object.Goals as goal
-
-pub returns : goal.returns
-returns g c =
-    subst (λ text. g.S.TextSink.says c.args.out.now text c.say_parts.new.out)
-    (ended_object c.args.line c.args.ended _ _ _ c.direction_name.ensures c.cause_name.ensures c.from.ensures) c.say_parts.ensures

@@ -1,8 +1,0 @@
-use Rattle.std.proofs.Common.{subst}
-use Rattle.trace_canon.proofs.RemarkObjects.{counts_object}
-use Rattle.trace_canon.proofs.remark_objects.say_summary_object.Goals as goal
-
-pub returns : goal.returns
-returns g c =
-    subst (λ text. g.S.TextSink.says c.args.out.now text c.say_text-2.new.out) (counts_object c.args.summary.now c.named.result c.named.ensures)
-    (g.met.S.TextSink.onward _ _ _ _ _ c.say_text.ensures (g.met.S.TextSink.onward _ _ _ _ _ c.say_counts.ensures c.say_text-2.ensures))

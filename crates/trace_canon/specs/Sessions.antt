@@ -1,0 +1,19 @@
+-- What is answered of a log by a call that writes nothing.
+use Rattle.std.specs.Prelude.{ℕ, List, Result, Ok, Err}
+use Rattle.trace_canon.specs.declared.collector.Session.{Session}
+use Rattle.trace_log.specs.declared.fault.Fault.{Fault}
+use Rattle.uds_exchange.specs.Meaning.{ItemValue}
+use Rattle.trace_log.specs.Settings.{Settings}
+use Rattle.trace_log.specs.Messages.{HasMeaning}
+use Rattle.trace_log.specs.Outcome.{Accepted, IsOutcome}
+use Rattle.trace_log.specs.Answers.{IsAcceptedWith, TellsOutcome}
+
+-- What a call answers: the meaning and the summary of an accepted log, or why the log is refused.
+abbrev pub GivesSession : ℕ → Settings → List ℕ → Result Session Fault → Type 0
+GivesSession limit settings log (Ok session) = IsAcceptedWith limit settings log session.meaning session.summary
+GivesSession limit settings log (Err fault) = TellsOutcome limit settings log fault
+
+-- the same of the meaning alone
+abbrev pub GivesMeaning : ℕ → Settings → List ℕ → Result (List ItemValue) Fault → Type 0
+GivesMeaning limit settings log (Ok items) = ((accepted : Accepted) × IsOutcome limit settings log (Ok accepted)) × HasMeaning limit settings log items
+GivesMeaning limit settings log (Err fault) = TellsOutcome limit settings log fault

@@ -1,0 +1,32 @@
+pub mod Results
+pub mod Limits
+pub mod Directions
+pub mod Traces
+pub mod LogLines
+pub mod OneMoreFrame
+pub mod Announcements
+pub mod Sendable
+pub mod CanonicalLogs
+pub mod Refusals
+pub mod OneOutcome
+pub mod SomeOutcome
+pub mod Lowest
+pub mod LargerLimits
+pub mod Explained
+pub mod ReadLines
+pub mod Texts
+pub mod Fitting
+pub mod ReadAgain
+pub mod LastBytes
+pub mod Pieces
+pub mod Streams
+pub mod Feedings
+pub mod ScannedLogs
+pub mod LastReads
+pub mod StoppedRuns
+pub mod Receivings
+pub mod Summaries
+pub mod Needs
+mod OwnFrames
+-- what the crates above may cite
+pub mod Promises

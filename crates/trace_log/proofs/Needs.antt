@@ -1,0 +1,34 @@
+-- That a run which was refused memory has stopped at a frame that needed it.
+use Rattle.std.proofs.Common.{◌≡◌, ℕ, List, [], ◌∷◌, ◌++◌, Option, Some}
+use Rattle.direction.specs.declared.Dir.{Dir}
+use Rattle.can_log.specs.declared.frame.Stamped.{Stamped}
+use Rattle.isotp_receive.specs.Trace.{Entry}
+use Rattle.trace_log.specs.Explained.{takes_all}
+use Rattle.trace_log.specs.Needing.{BeginsWithLines, HasFrame}
+use Rattle.trace_log.specs.Feeding.{StopsWithin}
+use Rattle.trace_log.specs.proving.Receiving.{entry_in}
+use Rattle.trace_log.specs.Settings.{Settings, direction_of}
+use Rattle.trace_log.specs.Trace.{trace}
+use Rattle.trace_log.proofs.Explained.{all_taken}
+use Rattle.trace_log.proofs.Receivings.{trace_next}
+use Rattle.trace_log.proofs.StoppedRuns.{have_come}
+
+-- the lines up to the one on which the run stopped are the first of the log
+pub begins_with_lines : (settings : Settings) (log : List ℕ) (given : ℕ) (meanings : List (Option Stamped)) (what : Option Stamped)
+    → StopsWithin settings.max_bytes log given meanings what → BeginsWithLines log (meanings ++ what ∷ [])
+begins_with_lines settings log given meanings what place =
+    let come = have_come takes_all settings log given meanings what place (all_taken (meanings ++ what ∷ [])) in
+    record { lines = come.lines; later = come.later; parts = come.parts; means = come.means }
+
+-- the frame of that line is one of which this holds
+pub has_frame : (Holds : List Entry → Entry → Type 0) (settings : Settings) (log : List ℕ) (given : ℕ) (meanings : List (Option Stamped)) (what : Option Stamped)
+    (stamped : Stamped) (d : Dir) → StopsWithin settings.max_bytes log given meanings what → what ≡ Some stamped → Some d ≡ direction_of settings stamped.frame.id
+    → Holds (trace settings meanings) (entry_in meanings stamped d) → HasFrame Holds settings log
+has_frame Holds settings log given meanings what stamped d place is direction holds = record {
+  before = meanings;
+  line = what;
+  frame = entry_in meanings stamped d;
+  begins = begins_with_lines settings log given meanings what place;
+  own = trace_next settings meanings what stamped d is direction;
+  holds = holds;
+}

@@ -1,0 +1,22 @@
+-- One more frame of a trace, or one more line: the messages with it, and what it announces.
+use Rattle.std.proofs.Common.{◌≡◌, ℕ, List, [], ◌∷◌, ◌++◌, refl, ap, ◌∙◌, Some, None, append-nil}
+use Rattle.can_log.specs.declared.frame.Stamped.{Stamped}
+use Rattle.isotp_receive.specs.Trace.{Entry}
+use Rattle.isotp_receive.specs.Verdict.{told_message, messages, verdict}
+use Rattle.isotp_receive.proofs.Promises.{messages_go_on}
+use Rattle.trace_log.specs.Settings.{Settings, direction_of}
+use Rattle.trace_log.specs.Refusal.{oversize}
+
+pub messages_more : (limit : ℕ) (T : List Entry) (e : Entry) → messages limit (T ++ e ∷ []) ≡ messages limit T ++ told_message e.dir (verdict limit T e).verdict
+messages_more limit T e =
+    messages_go_on limit T (e ∷ []) ∙ ap (λ x. messages limit T ++ x) (append-nil (told_message e.dir (verdict limit T e).verdict))
+
+-- a blank line announces nothing, and neither does a foreign frame
+pub oversize_of_blank : (limit : ℕ) (settings : Settings) → oversize limit settings None ≡ None
+unfolding oversize
+oversize_of_blank limit settings = refl
+
+pub oversize_of_foreign : (limit : ℕ) (settings : Settings) (stamped : Stamped) → direction_of settings stamped.frame.id ≡ None
+    → oversize limit settings (Some stamped) ≡ None
+unfolding oversize
+oversize_of_foreign limit settings stamped direction = rw direction refl

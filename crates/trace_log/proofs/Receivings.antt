@@ -1,0 +1,132 @@
+-- What is received of a log, one more line at a time.
+use Rattle.std.proofs.Common.{◌≡◌, ℕ, ◌+◌, ◌<◌, ◌≤◌, ◌^◌, Bool, true, false, List, [], ◌∷◌, ◌++◌, length, arith, refl, ap, sym, subst, ◌∙◌, Option, Some, None, length-append, cond}
+use Rattle.std.specs.Prelude.{option_to_list}
+use Rattle.std.specs.List.{count_by}
+use Rattle.std.proofs.lemmas.List.Sums.{count_by-le-length, sum_by-append}
+use Rattle.direction.specs.declared.Dir.{Dir}
+use Rattle.can_log.specs.declared.frame.Stamped.{Stamped}
+use Rattle.isotp_receive.specs.declared.TheConstants.{MESSAGE_LIMIT}
+use Rattle.isotp_receive.specs.Capacities.{PairValue, CapacitiesGrow, KeepsWithin}
+use Rattle.isotp_pdu.specs.Reading.{layout_of}
+use Rattle.isotp_receive.specs.StandingReception.{receptions_after}
+use Rattle.isotp_receive.specs.Trace.{Entry, same_direction}
+use Rattle.isotp_receive.specs.Verdict.{VerdictValue, message, began, stored, flowed, dropped, EventValue, messages, told_message, verdict}
+use Rattle.isotp_receive.specs.Events.{events}
+use Rattle.isotp_receive.proofs.Promises.{one_more_keeps_within, messages_are_few, events_go_on, events_are_as_many}
+use Rattle.trace_log.specs.declared.summary.Summary.{Summary}
+use Rattle.trace_log.specs.Settings.{Settings, direction_of}
+use Rattle.trace_log.specs.Summing.{counted_in, counted_more, frames_of, is_message, more_if}
+use Rattle.trace_log.specs.Trace.{trace, trace_from, entry_of}
+use Rattle.trace_log.specs.proving.Receiving.{Receives, entry_in}
+use Rattle.trace_log.proofs.Traces.{trace_blank, trace_foreign, trace_directed}
+use Rattle.trace_log.proofs.OneMoreFrame.{messages_more}
+
+-- ---- counts
+
+abbrev pub one_if : Bool → ℕ
+one_if true = 1
+one_if false = 0
+
+pub one : (b : Bool) → 0 + cond b 1 0 ≡ one_if b
+one true = refl
+one false = refl
+
+pub more_exactly : (b : Bool) (n : ℕ) → n < 2 ^ 62 → more_if b n ≡ n + one_if b
+more_exactly true n small = omega arith
+more_exactly false n small = omega arith
+
+told_count : (d : Dir) (told : VerdictValue) → length (told_message d told) ≡ one_if (is_message told)
+told_count d (message bytes) = refl
+told_count d began = refl
+told_count d stored = refl
+told_count d flowed = refl
+told_count d (dropped reason) = refl
+
+-- one more frame: of the events that pass a test, of the frames of a side, and of the messages
+module _ (limit : ℕ) (T : List Entry) (e : Entry) (few : length T < 2 ^ 62) where
+  events_more : (passes : EventValue → Bool)
+      → count_by passes (events limit (T ++ e ∷ [])) ≡ more_if (passes (verdict limit T e)) (count_by passes (events limit T))
+  events_more passes =
+      let all = events_are_as_many limit T in
+      let at_most = count_by-le-length passes (events limit T) in
+      ap (count_by passes) (events_go_on limit T (e ∷ []))
+      ∙ sum_by-append (λ x. cond (passes x) 1 0) (events limit T) (verdict limit T e ∷ [])
+      ∙ ap (λ n. count_by passes (events limit T) + n) (one (passes (verdict limit T e)))
+      ∙ sym (more_exactly (passes (verdict limit T e)) (count_by passes (events limit T)) (omega arith))
+
+  frames_more : (d : Dir) → frames_of d (T ++ e ∷ []) ≡ more_if (same_direction d e.dir) (frames_of d T)
+  frames_more d =
+      let at_most = count_by-le-length (λ (x : Entry). same_direction d x.dir) T in
+      sum_by-append (λ (x : Entry). cond (same_direction d x.dir) 1 0) T (e ∷ [])
+      ∙ ap (λ n. frames_of d T + n) (one (same_direction d e.dir))
+      ∙ sym (more_exactly (same_direction d e.dir) (frames_of d T) (omega arith))
+
+  delivered_more : length (messages limit (T ++ e ∷ [])) ≡ more_if (is_message (verdict limit T e).verdict) (length (messages limit T))
+  delivered_more =
+      let at_most = messages_are_few limit T in
+      let told = (verdict limit T e).verdict in
+      ap length (messages_more limit T e) ∙ length-append (messages limit T) (told_message e.dir told)
+      ∙ ap (λ n. length (messages limit T) + n) (told_count e.dir told)
+      ∙ sym (more_exactly (is_message told) (length (messages limit T)) (omega arith))
+
+  -- whatever is counted of it
+  pub counted_next : counted_in limit (T ++ e ∷ []) ≡ counted_more e.dir (verdict limit T e) (counted_in limit T)
+  counted_next = simp (events_more, frames_more, delivered_more)
+
+-- ---- lines
+
+option_few : {A : Type 0} (o : Option A) → length (option_to_list o) ≤ 1
+option_few None = omega arith
+option_few (Some x) = omega arith
+
+trace_few : (settings : Settings) (n : ℕ) (meanings : List (Option Stamped)) → length (trace_from settings n meanings) ≤ length meanings
+unfolding trace_from
+trace_few settings n [] = omega arith
+trace_few settings n (None ∷ meanings) = let rest = trace_few settings (n + 1) meanings in omega arith
+trace_few settings n (Some stamped ∷ meanings) =
+    let rest = trace_few settings (n + 1) meanings in
+    let none = option_few (entry_of settings n stamped) in
+    let sum = length-append (option_to_list (entry_of settings n stamped)) (trace_from settings (n + 1) meanings) in
+    omega arith
+
+pub few_frames : (settings : Settings) (meanings : List (Option Stamped)) → length (trace settings meanings) ≤ length meanings
+few_frames settings meanings = trace_few settings 1 meanings
+
+-- the trace of one more line: a blank one, one with a foreign frame, and one with a frame of a direction
+pub trace_same_blank : (settings : Settings) (meanings : List (Option Stamped)) (what : Option Stamped) → what ≡ None
+    → trace settings (meanings ++ what ∷ []) ≡ trace settings meanings
+trace_same_blank settings meanings what is = ap (λ w. trace settings (meanings ++ w ∷ [])) is ∙ trace_blank settings meanings
+
+pub trace_same_foreign : (settings : Settings) (meanings : List (Option Stamped)) (what : Option Stamped) (stamped : Stamped) → what ≡ Some stamped
+    → None ≡ direction_of settings stamped.frame.id → trace settings (meanings ++ what ∷ []) ≡ trace settings meanings
+trace_same_foreign settings meanings what stamped is none = ap (λ w. trace settings (meanings ++ w ∷ [])) is ∙ trace_foreign settings meanings stamped none
+
+pub trace_next : (settings : Settings) (meanings : List (Option Stamped)) (what : Option Stamped) (stamped : Stamped) (d : Dir) → what ≡ Some stamped
+    → Some d ≡ direction_of settings stamped.frame.id → trace settings (meanings ++ what ∷ []) ≡ trace settings meanings ++ entry_in meanings stamped d ∷ []
+trace_next settings meanings what stamped d is direction = ap (λ w. trace settings (meanings ++ w ∷ [])) is ∙ trace_directed settings meanings stamped d direction
+
+-- what is received with it
+pub receives_same : (settings : Settings) (meanings : List (Option Stamped)) (what : Option Stamped) (pair : PairValue) (lines line : ℕ) (counts : Summary)
+    → trace settings (meanings ++ what ∷ []) ≡ trace settings meanings → line ≡ length meanings + 1 → Receives settings meanings pair lines counts
+    → Receives settings (meanings ++ what ∷ []) pair line counts
+receives_same settings meanings what pair lines line counts same number received = record {
+  pair_is = received.pair_is ∙ ap (receptions_after MESSAGE_LIMIT) (sym same);
+  keeps = subst (λ T. KeepsWithin MESSAGE_LIMIT T pair) (sym same) received.keeps;
+  lines_are = number ∙ sym (length-append meanings (what ∷ []));
+  counted = received.counted ∙ ap (counted_in MESSAGE_LIMIT) (sym same);
+}
+
+pub receives_next : (settings : Settings) (meanings : List (Option Stamped)) (what : Option Stamped) (e : Entry) (old new : PairValue) (lines line : ℕ) (before after : Summary)
+    → trace settings (meanings ++ what ∷ []) ≡ trace settings meanings ++ e ∷ [] → line ≡ length meanings + 1 → length meanings < 2 ^ 62
+    → new.receptions ≡ receptions_after MESSAGE_LIMIT (trace settings meanings ++ e ∷ []) → CapacitiesGrow MESSAGE_LIMIT e.dir (layout_of e.frame) old new → after ≡ counted_more e.dir (verdict MESSAGE_LIMIT (trace settings meanings) e) before
+    → Receives settings meanings old lines before → Receives settings (meanings ++ what ∷ []) new line after
+receives_next settings meanings what e old new lines line before after next number few pair grew counts received =
+    let frames = few_frames settings meanings in
+    record {
+      pair_is = pair ∙ ap (receptions_after MESSAGE_LIMIT) (sym next);
+      keeps = subst (λ T. KeepsWithin MESSAGE_LIMIT T new) (sym next)
+          (one_more_keeps_within MESSAGE_LIMIT (trace settings meanings) e old new received.pair_is received.keeps grew);
+      lines_are = number ∙ sym (length-append meanings (what ∷ []));
+      counted = counts ∙ ap (counted_more e.dir (verdict MESSAGE_LIMIT (trace settings meanings) e)) received.counted
+          ∙ sym (counted_next MESSAGE_LIMIT (trace settings meanings) e (omega arith)) ∙ ap (counted_in MESSAGE_LIMIT) (sym next);
+    }

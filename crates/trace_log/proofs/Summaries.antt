@@ -1,0 +1,76 @@
+-- The summary of a log that was received to its end.
+use Rattle.std.proofs.Common.{◌≡◌, ℕ, ◌+◌, ◌-◌, ◌<◌, ◌^◌, min, Bool, List, [], ◌∷◌, length, arith, refl, ap, ◌∙◌, Option, cond}
+use Rattle.std.proofs.lemmas.List.Sums.{sum_by-append}
+use Rattle.direction.specs.declared.Dir.{Dir}
+use Rattle.direction.specs.declared.Dir.TheVariants as dir
+use Rattle.can_log.specs.declared.frame.Stamped.{Stamped}
+use Rattle.isotp_receive.specs.declared.TheConstants.{MESSAGE_LIMIT}
+use Rattle.isotp_receive.specs.Capacities.{PairValue}
+use Rattle.uds_exchange.specs.Meaning.{flattened, removed_messages}
+use Rattle.uds_exchange.proofs.Promises.{none_is_lost}
+use Rattle.trace_log.specs.Settings.{Settings}
+use Rattle.trace_log.specs.Trace.{trace}
+use Rattle.trace_log.specs.Messages.{messages_of_lines, meaning_of_lines}
+use Rattle.isotp_receive.specs.Events.{unfinished_in}
+use Rattle.isotp_receive.specs.Trace.{Entry, same_direction}
+use Rattle.trace_log.specs.Laws.{FramesAreOfTwoSides}
+use Rattle.trace_log.specs.Summing.{ends_in_line_feed, frames_of, summary_of}
+use Rattle.trace_log.proofs.Receivings.{few_frames, one, one_if}
+use Rattle.trace_log.specs.proving.Receiving.{Receives}
+use Rattle.trace_log.specs.declared.summary.Summary.{Summary}
+
+-- a summary of these counts of frames
+abbrev summary_with : ℕ → ℕ → Summary → ℕ → ℕ → Bool → Summary
+summary_with lines frames counts unfinished pending ended = record counts {
+  lines = lines;
+  frames = frames;
+  unfinished = unfinished;
+  pending = pending;
+  ends_in_line_feed = ended;
+}
+
+-- how many were left out, where this many were kept
+pub left_out : (settings : Settings) (meanings : List (Option Stamped)) (pair : PairValue) (lines : ℕ) (counts : Summary) (pending kept : ℕ)
+    → Receives settings meanings pair lines counts → kept ≡ length (flattened (meaning_of_lines MESSAGE_LIMIT settings meanings)) → pending ≡ counts.messages - kept
+    → pending ≡ length (removed_messages (messages_of_lines MESSAGE_LIMIT settings meanings))
+left_out settings meanings pair lines counts pending kept received kept_are pending_are =
+    let all = none_is_lost (messages_of_lines MESSAGE_LIMIT settings meanings) in
+    let total = ap (λ (s : Summary). s.messages) received.counted in
+    omega arith
+
+frames_before : (d : Dir) (e : Entry) (rest : List Entry) → frames_of d (e ∷ rest) ≡ one_if (same_direction d e.dir) + frames_of d rest
+frames_before d e rest =
+    sum_by-append (λ (x : Entry). cond (same_direction d x.dir) 1 0) (e ∷ []) rest ∙ ap (λ n. n + frames_of d rest) (one (same_direction d e.dir))
+
+one_side : (d : Dir) → one_if (same_direction dir.Tester d) + one_if (same_direction dir.Unit d) ≡ 1
+one_side dir.Tester = refl
+one_side dir.Unit = refl
+
+-- each frame is one of the tester or one of the unit
+pub two_sides : (T : List Entry) → frames_of dir.Tester T + frames_of dir.Unit T ≡ length T
+two_sides [] = refl
+two_sides (e ∷ rest) =
+    let later = two_sides rest in
+    let of_tester = frames_before dir.Tester e rest in
+    let of_unit = frames_before dir.Unit e rest in
+    let one_of_two = one_side e.dir in
+    omega arith
+
+-- the counts of a log that was received to its end are its summary
+pub summed_up : (settings : Settings) (log : List ℕ) (meanings : List (Option Stamped)) (pair : PairValue) (lines frames : ℕ) (counts : Summary) (unfinished pending : ℕ) (ended : Bool)
+    → Receives settings meanings pair lines counts → ended ≡ ends_in_line_feed log → lines < 2 ^ 64
+    → frames ≡ min (counts.tester_frames + counts.unit_frames) 18446744073709551615 → unfinished ≡ unfinished_in MESSAGE_LIMIT (trace settings meanings)
+    → pending ≡ length (removed_messages (messages_of_lines MESSAGE_LIMIT settings meanings))
+    → summary_with lines frames counts unfinished pending ended ≡ summary_of MESSAGE_LIMIT settings log meanings
+unfolding summary_of
+summed_up settings log meanings pair lines frames counts unfinished pending ended received ended_is few frames_are unfinished_are pending_are =
+    let both = two_sides (trace settings meanings) in
+    let short = few_frames settings meanings in
+    let of_tester = ap (λ (s : Summary). s.tester_frames) received.counted in
+    let of_unit = ap (λ (s : Summary). s.unit_frames) received.counted in
+    let all : frames ≡ length (trace settings meanings) = omega (arith, received.lines_are) in
+    rw (received.lines_are, all, received.counted, unfinished_are, pending_are, ended_is) refl
+
+pub frames_are_of_two_sides : FramesAreOfTwoSides
+unfolding summary_of
+frames_are_of_two_sides limit settings log meanings = two_sides (trace settings meanings)

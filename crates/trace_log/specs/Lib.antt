@@ -1,0 +1,16 @@
+pub mod Settings
+pub mod Trace
+pub mod Messages
+pub mod CanonicalLog
+pub mod Summing
+pub mod Refusal
+pub mod LinesRead
+pub mod Outcome
+pub mod Explained
+pub mod Needing
+pub mod Answers
+pub mod Feeding
+pub mod Failing
+pub mod Devices
+pub mod Laws
+pub mod proving

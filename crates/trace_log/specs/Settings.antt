@@ -1,0 +1,51 @@
+-- What a contract sees of a `Config`, and which settings there are.
+use Rattle.std.specs.Prelude.{◌≡◌, ◌≢◌, ℕ, ◌^◌, ◌<◌, ◌≤◌, ◌==◌, ◌⊎◌, Bool, false, Option, Some, None, Result, Ok, Err, if◌then◌else◌}
+use Rattle.can_log.specs.Frame.{IsCanIdentifier}
+use Rattle.direction.specs.declared.Dir.{Dir}
+use Rattle.direction.specs.declared.Dir.TheVariants as dir
+use Rattle.can_log.specs.declared.frame.Id.{Id}
+use Rattle.can_log.specs.declared.frame.Id.TheVariants as id
+use Rattle.trace_log.specs.declared.fault.ConfigFault.{ConfigFault}
+use Rattle.trace_log.specs.declared.fault.ConfigFault.TheVariants.{IdRange, SameId, LimitRange}
+
+-- the identifiers of the two sides, and the most bytes of a log and of its canonical log
+pub record Settings : Type 0 where
+  pub tester : Id
+  pub unit : Id
+  pub max_bytes : ℕ
+
+-- a bus carries both, and they aren't the same one; the limit is 1 to 2^40 bytes
+pub record AreSettings (settings : Settings) : Type 0 where
+  pub tester : IsCanIdentifier settings.tester
+  pub unit : IsCanIdentifier settings.unit
+  pub apart : settings.tester ≢ settings.unit
+  pub least : 1 ≤ settings.max_bytes
+  pub most : settings.max_bytes ≤ 2 ^ 40
+
+-- The settings with these parts, or why there are none: of the reasons that apply, the first of these.
+abbrev pub Configures : Id → Id → ℕ → Result Settings ConfigFault → Type 0
+Configures tester unit max_bytes (Ok settings) =
+    (settings ≡ record { tester = tester; unit = unit; max_bytes = max_bytes }) × AreSettings settings
+Configures tester unit max_bytes (Err IdRange) = (¬ IsCanIdentifier tester) ⊎ (¬ IsCanIdentifier unit)
+Configures tester unit max_bytes (Err SameId) = IsCanIdentifier tester × IsCanIdentifier unit × (tester ≡ unit)
+Configures tester unit max_bytes (Err LimitRange) =
+    IsCanIdentifier tester × IsCanIdentifier unit × (tester ≢ unit) × ((max_bytes ≡ 0) ⊎ (2 ^ 40 < max_bytes))
+
+-- the identifier of the frames of a direction
+abbrev pub id_of : Settings → Dir → Id
+id_of settings dir.Tester = settings.tester
+id_of settings dir.Unit = settings.unit
+
+-- one format and one number
+abbrev pub is_same_id : Id → Id → Bool
+is_same_id (id.Std a) (id.Std b) = a == b
+is_same_id (id.Std a) (id.Ext b) = false
+is_same_id (id.Ext a) (id.Std b) = false
+is_same_id (id.Ext a) (id.Ext b) = a == b
+
+-- The direction of the frames with this identifier. All other frames are foreign, and have none.
+unfoldable pub direction_of : Settings → Id → Option Dir
+direction_of settings id =
+    if is_same_id id settings.tester then Some dir.Tester
+    else if is_same_id id settings.unit then Some dir.Unit
+    else None

@@ -1,0 +1,100 @@
+-- What is counted in a log, by what each frame of its trace does at its place.
+use Prim.Native.Char.{code}
+use Rattle.std.specs.Prelude.{ℕ, ◌+◌, ◌==◌, ◌&&◌, min, nat_lt, Bool, true, false, if◌then◌else◌, List, [], ◌∷◌, length, map, codes, Option, Some, None, is_some}
+use Rattle.std.specs.List.{count_by, last_or}
+use Rattle.direction.specs.declared.Dir.{Dir}
+use Rattle.direction.specs.declared.Dir.TheVariants as dir
+use Rattle.can_log.specs.declared.frame.Stamped.{Stamped}
+use Rattle.isotp_receive.specs.Events.{is_dropped, dropped_in, ended_in, unfinished_in}
+use Rattle.isotp_receive.specs.Trace.{Entry, same_direction}
+use Rattle.isotp_receive.specs.Verdict.{VerdictValue, EventValue, message, began, stored, flowed, dropped, messages}
+use Rattle.uds_exchange.specs.Meaning.{removed_messages}
+use Rattle.trace_log.specs.declared.summary.Count.{Count}
+use Rattle.trace_log.specs.declared.summary.Summary.{Summary}
+use Rattle.trace_log.specs.Settings.{Settings}
+use Rattle.trace_log.specs.Trace.{trace}
+use Rattle.trace_log.specs.Messages.{messages_of_lines}
+
+-- how many frames of the trace this side sent
+abbrev pub frames_of : Dir → List Entry → ℕ
+frames_of d T = count_by (λ (e : Entry). same_direction d e.dir) T
+
+-- the byte is a line feed, where there is one
+abbrev pub is_line_feed : Option ℕ → Bool
+is_line_feed None = false
+is_line_feed (Some b) = b == code "\n"
+
+-- the last byte of the log is a line feed
+abbrev pub ends_in_line_feed : List ℕ → Bool
+ends_in_line_feed log = is_line_feed (last_or None log)
+
+-- what is counted frame by frame in a trace; the other counts are 0
+abbrev pub counted_in : ℕ → List Entry → Summary
+counted_in limit T = record {
+  lines = 0;
+  frames = 0;
+  tester_frames = frames_of dir.Tester T;
+  unit_frames = frames_of dir.Unit T;
+  messages = length (messages limit T);
+  dropped = dropped_in limit T;
+  ended = ended_in limit T;
+  unfinished = 0;
+  pending = 0;
+  ends_in_line_feed = false;
+}
+
+-- the counts of a log whose lines mean this
+unfoldable pub summary_of : ℕ → Settings → List ℕ → List (Option Stamped) → Summary
+summary_of limit settings log meanings = record (counted_in limit (trace settings meanings)) {
+  lines = length meanings;
+  frames = length (trace settings meanings);
+  unfinished = unfinished_in limit (trace settings meanings);
+  pending = length (removed_messages (messages_of_lines limit settings meanings));
+  ends_in_line_feed = ends_in_line_feed log;
+}
+
+-- the counts that are told, in this order, each behind its name
+abbrev pub named_counts : Summary → List (List ℕ × ℕ)
+named_counts summary =
+    (codes "lines", summary.lines)
+    ∷ (codes "frames", summary.frames)
+    ∷ (codes "messages", summary.messages)
+    ∷ (codes "dropped", summary.dropped)
+    ∷ (codes "ended", summary.ended)
+    ∷ (codes "unfinished", summary.unfinished)
+    ∷ (codes "pending", summary.pending)
+    ∷ []
+
+-- Whether a log with this summary is clean: it has a frame of the tester and one of the unit, nothing was dropped, ended or
+-- left unfinished, and its last byte is a line feed.
+abbrev pub is_clean : Summary → Bool
+is_clean summary =
+    nat_lt 0 summary.tester_frames && (nat_lt 0 summary.unit_frames && ((summary.dropped == 0) && ((summary.ended == 0) && ((summary.unfinished == 0) && summary.ends_in_line_feed))))
+
+-- ---- devices of proof: counts with their names as the code has them, and the counts of frames as they grow
+
+-- counts by their names and numbers
+abbrev pub seen_counts : List Count → List (List ℕ × ℕ)
+seen_counts counts = map (λ (count : Count). (count.0.now, count.1)) counts
+
+-- the frame completed a message
+abbrev pub is_message : VerdictValue → Bool
+is_message (message bytes) = true
+is_message (dropped reason) = false
+is_message began = false
+is_message stored = false
+is_message flowed = false
+
+-- one more, where it is so, up to the largest number of 64 bits
+abbrev pub more_if : Bool → ℕ → ℕ
+more_if b n = if b then min (n + 1) 18446744073709551615 else n
+
+-- the counts of a trace with one more frame, which this side sent and which did this
+abbrev pub counted_more : Dir → EventValue → Summary → Summary
+counted_more d event counts = record counts {
+  tester_frames = more_if (same_direction dir.Tester d) counts.tester_frames;
+  unit_frames = more_if (same_direction dir.Unit d) counts.unit_frames;
+  messages = more_if (is_message event.verdict) counts.messages;
+  dropped = more_if (is_dropped event.verdict) counts.dropped;
+  ended = more_if (is_some event.ended) counts.ended;
+}

@@ -1,0 +1,35 @@
+-- Devices of proof: what is counted in the frames of a log, one by one.
+use Rattle.std.specs.Prelude.{◌≡◌, ℕ, ◌+◌, List, [], length, Option}
+use Rattle.direction.specs.declared.Dir.{Dir}
+use Rattle.can_log.specs.declared.frame.Stamped.{Stamped}
+use Rattle.isotp_receive.specs.declared.TheConstants.{MESSAGE_LIMIT}
+use Rattle.isotp_receive.specs.Capacities.{PairValue, new_pair, KeepsWithin}
+use Rattle.isotp_receive.specs.StandingReception.{receptions_after}
+use Rattle.isotp_receive.specs.Trace.{Entry}
+use Rattle.trace_log.specs.declared.summary.Summary.{Summary}
+use Rattle.trace_log.specs.Settings.{Settings}
+use Rattle.trace_log.specs.Summing.{counted_in}
+use Rattle.trace_log.specs.Trace.{trace}
+
+-- the receptions and the counts before the first line
+pub record IsStart (pair : PairValue) (lines : ℕ) (counts : Summary) : Type 0 where
+  pub pair_is : pair ≡ new_pair MESSAGE_LIMIT
+  pub lines_are : lines ≡ 0
+  pub counted : counts ≡ counted_in MESSAGE_LIMIT []
+
+-- A receiver of these settings that has taken no line, over this taker of events.
+pub record IsReceiverStart {E : Type 0} (settings : Settings) (first : E) (config : Settings) (pair : PairValue) (lines : ℕ) (counts : Summary) (taker : E) : Type 0 where
+  pub config_is : config ≡ settings
+  pub nothing : IsStart pair lines counts
+  pub taker_is : taker ≡ first
+
+-- those after lines that mean this
+pub record Receives (settings : Settings) (meanings : List (Option Stamped)) (pair : PairValue) (lines : ℕ) (counts : Summary) : Type 0 where
+  pub pair_is : pair.receptions ≡ receptions_after MESSAGE_LIMIT (trace settings meanings)
+  pub keeps : KeepsWithin MESSAGE_LIMIT (trace settings meanings) pair
+  pub lines_are : lines ≡ length meanings
+  pub counted : counts ≡ counted_in MESSAGE_LIMIT (trace settings meanings)
+
+-- the entry of a frame of a direction, after lines that mean this
+abbrev pub entry_in : List (Option Stamped) → Stamped → Dir → Entry
+entry_in meanings stamped d = record { line = 1 + length meanings; micros = stamped.micros; dir = d; frame = stamped.frame }

@@ -1,0 +1,128 @@
+//! Whose frames are read, and how much of a log.
+ghost use Rattle.std.specs.Prelude.{◌↔◌, IsTrue};
+ghost use Rattle.can_log.specs.Frame.{IsCanIdentifier};
+
+use crate::fault::ConfigFault;
+use can_log::{Id, Wanted};
+use direction::Dir;
+use std::marker::Model;
+
+/// The most bytes that a limit can allow: 2^40.
+pub const LARGEST_LIMIT: u64 = 1 << 40;
+
+/// The largest base identifier, of 11 bits (ISO 11898-1).
+const LARGEST_BASE_ID: u16 = 0x7FF;
+
+/// The largest extended identifier, of 29 bits.
+const LARGEST_EXTENDED_ID: u32 = 0x1FFF_FFFF;
+
+/// The identifiers of the tester and the unit, and the most bytes of a log and of its canonical log.
+#[derive(Clone, Copy, Debug, PartialEq, Eq)]
+pub struct Config {
+    /// The tester's identifier, and then the unit's.
+    wanted: Wanted,
+    max_bytes: u64,
+}
+
+impl Model for Config {
+    ghost use Rattle.trace_log.specs.Settings.{Settings, AreSettings};
+
+    ghost Value = { Settings };
+
+    ghost view = { λ c. record { tester = c.wanted.first; unit = c.wanted.second; max_bytes = c.max_bytes } };
+
+    ghost invariant = { λ c. AreSettings (record { tester = c.wanted.first; unit = c.wanted.second; max_bytes = c.max_bytes }) };
+
+    ghost inverse = { λ s. record { wanted = record { first = s.tester; second = s.unit }; max_bytes = s.max_bytes } };
+}
+
+impl Config {
+    ghost use Rattle.std.specs.Prelude.{◌≡◌};
+    ghost use Rattle.trace_log.specs.Settings.{AreSettings, Configures, id_of, direction_of};
+
+    /// The configuration with these parts. A base identifier is at most 7FF, an extended one at most 1FFFFFFF, and the two
+    /// sides don't have the same one: equal numbers of different formats are different identifiers. The limit is 1 to
+    /// [`LARGEST_LIMIT`]. Of several faults the first of [`ConfigFault`] is answered.
+    pub fn new(tester: Id, unit: Id, max_bytes: u64) -> Result<Config, ConfigFault>
+        ensures { Configures tester unit max_bytes result }
+    {
+        if !is_configurable(tester) || !is_configurable(unit) {
+            return Err(ConfigFault::IdRange);
+        }
+        if tester == unit {
+            return Err(ConfigFault::SameId);
+        }
+        if max_bytes == 0 || max_bytes > LARGEST_LIMIT {
+            return Err(ConfigFault::LimitRange);
+        }
+        Ok(Config {
+            wanted: Wanted::new(tester, unit),
+            max_bytes,
+        })
+    }
+
+    /// The identifier of the frames that the tester sends.
+    pub fn tester(&self) -> Id
+        ensures { result ≡ self.now.tester }
+    {
+        self.wanted.first()
+    }
+
+    /// The identifier of the frames that the unit sends.
+    pub fn unit(&self) -> Id
+        ensures { result ≡ self.now.unit }
+    {
+        self.wanted.second()
+    }
+
+    /// The identifiers of the frames that are received.
+    #[inline(always)]
+    pub fn wanted(&self) -> &Wanted
+        ensures { result.now ≡ record { first = self.now.tester; second = self.now.unit } }
+    {
+        &self.wanted
+    }
+
+    /// The most bytes of a log, and of a canonical log.
+    pub fn max_bytes(&self) -> u64
+        ensures value { result ≡ self.now.max_bytes }
+        ensures settings { AreSettings self.now }
+    {
+        self.max_bytes
+    }
+
+    /// The identifier of the frames of a direction.
+    pub fn id_of(&self, dir: Dir) -> Id
+        ensures value { result ≡ id_of self.now dir }
+        ensures identifier { IsCanIdentifier result }
+    {
+        match dir {
+            Dir::Tester => self.wanted.first(),
+            Dir::Unit => self.wanted.second(),
+        }
+    }
+
+    /// The direction of the frames with this identifier.
+    #[tactic(auto, unfolding(crate::specs::Settings::direction_of))]
+    pub fn direction_of(&self, id: Id) -> Option<Dir>
+        ensures { result ≡ direction_of self.now id }
+    {
+        if self.wanted.is_first(id) {
+            Some(Dir::Tester)
+        } else if self.wanted.is_second(id) {
+            Some(Dir::Unit)
+        } else {
+            None
+        }
+    }
+}
+
+/// Whether the number of an identifier has no more bits than its format.
+fn is_configurable(id: Id) -> bool
+    ensures { IsTrue result ↔ IsCanIdentifier id }
+{
+    match id {
+        Id::Std(number) => number <= LARGEST_BASE_ID,
+        Id::Ext(number) => number <= LARGEST_EXTENDED_ID,
+    }
+}

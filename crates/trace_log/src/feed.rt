@@ -1,0 +1,75 @@
+//! A log read piece by piece. What is due is written before each read.
+ghost use Rattle.std.specs.Prelude.{◌≡◌, ℕ, ◌+◌, ◌-◌, ◌^◌, ◌≤◌, List, [], length, OnOk, IfErr, MatchResult, Option, true};
+ghost use Rattle.std.specs.Io.KnownBytes.{IsAtEnd};
+ghost use Rattle.can_log.specs.WholeLog.{StandsAfter};
+ghost use Rattle.can_log.specs.declared.frame.Stamped.{Stamped as StampedValue};
+ghost use Rattle.trace_io.specs.Counted.{AreLowCounts};
+ghost use Rattle.trace_io.specs.Stream.{Agrees, Gave};
+ghost use Rattle.trace_log.specs.Answers.{ReadsWhile};
+ghost use Rattle.trace_log.specs.Feeding.{TakesFront, FeedsLog, FeedsSome, CountsRead, WroteBefore};
+
+use crate::fault::Fault;
+use crate::lines::{LineTaker, PIECE, take_last_line, take_lines};
+use can_log::Scanner;
+use trace_io::Source;
+
+/// Takes the lines of a log one by one, as they come, and answers whether its last byte is a line feed. Before each
+/// read the taker writes what is due. A fault of a device is [`Fault::Read`] or [`Fault::Write`].
+pub fn feed_lines<R: Source, T: LineTaker>(
+    max_bytes: u64,
+    reader: &mut R,
+    taker: &mut T,
+    device: &mut T::Device,
+) -> Result<bool, Fault>
+    requires limit { max_bytes ≤ 2 ^ 40 }
+    requires reader { AreLowCounts (R.reads reader.old) (length (R.given reader.old)) (R.failures reader.old) }
+
+    ensures lines { (log : List ℕ) → Agrees (R.given reader.old) (R.given reader.new) (R.is_over reader.new) log
+        → (start : T × T.Device) → T.took start [] (taker.old, device.old)
+        → FeedsLog T.took T.rested T.broke T.stopped start max_bytes log (length (R.given reader.new) - length (R.given reader.old)) result (taker.new, device.new) }
+
+    ensures near { (log : List ℕ) → Agrees (R.given reader.old) (R.given reader.new) (R.is_over reader.new) log
+        → (start : T × T.Device) → T.took start [] (taker.old, device.old)
+        → ReadsWhile (TakesFront T.took start log) (length (R.given reader.new) - length (R.given reader.old)) (R.failures reader.old) (R.failures reader.new) }
+
+    // Before each read what was due was written: so the text of the lines that had ended before the last piece was.
+    ensures eager { (log : List ℕ) → Agrees (R.given reader.old) (R.given reader.new) (R.is_over reader.new) log
+        → (start : T × T.Device) → T.took start [] (taker.old, device.old) → T.sure start [] (taker.old, device.old)
+        → WroteBefore T.sure start log (length (R.given reader.new) - length (R.given reader.old)) (taker.new, device.new) }
+
+    ensures takes { (start : T × T.Device) → T.took start [] (taker.old, device.old)
+        → FeedsSome T.took T.rested T.broke T.stopped start result (taker.new, device.new) }
+
+    ensures over { OnOk result (R.is_over reader.new ≡ true) }
+    ensures ended { (R.is_over reader.old ≡ true → IsAtEnd (R.remaining reader.old)) → R.is_over reader.new ≡ true → IsAtEnd (R.remaining reader.new) }
+    ensures gave { Gave (R.given reader.old) (R.given reader.new) (R.remaining reader.old) (R.remaining reader.new) }
+    ensures given { length (R.given reader.new) ≤ length (R.given reader.old) + max_bytes + 1 }
+    ensures reads { R.reads reader.new ≤ R.reads reader.old + max_bytes + 1 }
+    ensures progress { R.reads reader.new ≤ R.reads reader.old + (length (R.given reader.new) - length (R.given reader.old)) + 1 }
+    ensures failures { MatchResult result (λ _. R.failures reader.new ≡ R.failures reader.old)
+        (λ fault. CountsRead fault (R.failures reader.old) (R.failures reader.new)) }
+{
+    let mut piece = [0; PIECE];
+    let mut scanner = Scanner::new();
+    let mut left = max_bytes;
+    'reading: loop {
+        if !taker.rest(device) {
+            return Err(Fault::Write);
+        }
+        let most = left.min(PIECE as u64);
+        let room = most.max(1) as usize;
+        let Ok(n) = reader.read(&mut piece[..room]) else {
+            return Err(Fault::Read);
+        };
+        if n == 0 {
+            return take_last_line(&mut scanner, taker, device);
+        }
+        if left == 0 {
+            return Err(Fault::LogLimit);
+        }
+        if let Err(fault) = take_lines(&mut scanner, &piece[..n], taker, device) {
+            return Err(fault);
+        }
+        left -= n as u64;
+    }
+}

@@ -1,0 +1,104 @@
+//! What is counted in a log.
+ghost use Rattle.std.specs.Prelude.{◌≡◌, []};
+ghost use Rattle.isotp_receive.specs.EventSeen.{seen_event};
+ghost use Rattle.isotp_receive.specs.declared.TheConstants.{MESSAGE_LIMIT};
+ghost use Rattle.trace_log.specs.Summing.{counted_in, counted_more, named_counts, seen_counts};
+ghost use Rattle.trace_log.specs.Summing as Spec;
+
+use direction::Dir;
+use isotp_receive::{Event, Verdict};
+
+/// The counts of a log that was read to its end.
+#[derive(Clone, Copy, Debug, PartialEq, Eq)]
+pub struct Summary {
+    /// The lines of the log, blank and foreign ones included.
+    pub lines: u64,
+    /// The frames with the identifier of the tester or the unit.
+    pub frames: u64,
+    /// Those of `frames` that the tester sent.
+    pub tester_frames: u64,
+    /// Those of `frames` that the unit sent.
+    pub unit_frames: u64,
+    /// The messages that were delivered.
+    pub messages: u64,
+    /// Those of `frames` that were dropped.
+    pub dropped: u64,
+    /// The receptions that ended without a message before the log did.
+    pub ended: u64,
+    /// The receptions that stand at the end of the log.
+    pub unfinished: u64,
+    /// The messages that the canonical log leaves out, responses that only announce a later one.
+    pub pending: u64,
+    /// Whether the last byte of the log is a line feed. A log without bytes has none.
+    pub ends_in_line_feed: bool,
+}
+
+/// The name of a count, and its number.
+#[derive(Clone, Copy)]
+pub struct Count(pub &'static str, pub u64);
+
+impl Summary {
+    /// Before the first line.
+    pub fn nothing() -> Summary
+        ensures { result ≡ counted_in MESSAGE_LIMIT [] }
+    {
+        Summary {
+            lines: 0,
+            frames: 0,
+            tester_frames: 0,
+            unit_frames: 0,
+            messages: 0,
+            dropped: 0,
+            ended: 0,
+            unfinished: 0,
+            pending: 0,
+            ends_in_line_feed: false,
+        }
+    }
+
+    /// Counts what one more frame of a direction did. A count stays at the largest number.
+    pub fn count(&mut self, dir: Dir, event: Event<'_>)
+        ensures { self.new ≡ counted_more dir (seen_event event.entry) self.old }
+    {
+        match dir {
+            Dir::Tester => self.tester_frames = self.tester_frames.saturating_add(1),
+            Dir::Unit => self.unit_frames = self.unit_frames.saturating_add(1),
+        }
+        if event.ended.is_some() {
+            self.ended = self.ended.saturating_add(1);
+        }
+        match event.verdict {
+            Verdict::Message(_) => self.messages = self.messages.saturating_add(1),
+            Verdict::Dropped(_) => self.dropped = self.dropped.saturating_add(1),
+            Verdict::Began | Verdict::Stored | Verdict::Flow => {}
+        }
+    }
+
+    /// The counts that are told, in this order.
+    pub fn named(&self) -> [Count; 7]
+        ensures { seen_counts result ≡ named_counts self.now }
+    {
+        [
+            Count("lines", self.lines),
+            Count("frames", self.frames),
+            Count("messages", self.messages),
+            Count("dropped", self.dropped),
+            Count("ended", self.ended),
+            Count("unfinished", self.unfinished),
+            Count("pending", self.pending),
+        ]
+    }
+
+    /// Whether the log is clean: no frame of it was lost that can be seen. Of a frame alone that carries a whole message, and
+    /// of a session that stops early, nothing can be seen.
+    pub fn is_clean(&self) -> bool
+        ensures { result ≡ Spec.is_clean self.now }
+    {
+        self.tester_frames > 0
+            && self.unit_frames > 0
+            && self.dropped == 0
+            && self.ended == 0
+            && self.unfinished == 0
+            && self.ends_in_line_feed
+    }
+}

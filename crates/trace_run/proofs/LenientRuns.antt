@@ -1,0 +1,85 @@
+-- What a run over a script that is not strict answers, and never answers.
+use Rattle.std.proofs.Common.{◌⊎◌, inl, inr, ◌≢◌, ℕ, Bool, List, Result, Ok, Err, false, ◌≡◌, arith, subst}
+use Rattle.std.specs.Result.{IfOk, IfErr}
+use Rattle.isotp_receive.specs.declared.TheConstants.{MESSAGE_LIMIT}
+use Rattle.isotp_receive.specs.Trace.{Entry}
+use Rattle.trace_log.specs.Laws.{Certifies}
+use Rattle.trace_log.specs.Needing.{HasFrame, IsKeptForMessage, NeedsMemoryToReceive}
+use Rattle.trace_log.specs.Settings.{Settings}
+use Rattle.trace_log.specs.Summing.{summary_of}
+use Rattle.trace_run.specs.Told.{Script, Answering, AnswersTold, IsUnreadFor, StopsNothingWithin, answers_counts}
+use Rattle.trace_log.specs.Answers.{ReadsWhile}
+use Rattle.trace_log.specs.Refusal.{HasNoBadPlaceWithin}
+use Rattle.trace_log.specs.declared.fault.Fault.{Fault}
+use Rattle.trace_log.specs.declared.fault.Fault.TheVariants.{BadLine, Oversize, LogLimit, OutputLimit, Read, Write, Memory}
+use Rattle.trace_run.specs.declared.machine.Stop.TheVariants as stop
+use Rattle.trace_log.specs.declared.summary.Summary.{Summary}
+use Rattle.trace_log.specs.Trace.{trace}
+use Rattle.trace_log.proofs.ReadAgain.{lines_certify}
+
+module _ (word : List Entry → Entry → List ℕ) (last : List Entry → Summary → List ℕ) (refused : List Entry → Summary → Fault → List ℕ) where
+  -- a script that tells this of each frame, at the end, and of a refusal
+  abbrev pub lenient : Script
+  lenient = record { strict = false; word = word; last = last; refused = refused }
+
+  -- where a fault tells why the log can't be read, that is so
+  pub unread_for : (limit : ℕ) (settings : Settings) (log : List ℕ) (given : ℕ) (fault : Fault) (old new : List ℕ)
+      → AnswersTold lenient answers_counts limit settings log given (Err fault) old new → IsUnreadFor false limit settings log fault
+  unread_for limit settings log given (BadLine line column) old new (is, wrote) = is
+  unread_for limit settings log given (Oversize line announced) old new (is, wrote) = is
+  unread_for limit settings log given LogLimit old new (is, wrote) = is
+  unread_for limit settings log given OutputLimit old new (whole, meanings, read, counted, wrote) = absurd (cc counted)
+  unread_for limit settings log given Read old new is = tt
+  unread_for limit settings log given Write old new is = tt
+  unread_for limit settings log given Memory old new is = tt
+
+  -- its counts certify what those of the lines do
+  pub certifies : (settings : Settings) (log : List ℕ) (given : ℕ) (result : Result Summary Fault) (old new : List ℕ)
+      → AnswersTold lenient answers_counts MESSAGE_LIMIT settings log given result old new → IfOk result (Certifies MESSAGE_LIMIT settings log)
+  certifies settings log given (Ok summary) old new (all, meanings, is, counted, wrote) =
+      let same : summary_of MESSAGE_LIMIT settings log meanings ≡ summary = cc counted in
+      subst (Certifies MESSAGE_LIMIT settings log) same (lines_certify MESSAGE_LIMIT settings log meanings (omega arith) is.1)
+  certifies settings log given (Err why) old new answers = tt
+
+-- the same of any script that is not strict, and of what is answered at the end, if that is never that the output is
+-- too long
+module _ {A : Type 0} (script : Script) (answers : Answering A) (is_lenient : script.strict ≡ false)
+    (has_answer : (T : List Entry) (summary : Summary) → answers T summary (Err stop.OutputLimit) → ⊥) where
+  unread : (settings : Settings) (log : List ℕ) (given : ℕ) (fault : Fault) (old new : List ℕ)
+      → AnswersTold script answers MESSAGE_LIMIT settings log given (Err fault) old new → IsUnreadFor false MESSAGE_LIMIT settings log fault
+  unread settings log given (BadLine line column) old new (is, wrote) = subst (λ strict. IsUnreadFor strict MESSAGE_LIMIT settings log (BadLine line column)) is_lenient is
+  unread settings log given (Oversize line announced) old new (is, wrote) = subst (λ strict. IsUnreadFor strict MESSAGE_LIMIT settings log (Oversize line announced)) is_lenient is
+  unread settings log given LogLimit old new (is, wrote) = subst (λ strict. IsUnreadFor strict MESSAGE_LIMIT settings log LogLimit) is_lenient is
+  unread settings log given OutputLimit old new (whole, meanings, read, answered, wrote) = absurd (has_answer (trace settings meanings) (summary_of MESSAGE_LIMIT settings log meanings) answered)
+  unread settings log given Read old new is = tt
+  unread settings log given Write old new is = tt
+  unread settings log given Memory old new is = tt
+
+  pub no_oversize : (settings : Settings) (log : List ℕ) (given : ℕ) (result : Result A Fault) (old new : List ℕ)
+      → AnswersTold script answers MESSAGE_LIMIT settings log given result old new → IfErr result (λ why. (line announced : ℕ) → why ≢ Oversize line announced)
+  no_oversize settings log given (Ok value) old new told = tt
+  no_oversize settings log given (Err why) old new told = λ line announced is.
+      subst (IsUnreadFor false MESSAGE_LIMIT settings log) is (unread settings log given why old new told)
+
+  pub no_output_limit : (settings : Settings) (log : List ℕ) (given : ℕ) (result : Result A Fault) (old new : List ℕ)
+      → AnswersTold script answers MESSAGE_LIMIT settings log given result old new → IfErr result (λ why. why ≢ OutputLimit)
+  no_output_limit settings log given (Ok value) old new told = tt
+  no_output_limit settings log given (Err why) old new told = λ is.
+      subst (IsUnreadFor false MESSAGE_LIMIT settings log) is (unread settings log given why old new told)
+
+-- what is read is near to a refused place, where the script is not strict
+pub near_when_lenient : {strict : Bool} → strict ≡ false → (settings : Settings) (log : List ℕ) {given before after : ℕ}
+    → ReadsWhile (StopsNothingWithin strict MESSAGE_LIMIT settings log) given before after → ReadsWhile (HasNoBadPlaceWithin log) given before after
+near_when_lenient {strict} is settings log {given} {before} {after} near =
+    subst (λ (s : Bool). ReadsWhile (StopsNothingWithin s MESSAGE_LIMIT settings log) given before after) is near
+
+-- a frame that needed memory is kept, where no line needs some to be told
+pub needs_when_none : (needs : List Entry → Entry → Type 0) → ((T : List Entry) (e : Entry) → needs T e → ⊥) → (settings : Settings) (log : List ℕ)
+    → HasFrame (λ T e. IsKeptForMessage MESSAGE_LIMIT T e ⊎ needs T e) settings log → NeedsMemoryToReceive MESSAGE_LIMIT settings log
+needs_when_none needs none settings log found =
+    record { before = found.before; line = found.line; frame = found.frame; begins = found.begins; own = found.own; holds = kept found.holds }
+  where
+    kept : IsKeptForMessage MESSAGE_LIMIT (trace settings found.before) found.frame ⊎ needs (trace settings found.before) found.frame
+        → IsKeptForMessage MESSAGE_LIMIT (trace settings found.before) found.frame
+    kept (inl holds) = holds
+    kept (inr needed) = absurd (none _ _ needed)

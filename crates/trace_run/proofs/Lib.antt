@@ -1,0 +1,10 @@
+pub mod WrittenFronts
+pub mod Runs
+pub mod RemovedCounts
+pub mod Carryings
+pub mod Tellings
+pub mod LenientRuns
+pub mod Printings
+mod QuietRuns
+-- what the crates above may cite
+pub mod Promises

@@ -1,0 +1,40 @@
+-- A run over a script that tells nothing writes nothing.
+use Rattle.std.proofs.Common.{◌≡◌, ◌≢◌, ℕ, List, [], ◌∷◌, ◌++◌, length, arith, ap, refl, ◌∙◌, Result, Ok, Err, inl, inr}
+use Rattle.std.specs.Result.{IfErr}
+use Rattle.isotp_receive.specs.Trace.{Entry}
+use Rattle.trace_log.specs.declared.fault.Fault.{Fault}
+use Rattle.trace_log.specs.declared.fault.Fault.TheVariants.{BadLine, Oversize, LogLimit, OutputLimit, Read, Write, Memory}
+use Rattle.trace_log.specs.Settings.{Settings}
+use Rattle.trace_log.specs.Summing.{summary_of}
+use Rattle.trace_run.specs.Told.{Script, Answering, AnswersTold, TellsNothing, told_after}
+use Rattle.trace_log.specs.Trace.{trace}
+
+-- of no frame anything is told
+told_nothing : (word : List Entry → Entry → List ℕ) → ((T : List Entry) (e : Entry) → word T e ≡ []) → (past xs : List Entry) → told_after word past xs ≡ []
+told_nothing word none past [] = refl
+told_nothing word none past (e ∷ rest) =
+    ap (λ (text : List ℕ). text ++ told_after word (past ++ e ∷ []) rest) (none past e) ∙ told_nothing word none (past ++ e ∷ []) rest
+
+module _ {A : Type 0} (script : Script) (none : TellsNothing script) (answers : Answering A) (limit : ℕ) (settings : Settings) (log : List ℕ) (given : ℕ) (old new : List ℕ) where
+  -- so writing does not fail
+  pub never_write : (result : Result A Fault) → AnswersTold script answers limit settings log given result old new → IfErr result (λ why. why ≢ Write)
+  never_write (Ok value) answered = tt
+  never_write (Err (BadLine line column)) answered = λ is. absurd (cc is)
+  never_write (Err (Oversize line announced)) answered = λ is. absurd (cc is)
+  never_write (Err LogLimit) answered = λ is. absurd (cc is)
+  never_write (Err OutputLimit) answered = λ is. absurd (cc is)
+  never_write (Err Read) answered = λ is. absurd (cc is)
+  never_write (Err Memory) answered = λ is. absurd (cc is)
+  never_write (Err Write) (inl (front, inl told)) =
+      absurd (omega (arith, told.some, ap length (told_nothing script.word none.of_frames [] (trace settings told.meanings))))
+  never_write (Err Write) (inl (front, inr ends)) =
+      let T = trace settings ends.meanings in
+      let last = none.at_the_end T (summary_of limit settings log ends.meanings) in
+      absurd (omega (
+        arith,
+        ends.some,
+        ap (λ (t : List ℕ). length (t ++ script.last T (summary_of limit settings log ends.meanings))) (told_nothing script.word none.of_frames [] T),
+        ap length last,
+      ))
+  never_write (Err Write) (inr refuses) =
+      absurd (omega (arith, refuses.some, ap length (none.of_refusals (trace settings refuses.meanings) (summary_of limit settings [] refuses.meanings) refuses.why)))

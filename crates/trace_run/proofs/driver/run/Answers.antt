@@ -1,0 +1,172 @@
+use Rattle.std.proofs.Common.{◌⊎◌, ◌≡◌, ◌-◌, List, length, arith, ap, subst, ◌∙◌, Option, Err, ℕ, Bool, true}
+use Rattle.can_log.specs.declared.frame.Stamped.{Stamped}
+use Rattle.std.specs.List.{AllByRecursion}
+use Rattle.trace_log.specs.proving.Announcing.{AnnouncesWithin}
+use Rattle.trace_log.specs.Summing.{ends_in_line_feed}
+use Rattle.trace_log.specs.Trace.{trace}
+use Rattle.trace_log.specs.Needing.{HasFrame, IsKeptForMessage}
+use Rattle.isotp_receive.specs.declared.TheConstants.{MESSAGE_LIMIT}
+use Rattle.trace_run.specs.declared.driver.Telling.{Telling}
+use Rattle.trace_run.specs.declared.receiver.Receiver.{Receiver}
+use Rattle.trace_run.specs.proving.Carrying.{EndsTelling}
+use Rattle.trace_run.specs.Told.{Script, StopsNothingWithin, AnswersTold, TellsEagerly}
+use Rattle.trace_log.specs.Answers.{ReadsWhile}
+use Rattle.trace_log.specs.Feeding.{TakesFront}
+use Rattle.trace_run.proofs.Runs.{TookLines, IsRunStart, starts_run, has_received}
+use Rattle.trace_run.proofs.Tellings.{needed, never_memory, eagerly, more_given_up, wrote_no_line, reads_near, ToldEvents, HasToldNothing, told_none, takes_nothing, gives, told_of_fault, known, fails_so, left_alone_so, reads_so, known_then, told_at_the_end}
+use Rattle.trace_log.proofs.LastBytes.{some_log}
+use Rattle.trace_log.proofs.Streams.{when_ok}
+use Rattle.trace_run.proofs.driver.run.Given.{Over}
+use Rattle.trace_run.proofs.driver.run.Goals.{After-start-receiver, After-finish}
+use Rattle.trace_run.proofs.driver.run.Goals as goal
+
+-- the run before its first line
+abbrev start : (g : Over) → After-start-receiver g → Receiver g.row.M.Denot g.row.W.Denot × g.row.W.Denot
+start g c = (c.start-receiver.result, c.args.writer.now)
+
+begun : (g : Over) (c : After-start-receiver g) → IsRunStart (HasToldNothing g.M.Machine.stands g.M.Machine.script g.M.Machine.needs g.W.Target) c.args.config.now (start g c)
+begun g c =
+    starts_run (HasToldNothing g.M.Machine.stands g.M.Machine.script g.M.Machine.needs g.W.Target) c.args.config.now c.start.result c.start-receiver.result c.args.writer.now c.start-receiver.ensures
+    (told_none g.M.Machine.stands g.M.Machine.script g.M.Machine.needs g.W.Target c.args.machine c.start.result c.start.ensures.machine c.requires.machine c.start.ensures.removed c.start.ensures.well
+    c.start.ensures.blank)
+
+same_machine : (g : Over) (c : After-start-receiver g) → c.start-receiver.result.taker.machine ≡ c.args.machine
+same_machine g c = ap (λ (t : Telling g.row.M.Denot g.row.W.Denot). t.machine) c.start-receiver.ensures.taker_is ∙ c.start.ensures.machine
+
+same_script : (g : Over) (c : After-start-receiver g) → g.M.Machine.script c.start-receiver.result.taker.machine ≡ g.M.Machine.script c.args.machine
+same_script g c = ap g.M.Machine.script (ap (λ (t : Telling g.row.M.Denot g.row.W.Denot). t.machine) c.start-receiver.ensures.taker_is ∙ c.start.ensures.machine)
+
+near : (g : Over) (c : After-start-receiver g) (log : List ℕ) (given failures failures_now : ℕ)
+    → ReadsWhile (TakesFront (TookLines (ToldEvents g.M.Machine.stands g.M.Machine.script g.M.Machine.needs g.W.Target)) (start g c) log) given failures failures_now
+    → ReadsWhile (StopsNothingWithin (g.M.Machine.script c.args.machine).strict MESSAGE_LIMIT c.args.config.now log) given failures failures_now
+near g c log given failures failures_now reads =
+    let M = g.M.Machine in
+    subst (λ (script : Script). ReadsWhile (StopsNothingWithin script.strict MESSAGE_LIMIT c.args.config.now log) given failures failures_now) (same_script g c)
+    (reads_near c.args.config.now log (M.script c.start-receiver.result.taker.machine).strict
+    (λ meanings now taken. (gives M.stands M.script M.needs g.W.Target c.args.config.now (start g c) now (begun g c) c.requires.writer meanings taken).within) reads)
+
+pub returns-in-Err : goal.returns-in-Err
+returns-in-Err g c =
+    let M = g.M.Machine in
+    let W = g.W.Target in
+    let settings = c.args.config.now in
+    let at = (goal.at.returns-in-Err g c).After-start-receiver in
+    let now : Receiver g.row.M.Denot g.row.W.Denot × g.row.W.Denot = (c.feed_lines.new.taker, c.feed_lines.new.device) in
+    let none = takes_nothing M.stands M.script M.needs W (start g at) in
+    let known_of =
+    known M.stands M.script M.needs W settings (start g at) now (begun g at) c.requires.writer c.give_up.new.target Bool c.in-Err.fault c.give_up.result
+    (c.in-Err.ensures.takes (start g at) none) c.give_up.ensures in
+    record {
+      ran = record {
+        answer = λ log agrees.
+            subst (λ m. AnswersTold (M.script m) (M.answers m) MESSAGE_LIMIT settings log (length (g.R.Source.given c.feed_lines.new.reader) - length (g.R.Source.given c.args.reader.now)) (Err c.give_up.result)
+            (W.taken c.args.writer.now) (W.taken c.give_up.new.target)) (same_machine g at)
+            (told_of_fault M.stands M.script M.needs W settings (start g at) now (begun g at) c.requires.writer c.give_up.new.target (M.answers c.start-receiver.result.taker.machine) log
+            (length (g.R.Source.given c.feed_lines.new.reader) - length (g.R.Source.given c.args.reader.now)) c.in-Err.fault c.give_up.result c.max_bytes.result c.max_bytes.ensures.value
+            (c.in-Err.ensures.lines log agrees (start g at) none) c.give_up.ensures);
+        eager = λ log agrees.
+            subst (λ (script : Script). TellsEagerly script MESSAGE_LIMIT settings log (length (g.R.Source.given c.feed_lines.new.reader) - length (g.R.Source.given c.args.reader.now))
+            (W.taken c.args.writer.now) (W.taken c.give_up.new.target)) (same_script g at)
+            (eagerly M.stands M.script M.needs W settings (start g at) now (begun g at) c.requires.writer log (length (g.R.Source.given c.feed_lines.new.reader) - length (g.R.Source.given c.args.reader.now))
+            (c.in-Err.ensures.eager log agrees (start g at) none (wrote_no_line M.stands M.script M.needs W (start g at))) c.give_up.new.target
+            (more_given_up M.stands M.script M.needs W settings (start g at) now (begun g at) c.requires.writer c.give_up.new.target Bool c.in-Err.fault c.give_up.result
+            (c.in-Err.ensures.takes (start g at) none) c.give_up.ensures));
+        memory = λ log agrees refused.
+            subst (λ m. HasFrame (λ T e. IsKeptForMessage MESSAGE_LIMIT T e ⊎ M.needs m T e) settings log) (same_machine g at)
+            (needed M.stands M.script M.needs W settings (start g at) now (begun g at) c.requires.writer c.give_up.new.target log
+            (length (g.R.Source.given c.feed_lines.new.reader) - length (g.R.Source.given c.args.reader.now)) c.in-Err.fault c.give_up.result c.max_bytes.result c.max_bytes.ensures.value
+            (c.in-Err.ensures.lines log agrees (start g at) none) c.give_up.ensures (cc refused));
+        near = λ log agrees. near g at log _ _ _ (c.in-Err.ensures.near log agrees (start g at) none);
+        read = record {
+          over = tt;
+          gave = c.in-Err.ensures.gave;
+          ended = c.in-Err.ensures.ended;
+          within = omega (arith, c.in-Err.ensures.given, c.max_bytes.ensures.value);
+          calls = omega (arith, c.in-Err.ensures.reads, c.max_bytes.ensures.value);
+          progress = c.in-Err.ensures.progress;
+          failed = reads_so c.in-Err.fault c.give_up.result _ _ c.in-Err.ensures.failures known_of.4;
+        };
+        wrote = record {
+          took = known_of.2.took;
+          no_empty_write = known_of.2.no_empty_write;
+          flushes = known_of.2.flushes;
+          left_alone = left_alone_so W c.args.writer.now c.give_up.new.target (Err c.give_up.result) known_of.0 known_of.1 known_of.2
+              (fails_so W c.args.writer.now c.give_up.new.target c.give_up.result known_of.0 known_of.1 known_of.2 known_of.3);
+          failed = fails_so W c.args.writer.now c.give_up.new.target c.give_up.result known_of.0 known_of.1 known_of.2 known_of.3;
+        };
+      };
+    }
+
+-- how the run ends, after lines that mean this
+ends : (g : Over) (c : After-finish g) (log : List ℕ) (meanings : List (Option Stamped)) → c.in-Ok.ended ≡ ends_in_line_feed log
+    → TookLines (ToldEvents g.M.Machine.stands g.M.Machine.script g.M.Machine.needs g.W.Target) (c.start-receiver.result, c.args.writer.now) meanings (c.feed_lines.new.taker, c.feed_lines.new.device)
+    → EndsTelling g.W.Target (g.M.Machine.script c.args.machine) (g.M.Machine.answers c.args.machine) c.args.writer.now c.args.config.now log meanings c.finish.result c.finish.new.target
+ends g c log meanings feed lines =
+    let M = g.M.Machine in
+    let W = g.W.Target in
+    let settings = c.args.config.now in
+    let at = (goal.at.returns-in-Ok g c).After-start-receiver in
+    let now : Receiver g.row.M.Denot g.row.W.Denot × g.row.W.Denot = (c.feed_lines.new.taker, c.feed_lines.new.device) in
+    subst (λ m. EndsTelling W (M.script m) (M.answers m) c.args.writer.now settings log meanings c.finish.result c.finish.new.target) (same_machine g at)
+    (c.finish.ensures.ends c.args.writer.now c.start-receiver.result.taker.machine settings log meanings
+    (has_received (ToldEvents M.stands M.script M.needs W) settings (start g at) now (begun g at) meanings lines) feed
+    (gives M.stands M.script M.needs W settings (start g at) now (begun g at) c.requires.writer meanings lines))
+
+within : (g : Over) (c : After-finish g) (meanings : List (Option Stamped))
+    → TookLines (ToldEvents g.M.Machine.stands g.M.Machine.script g.M.Machine.needs g.W.Target) (c.start-receiver.result, c.args.writer.now) meanings (c.feed_lines.new.taker, c.feed_lines.new.device)
+    → (g.M.Machine.script c.args.machine).strict ≡ true → AllByRecursion AnnouncesWithin (trace c.args.config.now meanings)
+within g c meanings lines =
+    let M = g.M.Machine in
+    let at = (goal.at.returns-in-Ok g c).After-start-receiver in
+    let now : Receiver g.row.M.Denot g.row.W.Denot × g.row.W.Denot = (c.feed_lines.new.taker, c.feed_lines.new.device) in
+    subst (λ (script : Script). script.strict ≡ true → AllByRecursion AnnouncesWithin (trace c.args.config.now meanings)) (same_script g at)
+    (gives M.stands M.script M.needs g.W.Target c.args.config.now (start g at) now (begun g at) c.requires.writer meanings lines).within
+
+pub returns-in-Ok : goal.returns-in-Ok
+returns-in-Ok g c =
+    let M = g.M.Machine in
+    let W = g.W.Target in
+    let settings = c.args.config.now in
+    let at = (goal.at.returns-in-Ok g c).After-start-receiver in
+    let none = takes_nothing M.stands M.script M.needs W (start g at) in
+    let takes = c.in-Ok.ensures.takes (start g at) none in
+    let some = some_log c.in-Ok.ended in
+    let end = ends g c some.0 takes.0 some.1 takes.2 in
+    let script = M.script c.args.machine in
+    let known_of = known_then W script (M.answers c.args.machine) c.args.writer.now c.finish.new.target settings some.0 takes.0 c.finish.result end in
+    record {
+      ran = record {
+        answer = λ log agrees.
+            let read = c.in-Ok.ensures.lines log agrees (start g at) none in
+            told_at_the_end W script (M.answers c.args.machine) c.args.writer.now c.finish.new.target settings log (length (g.R.Source.given c.feed_lines.new.reader) - length (g.R.Source.given c.args.reader.now)) read.0 c.finish.result
+            (omega (arith, read.1, c.max_bytes.ensures.value)) read.2 read.3 (within g c read.0 read.5) (ends g c log read.0 read.6 read.5);
+        eager = λ log agrees.
+            let lines = c.in-Ok.ensures.lines log agrees (start g at) none in
+            let now : Receiver g.row.M.Denot g.row.W.Denot × g.row.W.Denot = (c.feed_lines.new.taker, c.feed_lines.new.device) in
+            subst (λ (script : Script). TellsEagerly script MESSAGE_LIMIT settings log (length (g.R.Source.given c.feed_lines.new.reader) - length (g.R.Source.given c.args.reader.now))
+            (W.taken c.args.writer.now) (W.taken c.finish.new.target)) (same_script g at)
+            (eagerly M.stands M.script M.needs W settings (start g at) now (begun g at) c.requires.writer log (length (g.R.Source.given c.feed_lines.new.reader) - length (g.R.Source.given c.args.reader.now))
+            (c.in-Ok.ensures.eager log agrees (start g at) none (wrote_no_line M.stands M.script M.needs W (start g at))) c.finish.new.target
+            (λ mid said carried. c.finish.ensures.more mid said c.start-receiver.result.taker.machine settings lines.0
+            (has_received (ToldEvents M.stands M.script M.needs W) settings (start g at) now (begun g at) lines.0 lines.5)
+            (gives M.stands M.script M.needs W settings (start g at) now (begun g at) c.requires.writer lines.0 lines.5).machine_stands carried));
+        memory = λ log agrees refused. absurd (never_memory W script (M.answers c.args.machine) c.args.writer.now c.finish.new.target settings some.0 takes.0 c.finish.result end refused);
+        near = λ log agrees. near g at log _ _ _ (c.in-Ok.ensures.near log agrees (start g at) none);
+        read = record {
+          over = when_ok c.finish.result c.in-Ok.ensures.over;
+          gave = c.in-Ok.ensures.gave;
+          ended = c.in-Ok.ensures.ended;
+          within = omega (arith, c.in-Ok.ensures.given, c.max_bytes.ensures.value);
+          calls = omega (arith, c.in-Ok.ensures.reads, c.max_bytes.ensures.value);
+          progress = c.in-Ok.ensures.progress;
+          failed = record { risen = λ is. absurd (known_of.4 is); same = λ _. c.in-Ok.ensures.failures };
+        };
+        wrote = record {
+          took = known_of.2.took;
+          no_empty_write = known_of.2.no_empty_write;
+          flushes = known_of.2.flushes;
+          left_alone = left_alone_so W c.args.writer.now c.finish.new.target c.finish.result known_of.0 known_of.1 known_of.2 known_of.3;
+          failed = known_of.3;
+        };
+      };
+    }

@@ -1,0 +1,15 @@
+use Rattle.std.proofs.Common.{sym, subst}
+use Rattle.trace_run.specs.proving.Carrying.{Speaks}
+use Rattle.trace_run.specs.declared.page.Page.{Page}
+use Rattle.trace_run.proofs.driver.tell_end.Goals as goal
+
+pub returns-clause-says : goal.returns-clause-says
+returns-clause-says g c = λ start T stands pair keeps.
+    let W = g.W.Target in
+    let page = c.args.page.now in
+    let said = c.end.ensures.says start T stands pair keeps in
+    let text = ((g.M.Machine.script start).last T c.args.summary.now) in
+    let target_is = c.target-1.given.1 (sym said.0) in
+    let page_is = c.page-1.given.1 (sym said.1) in
+    subst (λ w. Speaks W page.failed page.block c.args.target.now text c.page-1.given.0.failed c.page-1.given.0.block w) (sym target_is)
+    (subst (λ (p : Page). Speaks W page.failed page.block c.args.target.now text p.failed p.block c.end.new.out.target.now) (sym page_is) said.2)

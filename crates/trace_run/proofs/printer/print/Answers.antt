@@ -1,0 +1,25 @@
+use Rattle.std.proofs.Common.{[], subst}
+use Rattle.std.specs.Prelude.{not}
+use Rattle.trace_run.specs.proving.Carrying.{Carries}
+use Rattle.trace_run.proofs.Printings.{settled_text, printed, printed_front}
+use Rattle.trace_run.proofs.printer.print.Goals as goal
+
+pub returns-then-settle : goal.returns-then-settle
+returns-then-settle g c =
+    let W = g.W.Target in
+    let old = c.args.target.now in
+    let new = c.settle.new.target in
+    let text = g.P.Printable.text c.args.printable.now in
+    printed W text old new
+    (subst (λ b. Carries W old text (not b) [] new) c.if-settle.true
+    (settled_text W text old new _ c.new-page.result _ _ c.settle.result c.requires c.new-page.ensures.well c.new-page.ensures.blank c.put.ensures c.settle.ensures.settled))
+
+pub returns-else-settle : goal.returns-else-settle
+returns-else-settle g c =
+    let W = g.W.Target in
+    let old = c.args.target.now in
+    let new = c.settle.new.target in
+    let text = g.P.Printable.text c.args.printable.now in
+    printed_front W text old new
+    (subst (λ b. Carries W old text (not b) [] new) c.if-settle.false
+    (settled_text W text old new _ c.new-page.result _ _ c.settle.result c.requires c.new-page.ensures.well c.new-page.ensures.blank c.put.ensures c.settle.ensures.settled))

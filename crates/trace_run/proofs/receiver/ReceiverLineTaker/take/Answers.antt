@@ -1,0 +1,98 @@
+use Rattle.std.proofs.Common.{◌≤◌, ◌^◌, arith, ◌≡◌, ℕ, ◌+◌, [], ◌∷◌, ◌++◌, length, Some, None, ap, sym, subst, ◌∙◌}
+use Rattle.std.proofs.lemmas.Result.{IfErr-weaker}
+use Rattle.isotp_receive.specs.declared.TheConstants.{MESSAGE_LIMIT}
+use Rattle.isotp_receive.specs.Trace.{Entry}
+use Rattle.isotp_receive.specs.Verdict.{verdict}
+use Rattle.isotp_receive.specs.StandingReception.{receptions_after}
+use Rattle.trace_run.specs.proving.Carrying.{IsTellingStart, Tells, StopsTelling}
+use Rattle.trace_log.specs.Settings.{direction_of}
+use Rattle.trace_log.specs.Trace.{trace}
+use Rattle.trace_log.specs.Summing.{counted_more}
+use Rattle.trace_log.specs.proving.Receiving.{entry_in}
+use Rattle.trace_log.proofs.Results.{four_ok}
+use Rattle.trace_log.proofs.Receivings.{few_frames, trace_same_blank, trace_same_foreign, trace_next, receives_same, receives_next}
+use Rattle.trace_run.proofs.receiver.ReceiverLineTaker.take.Goals as goal
+
+pub returns-in_default-clause-ok : goal.returns-in_default-clause-ok
+returns-in_default-clause-ok g c = λ start meanings number few took. (
+  took.0,
+  λ fresh.
+      let received = took.1 fresh in
+      let same = trace_same_blank start.0.config meanings c.args.what.now c.in_default.is in (
+        receives_same start.0.config meanings c.args.what.now c.args.self.now.pair c.args.self.now.lines c.args.line c.args.self.now.counts same number received.0,
+        subst (λ T. IsTellingStart (g.M.Machine.stands start.0.taker.machine [] start.0.taker.machine) start.0.taker.pending start.0.taker.page.failed start.0.taker.page.block → g.W.Target.failures start.1 ≤ 2 ^ 62
+            → Tells (g.M.Machine.stands start.0.taker.machine) g.W.Target (g.M.Machine.script start.0.taker.machine) start.1 T c.args.self.now.taker.machine c.args.self.now.taker.pending c.args.self.now.taker.page.failed c.args.self.now.taker.page.block c.args.device.now) (sym same) received.1,
+      ),
+)
+
+pub returns-in_default-direction_of-clause-ok : goal.returns-in_default-direction_of-clause-ok
+returns-in_default-direction_of-clause-ok g c = λ start meanings number few took. (
+  took.0,
+  λ fresh.
+      let received = took.1 fresh in
+      let stamped = c.in-Some.stamped in
+      let none : None ≡ direction_of start.0.config stamped.frame.id =
+      sym c.in_default-direction_of.is ∙ c.direction_of.ensures ∙ ap (direction_of c.args.self.now.config) c.id.ensures ∙ ap (λ s. direction_of s stamped.frame.id) took.0 in
+      let same = trace_same_foreign start.0.config meanings c.args.what.now stamped c.in-Some.is none in (
+        receives_same start.0.config meanings c.args.what.now c.args.self.now.pair c.args.self.now.lines c.args.line c.args.self.now.counts same number received.0,
+        subst (λ T. IsTellingStart (g.M.Machine.stands start.0.taker.machine [] start.0.taker.machine) start.0.taker.pending start.0.taker.page.failed start.0.taker.page.block → g.W.Target.failures start.1 ≤ 2 ^ 62
+            → Tells (g.M.Machine.stands start.0.taker.machine) g.W.Target (g.M.Machine.script start.0.taker.machine) start.1 T c.args.self.now.taker.machine c.args.self.now.taker.pending c.args.self.now.taker.page.failed c.args.self.now.taker.page.block c.args.device.now) (sym same) received.1,
+      ),
+)
+
+pub returns-clause-ok : goal.returns-clause-ok
+returns-clause-ok g c =
+    let stamped = c.in-Some.stamped in
+    let d = c.in-Some-direction_of.dir in
+    let at : ℕ → Entry = λ line. record { line = line; micros = stamped.micros; dir = d; frame = stamped.frame } in
+    four_ok c.receive.result (λ stands grew counts taken start meanings number few took. (
+      took.0,
+      λ fresh.
+          let received = took.1 fresh in
+          let direction : Some d ≡ direction_of start.0.config stamped.frame.id =
+          sym c.in-Some-direction_of.is ∙ c.direction_of.ensures ∙ ap (direction_of c.args.self.now.config) c.id.ensures ∙ ap (λ s. direction_of s stamped.frame.id) took.0 in
+          let next = trace_next start.0.config meanings c.args.what.now stamped d c.in-Some.is direction in
+          let line : c.args.line ≡ 1 + length meanings = omega arith in
+          let here : at c.args.line ≡ entry_in meanings stamped d = ap at line in
+          let frames = few_frames start.0.config meanings in
+          let T = trace start.0.config meanings in (
+            receives_next start.0.config meanings c.args.what.now (entry_in meanings stamped d) c.args.self.now.pair c.receive.new.pair c.args.self.now.lines c.args.line
+                c.args.self.now.counts c.receive.new.counts next number few
+                (stands T received.0.pair_is ∙ ap (λ (e : Entry). receptions_after MESSAGE_LIMIT (T ++ e ∷ [])) here)
+                grew
+                (counts T received.0.pair_is ∙ ap (λ (e : Entry). counted_more d (verdict MESSAGE_LIMIT T e) c.args.self.now.counts) here) received.0,
+            λ blank low.
+                subst (λ U. Tells (g.M.Machine.stands start.0.taker.machine) g.W.Target (g.M.Machine.script start.0.taker.machine) start.1 U c.receive.new.taker.machine c.receive.new.taker.pending c.receive.new.taker.page.failed c.receive.new.taker.page.block c.receive.new.target) (sym next)
+                (subst (λ (e : Entry). Tells (g.M.Machine.stands start.0.taker.machine) g.W.Target (g.M.Machine.script start.0.taker.machine) start.1 (T ++ e ∷ []) c.receive.new.taker.machine c.receive.new.taker.pending c.receive.new.taker.page.failed c.receive.new.taker.page.block c.receive.new.target) here
+                (taken start.1 start.0.taker.machine T received.0.pair_is (omega arith) (received.1 blank low))),
+          ),
+    )) c.receive.ensures.pair c.receive.ensures.grew c.receive.ensures.counts c.receive.ensures.ok
+
+pub returns-clause-err : goal.returns-clause-err
+returns-clause-err g c =
+    let stamped = c.in-Some.stamped in
+    let d = c.in-Some-direction_of.dir in
+    let at : ℕ → Entry = λ line. record { line = line; micros = stamped.micros; dir = d; frame = stamped.frame } in
+    IfErr-weaker c.receive.result _ _ (λ fault stops start meanings number few took fresh.
+    let received = took.1 fresh in
+    let direction : Some d ≡ direction_of start.0.config stamped.frame.id =
+    sym c.in-Some-direction_of.is ∙ c.direction_of.ensures ∙ ap (direction_of c.args.self.now.config) c.id.ensures ∙ ap (λ s. direction_of s stamped.frame.id) took.0 in
+    let line : c.args.line ≡ 1 + length meanings = omega arith in
+    let here : at c.args.line ≡ entry_in meanings stamped d = ap at line in
+    let frames = few_frames start.0.config meanings in
+    let T = trace start.0.config meanings in (
+      stamped,
+      d,
+      c.in-Some.is,
+      direction,
+      λ blank low.
+          subst (λ (e : Entry). StopsTelling g.W.Target (g.M.Machine.script start.0.taker.machine) (g.M.Machine.needs start.0.taker.machine) start.1 T e fault c.receive.new.taker.page.failed
+          c.receive.new.taker.page.block c.receive.new.target) here
+          (stops start.1 start.0.taker.machine T received.0.pair_is (omega arith) (received.1 blank low)),
+    )) c.receive.ensures.err
+
+pub returns-clause-kept : goal.returns-clause-kept
+returns-clause-kept g c = λ start meanings first number few took sure fresh blank low.
+    let received = took.1 fresh in
+    let frames = few_frames start.0.config meanings in
+    c.receive.ensures.kept start.1 start.0.taker.machine (trace start.0.config meanings) (trace start.0.config first) received.0.pair_is (omega arith) (received.1 blank low) (sure fresh blank low)

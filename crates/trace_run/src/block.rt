@@ -1,0 +1,112 @@
+//! Text gathered in a fixed buffer, so that it is written in few pieces.
+ghost use Rattle.std.specs.Prelude.{◌≡◌, ◌+◌, ◌^◌, ◌<◌, ◌≤◌, [], ◌++◌, length, true, false, MatchResult};
+ghost use Rattle.trace_io.specs.Stream.{Took};
+ghost use Rattle.trace_run.specs.proving.Gathering.{HasGathered};
+
+use can_log::LONGEST_LINE;
+use std::marker::Model;
+use trace_io::{DeviceFault, Target, write_all};
+
+/// The most bytes that are gathered for one write: 64 canonical lines of the longest kind.
+const BLOCK: usize = 64 * LONGEST_LINE;
+
+/// Text that is gathered for one write. What stands behind it is left over from an earlier one: nothing is cleared.
+#[derive(Drop)]
+pub(crate) struct Block {
+    bytes: [u8; BLOCK],
+    len: usize,
+}
+
+impl Model for Block {
+    ghost use Rattle.std.specs.Prelude.{◌≡◌, ℕ, ◌≤◌, List, length, take};
+    ghost use Rattle.trace_run.specs.declared.block.TheConstants.{BLOCK};
+
+    ghost Value = { List ℕ };
+
+    ghost view = { λ block. take block.len block.bytes };
+
+    ghost invariant = { λ block. (block.len ≤ BLOCK) × (length block.bytes ≡ BLOCK) };
+}
+
+impl Block {
+    /// A block of no text.
+    pub(crate) fn new() -> Block
+        ensures { result ≡ [] }
+    {
+        Block {
+            bytes: [0; BLOCK],
+            len: 0,
+        }
+    }
+
+    /// Lets the text go.
+    #[inline(always)]
+    pub(crate) fn clear(&mut self)
+        ensures { self.new ≡ [] }
+    {
+        self.len = 0;
+    }
+
+    /// Whether there is no text.
+    #[inline(always)]
+    pub(crate) fn is_empty(&self) -> bool
+        ensures none { result ≡ true → self.now ≡ [] }
+        ensures some { result ≡ false → 0 < length self.now }
+    {
+        self.len == 0
+    }
+
+    /// The text.
+    #[inline(always)]
+    pub(crate) fn as_slice(&self) -> &[u8]
+        ensures value { result.now ≡ self.now }
+    {
+        &self.bytes[..self.len]
+    }
+
+    /// How many more bytes there is room for.
+    #[inline(always)]
+    fn room(&self) -> usize
+        ensures { result + length self.now ≡ BLOCK }
+    {
+        BLOCK - self.len
+    }
+
+    /// Appends bytes that there is room for.
+    #[inline(always)]
+    fn append(&mut self, bytes: &[u8])
+        requires { length self.old + length bytes.now ≤ BLOCK }
+        ensures { self.new ≡ self.old ++ bytes.now }
+    {
+        let end = self.len + bytes.len();
+        self.bytes[self.len..end].copy_from_slice(bytes);
+        self.len = end;
+    }
+}
+
+/// Appends the text to the block. A block that has no room for it is written first, and a text that no block has room for
+/// is written at once.
+#[inline(always)]
+pub(crate) fn gather<W: Target>(
+    writer: &mut W,
+    block: &mut Block,
+    text: &[u8],
+) -> Result<(), DeviceFault>
+    requires { W.failures writer.old ≤ 2 ^ 62 }
+    ensures failures { MatchResult result
+        (λ _. W.failures writer.new ≡ W.failures writer.old) (λ _. W.failures writer.new ≡ W.failures writer.old + 1) }
+    ensures no_empty_write { W.had_empty_write writer.new ≡ W.had_empty_write writer.old }
+    ensures flushes { W.flushes writer.new ≡ W.flushes writer.old }
+    ensures took { Took (W.taken writer.old) (W.taken writer.new) (W.contents writer.old) (W.contents writer.new) }
+    ensures taken { HasGathered result (W.taken writer.old) (block.old ++ text.now) (W.taken writer.new) block.new }
+{
+    if block.room() < text.len() {
+        write_all(writer, block.as_slice())?;
+        block.clear();
+        if text.len() > BLOCK {
+            return write_all(writer, text);
+        }
+    }
+    block.append(text);
+    Ok(())
+}

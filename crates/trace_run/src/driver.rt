@@ -1,0 +1,365 @@
+//! A log told by a machine: the one place where a command reads, writes and fails.
+ghost use Rattle.std.specs.Prelude.{◌≡◌, ℕ, ◌^◌, ◌<◌, List, [], ◌∷◌, ◌++◌, length, Err, IfErr, OnOk, OnErr, Option, false};
+ghost use Rattle.can_log.specs.declared.frame.Stamped.{Stamped as StampedValue};
+ghost use Rattle.isotp_receive.specs.declared.TheConstants.{MESSAGE_LIMIT};
+ghost use Rattle.isotp_receive.specs.Capacities.{KeepsWithin};
+ghost use Rattle.isotp_receive.specs.EventSeen.{seen_event, seen_verdict};
+ghost use Rattle.isotp_receive.specs.StandingReception.{receptions_after};
+ghost use Rattle.isotp_receive.specs.Events.{announced_by};
+ghost use Rattle.isotp_receive.specs.Trace.{Entry};
+ghost use Rattle.isotp_receive.specs.Verdict.{verdict};
+ghost use Rattle.trace_io.specs.Counted.{IsLowCount, AreLowCounts};
+ghost use Rattle.trace_run.specs.proving.Carrying.{Begins, Carries, Speaks, SettlesAs, Tells, EndsTelling, GivesUp, RefusesTelling, stops_for};
+ghost use Rattle.trace_run.specs.proving.LeftOut.{CountsRemoved};
+ghost use Rattle.trace_log.specs.proving.Receiving.{Receives};
+ghost use Rattle.trace_log.specs.Settings.{Settings};
+ghost use Rattle.trace_log.specs.Summing.{ends_in_line_feed};
+ghost use Rattle.trace_run.specs.Told.{Ran, RanLenient};
+ghost use Rattle.trace_log.specs.Trace.{trace};
+ghost use Rattle.trace_run.specs.declared.machine.Stop.TheVariants.{OutputLimit};
+ghost use Rattle.trace_log.specs.declared.summary.Summary.{Summary as SummaryValue};
+
+use crate::machine::{Machine, Stop};
+use crate::page::{Drain, Page, settle};
+use crate::pending::Pending;
+use crate::receiver::Receiver;
+use crate::summing::sum_up;
+use direction::Dir;
+use isotp_receive::{Event, Pair, Reason, Verdict};
+use std::alloc::{AllocError, Global};
+use std::marker::PhantomData;
+use trace_io::{Source, Target};
+use trace_log::{Config, Fault, Summary, feed_lines};
+
+/// Reads a log, hands a machine what each frame did and the end, and writes what it says, as it comes.
+///
+/// The target is not flushed.
+pub fn run<M: Machine + Drop, R: Source, W: Target>(
+    alloc: Global,
+    config: &Config,
+    machine: M,
+    reader: &mut R,
+    writer: &mut W,
+) -> Result<M::Answer, Fault>
+    requires machine { M.stands machine [] machine }
+    requires reader { AreLowCounts (R.reads reader.old) (length (R.given reader.old)) (R.failures reader.old) }
+    requires writer { IsLowCount (W.failures writer.old) }
+    ensures ran { Ran R.Source W.Target (M.script machine) (M.answers machine) (M.needs machine) MESSAGE_LIMIT config.now reader.old writer.old result reader.new writer.new }
+{
+    let pair = Pair::new(alloc);
+    let mut receiver = Receiver::start(config, pair, Telling::start(machine));
+    match feed_lines(config.max_bytes(), reader, &mut receiver, writer) {
+        Ok(ended) => finish(receiver, ended, writer),
+        Err(fault) => Err(give_up(fault, receiver, writer)),
+    }
+}
+
+/// The same of a machine that no announced length stops, and that has an answer at the end of each log.
+pub fn run_lenient<M: Machine + Drop, R: Source, W: Target>(
+    alloc: Global,
+    config: &Config,
+    machine: M,
+    reader: &mut R,
+    writer: &mut W,
+) -> Result<M::Answer, Fault>
+    requires machine { M.stands machine [] machine }
+    requires lenient { (M.script machine).strict ≡ false }
+    requires has_answer { (T : List Entry) (summary : SummaryValue) → M.answers machine T summary (Err OutputLimit) → ⊥ }
+    requires reader { AreLowCounts (R.reads reader.old) (length (R.given reader.old)) (R.failures reader.old) }
+    requires writer { IsLowCount (W.failures writer.old) }
+    ensures ran { RanLenient R.Source W.Target (M.script machine) (M.answers machine) (M.needs machine) MESSAGE_LIMIT config.now reader.old writer.old result reader.new writer.new }
+{
+    run(alloc, config, machine, reader, writer)
+}
+
+/// Ends a run on a fault, and answers what that is called. The machine is told of a line or a limit that refuses the
+/// log, and what was said is written. A fault of a device stands as it is.
+fn give_up<M: Machine + Drop, W: Target>(
+    fault: Fault,
+    receiver: Receiver<M, W>,
+    target: &mut W,
+) -> Fault
+    ensures { GivesUp M.stands M.script W.Target fault receiver target.old result target.new }
+{
+    match fault {
+        Fault::BadLine { .. } | Fault::LogLimit => refuse(fault, receiver, target),
+        Fault::Oversize { .. } | Fault::OutputLimit | Fault::Memory => {
+            stop(fault, receiver, target)
+        }
+        Fault::Read | Fault::Write => fault,
+    }
+}
+
+/// Writes what was said before a fault of which nothing is said, and answers what that is called.
+fn stop<M: Machine + Drop, W: Target>(
+    fault: Fault,
+    receiver: Receiver<M, W>,
+    target: &mut W,
+) -> Fault
+    ensures { SettlesAs fault W.Target receiver.taker.page.failed receiver.taker.page.block target.old result target.new }
+{
+    let Receiver { taker, .. } = receiver;
+    let Telling { mut page, .. } = taker;
+    settle_before(fault, target, &mut page)
+}
+
+/// Writes what is said of a refusal, after the lines that were received, and answers what that is called.
+fn refuse<M: Machine, W: Target>(why: Fault, receiver: Receiver<M, W>, target: &mut W) -> Fault
+    ensures { RefusesTelling M.stands M.script W.Target why receiver target.old result target.new }
+{
+    let Receiver {
+        pair,
+        lines,
+        counts,
+        taker,
+        ..
+    } = receiver;
+    let Telling {
+        machine,
+        pending,
+        mut page,
+        ..
+    } = taker;
+    let summary = sum_up(&pair, lines, counts, pending.count, false);
+    tell_refusal(machine, target, &mut page, &summary, why);
+    settle_before(why, target, &mut page)
+}
+
+/// Writes what was said before a fault, and answers what that is called.
+fn settle_before<W: Target>(fault: Fault, target: &mut W, page: &mut Page) -> Fault
+    ensures { SettlesAs fault W.Target page.old.failed page.old.block target.old result target.new }
+{
+    if settle(target, page) {
+        fault
+    } else {
+        Fault::Write
+    }
+}
+
+/// A machine, the page that it writes on, and the count of the replies that a canonical log leaves out.
+#[derive(Drop)]
+pub(crate) struct Telling<M, W> {
+    pub machine: M,
+    pub pending: Pending,
+    pub page: Page,
+    pub target: PhantomData<W>,
+}
+
+impl<M, W> Telling<M, W> {
+    ghost use Rattle.std.specs.Prelude.{◌≡◌, [], false};
+    ghost use Rattle.trace_run.specs.proving.LeftOut.{CountsRemoved};
+
+    /// Before the first event.
+    fn start(machine: M) -> Telling<M, W>
+        ensures machine { result.machine ≡ machine }
+        ensures removed { CountsRemoved [] result.pending }
+        ensures well { result.page.failed ≡ false }
+        ensures blank { result.page.block ≡ [] }
+    {
+        Telling {
+            machine,
+            pending: Pending::start(),
+            page: Page::new(),
+            target: PhantomData,
+        }
+    }
+}
+
+impl<M: Machine, W: Target> Telling<M, W> {
+    ghost use Rattle.std.specs.Prelude.{◌≡◌, ◌^◌, ◌<◌, List, [], ◌∷◌, ◌++◌, length, OnOk, IfErr, true, false};
+    ghost use Rattle.isotp_receive.specs.declared.TheConstants.{MESSAGE_LIMIT};
+    ghost use Rattle.isotp_receive.specs.EventSeen.{seen_event};
+    ghost use Rattle.isotp_receive.specs.Trace.{Entry};
+    ghost use Rattle.isotp_receive.specs.Verdict.{verdict};
+    ghost use Rattle.trace_run.specs.proving.Carrying.{Tells, StopsTelling, WroteTold};
+    ghost use Rattle.trace_log.specs.Feeding.{IsOfTaker};
+
+    /// Writes what is due, before more is read. Answers whether it could.
+    pub(crate) fn rest(&mut self, target: &mut W) -> bool
+        ensures well { result ≡ true → (start : W) (first : M) (T : List Entry)
+            → Tells (M.stands first) W.Target (M.script first) start T self.old.machine self.old.pending self.old.page.failed self.old.page.block target.old
+            → Tells (M.stands first) W.Target (M.script first) start T self.new.machine self.new.pending false [] target.new
+            × Tells (M.stands first) W.Target (M.script first) start T self.new.machine self.new.pending self.new.page.failed self.new.page.block target.new }
+        ensures wrong { result ≡ false → (start : W) (first : M) (T : List Entry)
+            → Tells (M.stands first) W.Target (M.script first) start T self.old.machine self.old.pending self.old.page.failed self.old.page.block target.old
+            → Tells (M.stands first) W.Target (M.script first) start T self.new.machine self.new.pending true [] target.new }
+        ensures sure { result ≡ true → (start : W) (first : M) (T : List Entry)
+            → Tells (M.stands first) W.Target (M.script first) start T self.old.machine self.old.pending self.old.page.failed self.old.page.block target.old
+            → WroteTold W.Target (M.script first) start T self.new.page.failed self.new.page.block target.new }
+        ensures kept { (start : W) (first : M) (earlier : List Entry) → WroteTold W.Target (M.script first) start earlier self.old.page.failed self.old.page.block target.old
+            → WroteTold W.Target (M.script first) start earlier self.new.page.failed self.new.page.block target.new }
+    {
+        settle(target, &mut self.page)
+    }
+
+    /// Takes what the next frame of the trace did: one of this line, time and direction.
+    #[inline(always)]
+    pub(crate) fn take(
+        &mut self,
+        target: &mut W,
+        line: u64,
+        micros: u64,
+        dir: Dir,
+        event: Event<'_>,
+    ) -> Result<(), Fault>
+        ensures fault { IfErr result IsOfTaker }
+        ensures ok { OnOk result ((start : W) (first : M) (T : List Entry) (e : Entry) → e.line ≡ line → e.micros ≡ micros → e.dir ≡ dir → length T < 2 ^ 62
+            → seen_event event.entry ≡ verdict MESSAGE_LIMIT T e
+            → Tells (M.stands first) W.Target (M.script first) start T self.old.machine self.old.pending self.old.page.failed self.old.page.block target.old
+            → Tells (M.stands first) W.Target (M.script first) start (T ++ e ∷ []) self.new.machine self.new.pending self.new.page.failed self.new.page.block target.new) }
+        ensures err { IfErr result (λ fault. (start : W) (first : M) (T : List Entry) (e : Entry) → e.line ≡ line → e.micros ≡ micros → e.dir ≡ dir → length T < 2 ^ 62
+            → seen_event event.entry ≡ verdict MESSAGE_LIMIT T e
+            → Tells (M.stands first) W.Target (M.script first) start T self.old.machine self.old.pending self.old.page.failed self.old.page.block target.old
+            → StopsTelling W.Target (M.script first) (M.needs first) start T e fault self.new.page.failed self.new.page.block target.new) }
+        ensures kept { (start : W) (first : M) (T earlier : List Entry) (e : Entry) → e.line ≡ line → e.micros ≡ micros → e.dir ≡ dir → length T < 2 ^ 62
+            → seen_event event.entry ≡ verdict MESSAGE_LIMIT T e
+            → Tells (M.stands first) W.Target (M.script first) start T self.old.machine self.old.pending self.old.page.failed self.old.page.block target.old
+            → WroteTold W.Target (M.script first) start earlier self.old.page.failed self.old.page.block target.old
+            → WroteTold W.Target (M.script first) start earlier self.new.page.failed self.new.page.block target.new }
+    {
+        self.pending.take(dir, event.verdict);
+        match refusal(self.machine.is_strict(), event.verdict) {
+            Some(announced) => Err(Fault::Oversize { line, announced }),
+            None => match tell(
+                &mut self.machine,
+                target,
+                &mut self.page,
+                line,
+                micros,
+                dir,
+                event,
+            ) {
+                Ok(()) => Ok(()),
+                Err(_refused) => Err(Fault::Memory),
+            },
+        }
+    }
+}
+
+/// The length that a frame announced, where a run stops for that.
+#[inline(always)]
+fn refusal(strict: bool, verdict: Verdict<'_>) -> Option<u32>
+    ensures { result ≡ stops_for strict (seen_verdict verdict.entry) }
+{
+    if !strict {
+        return None;
+    }
+    match verdict {
+        Verdict::Dropped(reason) => announced(reason),
+        Verdict::Message(_) | Verdict::Began | Verdict::Stored | Verdict::Flow => None,
+    }
+}
+
+/// The length that a dropped frame announced, where it was dropped for that.
+fn announced(reason: Reason) -> Option<u32>
+    ensures { result ≡ announced_by reason }
+{
+    match reason {
+        Reason::TooLong { announced } => Some(announced),
+        Reason::Pdu(_)
+        | Reason::FlowUnexpected
+        | Reason::NextUnexpected
+        | Reason::NextLate
+        | Reason::NextSequence { .. }
+        | Reason::NextLength => None,
+    }
+}
+
+/// Has the machine say what it says of an event.
+#[inline(always)]
+fn tell<M: Machine, W: Target>(
+    machine: &mut M,
+    target: &mut W,
+    page: &mut Page,
+    line: u64,
+    micros: u64,
+    dir: Dir,
+    event: Event<'_>,
+) -> Result<(), AllocError>
+    ensures ok { OnOk result ((start : M) (T : List Entry) (e : Entry) → e.line ≡ line → e.micros ≡ micros → e.dir ≡ dir → length T < 2 ^ 62
+        → seen_event event.entry ≡ verdict MESSAGE_LIMIT T e → M.stands start T machine.old
+        → M.stands start (T ++ e ∷ []) machine.new
+        × Speaks W.Target page.old.failed page.old.block target.old ((M.script start).word T e) page.new.failed page.new.block target.new) }
+    ensures err { OnErr result ((start : M) (T : List Entry) → M.stands start T machine.old
+        → Speaks W.Target page.old.failed page.old.block target.old [] page.new.failed page.new.block target.new) }
+    ensures needs { OnErr result ((start : M) (T : List Entry) (e : Entry) → e.dir ≡ dir → seen_event event.entry ≡ verdict MESSAGE_LIMIT T e
+        → M.stands start T machine.old → M.needs start T e) }
+{
+    let mut out = Drain { target, page };
+    match machine.event(line, micros, dir, event, &mut out) {
+        Ok(()) => Ok(()),
+        Err(refused) => Err(refused),
+    }
+}
+
+/// Has the machine say what it says at the end, and answer.
+fn tell_end<M: Machine, W: Target>(
+    machine: M,
+    target: &mut W,
+    page: &mut Page,
+    pair: &Pair,
+    summary: &Summary,
+) -> Result<M::Answer, Stop>
+    ensures says { (start : M) (T : List Entry) → M.stands start T machine → pair.now.receptions ≡ receptions_after MESSAGE_LIMIT T
+        → KeepsWithin MESSAGE_LIMIT T pair.now
+        → Speaks W.Target page.old.failed page.old.block target.old ((M.script start).last T summary.now) page.new.failed page.new.block target.new }
+    ensures answered { (start : M) (T : List Entry) → M.stands start T machine → pair.now.receptions ≡ receptions_after MESSAGE_LIMIT T
+        → M.answers start T summary.now result }
+{
+    let mut out = Drain { target, page };
+    machine.end(pair, summary, &mut out)
+}
+
+/// Has the machine say what it says of a refusal.
+fn tell_refusal<M: Machine, W: Target>(
+    machine: M,
+    target: &mut W,
+    page: &mut Page,
+    summary: &Summary,
+    why: Fault,
+)
+    ensures says { (start : M) (T : List Entry) → M.stands start T machine
+        → Speaks W.Target page.old.failed page.old.block target.old ((M.script start).refused T summary.now why) page.new.failed page.new.block target.new }
+{
+    let mut out = Drain { target, page };
+    machine.refused(summary, why, &mut out);
+}
+
+/// Writes what is said at the end, and answers. The log ended in a line feed, or not.
+fn finish<M: Machine, W: Target>(
+    receiver: Receiver<M, W>,
+    ended: bool,
+    target: &mut W,
+) -> Result<M::Answer, Fault>
+    ensures ends { (start : W) (first : M) (settings : Settings) (log : List ℕ) (meanings : List (Option StampedValue))
+        → Receives settings meanings receiver.pair receiver.lines receiver.counts → ended ≡ ends_in_line_feed log
+        → Tells (M.stands first) W.Target (M.script first) start (trace settings meanings) receiver.taker.machine receiver.taker.pending
+        receiver.taker.page.failed receiver.taker.page.block target.old
+        → EndsTelling W.Target (M.script first) (M.answers first) start settings log meanings result target.new }
+    ensures more { (mid : W) (said : List ℕ) (first : M) (settings : Settings) (meanings : List (Option StampedValue))
+        → Receives settings meanings receiver.pair receiver.lines receiver.counts → M.stands first (trace settings meanings) receiver.taker.machine
+        → Carries W.Target mid said receiver.taker.page.failed receiver.taker.page.block target.old → Begins (W.taken mid) (W.taken target.new) }
+{
+    let Receiver {
+        pair,
+        lines,
+        counts,
+        taker,
+        ..
+    } = receiver;
+    let Telling {
+        machine,
+        pending,
+        mut page,
+        ..
+    } = taker;
+    let summary = sum_up(&pair, lines, counts, pending.count, ended);
+    let answer = tell_end(machine, target, &mut page, &pair, &summary);
+    if !settle(target, &mut page) {
+        return Err(Fault::Write);
+    }
+    match answer {
+        Ok(value) => Ok(value),
+        Err(Stop::OutputLimit) => Err(Fault::OutputLimit),
+    }
+}

@@ -1,0 +1,81 @@
+//! A command as a machine: what it says of each frame of a log, and at the end.
+ghost use Rattle.std.specs.Prelude.{◌≡◌, ℕ, ◌^◌, ◌<◌, List, [], ◌∷◌, ◌++◌, length, OnOk, OnErr, Result};
+ghost use Rattle.isotp_receive.specs.declared.TheConstants.{MESSAGE_LIMIT};
+ghost use Rattle.isotp_receive.specs.Capacities.{KeepsWithin};
+ghost use Rattle.isotp_receive.specs.EventSeen.{seen_event};
+ghost use Rattle.isotp_receive.specs.StandingReception.{receptions_after};
+ghost use Rattle.isotp_receive.specs.Trace.{Entry};
+ghost use Rattle.isotp_receive.specs.Verdict.{verdict};
+ghost use Rattle.trace_run.specs.Told.{Script};
+ghost use Rattle.trace_run.specs.declared.machine.Stop.{Stop as StopValue};
+ghost use Rattle.trace_log.specs.declared.summary.Summary.{Summary as SummaryValue};
+
+use direction::Dir;
+use isotp_receive::{Event, Pair};
+use std::alloc::AllocError;
+use trace_io::TextSink;
+use trace_log::{Fault, Summary};
+
+/// Why a machine has no answer at the end of a log.
+#[derive(Clone, Copy, Debug)]
+pub enum Stop {
+    /// What it would tell is longer than the limit.
+    OutputLimit,
+}
+
+/// A command's machine. It is handed what each frame did, in order, and the end or why the log is refused, and says its
+/// text. It sees no source and no target.
+pub trait Machine {
+    /// What it answers at the end.
+    type Answer: Drop;
+
+    /// What it is after a trace, by what it was at the start.
+    ghost stands: { Self → List Entry → Self → Type 0 };
+
+    /// What it says, by what it was at the start.
+    ghost script: { Self → Script };
+
+    /// What it may answer at the end of a trace with these counts, by what it was at the start.
+    ghost answers: { Self → List Entry → SummaryValue → Result Self.Answer StopValue → Type 0 };
+
+    /// For which frame it may be refused memory, after a trace.
+    ghost needs: { Self → List Entry → Entry → Type 0 };
+
+    /// Whether a first frame that announces a message above the limit refuses the log, and is not handed to it.
+    fn is_strict(&self) -> bool
+        ensures { (start : Self) (T : List Entry) → stands start T self.now → result ≡ (script start).strict };
+
+    /// Takes what the next frame of the trace did. Where memory is refused, nothing is said.
+    fn event<S: TextSink>(
+        &mut self,
+        line: u64,
+        micros: u64,
+        dir: Dir,
+        event: Event<'_>,
+        out: &mut S,
+    ) -> Result<(), AllocError>
+        ensures ok { OnOk result ((start : Self) (T : List Entry) (e : Entry) → e.line ≡ line → e.micros ≡ micros → e.dir ≡ dir → length T < 2 ^ 62
+            → seen_event event.entry ≡ verdict MESSAGE_LIMIT T e → stands start T self.old
+            → stands start (T ++ e ∷ []) self.new × S.says out.old ((script start).word T e) out.new) }
+        ensures err { OnErr result ((start : Self) (T : List Entry) → stands start T self.old → S.says out.old [] out.new) }
+        ensures needs { OnErr result ((start : Self) (T : List Entry) (e : Entry) → e.dir ≡ dir → seen_event event.entry ≡ verdict MESSAGE_LIMIT T e
+            → stands start T self.old → needs start T e) };
+
+    /// Takes the end of the log: the receptions that stand, in no more memory than they may keep, and the counts.
+    fn end<S: TextSink>(
+        self,
+        pair: &Pair,
+        summary: &Summary,
+        out: &mut S,
+    ) -> Result<Self::Answer, Stop>
+        ensures says { (start : Self) (T : List Entry) → stands start T self → pair.now.receptions ≡ receptions_after MESSAGE_LIMIT T
+            → KeepsWithin MESSAGE_LIMIT T pair.now
+            → S.says out.old ((script start).last T summary.now) out.new }
+        ensures answered { (start : Self) (T : List Entry) → stands start T self → pair.now.receptions ≡ receptions_after MESSAGE_LIMIT T
+            → answers start T summary.now result };
+
+    /// Takes why the log is refused, where a line or the limit of the log refuses it, and the counts of the lines
+    /// before. No event and no end follows. The counts are those of a log that ends in no line feed.
+    fn refused<S: TextSink>(self, summary: &Summary, why: Fault, out: &mut S)
+        ensures says { (start : Self) (T : List Entry) → stands start T self → S.says out.old ((script start).refused T summary.now why) out.new };
+}

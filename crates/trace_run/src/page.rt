@@ -1,0 +1,94 @@
+//! The page that text is gathered on, between a machine and the target.
+ghost use Rattle.std.specs.Prelude.{◌≡◌, ◌^◌, ◌≤◌, [], true, false};
+ghost use Rattle.trace_run.specs.proving.Carrying.{Speaks, Settles, SaysNoMore};
+
+use crate::block::{Block, gather};
+use trace_io::{MOST_FAILURES, Target, TextSink, write_all};
+
+/// Text that is still to be written, and whether writing has failed: nothing is written from then on.
+#[derive(Drop)]
+pub(crate) struct Page {
+    pub block: Block,
+    pub failed: bool,
+}
+
+impl Page {
+    /// A page with nothing on it.
+    pub(crate) fn new() -> Page
+        ensures well { result.failed ≡ false }
+        ensures blank { result.block ≡ [] }
+    {
+        Page {
+            block: Block::new(),
+            failed: false,
+        }
+    }
+}
+
+/// A page beside the target that it is written to.
+#[derive(Drop)]
+pub(crate) struct Drain<'a, W> {
+    pub target: &'a mut W,
+    pub page: &'a mut Page,
+}
+
+impl<'a, W: Target> TextSink for Drain<'a, W> {
+    ghost use Rattle.std.specs.Prelude.{◌≡◌};
+    ghost use Rattle.std.proofs.Common.{refl, ◌∙◌};
+    ghost use Rattle.trace_run.specs.proving.Carrying.{Speaks};
+    ghost use Rattle.trace_run.specs.proving.Drains.{speaks_nothing, speaks_onward};
+
+    ghost says = { λ s text t. (t.target.ghost_name ≡ s.target.ghost_name) × (t.page.ghost_name ≡ s.page.ghost_name)
+        × Speaks W.Target s.page.now.failed s.page.now.block s.target.now text t.page.now.failed t.page.now.block t.target.now };
+
+    ghost nothing = { λ s. (refl, refl, speaks_nothing W.Target s.page.now.failed s.page.now.block s.target.now) };
+
+    ghost onward = { λ s m t a b one two. (
+      two.0 ∙ one.0,
+      two.1 ∙ one.1,
+      speaks_onward W.Target s.page.now.failed m.page.now.failed t.page.now.failed s.page.now.block m.page.now.block t.page.now.block s.target.now m.target.now t.target.now a b one.2 two.2,
+    ) };
+
+    fn put(&mut self, text: &[u8]) {
+        put_text(self.target, self.page, text);
+    }
+}
+
+/// Puts a text on the page, which is written first where it is full.
+fn put_text<W: Target>(target: &mut W, page: &mut Page, text: &[u8])
+    ensures { Speaks W.Target page.old.failed page.old.block target.old text.now page.new.failed page.new.block target.new }
+{
+    if text.is_empty() {
+        return;
+    }
+    if page.failed {
+        return;
+    }
+    if target.failures() > MOST_FAILURES {
+        return;
+    }
+    if let Err(_fault) = gather(target, &mut page.block, text) {
+        page.failed = true;
+    }
+}
+
+/// Writes what is on the page. Answers whether all that was said is written.
+pub(crate) fn settle<W: Target>(target: &mut W, page: &mut Page) -> bool
+    ensures settled { Settles W.Target page.old.failed page.old.block target.old result target.new }
+    ensures well { result ≡ true → page.new.failed ≡ false }
+    ensures blank { result ≡ true → page.new.block ≡ [] }
+    ensures no_more { SaysNoMore W.Target page.old.failed page.old.block target.old page.new.failed page.new.block target.new }
+{
+    if page.failed || target.failures() > MOST_FAILURES {
+        return false;
+    }
+    if page.block.is_empty() {
+        return true;
+    }
+    if let Err(_fault) = write_all(target, page.block.as_slice()) {
+        page.failed = true;
+        return false;
+    }
+    page.block.clear();
+    true
+}

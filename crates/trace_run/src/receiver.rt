@@ -1,0 +1,163 @@
+//! The frames of a log received: what each does, and what is counted.
+ghost use Rattle.std.specs.Prelude.{◌≡◌, ◌^◌, ◌<◌, List, [], ◌∷◌, ◌++◌, length, OnOk, IfErr, Some, true, false};
+ghost use Rattle.can_log.specs.declared.frame.Stamped.{Stamped as StampedValue};
+ghost use Rattle.isotp_receive.specs.declared.TheConstants.{MESSAGE_LIMIT};
+ghost use Rattle.isotp_pdu.specs.Reading.{layout_of};
+ghost use Rattle.isotp_receive.specs.Capacities.{CapacitiesGrow};
+ghost use Rattle.isotp_receive.specs.StandingReception.{receptions_after};
+ghost use Rattle.isotp_receive.specs.Trace.{Entry};
+ghost use Rattle.isotp_receive.specs.Verdict.{verdict};
+ghost use Rattle.trace_run.specs.proving.Carrying.{Tells, StopsTelling, WroteTold};
+ghost use Rattle.trace_log.specs.Summing.{counted_more};
+ghost use Rattle.trace_log.specs.Feeding.{IsOfTaker};
+
+use crate::driver::Telling;
+use crate::machine::Machine;
+use can_log::{Frame, Stamped, Wanted};
+use direction::Dir;
+use isotp_receive::Pair;
+use trace_io::Target;
+use trace_log::{Config, Fault, LineTaker, Summary};
+
+/// Takes one more frame of a direction. A pair asks for memory only where the frame's bytes are kept for a message of
+/// several frames.
+fn receive<M: Machine, W: Target>(
+    pair: &mut Pair,
+    counts: &mut Summary,
+    taker: &mut Telling<M, W>,
+    target: &mut W,
+    line: u64,
+    micros: u64,
+    dir: Dir,
+    frame: &Frame,
+) -> Result<(), Fault>
+    ensures fault { IfErr result IsOfTaker }
+    ensures pair { OnOk result ((T : List Entry) → pair.old.receptions ≡ receptions_after MESSAGE_LIMIT T
+        → pair.new.receptions ≡ receptions_after MESSAGE_LIMIT (T ++ record { line = line; micros = micros; dir = dir; frame = frame.now } ∷ [])) }
+    ensures grew { OnOk result (CapacitiesGrow MESSAGE_LIMIT dir (layout_of frame.now) pair.old pair.new) }
+    ensures counts { OnOk result ((T : List Entry) → pair.old.receptions ≡ receptions_after MESSAGE_LIMIT T
+        → counts.new ≡ counted_more dir (verdict MESSAGE_LIMIT T (record { line = line; micros = micros; dir = dir; frame = frame.now })) counts.old) }
+    ensures ok { OnOk result ((start : W) (first : M) (T : List Entry) → pair.old.receptions ≡ receptions_after MESSAGE_LIMIT T → length T < 2 ^ 62
+        → Tells (M.stands first) W.Target (M.script first) start T taker.old.machine taker.old.pending taker.old.page.failed taker.old.page.block target.old
+        → Tells (M.stands first) W.Target (M.script first) start (T ++ record { line = line; micros = micros; dir = dir; frame = frame.now } ∷ [])
+        taker.new.machine taker.new.pending taker.new.page.failed taker.new.page.block target.new) }
+    ensures err { IfErr result (λ fault. (start : W) (first : M) (T : List Entry) → pair.old.receptions ≡ receptions_after MESSAGE_LIMIT T → length T < 2 ^ 62
+        → Tells (M.stands first) W.Target (M.script first) start T taker.old.machine taker.old.pending taker.old.page.failed taker.old.page.block target.old
+        → StopsTelling W.Target (M.script first) (M.needs first) start T (record { line = line; micros = micros; dir = dir; frame = frame.now }) fault
+        taker.new.page.failed taker.new.page.block target.new) }
+    ensures kept { (start : W) (first : M) (T earlier : List Entry) → pair.old.receptions ≡ receptions_after MESSAGE_LIMIT T → length T < 2 ^ 62
+        → Tells (M.stands first) W.Target (M.script first) start T taker.old.machine taker.old.pending taker.old.page.failed taker.old.page.block target.old
+        → WroteTold W.Target (M.script first) start earlier taker.old.page.failed taker.old.page.block target.old
+        → WroteTold W.Target (M.script first) start earlier taker.new.page.failed taker.new.page.block target.new }
+{
+    match pair.accept(line, micros, dir, frame) {
+        Ok(event) => {
+            counts.count(dir, event);
+            taker.take(target, line, micros, dir, event)
+        }
+        Err(_refused) => Err(Fault::Memory),
+    }
+}
+
+/// The receptions of a log, and what was counted in it.
+#[derive(Drop)]
+pub(crate) struct Receiver<M, W> {
+    pub config: Config,
+    pub pair: Pair,
+    pub lines: u64,
+    pub counts: Summary,
+    pub taker: Telling<M, W>,
+}
+
+impl<M, W> Receiver<M, W> {
+    ghost use Rattle.std.specs.Prelude.{◌≡◌};
+    ghost use Rattle.isotp_receive.specs.Capacities.{new_pair};
+    ghost use Rattle.isotp_receive.specs.declared.TheConstants.{MESSAGE_LIMIT};
+    ghost use Rattle.trace_log.specs.proving.Receiving.{IsReceiverStart};
+
+    /// Before the first line, with a pair that has received no frame and keeps no memory.
+    pub(crate) fn start(config: &Config, pair: Pair, taker: Telling<M, W>) -> Receiver<M, W>
+        requires { pair ≡ new_pair MESSAGE_LIMIT }
+        ensures { IsReceiverStart config.now taker result.config result.pair result.lines result.counts result.taker }
+    {
+        Receiver {
+            config: *config,
+            pair,
+            lines: 0,
+            counts: Summary::nothing(),
+            taker,
+        }
+    }
+}
+
+impl<M: Machine, W: Target> LineTaker for Receiver<M, W> {
+    ghost use Rattle.std.specs.Prelude.{◌≡◌, Some};
+    ghost use Rattle.direction.specs.declared.Dir.{Dir as DirValue};
+    ghost use Rattle.can_log.specs.declared.frame.Stamped.{Stamped as StampedValue};
+    ghost use Rattle.trace_log.specs.Settings.{direction_of};
+    ghost use Rattle.trace_log.specs.Trace.{trace};
+    ghost use Rattle.std.specs.Prelude.{◌≤◌, ◌^◌, [], true, false};
+    ghost use Rattle.trace_run.specs.proving.Carrying.{IsTellingStart, Tells, StopsTelling, WroteTold};
+    ghost use Rattle.trace_log.specs.proving.Receiving.{Receives, entry_in, IsStart};
+
+    type Device = W;
+
+    ghost took = { λ s meanings t. (t.0.config ≡ s.0.config)
+        × (IsStart s.0.pair s.0.lines s.0.counts
+        → Receives s.0.config meanings t.0.pair t.0.lines t.0.counts × (IsTellingStart (M.stands s.0.taker.machine [] s.0.taker.machine) s.0.taker.pending s.0.taker.page.failed s.0.taker.page.block → W.failures s.1 ≤ 2 ^ 62
+        → Tells (M.stands s.0.taker.machine) W.Target (M.script s.0.taker.machine) s.1 (trace s.0.config meanings) t.0.taker.machine t.0.taker.pending t.0.taker.page.failed t.0.taker.page.block t.1)) };
+
+    ghost rested = { λ s meanings t. (t.0.config ≡ s.0.config)
+        × (IsStart s.0.pair s.0.lines s.0.counts
+        → Receives s.0.config meanings t.0.pair t.0.lines t.0.counts × (IsTellingStart (M.stands s.0.taker.machine [] s.0.taker.machine) s.0.taker.pending s.0.taker.page.failed s.0.taker.page.block → W.failures s.1 ≤ 2 ^ 62
+        → Tells (M.stands s.0.taker.machine) W.Target (M.script s.0.taker.machine) s.1 (trace s.0.config meanings) t.0.taker.machine t.0.taker.pending false [] t.1)) };
+
+    ghost broke = { λ s meanings t. (t.0.config ≡ s.0.config)
+        × (IsStart s.0.pair s.0.lines s.0.counts
+        → Receives s.0.config meanings t.0.pair t.0.lines t.0.counts × (IsTellingStart (M.stands s.0.taker.machine [] s.0.taker.machine) s.0.taker.pending s.0.taker.page.failed s.0.taker.page.block → W.failures s.1 ≤ 2 ^ 62
+        → Tells (M.stands s.0.taker.machine) W.Target (M.script s.0.taker.machine) s.1 (trace s.0.config meanings) t.0.taker.machine t.0.taker.pending true [] t.1)) };
+
+    ghost stopped = { λ s meanings what fault t. IsStart s.0.pair s.0.lines s.0.counts
+        → (stamped : StampedValue) × (d : DirValue) × (what ≡ Some stamped) × (Some d ≡ direction_of s.0.config stamped.frame.id)
+        × (IsTellingStart (M.stands s.0.taker.machine [] s.0.taker.machine) s.0.taker.pending s.0.taker.page.failed s.0.taker.page.block → W.failures s.1 ≤ 2 ^ 62
+        → StopsTelling W.Target (M.script s.0.taker.machine) (M.needs s.0.taker.machine) s.1 (trace s.0.config meanings) (entry_in meanings stamped d) fault t.0.taker.page.failed t.0.taker.page.block t.1) };
+
+    ghost sure = { λ s first t. IsStart s.0.pair s.0.lines s.0.counts → IsTellingStart (M.stands s.0.taker.machine [] s.0.taker.machine) s.0.taker.pending s.0.taker.page.failed s.0.taker.page.block → W.failures s.1 ≤ 2 ^ 62
+        → WroteTold W.Target (M.script s.0.taker.machine) s.1 (trace s.0.config first) t.0.taker.page.failed t.0.taker.page.block t.1 };
+
+    ghost wants = { λ s first second. (first ≡ s.config.tester) × (second ≡ s.config.unit) };
+
+    #[inline(always)]
+    fn wanted(&self) -> Option<&Wanted> {
+        Some(self.config.wanted())
+    }
+
+    #[inline(always)]
+    fn pass(&mut self, line: u64) {
+        self.lines = line;
+    }
+
+    fn rest(&mut self, device: &mut W) -> bool {
+        self.taker.rest(device)
+    }
+
+    fn take(&mut self, device: &mut W, line: u64, what: &Option<Stamped>) -> Result<(), Fault> {
+        self.lines = line;
+        let Some(stamped) = what else {
+            return Ok(());
+        };
+        let Some(dir) = self.config.direction_of(stamped.frame.id()) else {
+            return Ok(());
+        };
+        receive(
+            &mut self.pair,
+            &mut self.counts,
+            &mut self.taker,
+            device,
+            line,
+            stamped.micros,
+            dir,
+            &stamped.frame,
+        )
+    }
+}

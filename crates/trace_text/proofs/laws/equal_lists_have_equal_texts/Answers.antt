@@ -1,0 +1,5 @@
+use Rattle.trace_text.proofs.EqualLists.{equal_lists_have_equal_texts}
+use Rattle.trace_text.proofs.laws.equal_lists_have_equal_texts.Goals as goal
+
+pub returns : goal.returns
+returns c = equal_lists_have_equal_texts

@@ -1,0 +1,7 @@
+pub mod Words
+pub mod Parts
+pub mod Json
+pub mod ListText
+pub mod ExplainText
+pub mod Laws
+pub mod proving

@@ -1,0 +1,130 @@
+//! The text of a meaning, said item by item.
+ghost use Rattle.std.specs.Prelude.{◌++◌, codes, option_map};
+ghost use Rattle.uds_exchange.specs.ItemSeen.{lent_value};
+ghost use Rattle.trace_text.specs.ListText.{item_line, worded_line, item_text, list_text, number_text, outcome_line};
+
+use crate::item_objects::say_item_object;
+use crate::names::direction_name;
+use crate::notation::Notation;
+use crate::parts::Part;
+use crate::say::say_parts;
+use trace_io::TextSink;
+use uds_exchange::{LentItem, Meaning};
+use uds_message::{is_negative_response, is_suppressing, response_code, sid};
+
+/// Whether the lines of items have numbers.
+#[derive(Clone, Copy, Debug, PartialEq, Eq)]
+pub enum Numbering {
+    /// Each begins with the number of its item, counted from 1.
+    Shown,
+    /// None does, so that a line is the same wherever its item stands.
+    Hidden,
+}
+
+/// How the lines of items are written.
+#[derive(Clone, Copy, Debug, PartialEq, Eq)]
+pub struct ItemStyle {
+    pub numbering: Numbering,
+    pub notation: Notation,
+}
+
+/// Says the line of each item, in order.
+pub fn say_items<S: TextSink>(meaning: &Meaning, style: ItemStyle, out: &mut S)
+    ensures { S.says out.old (list_text style meaning.now) out.new }
+{
+    'items: for i in 0..meaning.len() {
+        if let Some(item) = meaning.item(i) {
+            say_item(i as u64 + 1, style, item.lent(), out);
+        }
+    }
+}
+
+/// Says the line of an item, which has this number.
+pub fn say_item<S: TextSink>(number: u64, style: ItemStyle, item: LentItem<'_>, out: &mut S)
+    ensures { S.says out.old (item_line style number (lent_value item.entry)) out.new }
+{
+    match style.notation {
+        Notation::Text => say_worded(number, style.numbering, item, out),
+        Notation::Json => {
+            say_item_object(number, style.numbering, item, out);
+            say_parts(out, &[Part::Text("\n")]);
+        }
+    }
+}
+
+/// The same in words.
+pub fn say_worded<S: TextSink>(number: u64, numbering: Numbering, item: LentItem<'_>, out: &mut S)
+    ensures { S.says out.old (worded_line numbering number (lent_value item.entry)) out.new }
+{
+    say_number(number, numbering, out);
+    say_unnumbered(item, out);
+}
+
+/// Says the number of an item, where it is shown.
+fn say_number<S: TextSink>(number: u64, numbering: Numbering, out: &mut S)
+    ensures { S.says out.old (number_text numbering number) out.new }
+{
+    match numbering {
+        Numbering::Shown => say_parts(out, &[Part::Number(number), Part::Text(" ")]),
+        Numbering::Hidden => {}
+    }
+}
+
+/// Says what an item is, to the end of its line.
+fn say_unnumbered<S: TextSink>(item: LentItem<'_>, out: &mut S)
+    ensures { S.says out.old (item_text (lent_value item.entry) ++ codes "\n") out.new }
+{
+    match item {
+        LentItem::Exchange { request, answer } => {
+            say_parts(
+                out,
+                &[
+                    Part::Text("exchange "),
+                    Part::Service(sid(request)),
+                    Part::Text(" "),
+                    Part::Bytes(request),
+                    Part::Text(" -> "),
+                ],
+            );
+            say_outcome(request, answer, out);
+        }
+        LentItem::Stray { dir, bytes } => say_parts(
+            out,
+            &[
+                Part::Text("stray "),
+                Part::Text(direction_name(dir)),
+                Part::Text(" "),
+                Part::Bytes(bytes),
+                Part::Text("\n"),
+            ],
+        ),
+    }
+}
+
+/// Says what came of a request, to the end of its line.
+fn say_outcome<S: TextSink>(request: &[u8], answer: Option<&[u8]>, out: &mut S)
+    ensures { S.says out.old (outcome_line request.now (option_map (λ reply. reply.now) answer.entry)) out.new }
+{
+    match answer {
+        None if is_suppressing(request) => say_parts(out, &[Part::Text("silent\n")]),
+        None => say_parts(out, &[Part::Text("unanswered\n")]),
+        Some(reply) if is_negative_response(reply) => say_parts(
+            out,
+            &[
+                Part::Text("negative "),
+                Part::Code(response_code(reply)),
+                Part::Text(" "),
+                Part::Bytes(reply),
+                Part::Text("\n"),
+            ],
+        ),
+        Some(reply) => say_parts(
+            out,
+            &[
+                Part::Text("positive "),
+                Part::Bytes(reply),
+                Part::Text("\n"),
+            ],
+        ),
+    }
+}

@@ -1,0 +1,13 @@
+//! What lists of items promise, for the crates above.
+ghost use Rattle.trace_text.specs.Laws.{UnnumberedListsJoin, EqualListsHaveEqualTexts};
+
+/// The lists of items without numbers, one after another, are the list of all: so an item more is a line more, and
+/// changes no other.
+pub fn unnumbered_lists_join()
+    ensures { UnnumberedListsJoin }
+{}
+
+/// Lists of items have one text exactly where they are equal: in words and as JSON, with numbers and without.
+pub fn equal_lists_have_equal_texts()
+    ensures { EqualListsHaveEqualTexts }
+{}

@@ -1,0 +1,22 @@
+//! The texts that commands share: names, numbers, the lines of items and of what became of frames, in words and as
+//! JSON.
+//!
+//! All are said to a [`TextSink`](trace_io::TextSink), part by part (`say`, `parts`). Which text it is, `specs` says,
+//! for JSON by the object that is meant. [`say_items`] says the list of a meaning, [`say_remark`] a line that
+//! explains a log; [`laws`] says that equal lists have equal texts, and only they.
+#![tactic(auto)]
+
+mod item_lines;
+mod item_objects;
+pub mod laws;
+pub mod names;
+mod notation;
+pub mod parts;
+mod remark;
+mod remark_objects;
+pub mod say;
+
+pub use item_lines::{ItemStyle, Numbering, say_item, say_items, say_worded};
+pub use item_objects::say_item_object;
+pub use notation::Notation;
+pub use remark::{Remark, say_remark};

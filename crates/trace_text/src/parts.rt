@@ -1,0 +1,112 @@
+//! The parts of a line of text.
+ghost use Rattle.std.specs.Prelude.{◌≡◌, ◌^◌, ◌<◌, ◌≤◌, ◌++◌, ◌%◌, codes};
+ghost use Rattle.can_log.specs.Digits.{decimal, digit, hexadecimal};
+
+/// The hexadecimal digits.
+const DIGITS: [u8; 16] = *b"0123456789ABCDEF";
+
+/// A part of a line.
+#[derive(Clone, Copy)]
+pub enum Part<'a> {
+    /// The text as it is.
+    Text(&'static str),
+    /// The number in decimal.
+    Number(u64),
+    /// The number of what is at this place, counted from 1.
+    Place(usize),
+    /// A number below 16, as one hexadecimal digit.
+    Digit(u8),
+    /// The last six decimal digits of the number.
+    Decimals(u64),
+    /// The bytes as they are.
+    Spelled(&'a [u8]),
+    /// Two hexadecimal digits for each byte.
+    Bytes(&'a [u8]),
+    /// The name of the service.
+    Service(u8),
+    /// The name of the response code.
+    Code(u8),
+}
+
+/// What is written for a service that has no name.
+#[tactic(auto, unfolding(can_log::specs::Digits::digits))]
+pub(crate) fn numbered_service(sid: u8) -> [u8; 10]
+    ensures { result ≡ codes "service_" ++ hexadecimal 2 sid }
+{
+    let [high, low] = hexadecimal_digits(sid);
+    [b's', b'e', b'r', b'v', b'i', b'c', b'e', b'_', high, low]
+}
+
+/// What is written for a response code that has no name.
+#[tactic(auto, unfolding(can_log::specs::Digits::digits))]
+pub(crate) fn numbered_code(code: u8) -> [u8; 7]
+    ensures { result ≡ codes "code_" ++ hexadecimal 2 code }
+{
+    let [high, low] = hexadecimal_digits(code);
+    [b'c', b'o', b'd', b'e', b'_', high, low]
+}
+
+/// The last hexadecimal digit of a number.
+#[tactic(auto, unfolding(can_log::specs::Digits::digits))]
+pub(crate) fn last_digit(number: u8) -> [u8; 1]
+    ensures { result ≡ hexadecimal 1 number }
+{
+    [hexadecimal_digit(number % 16)]
+}
+
+/// The last six decimal digits of a number.
+#[tactic(auto, unfolding(can_log::specs::Digits::digits))]
+pub(crate) fn six_decimals(number: u64) -> [u8; 6]
+    ensures { result ≡ decimal 6 number }
+{
+    let tens = number / 10;
+    let hundreds = tens / 10;
+    let thousands = hundreds / 10;
+    let ten_thousands = thousands / 10;
+    let hundred_thousands = ten_thousands / 10;
+    [
+        decimal_digit(hundred_thousands),
+        decimal_digit(ten_thousands),
+        decimal_digit(thousands),
+        decimal_digit(hundreds),
+        decimal_digit(tens),
+        decimal_digit(number),
+    ]
+}
+
+/// The last three decimal digits of a number.
+#[tactic(auto, unfolding(can_log::specs::Digits::digits))]
+pub(crate) fn three_decimals(number: u64) -> [u8; 3]
+    ensures { result ≡ decimal 3 number }
+{
+    let tens = number / 10;
+    let hundreds = tens / 10;
+    [
+        decimal_digit(hundreds),
+        decimal_digit(tens),
+        decimal_digit(number),
+    ]
+}
+
+/// The last decimal digit of a number.
+fn decimal_digit(number: u64) -> u8
+    ensures { result ≡ digit (number % 10) }
+{
+    DIGITS[(number % 10) as usize]
+}
+
+/// The two digits of a byte.
+#[tactic(auto, unfolding(can_log::specs::Digits::digits))]
+pub(crate) fn hexadecimal_digits(byte: u8) -> [u8; 2]
+    ensures { result ≡ hexadecimal 2 byte }
+{
+    [hexadecimal_digit(byte / 16), hexadecimal_digit(byte % 16)]
+}
+
+/// The digit of a number below 16, in upper case.
+fn hexadecimal_digit(number: u8) -> u8
+    requires { number < 16 }
+    ensures { result ≡ digit number }
+{
+    DIGITS[usize::from(number)]
+}

@@ -1,0 +1,158 @@
+//! What a line that explains a log tells.
+ghost use Rattle.trace_text.specs.ExplainText.{counts_text, reason_line, remark_line, remark_text, summary_line};
+ghost use Rattle.trace_log.specs.Summing.{seen_counts};
+ghost use Rattle.trace_text.specs.declared.remark.Remark.TheVariants as remark;
+
+use crate::names::{cause_name, direction_name, layout_fault_name};
+use crate::notation::Notation;
+use crate::parts::Part;
+use crate::remark_objects::say_remark_object;
+use crate::say::{say_counts, say_parts, say_text};
+use direction::Dir;
+use isotp_receive::{Ended, Reason};
+use trace_io::TextSink;
+use trace_log::{Count, Summary};
+
+/// What one line of `explain` tells, in words or as an object of JSON.
+#[derive(Clone, Copy, Debug)]
+pub enum Remark {
+    /// The frame of this line ended a reception.
+    Ended { line: u64, ended: Ended },
+    /// The frame of this line, which this side sent, was dropped.
+    Dropped { line: u64, dir: Dir, reason: Reason },
+    /// A reception stands at the end of the log: its direction, the line of its first frame and the bytes that this announced.
+    Unfinished { dir: Dir, line: u64, len: u32 },
+    /// The counts of the log.
+    Counts(Summary),
+}
+
+/// Says the line of a remark.
+pub fn say_remark<S: TextSink>(notation: Notation, told: Remark, out: &mut S)
+    ensures { S.says out.old (remark_text notation told) out.new }
+{
+    match notation {
+        Notation::Text => say_remark_line(told, out),
+        Notation::Json => say_remark_object(told, out),
+    }
+}
+
+/// Says it in words.
+fn say_remark_line<S: TextSink>(told: Remark, out: &mut S)
+    ensures { S.says out.old (remark_line told) out.new }
+{
+    match told {
+        Remark::Ended { line, ended } => say_ended_line(line, ended, out),
+        Remark::Dropped { line, dir, reason } => say_dropped_line(line, dir, reason, out),
+        Remark::Unfinished { dir, line, len } => say_unfinished_line(dir, line, len, out),
+        Remark::Counts(summary) => say_summary_line(&summary, out),
+    }
+}
+
+/// Says the line of a reception that a frame ended.
+fn say_ended_line<S: TextSink>(line: u64, ended: Ended, out: &mut S)
+    ensures { S.says out.old (remark_line (remark.Ended line ended)) out.new }
+{
+    say_parts(
+        out,
+        &[
+            Part::Text("line "),
+            Part::Number(line),
+            Part::Text(": "),
+            Part::Text(direction_name(ended.dir)),
+            Part::Text(" reception from line "),
+            Part::Number(ended.begun_line),
+            Part::Text(" of "),
+            Part::Number(u64::from(ended.len)),
+            Part::Text(" bytes ended: "),
+            Part::Text(cause_name(ended.cause)),
+            Part::Text("\n"),
+        ],
+    );
+}
+
+/// Says the line of a dropped frame.
+fn say_dropped_line<S: TextSink>(line: u64, dir: Dir, reason: Reason, out: &mut S)
+    ensures { S.says out.old (remark_line (remark.Dropped line dir reason)) out.new }
+{
+    say_parts(
+        out,
+        &[
+            Part::Text("line "),
+            Part::Number(line),
+            Part::Text(": "),
+            Part::Text(direction_name(dir)),
+            Part::Text(" frame dropped: "),
+        ],
+    );
+    say_reason(reason, out);
+}
+
+/// Says why a frame was dropped, to the end of its line.
+fn say_reason<S: TextSink>(reason: Reason, out: &mut S)
+    ensures { S.says out.old (reason_line reason) out.new }
+{
+    match reason {
+        Reason::Pdu(fault) => say_parts(
+            out,
+            &[Part::Text(layout_fault_name(fault)), Part::Text("\n")],
+        ),
+        Reason::FlowUnexpected => say_parts(out, &[Part::Text("flow control unexpected\n")]),
+        Reason::NextUnexpected => say_parts(out, &[Part::Text("consecutive frame unexpected\n")]),
+        Reason::NextLate => say_parts(out, &[Part::Text("consecutive frame late\n")]),
+        Reason::NextSequence { expected, found } => say_parts(
+            out,
+            &[
+                Part::Text("sequence number "),
+                Part::Digit(expected),
+                Part::Text(" expected, "),
+                Part::Digit(found),
+                Part::Text(" found\n"),
+            ],
+        ),
+        Reason::NextLength => say_parts(out, &[Part::Text("consecutive frame length\n")]),
+        Reason::TooLong { announced } => say_parts(
+            out,
+            &[
+                Part::Number(u64::from(announced)),
+                Part::Text(" bytes announced\n"),
+            ],
+        ),
+    }
+}
+
+/// Says the line of a reception that stands at the end.
+fn say_unfinished_line<S: TextSink>(dir: Dir, line: u64, len: u32, out: &mut S)
+    ensures { S.says out.old (remark_line (remark.Unfinished dir line len)) out.new }
+{
+    say_parts(
+        out,
+        &[
+            Part::Text("end: "),
+            Part::Text(direction_name(dir)),
+            Part::Text(" reception from line "),
+            Part::Number(line),
+            Part::Text(" of "),
+            Part::Number(u64::from(len)),
+            Part::Text(" bytes unfinished\n"),
+        ],
+    );
+}
+
+/// Says the line of the counts.
+fn say_summary_line<S: TextSink>(summary: &Summary, out: &mut S)
+    ensures { S.says out.old (summary_line summary.now) out.new }
+{
+    say_counts_words(&summary.named(), out);
+    say_text(out, "\n");
+}
+
+/// Says counts, each but the first behind a space.
+fn say_counts_words<S: TextSink>(counts: &[Count], out: &mut S)
+    ensures { S.says out.old (counts_text (seen_counts counts.now)) out.new }
+{
+    let Some((first, later)) = counts.split_first() else {
+        return;
+    };
+    say_counts("", " ", &[*first], out);
+    say_counts(" ", " ", later, out);
+}
