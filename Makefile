@@ -68,6 +68,7 @@ test: build lib
 	@python3 tests/report.py $(PROGRAM)
 	@python3 tests/report_pairs.py $(PROGRAM)
 	@python3 tests/documents.py
+	@python3 tests/make_check.py
 	@python3 tests/shipped.py $(PROGRAM)
 	@python3 tests/recipes.py $(PROGRAM) $(LIBRARY)
 	@python3 tests/release.py $(PROGRAM) $(LIBRARY)

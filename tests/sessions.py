@@ -14,7 +14,7 @@ import subprocess
 import sys
 import tempfile
 from collections import Counter, namedtuple
-from concurrent.futures import ThreadPoolExecutor
+from concurrent.futures import ProcessPoolExecutor
 from functools import partial
 
 import commands
@@ -626,7 +626,7 @@ def main():
     if len(sys.argv) != 2:
         sys.exit(__doc__)
     cases = Cases(os.path.abspath(sys.argv[1]))
-    with tempfile.TemporaryDirectory() as folder, ThreadPoolExecutor() as workers:
+    with tempfile.TemporaryDirectory() as folder, ProcessPoolExecutor() as workers:
         program = Program(cases.program, Refuser(folder))
         kinds = [
             sessions, places, pages, commands_of_rows, decided_items, pairs_found, logs_without_message, frames_without_part, refused_lines, recording_that_breaks_off, names_listed,

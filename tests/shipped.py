@@ -1,7 +1,7 @@
 #!/usr/bin/env python3
 """Tests of what is shipped beside the program: its manual page has below each heading every command and option that its help
 names, and its completions offer them, `make install` and `make uninstall` know the same files, a release has program and
-library, `make run` and `make build` tell what they do, and `make check` does each step after those that it waits for.
+library, and `make run` and `make build` tell what they do.
 
     tests/shipped.py crates/udsnorm/out/udsnorm
 
@@ -17,6 +17,7 @@ import tempfile
 from pathlib import Path
 
 from cases import Cases
+from making import make
 from commands import all_commands, help_of, named_in, options_of
 from runs import differences
 from tables import EXAMPLES
@@ -130,15 +131,6 @@ def shells_complete(cases):
         cases.report(f"{shell} completes commands and options", wrong)
 
 
-# Also where `make test` runs this, the `make` below is the first one: it takes no words of the other, and its messages have no level.
-OUTERMOST = {name: value for name, value in os.environ.items() if name not in ("MAKEFLAGS", "MAKELEVEL", "MFLAGS")} | {"LC_ALL": "C"}
-
-
-def make(*words, **environment):
-    done = subprocess.run(["make", "-s", "-C", TOP, *words], capture_output=True, text=True, timeout=60, env=OUTERMOST | environment)
-    return done.returncode, done.stdout, done.stderr
-
-
 def install_is_undone(cases):
     """Each file that `make install` puts somewhere is one that `make uninstall` removes."""
     plan, wrong = {}, []
@@ -191,92 +183,13 @@ def make_build_tells_its_begin_and_end(cases):
         cases.report(f"make build {name}", [] if (found[0] == 0) == (status == 0) and found[1] == "" and is_told else [str(found)])
 
 
-# Stand for `rt` and `python3` where `make check` is tried: `rt` fails in this crate and with these words, and of the tests none
-# is run.
-FAILING_RT = """#!/bin/sh
-[ "${PWD##*/} $*" != "%s" ] && exit
-echo 'a goal is not proved that the answer depends on' >&2
-echo 'error: no proof' >&2
-exit 1
-"""
-IDLE_PYTHON = f"""#!/bin/sh
-case "$1" in tests/*) exit;; esac
-exec '{sys.executable}' "$@"
-"""
-
-# What `make check` does of a change of uds_message, each step with those of the steps that it comes after.
-OF_LIBRARIES = {
-    "uds_message: rt fmt": [],
-    "uds_message: proofs": ["uds_message: rt fmt"],
-    "uds_exchange: proofs": ["uds_message: proofs"],
-    "uds_find: proofs": ["uds_message: proofs"],
-    "trace_canon: proofs": ["uds_exchange: proofs", "uds_find: proofs"],
-    "trace_report: proofs": ["trace_canon: proofs"],
-}
-OF_PROGRAM = {"udsnorm: make build": ["trace_report: proofs"]}
-OF_PROGRAM |= {f"tests/{test}.py": ["udsnorm: make build"] for test in ["command_line", "program", "sessions", "shipped", "recipes", "release"]}
-OF_THE_REST = {
-    "tests/documents.py": [],
-    "json_reading: proofs": ["trace_canon: proofs"],
-    "udsnorm_c: proofs": ["trace_canon: proofs"],
-    "layer_bench: proofs": ["uds_exchange: proofs"],
-    "acceptance: proofs": ["trace_report: proofs"],
-    "refused_memory: proofs": ["trace_report: proofs"],
-}
-ALL_STEPS = OF_LIBRARIES | OF_PROGRAM | OF_THE_REST
-
-
-def waiting_for(failing):
-    """The steps that don't begin where this one fails."""
-    direct = {step for step, before in ALL_STEPS.items() if failing in before}
-    return direct.union(*(waiting_for(step) for step in direct))
-
-
-def check_told(cases, crate, failing):
-    """The status of `make check` of a crate with another `rt`, the steps that it told, and its lines about one that failed."""
-    with tempfile.TemporaryDirectory() as folder:
-        for name, text in [("rt", FAILING_RT % failing), ("python3", IDLE_PYTHON)]:
-            stub = Path(folder, name)
-            stub.write_text(text)
-            stub.chmod(0o755)
-        path = f"{folder}:{os.environ['PATH']}"
-        status, output, _ = make("check", f"CRATE={crate}", f"PROGRAM_CRATE={folder}/udsnorm", PATH=path)
-    lines = [re.sub(r" +(failed after )?\d+\.\d s$", r" \1", line) for line in output.splitlines()]
-    failed = next((n for n, line in enumerate(lines) if line.endswith(" failed after ")), len(lines))
-    return status, [line.rstrip() for line in lines[:failed]], lines[failed:]
-
-
-def make_check_goes_upwards(cases):
-    """`make check` with another `rt`: each step comes after those that it waits for, and none is left out; where one fails, what
-    waits for it does not begin, and the check ends."""
-    status, told, _ = check_told(cases, "uds_message", "")
-    end, *steps = reversed(told)
-    wrong = [] if status == 0 and end.startswith("uds_message is checked") else [f"status {status}, {end}"]
-    wrong += sorted({*steps} ^ {*ALL_STEPS}) if len(steps) == len(ALL_STEPS) else [f"{len(steps)} steps"]
-    wrong += [f"{step} before {first}" for n, step in enumerate(steps) for first in ALL_STEPS.get(step, []) if first not in steps[n:]]
-    cases.report("make check of uds_message", wrong)
-    for failing, step in [
-        ("uds_message fmt", "uds_message: rt fmt"),
-        ("uds_exchange lib", "uds_exchange: proofs"),
-        ("trace_report lib", "trace_report: proofs"),
-        ("udsnorm run", "udsnorm: make build"),
-        ("acceptance test", "acceptance: proofs"),
-    ]:
-        status, told, failed = check_told(cases, "uds_message", failing)
-        file = step.replace(": ", "-").replace(" ", "-")
-        want = [f"{step} failed after ", "  error: no proof", f"The whole output is in out/check/{file}.txt"]
-        wrong = [] if status and failed[:3] == want else [f"status {status}, {failed}"]
-        wrong += sorted({*told} & waiting_for(step)) + [f"no {before}" for before in ALL_STEPS[step] if before not in told]
-        cases.report(f"make check of uds_message where {step} fails", wrong)
-
-
 def main():
     if len(sys.argv) != 2:
         sys.exit(__doc__)
     cases = Cases(os.path.abspath(sys.argv[1]))
     for test in [
         names_are_complete, manual_is_well_formed, shells_complete, install_is_undone, releases_have_program_and_library,
-        make_run_tells_what_the_program_says, make_build_tells_its_begin_and_end, make_check_goes_upwards,
+        make_run_tells_what_the_program_says, make_build_tells_its_begin_and_end,
     ]:
         test(cases)
     cases.end()
