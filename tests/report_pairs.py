@@ -439,6 +439,11 @@ def names(cases):
             cases.report(f"logs in files {left[:40]!r} and {right[:40]!r}", name_faults(cases, ["--", left, right], folder))
             cases.report("the same by whole paths", name_faults(cases, [f"{folder}/{left}", f"{folder}/{right}"], folder))
         cases.report("one file named twice", name_faults(cases, ["a.log", "a.log"], folder))
+        for words in [("folder/a.log", "folder/inner/a.log"), ("a.log", "folder/a.log"), ("a.log", "./a.log")]:
+            for path in words:
+                Path(folder, path).write_bytes(VIN)
+            wanted = report_oracle.pair_reported(VIN, VIN, names=[path.encode() for path in words])
+            cases.report(f"logs of one name by their paths: {words}", page_differences(cases.run(["report", *words], cwd=folder), wanted))
 
 
 def name_faults(cases, words, folder):

@@ -13,7 +13,7 @@ use Rattle.trace_io.specs.declared.device.Target.{Ghosts as TargetGhosts}
 use Rattle.udsnorm.specs.Asked.{Did, DidAsked, DidWords, IsDone, IsDoneBy, ToldWords}
 use Rattle.udsnorm.specs.Ending.{flushes, has_unclean, is_unclean, status_of_run_of_two}
 use Rattle.udsnorm.specs.Commands.{EngineAnswers, PairEngineAnswers}
-use Rattle.udsnorm.specs.Values.{page_name}
+use Rattle.udsnorm.specs.Values.{page_name, page_name_beside}
 use Rattle.udsnorm.specs.Run.{RanOne, RanTwo}
 use Rattle.udsnorm.specs.Telling.{WroteText}
 use Rattle.udsnorm.specs.declared.commands.Job.{Job}
@@ -74,7 +74,7 @@ done_by file source output errors (Ok (Two job strict settings left right)) befo
     let other = file.given found.other_left in
     let engine = ran.engine one other (agrees_from_start (file.given found.one) one (file.is_over found.one_left) found.from_start)
     (agrees_from_start (file.given found.other) other (file.is_over found.other_left) found.from_start_too) in
-    let done = same_of_done output job (page_name (Some (string_bytes left))) (page_name (Some (string_bytes right))) strict ran.wrote settings one other ran.answer ran.text status old new engine
+    let done = same_of_done output job (page_name_beside (string_bytes left) (string_bytes right)) (page_name_beside (string_bytes right) (string_bytes left)) strict ran.wrote settings one other ran.answer ran.text status old new engine
     ran.status_is ran.output_is zero in
     (one, other, ran.text, done.0, done.1, done.2, done.3, done.4)
 done_by file source output errors (Ok (Two job strict settings left right)) before old unsaid status known after new said log (same, inr (inl unopened)) zero grown =

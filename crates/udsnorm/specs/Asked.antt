@@ -18,7 +18,7 @@ use Rattle.udsnorm.specs.Ending.{has_unclean, is_unclean}
 use Rattle.udsnorm.specs.Known.{IsKnownBy, IsKnownByTwo, IsKnownUnopened}
 use Rattle.udsnorm.specs.Run.{RanOne, RanTwo}
 use Rattle.udsnorm.specs.Telling.{TookText}
-use Rattle.udsnorm.specs.Values.{page_name}
+use Rattle.udsnorm.specs.Values.{page_name, page_name_beside}
 use Rattle.udsnorm.specs.Words.{IsPlanned}
 use Rattle.udsnorm.specs.declared.commands.Job.{Job}
 use Rattle.udsnorm.specs.declared.pair_jobs.PairAnswer.{PairAnswer}
@@ -95,7 +95,7 @@ Did file source output errors (One job strict settings (Some name)) before old u
     (after ≡ before) × (RanFile file output errors job (page_name (Some (string_bytes name))) strict MESSAGE_LIMIT settings old unsaid status known new said
     ⊎ Unopened errors (fault_line Read) First old unsaid status known new said)
 Did file source output errors (Two job strict settings left right) before old unsaid status known after new said =
-    (after ≡ before) × (RanFiles file output errors job (page_name (Some (string_bytes left))) (page_name (Some (string_bytes right))) strict MESSAGE_LIMIT settings old unsaid status known new said
+    (after ≡ before) × (RanFiles file output errors job (page_name_beside (string_bytes left) (string_bytes right)) (page_name_beside (string_bytes right) (string_bytes left)) strict MESSAGE_LIMIT settings old unsaid status known new said
     ⊎ (Unopened errors (side_line (Left Read)) First old unsaid status known new said ⊎ (Unopened errors (side_line (Right Read)) Second old unsaid status known new said
     ⊎ OneStream errors old unsaid status known new said)))
 
@@ -120,7 +120,7 @@ IsDoneBy (Ok (One job strict settings (Some name))) log before after =
     (one : List ℕ) × (summary : Summary) × (is_unclean strict summary ≡ false) × EngineAnswers job (page_name (Some (string_bytes name))) MESSAGE_LIMIT settings one (length one) (Ok summary) before after
 IsDoneBy (Ok (Two job strict settings left right)) log before after =
     (one other text : List ℕ) × (pair : PairAnswer) × (has_unclean strict pair ≡ false) × (pair.comparison ≡ Same)
-    × PairEngineAnswers job (page_name (Some (string_bytes left))) (page_name (Some (string_bytes right))) strict MESSAGE_LIMIT settings one other (Ok pair) text
+    × PairEngineAnswers job (page_name_beside (string_bytes left) (string_bytes right)) (page_name_beside (string_bytes right) (string_bytes left)) strict MESSAGE_LIMIT settings one other (Ok pair) text
     × (after ≡ before ++ text)
 IsDoneBy (Err (words.Help text)) log before after = after ≡ before ++ string_bytes text
 IsDoneBy (Err (words.Words text)) log before after = ⊥

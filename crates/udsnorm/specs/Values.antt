@@ -63,3 +63,7 @@ limit_in rows = number_of (one_of (codes "limit") rows)
 abbrev pub page_name : Option Text → List ℕ
 page_name None = codes "standard input"
 page_name (Some path) = unwrap_or (path_file_name path) path
+
+-- what a page of two logs calls the log of this file beside that of the other: its path, where both files have one name
+abbrev pub page_name_beside : Text → Text → List ℕ
+page_name_beside path other = if bytes_eq (page_name (Some path)) (page_name (Some other)) then path else page_name (Some path)

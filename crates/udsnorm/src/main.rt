@@ -22,7 +22,7 @@ ghost use Rattle.udsnorm.specs.Commands.{words_or_normalise};
 ghost use Rattle.udsnorm.specs.Known.{IsKnownUnopened};
 ghost use Rattle.udsnorm.specs.Status.{status_of};
 ghost use Rattle.udsnorm.specs.Telling.{TookText};
-ghost use Rattle.udsnorm.specs.Values.{page_name as page_name_of};
+ghost use Rattle.udsnorm.specs.Values.{page_name as page_name_of, page_name_beside as page_name_of_two};
 
 mod command;
 mod commands;
@@ -50,7 +50,7 @@ use crate::pair_jobs::PairJob;
 use crate::run::{run_one, run_two};
 use crate::stream::is_one_stream;
 use crate::tell::{tell, tell_fault, tell_one_stream, tell_side};
-use crate::values::page_name;
+use crate::values::{page_name, page_name_beside};
 use crate::words::plan;
 use std::env::Env;
 use std::io::{ErrorKind, Input, IsTerminal, Print, Read};
@@ -249,7 +249,7 @@ where
     R::File: IsTerminal,
     requires out { IsLowCount (W.failures out.old) }
     requires err { IsLowCount (E.failures err.old) }
-    ensures ran { RanFiles ⟦<Noticing<R::File> as Source>⟧ W.Target E.Target job (page_name_of (Some (string_bytes left_name.now))) (page_name_of (Some (string_bytes right_name.now))) strict MESSAGE_LIMIT config.now out.old err.old result.status result.known out.new err.new
+    ensures ran { RanFiles ⟦<Noticing<R::File> as Source>⟧ W.Target E.Target job (page_name_of_two (string_bytes left_name.now) (string_bytes right_name.now)) (page_name_of_two (string_bytes right_name.now) (string_bytes left_name.now)) strict MESSAGE_LIMIT config.now out.old err.old result.status result.known out.new err.new
         ⊎ (Unopened E.Target (side_line (CompareFault.Left Fault.Read)) Which.First out.old err.old result.status result.known out.new err.new
         ⊎ (Unopened E.Target (side_line (CompareFault.Right Fault.Read)) Which.Second out.old err.old result.status result.known out.new err.new
         ⊎ OneStream E.Target out.old err.old result.status result.known out.new err.new)) }
@@ -282,8 +282,8 @@ where
     let end = run_two(
         rt.alloc(),
         job,
-        page_name(Some(left_name.as_str())),
-        page_name(Some(right_name.as_str())),
+        page_name_beside(left_name.as_str(), right_name.as_str()),
+        page_name_beside(right_name.as_str(), left_name.as_str()),
         strict,
         config,
         &mut left,

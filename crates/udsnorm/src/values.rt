@@ -2,7 +2,7 @@
 
 ghost use Rattle.std.specs.Prelude.{◌≡◌, option_map};
 ghost use Rattle.clap.specs.Words.{first_of, found_of, rows_of};
-ghost use Rattle.udsnorm.specs.Values.{comparison_style_in, is_given, is_strict as strict_in, notation_in, numbering_in, page_name, style_in};
+ghost use Rattle.udsnorm.specs.Values.{comparison_style_in, is_given, is_strict as strict_in, notation_in, numbering_in, page_name, page_name_beside, style_in};
 
 use crate::commands::{JSON, NO_NUMBERS, SHOW, STRICT};
 use clap::ArgMatches;
@@ -80,5 +80,17 @@ pub(crate) fn page_name(log: Option<&str>) -> &str
     match log {
         Some(path) => Path::new(path).file_name().unwrap_or(path),
         None => "standard input",
+    }
+}
+
+/// What a page of two logs calls the log of this file, beside that of the other.
+pub(crate) fn page_name_beside<'a>(path: &'a str, other: &str) -> &'a str
+    ensures { result.now ≡ page_name_beside path.now other.now }
+{
+    let name = page_name(Some(path));
+    if name == page_name(Some(other)) {
+        path
+    } else {
+        name
     }
 }
