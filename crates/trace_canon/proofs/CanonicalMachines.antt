@@ -15,8 +15,7 @@ use Rattle.trace_canon.specs.proving.Saying.{SaysDue}
 use Rattle.trace_log.specs.Settings.{Settings}
 use Rattle.trace_canon.specs.proving.Writing.{Place, start_of, text_from, place_after}
 use Rattle.trace_canon.proofs.CanonicalWriting.{text_none, place_append}
-use Rattle.trace_log.proofs.OneMoreFrame.{messages_more}
-use Rattle.trace_log.proofs.Texts.{all_frames-append}
+use Rattle.trace_log.proofs.Promises.{messages_more, all_frames-append}
 
 -- the messages of a trace with one more frame, by what it did
 pub messages_next : (T : List Entry) (e : Entry) (d : Dir) (event : EventValue) → e.dir ≡ d → event ≡ verdict MESSAGE_LIMIT T e

@@ -4,7 +4,7 @@ use Rattle.direction.specs.Dir.{Message}
 use Rattle.trace_log.specs.CanonicalLog.{canonical_log, log_of_frames, canonical_log_of_lines, early_text, fitting}
 use Rattle.trace_log.specs.Laws.{IsCanonicalFor, Records, Certifies}
 use Rattle.trace_log.specs.Settings.{AreSettings, Settings}
-use Rattle.trace_log.proofs.ReadAgain.{written_is_canonical, written_of_recording, answer_certifies}
+use Rattle.trace_log.proofs.Promises.{written_is_canonical, written_of_recording, answer_certifies, messages_more, all_frames-append, fitting_frames, fitting_log_begins}
 use Rattle.std.proofs.Common.{arith, ◌≡◌, Bool, true, false, refl, subst, Option, Ok, Err, ◌≤◌, ◌<◌, ℕ, List, [], ◌∷◌, ◌++◌, length, drop, ap, sym, ◌∙◌, append-nil, append_assoc, Result, inl, inr}
 use Rattle.std.proofs.Math.Seq.{drop-append_seam}
 use Rattle.can_log.specs.declared.frame.Stamped.{Stamped}
@@ -20,11 +20,9 @@ use Rattle.trace_canon.specs.CanonicalScript.{StandsCanonical, is_too_long, answ
 use Rattle.trace_run.specs.Told.{told_after, told, told_of_lines, whole_of_lines, EndsWith, WritesTold, WritesRefused, WritesFrontOfTold, TellsEagerly}
 use Rattle.trace_canon.specs.proving.Writing.{Place, start_of, text_from, place_after}
 use Rattle.trace_canon.proofs.CanonicalWriting.{text_none, text_append, place_append}
-use Rattle.trace_log.proofs.OneMoreFrame.{messages_more}
-use Rattle.trace_log.proofs.Texts.{all_frames-append, fitting_frames, fitting_log_begins}
 use Rattle.trace_canon.proofs.Answered.{answers_accepted, answers_output_limit}
 use Rattle.trace_canon.proofs.FittingLines.{over_when, within_when}
-use Rattle.trace_run.proofs.Tellings.{front_of_whole}
+use Rattle.trace_run.proofs.Promises.{front_of_whole}
 use Rattle.trace_log.specs.declared.fault.Fault.{Fault}
 use Rattle.trace_log.specs.declared.fault.Fault.TheVariants.{BadLine, Oversize, LogLimit, OutputLimit, Read, Write, Memory}
 use Rattle.trace_run.specs.declared.machine.Stop.TheVariants as end_stop

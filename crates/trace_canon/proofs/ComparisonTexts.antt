@@ -6,7 +6,7 @@ use Rattle.trace_canon.specs.declared.comparing.Comparison.{Comparison}
 use Rattle.trace_canon.specs.declared.comparing.Comparison.TheVariants.{Different}
 use Rattle.trace_canon.specs.ComparisonText.{comparison_lines, different_members, shown_lines}
 use Rattle.trace_text.specs.Json.{Value, nothing, member, object_line, value_text}
-use Rattle.trace_text.proofs.JsonTexts.{line_is, value_is}
+use Rattle.trace_text.proofs.Promises.{line_is, value_is}
 
 -- the line of two logs that differ at a place
 abbrev pub different_line : ℕ → List ℕ

@@ -18,9 +18,7 @@ use Rattle.uds_find.specs.Credit.{HasCredit, IsFirstCredit}
 use Rattle.uds_find.specs.Finding.{StandsAfter}
 use Rattle.uds_find.specs.declared.finder.Finder.{Finder}
 use Rattle.uds_find.proofs.Promises.{first_credit_is_credit}
-use Rattle.trace_log.proofs.Needs.{begins_with_lines}
-use Rattle.trace_log.proofs.ScannedLogs.{bad_counts, no_place_counts}
-use Rattle.trace_log.proofs.StoppedRuns.{bad_in_front, bad_at_end}
+use Rattle.trace_log.proofs.Promises.{begins_with_lines, bad_counts, no_place_counts, bad_in_front, bad_at_end}
 
 -- ---- one line more
 

@@ -23,7 +23,7 @@ use Rattle.trace_log.specs.Outcome.{Accepted, IsOutcome}
 use Rattle.trace_run.specs.Printed.{WritesOnce}
 use Rattle.trace_log.specs.Settings.{Settings}
 use Rattle.trace_run.specs.Told.{IsUnreadFor, AnswersTold, answers_counts, whole_of_lines}
-use Rattle.trace_run.proofs.LenientRuns.{lenient, unread_for}
+use Rattle.trace_run.proofs.Promises.{lenient, unread_for}
 
 -- bytes of which none was read
 abbrev pub unread : List ℕ → BytesInMemory

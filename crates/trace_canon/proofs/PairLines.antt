@@ -4,7 +4,7 @@ use Rattle.std.specs.Fmt.{decimal}
 use Rattle.trace_canon.specs.Found.{pair_line, pair_object}
 use Rattle.trace_text.specs.declared.notation.Notation.{Notation}
 use Rattle.trace_text.specs.declared.notation.Notation.TheVariants.{Json}
-use Rattle.trace_text.proofs.JsonTexts.{line_is}
+use Rattle.trace_text.proofs.Promises.{line_is}
 use Rattle.uds_find.specs.declared.pair.CreditLine.{CreditLine}
 
 -- as an object

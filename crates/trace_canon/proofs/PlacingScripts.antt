@@ -19,7 +19,7 @@ use Rattle.trace_text.specs.Words.{bytes_text, direction_text}
 use Rattle.trace_canon.specs.declared.begun.Begun.{Begun}
 use Rattle.trace_canon.specs.declared.begun.FramePlace.{FramePlace}
 use Rattle.trace_text.specs.declared.notation.Notation.{Notation}
-use Rattle.trace_text.proofs.JsonTexts.{line_is}
+use Rattle.trace_text.proofs.Promises.{line_is}
 use Rattle.trace_canon.proofs.MessagePlaces.{own_begun, other_begun, first_of}
 
 -- a message in these places

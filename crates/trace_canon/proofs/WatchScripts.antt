@@ -27,8 +27,8 @@ use Rattle.trace_log.specs.declared.fault.Fault.{Fault}
 use Rattle.trace_text.specs.declared.item_lines.ItemStyle.{ItemStyle}
 use Rattle.trace_log.specs.declared.summary.Summary.{Summary}
 use Rattle.trace_canon.specs.declared.watcher.LineSink.{LineSink}
-use Rattle.trace_text.proofs.ItemLines.{lines-append}
-use Rattle.trace_log.proofs.OneMoreFrame.{messages_more}
+use Rattle.trace_text.proofs.Promises.{lines-append}
+use Rattle.trace_log.proofs.Promises.{messages_more}
 
 -- ---- lines said one after another
 

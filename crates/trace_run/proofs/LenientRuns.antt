@@ -15,7 +15,7 @@ use Rattle.trace_log.specs.declared.fault.Fault.TheVariants.{BadLine, Oversize, 
 use Rattle.trace_run.specs.declared.machine.Stop.TheVariants as stop
 use Rattle.trace_log.specs.declared.summary.Summary.{Summary}
 use Rattle.trace_log.specs.Trace.{trace}
-use Rattle.trace_log.proofs.ReadAgain.{lines_certify}
+use Rattle.trace_log.proofs.Promises.{lines_certify}
 
 module _ (word : List Entry → Entry → List ℕ) (last : List Entry → Summary → List ℕ) (refused : List Entry → Summary → Fault → List ℕ) where
   -- a script that tells this of each frame, at the end, and of a refusal

@@ -1,3 +1,4 @@
 -- Lemmas of runs, for the proofs of the crates above.
--- A run over a script that tells nothing.
+pub use Rattle.trace_run.proofs.Tellings.{front_of_whole}
+pub use Rattle.trace_run.proofs.LenientRuns.{certifies, lenient, unread_for}
 pub use Rattle.trace_run.proofs.QuietRuns.{never_write}

@@ -12,7 +12,7 @@ use Rattle.uds_exchange.proofs.Promises.{none_is_lost, open_request_goes_on, rem
 use Rattle.trace_run.specs.declared.pending.Pending.{Pending}
 use Rattle.trace_run.specs.proving.LeftOut.{open_after, is_left_out, CountsRemoved}
 use Rattle.trace_log.specs.Summing.{more_if}
-use Rattle.trace_log.proofs.Receivings.{one_if, more_exactly}
+use Rattle.trace_log.proofs.Promises.{one_if, more_exactly}
 
 -- the request that waits after one more message
 opens_with : (o : Option (List ℕ)) (message : Message) → open_after (option_map sid o) message ≡ option_map sid (open_with o message)

@@ -38,21 +38,11 @@ use Rattle.isotp_receive.proofs.Promises.{too_long_is_announced}
 use Rattle.trace_log.specs.Answers.{piece_length, ReadsWhile}
 use Rattle.trace_log.specs.proving.Announcing.{AnnouncesWithin}
 use Rattle.trace_log.specs.Needing.{HasFrame, IsKeptForMessage}
-use Rattle.trace_log.proofs.Needs.{has_frame}
+use Rattle.trace_log.proofs.Promises.{has_frame, each_within, line_announces, each_more, reads_legal, reads_unrefused, all_taken, messages_more, trace_next, read_begins, lines_read_are_there, stands_read, read_more, IsBadBehind, bad_line, not_refused_at_limit, read_before_oversize, bad_counts, no_place_counts, oversize_stops, bad_in_front, bad_at_end, HaveCome, have_come, read_to_bad, read_to_limit, writes_to_failed_read, writes_front, writes_front_of_all, Begins, begins_again, trace_from-append}
 use Rattle.trace_log.specs.proving.Receiving.{entry_in, IsStart}
 use Rattle.trace_log.specs.Refusal.{EachPasses}
-use Rattle.trace_log.proofs.Announcements.{each_within, line_announces, each_more}
-use Rattle.trace_log.proofs.LastReads.{reads_legal, reads_unrefused}
 use Rattle.trace_run.proofs.Carryings.{wrote_all, wrote_front}
-use Rattle.trace_log.proofs.Explained.{all_taken}
-use Rattle.trace_log.proofs.OneMoreFrame.{messages_more}
-use Rattle.trace_log.proofs.Receivings.{trace_next}
-use Rattle.trace_log.proofs.ReadLines.{read_begins, lines_read_are_there, stands_read, read_more}
 use Rattle.trace_run.proofs.Runs.{TookEvents, StoppedOnEvent, StopsOn, IsRunStart, TookLines, StoppedOnLine, took_nothing, has_received, has_taken, has_stopped}
-use Rattle.trace_log.proofs.ScannedLogs.{IsBadBehind, bad_line, not_refused_at_limit, read_before_oversize, bad_counts, no_place_counts}
-use Rattle.trace_log.proofs.StoppedRuns.{oversize_stops, bad_in_front, bad_at_end, HaveCome, have_come, read_to_bad, read_to_limit, writes_to_failed_read, writes_front, writes_front_of_all}
-use Rattle.trace_log.proofs.Texts.{Begins, begins_again}
-use Rattle.trace_log.proofs.Traces.{trace_from-append}
 use Rattle.trace_run.proofs.WrittenFronts.{front_longer}
 
 -- ---- what is told of one more frame

@@ -3,7 +3,7 @@ use Rattle.trace_canon.specs.SessionScript.{answers_session, silent_script}
 use Rattle.trace_canon.proofs.Collecting.{collects_none}
 use Rattle.trace_run.proofs.Promises.{never_write}
 use Rattle.trace_canon.proofs.SessionScripts.{session_is_the_same, silent_tells_nothing}
-use Rattle.trace_log.proofs.Streams.{given_agrees}
+use Rattle.trace_log.proofs.Promises.{given_agrees}
 use Rattle.trace_canon.proofs.collector.session_of.Goals as goal
 
 pub run-requires-clause-machine : goal.run-requires-clause-machine

@@ -1,7 +1,7 @@
 use Rattle.std.proofs.Common.{arith}
 use Rattle.std.proofs.lemmas.Result.{IfOk-weaker, IfErr-weaker}
 use Rattle.trace_canon.proofs.Hearings.{heard_fault, heard_need, heard_unwritten, heard_end, heard_end_need}
-use Rattle.trace_log.proofs.LastReads.{reads_legal}
+use Rattle.trace_log.proofs.Promises.{reads_legal}
 use Rattle.trace_canon.proofs.hearing.found_in.Goals as goal
 
 pub returns-in-Ok-clause-answer : goal.returns-in-Ok-clause-answer

@@ -2,7 +2,7 @@ use Rattle.std.proofs.Common.{◌≡◌, ◌+◌, ◌++◌, ap, subst, ◌∙◌
 use Rattle.std.specs.Prelude.{MatchResult}
 use Rattle.trace_io.proofs.Promises.{took_more}
 use Rattle.trace_io.specs.Written.{HasFront}
-use Rattle.trace_log.proofs.Results.{handed_on}
+use Rattle.trace_log.proofs.Promises.{handed_on}
 use Rattle.trace_run.proofs.WrittenFronts.{front_longer, gathered_at_once}
 use Rattle.trace_run.proofs.block.gather.Goals as goal
 

@@ -14,8 +14,7 @@ use Rattle.trace_log.specs.Answers.{ReadsWhile}
 use Rattle.trace_log.specs.Feeding.{TakesFront}
 use Rattle.trace_run.proofs.Runs.{TookLines, IsRunStart, starts_run, has_received}
 use Rattle.trace_run.proofs.Tellings.{needed, never_memory, eagerly, more_given_up, wrote_no_line, reads_near, ToldEvents, HasToldNothing, told_none, takes_nothing, gives, told_of_fault, known, fails_so, left_alone_so, reads_so, known_then, told_at_the_end}
-use Rattle.trace_log.proofs.LastBytes.{some_log}
-use Rattle.trace_log.proofs.Streams.{when_ok}
+use Rattle.trace_log.proofs.Promises.{some_log, when_ok}
 use Rattle.trace_run.proofs.driver.run.Given.{Over}
 use Rattle.trace_run.proofs.driver.run.Goals.{After-start-receiver, After-finish}
 use Rattle.trace_run.proofs.driver.run.Goals as goal

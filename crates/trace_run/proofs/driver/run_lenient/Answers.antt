@@ -1,5 +1,5 @@
 use Rattle.trace_run.proofs.LenientRuns.{near_when_lenient, no_oversize, no_output_limit, needs_when_none}
-use Rattle.trace_log.proofs.Streams.{given_agrees}
+use Rattle.trace_log.proofs.Promises.{given_agrees}
 use Rattle.trace_run.proofs.driver.run_lenient.Goals as goal
 
 pub returns : goal.returns

@@ -2,7 +2,7 @@ use Rattle.std.proofs.Common.{refl, inl}
 use Rattle.std.proofs.lemmas.Result.{IfErr-weaker, on_ok_weaker}
 use Rattle.isotp_receive.specs.Trace.{Entry}
 use Rattle.trace_log.specs.declared.fault.Fault.TheVariants.{Memory}
-use Rattle.trace_log.proofs.Announcements.{announces_kept}
+use Rattle.trace_log.proofs.Promises.{announces_kept}
 use Rattle.trace_run.proofs.Tellings.{stops_before}
 use Rattle.trace_run.proofs.receiver.receive.Goals as goal
 

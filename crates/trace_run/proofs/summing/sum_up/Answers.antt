@@ -1,6 +1,6 @@
 use Rattle.std.proofs.Common.{arith}
 use Rattle.trace_log.specs.Trace.{trace}
-use Rattle.trace_log.proofs.Summaries.{summed_up}
+use Rattle.trace_log.proofs.Promises.{summed_up}
 use Rattle.trace_run.proofs.summing.sum_up.Goals as goal
 
 pub returns : goal.returns

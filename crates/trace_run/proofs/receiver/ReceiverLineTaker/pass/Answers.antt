@@ -1,8 +1,7 @@
 use Rattle.std.proofs.Common.{[], ◌≤◌, ◌^◌, ◌≡◌, None, Some, refl, sym, subst, ◌∙◌, ap}
 use Rattle.trace_run.specs.proving.Carrying.{IsTellingStart, Tells}
 use Rattle.trace_log.specs.Settings.{direction_of}
-use Rattle.trace_log.proofs.Directions.{foreign_direction}
-use Rattle.trace_log.proofs.Receivings.{trace_same_foreign, receives_same}
+use Rattle.trace_log.proofs.Promises.{foreign_direction, trace_same_foreign, receives_same}
 use Rattle.trace_run.proofs.receiver.ReceiverLineTaker.pass.Goals as goal
 
 pub returns-clause-takes : goal.returns-clause-takes

@@ -9,8 +9,7 @@ use Rattle.trace_log.specs.Settings.{direction_of}
 use Rattle.trace_log.specs.Trace.{trace}
 use Rattle.trace_log.specs.Summing.{counted_more}
 use Rattle.trace_log.specs.proving.Receiving.{entry_in}
-use Rattle.trace_log.proofs.Results.{four_ok}
-use Rattle.trace_log.proofs.Receivings.{few_frames, trace_same_blank, trace_same_foreign, trace_next, receives_same, receives_next}
+use Rattle.trace_log.proofs.Promises.{four_ok, few_frames, trace_same_blank, trace_same_foreign, trace_next, receives_same, receives_next}
 use Rattle.trace_run.proofs.receiver.ReceiverLineTaker.take.Goals as goal
 
 pub returns-in_default-clause-ok : goal.returns-in_default-clause-ok
