@@ -87,7 +87,7 @@ def functions_in(text):
 
 # The files with the records of runs.
 CRATES = Path(__file__).resolve().parent.parent / "crates"
-RUNS = [CRATES / path for path in ("trace_run/specs/Told.antt", "trace_run/specs/Printed.antt", "trace_canon/specs/Listed.antt", "trace_canon/specs/Found.antt")]
+RUNS = [CRATES / path for path in ("trace_run/specs/Told.antt", *(f"trace_canon/specs/{name}.antt" for name in ("Once", "Listed", "Found")))]
 OF_RUNS = ("trace_run", "trace_canon")
 RUN = "ran"
 

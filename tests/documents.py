@@ -20,11 +20,13 @@
 - what introduces the program or the library has the words by which somebody looks for such a tool;
 - each fault displays the line that the program tells of it, as the page for callers of udsnorm says;
 - the number of the version stands in the program's source once, and is that of the file VERSION;
+- what a proof cites of the proofs of a lower crate stands in its module Promises;
 - nothing in the project is a symbolic link, what is built included: the gate, which runs last, would take none.
 
 Prints a line for each case and ends with `N passed, M failed`; its status is 1 where a case failed.
 """
 
+import os
 import re
 import subprocess
 import sys
@@ -371,9 +373,20 @@ def version_of_the_source(cases):
     cases.report("the program's source has the number of the version, once", [] if told == [version] else [f"it has {told}, not {version}"])
 
 
+def lower_proofs(cases):
+    """What a proof cites of the proofs of a lower crate stands in its module Promises."""
+    known = crates()
+    for crate in known:
+        paths = [path for path in FILES if path.suffix == ".antt" and (TOP / "crates" / crate) in path.parents]
+        cited = [(path, *found) for path in paths for found in re.findall(r"\bRattle\.(\w+)\.proofs\.(\w+)", path.read_text())]
+        wrong = {f"{name_of(path)}: {of}.{module}" for path, of, module in cited if of in known and of != crate and module != "Promises"}
+        cases.report(f"proofs of {crate} cite of other crates what these promise", sorted(wrong))
+
+
 def symbolic_links(cases):
-    """The files of the project that `rt ci` would not take."""
-    cases.report("no file is a symbolic link", [str(path.relative_to(TOP)) for path in TOP.rglob("*") if path.is_symlink()])
+    """The files of the project that `rt ci` would not take. Beside proofs, what is built comes and goes meanwhile."""
+    paths = (Path(place, name) for place, folders, files in os.walk(TOP) for name in folders + files)
+    cases.report("no file is a symbolic link", [str(path.relative_to(TOP)) for path in paths if path.is_symlink()])
 
 
 def main():
@@ -382,7 +395,7 @@ def main():
     cases = Cases(None)
     for test in [
         picture, style, links, lengths_of_lines, heads_of_tables, named_files, wrong_bodies, tried_by_the_gate, definitions, citations, calls_of_the_kit,
-        named_clauses, printed_clauses, names_of_two_definitions, decisions, searched_words, lines_of_faults, version_of_the_source, symbolic_links,
+        named_clauses, printed_clauses, names_of_two_definitions, decisions, searched_words, lines_of_faults, version_of_the_source, lower_proofs, symbolic_links,
     ]:
         test(cases)
     cases.end()

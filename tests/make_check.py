@@ -47,7 +47,7 @@ TELL = "echo $$ > {told}.$crate; mv {told}.$crate {told}/$crate"
 STAY = f"{TELL}; exec sleep 50"
 AWAIT = "for n in $(seq 200); do [ -e {told}/%s ] && break; sleep 0.05; done; [ -e {told}/%s ] || exit 1"
 
-# It fails where it has not what was kept before of its own crate, and what was built before of one below that is not checked.
+# It fails where what was kept of its own crate is gone, or what was built of one below that is not checked.
 OWN, BELOW = "json_reading/out/kept", "can_log/out/rlib/built"
 HAS_KEPT = f"[ -e ../{OWN} ] && [ -e ../{BELOW} ] || exit 1"
 
@@ -119,7 +119,7 @@ def stand_ins(tree, actions, run):
 
 def check_told(tree, crate, actions, run="any"):
     """The status of `make check` of a crate, the steps that it told, and its lines about one that failed."""
-    status, output, _ = make("-C", tree, "check", f"CRATE={crate}", PATH=stand_ins(tree, actions, run))
+    status, output, _ = make("check", f"CRATE={crate}", tree=tree, PATH=stand_ins(tree, actions, run))
     lines = [re.sub(r" +(failed after )?\d+\.\d s$", r" \1", line) for line in output.splitlines()]
     failed = next((n for n, line in enumerate(lines) if line.endswith(" failed after ")), len(lines))
     return status, [line.rstrip() for line in lines[:failed]], lines[failed:]
@@ -262,16 +262,18 @@ def is_ended(cases, tree):
     path = stand_ins(tree, {"udsnorm run": STAY, "acceptance test": STAY}, "ended")
     check = {"args": [tree / "scripts" / "check", "uds_message"], "env": OUTERMOST | {"PATH": path}}
     running = subprocess.Popen(**check, stdout=subprocess.PIPE, stderr=subprocess.PIPE)
-    while running.poll() is None and not all((told_in(tree) / crate).exists() for crate in last):
+    for _ in range(1200):
+        if running.poll() is not None or all((told_in(tree) / crate).exists() for crate in last):
+            break
         time.sleep(0.05)
-    beside = subprocess.run(**check, capture_output=True, text=True, timeout=60)
+    other = subprocess.run(**check, capture_output=True, text=True, timeout=60)
     running.terminate()
     _, error = running.communicate(timeout=60)
     wrong = [] if running.returncode == 1 and error == b"" else [f"status {running.returncode}, {error}"]
     wrong += [f"{crate} stays" for crate in last if stays(tree, crate)]
     cases.report("make check that is ended", wrong)
-    refused = (beside.returncode, beside.stdout, beside.stderr) == (1, "", "Another check runs in this tree\n")
-    cases.report("make check beside another one", [] if refused else [str(beside)])
+    refused = (other.returncode, other.stdout, other.stderr) == (1, "", "Another check runs in this tree\n")
+    cases.report("make check beside another one", [] if refused else [str(other)])
 
 
 def main():

@@ -9,8 +9,8 @@ use Rattle.isotp_receive.specs.Verdict.{EventValue, message as message_of, messa
 use Rattle.isotp_segment.specs.Timed.{all_frames}
 use Rattle.uds_exchange.specs.Order.{early}
 use Rattle.uds_exchange.specs.Orderer.{IsHeld, OrdererValue, stands_after}
-use Rattle.trace_log.specs.Needing.{CompletesMessage, CompletesHeld}
-use Rattle.trace_canon.specs.CanonicalScript.{place_of, lines_due, StandsCanonical}
+use Rattle.trace_canon.specs.Keeping.{CompletesMessage, CompletesHeld}
+use Rattle.trace_canon.specs.CanonicalScript.{place_behind, lines_due, StandsCanonical}
 use Rattle.trace_canon.specs.proving.Saying.{SaysDue}
 use Rattle.trace_log.specs.Settings.{Settings}
 use Rattle.trace_canon.specs.proving.Writing.{Place, start_of, text_from, place_after}
@@ -52,11 +52,11 @@ says_next says settings config T e message orderer orderer_now place place_now o
         same = same;
         at = at ∙ ap (λ c. place_after c place (all_frames MESSAGE_LIMIT due)) same ∙ ap (λ p. place_after settings p (all_frames MESSAGE_LIMIT due)) stood_at
             ∙ sym (place_append settings (start_of settings.max_bytes) (all_frames MESSAGE_LIMIT (early M)) (all_frames MESSAGE_LIMIT due))
-            ∙ ap (place_after settings (start_of settings.max_bytes)) (sym (all_frames-append MESSAGE_LIMIT (early M) due)) ∙ ap (place_of settings) (sym longer);
+            ∙ ap (place_after settings (start_of settings.max_bytes)) (sym (all_frames-append MESSAGE_LIMIT (early M) due)) ∙ ap (place_behind settings) (sym longer);
       },
       subst (λ text. says out text out_now)
           (ap (λ c. text_from c place (all_frames MESSAGE_LIMIT due)) same ∙ ap (λ p. text_from settings p (all_frames MESSAGE_LIMIT due)) stood_at
-          ∙ ap (λ x. text_from settings (place_of settings (early M)) (all_frames MESSAGE_LIMIT x)) (sym left)) said,
+          ∙ ap (λ x. text_from settings (place_behind settings (early M)) (all_frames MESSAGE_LIMIT x)) (sym left)) said,
     )
 
 -- no message: nothing is
@@ -70,7 +70,7 @@ says_nothing_more says nothing settings config T e orderer place out next stood 
     let same : messages MESSAGE_LIMIT (T ++ e ∷ []) ≡ M = next ∙ append-nil M in
     let none : drop (length (early M)) (early (messages MESSAGE_LIMIT (T ++ e ∷ []))) ≡ [] =
     ap (λ x. drop (length (early M)) (early x)) same ∙ ap (drop (length (early M))) (sym (append-nil (early M))) ∙ drop-append_seam (early M) [] in (
-      record { ordered = stood.ordered ∙ ap stands_after (sym same); same = stood.same; at = stood.at ∙ ap (λ x. place_of settings (early x)) (sym same) },
+      record { ordered = stood.ordered ∙ ap stands_after (sym same); same = stood.same; at = stood.at ∙ ap (λ x. place_behind settings (early x)) (sym same) },
       subst (λ text. says out text out)
-          (sym (ap (λ x. text_from settings (place_of settings (early M)) (all_frames MESSAGE_LIMIT x)) none ∙ text_none settings (place_of settings (early M)))) (nothing out),
+          (sym (ap (λ x. text_from settings (place_behind settings (early M)) (all_frames MESSAGE_LIMIT x)) none ∙ text_none settings (place_behind settings (early M)))) (nothing out),
     )

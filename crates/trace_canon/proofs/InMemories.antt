@@ -20,7 +20,7 @@ use Rattle.trace_canon.specs.Sessions.{GivesMeaning}
 use Rattle.trace_log.specs.Failing.{FailedIf}
 use Rattle.trace_canon.specs.InMemory.{IsOfMemory, IsRefused, IsUnread, IsCanonicalLogWith, IsToldWith, MeansInMemory, ComparesInMemory, fault_in_memory}
 use Rattle.trace_log.specs.Outcome.{Accepted, IsOutcome}
-use Rattle.trace_run.specs.Printed.{WritesOnce}
+use Rattle.trace_canon.specs.Once.{WritesOnce}
 use Rattle.trace_log.specs.Settings.{Settings}
 use Rattle.trace_run.specs.Told.{IsUnreadFor, AnswersTold, answers_counts, whole_of_lines}
 use Rattle.trace_run.proofs.Promises.{lenient, unread_for}

@@ -1,7 +1,7 @@
 pub mod Comparisons
 pub mod Lengths
-pub mod FittingLines
 pub mod CanonicalWriting
+pub mod FittingLines
 pub mod ComparisonTexts
 pub mod Answered
 pub mod SaidFrames

@@ -11,7 +11,8 @@ use Rattle.isotp_receive.specs.Trace.{Entry}
 use Rattle.isotp_receive.specs.Verdict.{EventValue, message, messages, verdict}
 use Rattle.uds_exchange.specs.Numbering.{step_after, number_after}
 use Rattle.uds_exchange.specs.declared.step.Step.{Step}
-use Rattle.trace_canon.specs.proving.Begun.{begun_after, began_at, IsBegunAt}
+use Rattle.trace_canon.specs.proving.Begun.{IsBegunAt}
+use Rattle.trace_canon.specs.Begun.{begun_after, began_at}
 use Rattle.trace_canon.specs.MessageLines.{PlacedMessage, place_of, stamp_text, extent_text, first_frame, placed_line, placed_members, placed_text, placed_behind, delivered_line}
 use Rattle.trace_text.specs.Words.{role_text}
 use Rattle.trace_text.specs.Json.{object_line}

@@ -17,20 +17,20 @@ use Rattle.uds_exchange.specs.Meaning.{meaning, flattened}
 use Rattle.trace_canon.specs.proving.Writing.{Place, start_of, text_from, place_after}
 
 -- where the canonical log stands after these messages
-abbrev pub place_of : Settings → List Message → Place
-place_of settings put = place_after settings (start_of settings.max_bytes) (all_frames MESSAGE_LIMIT put)
+abbrev pub place_behind : Settings → List Message → Place
+place_behind settings put = place_after settings (start_of settings.max_bytes) (all_frames MESSAGE_LIMIT put)
 
 -- the lines of the messages that are early of these, and were not of those
 abbrev pub lines_due : Settings → List Message → List Message → List ℕ
 lines_due settings before now =
-    text_from settings (place_of settings (early before)) (all_frames MESSAGE_LIMIT (drop (length (early before)) (early now)))
+    text_from settings (place_behind settings (early before)) (all_frames MESSAGE_LIMIT (drop (length (early before)) (early now)))
 
 -- of each frame the lines of what is due with it, and at the end of what is held
 abbrev pub canonical_script : Settings → Script
 canonical_script settings = record {
   strict = true;
   word = λ T e. lines_due settings (messages MESSAGE_LIMIT T) (messages MESSAGE_LIMIT (T ++ e ∷ []));
-  last = λ T summary. text_from settings (place_of settings (early (messages MESSAGE_LIMIT T))) (all_frames MESSAGE_LIMIT (held (messages MESSAGE_LIMIT T)));
+  last = λ T summary. text_from settings (place_behind settings (early (messages MESSAGE_LIMIT T))) (all_frames MESSAGE_LIMIT (held (messages MESSAGE_LIMIT T)));
   refused = λ T summary why. [];
 }
 
@@ -38,7 +38,7 @@ canonical_script settings = record {
 pub record StandsCanonical (settings : Settings) (T : List Entry) (orderer : OrdererValue) (config : Settings) (place : Place) : Type 0 where
   pub ordered : orderer ≡ stands_after (messages MESSAGE_LIMIT T)
   pub same : config ≡ settings
-  pub at : place ≡ place_of settings (early (messages MESSAGE_LIMIT T))
+  pub at : place ≡ place_behind settings (early (messages MESSAGE_LIMIT T))
 
 -- the lines of the messages of a trace whose place is known, as far as there is room
 abbrev pub text_of_early : Settings → List Entry → List ℕ
@@ -50,7 +50,7 @@ CanonicalTellsEarly = (settings : Settings) (T : List Entry) → told ((canonica
 
 -- the canonical log of the trace is longer than the limit
 abbrev pub is_too_long : Settings → List Entry → Bool
-is_too_long settings T = (place_of settings (flattened (meaning (messages MESSAGE_LIMIT T)))).is_over
+is_too_long settings T = (place_behind settings (flattened (meaning (messages MESSAGE_LIMIT T)))).is_over
 
 -- it answers the counts where it is not
 abbrev pub answers_canonical : Settings → Answering Summary

@@ -10,10 +10,11 @@ use Rattle.trace_log.specs.declared.fault.Fault.TheVariants.{BadLine, Oversize, 
 use Rattle.trace_text.specs.declared.item_lines.ItemStyle.{ItemStyle}
 use Rattle.trace_text.specs.declared.notation.Notation.{Notation}
 use Rattle.trace_log.specs.declared.summary.Summary.{Summary}
-use Rattle.trace_log.specs.Answers.{TellsOutcome, IsAcceptedWith}
+use Rattle.trace_log.specs.Answers.{TellsOutcome}
+use Rattle.trace_canon.specs.Sessions.{IsAcceptedWith}
 use Rattle.trace_canon.specs.Sessions.{GivesMeaning}
 use Rattle.trace_canon.specs.Compared.{Compares, fault_in}
-use Rattle.trace_log.specs.Explained.{IsReadAs}
+use Rattle.trace_log.specs.ReadAs.{IsReadAs}
 use Rattle.trace_canon.specs.ExplainScript.{explain_script}
 use Rattle.trace_canon.specs.Found.{IsFoundIn, pairs_text}
 use Rattle.trace_text.specs.ListText.{list_text}

@@ -1,12 +1,20 @@
 -- What is answered of a log by a call that writes nothing.
-use Rattle.std.specs.Prelude.{ℕ, List, Result, Ok, Err}
+use Rattle.std.specs.Prelude.{◌≡◌, ℕ, List, Result, Ok, Err}
 use Rattle.trace_canon.specs.declared.collector.Session.{Session}
 use Rattle.trace_log.specs.declared.fault.Fault.{Fault}
 use Rattle.uds_exchange.specs.Meaning.{ItemValue}
 use Rattle.trace_log.specs.Settings.{Settings}
 use Rattle.trace_log.specs.Messages.{HasMeaning}
 use Rattle.trace_log.specs.Outcome.{Accepted, IsOutcome}
-use Rattle.trace_log.specs.Answers.{IsAcceptedWith, TellsOutcome}
+use Rattle.trace_log.specs.Answers.{TellsOutcome}
+use Rattle.trace_log.specs.declared.summary.Summary.{Summary}
+
+-- The log is accepted, with this meaning and this summary.
+pub record IsAcceptedWith (limit : ℕ) (settings : Settings) (log : List ℕ) (items : List ItemValue) (summary : Summary) : Type 0 where
+  pub accepted : Accepted
+  pub outcome : IsOutcome limit settings log (Ok accepted)
+  pub means : HasMeaning limit settings log items
+  pub counted : accepted.summary ≡ summary
 
 -- What a call answers: the meaning and the summary of an accepted log, or why the log is refused.
 abbrev pub GivesSession : ℕ → Settings → List ℕ → Result Session Fault → Type 0

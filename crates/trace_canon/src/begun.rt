@@ -2,8 +2,7 @@
 ghost use Rattle.std.specs.Prelude.{◌≡◌, None, true};
 ghost use Rattle.direction.specs.declared.Dir.TheVariants.{Tester, Unit};
 ghost use Rattle.isotp_receive.specs.EventSeen.{seen_event, seen_verdict};
-ghost use Rattle.isotp_receive.specs.Trace.{same_direction};
-ghost use Rattle.trace_canon.specs.proving.Begun.{began_at, begun_after, left_by, moved_by};
+ghost use Rattle.trace_canon.specs.Begun.{began_at, begun_after, left_by, moved_by};
 
 use direction::Dir;
 use isotp_receive::{Ended, Event, Verdict};
@@ -34,7 +33,7 @@ impl Begun {
         }
     }
 
-    /// That of a direction.
+    /// Where the reception of a direction began, if one stands.
     pub fn of(&self, dir: Dir) -> Option<FramePlace>
         ensures tester { dir ≡ Tester → result ≡ self.now.tester }
         ensures unit { dir ≡ Unit → result ≡ self.now.unit }

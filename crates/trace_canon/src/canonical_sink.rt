@@ -1,5 +1,5 @@
 //! Canonical lines, said as soon as the place of their messages is known.
-ghost use Rattle.std.specs.Prelude.{◌≡◌, ◌≤◌, ◌^◌, ℕ, List, [], ◌∷◌, ◌++◌, length, true, false, OnOk, OnErr};
+ghost use Rattle.std.specs.Prelude.{◌≡◌, ◌≤◌, ℕ, List, [], ◌∷◌, ◌++◌, length, true, false, OnOk, OnErr};
 ghost use Rattle.can_log.specs.Canonical.{canonical_line};
 ghost use Rattle.can_log.specs.declared.frame.Id.TheVariants.{Std, Ext};
 ghost use Rattle.direction.specs.Dir.{Message};

@@ -9,7 +9,7 @@ ghost use Rattle.trace_canon.specs.SessionScript.{Collects, has_place};
 ghost use Rattle.trace_log.specs.Answers.{ReadsWhile};
 ghost use Rattle.trace_canon.specs.Sessions.{GivesMeaning, GivesSession};
 ghost use Rattle.trace_log.specs.Devices.{ReadFrom};
-ghost use Rattle.trace_log.specs.Needing.{NeedsMemoryToCollect};
+ghost use Rattle.trace_canon.specs.Keeping.{NeedsMemoryToCollect};
 ghost use Rattle.trace_log.specs.Refusal.{IsNotRefusedWithin};
 ghost use Rattle.trace_io.specs.Counted.{AreLowCounts};
 ghost use Rattle.trace_io.specs.Stream.{Agrees};
@@ -155,10 +155,9 @@ fn has_place(step: Step) -> bool
 }
 
 impl Machine for Collector {
-    ghost use Rattle.std.specs.Prelude.{⊤};
     ghost use Rattle.isotp_receive.specs.declared.TheConstants.{MESSAGE_LIMIT};
     ghost use Rattle.isotp_receive.specs.Verdict.{messages};
-    ghost use Rattle.trace_log.specs.Needing.{CompletesMessage};
+    ghost use Rattle.trace_canon.specs.Keeping.{CompletesMessage};
     ghost use Rattle.trace_canon.specs.SessionScript.{Collects, answers_session, silent_script};
 
     type Answer = Session;

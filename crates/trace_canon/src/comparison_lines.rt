@@ -10,9 +10,8 @@ use crate::comparison_objects::say_comparison_object;
 use trace_io::{Target, TextSink};
 use trace_log::Fault;
 use trace_run::{Printable, print};
-use trace_text::parts::Part;
 use trace_text::say::say_parts;
-use trace_text::{Notation, Numbering, say_item_object, say_worded};
+use trace_text::{Notation, Numbering, Part, say_item_object, say_worded};
 use uds_exchange::{LentItem, Meaning};
 
 /// How a comparison is written.

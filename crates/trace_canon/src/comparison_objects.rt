@@ -5,9 +5,8 @@ ghost use Rattle.trace_text.specs.Json.{object_line};
 use crate::comparing::{Compared, Comparison};
 use crate::comparison_lines::say_item_at;
 use trace_io::TextSink;
-use trace_text::Notation;
-use trace_text::parts::Part;
 use trace_text::say::say_parts;
+use trace_text::{Notation, Part};
 
 /// Says how two logs compare, as an object in a line.
 pub(crate) fn say_comparison_object<S: TextSink>(

@@ -2,7 +2,7 @@
 ghost use Rattle.std.specs.Prelude.{ℕ, List, length, IfOk};
 ghost use Rattle.isotp_receive.specs.EventSeen.{seen_event, seen_verdict};
 ghost use Rattle.isotp_receive.specs.declared.TheConstants.{MESSAGE_LIMIT};
-ghost use Rattle.trace_text.specs.ExplainText.{dropped_text, end_text, ended_text, event_text, unfinished_line};
+ghost use Rattle.trace_canon.specs.ExplainScript.{dropped_text, end_text, ended_text, event_text, unfinished_line};
 ghost use Rattle.trace_canon.specs.ExplainScript.{explain_script};
 ghost use Rattle.trace_log.specs.Laws.{Certifies};
 ghost use Rattle.trace_run.specs.Told.{RanLenient, answers_counts, needs_none};

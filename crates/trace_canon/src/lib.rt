@@ -25,7 +25,7 @@
 //! `trace_log` reads a log and says what it means, `trace_run` runs a machine over it, where the way of a frame is
 //! drawn, and `trace_text` has the texts that commands share. Here are the commands.
 //!
-//! What tells of a log while it comes is a machine of [`run`](trace_run::run): [`normalise`] (`normaliser`, and
+//! What tells of a log while it comes is a machine of [`trace_run`](trace_run::Machine): [`normalise`] (`normaliser`, and
 //! `canonical_sink` for its lines), [`explain`] (`explainer`), [`messages`] (`placer`, and `begun` for where a message
 //! began) and [`watch`] (`watcher`). So is what collects the meaning of a log (`collector`): on it stand
 //! [`meaning_of`], [`compare`] (`comparing`), and each text of the items (`item_text`), as that of [`list`] (`lister`).

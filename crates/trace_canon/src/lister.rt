@@ -1,5 +1,5 @@
 //! `list`: the items of a log, written once they are known.
-ghost use Rattle.std.specs.Prelude.{ℕ, length};
+ghost use Rattle.std.specs.Prelude.{length};
 ghost use Rattle.isotp_receive.specs.declared.TheConstants.{MESSAGE_LIMIT};
 ghost use Rattle.trace_text.specs.ListText.{list_text};
 ghost use Rattle.trace_canon.specs.Listed.{RanOverItems};

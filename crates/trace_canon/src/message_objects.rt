@@ -5,8 +5,8 @@ ghost use Rattle.trace_canon.specs.MessageLines.{placed_members};
 use crate::begun::FramePlace;
 use direction::Dir;
 use trace_io::TextSink;
+use trace_text::Part;
 use trace_text::names::{direction_name, role_name};
-use trace_text::parts::Part;
 use trace_text::say::say_parts;
 use uds_exchange::Step;
 

@@ -1,5 +1,5 @@
 //! `normalise`: a machine that says the canonical log.
-ghost use Rattle.std.specs.Prelude.{◌≡◌, ◌-◌, ◌++◌, ℕ, List, [], length, OnOk, IfOk, Err};
+ghost use Rattle.std.specs.Prelude.{◌≡◌, ◌-◌, ◌++◌, ℕ, List, length, OnOk, IfOk, Err};
 ghost use Rattle.direction.specs.Dir.{Message};
 ghost use Rattle.isotp_receive.specs.declared.TheConstants.{MESSAGE_LIMIT};
 ghost use Rattle.uds_exchange.specs.Meaning.{meaning, flattened};
@@ -7,11 +7,10 @@ ghost use Rattle.trace_log.specs.Answers.{Answers, ReadsWhile};
 ghost use Rattle.trace_log.specs.CanonicalLog.{canonical_log};
 ghost use Rattle.trace_canon.specs.CanonicalScript.{StandsCanonical};
 ghost use Rattle.trace_log.specs.Devices.{ReadFrom, WroteTo};
-ghost use Rattle.trace_log.specs.Needing.{NeedsMemoryToOrder};
+ghost use Rattle.trace_canon.specs.Keeping.{NeedsMemoryToOrder};
 ghost use Rattle.trace_log.specs.declared.fault.Fault.TheVariants.{Memory};
 ghost use Rattle.trace_log.specs.Laws.{IsCanonicalFor, Records, Certifies};
 ghost use Rattle.trace_log.specs.Refusal.{IsNotRefusedWithin};
-ghost use Rattle.trace_log.specs.Settings.{AreSettings};
 ghost use Rattle.trace_io.specs.Stream.{Agrees};
 ghost use Rattle.trace_io.specs.Counted.{IsLowCount, AreLowCounts};
 
@@ -82,7 +81,7 @@ pub(crate) struct Canonical {
 
 impl Machine for Canonical {
     ghost use Rattle.isotp_receive.specs.declared.TheConstants.{MESSAGE_LIMIT};
-    ghost use Rattle.trace_log.specs.Needing.{CompletesHeld};
+    ghost use Rattle.trace_canon.specs.Keeping.{CompletesHeld};
     ghost use Rattle.trace_canon.specs.CanonicalScript.{StandsCanonical, answers_canonical, canonical_script};
 
     type Answer = Summary;

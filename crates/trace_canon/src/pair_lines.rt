@@ -2,9 +2,8 @@
 ghost use Rattle.trace_canon.specs.Found.{pair_line, pairs_text};
 
 use trace_io::TextSink;
-use trace_text::Notation;
-use trace_text::parts::Part;
 use trace_text::say::say_parts;
+use trace_text::{Notation, Part};
 use uds_find::CreditLine;
 
 /// Says the line of each pair, in order.

@@ -13,10 +13,9 @@ use std::alloc::{AllocError, Global};
 use trace_io::{Source, Target, TextSink};
 use trace_log::{Config, Fault, Summary};
 use trace_run::{Machine, Stop, run_lenient};
-use trace_text::Notation;
 use trace_text::names::{direction_name, role_name};
-use trace_text::parts::Part;
 use trace_text::say::say_parts;
+use trace_text::{Notation, Part};
 use uds_exchange::{Numbers, Step};
 
 /// Reads a log and writes a line for each message that is delivered, as it comes, in words or as an object of JSON: the

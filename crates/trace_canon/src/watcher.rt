@@ -4,7 +4,7 @@ ghost use Rattle.direction.specs.Dir.{Message};
 ghost use Rattle.isotp_receive.specs.declared.TheConstants.{MESSAGE_LIMIT};
 ghost use Rattle.uds_exchange.specs.Decided.{undecided};
 ghost use Rattle.uds_exchange.specs.Decider.{decides_after, IsKept};
-ghost use Rattle.trace_log.specs.Needing.{CompletesKept};
+ghost use Rattle.trace_canon.specs.Keeping.{CompletesKept};
 ghost use Rattle.trace_run.specs.Told.{RanLenient, answers_counts};
 ghost use Rattle.trace_canon.specs.WatchScript.{watching_script, WritesTheList};
 ghost use Rattle.trace_canon.specs.proving.Watching.{SaysDecided, SaysLines};
@@ -60,7 +60,7 @@ pub(crate) struct Watcher {
 
 impl Machine for Watcher {
     ghost use Rattle.isotp_receive.specs.declared.TheConstants.{MESSAGE_LIMIT};
-    ghost use Rattle.trace_log.specs.Needing.{CompletesKept};
+    ghost use Rattle.trace_canon.specs.Keeping.{CompletesKept};
     ghost use Rattle.trace_run.specs.Told.{answers_counts};
     ghost use Rattle.trace_canon.specs.WatchScript.{watching_script};
     ghost use Rattle.trace_canon.specs.proving.Watching.{WatchesItems};

@@ -3,13 +3,13 @@ use Rattle.std.proofs.Common.{◌≡◌, ℕ, List, [], ◌∷◌, ◌++◌, Opt
 use Rattle.direction.specs.declared.Dir.{Dir}
 use Rattle.can_log.specs.declared.frame.Stamped.{Stamped}
 use Rattle.isotp_receive.specs.Trace.{Entry}
-use Rattle.trace_log.specs.Explained.{takes_all}
+use Rattle.trace_log.specs.ReadAs.{takes_all}
 use Rattle.trace_log.specs.Needing.{BeginsWithLines, HasFrame}
 use Rattle.trace_log.specs.Feeding.{StopsWithin}
 use Rattle.trace_log.specs.proving.Receiving.{entry_in}
 use Rattle.trace_log.specs.Settings.{Settings, direction_of}
 use Rattle.trace_log.specs.Trace.{trace}
-use Rattle.trace_log.proofs.Explained.{all_taken}
+use Rattle.trace_log.proofs.ReadAs.{all_taken}
 use Rattle.trace_log.proofs.Receivings.{trace_next}
 use Rattle.trace_log.proofs.StoppedRuns.{have_come}
 

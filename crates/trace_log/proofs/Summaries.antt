@@ -6,11 +6,10 @@ use Rattle.direction.specs.declared.Dir.TheVariants as dir
 use Rattle.can_log.specs.declared.frame.Stamped.{Stamped}
 use Rattle.isotp_receive.specs.declared.TheConstants.{MESSAGE_LIMIT}
 use Rattle.isotp_receive.specs.Capacities.{PairValue}
-use Rattle.uds_exchange.specs.Meaning.{flattened, removed_messages}
-use Rattle.uds_exchange.proofs.Promises.{none_is_lost}
+use Rattle.uds_exchange.specs.Meaning.{removed_messages}
 use Rattle.trace_log.specs.Settings.{Settings}
 use Rattle.trace_log.specs.Trace.{trace}
-use Rattle.trace_log.specs.Messages.{messages_of_lines, meaning_of_lines}
+use Rattle.trace_log.specs.Messages.{messages_of_lines}
 use Rattle.isotp_receive.specs.Events.{unfinished_in}
 use Rattle.isotp_receive.specs.Trace.{Entry, same_direction}
 use Rattle.trace_log.specs.Laws.{FramesAreOfTwoSides}
@@ -28,15 +27,6 @@ summary_with lines frames counts unfinished pending ended = record counts {
   pending = pending;
   ends_in_line_feed = ended;
 }
-
--- how many were left out, where this many were kept
-pub left_out : (settings : Settings) (meanings : List (Option Stamped)) (pair : PairValue) (lines : ℕ) (counts : Summary) (pending kept : ℕ)
-    → Receives settings meanings pair lines counts → kept ≡ length (flattened (meaning_of_lines MESSAGE_LIMIT settings meanings)) → pending ≡ counts.messages - kept
-    → pending ≡ length (removed_messages (messages_of_lines MESSAGE_LIMIT settings meanings))
-left_out settings meanings pair lines counts pending kept received kept_are pending_are =
-    let all = none_is_lost (messages_of_lines MESSAGE_LIMIT settings meanings) in
-    let total = ap (λ (s : Summary). s.messages) received.counted in
-    omega arith
 
 frames_before : (d : Dir) (e : Entry) (rest : List Entry) → frames_of d (e ∷ rest) ≡ one_if (same_direction d e.dir) + frames_of d rest
 frames_before d e rest =

@@ -4,9 +4,7 @@ use Rattle.can_log.specs.declared.frame.Stamped.{Stamped}
 use Rattle.trace_log.specs.declared.fault.Fault.{Fault}
 use Rattle.trace_log.specs.declared.fault.Fault.TheVariants.{BadLine, Oversize, LogLimit, OutputLimit, Read, Write, Memory}
 use Rattle.trace_log.specs.declared.summary.Summary.{Summary}
-use Rattle.uds_exchange.specs.Meaning.{ItemValue}
 use Rattle.trace_log.specs.Settings.{Settings}
-use Rattle.trace_log.specs.Messages.{HasMeaning}
 use Rattle.trace_log.specs.CanonicalLog.{canonical_log_of_lines, fitting, early_text}
 use Rattle.trace_log.specs.Refusal.{Refusal, bad_line, oversize_message, long_log, long_canonical_log, announces_within}
 use Rattle.trace_log.specs.LinesRead.{AreReadBefore, WritesTextOfRead, WritesFrontOfRead}
@@ -72,10 +70,3 @@ abbrev pub Answers : ℕ → Settings → List ℕ → ℕ → Result Summary Fa
 Answers limit settings log given (Ok summary) old new =
     (accepted : Accepted) × IsOutcome limit settings log (Ok accepted) × (accepted.summary ≡ summary) × (new ≡ old ++ accepted.text)
 Answers limit settings log given (Err fault) old new = TellsOutcome limit settings log fault × Leaves limit settings log given fault old new
-
--- The log is accepted, with this meaning and this summary.
-pub record IsAcceptedWith (limit : ℕ) (settings : Settings) (log : List ℕ) (items : List ItemValue) (summary : Summary) : Type 0 where
-  pub accepted : Accepted
-  pub outcome : IsOutcome limit settings log (Ok accepted)
-  pub means : HasMeaning limit settings log items
-  pub counted : accepted.summary ≡ summary

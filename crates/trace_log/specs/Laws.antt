@@ -1,4 +1,4 @@
--- What canonical logs promise.
+-- What holds of what logs mean, of why they are refused, and of canonical logs.
 use Rattle.std.specs.Prelude.{◌≡◌, ◌↔◌, ◌≤◌, ◌<◌, ◌^◌, ℕ, ◌+◌, ◌-◌, ◌*◌, Bool, true, List, ◌++◌, length, Option, Some, None, Result, Ok, Err}
 use Rattle.std.specs.List.{AllByRecursion}
 use Rattle.can_log.specs.Canonical.{canonical_length}
@@ -26,7 +26,7 @@ use Rattle.trace_log.specs.Refusal.{Refusal, bad_line, oversize_message, CountsA
 use Rattle.trace_log.specs.Summing.{is_clean, summary_of}
 use Rattle.trace_log.specs.LinesRead.{AreLinesRead, AreReadBefore}
 use Rattle.trace_log.specs.Outcome.{Accepted, IsOutcome}
-use Rattle.trace_log.specs.Explained.{Unreadable, IsReadAs}
+use Rattle.trace_log.specs.ReadAs.{Unreadable, IsReadAs}
 use Rattle.trace_log.specs.Answers.{ReadsWhile, WritesFront, WritesEagerly, Answers}
 
 -- a frame has a direction exactly where its identifier is that of the direction

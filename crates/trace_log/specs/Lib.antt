@@ -4,13 +4,13 @@ pub mod Messages
 pub mod CanonicalLog
 pub mod Summing
 pub mod Refusal
-pub mod LinesRead
+pub mod ReadAs
 pub mod Outcome
-pub mod Explained
 pub mod Needing
-pub mod Answers
-pub mod Feeding
+pub mod LinesRead
 pub mod Failing
 pub mod Devices
+pub mod Answers
+pub mod Feeding
 pub mod Laws
 pub mod proving

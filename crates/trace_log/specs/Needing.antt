@@ -1,13 +1,11 @@
 -- For which frames of a log a run needs memory.
-use Rattle.std.specs.Prelude.{◌≡◌, ℕ, ◌⊎◌, List, [], ◌∷◌, ◌++◌, Option}
+use Rattle.std.specs.Prelude.{◌≡◌, ℕ, List, [], ◌∷◌, ◌++◌, Option}
 use Rattle.can_log.specs.Log.{log_lines, LinesMean}
 use Rattle.can_log.specs.declared.frame.Stamped.{Stamped}
 use Rattle.isotp_pdu.specs.Reading.{layout_of}
 use Rattle.isotp_receive.specs.Growth.{MayBeRefused}
 use Rattle.isotp_receive.specs.Trace.{Entry}
-use Rattle.isotp_receive.specs.Verdict.{message, messages, verdict}
-use Rattle.uds_exchange.specs.Decider.{IsKept}
-use Rattle.uds_exchange.specs.Orderer.{IsHeld}
+use Rattle.isotp_receive.specs.Verdict.{verdict}
 use Rattle.trace_log.specs.Settings.{Settings}
 use Rattle.trace_log.specs.Trace.{trace}
 
@@ -27,18 +25,6 @@ pub record HasFrame (Holds : List Entry → Entry → Type 0) (settings : Settin
   pub own : trace settings (before ++ line ∷ []) ≡ trace settings before ++ frame ∷ []
   pub holds : Holds (trace settings before) frame
 
--- The frame completes a message that is held: a stray behind a request that waits for its answer.
-abbrev pub CompletesHeld : ℕ → List Entry → Entry → Type 0
-CompletesHeld limit T e = (bytes : List ℕ) × ((verdict limit T e).verdict ≡ message bytes) × IsHeld (messages limit T) (e.dir, bytes)
-
--- The frame completes a message that is kept: a request, or a stray behind a request that waits for its answer.
-abbrev pub CompletesKept : ℕ → List Entry → Entry → Type 0
-CompletesKept limit T e = (bytes : List ℕ) × ((verdict limit T e).verdict ≡ message bytes) × IsKept (messages limit T) (e.dir, bytes)
-
--- The frame completes a message.
-abbrev pub CompletesMessage : ℕ → List Entry → Entry → Type 0
-CompletesMessage limit T e = (bytes : List ℕ) × ((verdict limit T e).verdict ≡ message bytes)
-
 -- The bytes of the frame are kept for a message of several frames: it is a first frame that begins a reception, or a
 -- consecutive frame that is stored or completes a message.
 abbrev pub IsKeptForMessage : ℕ → List Entry → Entry → Type 0
@@ -47,11 +33,3 @@ IsKeptForMessage limit T e = MayBeRefused (layout_of e.frame) (verdict limit T e
 -- the log has a frame whose bytes are kept
 abbrev pub NeedsMemoryToReceive : ℕ → Settings → List ℕ → Type 0
 NeedsMemoryToReceive limit = HasFrame (IsKeptForMessage limit)
-
--- or one that completes a message which is held
-abbrev pub NeedsMemoryToOrder : ℕ → Settings → List ℕ → Type 0
-NeedsMemoryToOrder limit = HasFrame (λ T e. IsKeptForMessage limit T e ⊎ CompletesHeld limit T e)
-
--- or one that completes any message
-abbrev pub NeedsMemoryToCollect : ℕ → Settings → List ℕ → Type 0
-NeedsMemoryToCollect limit = HasFrame (λ T e. IsKeptForMessage limit T e ⊎ CompletesMessage limit T e)

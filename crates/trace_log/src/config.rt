@@ -75,7 +75,7 @@ impl Config {
         self.wanted.second()
     }
 
-    /// The identifiers of the frames that are received.
+    /// The identifiers of the tester and the unit: frames of others are foreign.
     #[inline(always)]
     pub fn wanted(&self) -> &Wanted
         ensures { result.now ≡ record { first = self.now.tester; second = self.now.unit } }
@@ -102,7 +102,7 @@ impl Config {
         }
     }
 
-    /// The direction of the frames with this identifier.
+    /// The direction of the frames with this identifier; none where they are foreign.
     #[tactic(auto, unfolding(crate::specs::Settings::direction_of))]
     pub fn direction_of(&self, id: Id) -> Option<Dir>
         ensures { result ≡ direction_of self.now id }

@@ -1,8 +1,6 @@
 //! A log read piece by piece. What is due is written before each read.
-ghost use Rattle.std.specs.Prelude.{◌≡◌, ℕ, ◌+◌, ◌-◌, ◌^◌, ◌≤◌, List, [], length, OnOk, IfErr, MatchResult, Option, true};
+ghost use Rattle.std.specs.Prelude.{◌≡◌, ℕ, ◌+◌, ◌-◌, ◌^◌, ◌≤◌, List, [], length, OnOk, MatchResult, true};
 ghost use Rattle.std.specs.Io.KnownBytes.{IsAtEnd};
-ghost use Rattle.can_log.specs.WholeLog.{StandsAfter};
-ghost use Rattle.can_log.specs.declared.frame.Stamped.{Stamped as StampedValue};
 ghost use Rattle.trace_io.specs.Counted.{AreLowCounts};
 ghost use Rattle.trace_io.specs.Stream.{Agrees, Gave};
 ghost use Rattle.trace_log.specs.Answers.{ReadsWhile};
@@ -14,7 +12,11 @@ use can_log::Scanner;
 use trace_io::Source;
 
 /// Takes the lines of a log one by one, as they come, and answers whether its last byte is a line feed. Before each
-/// read the taker writes what is due. A fault of a device is [`Fault::Read`] or [`Fault::Write`].
+/// read the taker writes what is due. A fault of a device is [`Fault::Read`] or [`Fault::Write`], one of the taker is handed
+/// on.
+///
+/// No more than `max_bytes` bytes count, at most 2^40. One more refuses the log, [`Fault::LogLimit`], but a line before it
+/// that can't be read does so first, [`Fault::BadLine`].
 pub fn feed_lines<R: Source, T: LineTaker>(
     max_bytes: u64,
     reader: &mut R,

@@ -1,4 +1,4 @@
-//! What canonical logs promise, for the crates above.
+//! What holds of what logs mean, of why they are refused, and of canonical logs.
 ghost use Rattle.trace_log.specs.Laws.{DirectionIsById, OutcomeIsThere, OutcomeIsOne, CanonicalIsCanonical, SameMeaningSameText, RecordingHasCanonicalLog, CleanSummaryIsCertificate, CleanLogIsRecording, FramesAreOfTwoSides, PendingAreTheRest, EarlyTextStays, EarlyTextGrows, LinesReadAreThere, LinesReadAreOne, ReadingIsThere, ReadingIsOne, FittingIsLongest, FaultLeavesFront, LongestMessage, LargestLimit, ReadsByPieces, WritesByPieces, CanonicalLogLength, CanonicalLogLengthBySides, BadLineIsLowest, OversizeIsLowest, LargerLimitKeeps, SummaryCertifies};
 
 /// A frame has a direction exactly where its identifier is that of the direction.

@@ -1,13 +1,9 @@
 //! The lines of a piece of a log, handed on one by one.
-ghost use Rattle.std.specs.Prelude.{◌≡◌, ◌≢◌, ℕ, ◌+◌, ◌-◌, ◌^◌, ◌<◌, ◌≤◌, List, [], ◌∷◌, ◌++◌, length, OnOk, IfErr, IfNone, IfSome, IsSomeAnd, Option, Some, MatchResult, true, false};
+ghost use Rattle.std.specs.Prelude.{◌≡◌, ◌≢◌, ℕ, ◌+◌, ◌-◌, ◌^◌, ◌<◌, ◌≤◌, List, [], ◌∷◌, ◌++◌, length, OnOk, IfErr, IfNone, IfSome, IsSomeAnd, Option, Some, true, false};
 ghost use Rattle.can_log.specs.declared.frame.Id.{Id as IdValue};
-ghost use Rattle.std.specs.Io.KnownBytes.{IsAtEnd};
 ghost use Rattle.can_log.specs.declared.frame.Stamped.{Stamped as StampedValue};
 ghost use Rattle.can_log.specs.Scanning.{Scans, ScansForeign};
 ghost use Rattle.can_log.specs.WholeLog.{StandsAfter};
-ghost use Rattle.trace_io.specs.Counted.{AreLowCounts};
-ghost use Rattle.trace_io.specs.Stream.{Agrees, Gave};
-ghost use Rattle.trace_log.specs.Answers.{ReadsWhile};
 ghost use Rattle.trace_log.specs.Feeding.{IsOfTaker};
 ghost use Rattle.trace_log.specs.proving.Reading.{ReadsPiece, ReadsEnd, IsOfLines};
 ghost use Rattle.trace_log.specs.declared.fault.Fault.{Fault as FaultValue};
@@ -18,14 +14,15 @@ use can_log::{Scan, Scanner, Stamped, Wanted};
 /// The most bytes that one read asks for.
 pub(crate) const PIECE: usize = 4096;
 
-/// What takes the lines of a log one by one. An implementation says by two ghost members what it is after lines, and after
-/// one on which it stopped: each is told of what it went from.
+/// What takes the lines of a log one by one. Its ghost members say what it is after lines, each told of what it went from.
 pub trait LineTaker {
     /// What it writes to.
     type Device;
 
+    /// What it is after lines.
     ghost took: { Self × Self.Device → List (Option StampedValue) → Self × Self.Device → Type 0 };
 
+    /// What it is after lines where it stopped on the next one, and why.
     ghost stopped: { Self × Self.Device → List (Option StampedValue) → Option StampedValue → FaultValue → Self × Self.Device → Type 0 };
 
     /// The text of these first lines was written since, whatever became of the rest.
@@ -63,7 +60,8 @@ pub trait LineTaker {
             → took start meanings (self.old, device.old) → sure start meanings (self.new, device.new) }
         ensures kept { (start : Self × Self.Device) (first : List (Option StampedValue)) → sure start first (self.old, device.old) → sure start first (self.new, device.new) };
 
-    /// Takes the next line, by its number and what it means.
+    /// Takes the next line, by its number and what it means: nothing where it is blank. It stops only by
+    /// [`Fault::Oversize`] or [`Fault::Memory`].
     fn take(
         &mut self,
         device: &mut Self::Device,

@@ -38,7 +38,7 @@ pub struct Summary {
 pub struct Count(pub &'static str, pub u64);
 
 impl Summary {
-    /// Before the first line.
+    /// The counts before the first line: all 0, with no line feed at the end.
     pub fn nothing() -> Summary
         ensures { result ≡ counted_in MESSAGE_LIMIT [] }
     {
@@ -56,7 +56,8 @@ impl Summary {
         }
     }
 
-    /// Counts what one more frame of a direction did. A count stays at the largest number.
+    /// Counts what one more frame of a direction did, in `tester_frames` or `unit_frames`, `messages`, `dropped` and `ended`:
+    /// the others are known at the end. Each stays at the largest number.
     pub fn count(&mut self, dir: Dir, event: Event<'_>)
         ensures { self.new ≡ counted_more dir (seen_event event.entry) self.old }
     {
@@ -74,7 +75,7 @@ impl Summary {
         }
     }
 
-    /// The counts that are told, in this order.
+    /// The seven counts that are told, each with its name, in this order: all but those of each side.
     pub fn named(&self) -> [Count; 7]
         ensures { seen_counts result ≡ named_counts self.now }
     {

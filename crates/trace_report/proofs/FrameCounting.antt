@@ -24,7 +24,8 @@ use Rattle.trace_canon.specs.MessageLines.{last_start, place_of}
 use Rattle.trace_report.specs.Events.{frames_by}
 use Rattle.trace_canon.specs.declared.begun.FramePlace.{FramePlace}
 use Rattle.trace_report.specs.declared.frames.FrameCounts.{FrameCounts}
-use Rattle.trace_canon.specs.proving.Begun.{IsBegunAt, left_by}
+use Rattle.trace_canon.specs.proving.Begun.{IsBegunAt}
+use Rattle.trace_canon.specs.Begun.{left_by}
 use Rattle.trace_report.specs.declared.places.Places.{Places}
 use Rattle.trace_report.specs.proving.Following.{CountFrames, KnowsPlaces, IsTaken, counted_by, frames_with, taken_after}
 use Rattle.trace_canon.proofs.Promises.{role_own, role_other}

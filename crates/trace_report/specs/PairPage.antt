@@ -24,6 +24,7 @@ use Rattle.trace_report.specs.Verdict.{refusal_words, span_of, unclean_reason}
 use Rattle.trace_report.specs.declared.contrast.LogName.{LogName}
 use Rattle.trace_report.specs.declared.contrast.LogName.TheVariants.{A, B}
 use Rattle.trace_report.specs.declared.held_session.Held.{Held}
+use Rattle.trace_report.specs.declared.pair_page.PairTitle.{PairTitle}
 
 -- What a page of two logs is made for: its style, the names of the logs, and the identifiers.
 pub record PairTitleValue : Type 0 where
@@ -32,6 +33,10 @@ pub record PairTitleValue : Type 0 where
   pub right : List ℕ
   pub tester : Id
   pub unit : Id
+
+-- of a title
+abbrev pub pair_title_of : PairTitle → PairTitleValue
+pair_title_of title = record { style = title.style.now; left = title.left.now; right = title.right.now; tester = title.tester; unit = title.unit }
 
 -- of logs with these names and this configuration
 abbrev pub pair_title : List ℕ → List ℕ → List ℕ → Settings → PairTitleValue

@@ -7,7 +7,7 @@
 //! event -> Follower -> rows -> Chart -> page
 //! ```
 //!
-//! [`report`] is a machine over the driver of `trace_canon` (`reporter`). A `follower` knows what the rows to come
+//! [`report`] is a machine over the driver of `trace_run` (`reporter`). A `follower` knows what the rows to come
 //! depend on: the numbers of items, the request that waits, and the `places` where messages begin. It answers the rows
 //! of a frame (`row`). The `chart` says them, in `blocks` that fold, and keeps a `tally` for the verdict.
 //!

@@ -7,7 +7,7 @@ ghost use Rattle.trace_report.specs.Items.{items_in, pairs_of};
 ghost use Rattle.trace_report.specs.PairPage.{contrast_side, difference_text, items_after, items_before, items_text, later_items, rows_to_difference, same_items};
 ghost use Rattle.trace_report.specs.Difference.{contrast_chart};
 ghost use Rattle.trace_report.specs.proving.Holding.{contrast_found, held_rows};
-ghost use Rattle.trace_report.specs.proving.Pages.{pair_title_of};
+ghost use Rattle.trace_report.specs.PairPage.{pair_title_of};
 
 use crate::contrast::{LogName, say_contrast_words};
 use crate::difference::say_contrast_chart;

@@ -6,7 +6,7 @@ ghost use Rattle.trace_report.specs.Held.{pairs_in};
 ghost use Rattle.trace_report.specs.Contrast.{first_contrast};
 ghost use Rattle.trace_report.specs.PairPage.{both_names, held_page, letter_mark, lettered_name, pair_body, pair_front, pair_head, pair_header, pair_page, refused_pair, unread_page};
 ghost use Rattle.trace_report.specs.PairPage as Spec;
-ghost use Rattle.trace_report.specs.proving.Pages.{pair_title_of};
+ghost use Rattle.trace_report.specs.PairPage.{pair_title_of};
 
 use crate::contrast::{LogName, say_log_letter};
 use crate::front::{say_identifiers, say_name, say_notice_with, say_page_start, say_shapes};
@@ -56,7 +56,7 @@ struct PairPage<'a> {
 
 impl<'a> Printable for PairPage<'a> {
     ghost use Rattle.trace_report.specs.PairPage.{pair_page};
-    ghost use Rattle.trace_report.specs.proving.Pages.{pair_title_of};
+    ghost use Rattle.trace_report.specs.PairPage.{pair_title_of};
 
     ghost text = { λ t. pair_page (pair_title_of t.title.now) t.answer.now };
 

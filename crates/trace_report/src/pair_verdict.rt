@@ -7,7 +7,7 @@ ghost use Rattle.trace_report.specs.PairPage.{different_verdict, nothing_verdict
 ghost use Rattle.trace_report.specs.Sorts.{counts_in};
 ghost use Rattle.trace_report.specs.Verdict.{span_of};
 ghost use Rattle.trace_report.specs.proving.Holding.{contrast_found};
-ghost use Rattle.trace_report.specs.proving.Pages.{pair_title_of};
+ghost use Rattle.trace_report.specs.PairPage.{pair_title_of};
 
 use crate::contrast::{LogName, say_contrast_words};
 use crate::counts::say_counts;

@@ -1,3 +1,3 @@
-pub mod Printed
 pub mod Told
+pub mod Printed
 pub mod proving

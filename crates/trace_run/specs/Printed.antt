@@ -1,53 +1,13 @@
 -- A text that is written by itself, once all of it is known.
-use Rattle.std.specs.Prelude.{◌≡◌, ◌≢◌, ◌-◌, List, ℕ, ◌++◌, length, Result, Ok, Err, IfErr}
-use Rattle.trace_io.specs.Stream.{Agrees}
-use Rattle.trace_io.specs.Written.{HasFront, HasWritten}
-use Rattle.trace_io.specs.declared.device.Source.{Ghosts as SourceGhosts}
+use Rattle.std.specs.Prelude.{◌≡◌, ◌-◌, List, ℕ, Result, IfErr}
+use Rattle.trace_io.specs.Written.{HasWritten}
 use Rattle.trace_io.specs.declared.device.Target.{Ghosts}
 use Rattle.trace_log.specs.declared.fault.Fault.{Fault}
-use Rattle.trace_log.specs.declared.fault.Fault.TheVariants.{BadLine, Oversize, LogLimit, OutputLimit, Read, Write, Memory}
-use Rattle.trace_log.specs.declared.summary.Summary.{Summary}
-use Rattle.trace_log.specs.Answers.{ReadsWhile}
-use Rattle.trace_log.specs.Devices.{ReadFrom, WroteTo}
+use Rattle.trace_log.specs.declared.fault.Fault.TheVariants.{Write}
+use Rattle.trace_log.specs.Devices.{WroteTo}
 
 -- A target took all of a text, or a front of it where writing failed.
 pub record Prints {A W : Type 0} (target : Ghosts W) (text : List ℕ) (old : W) (result : Result A Fault) (new : W) : Type 0 where
   pub written : HasWritten result (target.taken old) text (target.taken new)
   pub wrote : WroteTo target Write result old new
   pub only : IfErr result (λ fault. fault ≡ Write)
-
--- What is written after `old` where a log has no such text: a front of one where writing failed, and else nothing. `Is`
--- says of what a text is made, with the counts of the log.
-abbrev pub LeavesOnce : {V : Type 0} → (V → List ℕ) → (V → Summary → Type 0) → Fault → List ℕ → List ℕ → Type 0
-LeavesOnce {V = V} text Is Write old new = (value : V) × (summary : Summary) × Is value summary × HasFront old (text value) new
-LeavesOnce text Is (BadLine line column) old new = new ≡ old
-LeavesOnce text Is (Oversize line announced) old new = new ≡ old
-LeavesOnce text Is LogLimit old new = new ≡ old
-LeavesOnce text Is OutputLimit old new = new ≡ old
-LeavesOnce text Is Read old new = new ≡ old
-LeavesOnce text Is Memory old new = new ≡ old
-
--- What is answered by a call that writes a text at its end alone, and what is then written where `old` was before: the
--- text, and the counts; else a fault, which is known for what it is, and what that leaves.
-abbrev pub WritesOnce : {V : Type 0} → (V → List ℕ) → (V → Summary → Type 0) → (Fault → Type 0) → Result Summary Fault → List ℕ → List ℕ → Type 0
-WritesOnce {V = V} text Is IsFault (Ok summary) old new = (value : V) × Is value summary × (new ≡ old ++ text value)
-WritesOnce text Is IsFault (Err fault) old new = IsFault fault × LeavesOnce text Is fault old new
-
--- A run that reads a log, and then writes a text of it by itself: all that a caller knows of it. `Is` says of which
--- logs what is the text's, `IsFault` why a log has none, `IsUnrefused` that nothing refuses a log among so many of its
--- bytes, and `NeedsMemory` which logs may need some.
-pub record RanOnce {V R W : Type 0} (source : SourceGhosts R) (target : Ghosts W) (text : V → List ℕ) (Is : List ℕ → V → Summary → Type 0) (IsFault : List ℕ → Fault → Type 0) (IsUnrefused : List ℕ → ℕ → Type 0)
-    (NeedsMemory : List ℕ → Type 0) (max_bytes : ℕ) (before : R) (old : W) (result : Result Summary Fault) (after : R) (new : W) : Type 0 where
-  -- what is answered and written, for each log with which the bytes that were read agree
-  pub answer : (log : List ℕ) → Agrees (source.given before) (source.given after) (source.is_over after) log
-      → WritesOnce text (Is log) (IsFault log) result (target.taken old) (target.taken new)
-  -- where there is no such text, the target is left alone
-  pub unwritten : IfErr result (λ fault. fault ≢ Write → new ≡ old)
-  -- reading stops within one piece
-  pub near : (log : List ℕ) → Agrees (source.given before) (source.given after) (source.is_over after) log
-      → ReadsWhile (IsUnrefused log) (length (source.given after) - length (source.given before)) (source.failures before) (source.failures after)
-  -- memory is refused only for a log that needs it
-  pub memory : (log : List ℕ) → Agrees (source.given before) (source.given after) (source.is_over after) log → result ≡ Err Memory → NeedsMemory log
-  -- what it did with its devices
-  pub read : ReadFrom source Read max_bytes result before after
-  pub wrote : WroteTo target Write result old new

@@ -1,4 +1,4 @@
-//! A log told by a machine: the one place where a command reads, writes and fails.
+//! A log told by a machine: where a run reads, writes and fails.
 ghost use Rattle.std.specs.Prelude.{◌≡◌, ℕ, ◌^◌, ◌<◌, List, [], ◌∷◌, ◌++◌, length, Err, IfErr, OnOk, OnErr, Option, false};
 ghost use Rattle.can_log.specs.declared.frame.Stamped.{Stamped as StampedValue};
 ghost use Rattle.isotp_receive.specs.declared.TheConstants.{MESSAGE_LIMIT};

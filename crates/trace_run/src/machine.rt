@@ -1,5 +1,5 @@
 //! A command as a machine: what it says of each frame of a log, and at the end.
-ghost use Rattle.std.specs.Prelude.{◌≡◌, ℕ, ◌^◌, ◌<◌, List, [], ◌∷◌, ◌++◌, length, OnOk, OnErr, Result};
+ghost use Rattle.std.specs.Prelude.{◌≡◌, ◌^◌, ◌<◌, List, [], ◌∷◌, ◌++◌, length, OnOk, OnErr, Result};
 ghost use Rattle.isotp_receive.specs.declared.TheConstants.{MESSAGE_LIMIT};
 ghost use Rattle.isotp_receive.specs.Capacities.{KeepsWithin};
 ghost use Rattle.isotp_receive.specs.EventSeen.{seen_event};
@@ -45,7 +45,8 @@ pub trait Machine {
     fn is_strict(&self) -> bool
         ensures { (start : Self) (T : List Entry) → stands start T self.now → result ≡ (script start).strict };
 
-    /// Takes what the next frame of the trace did. Where memory is refused, nothing is said.
+    /// Takes what the next frame of the trace did: its line, from 1 on, its time in microseconds, and its direction. Where
+    /// memory is refused, nothing is said.
     fn event<S: TextSink>(
         &mut self,
         line: u64,

@@ -1,5 +1,5 @@
 //! The page that text is gathered on, between a machine and the target.
-ghost use Rattle.std.specs.Prelude.{◌≡◌, ◌^◌, ◌≤◌, [], true, false};
+ghost use Rattle.std.specs.Prelude.{◌≡◌, [], true, false};
 ghost use Rattle.trace_run.specs.proving.Carrying.{Speaks, Settles, SaysNoMore};
 
 use crate::block::{Block, gather};

@@ -1,21 +1,16 @@
--- The text that explains a log: a line for each reception that ended without its message and for each frame that was dropped,
--- in the order of the log; then the receptions that stand at its end; and last the counts. Each is written in words or as an
--- object of JSON.
-use Rattle.std.specs.Prelude.{ℕ, List, [], ◌∷◌, ◌++◌, codes, Option, Some, None, option_map}
+-- The lines that explain a log: of a reception that ended without its message, of a frame that was dropped, of a reception
+-- that stands at the end, and of the counts. Each is written in words or as an object of JSON.
+use Rattle.std.specs.Prelude.{ℕ, List, [], ◌∷◌, ◌++◌, codes}
 use Rattle.std.specs.Fmt.{decimal}
 use Rattle.std.specs.List.{flat_map}
 use Rattle.can_log.specs.Digits.{hexadecimal}
 use Rattle.direction.specs.declared.Dir.{Dir}
-use Rattle.direction.specs.declared.Dir.TheVariants as dir
 use Rattle.isotp_pdu.specs.declared.PduFault.{PduFault}
 use Rattle.isotp_pdu.specs.declared.PduFault.TheVariants as pdu
 use Rattle.isotp_receive.specs.declared.event.Cause.{Cause}
 use Rattle.isotp_receive.specs.declared.event.Cause.TheVariants as cause
-use Rattle.isotp_receive.specs.declared.event.Ended.{Ended}
 use Rattle.isotp_receive.specs.declared.event.Reason.{Reason}
 use Rattle.isotp_receive.specs.declared.event.Reason.TheVariants as reason
-use Rattle.isotp_receive.specs.StandingReception.{StandingReception, Receptions}
-use Rattle.isotp_receive.specs.Verdict.{VerdictValue, EventValue, message, began, stored, flowed, dropped}
 use Rattle.trace_text.specs.Json.{Members, nothing, member, object_line}
 use Rattle.trace_text.specs.Json as json
 use Rattle.trace_text.specs.declared.notation.Notation.{Notation}
@@ -131,39 +126,3 @@ remark_members (remark.Counts summary) = summary_members summary
 abbrev pub remark_text : Notation → Remark → List ℕ
 remark_text Text told = remark_line told
 remark_text Json told = object_line (remark_members told)
-
--- of a reception that the frame of this line ended, if it ended one
-abbrev pub ended_text : Notation → ℕ → Option Ended → List ℕ
-ended_text notation line None = []
-ended_text notation line (Some ended) = remark_text notation (remark.Ended line ended)
-
--- of a frame of this line, sent by this side, if it was dropped
-abbrev pub dropped_text : Notation → ℕ → Dir → VerdictValue → List ℕ
-dropped_text notation line d (dropped reason) = remark_text notation (remark.Dropped line d reason)
-dropped_text notation line d (message bytes) = []
-dropped_text notation line d began = []
-dropped_text notation line d stored = []
-dropped_text notation line d flowed = []
-
--- the lines of a frame: what it ended, and then that it was dropped
-abbrev pub event_text : Notation → ℕ → Dir → EventValue → List ℕ
-event_text notation line d event = ended_text notation line event.ended ++ dropped_text notation line d event.verdict
-
--- the line and the announced length of the first frame of a reception
-abbrev pub beginning : StandingReception → ℕ × ℕ
-beginning standing = (standing.line, standing.len)
-
--- the line of a reception that stands at the end, by its beginning, if one does
-abbrev pub unfinished_line : Notation → Dir → Option (ℕ × ℕ) → List ℕ
-unfinished_line notation d None = []
-unfinished_line notation d (Some begun) = remark_text notation (remark.Unfinished d begun.0 begun.1)
-
--- the lines of the receptions that stand, the tester's first
-abbrev pub unfinished_text : Notation → Receptions → List ℕ
-unfinished_text notation receptions =
-    unfinished_line notation dir.Tester (option_map beginning receptions.tester)
-    ++ unfinished_line notation dir.Unit (option_map beginning receptions.unit)
-
--- what follows the lines of all frames
-abbrev pub end_text : Notation → Receptions → Summary → List ℕ
-end_text notation receptions summary = unfinished_text notation receptions ++ remark_text notation (remark.Counts summary)

@@ -1,4 +1,4 @@
--- What lists of items promise.
+-- What holds of the texts of lists of items.
 use Rattle.std.specs.Prelude.{◌≡◌, ◌↔◌, List, ◌++◌}
 use Rattle.std.specs.List.{AllByRecursion}
 use Rattle.can_log.specs.Frame.{AreBytes}

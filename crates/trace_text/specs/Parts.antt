@@ -1,4 +1,4 @@
--- Devices of proof: the parts of a line, and the text of each.
+-- The parts of a line and the text of each; and counts, with what stands before and between.
 use Rattle.std.specs.Prelude.{ℕ, ◌+◌, List, ◌++◌}
 use Rattle.std.specs.Fmt.{decimal}
 use Rattle.std.specs.List.{flat_map}

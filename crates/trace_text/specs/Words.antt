@@ -1,4 +1,4 @@
--- The words of the texts: numbers, bytes, and the names of directions, of roles, of services and of response codes.
+-- The words of the texts: bytes, and the names of directions, of roles, of services and of response codes.
 use Rattle.std.specs.Prelude.{ℕ, List, ◌++◌, codes, unwrap_or, option_map}
 use Rattle.std.specs.List.{flat_map}
 use Rattle.can_log.specs.Digits.{hexadecimal}

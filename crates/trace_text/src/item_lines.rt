@@ -52,16 +52,16 @@ pub fn say_item<S: TextSink>(number: u64, style: ItemStyle, item: LentItem<'_>, 
     }
 }
 
-/// The same in words.
+/// Says the line of an item in words.
 pub fn say_worded<S: TextSink>(number: u64, numbering: Numbering, item: LentItem<'_>, out: &mut S)
     ensures { S.says out.old (worded_line numbering number (lent_value item.entry)) out.new }
 {
-    say_number(number, numbering, out);
+    say_item_number(number, numbering, out);
     say_unnumbered(item, out);
 }
 
 /// Says the number of an item, where it is shown.
-fn say_number<S: TextSink>(number: u64, numbering: Numbering, out: &mut S)
+fn say_item_number<S: TextSink>(number: u64, numbering: Numbering, out: &mut S)
     ensures { S.says out.old (number_text numbering number) out.new }
 {
     match numbering {

@@ -1,5 +1,5 @@
 //! The items of a meaning as objects of JSON.
-ghost use Rattle.std.specs.Prelude.{◌++◌, codes, option_map};
+ghost use Rattle.std.specs.Prelude.{codes, option_map};
 ghost use Rattle.uds_exchange.specs.ItemSeen.{lent_value};
 ghost use Rattle.trace_text.specs.Json.{object, value_text};
 ghost use Rattle.trace_text.specs.ListText.{answer_members, exchange_members, item_members, item_object, outcome_members};
@@ -13,7 +13,7 @@ use trace_io::TextSink;
 use uds_exchange::LentItem;
 use uds_message::{is_negative_response, is_suppressing, response_code, sid};
 
-/// Says an item, which has this number, as an object.
+/// Says an item, which has this number, as an object of JSON, without the end of its line.
 pub fn say_item_object<S: TextSink>(
     number: u64,
     numbering: Numbering,

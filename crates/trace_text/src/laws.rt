@@ -1,4 +1,4 @@
-//! What lists of items promise, for the crates above.
+//! What holds of the texts of lists of items.
 ghost use Rattle.trace_text.specs.Laws.{UnnumberedListsJoin, EqualListsHaveEqualTexts};
 
 /// The lists of items without numbers, one after another, are the list of all: so an item more is a line more, and

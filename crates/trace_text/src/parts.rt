@@ -1,5 +1,5 @@
 //! The parts of a line of text.
-ghost use Rattle.std.specs.Prelude.{◌≡◌, ◌^◌, ◌<◌, ◌≤◌, ◌++◌, ◌%◌, codes};
+ghost use Rattle.std.specs.Prelude.{◌≡◌, ◌<◌, ◌++◌, ◌%◌, codes};
 ghost use Rattle.can_log.specs.Digits.{decimal, digit, hexadecimal};
 
 /// The hexadecimal digits.
@@ -22,9 +22,9 @@ pub enum Part<'a> {
     Spelled(&'a [u8]),
     /// Two hexadecimal digits for each byte.
     Bytes(&'a [u8]),
-    /// The name of the service.
+    /// The name of the service, or `service_` and two digits where it has none.
     Service(u8),
-    /// The name of the response code.
+    /// The name of the response code, or `code_` and two digits where it has none.
     Code(u8),
 }
 

@@ -1,5 +1,5 @@
 //! The parts of a line of text, said one after another.
-ghost use Rattle.std.specs.Prelude.{◌+◌, ◌++◌};
+ghost use Rattle.std.specs.Prelude.{◌+◌};
 ghost use Rattle.std.specs.Fmt.{decimal};
 ghost use Rattle.trace_text.specs.Parts.{counts_between, part_text, parts_text};
 ghost use Rattle.can_log.specs.Digits.{hexadecimal};
@@ -30,7 +30,7 @@ pub fn say_parts<S: TextSink>(out: &mut S, parts: &[Part<'_>])
     }
 }
 
-/// Says counts: before each name this, and between it and its number that.
+/// Says counts one after another: each as `before`, its name, `between`, and its number in decimal.
 pub fn say_counts<S: TextSink>(
     before: &'static str,
     between: &'static str,
@@ -95,7 +95,7 @@ pub fn say_six_decimals<S: TextSink>(out: &mut S, number: u64)
     say_part(out, Part::Decimals(number));
 }
 
-/// Says the last three of them.
+/// Says the last three decimal digits of a number.
 pub fn say_three_decimals<S: TextSink>(out: &mut S, number: u64)
     ensures { S.says out.old (digits.decimal 3 number) out.new }
 {
@@ -130,14 +130,14 @@ pub fn say_layout_fault<S: TextSink>(out: &mut S, fault: PduFault)
     say_text(out, layout_fault_name(fault));
 }
 
-/// Says the name of a service.
+/// Says the name of a service (ISO 14229-1), or `service_` and two digits where it has none.
 pub fn say_service<S: TextSink>(out: &mut S, sid: u8)
     ensures { S.says out.old (service_text sid) out.new }
 {
     say_part(out, Part::Service(sid));
 }
 
-/// Says the name of a response code.
+/// Says the name of a response code (ISO 14229-1, Annex A.1), or `code_` and two digits where it has none.
 pub fn say_code<S: TextSink>(out: &mut S, code: u8)
     ensures { S.says out.old (code_text code) out.new }
 {

@@ -17,7 +17,8 @@ use Rattle.trace_canon.specs.Found.{Finds, NeedsMemoryToFind, RanToFind}
 use Rattle.trace_text.specs.ListText.{list_text}
 use Rattle.trace_canon.specs.Listed.{RanOverItems, TextOfItems, WritesItems}
 use Rattle.trace_canon.specs.MessageLines.{placing_script}
-use Rattle.trace_log.specs.Needing.{CompletesKept, HasFrame, IsKeptForMessage, NeedsMemoryToCollect, NeedsMemoryToOrder, NeedsMemoryToReceive}
+use Rattle.trace_log.specs.Needing.{HasFrame, IsKeptForMessage, NeedsMemoryToReceive}
+use Rattle.trace_canon.specs.Keeping.{CompletesKept, NeedsMemoryToCollect, NeedsMemoryToOrder}
 use Rattle.trace_log.specs.Refusal.{HasNoBadPlaceWithin, IsNotRefusedWithin}
 use Rattle.trace_log.specs.Settings.{Settings}
 use Rattle.trace_run.specs.Told.{Script, AnswersTold, RanLenient, answers_counts, needs_none}

@@ -1,40 +1,17 @@
--- Devices of proof: where the receptions that stand began.
-use Rattle.std.specs.Prelude.{◌≡◌, Bool, true, false, List, Option, Some, None, option_map, unwrap_or, if◌then◌else◌}
+-- Devices of proof: where the receptions that stand began, kept along a trace.
+use Rattle.std.specs.Prelude.{◌≡◌, List, Option, option_map}
 use Rattle.direction.specs.declared.Dir.{Dir}
 use Rattle.direction.specs.declared.Dir.TheVariants.{Tester, Unit}
 use Rattle.isotp_receive.specs.declared.TheConstants.{MESSAGE_LIMIT}
-use Rattle.isotp_receive.specs.declared.event.Ended.{Ended}
 use Rattle.isotp_receive.specs.StandingReception.{StandingReception, stands}
-use Rattle.isotp_receive.specs.Trace.{Entry, same_direction}
-use Rattle.isotp_receive.specs.Verdict.{VerdictValue, message, began, stored, flowed, dropped, EventValue, messages}
+use Rattle.isotp_receive.specs.Trace.{Entry}
+use Rattle.isotp_receive.specs.Verdict.{began, messages}
 use Rattle.uds_exchange.specs.Numbering.{CountsItems}
 use Rattle.uds_exchange.specs.declared.numbers.Numbers.{Numbers}
 use Rattle.trace_canon.specs.declared.begun.Begun.{Begun}
 use Rattle.trace_canon.specs.declared.begun.FramePlace.{FramePlace}
 use Rattle.trace_text.specs.declared.notation.Notation.{Notation}
 use Rattle.trace_canon.specs.MessageLines.{place_of, last_start}
-
--- where a reception of d began, if one stands, after an end
-abbrev pub left_by : Dir → Option Ended → Option FramePlace → Option FramePlace
-left_by d None begun = begun
-left_by d (Some ended) begun = if same_direction d ended.dir then None else begun
-
--- and after what became of a frame in this place, of the same direction or the other one
-abbrev pub moved_by : Bool → VerdictValue → FramePlace → Option FramePlace → Option FramePlace
-moved_by true (message bytes) here begun = None
-moved_by true began here begun = Some here
-moved_by true stored here begun = begun
-moved_by true flowed here begun = begun
-moved_by true (dropped reason) here begun = begun
-moved_by false did here begun = begun
-
--- after both
-abbrev pub begun_after : Dir → Dir → EventValue → FramePlace → Option FramePlace → Option FramePlace
-begun_after d sender event here begun = moved_by (same_direction d sender) event.verdict here (left_by d event.ended begun)
-
--- where the message began that a frame completed: here, where no reception stood that it did not end
-abbrev pub began_at : Dir → EventValue → FramePlace → Option FramePlace → FramePlace
-began_at sender event here begun = unwrap_or (left_by sender event.ended begun) here
 
 -- where the reception of d began that stands after the frames T, if one does, whatever frame came before them
 abbrev pub IsBegunAt : Dir → List Entry → Option FramePlace → Type 0

@@ -1,4 +1,4 @@
--- Devices of proof: what is counted in the frames of a log, one by one.
+-- Devices of proof: what is received of a log: receptions, lines and counts.
 use Rattle.std.specs.Prelude.{◌≡◌, ℕ, ◌+◌, List, [], length, Option}
 use Rattle.direction.specs.declared.Dir.{Dir}
 use Rattle.can_log.specs.declared.frame.Stamped.{Stamped}

@@ -1,19 +1,13 @@
 -- Devices of proof: what the code holds of a page, without where its bytes lie in memory.
 use Rattle.trace_report.specs.Front.{PageTitle}
-use Rattle.trace_report.specs.PairPage.{PairTitleValue}
 use Rattle.trace_report.specs.Rows.{RowValue, message, no_answer, dropped, ended, unfinished}
 use Rattle.trace_report.specs.declared.front.Title.{Title}
-use Rattle.trace_report.specs.declared.pair_page.PairTitle.{PairTitle}
 use Rattle.trace_report.specs.declared.row.Row.{Row}
 use Rattle.trace_report.specs.declared.row.Row.TheVariants as row
 
 -- what a page is made for
 abbrev pub title_of : Title → PageTitle
 title_of title = record { style = title.style.now; name = title.name.now; tester = title.tester; unit = title.unit }
-
--- and a page of two logs
-abbrev pub pair_title_of : PairTitle → PairTitleValue
-pair_title_of title = record { style = title.style.now; left = title.left.now; right = title.right.now; tester = title.tester; unit = title.unit }
 
 -- a row
 abbrev pub row_of : Row → RowValue

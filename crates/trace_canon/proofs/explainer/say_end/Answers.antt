@@ -1,6 +1,6 @@
 use Rattle.std.proofs.Common.{ap, subst}
 use Rattle.direction.specs.declared.Dir.TheVariants as dir
-use Rattle.trace_text.specs.ExplainText.{unfinished_line}
+use Rattle.trace_canon.specs.ExplainScript.{unfinished_line}
 use Rattle.trace_canon.proofs.explainer.say_end.Goals as goal
 
 pub returns : goal.returns

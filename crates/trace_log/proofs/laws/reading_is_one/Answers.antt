@@ -1,4 +1,4 @@
-use Rattle.trace_log.proofs.Explained.{reading_is_there, reading_is_one}
+use Rattle.trace_log.proofs.ReadAs.{reading_is_there, reading_is_one}
 use Rattle.trace_log.proofs.laws.reading_is_one.Goals as goal
 
 pub returns-clause-there : goal.returns-clause-there

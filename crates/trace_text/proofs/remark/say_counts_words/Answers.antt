@@ -1,5 +1,5 @@
 use Rattle.std.proofs.Common.{subst}
-use Rattle.trace_text.proofs.EventTexts.{counts_are}
+use Rattle.trace_text.proofs.RemarkLines.{counts_are}
 use Rattle.trace_text.proofs.remark.say_counts_words.Goals as goal
 
 pub returns : goal.returns

@@ -1,5 +1,5 @@
 use Rattle.std.proofs.Common.{subst}
-use Rattle.trace_text.proofs.EventTexts.{dropped_is}
+use Rattle.trace_text.proofs.RemarkLines.{dropped_is}
 use Rattle.trace_text.proofs.remark.say_dropped_line.Goals as goal
 
 pub returns : goal.returns

@@ -1,5 +1,5 @@
 use Rattle.std.proofs.Common.{subst}
-use Rattle.trace_text.proofs.EventTexts.{ended_is}
+use Rattle.trace_text.proofs.RemarkLines.{ended_is}
 use Rattle.trace_text.proofs.remark.say_ended_line.Goals as goal
 
 pub returns : goal.returns

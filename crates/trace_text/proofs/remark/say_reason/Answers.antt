@@ -1,6 +1,6 @@
 use Rattle.std.proofs.Common.{◌∙◌, ap, sym, subst}
 use Rattle.trace_text.specs.ExplainText.{reason_line}
-use Rattle.trace_text.proofs.EventTexts.{sequence_is, announced_is}
+use Rattle.trace_text.proofs.RemarkLines.{sequence_is, announced_is}
 use Rattle.trace_text.proofs.remark.say_reason.Goals as goal
 
 pub returns-in-NextSequence : goal.returns-in-NextSequence

@@ -6,7 +6,7 @@ use Rattle.can_log.specs.declared.frame.Stamped.{Stamped}
 use Rattle.can_log.proofs.Promises.{log_is_legal_or_refused, log_means_at_most_one, refused_place_is_one, refused_log_has_no_meanings}
 use Rattle.trace_log.specs.Settings.{Settings}
 use Rattle.trace_log.specs.Refusal.{EachPasses}
-use Rattle.trace_log.specs.Explained.{Unreadable, no_line, too_long, takes_all, IsReadAs}
+use Rattle.trace_log.specs.ReadAs.{Unreadable, no_line, too_long, takes_all, IsReadAs}
 use Rattle.trace_log.specs.Laws.{ReadingIsThere, ReadingIsOne}
 use Rattle.trace_log.proofs.SomeOutcome.{counts_or_not, counts_not, same_place}
 

@@ -13,11 +13,6 @@ use Rattle.trace_text.specs.ExplainText.{cause_text, count_text, counts_text, re
 use Rattle.trace_log.specs.Summing.{seen_counts}
 use Rattle.trace_text.specs.Words.{direction_text}
 use Rattle.trace_text.specs.Parts.{counts_between}
-use Rattle.trace_io.specs.Written.{IsWritten}
-
--- a text was written
-pub all_written : (old text new : List ℕ) → new ≡ old ++ text → IsWritten old text new []
-all_written old text new is = record { front = text; parts = sym (append-nil text); wrote = is }
 
 -- pieces put together from the back, and from the front
 seven : (a b c d e f g : List ℕ) → a ++ (b ++ (c ++ (d ++ (e ++ (f ++ g))))) ≡ a ++ b ++ c ++ d ++ e ++ f ++ g
