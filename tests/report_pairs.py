@@ -439,18 +439,16 @@ def names(cases):
             cases.report(f"logs in files {left[:40]!r} and {right[:40]!r}", name_faults(cases, ["--", left, right], folder))
             cases.report("the same by whole paths", name_faults(cases, [f"{folder}/{left}", f"{folder}/{right}"], folder))
         cases.report("one file named twice", name_faults(cases, ["a.log", "a.log"], folder))
-        for words in [("folder/a.log", "folder/inner/a.log"), ("a.log", "folder/a.log"), ("a.log", "./a.log")]:
-            for path in words:
-                Path(folder, path).write_bytes(VIN)
-            wanted = report_oracle.pair_reported(VIN, VIN, names=[path.encode() for path in words])
-            cases.report(f"logs of one name by their paths: {words}", page_differences(cases.run(["report", *words], cwd=folder), wanted))
 
 
 def name_faults(cases, words, folder):
-    left, right = words[-2:]
+    """Two files of one name are called by their paths."""
+    paths = words[-2:]
     found = cases.run(["report", *words], cwd=folder)
-    given = [report_oracle.last_part(os.fsencode(path)) for path in (left, right)]
-    shown = [NAMES[path.removeprefix(f"{folder}/")] for path in (left, right)]
+    given = [report_oracle.last_part(os.fsencode(path)) for path in paths]
+    shown = [NAMES[path.removeprefix(f"{folder}/")] for path in paths]
+    if given[0] == given[1]:
+        given, shown = [path.encode() for path in paths], paths
     texts = [f"<title>{shown[0]} and {shown[1]} - udsnorm report</title>\n"]
     texts += [f'<span class="who">{letter}</span> {name}{end}' for letter, name in zip("AB", shown) for end in ("<", "</h3>\n")]
     wrong = page_differences(found, report_oracle.pair_reported(VIN, VIN, names=given)) + form_faults(found.output)
