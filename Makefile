@@ -58,8 +58,8 @@ check:
 attack:
 	@scripts/attack $(CRATE)
 
-# The tests of the built program, of the documents and of `make check`, random and hostile logs through it, memory that is ample and each growth
-# of it refused in turn, and then the gate: every proof from nothing, every test, every wrong body refused.
+# The tests of the built program, of the documents and of `make check`, random and hostile logs through it, memory that is ample
+# and each growth of it refused in turn, and then the gate: every proof from nothing, every test, every wrong body refused.
 test: build lib
 	@python3 tests/command_line.py $(PROGRAM)
 	@python3 tests/program.py $(PROGRAM)
