@@ -6,13 +6,15 @@ use Rattle.std.proofs.lemmas.List.Sums.{sum_by-append, count_by-le-length}
 use Rattle.std.specs.BTreeMap.{BTreeMap, IsOrdered, Updates}
 use Rattle.std.specs.BTreeMap as tree
 use Rattle.std.specs.List.{cons_option, count_by}
+use Rattle.std.specs.Map.{lookup}
 use Rattle.std.specs.Option.{unwrap_or}
 use Rattle.std.specs.Ordering.{is_eq}
 use Rattle.std.specs.Prelude.{if◌then◌else◌}
 use Rattle.can_log.specs.Frame.{FrameValue}
-use Rattle.uds_find.specs.Credit.{credit, credits, credits_after, credit_count, pair_order}
+use Rattle.uds_find.specs.Credit.{credit, credits, credits_after, credit_count, is_same_pair}
 use Rattle.uds_find.specs.Finding.{IsTally, counted}
 use Rattle.uds_find.specs.declared.pair.Pair.{Pair}
+use Rattle.uds_find.proofs.Orders.{found-key, key_order, keys-once, one-pair, same-key}
 
 -- the credits of one frame more
 pub credits-more : (past frames : List FrameValue) (frame : FrameValue)
@@ -31,16 +33,16 @@ pub count-silent : (pair : Pair) (frames : List FrameValue) (frame : FrameValue)
     → credit_count pair (frames ++ frame ∷ []) ≡ credit_count pair frames
 unfolding credit_count
 count-silent pair frames frame none =
-    ap (count_by (λ credited. is_eq (pair_order credited pair))) (credits-more [] frames frame ∙ ap (λ one. credits frames ++ cons_option one []) none ∙ append-nil (credits frames))
+    ap (count_by (λ credited. is_same_pair credited pair)) (credits-more [] frames frame ∙ ap (λ one. credits frames ++ cons_option one []) none ∙ append-nil (credits frames))
 
 -- one credit: that pair has one more
 pub count-more : (pair : Pair) (frames : List FrameValue) (frame : FrameValue) (one : Pair) → credit frames frame ≡ Some one
-    → credit_count pair (frames ++ frame ∷ []) ≡ credit_count pair frames + (if is_eq (pair_order one pair) then 1 else 0)
+    → credit_count pair (frames ++ frame ∷ []) ≡ credit_count pair frames + (if is_same_pair one pair then 1 else 0)
 unfolding credit_count
 count-more pair frames frame one some =
-    ap (count_by (λ credited. is_eq (pair_order credited pair))) (credits-more [] frames frame ∙ ap (λ credited. credits frames ++ cons_option credited []) some)
-    ∙ sum_by-append (λ credited. if is_eq (pair_order credited pair) then 1 else 0) (credits frames) (one ∷ [])
-    ∙ ap (λ n. credit_count pair frames + n) (nothing-before (if is_eq (pair_order one pair) then 1 else 0))
+    ap (count_by (λ credited. is_same_pair credited pair)) (credits-more [] frames frame ∙ ap (λ credited. credits frames ++ cons_option credited []) some)
+    ∙ sum_by-append (λ credited. if is_same_pair credited pair then 1 else 0) (credits frames) (one ∷ [])
+    ∙ ap (λ n. credit_count pair frames + n) (nothing-before (if is_same_pair one pair then 1 else 0))
   where
     nothing-before : (n : ℕ) → 0 + n ≡ n
     nothing-before n = omega arith
@@ -58,11 +60,7 @@ few-credits past (first ∷ rest) = with-one (credit past first) _ _ (few-credit
 pub few-counted : (pair : Pair) (frames : List FrameValue) → credit_count pair frames ≤ length frames
 unfolding credit_count
 few-counted pair frames =
-    omega (arith, count_by-le-length (λ credited. is_eq (pair_order credited pair)) (credits frames), few-credits [] frames)
-
--- pairs that are equal in their order are one
-pub one-pair : (one other : Pair) → is_eq (pair_order one other) ≡ true → one ≡ other
-one-pair one other same = search rules
+    omega (arith, count_by-le-length (λ credited. is_same_pair credited pair) (credits frames), few-credits [] frames)
 
 -- the number that a tally has of a pair
 pub tallied : (frames : List FrameValue) (pair : Pair) (found : Option ℕ) → found ≡ counted (credit_count pair frames) → unwrap_or found 0 ≡ credit_count pair frames
@@ -72,6 +70,20 @@ tallied frames pair found is = ap (λ o. unwrap_or o 0) is ∙ of-count (credit_
     of-count n true none = ap (λ b. unwrap_or (if b then None else Some n) 0) none ∙ sym (eqb-true n 0 none)
     of-count n false some = ap (λ b. unwrap_or (if b then None else Some n) 0) some
 
+-- what a table finds under a pair
+pub kept-count : (frames : List FrameValue) (pair : Pair) (table : List (Pair × ℕ)) → IsTally frames table
+    → lookup (λ other. is_eq (key_order pair other)) table ≡ counted (credit_count pair frames)
+kept-count frames pair table tally = found-key pair table ∙ tally.counts pair
+
+-- where it finds nothing, there is no credit
+pub uncredited : (frames : List FrameValue) (pair : Pair) (table : List (Pair × ℕ)) → IsTally frames table
+    → lookup (λ other. is_eq (key_order pair other)) table ≡ None → credit_count pair frames ≡ 0
+uncredited frames pair table tally absent = of-count (credit_count pair frames) (credit_count pair frames == 0) refl (sym (kept-count frames pair table tally) ∙ absent)
+  where
+    of-count : (n : ℕ) (b : Bool) → (n == 0) ≡ b → counted n ≡ None → n ≡ 0
+    of-count n true none is = eqb-true n 0 none
+    of-count n false some is = absurd (cc (sym (ap (λ b. if b then None else Some n) some) ∙ is))
+
 pub tally-silent : (frames : List FrameValue) (frame : FrameValue) (table : List (Pair × ℕ)) → credit frames frame ≡ None → IsTally frames table → IsTally (frames ++ frame ∷ []) table
 tally-silent frames frame table none tally = record {
   once = tally.once;
@@ -79,15 +91,15 @@ tally-silent frames frame table none tally = record {
 }
 
 pub tally-more : (frames : List FrameValue) (frame : FrameValue) (one : Pair) (old new : BTreeMap Pair ℕ) (now : ℕ) → credit frames frame ≡ Some one
-    → IsTally frames old.entries → IsOrdered pair_order new → Updates pair_order old new one (Some now) → now ≡ credit_count one frames + 1
+    → IsTally frames old.entries → IsOrdered key_order new → Updates key_order old new one (Some now) → now ≡ credit_count one frames + 1
     → IsTally (frames ++ frame ∷ []) new.entries
 tally-more frames frame one old new now some tally ordered updates is = record {
-  once = ordered;
-  counts = λ pair. at pair (is_eq (pair_order one pair)) refl;
+  once = keys-once new.entries ordered;
+  counts = λ pair. sym (found-key pair new.entries) ∙ at pair (is_same_pair one pair) refl;
 }
   where
-    at : (pair : Pair) (b : Bool) → is_eq (pair_order one pair) ≡ b → tree.get pair_order new pair ≡ counted (credit_count pair (frames ++ frame ∷ []))
-    at pair true same = updates.0 pair ∙ ap (λ b. if b then Some now else tree.get pair_order old pair) same
+    at : (pair : Pair) (b : Bool) → is_same_pair one pair ≡ b → tree.get key_order new pair ≡ counted (credit_count pair (frames ++ frame ∷ []))
+    at pair true same = updates.0 pair ∙ ap (λ b. if b then Some now else tree.get key_order old pair) (same-key one pair ∙ same)
         ∙ ap Some is ∙ ap (λ p. Some (credit_count p frames + 1)) (one-pair one pair same)
         ∙ some-count (credit_count pair frames) (credit_count pair frames + 1 == 0) refl
         ∙ ap counted (sym (count-more pair frames frame one some ∙ ap (λ b. credit_count pair frames + (if b then 1 else 0)) same))
@@ -95,6 +107,6 @@ tally-more frames frame one old new now some tally ordered updates is = record {
         some-count : (n : ℕ) (b : Bool) → (n + 1 == 0) ≡ b → Some (n + 1) ≡ counted (n + 1)
         some-count n true none = absurd (omega (arith, eqb-true (n + 1) 0 none))
         some-count n false some = sym (ap (λ b. if b then None else Some (n + 1)) some)
-    at pair false apart = updates.0 pair ∙ ap (λ b. if b then Some now else tree.get pair_order old pair) apart
-        ∙ tally.counts pair
+    at pair false apart = updates.0 pair ∙ ap (λ b. if b then Some now else tree.get key_order old pair) (same-key one pair ∙ apart)
+        ∙ kept-count frames pair old.entries tally
         ∙ ap counted (sym (count-more pair frames frame one some ∙ ap (λ b. credit_count pair frames + (if b then 1 else 0)) apart ∙ omega arith))

@@ -1,3 +1,4 @@
+pub mod Orders
 pub mod Waiting
 pub mod Counting
 pub mod Standing

@@ -3,16 +3,16 @@ use Rattle.std.proofs.Common.{◌≡◌, ℕ, ◌<◌, List, [], ◌∷◌, ◌+
 use Rattle.std.proofs.lemmas.List.{get_or-replicate, length-replicate}
 use Rattle.std.specs.BTreeMap.{BTreeMap, IsOrdered}
 use Rattle.std.specs.Map.{lookup}
-use Rattle.std.specs.Ordering.{is_eq}
 use Rattle.std.specs.Prelude.{slice_index_or, slice_set}
 use Rattle.can_log.specs.Frame.{FrameValue}
 use Rattle.can_log.specs.declared.frame.Id.{Id}
-use Rattle.uds_find.specs.Credit.{credit, credit_by, credit_count, credited_to, credits_after, asker_by, is_of, pair_order, waits_for}
+use Rattle.uds_find.specs.Credit.{credit, credit_by, credit_count, credited_to, credits_after, asker_by, is_of, is_same_pair, waits_for}
 use Rattle.uds_find.specs.Finding.{IsTally, StandsAfter, TellsWaiting}
 use Rattle.uds_find.specs.Mention.{mention_of}
 use Rattle.uds_find.specs.declared.finder.Finder.{Finder}
 use Rattle.uds_find.specs.declared.mention.Mention.TheVariants.{Asks, Answers}
 use Rattle.uds_find.specs.declared.pair.Pair.{Pair}
+use Rattle.uds_find.proofs.Orders.{key_order, keys-once}
 use Rattle.uds_find.proofs.Waiting.{tells-silent, tells-spoken}
 use Rattle.uds_find.proofs.Counting.{tally-silent}
 use lib.ListN.{replicate}
@@ -23,11 +23,11 @@ unfolding waits_for
 nobody-waits = record { places = length-replicate {A = Option Id} 256 None; each = λ service below. get_or-replicate 256 service None None below }
 
 -- and no pair has a credit
-pub nothing-tallied : (pairs : BTreeMap Pair ℕ) → pairs.entries ≡ [] → IsOrdered pair_order pairs → IsTally [] pairs.entries
+pub nothing-tallied : (pairs : BTreeMap Pair ℕ) → pairs.entries ≡ [] → IsOrdered key_order pairs → IsTally [] pairs.entries
 unfolding credit_count credits_after
 nothing-tallied pairs empty ordered = record {
-  once = ordered;
-  counts = λ pair. ap (λ table. lookup (λ other. is_eq (pair_order pair other)) table) empty;
+  once = keys-once pairs.entries ordered;
+  counts = λ pair. ap (lookup (is_same_pair pair)) empty;
 }
 
 pub stands-silent : (frames : List FrameValue) (frame : FrameValue) (finder : Finder) → mention_of frame ≡ None

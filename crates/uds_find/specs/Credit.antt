@@ -1,13 +1,10 @@
 -- Which identifier an answer is credited to: the one that last asked for the service.
-use Rattle.std.specs.Prelude.{◌≡◌, ℕ, ◌==◌, ◌<◌, Bool, false, List, [], ◌∷◌, ◌++◌, length, Option, Some, None, if◌then◌else◌}
+use Rattle.std.specs.Prelude.{◌≡◌, ℕ, ◌==◌, ◌<◌, Bool, false, ◌&&◌, List, [], ◌∷◌, ◌++◌, length, Option, Some, None, if◌then◌else◌}
 use Rattle.std.specs.List.{cons_option, count_by, filter, last_or}
-use Rattle.std.specs.Ordering.{is_eq}
-use Rattle.std.specs.declared.cmp.Ordering.{Ordering}
 use Rattle.can_log.specs.Frame.{FrameValue}
 use Rattle.can_log.specs.declared.frame.Id.{Id}
 use Rattle.can_log.specs.declared.frame.Id.TheVariants as id
 use Rattle.uds_find.specs.Mention.{mention_of}
-use Rattle.uds_find.specs.contracts.pair.PairOrd.TheImpl as pair_ord
 use Rattle.uds_find.specs.declared.mention.Mention.{Mention}
 use Rattle.uds_find.specs.declared.mention.Mention.TheVariants.{Asks, Answers}
 use Rattle.uds_find.specs.declared.pair.Pair.{Pair}
@@ -68,13 +65,13 @@ credits_after past (frame ∷ rest) = cons_option (credit past frame) (credits_a
 abbrev pub credits : List FrameValue → List Pair
 credits frames = credits_after [] frames
 
--- an order of pairs, which are equal in it exactly where they are one pair
-abbrev pub pair_order : Pair → Pair → Ordering
-pair_order = (pair_ord.ghosts).cmp
+-- the two are one pair: of one tester and one unit
+abbrev pub is_same_pair : Pair → Pair → Bool
+is_same_pair one other = is_same one.tester other.tester && is_same one.unit other.unit
 
 -- how many answers of its unit are credited to its tester
 unfoldable pub credit_count : Pair → List FrameValue → ℕ
-credit_count pair frames = count_by (λ credited. is_eq (pair_order credited pair)) (credits frames)
+credit_count pair frames = count_by (λ credited. is_same_pair credited pair) (credits frames)
 
 -- some answer among these frames is credited
 abbrev pub HasCredit : List FrameValue → Type 0

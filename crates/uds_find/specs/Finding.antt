@@ -1,14 +1,15 @@
 -- The lines of a log's pairs, and what a finder keeps of the frames so far.
 use Rattle.std.specs.Prelude.{◌≡◌, ℕ, ◌==◌, ◌<◌, List, Option, Some, None, length, map, slice_index_or, if◌then◌else◌, IsPermutation}
-use Rattle.std.specs.List.Sorted.{IsSorted, IsStrictlySortedBy}
+use Rattle.std.specs.Cmp.Lexicographic.{slice_cmp}
+use Rattle.std.specs.List.{IsDistinct}
+use Rattle.std.specs.List.Sorted.{IsSorted}
 use Rattle.std.specs.Map.{keys_of, lookup}
-use Rattle.std.specs.Ordering.{is_eq}
+use Rattle.std.specs.Ordering.{nat_cmp, ordering_then}
 use Rattle.std.specs.declared.cmp.Ordering.{Ordering}
 use Rattle.can_log.specs.Canonical.{identifier_text}
 use Rattle.can_log.specs.Frame.{FrameValue}
 use Rattle.can_log.specs.declared.frame.Id.{Id}
-use Rattle.uds_find.specs.Credit.{credit_count, pair_order, waits_for}
-use Rattle.uds_find.specs.contracts.pair.CreditLineOrd.TheImpl as line_ord
+use Rattle.uds_find.specs.Credit.{credit_count, is_same_pair, waits_for}
 use Rattle.uds_find.specs.declared.finder.Finder.{Finder}
 use Rattle.uds_find.specs.declared.pair.CreditLine.{CreditLine}
 use Rattle.uds_find.specs.declared.pair.Pair.{Pair}
@@ -19,8 +20,8 @@ counted count = if count == 0 then None else Some count
 
 -- A table has each pair of these frames that has a credit, once, and the number of its credits.
 pub record IsTally (frames : List FrameValue) (table : List (Pair × ℕ)) : Type 0 where
-  pub once : IsStrictlySortedBy pair_order (keys_of table)
-  pub counts : (pair : Pair) → lookup (λ other. is_eq (pair_order pair other)) table ≡ counted (credit_count pair frames)
+  pub once : IsDistinct is_same_pair (keys_of table)
+  pub counts : (pair : Pair) → lookup (is_same_pair pair) table ≡ counted (credit_count pair frames)
 
 -- Each place tells who waits for an answer of its service after these frames.
 pub record TellsWaiting (frames : List FrameValue) (waiting : List (Option Id)) : Type 0 where
@@ -40,9 +41,15 @@ credit_line entry = record {
   unit = record { items = identifier_text entry.0.unit };
 }
 
--- the order of lines: the most credits first, then by the bytes of the tester's text, then of the unit's
+-- the order of texts: the first byte that differs decides, and a text stands before what only goes on after it
+abbrev pub text_order : List ℕ → List ℕ → Ordering
+text_order = slice_cmp nat_cmp
+
+-- the order of lines: the most credits first, then by the tester's text, then by the unit's
 abbrev pub line_order : CreditLine → CreditLine → Ordering
-line_order = (line_ord.ghosts).cmp
+line_order one other =
+    ordering_then (nat_cmp other.credits.0 one.credits.0)
+    (ordering_then (text_order one.tester.items other.tester.items) (text_order one.unit.items other.unit.items))
 
 -- These are the lines of the pairs that have a credit in these frames, in their order.
 pub record AreCreditLines (frames : List FrameValue) (lines : List CreditLine) : Type 0 where

@@ -2,6 +2,7 @@
 use Rattle.std.proofs.Common.{subst}
 use Rattle.std.specs.Prelude.{IsPermutation}
 use Rattle.uds_find.proofs.Needing.{tallied-credit, when_err}
+use Rattle.uds_find.proofs.Orders.{lines-sorted}
 use Rattle.uds_find.proofs.finder.Finder.finish.Goals as goal
 
 pub returns-clause-lines : goal.returns-clause-lines
@@ -9,7 +10,7 @@ returns-clause-lines c = λ frames stands. record {
   table = c.args.self.pairs.entries;
   tally = stands.tally;
   each = subst (λ lines. IsPermutation lines c.sort_unstable.new.self.items) c.in_ok-lines.ensures.lines c.sort_unstable.ensures.permutation;
-  sorted = c.sort_unstable.ensures.sorted;
+  sorted = lines-sorted c.sort_unstable.new.self.items c.sort_unstable.ensures.sorted;
 }
 
 pub returns-in_err-lines-clause-needs : goal.returns-in_err-lines-clause-needs
