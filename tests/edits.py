@@ -24,3 +24,8 @@ def changes(edit):
             file = rest
         else:
             old = rest
+
+
+def laws(edit):
+    """The laws of its crate that a wrong body makes false, where it says so: `law: NAME, ..`, a line that the prover doesn't read."""
+    return re.findall(r"\w+", " ".join(re.findall(r"^law: (.*)$", edit.read_text(), re.M)))
