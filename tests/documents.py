@@ -14,6 +14,7 @@
 - a line of prose stands above each definition that a public function's contract or a law cites;
 - docs/architecture.md says of each crate of the kit that the program stands on where it is called, and the call stands there;
 - the page for callers of each crate names each clause of its public calls, and docs/proved.md cites no other;
+- what docs/proved.md prints of the source stands there;
 - what docs/proved.md cites is written as tests/clauses.txt lists it, no law says nothing, and no edit of a table of edits that
   takes a promise away passes these tests;
 - each law has a wrong body that makes it false, one of the headline in the gate;
@@ -211,7 +212,7 @@ def wrong_bodies(cases):
 
 def tried_by_the_gate(cases):
     """Each row of the first table of docs/proved.md names wrong bodies in its last cell."""
-    there = {path.stem for crate in clauses.FIRST for path in (TOP / "crates" / crate / "must-fail").glob("*.edit")}
+    there = {edit.stem for crate in crates() for edit in edits.of_the_gate(crate)}
     for part, _, bodies in table_below(PROVED, "What is proved, and what is not"):
         names = re.findall(r"`(\w+)`", bodies)
         wrong = [f"{name} is not there" for name in names if name not in there]
@@ -328,6 +329,15 @@ def printed_clauses(cases):
     cases.report("scripts/clauses prints what docs/proved.md cites", wrong if count >= 80 else [f"{count} citations alone", *wrong])
 
 
+def printed_formulas(cases):
+    """Each part of a block of docs/proved.md, between blank lines, stands in a file of a crate, whatever its white space."""
+    blocks = re.findall(r"^```\n(.*?)^```$", PROVED.read_text(), re.M | re.S)
+    parts = [" ".join(part.split()) for block in blocks for part in block.split("\n\n")]
+    texts = [" ".join(path.read_text().split()) for path in FILES if path.suffix in (".rt", ".antt") and path.parent.name in ("src", "specs")]
+    wrong = [part[:60] for part in parts if not any(part in text for text in texts)]
+    cases.report("docs/proved.md prints formulas of the source", wrong if parts else ["it prints none"])
+
+
 # What takes a promise of the headline away, or of a run: a file of crates/ or the page, what it takes from it, and what it puts there.
 TAKEN_AWAY = [
     ("clause again is deleted", "trace_canon/src/normaliser.rt", r"    ensures again \{.*\n.*\n", ""),
@@ -375,6 +385,11 @@ def texts_of_clauses(cases):
 def bodies_of_laws(cases):
     """By what scripts/clauses prints: a row for each law, whose last two cells are its wrong bodies."""
     printed = subprocess.run([TOP / "scripts" / "clauses"], check=True, capture_output=True, text=True, timeout=60).stdout
+    there = {(crate, edit.stem) for crate in crates() for edit in [*edits.of_the_gate(crate), *edits.beyond_it(crate)]}
+    laws = {(crate, law.path.partition("::")[2]) for crate in crates() for law in clauses.Contracts(TOP / "crates" / crate).laws()}
+    wrong = [f"no {body} of {crate}" for crate, _, body in edits.laws() if (crate, body) not in there]
+    wrong += [f"no law {law} of {crate}" for crate, law, _ in edits.laws() if (crate, law) not in laws]
+    cases.report("the laws and wrong bodies that attacks/laws.txt names are there", wrong)
     page = PROVED.read_text()
     of_headline = {name for _, cell in list(clauses.cells(page))[: clauses.rows_of_the_headline(page)] for name in laws_in(cell)}
     for crate, table in re.findall(r"^## (\w+)\n\n(.*?)(?=\n\n|\Z)", printed, re.M | re.S):
@@ -461,7 +476,7 @@ def main():
     cases = Cases(None)
     for test in [
         picture, style, links, lengths_of_lines, heads_of_tables, named_files, wrong_bodies, tried_by_the_gate, definitions, citations, calls_of_the_kit,
-        named_clauses, printed_clauses, texts_of_clauses, taken_away, bodies_of_laws, names_of_two_definitions, decisions, searched_words, lines_of_faults, version_of_the_source, lower_proofs, symbolic_links,
+        named_clauses, printed_clauses, printed_formulas, texts_of_clauses, taken_away, bodies_of_laws, names_of_two_definitions, decisions, searched_words, lines_of_faults, version_of_the_source, lower_proofs, symbolic_links,
     ]:
         test(cases)
     cases.end()

@@ -1,4 +1,5 @@
-"""The wrong bodies as files: those of a crate's must-fail/, which the gate tries, and those of attacks/, which `make attack` does."""
+"""The wrong bodies as files: those of a crate's must-fail/, which the gate tries, and those of attacks/, which `make attack` does; and
+attacks/laws.txt, which says what law a wrong body makes false that is about one."""
 
 import re
 from pathlib import Path
@@ -26,6 +27,6 @@ def changes(edit):
             old = rest
 
 
-def laws(edit):
-    """The laws of its crate that a wrong body makes false, where it says so: `law: NAME, ..`, a line that the prover doesn't read."""
-    return re.findall(r"\w+", " ".join(re.findall(r"^law: (.*)$", edit.read_text(), re.M)))
+def laws():
+    """The laws that wrong bodies make false, by attacks/laws.txt: crate, law and wrong body of each line."""
+    return [tuple(line.split()) for line in (TOP / "attacks/laws.txt").read_text().splitlines()]
