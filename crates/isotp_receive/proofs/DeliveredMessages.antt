@@ -34,9 +34,13 @@ told-so limit past e (x ∷ y ∷ more) two = absurd two
 
 all-delivered : (limit : ℕ) (past T : List Entry) → AreDeliveredAfter limit past T (messages_after limit past T)
 all-delivered limit past [] = refl
-all-delivered limit past (e ∷ rest) =
-    (told_message e.dir (verdict limit past e).verdict, messages_after limit (past ++ e ∷ []) rest, refl,
-    delivered-as limit past e (verdict limit past e).verdict refl, all-delivered limit (past ++ e ∷ []) rest)
+all-delivered limit past (e ∷ rest) = (
+  told_message e.dir (verdict limit past e).verdict,
+  messages_after limit (past ++ e ∷ []) rest,
+  refl,
+  delivered-as limit past e (verdict limit past e).verdict refl,
+  all-delivered limit (past ++ e ∷ []) rest,
+)
 
 none-else : (limit : ℕ) (past T : List Entry) (M : List Message) → AreDeliveredAfter limit past T M → messages_after limit past T ≡ M
 none-else limit past [] M none = sym none
