@@ -6,24 +6,24 @@ type. What all runs of a kind promise is one clause `ran`, a record. Its fields 
 that begins with the record, of the page of a crate that has such records. A call needs no row where these items say all of its
 clauses.
 
-In docs/proved.md the last column of a table of promises cites clauses, in parts between semicolons. Of these are the names in
-backticks read:
+In docs/proved.md a column of each table cites clauses, in parts between semicolons. Of these are the names in backticks read:
 
     `normalise`, `list`: `read`, `wrote`, by `SomeDefinition`       these clauses of each of these calls
     `Pair::new`, `open`: their clauses                             those that have no name; `open` is one of `Pair`, too
-    clause `again` of `normalise`, ..                              the same, the other way round
+    clause `again` of `normalise`, ..                              the same, the other way round; `.. of `call` of `crate``, too
     private `message_bytes::make_room`: `room`                     of a private function, by its module
     laws `one_is_open`, `messages_fit` (`length`, `bytes`)         all clauses of a law, or these; `law .. of `crate`` too
 """
 
 import re
 from collections import namedtuple
-from pathlib import Path
+from functools import lru_cache
 
 # A function of a crate by its path, as `normaliser::normalise` or `scanner::Scanner::scan`, with the names of the clauses that its
 # contract ensures. That of a lone clause is empty. Those of a run are also the fields of its record, and `run` has the names of that.
-# A law stands in a public module, and does nothing.
-Function = namedtuple("Function", "path clauses is_public is_law run")
+# A law stands in a public module, and does nothing. `texts` has each clause as it is written, those that it requires as one.
+Function = namedtuple("Function", "path clauses is_public is_law run texts")
+REQUIRES = "requires"
 
 # What a part of a cell says of some names: what they are, the names, their clauses, None where it names none, and their crate,
 # None where that is one of the section's.
@@ -41,8 +41,13 @@ CLAUSE = re.compile(r"\b(requires|ensures)\*?\s*(\w*)\s*$")
 
 
 def bare(text):
-    """A source file without comments, texts and lengths of arrays, so that each brace and semicolon left has a meaning."""
-    return ARRAY_LENGTH.sub(" ", COMMENT_OR_TEXT.sub("", text))
+    """A source file with blanks for comments, texts and lengths of arrays, so that each brace and semicolon left has a meaning."""
+    return ARRAY_LENGTH.sub(" ", COMMENT_OR_TEXT.sub(lambda found: " " * len(found[0]), text))
+
+
+def folded(text):
+    """A text on one line, without comments."""
+    return " ".join(COMMENT_OR_TEXT.sub(lambda found: "" if found[0].startswith("//") else found[0], text).split())
 
 
 def after_braces(text, at):
@@ -55,17 +60,16 @@ def after_braces(text, at):
     raise ValueError(f"a brace is not closed: {text[at : at + 60]!r}")
 
 
-def ensured(text, at):
-    """What a function ensures whose name ends here, by the clauses before its body, or before a semicolon: their names, each with the
-    word with which it begins."""
-    names = []
+def contract(text, at):
+    """The clauses of a function whose name ends here, which stand before its body, or before a semicolon: whether each is ensured, its
+    name, and where its braces begin and end."""
     while True:
         stop = re.search(r"[{;]", text[at:]).start() + at
         clause = CLAUSE.search(text[at:stop]) if text[stop] == "{" else None
         if clause is None:
-            return names
-        names += [(clause[2], re.match(r"\W*(\w*)", text[stop:])[1])] if clause[1] == "ensures" else []
+            return
         at = after_braces(text, stop)
+        yield clause[1] == "ensures", clause[2], stop, at
 
 
 def owner(kind, head):
@@ -76,30 +80,39 @@ def owner(kind, head):
     return re.search(r"\w+", of_trait[1] if of_trait else head)[0], kind == "trait" or of_trait is not None
 
 
-def functions_in(text):
-    """The functions of a source file: owner or None, name, clauses with their first words, whether it is as public as its owner."""
-    text = bare(text)
+@lru_cache(maxsize=None)
+def functions_in(source):
+    """The functions of a source file: owner or None, name, the texts of its clauses by their names, whether it is as public as its
+    owner. Clauses of one name are one text."""
+    return list(read_functions(source))
+
+
+def read_functions(source):
+    text = bare(source)
     blocks = [(block.start(), block.end(), *owner(block[2], block[3])) for block in BLOCK.finditer(text)]
     for found in FUNCTION.finditer(text):
         of, is_shared = next(((of, is_shared) for start, end, of, is_shared in blocks if start < found.start() < end), (None, False))
-        yield of, found[2], ensured(text, found.end()), found[1] is not None or is_shared
+        texts = {}
+        for is_ensured, name, begin, end in contract(text, found.end()):
+            key = name if is_ensured else REQUIRES
+            texts[key] = f"{texts.get(key, '')} {folded(source[begin + 1 : end - 1])}".strip()
+        yield of, found[2], texts, found[1] is not None or is_shared
 
 
 # The files with the records of runs.
-CRATES = Path(__file__).resolve().parent.parent / "crates"
-RUNS = [CRATES / path for path in ("trace_run/specs/Told.antt", *(f"trace_canon/specs/{name}.antt" for name in ("Once", "Listed", "Found")))]
+RUNS = ["trace_run/specs/Told.antt", *(f"trace_canon/specs/{name}.antt" for name in ("Once", "Listed", "Found"))]
 OF_RUNS = ("trace_run", "trace_canon")
 RUN = "ran"
 
 
-def run_of(name):
+def run_of(folder, name):
     """The records of runs that a definition is, and has: the names, and the fields."""
-    text = "".join(path.read_text() for path in RUNS)
+    text = "".join((folder / path).read_text() for path in RUNS)
     is_short_for = re.search(rf"^{name} .*=\s+(\w+)", text, re.M)
     record = re.search(rf"^pub record {name} (.*?)(?:\n\n|\Z)", text, re.M | re.S)
     names, fields = [name], re.findall(r"^  pub (\w+) : (\w*)", record[1], re.M) if record else []
     for below in [is_short_for[1]] if is_short_for else [head for _, head in fields if head.startswith("Ran")]:
-        more, of_more = run_of(below)
+        more, of_more = run_of(folder, below)
         names, fields = names + more, [field for field in fields if field[1] != below] + of_more
     return names, fields
 
@@ -119,14 +132,14 @@ def functions(crate):
     names, modules = exported(library.read_text()) if library.exists() else (None, set())
     found = []
     for path in sorted((crate / "src").glob("*.rt")):
-        for of, name, ensures, is_public in functions_in(path.read_text()):
-            run, fields = run_of(dict(ensures)[RUN]) if RUN in dict(ensures) else ([], [])
-            clauses = list(dict.fromkeys(clause for clause, _ in [*ensures, *fields]))
+        for of, name, texts, is_public in functions_in(path.read_text()):
+            run, fields = run_of(crate.parent, re.search(r"\w+", texts[RUN])[0]) if RUN in texts else ([], [])
+            clauses = list(dict.fromkeys([*(clause for clause in texts if clause != REQUIRES), *(field for field, _ in fields)]))
             is_in_module = path.stem in modules and of is None
             is_seen = is_public and (is_in_module or names is None or (of or name) in names)
             is_law = is_in_module and path.stem == "laws"
             full = "::".join(part for part in (path.stem, of, name) if part)
-            found.append(Function(full, clauses, is_seen, is_law and is_seen, run if fields else []))
+            found.append(Function(full, clauses, is_seen, is_law and is_seen, run if fields else [], texts))
     return found
 
 
@@ -169,21 +182,32 @@ def left_out(folder):
 
 # --- The page of the proofs ---------------------------------------------------------------------------------------------
 
-# How tables of promises begin; and the crates of the one that stands before the sections of the crates.
-TABLES = ("| Promise | Contract |", "| This | is carried by |")
+# The heads of the columns that cite contracts; and the crates of the table that stands before the sections of the crates, which is
+# that of the headline.
+CITING = ("Contract", "is carried by")
 FIRST = ["trace_log", "trace_run", "trace_text", "trace_canon"]
 
 QUOTED = re.compile(r"`([\w:]+)`")
 
 
 def cells(page):
-    """The cells that say which contracts carry a promise, each with the crates of its section."""
-    crates, is_table = FIRST, False
+    """The cells that say which contracts carry a promise, each with the crates of its section. A table has one column of them, which
+    its head names."""
+    crates, column, is_row = FIRST, None, False
     for line in page.splitlines():
         crates = line.startswith("## ") and re.findall(r"`(\w+)`", line) or crates
-        is_table = line in TABLES or (is_table and line.startswith("|"))
-        if is_table and line not in TABLES and not line.startswith("|---"):
-            yield crates, line.strip("| ").rsplit(" | ", 1)[-1]
+        row = [cell.strip() for cell in line[1:-1].split(" | ")] if line.startswith("|") else None
+        if row is not None and not is_row:
+            column = next((row.index(head) for head in CITING if head in row), None)
+        elif row is not None and column is not None and not line.startswith("|---"):
+            yield crates, row[column]
+        is_row = row is not None
+
+
+def rows_of_the_headline(page):
+    """How many of the first cells are those of the headline's table."""
+    table = re.search(r"^\| This \|.*\n\|[-|]+\n((?:\|.*\n)+)", page, re.M)
+    return len(table[1].splitlines())
 
 
 def citations(cell):
@@ -191,8 +215,8 @@ def citations(cell):
     for part in (part.strip() for part in cell.split(";") if "`" in part):
         if re.match(r"laws? ", part):
             yield from laws_cited(part)
-        elif clause := re.match(r"clause `(\w+)` of `([\w:]+)`(?:, by .*)?$", part):
-            yield Citation(CALL, [clause[2]], [clause[1]], None)
+        elif clause := re.match(r"clause `(\w+)` of `([\w:]+)`(?: of `(\w+)`)?(?:, by .*)?$", part):
+            yield Citation(CALL, [clause[2]], [clause[1]], clause[3])
         else:
             yield calls_cited(part)
 
@@ -216,6 +240,9 @@ class Contracts:
         self.functions = functions(crate)
         self.wrong = []
 
+    def laws(self):
+        return [function for function in self.functions if function.is_law]
+
     def named(self, kind, name, owner):
         """The functions of this kind that a name stands for, itself or with the type."""
         of_kind = [function for function in self.functions if function.is_law == (kind == LAW) and function.is_public == (kind != PRIVATE)]
@@ -226,25 +253,35 @@ class Contracts:
         return []
 
 
-def cite(citation, several, owner):
-    """Looks up what is cited in the first of several crates that has it. A name without a type may be of the type before it, which is
-    answered for the next one."""
-    for name in citation.names:
-        owner = name.split("::")[-2] if "::" in name and citation.kind == CALL else owner
-        having = [contracts for contracts in several if contracts.named(citation.kind, name, owner)]
-        several[-1].wrong += [] if having else [f"there is no {citation.kind} {name}"]
-        for function in having[0].named(citation.kind, name, owner) if having else []:
-            missing = [clause for clause in citation.clauses or [] if clause not in function.clauses]
-            having[0].wrong += [f"{function.path} has no clause {clause}".rstrip() for clause in missing]
-    return owner
+def looked_up(cell, section, crates):
+    """What a cell cites, each name with its citation: the crates in which it is looked for, and the functions of the first that has it.
+    A name without a type may be of the type before it."""
+    owner = None
+    for citation in citations(cell):
+        several = [citation.crate] if citation.crate else section
+        for name in citation.names:
+            owner = name.split("::")[-2] if "::" in name and citation.kind == CALL else owner
+            having = [crate for crate in several if crates[crate].named(citation.kind, name, owner)]
+            yield citation, name, several, crates[having[0]].named(citation.kind, name, owner) if having else [], (having or [None])[0]
+
+
+def cited(cell, section, crates):
+    """The functions that a cell cites, by their crates, each with those of its clauses that it cites and that are there."""
+    for citation, _, _, found, crate in looked_up(cell, section, crates):
+        for function in found:
+            yield crate, function, [clause for clause in function.clauses if citation.clauses is None or clause in citation.clauses]
 
 
 def cited_wrongly(page, folder):
     """What is wrong with the citations of a page, for each crate that has contracts for callers."""
     crates = {path.parent.name: Contracts(path.parent) for path in sorted(folder.glob("*/CALLING.md"))}
     for section, cell in cells(page):
-        owner = None
-        for citation in citations(cell):
-            owner = cite(citation, [crates[name] for name in ([citation.crate] if citation.crate else section)], owner)
+        for citation, name, several, found, crate in looked_up(cell, section, crates):
+            if not found:
+                crates[several[-1]].wrong.append(f"there is no {citation.kind} {name}")
+            for function in found:
+                missing = [clause for clause in citation.clauses or [] if clause not in function.clauses]
+                crates[crate].wrong += [f"{function.path} has no clause {clause}".rstrip() for clause in missing]
+                crates[crate].wrong += [] if function.clauses else [f"{function.path} has no clause"]
     for name, contracts in crates.items():
         yield name, contracts.wrong

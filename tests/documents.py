@@ -14,6 +14,10 @@
 - a line of prose stands above each definition that a public function's contract or a law cites;
 - docs/architecture.md says of each crate of the kit that the program stands on where it is called, and the call stands there;
 - the page for callers of each crate names each clause of its public calls, and docs/proved.md cites no other;
+- what docs/proved.md prints of the source stands there;
+- what docs/proved.md cites is written as tests/clauses.txt lists it, no law says nothing, and no edit of a table of edits that
+  takes a promise away passes these tests;
+- each law has a wrong body that makes it false, one of the headline in the gate;
 - scripts/clauses prints a row for each call and law that docs/proved.md cites, with the clauses that it cites, and what a law is
   made of are the definitions that its `use` lines name, and no others of the same names;
 - each decision of docs/DECISIONS.md says what would change it;
@@ -28,6 +32,7 @@ Prints a line for each case and ends with `N passed, M failed`; its status is 1 
 
 import os
 import re
+import shutil
 import subprocess
 import sys
 import tempfile
@@ -37,6 +42,7 @@ from xml.etree import ElementTree
 import clauses
 import edits
 import fault_lines
+import promised
 import statements
 from cases import Cases
 
@@ -206,7 +212,7 @@ def wrong_bodies(cases):
 
 def tried_by_the_gate(cases):
     """Each row of the first table of docs/proved.md names wrong bodies in its last cell."""
-    there = {path.stem for crate in clauses.FIRST for path in (TOP / "crates" / crate / "must-fail").glob("*.edit")}
+    there = {edit.stem for crate in crates() for edit in edits.of_the_gate(crate)}
     for part, _, bodies in table_below(PROVED, "What is proved, and what is not"):
         names = re.findall(r"`(\w+)`", bodies)
         wrong = [f"{name} is not there" for name in names if name not in there]
@@ -323,6 +329,81 @@ def printed_clauses(cases):
     cases.report("scripts/clauses prints what docs/proved.md cites", wrong if count >= 80 else [f"{count} citations alone", *wrong])
 
 
+def printed_formulas(cases):
+    """Each part of a block of docs/proved.md, between blank lines, stands in a file of a crate, whatever its white space."""
+    blocks = re.findall(r"^```\n(.*?)^```$", PROVED.read_text(), re.M | re.S)
+    parts = [" ".join(part.split()) for block in blocks for part in block.split("\n\n")]
+    texts = [" ".join(path.read_text().split()) for path in FILES if path.suffix in (".rt", ".antt") and path.parent.name in ("src", "specs")]
+    wrong = [part[:60] for part in parts if not any(part in text for text in texts)]
+    cases.report("docs/proved.md prints formulas of the source", wrong if parts else ["it prints none"])
+
+
+# What takes a promise of the headline away, or of a run: a file of crates/ or the page, what it takes from it, and what it puts there.
+TAKEN_AWAY = [
+    ("clause again is deleted", "trace_canon/src/normaliser.rt", r"    ensures again \{.*\n.*\n", ""),
+    ("clause again has another name", "trace_canon/src/normaliser.rt", "ensures again", "ensures once_more"),
+    ("clause again says less", "trace_canon/src/normaliser.rt", "IsCanonicalFor MESSAGE_LIMIT config.now log text", "HaveSameMeaning MESSAGE_LIMIT config.now log text"),
+    ("normalise requires more", "trace_canon/src/normaliser.rt", "requires writer {", "requires small { config.now.max_bytes ≡ 1 }\n    requires writer {"),
+    ("a law is deleted", "trace_log/src/laws.rt", r"pub fn same_meaning_same_text\(\)\n.*\n\{\}", ""),
+    ("a law has another name", "trace_log/src/laws.rt", "fn outcome_is_one", "fn outcome_is_single"),
+    ("a law is private", "trace_log/src/laws.rt", "pub fn outcome_is_there", "fn outcome_is_there"),
+    ("a law ensures nothing", "trace_log/src/laws.rt", r"\n    ensures \{ OutcomeIsOne \}", ""),
+    ("a law ensures what is always so", "trace_log/src/laws.rt", r"\{ OutcomeIsOne \}", "{ ⊤ }"),
+    ("a law requires something", "trace_log/src/laws.rt", r"    ensures \{ OutcomeIsOne \}", "    requires { ⊥ }\n    ensures { OutcomeIsOne }"),
+    ("a statement is always so", "trace_log/specs/Laws.antt", r"^OutcomeIsOne = (.*\n) .*", r"OutcomeIsOne = \1    → ⊤"),
+    ("a statement has half of its words", "trace_log/specs/Laws.antt", r"HaveSameMeaning limit settings a b ↔ ", "HaveSameMeaning limit settings a b → "),
+    ("a record has a field less", "trace_log/specs/Laws.antt", r"  pub own : .*\n", ""),
+    ("a definition far below says less", "isotp_receive/specs/StandingReception.antt", r"nat_le micros \(standing.reference \+ n_cr\)", "true"),
+    ("the record of runs has a field less", "trace_run/specs/Told.antt", r"  pub eager : .*\n.*\n", ""),
+    ("the record of runs says less", "trace_run/specs/Told.antt", r"(pub eager : .*\n.*) → TellsEagerly .*", r"\1 → ⊤"),
+    ("a law beyond the headline is deleted", "uds_exchange/src/laws.rt", r"pub fn held_must_wait\(\)\n.*\n\{\}", ""),
+]
+
+
+def taken_away(cases):
+    """Each edit is made in a copy, in which all else is as it is here. A test that finds nothing in one would find nothing here."""
+    page = PROVED.read_text()
+    with tempfile.TemporaryDirectory() as room:
+        copy = Path(room, "crates")
+        shutil.copytree(TOP / "crates", copy, ignore=shutil.ignore_patterns("out", "proofs", "must-fail"))
+        for name, file, old, new in TAKEN_AWAY:
+            text = (copy / file).read_text()
+            edited, count = re.subn(old, new, text, flags=re.M)
+            (copy / file).write_text(edited)
+            wrong = [] if count == 1 else [f"it changes {count} places"]
+            wrong += [] if promised.wrong(page, copy) else ["no test sees it"]
+            cases.report(f"a promise is taken away where {name}", wrong)
+            (copy / file).write_text(text)
+
+
+def texts_of_clauses(cases):
+    page = PROVED.read_text()
+    cases.report("what docs/proved.md cites is as tests/clauses.txt lists it", promised.changed(page, TOP / "crates"))
+    cases.report("no law says nothing", list(promised.Promised(page, TOP / "crates").empty()))
+
+
+def bodies_of_laws(cases):
+    """By what scripts/clauses prints: a row for each law, whose last two cells are its wrong bodies."""
+    printed = subprocess.run([TOP / "scripts" / "clauses"], check=True, capture_output=True, text=True, timeout=60).stdout
+    there = {(crate, edit.stem) for crate in crates() for edit in [*edits.of_the_gate(crate), *edits.beyond_it(crate)]}
+    laws = {(crate, law.path.partition("::")[2]) for crate in crates() for law in clauses.Contracts(TOP / "crates" / crate).laws()}
+    wrong = [f"no {body} of {crate}" for crate, _, body in edits.laws() if (crate, body) not in there]
+    wrong += [f"no law {law} of {crate}" for crate, law, _ in edits.laws() if (crate, law) not in laws]
+    cases.report("the laws and wrong bodies that attacks/laws.txt names are there", wrong)
+    page = PROVED.read_text()
+    of_headline = {name for _, cell in list(clauses.cells(page))[: clauses.rows_of_the_headline(page)] for name in laws_in(cell)}
+    for crate, table in re.findall(r"^## (\w+)\n\n(.*?)(?=\n\n|\Z)", printed, re.M | re.S):
+        laws = re.findall(r"^\| law `laws::(\w+)` \| [^|]* \| ([^|]*)\| ([^|]*)\|$", table, re.M)
+        wrong = [name for name, gate, beyond in laws if not gate.strip() + beyond.strip()]
+        wrong += [f"{name} in the gate" for name, gate, _ in laws if name in of_headline and not gate.strip()]
+        if laws:
+            cases.report(f"each law of {crate} has a wrong body", wrong)
+
+
+def laws_in(cell):
+    return [name for citation in clauses.citations(cell) if citation.kind == clauses.LAW for name in citation.names]
+
+
 # A crate in which two files define one name, and what a law says by it.
 SAME_NAMES = {
     "Left.antt": "pub same : ℕ\nsame = part\n\npart : ℕ\npart = 1\n",
@@ -342,7 +423,7 @@ def names_of_two_definitions(cases):
         known = statements.Definitions(crate)
     for law, want in [("One", {("Left", "same"), ("Left", "part")}), ("Two", {("Right", "same"), ("Right", "other")})]:
         found = known.reached(f"ensures {{ {law} }}", known.uses(OF_A_LAW))
-        wanted = {("specs/Laws.antt", law)} | {(f"specs/{file}.antt", name) for file, name in want}
+        wanted = {(("made", f"specs/{file}.antt"), name) for file, name in {("Laws", law), *want}}
         cases.report(f"the law {law} is made of the definitions of one file", [] if found == wanted else [str(sorted(found ^ wanted))])
 
 
@@ -395,7 +476,7 @@ def main():
     cases = Cases(None)
     for test in [
         picture, style, links, lengths_of_lines, heads_of_tables, named_files, wrong_bodies, tried_by_the_gate, definitions, citations, calls_of_the_kit,
-        named_clauses, printed_clauses, names_of_two_definitions, decisions, searched_words, lines_of_faults, version_of_the_source, lower_proofs, symbolic_links,
+        named_clauses, printed_clauses, printed_formulas, texts_of_clauses, taken_away, bodies_of_laws, names_of_two_definitions, decisions, searched_words, lines_of_faults, version_of_the_source, lower_proofs, symbolic_links,
     ]:
         test(cases)
     cases.end()

@@ -1,4 +1,5 @@
-"""The wrong bodies as files: those of a crate's must-fail/, which the gate tries, and those of attacks/, which `make attack` does."""
+"""The wrong bodies as files: those of a crate's must-fail/, which the gate tries, and those of attacks/, which `make attack` does; and
+attacks/laws.txt, which says what law a wrong body makes false that is about one."""
 
 import re
 from pathlib import Path
@@ -24,3 +25,8 @@ def changes(edit):
             file = rest
         else:
             old = rest
+
+
+def laws():
+    """The laws that wrong bodies make false, by attacks/laws.txt: crate, law and wrong body of each line."""
+    return [tuple(line.split()) for line in (TOP / "attacks/laws.txt").read_text().splitlines()]

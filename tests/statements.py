@@ -1,7 +1,8 @@
-"""What a statement is made of: the definitions of its crate that it reaches, by the `use` lines of the file in which each stands. A
-name may be that of two definitions, in two files; each is another one."""
+"""What a statement is made of: the definitions that it reaches, by the `use` lines of the file in which each stands. A name may be that
+of two definitions, in two files; each is another one."""
 
 import re
+from functools import lru_cache
 
 # The line with which a definition, or an equation of it, begins; and a case of a list of cases.
 DEFINED = re.compile(r"(?:(?:abbrev|unfoldable|pub|record|data) )*([\w']+)\b")
@@ -14,22 +15,24 @@ NAME = re.compile(r"(?<![\w'.»)])([\w']+)(?:\.([\w']+))?")
 
 
 class Definitions:
-    """The definitions of a crate: of each file their texts by name, the cases of its lists of cases, and what it uses."""
+    """The definitions of some crates: of each file, by crate and path, their texts by name, the cases of its lists of cases, and what it
+    uses."""
 
-    def __init__(self, crate):
-        self.crate, self.texts, self.cases, self.used = crate.name, {}, {}, {}
-        for path in sorted((crate / "specs").rglob("*.antt")):
-            file = str(path.relative_to(crate))
-            self.texts[file] = definitions_in(path.read_text())
-            self.cases[file] = {case: name for name, text in self.texts[file].items() if "data " in text for case in CASE.findall(text)}
-            self.used[file] = self.uses(path.read_text())
+    def __init__(self, *crates):
+        self.crates, self.texts, self.cases, self.used, self.below = {crate.name for crate in crates}, {}, {}, {}, {}
+        for crate in crates:
+            for path in sorted((crate / "specs").rglob("*.antt")):
+                file, text = (crate.name, str(path.relative_to(crate))), path.read_text()
+                self.texts[file] = definitions_in(text)
+                self.cases[file] = {case: name for name, text in self.texts[file].items() if "data " in text for case in CASE.findall(text)}
+                self.used[file] = self.uses(text)
 
     def uses(self, text):
-        """What the `use` lines of a text name of this crate: for each name the file and the name there, None for the whole file."""
+        """What the `use` lines of a text name of these crates: for each name the file and the name there, None for the whole file."""
         found = {}
         for crate, module, names, alias in USED.findall(text):
-            file = f"specs/{module.replace('.', '/')}.antt"
-            if crate != self.crate:
+            file = (crate, f"specs/{module.replace('.', '/')}.antt")
+            if crate not in self.crates:
                 continue
             for name in re.findall(r"([\w']+)(?: as ([\w']+))?", names):
                 found[name[1] or name[0]] = (file, name[0])
@@ -48,14 +51,20 @@ class Definitions:
 
     def reached(self, statement, used):
         """The definitions that a statement is made of, over any number of others, by file and name."""
-        found, left = set(), [(statement, None, used)]
+        found, left = set(), set(self.named(statement, None, used))
         while left:
-            for of, name in set(self.named(*left.pop())) - found:
-                found.add((of, name))
-                left.append((self.texts[of][name], of, self.used[of]))
+            found |= left
+            left = set().union(*(self.named_by(*definition) for definition in left)) - found
         return found
 
+    def named_by(self, of, name):
+        """The definitions that a definition names."""
+        if (of, name) not in self.below:
+            self.below[of, name] = set(self.named(self.texts[of][name], of, self.used[of]))
+        return self.below[of, name]
 
+
+@lru_cache(maxsize=None)
 def definitions_in(text):
     """The definitions of a file by their names, each with its equations."""
     texts, name = {}, None

@@ -63,7 +63,8 @@ class Pair(NamedTuple):
 class Counts(NamedTuple):
     """The counts of a log: its lines; the frames of the two sides; the messages that were received whole; the frames
     that were dropped; the receptions that ended without their message, and those that stand at the end; the replies
-    that the meaning leaves out. Where `dropped`, `ended` and `unfinished` are 0, nothing of the session was lost."""
+    that the meaning leaves out. Where `dropped`, `ended` and `unfinished` are 0, each frame that carries a message
+    belongs to a message that was received whole. A single frame that was lost is not seen."""
 
     lines: int
     frames: int

@@ -30,6 +30,7 @@ pub mod CapacityLaws
 pub mod Heard
 pub mod HeardByRole
 pub mod DeliversLaws
+pub mod DeliveredMessages
 pub mod FittedFrames
 pub mod VerdictLaws
 -- the messages of a trace

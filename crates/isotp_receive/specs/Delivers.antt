@@ -1,5 +1,6 @@
 -- The messages that a trace delivers (ISO 15765-2, section 9.6), by looking back over the whole trace.
-use Rattle.std.specs.Prelude.{◌≡◌, ℕ, List, length}
+use Rattle.std.specs.Prelude.{◌≡◌, ℕ, List, [], ◌∷◌, ◌++◌, length}
+use Rattle.direction.specs.Dir.{Message}
 use Rattle.direction.specs.declared.Dir.{Dir}
 use Rattle.isotp_receive.specs.Trace.{Entry, SingleFrameAt}
 use Rattle.isotp_receive.specs.Places.{AtPlaces}
@@ -17,3 +18,19 @@ pub record Completes (limit : ℕ) (T : List Entry) (position : ℕ) (d : Dir) (
 pub data Delivers (limit : ℕ) (T : List Entry) (position : ℕ) (d : Dir) (message : List ℕ) : Type 0 where
   in_one_frame : SingleFrameAt T d position message → Delivers limit T position d message
   in_frames : Completes limit T position d message → Delivers limit T position d message
+
+-- the messages that the frame e delivers after the frames `past`: one of its direction, or none
+abbrev pub AreDeliveredBy : ℕ → List Entry → Entry → List Message → Type 0
+AreDeliveredBy limit past e [] = (bytes : List ℕ) → ¬ Delivers limit (past ++ e ∷ []) (length past) e.dir bytes
+AreDeliveredBy limit past e (message ∷ []) = (message.0 ≡ e.dir) × Delivers limit (past ++ e ∷ []) (length past) e.dir message.1
+AreDeliveredBy limit past e (message ∷ other ∷ others) = ⊥
+
+-- the messages that each of these frames delivers, in order, where `past` came before them
+abbrev pub AreDeliveredAfter : ℕ → List Entry → List Entry → List Message → Type 0
+AreDeliveredAfter limit past [] M = M ≡ []
+AreDeliveredAfter limit past (e ∷ rest) M =
+    (own : List Message) × (others : List Message) × (M ≡ own ++ others) × AreDeliveredBy limit past e own × AreDeliveredAfter limit (past ++ e ∷ []) rest others
+
+-- the messages that the trace delivers, in order
+abbrev pub AreDelivered : ℕ → List Entry → List Message → Type 0
+AreDelivered limit T M = AreDeliveredAfter limit [] T M

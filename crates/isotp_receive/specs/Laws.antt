@@ -1,13 +1,14 @@
 -- What the public laws of the receptions say.
 use Rattle.std.specs.Prelude.{◌≡◌, ◌<◌, ◌≤◌, ℕ, ◌+◌, ◌%◌, ◌++◌, ◌∷◌, [], ◌↔◌, List, length, Some, IsTrue}
+use Rattle.direction.specs.Dir.{Message}
 use Rattle.direction.specs.declared.Dir.{Dir}
 use Rattle.isotp_receive.specs.Trace.{Entry, At, FirstFrame, first, role}
 use Rattle.isotp_receive.specs.Places.{bytes_in_first, bytes_before, IsConsecutiveCount, FitsAs}
 use Rattle.isotp_receive.specs.OnTime.{IsReference, IsOnTime}
 use Rattle.isotp_receive.specs.StandingReception.{StandingReception, carried_after, fits_length, stands}
 use Rattle.isotp_receive.specs.OpenReception.{IsOpenAt, IsStandingAt}
-use Rattle.isotp_receive.specs.Delivers.{Delivers}
-use Rattle.isotp_receive.specs.Verdict.{EventValue, message, verdict}
+use Rattle.isotp_receive.specs.Delivers.{Delivers, AreDelivered}
+use Rattle.isotp_receive.specs.Verdict.{EventValue, message, verdict, messages}
 use Rattle.isotp_receive.specs.VerdictTable.{HasVerdict}
 
 -- what stands after T is what is known of the reception that is open there, whatever follows
@@ -60,6 +61,10 @@ abbrev pub AMessageIsDelivered : Type 0
 AMessageIsDelivered =
     (limit : ℕ) (T : List Entry) (e : Entry) (bytes : List ℕ)
     → ((verdict limit T e).verdict ≡ message bytes) ↔ Delivers limit (T ++ e ∷ []) (length T) e.dir bytes
+
+-- so the messages of a trace are exactly those that its frames deliver, in order
+abbrev pub MessagesAreDelivered : Type 0
+MessagesAreDelivered = (limit : ℕ) (T : List Entry) (M : List Message) → AreDelivered limit T M ↔ (messages limit T ≡ M)
 
 -- what the places say of the bytes that have come is what the reception counts
 abbrev pub PlacesAgreeOnBytes : Type 0

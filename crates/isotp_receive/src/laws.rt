@@ -8,7 +8,7 @@
 ghost use Rattle.std.specs.Prelude.{◌≡◌};
 ghost use Rattle.isotp_receive.specs.declared.TheConstants.{MESSAGE_LIMIT};
 ghost use Rattle.isotp_receive.specs.Laws.{WhatStandsIsOpen, WhatIsOpenStands, WhatStandsIsFixed, OneIsOpen, OneReference, OnTimeIsWithinASecond, KeepsFewerBytes};
-ghost use Rattle.isotp_receive.specs.Laws.{AMessageIsDelivered, TheVerdictIsTabled, PlacesAgreeOnBytes, PlacesAgreeOnFit};
+ghost use Rattle.isotp_receive.specs.Laws.{AMessageIsDelivered, MessagesAreDelivered, TheVerdictIsTabled, PlacesAgreeOnBytes, PlacesAgreeOnFit};
 ghost use Rattle.isotp_receive.specs.MessageLaws.{MessagesGoOn, MessagesAreFew, MessagesFit, MessagesHoldBytes};
 ghost use Rattle.isotp_receive.specs.MessageLaws.{EventsGoOn, EventsAreAsMany, FirstFrameIsRead, TooLongIsAnnounced, KeptIsWithin, CleanIsCounted};
 ghost use Rattle.isotp_receive.specs.RecordingLaws.{RecordingDelivers, RecordingDeliversBehind, RecordingDeliversAtLastPosition, RecordingDeliversByFrames, CleanTraceIsARecording};
@@ -47,6 +47,11 @@ pub fn keeps_fewer_bytes()
 /// The verdict on a frame is a message exactly where the trace delivers that message with the frame.
 pub fn a_message_is_delivered()
     ensures { AMessageIsDelivered }
+{}
+
+/// The messages of a trace are exactly those that its frames deliver, in order.
+pub fn messages_are_delivered()
+    ensures { MessagesAreDelivered }
 {}
 
 /// The table of verdicts has one for each frame, and that is the verdict.

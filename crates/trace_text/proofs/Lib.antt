@@ -5,6 +5,7 @@ pub mod JsonTexts
 pub mod ItemObjects
 pub mod TextWords
 pub mod EqualLists
+pub mod Silence
 pub mod RemarkLines
 pub mod RemarkObjects
 -- what the crates above may cite

@@ -1,5 +1,5 @@
 //! What holds of the texts of lists of items.
-ghost use Rattle.trace_text.specs.Laws.{UnnumberedListsJoin, EqualListsHaveEqualTexts};
+ghost use Rattle.trace_text.specs.Laws.{UnnumberedListsJoin, EqualListsHaveEqualTexts, SilenceWasAskedFor, SilenceWasAskedForInJson};
 
 /// The lists of items without numbers, one after another, are the list of all: so an item more is a line more, and
 /// changes no other.
@@ -10,4 +10,11 @@ pub fn unnumbered_lists_join()
 /// Lists of items have one text exactly where they are equal: in words and as JSON, with numbers and without.
 pub fn equal_lists_have_equal_texts()
     ensures { EqualListsHaveEqualTexts }
+{}
+
+/// A request without an answer is told as silent exactly where it asked for no positive response (ISO 14229-1,
+/// suppressPosRspMsgIndicationBit).
+pub fn silence_was_asked_for()
+    ensures words { SilenceWasAskedFor }
+    ensures json { SilenceWasAskedForInJson }
 {}
