@@ -1,4 +1,5 @@
 pub mod Waiting
+pub mod Asking
 pub mod Counting
 pub mod Standing
 pub mod Needing
