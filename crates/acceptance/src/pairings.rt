@@ -350,7 +350,7 @@ order Unit#62F19041
 order Tester#3E80
 order Unit#7F2278
 
-what is held stays held after the sink has refused
+nothing is put after the sink has refused
 room 1
 message Tester#22F190
 step 0 bytes held, 1 put
@@ -361,8 +361,8 @@ step 2 bytes held, 1 put
 message Unit#62F19041
 step Sink(\"full\")
 message Unit#7F2278
-step 2 bytes held, 1 put
-step Sink(\"full\")
+step Failed
+step Failed
 order Tester#22F190
 
 a refusal at the end

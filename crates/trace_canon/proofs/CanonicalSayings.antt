@@ -60,10 +60,12 @@ module _ {S : Type 0} (says : S → List ℕ → S → Type 0) (nothing : (s : S
 -- a sink that never fails is no reason to stop
 pub never_stops : {K E Goal : Type 0} (after_ok : AfterOk K) (put : List Message) (s t : K) (why : OrderFault E) → StopsHeld after_ok (λ s d m e t. ⊥) put s t why → Goal
 never_stops after_ok put s t order_fault.Memory stops = absurd stops
+never_stops after_ok put s t order_fault.Failed stops = absurd stops
 never_stops after_ok put s t (order_fault.Sink why) (front, next, rest, between, parts, puts, err) = absurd err
 
 -- so where an orderer stops, memory was refused
 pub stops_for_memory : {K E Goal : Type 0} (after_ok : AfterOk K) (M : List Message) (message : Message) (s t : K) (why : OrderFault E)
     → StopsDue after_ok (λ s d m e t. ⊥) M message s t why → (why ≡ order_fault.Memory → Goal) → Goal
 stops_for_memory after_ok M message s t order_fault.Memory stops by = by refl
+stops_for_memory after_ok M message s t order_fault.Failed stops by = absurd stops
 stops_for_memory after_ok M message s t (order_fault.Sink why) (due, is, (front, next, rest, between, parts, puts, err)) by = absurd err

@@ -1,6 +1,6 @@
 -- What an orderer does with one more message is what the longer list means.
 use Rattle.std.proofs.Common.{◌≡◌, ℕ, false, List, [], ◌∷◌, ◌++◌, Option, Some, None, refl, sym, ◌∙◌, ap, subst, inl, inr, option_map}
-use Rattle.std.proofs.lemmas.Bool.{cases_Bool}
+use Rattle.std.proofs.lemmas.Bool.{cases_Bool, false≢true}
 use Rattle.direction.specs.Dir.{Message}
 use Rattle.uds_message.specs.Message.{sid}
 use Rattle.uds_exchange.specs.Meaning.{ItemValue, is_tester_request, is_answer_to, is_pending_reply_to, meaning, flattened}
@@ -19,7 +19,7 @@ use Rattle.uds_exchange.proofs.Putting.{puts-append}
 use Rattle.uds_exchange.proofs.MustWait.{open-request-waits}
 
 abbrev standing : List ItemValue → OrdererValue
-standing its = record { open_sid = waiting_sid its; holds = held_in its }
+standing its = record { has_failed = false; open_sid = waiting_sid its; holds = held_in its }
 
 sid-of-request : (w : Option (ℕ × List ℕ)) → option_map sid (option_map (λ w. w.1) w) ≡ sid_of w
 sid-of-request None = refl
@@ -27,7 +27,7 @@ sid-of-request (Some w) = refl
 
 pub stands-is : (M : List Message) → stands_after M ≡ standing (meaning M)
 stands-is M =
-    ap (λ (o : Option ℕ). let s : OrdererValue = record { open_sid = o; holds = held M } in s)
+    ap (λ (o : Option ℕ). let s : OrdererValue = record { has_failed = false; open_sid = o; holds = held M } in s)
     (ap (option_map sid) (open-request-waits (meaning M)) ∙ sid-of-request (waiting (meaning M)))
 
 due-by-same : (w : Option (ℕ × List ℕ)) (xs : List Message) (x : Message) → is_tester_request x ≡ false
@@ -98,5 +98,6 @@ module _ {S E : Type 0} (after_ok : AfterOk S) (after_err : AfterErr S E) where
 
   pub stops-due : (M : List Message) (x : Message) (o p : OrdererValue) (s t : S) (f : OrderFault E) → o ≡ stands_after M
       → Stops after_ok after_err x o s p t f → StopsDue after_ok after_err M x s t f
-  stops-due M x o p s t fault.Memory is h = h.1
-  stops-due M x o p s t (fault.Sink e) is h = (due o x, due-from M x o is, h.1)
+  stops-due M x o p s t fault.Memory is h = h.2
+  stops-due M x o p s t (fault.Sink e) is h = (due o x, due-from M x o is, h.2)
+  stops-due M x o p s t fault.Failed is h = absurd (false≢true (ap (λ q. q.has_failed) (sym is) ∙ h.0))

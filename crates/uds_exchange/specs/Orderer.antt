@@ -1,5 +1,5 @@
 -- What an orderer is seen as, and what its calls do to it and to the sink.
-use Rattle.std.specs.Prelude.{◌≡◌, ℕ, List, [], ◌∷◌, ◌++◌, Option, option_map}
+use Rattle.std.specs.Prelude.{◌≡◌, ℕ, Bool, false, List, [], ◌∷◌, ◌++◌, Option, option_map}
 use Rattle.direction.specs.Dir.{Message}
 use Rattle.uds_message.specs.Message.{sid}
 use Rattle.uds_exchange.specs.declared.orderer.OrderFault.{OrderFault}
@@ -7,14 +7,16 @@ use Rattle.uds_exchange.specs.declared.orderer.OrderFault.TheVariants as fault
 use Rattle.uds_exchange.specs.Order.{open_request, held, early}
 use Rattle.uds_exchange.specs.Sink.{AfterOk, AfterErr, Puts, Fails}
 
--- the first byte of the open request, and the messages that are held
+-- whether an earlier call ended with a fault of the sink, the first byte of the open request, and the messages that are
+-- held
 pub record OrdererValue : Type 0 where
+  pub has_failed : Bool
   pub open_sid : Option ℕ
   pub holds : List Message
 
 -- an orderer that stands after the messages M
 abbrev pub stands_after : List Message → OrdererValue
-stands_after M = record { open_sid = option_map sid (open_request M); holds = held M }
+stands_after M = record { has_failed = false; open_sid = option_map sid (open_request M); holds = held M }
 
 -- these are the messages that one more message brings to their place
 abbrev pub IsDue : List Message → Message → List Message → Type 0
@@ -29,13 +31,15 @@ abbrev pub IsHeld : List Message → Message → Type 0
 IsHeld M message = held (M ++ message ∷ []) ≡ held M ++ message ∷ []
 
 -- what a fault leaves of the sink: of what is due nothing was put where memory was refused, and a proper prefix where
--- the sink failed
+-- the sink failed; no earlier call had failed
 abbrev pub StopsDue : {Sink Fault : Type 0} → AfterOk Sink → AfterErr Sink Fault → List Message → Message → Sink → Sink → OrderFault Fault → Type 0
 StopsDue after_ok after_err M message before after fault.Memory = after ≡ before
 StopsDue after_ok after_err M message before after (fault.Sink why) =
     (due : List Message) × IsDue M message due × Fails after_ok after_err before due why after
+StopsDue after_ok after_err M message before after fault.Failed = ⊥
 
--- what a fault of the sink leaves of it at the end, where these are held: a proper prefix of them was put
+-- what a fault leaves of the sink at the end, where these are held: it is the sink's, and a proper prefix of them was put
 abbrev pub StopsHeld : {Sink Fault : Type 0} → AfterOk Sink → AfterErr Sink Fault → List Message → Sink → Sink → OrderFault Fault → Type 0
 StopsHeld after_ok after_err holds before after fault.Memory = ⊥
 StopsHeld after_ok after_err holds before after (fault.Sink why) = Fails after_ok after_err before holds why after
+StopsHeld after_ok after_err holds before after fault.Failed = ⊥

@@ -1,13 +1,13 @@
 //! Messages put into their order as soon as it is known.
 
-ghost use Rattle.std.specs.Prelude.{◌≡◌, ◌≢◌, ◌++◌, ◌∷◌, [], List, Option, length, OnOk, OnErr, IfErr, sum_by};
+ghost use Rattle.std.specs.Prelude.{◌≡◌, ◌≢◌, ◌++◌, ◌∷◌, [], List, Option, true, false, length, OnOk, IfErr, sum_by};
 ghost use Rattle.direction.specs.Dir.{Message};
 ghost use Rattle.uds_exchange.specs.Order.{held as held_after};
 ghost use Rattle.uds_exchange.specs.Sink.{Puts, Fails};
 ghost use Rattle.uds_exchange.specs.Orderer.{stands_after, PutsDue, IsHeld, StopsDue, StopsHeld};
 ghost use Rattle.uds_exchange.specs.proving.Steps as Spec;
 ghost use Rattle.uds_exchange.specs.proving.Steps.{due, due_for, Stops};
-ghost use Rattle.uds_exchange.specs.declared.orderer.OrderFault.TheVariants.{Memory};
+ghost use Rattle.uds_exchange.specs.declared.orderer.OrderFault.TheVariants.{Memory, Sink, Failed};
 
 use crate::held::Held;
 use crate::sink::MessageSink;
@@ -19,16 +19,19 @@ use std::marker::Model;
 /// Why an orderer did not take a message.
 #[derive(Debug, Drop, PartialEq, Eq)]
 pub enum OrderFault<E> {
-    /// Memory was refused. Nothing was put: the call may be made again.
+    /// Memory was refused. Nothing was put, and the orderer is unchanged: the call may be made again.
     Memory,
-    /// The sink refused a message. Those that were due before it were put, and a second call would put them again.
+    /// The sink refused a message, after those that were due before it. From now on the orderer has failed.
     Sink(E),
+    /// The sink refused a message in an earlier call. Nothing was put.
+    Failed,
 }
 
 /// Puts the messages of a meaning in order into a sink, each as soon as its place is known. After a request without
 /// answer that is when the answer comes, the next request, or the end: until then other messages are held.
 #[derive(Debug, Drop)]
 pub struct Orderer {
+    has_failed: bool,
     /// The first byte of the last request, where that waits for its answer.
     open_sid: Option<u8>,
     /// What follows that request.
@@ -40,7 +43,7 @@ impl Model for Orderer {
 
     ghost Value = { OrdererValue };
 
-    ghost view = { λ o. record { open_sid = o.open_sid; holds = o.held } };
+    ghost view = { λ o. record { has_failed = o.has_failed; open_sid = o.open_sid; holds = o.held } };
 }
 
 impl Orderer {
@@ -49,12 +52,14 @@ impl Orderer {
         ensures { result ≡ stands_after [] }
     {
         Orderer {
+            has_failed: false,
             open_sid: None,
             held: Held::new(alloc),
         }
     }
 
-    /// The sum of the lengths of the messages that are held; 0 where no request is open.
+    /// The sum of the lengths of the messages that are held; 0 where no request is open. After a fault of the sink it
+    /// says nothing.
     pub fn held(&self) -> u64
         ensures { result ≡ sum_by (λ x. length x.1) self.now.holds }
     {
@@ -62,7 +67,7 @@ impl Orderer {
     }
 
     /// Takes one more message, and puts all whose place is now known. No memory is taken for a message that is put
-    /// or left out. After an `Err` the orderer is unchanged.
+    /// or left out.
     pub fn take<S: MessageSink>(
         &mut self,
         dir: Dir,
@@ -74,12 +79,16 @@ impl Orderer {
         ensures puts { OnOk result ((M : List Message) → self.old ≡ stands_after M
             → PutsDue S.after_ok M (dir, message.now) sink.old sink.new) }
 
-        ensures err { OnErr result (self.new ≡ self.old) }
-        ensures memory { result ≡ Err Memory → (sink.new ≡ sink.old) }
+        ensures memory { result ≡ Err Memory → (self.new ≡ self.old) × (sink.new ≡ sink.old) }
         ensures held_only { result ≡ Err Memory → (M : List Message) → self.old ≡ stands_after M
             → IsHeld M (dir, message.now) }
         ensures stops { IfErr result (λ fault. (M : List Message) → self.old ≡ stands_after M
             → StopsDue S.after_ok S.after_err M (dir, message.now) sink.old sink.new fault) }
+
+        ensures fails { (why : S.Fault) → result ≡ Err (Sink why) → self.new.has_failed ≡ true }
+        ensures failed { self.old.has_failed ≡ true → result ≡ Err Failed }
+        ensures failed_only { result ≡ Err Failed
+            → (self.old.has_failed ≡ true) × (self.new ≡ self.old) × (sink.new ≡ sink.old) }
     {
         self.advance(dir, message, sink)
     }
@@ -91,8 +100,15 @@ impl Orderer {
         ensures stops { IfErr result (λ fault. (M : List Message) → self ≡ stands_after M
             → StopsHeld S.after_ok S.after_err (held_after M) sink.old sink.new fault) }
         ensures never_memory { result ≢ Err Memory }
+
+        ensures failed { self.has_failed ≡ true → result ≡ Err Failed }
+        ensures failed_only { result ≡ Err Failed → (self.has_failed ≡ true) × (sink.new ≡ sink.old) }
     {
-        self.held.put_all(sink).map_err(OrderFault::Sink)
+        if self.has_failed {
+            Err(OrderFault::Failed)
+        } else {
+            self.held.put_all(sink).map_err(OrderFault::Sink)
+        }
     }
 
     /// Takes one more message, by the open request and what is held alone.
@@ -102,16 +118,22 @@ impl Orderer {
         message: &[u8],
         sink: &mut S,
     ) -> Result<(), OrderFault<S::Fault>>
-        ensures ok { OnOk result ((self.new ≡ Spec.advance self.old (dir, message.now))
+        ensures ok { OnOk result ((self.old.has_failed ≡ false) × (self.new ≡ Spec.advance self.old (dir, message.now))
             × Puts S.after_ok sink.old (due self.old (dir, message.now)) sink.new) }
         ensures err { IfErr result (λ fault. Stops S.after_ok S.after_err (dir, message.now)
             self.old sink.old self.new sink.new fault) }
     {
+        if self.has_failed {
+            return Err(OrderFault::Failed);
+        }
         let step = step_of(self.open_sid, dir, message);
         if let Step::Hold = step {
             return self.held.push(dir, message).map_err(|_| OrderFault::Memory);
         }
-        put_due(step, &self.held, dir, message, sink).map_err(OrderFault::Sink)?;
+        if let Err(fault) = put_due(step, &self.held, dir, message, sink) {
+            self.has_failed = true;
+            return Err(OrderFault::Sink(fault));
+        }
         match step {
             Step::Request(sid) => {
                 self.held.clear();

@@ -1,5 +1,6 @@
 pub mod Orders
 pub mod Waiting
+pub mod Asking
 pub mod Counting
 pub mod Standing
 pub mod Needing

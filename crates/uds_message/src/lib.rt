@@ -12,6 +12,7 @@
 //! ```
 #![tactic(auto)]
 
+pub mod laws;
 mod message;
 mod names;
 

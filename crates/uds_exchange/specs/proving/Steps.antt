@@ -1,5 +1,5 @@
 -- Devices of proof: what an orderer does with one more message, and messages that lie end to end.
-use Rattle.std.specs.Prelude.{ℕ, ◌+◌, List, [], ◌∷◌, ◌++◌, Some, None, take, drop, ◌≡◌}
+use Rattle.std.specs.Prelude.{ℕ, ◌+◌, List, [], ◌∷◌, ◌++◌, Some, None, take, drop, ◌≡◌, true, false}
 use Rattle.direction.specs.Dir.{Message}
 use Rattle.uds_exchange.specs.declared.held.Extent.{Extent}
 use Rattle.uds_exchange.specs.declared.step.Step.{Step}
@@ -37,9 +37,10 @@ advance standing message = advance_for (step_of standing.open_sid message) stand
 -- what a fault leaves, at this message; memory is refused only where the message would be held
 abbrev pub Stops : {Sink Fault : Type 0} → AfterOk Sink → AfterErr Sink Fault → Message → OrdererValue → Sink → OrdererValue → Sink → OrderFault Fault → Type 0
 Stops after_ok after_err message old before new after fault.Memory =
-    (new ≡ old) × (after ≡ before) × ((advance old message).holds ≡ old.holds ++ message ∷ [])
+    (old.has_failed ≡ false) × (new ≡ old) × (after ≡ before) × ((advance old message).holds ≡ old.holds ++ message ∷ [])
 Stops after_ok after_err message old before new after (fault.Sink why) =
-    (new ≡ old) × Fails after_ok after_err before (due old message) why after
+    (old.has_failed ≡ false) × (new.has_failed ≡ true) × Fails after_ok after_err before (due old message) why after
+Stops after_ok after_err message old before new after fault.Failed = (old.has_failed ≡ true) × (new ≡ old) × (after ≡ before)
 
 -- how many bytes the messages have
 abbrev pub total_length : List Extent → ℕ
