@@ -407,7 +407,7 @@ def laws_in(cell):
 # A crate in which two files define one name, and what a law says by it.
 SAME_NAMES = {
     "Left.antt": "pub same : ℕ\nsame = part\n\npart : ℕ\npart = 1\n",
-    "Right.antt": "pub same : ℕ\nsame = other\n\npub other : ℕ\nother = 2\n",
+    "Right.antt": "pub same : ℕ\nsame = other\n\nabbrev mutual\n  pub other : ℕ\n  other = 2\n",
     "Laws.antt": "use Rattle.made.specs.Left.{same}\nuse Rattle.made.specs.Right as right\n\n"
     "pub One : Type 0\nOne = same ≡ 1\n\npub Two : Type 0\nTwo = right.same ≡ 2\n",
 }

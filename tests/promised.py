@@ -39,16 +39,21 @@ class Promised:
                 self.add(crate, law, law.clauses, False)
 
     def add(self, crate, function, names, is_headline):
-        """Adds these clauses of a function, what it requires, and the definitions that they are made of."""
-        used = self.known.uses(self.source(crate, function))
-        own = {name if name in function.texts else clauses.RUN for name in names} | {clauses.REQUIRES}
-        for name in own & set(function.texts):
-            text = function.texts[name]
-            self.found.add((crate, function.path, name or "-", checksum(text)))
-            made_of = self.known.reached(text, used) if is_headline or name == clauses.RUN else set(self.known.named(text, None, used))
-            for (of, file), definition in made_of:
-                if name != clauses.RUN or is_headline or definition in function.run:
-                    self.found.add((of, file, definition, checksum(self.known.texts[of, file][definition])))
+        """Adds these clauses of a function, what it requires, and the definitions of which they are made."""
+        cited = {name if name in function.texts else clauses.RUN for name in names} | {clauses.REQUIRES}
+        for name in cited & set(function.texts):
+            self.found.add((crate, function.path, name or "-", checksum(function.texts[name])))
+            for (of, file), definition in self.made_of(crate, function, name, is_headline):
+                self.found.add((of, file, definition, checksum(self.known.texts[of, file][definition])))
+
+    def made_of(self, crate, function, name, is_headline):
+        """Of the headline all definitions that a clause reaches; of a run its records; else those that the clause names."""
+        text, used = function.texts[name], self.known.uses(self.source(crate, function))
+        if is_headline:
+            return self.known.reached(text, used)
+        if name == clauses.RUN:
+            return {(of, definition) for of, definition in self.known.reached(text, used) if definition in function.run}
+        return set(self.known.named(text, None, used))
 
     def source(self, crate, function):
         return (self.folder / crate / "src" / f"{function.path.partition('::')[0]}.rt").read_text()

@@ -8,6 +8,7 @@ from functools import lru_cache
 DEFINED = re.compile(r"(?:(?:abbrev|unfoldable|pub|record|data) )*([\w']+)\b")
 CASE = re.compile(r"^  ([\w']+) :", re.M)
 NO_DEFINITION = ("use", "precedence", "rank")
+MUTUAL = re.compile(r"(?:abbrev )?mutual$")
 
 USED = re.compile(r"\buse Rattle\.(\w+)\.specs\.([\w.]+?)(?:\.\{([^}]*)\}| as (\w+)|(?=\s))")
 # A name, and where a file stands for the first part, a name in it. What follows a value and a dot is a field.
@@ -66,9 +67,16 @@ class Definitions:
 
 @lru_cache(maxsize=None)
 def definitions_in(text):
-    """The definitions of a file by their names, each with its equations."""
-    texts, name = {}, None
+    """The definitions of a file by their names, each with its equations. Those that cite each other stand below `mutual`, two places
+    further right."""
+    texts, name, is_mutual = {}, None, False
     for line in text.splitlines():
+        if MUTUAL.match(line):
+            is_mutual, name = True, None
+            continue
+        if is_mutual and line.strip() and not line.startswith("  "):
+            is_mutual, name = False, None
+        line = line[2:] if is_mutual else line
         begin = DEFINED.match(line)
         if begin:
             name = begin[1] if begin[1] not in NO_DEFINITION else None
