@@ -9,6 +9,7 @@ pub mod CanonicalSayings
 pub mod CanonicalMachines
 pub mod CanonicalScripts
 pub mod MessagePlaces
+pub mod FirstFrames
 pub mod PlacingScripts
 pub mod Collecting
 pub mod SessionScripts

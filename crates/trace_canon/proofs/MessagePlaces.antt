@@ -26,7 +26,7 @@ other : (d : Dir) → same_direction d (other_direction d) ≡ false
 other d = apart-flipped (other_direction d) d (other-apart d)
 
 -- the last start with one more frame
-last_start_more : (d : Dir) (earlier : Entry) (T : List Entry) (e : Entry)
+pub last_start_more : (d : Dir) (earlier : Entry) (T : List Entry) (e : Entry)
     → last_start d earlier (T ++ e ∷ []) ≡ (if starts (role d e) then e else last_start d earlier T)
 last_start_more d earlier [] e = refl
 last_start_more d earlier (x ∷ T) e = last_start_more d (if starts (role d x) then x else earlier) T e

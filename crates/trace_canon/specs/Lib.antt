@@ -7,6 +7,7 @@ pub mod Listed
 pub mod Found
 pub mod ExplainScript
 pub mod MessageLines
+pub mod PlaceLaws
 pub mod Begun
 pub mod SessionScript
 pub mod WatchScript

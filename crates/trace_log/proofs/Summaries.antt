@@ -1,5 +1,6 @@
 -- The summary of a log that was received to its end.
-use Rattle.std.proofs.Common.{◌≡◌, ℕ, ◌+◌, ◌-◌, ◌<◌, ◌^◌, min, Bool, List, [], ◌∷◌, length, arith, refl, ap, ◌∙◌, Option, cond}
+use Rattle.std.proofs.Common.{◌≡◌, ℕ, ◌+◌, ◌-◌, ◌<◌, ◌^◌, min, nat_lt, Bool, List, [], ◌∷◌, length, arith, refl, ap, ◌∙◌, Option, cond}
+use Rattle.std.proofs.lemmas.Bool.{ltb-true, and_parts}
 use Rattle.std.proofs.lemmas.List.Sums.{sum_by-append}
 use Rattle.direction.specs.declared.Dir.{Dir}
 use Rattle.direction.specs.declared.Dir.TheVariants as dir
@@ -12,7 +13,7 @@ use Rattle.trace_log.specs.Trace.{trace}
 use Rattle.trace_log.specs.Messages.{messages_of_lines}
 use Rattle.isotp_receive.specs.Events.{unfinished_in}
 use Rattle.isotp_receive.specs.Trace.{Entry, same_direction}
-use Rattle.trace_log.specs.Laws.{FramesAreOfTwoSides}
+use Rattle.trace_log.specs.Laws.{CleanLogHasBothSides, FramesAreOfTwoSides}
 use Rattle.trace_log.specs.Summing.{ends_in_line_feed, frames_of, summary_of}
 use Rattle.trace_log.proofs.Receivings.{few_frames, one, one_if}
 use Rattle.trace_log.specs.proving.Receiving.{Receives}
@@ -60,6 +61,14 @@ summed_up settings log meanings pair lines frames counts unfinished pending ende
     let of_unit = ap (λ (s : Summary). s.unit_frames) received.counted in
     let all : frames ≡ length (trace settings meanings) = omega (arith, received.lines_are) in
     rw (received.lines_are, all, received.counted, unfinished_are, pending_are, ended_is) refl
+
+pub clean_log_has_both_sides : CleanLogHasBothSides
+unfolding summary_of
+clean_log_has_both_sides limit settings log meanings dir.Tester clean =
+    ltb-true 0 (frames_of dir.Tester (trace settings meanings)) (and_parts (nat_lt 0 (frames_of dir.Tester (trace settings meanings))) _ clean).0
+clean_log_has_both_sides limit settings log meanings dir.Unit clean =
+    let of_tester = and_parts (nat_lt 0 (frames_of dir.Tester (trace settings meanings))) _ clean in
+    ltb-true 0 (frames_of dir.Unit (trace settings meanings)) (and_parts (nat_lt 0 (frames_of dir.Unit (trace settings meanings))) _ of_tester.1).0
 
 pub frames_are_of_two_sides : FramesAreOfTwoSides
 unfolding summary_of

@@ -23,7 +23,7 @@ use Rattle.trace_log.specs.Trace.{trace}
 use Rattle.trace_log.specs.Messages.{messages_of_lines, meaning_of_lines, HasMeaning}
 use Rattle.trace_log.specs.CanonicalLog.{canonical_log, canonical_log_of_lines, fitting, early_text, lines_size}
 use Rattle.trace_log.specs.Refusal.{Refusal, bad_line, oversize_message, CountsAsBad, CountsAsOversize, IsNotRefusedWithin, announces_within}
-use Rattle.trace_log.specs.Summing.{is_clean, summary_of}
+use Rattle.trace_log.specs.Summing.{frames_of, is_clean, summary_of}
 use Rattle.trace_log.specs.LinesRead.{AreLinesRead, AreReadBefore}
 use Rattle.trace_log.specs.Outcome.{Accepted, IsOutcome}
 use Rattle.trace_log.specs.ReadAs.{Unreadable, IsReadAs}
@@ -234,3 +234,8 @@ SummaryCertifies = (limit : ℕ) (settings : Settings) (log : List ℕ) (accepte
 abbrev pub CleanLogIsRecording : Type 0
 CleanLogIsRecording = (limit : ℕ) (settings : Settings) (log : List ℕ) (summary : Summary)
     → Certifies limit settings log summary → is_clean summary ≡ true → IsCertified limit settings log
+
+-- and has a frame of each side
+abbrev pub CleanLogHasBothSides : Type 0
+CleanLogHasBothSides = (limit : ℕ) (settings : Settings) (log : List ℕ) (meanings : List (Option Stamped)) (d : Dir)
+    → is_clean (summary_of limit settings log meanings) ≡ true → 0 < frames_of d (trace settings meanings)

@@ -1,5 +1,5 @@
 //! What holds of what logs mean, of why they are refused, and of canonical logs.
-ghost use Rattle.trace_log.specs.Laws.{DirectionIsById, OutcomeIsThere, OutcomeIsOne, CanonicalIsCanonical, SameMeaningSameText, RecordingHasCanonicalLog, CleanSummaryIsCertificate, CleanLogIsRecording, FramesAreOfTwoSides, PendingAreTheRest, EarlyTextStays, EarlyTextGrows, LinesReadAreThere, LinesReadAreOne, ReadingIsThere, ReadingIsOne, FittingIsLongest, FaultLeavesFront, LongestMessage, LargestLimit, ReadsByPieces, WritesByPieces, CanonicalLogLength, CanonicalLogLengthBySides, BadLineIsLowest, OversizeIsLowest, LargerLimitKeeps, SummaryCertifies};
+ghost use Rattle.trace_log.specs.Laws.{DirectionIsById, OutcomeIsThere, OutcomeIsOne, CanonicalIsCanonical, SameMeaningSameText, RecordingHasCanonicalLog, CleanSummaryIsCertificate, CleanLogIsRecording, CleanLogHasBothSides, FramesAreOfTwoSides, PendingAreTheRest, EarlyTextStays, EarlyTextGrows, LinesReadAreThere, LinesReadAreOne, ReadingIsThere, ReadingIsOne, FittingIsLongest, FaultLeavesFront, LongestMessage, LargestLimit, ReadsByPieces, WritesByPieces, CanonicalLogLength, CanonicalLogLengthBySides, BadLineIsLowest, OversizeIsLowest, LargerLimitKeeps, SummaryCertifies};
 
 /// A frame has a direction exactly where its identifier is that of the direction.
 pub fn direction_is_by_id()
@@ -41,6 +41,11 @@ pub fn clean_summary_is_certificate()
 /// A clean log is a recording of exactly the messages that it delivers.
 pub fn clean_log_is_recording()
     ensures { CleanLogIsRecording }
+{}
+
+/// A clean log has a frame of each side.
+pub fn clean_log_has_both_sides()
+    ensures { CleanLogHasBothSides }
 {}
 
 /// Each frame of a summary is one of the tester or one of the unit.
