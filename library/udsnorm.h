@@ -45,7 +45,7 @@ enum udsnorm_status {
     UDSNORM_OVERSIZE = 5,     /* the frame in `line` announces a message of `announced` bytes; 1,048,575 is the most */
     UDSNORM_LOG_LIMIT = 6,    /* the log has more bytes than the limit */
     UDSNORM_OUTPUT_LIMIT = 7, /* its canonical log has */
-    UDSNORM_MEMORY = 8,       /* malloc or realloc answered a null pointer */
+    UDSNORM_MEMORY = 8,       /* malloc or realloc answered a null pointer, for a log or a text that needs memory */
     UDSNORM_ROOM = 9,         /* the text has `length` bytes, more than there is room for */
     UDSNORM_STYLE = 10        /* there is no such style of this text */
 };

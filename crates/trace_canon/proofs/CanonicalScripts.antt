@@ -5,7 +5,7 @@ use Rattle.trace_log.specs.CanonicalLog.{canonical_log, log_of_frames, canonical
 use Rattle.trace_log.specs.Laws.{IsCanonicalFor, Records, Certifies}
 use Rattle.trace_log.specs.Settings.{AreSettings, Settings}
 use Rattle.trace_log.proofs.Promises.{written_is_canonical, written_of_recording, answer_certifies, messages_more, all_frames-append, fitting_frames, fitting_log_begins}
-use Rattle.std.proofs.Common.{arith, ◌≡◌, Bool, true, false, refl, subst, Option, Ok, Err, ◌≤◌, ◌<◌, ℕ, List, [], ◌∷◌, ◌++◌, length, drop, ap, sym, ◌∙◌, append-nil, append_assoc, Result, inl, inr}
+use Rattle.std.proofs.Common.{arith, ◌+◌, ◌≡◌, Bool, true, false, refl, subst, Option, Ok, Err, ◌≤◌, ◌<◌, ℕ, List, [], ◌∷◌, ◌++◌, length, drop, ap, sym, ◌∙◌, append-nil, append_assoc, length-append, Result, inl, inr}
 use Rattle.std.proofs.Math.Seq.{drop-append_seam}
 use Rattle.can_log.specs.declared.frame.Stamped.{Stamped}
 use Rattle.isotp_receive.specs.declared.TheConstants.{MESSAGE_LIMIT}
@@ -17,10 +17,12 @@ use Rattle.uds_exchange.specs.Orderer.{OrdererValue}
 use Rattle.uds_exchange.specs.Meaning.{meaning, flattened}
 use Rattle.uds_exchange.proofs.Promises.{early_grows, early_then_held}
 use Rattle.trace_canon.specs.CanonicalScript.{StandsCanonical, is_too_long, answers_canonical, CanonicalTellsTheSame, canonical_script, place_behind, lines_due, text_of_early, CanonicalTellsEarly}
-use Rattle.trace_run.specs.Told.{told_after, told, told_of_lines, whole_of_lines, EndsWith, WritesTold, WritesRefused, WritesFrontOfTold, TellsEagerly}
+use Rattle.trace_canon.specs.Keeping.{HasTextOf}
+use Rattle.trace_run.specs.Told.{told_after, told, told_of_lines, whole_of_lines, AnswersTold, EndsWith, FailsToTell, WritesTold, WritesRefused, WritesFrontOfTold, TellsEagerly}
 use Rattle.trace_canon.specs.proving.Writing.{Place, start_of, text_from, place_after}
 use Rattle.trace_canon.proofs.CanonicalWriting.{text_none, text_append, place_append}
 use Rattle.trace_canon.proofs.Answered.{answers_accepted, answers_output_limit}
+use Rattle.trace_canon.proofs.Hearings.{all_begin}
 use Rattle.trace_canon.proofs.FittingLines.{over_when, within_when}
 use Rattle.trace_run.proofs.Promises.{front_of_whole}
 use Rattle.trace_log.specs.declared.fault.Fault.{Fault}
@@ -32,6 +34,17 @@ use Rattle.trace_log.specs.LinesRead.{WritesTextOfRead}
 use Rattle.trace_log.specs.Refusal.{announces_within}
 use Rattle.trace_log.specs.Summing.{summary_of}
 use Rattle.trace_log.specs.Trace.{trace}
+
+-- a front of what begins a text is no longer than that
+no_longer : (whole told last text fits more : List ℕ) → whole ≡ told ++ last → whole ≡ fits → text ≡ fits ++ more → length told ≤ length text
+no_longer whole told last text fits more parts is begins =
+    let one : length whole ≡ length told + length last = ap length parts ∙ length-append told last in
+    let two : length whole ≡ length fits = ap length is in
+    let three : length text ≡ length fits + length more = ap length begins ∙ length-append fits more in
+    omega (arith, one, two, three)
+
+some_of : (few many : ℕ) → 0 < few → few ≤ many → 0 < many
+some_of few many some within = omega (arith, some, within)
 
 module _ (settings : Settings) where
   one_more : (T : List Entry) (e : Entry)
@@ -136,6 +149,34 @@ module _ (settings : Settings) where
           front = begins.1 ∙ ap (λ x. x ++ begins.0) (sym (whole_is log wrote.meanings) ∙ wrote.front) ∙ append_assoc wrote.written wrote.missing begins.0;
         }
 
+    -- neither what is told of some lines nor all that is has more bytes than their canonical log
+    told_within : (meanings : List (Option Stamped)) → length (told_of_lines (canonical_script settings) settings meanings) ≤ length (canonical_log_of_lines MESSAGE_LIMIT settings meanings)
+    told_within meanings =
+        let script = canonical_script settings in
+        let begins = fitting_log_begins MESSAGE_LIMIT settings (flattened (meaning (messages MESSAGE_LIMIT (trace settings meanings)))) in
+        no_longer (whole_of_lines script MESSAGE_LIMIT settings log meanings) (told_of_lines script settings meanings)
+        (script.last (trace settings meanings) (summary_of MESSAGE_LIMIT settings log meanings)) (canonical_log_of_lines MESSAGE_LIMIT settings meanings) _ begins.0 refl (whole_is log meanings) begins.1
+
+    whole_within : (meanings : List (Option Stamped))
+        → length (whole_of_lines (canonical_script settings) MESSAGE_LIMIT settings log meanings) ≤ length (canonical_log_of_lines MESSAGE_LIMIT settings meanings)
+    whole_within meanings =
+        let whole = whole_of_lines (canonical_script settings) MESSAGE_LIMIT settings log meanings in
+        let begins = fitting_log_begins MESSAGE_LIMIT settings (flattened (meaning (messages MESSAGE_LIMIT (trace settings meanings)))) in
+        no_longer whole whole [] (canonical_log_of_lines MESSAGE_LIMIT settings meanings) _ begins.0 (sym (append-nil whole)) (whole_is log meanings) begins.1
+
+    canonical_some : FailsToTell (canonical_script settings) MESSAGE_LIMIT settings log given old new → HasTextOf (canonical_log_of_lines MESSAGE_LIMIT settings) log
+    canonical_some (inl (wrote, inl told)) = record {
+      meanings = told.meanings;
+      begins = record { lines = told.read.lines; later = told.read.later; parts = told.read.parts; means = told.read.means };
+      some = some_of _ _ told.some (told_within told.meanings);
+    }
+    canonical_some (inl (wrote, inr ends)) = record {
+      meanings = ends.meanings;
+      begins = all_begin log ends.meanings ends.read.means;
+      some = some_of _ _ ends.some (whole_within ends.meanings);
+    }
+    canonical_some (inr refuses) = absurd (omega (arith, refuses.some))
+
     writes_eagerly_told : TellsEagerly (canonical_script settings) MESSAGE_LIMIT settings log given old new → WritesEagerly MESSAGE_LIMIT settings log given old new
     writes_eagerly_told eager =
         record { meanings = eager.meanings; read = eager.read; more = eager.more; wrote = eager.wrote ∙ ap (λ text. old ++ (text ++ eager.more)) (early_is eager.meanings) }
@@ -169,6 +210,13 @@ module _ (settings : Settings) where
         by true is =
             answers_output_limit MESSAGE_LIMIT settings log given meanings old new read all (long_when settings (flattened (meaning (messages MESSAGE_LIMIT (trace settings meanings)))) is)
             (wrote ∙ ap (λ x. old ++ x) (whole_is log meanings))
+
+-- writing fails only where the lines read have a canonical line
+pub unwritten_some : (settings : Settings) (log : List ℕ) (given : ℕ) (result : Result Summary Fault) (old new : List ℕ) → result ≡ Err Write
+    → AnswersTold (canonical_script settings) (answers_canonical settings) MESSAGE_LIMIT settings log given result old new → HasTextOf (canonical_log_of_lines MESSAGE_LIMIT settings) log
+unwritten_some settings log given result old new wrong told =
+    canonical_some settings log given old new
+    (subst (λ (r : Result Summary Fault). AnswersTold (canonical_script settings) (answers_canonical settings) MESSAGE_LIMIT settings log given r old new) wrong told)
 
 pub canonical_tells_the_same : CanonicalTellsTheSame
 canonical_tells_the_same settings log given (Ok summary) old new ends eager = ends_well settings log given old new summary ends

@@ -119,7 +119,7 @@ heard_unwritten why start now feeds is = by (subst (λ f. FeedsSome TookHeard To
 -- ---- the end
 
 -- the first lines of a log are all
-all_begin : (log : List ℕ) (meanings : List (Option Stamped)) → LogMeans log meanings → BeginsWithLines log meanings
+pub all_begin : (log : List ℕ) (meanings : List (Option Stamped)) → LogMeans log meanings → BeginsWithLines log meanings
 all_begin log meanings means = record { lines = log_lines log; later = []; parts = sym (append-nil (log_lines log)); means = means }
 
 module _ (settings : Settings) (log : List ℕ) (meanings : List (Option Stamped)) (short : length log ≤ settings.max_bytes) (means : LogMeans log meanings) where

@@ -1,5 +1,5 @@
 -- What calls over devices answer, where the log lies in memory and the text is gathered there.
-use Rattle.std.proofs.Common.{◌≡◌, ◌≢◌, ℕ, ◌+◌, true, false, List, [], ◌++◌, Some, Result, Ok, Err, arith, refl, ap, sym, subst, ◌∙◌}
+use Rattle.std.proofs.Common.{◌≡◌, ◌≢◌, ◌⊎◌, inl, inr, ℕ, ◌+◌, ◌<◌, true, false, List, [], ◌++◌, length, append-nil, Some, Result, Ok, Err, arith, refl, ap, sym, subst, ◌∙◌}
 use Rattle.std.specs.Io.KnownBytes.{IsAtEnd}
 use Rattle.std.specs.Prelude.{MatchResult, IfErr}
 use Rattle.isotp_receive.specs.Trace.{Entry}
@@ -18,12 +18,17 @@ use Rattle.trace_log.specs.declared.summary.Summary.{Summary}
 use Rattle.trace_log.specs.Answers.{Answers, TellsOutcome}
 use Rattle.trace_canon.specs.Sessions.{GivesMeaning}
 use Rattle.trace_log.specs.Failing.{FailedIf}
-use Rattle.trace_canon.specs.InMemory.{IsOfMemory, IsRefused, IsUnread, IsCanonicalLogWith, IsToldWith, MeansInMemory, ComparesInMemory, fault_in_memory}
+use Rattle.trace_canon.specs.InMemory.{IsOfMemory, HasBytes, IsRefused, IsUnread, IsCanonicalLogWith, IsToldWith, NeedsMemoryForCanonicalLog, NeedsMemoryForPlacing, MeansInMemory, ComparesInMemory, fault_in_memory}
+use Rattle.trace_log.specs.CanonicalLog.{canonical_log_of_lines}
 use Rattle.trace_log.specs.Outcome.{Accepted, IsOutcome}
-use Rattle.trace_canon.specs.Once.{WritesOnce}
+use Rattle.trace_canon.specs.Keeping.{HasTextOf, NeedsMemoryToCollect, NeedsMemoryToOrder}
+use Rattle.trace_canon.specs.MessageLines.{placing_script}
+use Rattle.trace_canon.specs.Once.{LeavesOnce, WritesOnce}
 use Rattle.trace_log.specs.Settings.{Settings}
-use Rattle.trace_run.specs.Told.{IsUnreadFor, AnswersTold, answers_counts, whole_of_lines}
+use Rattle.trace_run.specs.Told.{IsUnreadFor, AnswersTold, FailsToTell, answers_counts, told_of_lines, whole_of_lines}
 use Rattle.trace_run.proofs.Promises.{lenient, unread_for}
+use Rattle.trace_text.specs.declared.notation.Notation.{Notation}
+use Rattle.trace_canon.proofs.Hearings.{all_begin}
 
 -- bytes of which none was read
 abbrev pub unread : List ℕ → BytesInMemory
@@ -47,15 +52,19 @@ taken_is_held {held = held} {old = old} {before = before} old_is before_is took 
 pub reads_well : {A E : Type 0} {read : E} {answer : Result A E} → FailedIf read answer 0 0 → answer ≢ Err read
 reads_well failed is = let rose : 0 ≡ 0 + 1 = failed.risen is in absurd (omega (arith, rose))
 
--- what is known of a fault, and of refused memory, is known of the fault in memory
-known : (IsFault : Fault → Type 0) (fault : Fault) → IsFault Memory → IsFault fault → fault ≢ Read → IsFault (fault_in_memory fault) × IsOfMemory (fault_in_memory fault)
-known IsFault (BadLine line column) memory is not = (is, record { no_read = λ wrong. absurd (cc wrong); no_write = λ wrong. absurd (cc wrong) })
-known IsFault (Oversize line announced) memory is not = (is, record { no_read = λ wrong. absurd (cc wrong); no_write = λ wrong. absurd (cc wrong) })
-known IsFault LogLimit memory is not = (is, record { no_read = λ wrong. absurd (cc wrong); no_write = λ wrong. absurd (cc wrong) })
-known IsFault OutputLimit memory is not = (is, record { no_read = λ wrong. absurd (cc wrong); no_write = λ wrong. absurd (cc wrong) })
-known IsFault Read memory is not = absurd (not refl)
-known IsFault Write memory is not = (memory, record { no_read = λ wrong. absurd (cc wrong); no_write = λ wrong. absurd (cc wrong) })
-known IsFault Memory memory is not = (memory, record { no_read = λ wrong. absurd (cc wrong); no_write = λ wrong. absurd (cc wrong) })
+-- What is known of a fault, and of refused memory, is known of the fault in memory: where memory was refused or a write
+-- failed, some is needed.
+known : (IsFault : Fault → Type 0) (NeedsMemory : Type 0) (fault : Fault) → IsFault Memory → IsFault fault → fault ≢ Read → (fault ≡ Memory → NeedsMemory) → (fault ≡ Write → NeedsMemory)
+    → IsFault (fault_in_memory fault) × IsOfMemory NeedsMemory (fault_in_memory fault)
+known IsFault NeedsMemory (BadLine line column) memory is not refused unwritten = (is, record { no_read = λ wrong. absurd (cc wrong); no_write = λ wrong. absurd (cc wrong); memory = λ wrong. absurd (cc wrong) })
+known IsFault NeedsMemory (Oversize line announced) memory is not refused unwritten = (is, record { no_read = λ wrong. absurd (cc wrong); no_write = λ wrong. absurd (cc wrong); memory = λ wrong. absurd (cc wrong) })
+known IsFault NeedsMemory LogLimit memory is not refused unwritten = (is, record { no_read = λ wrong. absurd (cc wrong); no_write = λ wrong. absurd (cc wrong); memory = λ wrong. absurd (cc wrong) })
+known IsFault NeedsMemory OutputLimit memory is not refused unwritten = (is, record { no_read = λ wrong. absurd (cc wrong); no_write = λ wrong. absurd (cc wrong); memory = λ wrong. absurd (cc wrong) })
+known IsFault NeedsMemory Read memory is not refused unwritten = absurd (not refl)
+known IsFault NeedsMemory Write memory is not refused unwritten =
+    (memory, record { no_read = λ wrong. absurd (cc wrong); no_write = λ wrong. absurd (cc wrong); memory = λ _. unwritten refl })
+known IsFault NeedsMemory Memory memory is not refused unwritten =
+    (memory, record { no_read = λ wrong. absurd (cc wrong); no_write = λ wrong. absurd (cc wrong); memory = λ _. refused refl })
 
 -- So an answer over devices is one over memory: what it says of the text and the counts, and of a fault, is said of
 -- what was gathered.
@@ -75,40 +84,79 @@ accepted_is limit settings log accepted text summary outcome text_is counted =
     (subst (λ (t : List ℕ). IsCanonicalLogWith limit settings log t accepted.summary) (sym text_is) outcome)
 
 pub canonical_in_memory : (limit : ℕ) (settings : Settings) (log : List ℕ) (given : ℕ) (answer : Result Summary Fault) (old taken held : List ℕ)
-    → old ≡ [] → taken ≡ held → FailedIf Read answer 0 0 → Answers limit settings log given answer old taken
-    → MatchResult answer (λ summary. IsCanonicalLogWith limit settings log held summary) (λ fault. IsRefused limit settings log (fault_in_memory fault))
-canonical_in_memory limit settings log given (Ok summary) old taken held old_is held_is failed (accepted, outcome, counted, wrote) =
+    → old ≡ [] → taken ≡ held → FailedIf Read answer 0 0 → (answer ≡ Err Memory → NeedsMemoryToOrder limit settings log)
+    → (answer ≡ Err Write → HasTextOf (canonical_log_of_lines limit settings) log) → Answers limit settings log given answer old taken
+    → MatchResult answer (λ summary. IsCanonicalLogWith limit settings log held summary) (λ fault. IsRefused NeedsMemoryForCanonicalLog limit settings log (fault_in_memory fault))
+canonical_in_memory limit settings log given (Ok summary) old taken held old_is held_is failed refused unwritten (accepted, outcome, counted, wrote) =
     accepted_is limit settings log accepted held summary outcome (sym held_is ∙ wrote ∙ ap (λ xs. xs ++ accepted.text) old_is) counted
-canonical_in_memory limit settings log given (Err fault) old taken held old_is held_is failed (is, left) =
-    known (TellsOutcome limit settings log) fault tt is (λ read. reads_well failed (ap Err read))
+canonical_in_memory limit settings log given (Err fault) old taken held old_is held_is failed refused unwritten (is, left) =
+    known (TellsOutcome limit settings log) (NeedsMemoryForCanonicalLog limit settings log) fault tt is (λ read. reads_well failed (ap Err read))
+    (λ why. inl (refused (ap Err why))) (λ why. inr (unwritten (ap Err why)))
 
--- a text that is written at the end alone
-pub written_in_memory : {V : Type 0} (text : V → List ℕ) (Is : V → Summary → Type 0) (IsFault : Fault → Type 0) (answer : Result Summary Fault) (old taken held : List ℕ)
-    → IsFault Memory → old ≡ [] → taken ≡ held → FailedIf Read answer 0 0 → WritesOnce text Is IsFault answer old taken
-    → MatchResult answer (λ summary. (value : V) × Is value summary × (held ≡ text value)) (λ fault. IsFault (fault_in_memory fault) × IsOfMemory (fault_in_memory fault))
-written_in_memory text Is IsFault (Ok summary) old taken held memory old_is held_is failed (value, is, wrote) =
+-- where a text is written at the end alone, a failed write leaves one that has bytes
+left_some : {V : Type 0} (text : V → List ℕ) (Is : V → Summary → Type 0) (old new : List ℕ) (fault : Fault) → fault ≡ Write → LeavesOnce text Is fault old new
+    → (held : List ℕ) × (summary : Summary) × ((value : V) × Is value summary × (held ≡ text value)) × (0 < length held)
+left_some {V = V} text Is old new fault is left = by (subst (λ (f : Fault). LeavesOnce text Is f old new) is left)
+  where
+    by : LeavesOnce text Is Write old new → (held : List ℕ) × (summary : Summary) × ((value : V) × Is value summary × (held ≡ text value)) × (0 < length held)
+    by (value, summary, known_is, some, front) = (text value, summary, (value, known_is, refl), some)
+
+pub written_in_memory : {V : Type 0} (text : V → List ℕ) (Is : V → Summary → Type 0) (IsFault : Fault → Type 0) (NeedsMemory : Type 0) (answer : Result Summary Fault) (old taken held : List ℕ)
+    → IsFault Memory → old ≡ [] → taken ≡ held → FailedIf Read answer 0 0 → (answer ≡ Err Memory → NeedsMemory) → WritesOnce text Is IsFault answer old taken
+    → MatchResult answer (λ summary. (value : V) × Is value summary × (held ≡ text value))
+    (λ fault. IsFault (fault_in_memory fault) × IsOfMemory (NeedsMemory ⊎ HasBytes (λ said summary. (value : V) × Is value summary × (said ≡ text value))) (fault_in_memory fault))
+written_in_memory text Is IsFault NeedsMemory (Ok summary) old taken held memory old_is held_is failed refused (value, is, wrote) =
     (value, is, sym held_is ∙ wrote ∙ ap (λ xs. xs ++ text value) old_is)
-written_in_memory text Is IsFault (Err fault) old taken held memory old_is held_is failed (is, left) = known IsFault fault memory is (λ read. reads_well failed (ap Err read))
+written_in_memory {V = V} text Is IsFault NeedsMemory (Err fault) old taken held memory old_is held_is failed refused (is, left) =
+    known IsFault (NeedsMemory ⊎ HasBytes (λ said summary. (value : V) × Is value summary × (said ≡ text value))) fault memory is (λ read. reads_well failed (ap Err read))
+    (λ why. inl (refused (ap Err why))) (λ why. inr (left_some text Is old taken fault why left))
 
 -- of a refusal nothing is told
 abbrev tells_nothing : List Entry → Summary → Fault → List ℕ
 tells_nothing T summary why = []
 
+-- nor at the end of a log
+abbrev tells_no_end : List Entry → Summary → List ℕ
+tells_no_end T summary = []
+
+-- a write failed only where something is told of the first lines, if nothing is told at the end
+told_some : (word : List Entry → Entry → List ℕ) (limit : ℕ) (settings : Settings) (log : List ℕ) (given : ℕ) (old new : List ℕ)
+    → FailsToTell (lenient word tells_no_end tells_nothing) limit settings log given old new → HasTextOf (told_of_lines (lenient word tells_no_end tells_nothing) settings) log
+told_some word limit settings log given old new (inl (wrote, inl told)) = record {
+  meanings = told.meanings;
+  begins = record { lines = told.read.lines; later = told.read.later; parts = told.read.parts; means = told.read.means };
+  some = told.some;
+}
+told_some word limit settings log given old new (inl (wrote, inr ends)) = record {
+  meanings = ends.meanings;
+  begins = all_begin log ends.meanings ends.read.1;
+  some = subst (λ (text : List ℕ). 0 < length text) (append-nil (told_of_lines (lenient word tells_no_end tells_nothing) settings ends.meanings)) ends.some;
+}
+told_some word limit settings log given old new (inr refuses) = absurd (omega (arith, refuses.some))
+
 -- a text that is told as the log comes, by a script that is not strict
-pub told_in_memory : (word : List Entry → Entry → List ℕ) (last : List Entry → Summary → List ℕ) (limit : ℕ) (settings : Settings) (log : List ℕ) (given : ℕ)
-    (answer : Result Summary Fault) (old taken held : List ℕ) → old ≡ [] → taken ≡ held → FailedIf Read answer 0 0
+pub told_in_memory : (word : List Entry → Entry → List ℕ) (last : List Entry → Summary → List ℕ) (NeedsMemory : ℕ → Settings → List ℕ → Type 0) (limit : ℕ) (settings : Settings) (log : List ℕ) (given : ℕ)
+    (answer : Result Summary Fault) (old taken held : List ℕ) → old ≡ [] → taken ≡ held → FailedIf Read answer 0 0 → (answer ≡ Err Memory → NeedsMemory limit settings log)
+    → (FailsToTell (lenient word last tells_nothing) limit settings log given old taken → NeedsMemory limit settings log)
     → AnswersTold (lenient word last tells_nothing) answers_counts limit settings log given answer old taken
-    → MatchResult answer (λ summary. IsToldWith (lenient word last tells_nothing) limit settings log held summary) (λ fault. IsUnread limit settings log (fault_in_memory fault))
-told_in_memory word last limit settings log given (Ok summary) old taken held old_is held_is failed (whole, meanings, read, counted, wrote) =
+    → MatchResult answer (λ summary. IsToldWith (lenient word last tells_nothing) limit settings log held summary) (λ fault. IsUnread NeedsMemory limit settings log (fault_in_memory fault))
+told_in_memory word last NeedsMemory limit settings log given (Ok summary) old taken held old_is held_is failed refused unwritten (whole, meanings, read, counted, wrote) =
     (meanings, read, cc counted, sym held_is ∙ wrote ∙ ap (λ xs. xs ++ whole_of_lines (lenient word last tells_nothing) limit settings log meanings) old_is)
-told_in_memory word last limit settings log given (Err fault) old taken held old_is held_is failed is =
-    known (IsUnreadFor false limit settings log) fault tt (unread_for word last tells_nothing limit settings log given fault old taken is) (λ read. reads_well failed (ap Err read))
+told_in_memory word last NeedsMemory limit settings log given (Err fault) old taken held old_is held_is failed refused unwritten is =
+    known (IsUnreadFor false limit settings log) (NeedsMemory limit settings log) fault tt (unread_for word last tells_nothing limit settings log given fault old taken is)
+    (λ read. reads_well failed (ap Err read)) (λ why. refused (ap Err why))
+    (λ why. unwritten (subst (λ (f : Fault). AnswersTold (lenient word last tells_nothing) answers_counts limit settings log given (Err f) old taken) why is))
+
+-- the lines of messages
+pub placed_in_memory : (notation : Notation) (limit : ℕ) (settings : Settings) (log : List ℕ) (given : ℕ) (old new : List ℕ)
+    → FailsToTell (placing_script notation limit) limit settings log given old new → NeedsMemoryForPlacing notation limit settings log
+placed_in_memory notation limit settings log given old new fails = inr (told_some ((placing_script notation limit).word) limit settings log given old new fails)
 
 pub meaning_in_memory : (limit : ℕ) (settings : Settings) (log : List ℕ) (answer : Result (List ItemValue) Fault) → FailedIf Read answer 0 0
-    → IfErr answer (λ fault. fault ≢ Write) → GivesMeaning limit settings log answer → MeansInMemory limit settings log answer
-meaning_in_memory limit settings log (Ok items) failed written is = is
-meaning_in_memory limit settings log (Err fault) failed written is =
-    (is, record { no_read = λ read. reads_well failed (ap Err read); no_write = written })
+    → IfErr answer (λ fault. fault ≢ Write) → (answer ≡ Err Memory → NeedsMemoryToCollect limit settings log) → GivesMeaning limit settings log answer → MeansInMemory limit settings log answer
+meaning_in_memory limit settings log (Ok items) failed written refused is = is
+meaning_in_memory limit settings log (Err fault) failed written refused is =
+    (is, record { no_read = λ read. reads_well failed (ap Err read); no_write = written; memory = λ why. refused (ap Err why) })
 
 -- what is answered of two logs in memory: how they compare, or the fault
 abbrev pub comparison_in : Result Compared CompareFault → Result Comparison CompareFault
@@ -117,9 +165,10 @@ comparison_in (Err fault) = Err fault
 
 pub comparison_in_memory : (limit : ℕ) (settings : Settings) (one other : List ℕ) (answer : Result Compared CompareFault)
     → FailedIf (Left Read) answer 0 0 → FailedIf (Right Read) answer 0 0 → IfErr answer (λ fault. fault_in fault ≢ Write)
+    → (answer ≡ Err (Left Memory) → NeedsMemoryToCollect limit settings one) → (answer ≡ Err (Right Memory) → NeedsMemoryToCollect limit settings other)
     → Compares limit settings one other answer → ComparesInMemory limit settings one other (comparison_in answer)
-comparison_in_memory limit settings one other (Ok compared) left right written is = (compared, is, refl)
-comparison_in_memory limit settings one other (Err (Left fault)) left right written is =
-    (is, record { no_read = λ read. reads_well left (ap (λ f. Err (Left f)) read); no_write = written })
-comparison_in_memory limit settings one other (Err (Right fault)) left right written is =
-    (is, record { no_read = λ read. reads_well right (ap (λ f. Err (Right f)) read); no_write = written })
+comparison_in_memory limit settings one other (Ok compared) left right written left_refused right_refused is = (compared, is, refl)
+comparison_in_memory limit settings one other (Err (Left fault)) left right written left_refused right_refused is =
+    (is, record { no_read = λ read. reads_well left (ap (λ f. Err (Left f)) read); no_write = written; memory = λ why. left_refused (ap (λ f. Err (Left f)) why) })
+comparison_in_memory limit settings one other (Err (Right fault)) left right written left_refused right_refused is =
+    (is, record { no_read = λ read. reads_well right (ap (λ f. Err (Right f)) read); no_write = written; memory = λ why. right_refused (ap (λ f. Err (Right f)) why) })

@@ -1,10 +1,11 @@
 -- What is answered of a log that lies in memory. No device fails there: what has no answer is refused, or memory was.
-use Rattle.std.specs.Prelude.{◌≡◌, ◌≢◌, ℕ, false, List, Option, Result, Ok, Err}
+use Rattle.std.specs.Prelude.{◌≡◌, ◌≢◌, ◌⊎◌, ◌<◌, ⊤, ℕ, false, List, length, Option, Result, Ok, Err}
 use Rattle.can_log.specs.declared.frame.Stamped.{Stamped}
 use Rattle.uds_exchange.specs.Meaning.{ItemValue}
 use Rattle.trace_canon.specs.declared.comparing.Compared.{Compared}
 use Rattle.trace_canon.specs.declared.comparing.Comparison.{Comparison}
 use Rattle.trace_log.specs.declared.fault.CompareFault.{CompareFault}
+use Rattle.trace_log.specs.declared.fault.CompareFault.TheVariants.{Left, Right}
 use Rattle.trace_log.specs.declared.fault.Fault.{Fault}
 use Rattle.trace_log.specs.declared.fault.Fault.TheVariants.{BadLine, Oversize, LogLimit, OutputLimit, Read, Write, Memory}
 use Rattle.trace_text.specs.declared.item_lines.ItemStyle.{ItemStyle}
@@ -16,27 +17,32 @@ use Rattle.trace_canon.specs.Sessions.{GivesMeaning}
 use Rattle.trace_canon.specs.Compared.{Compares, fault_in}
 use Rattle.trace_log.specs.ReadAs.{IsReadAs}
 use Rattle.trace_canon.specs.ExplainScript.{explain_script}
-use Rattle.trace_canon.specs.Found.{IsFoundIn, pairs_text}
+use Rattle.trace_canon.specs.Found.{IsFoundIn, NeedsMemoryToFind, pairs_text}
+use Rattle.trace_canon.specs.Keeping.{HasTextOf, NeedsMemoryToCollect, NeedsMemoryToOrder}
 use Rattle.trace_text.specs.ListText.{list_text}
+use Rattle.trace_log.specs.CanonicalLog.{canonical_log_of_lines}
+use Rattle.trace_log.specs.Needing.{NeedsMemoryToReceive}
 use Rattle.trace_log.specs.Outcome.{IsOutcome}
 use Rattle.trace_canon.specs.MessageLines.{placing_script}
 use Rattle.trace_log.specs.Settings.{Settings}
 use Rattle.trace_log.specs.Summing.{summary_of}
-use Rattle.trace_run.specs.Told.{Script, IsUnreadFor, whole_of_lines}
+use Rattle.trace_run.specs.Told.{Script, IsUnreadFor, told_of_lines, whole_of_lines}
 use Rattle.uds_find.specs.declared.pair.CreditLine.{CreditLine}
 
--- it is not that of a device
-pub record IsOfMemory (fault : Fault) : Type 0 where
+-- it is not that of a device, and refused memory only where some is needed
+pub record IsOfMemory (NeedsMemory : Type 0) (fault : Fault) : Type 0 where
   pub no_read : fault ≢ Read
   pub no_write : fault ≢ Write
+  pub memory : fault ≡ Memory → NeedsMemory
 
--- the log is refused for what the fault tells, or memory was refused
-abbrev pub IsRefused : ℕ → Settings → List ℕ → Fault → Type 0
-IsRefused limit settings log fault = TellsOutcome limit settings log fault × IsOfMemory fault
+-- the log is refused for what the fault tells, or memory was refused, which it needs
+abbrev pub IsRefused : (ℕ → Settings → List ℕ → Type 0) → ℕ → Settings → List ℕ → Fault → Type 0
+IsRefused NeedsMemory limit settings log fault = TellsOutcome limit settings log fault × IsOfMemory (NeedsMemory limit settings log) fault
 
--- the log can't be read for what the fault tells, or memory was refused: no length that is announced refuses it
-abbrev pub IsUnread : ℕ → Settings → List ℕ → Fault → Type 0
-IsUnread limit settings log fault = IsUnreadFor false limit settings log fault × IsOfMemory fault
+-- the log can't be read for what the fault tells, or memory was refused, which it needs: no length that is announced
+-- refuses it
+abbrev pub IsUnread : (ℕ → Settings → List ℕ → Type 0) → ℕ → Settings → List ℕ → Fault → Type 0
+IsUnread NeedsMemory limit settings log fault = IsUnreadFor false limit settings log fault × IsOfMemory (NeedsMemory limit settings log) fault
 
 -- the log is accepted, and these are its canonical log and its counts
 abbrev pub IsCanonicalLogWith : ℕ → Settings → List ℕ → List ℕ → Summary → Type 0
@@ -69,16 +75,47 @@ IsFindingWith notation settings log text summary = (pairs : List CreditLine) × 
 abbrev pub IsText : (List ℕ → Summary → Type 0) → List ℕ → Type 0
 IsText IsTextWith text = (summary : Summary) × IsTextWith text summary
 
+-- there is such a text, of one byte at least
+abbrev pub HasBytes : (List ℕ → Summary → Type 0) → Type 0
+HasBytes IsTextWith = (text : List ℕ) × (summary : Summary) × IsTextWith text summary × (0 < length text)
+
+-- Memory is needed to gather a canonical log: to read the log, or since its first lines have a canonical line.
+abbrev pub NeedsMemoryForCanonicalLog : ℕ → Settings → List ℕ → Type 0
+NeedsMemoryForCanonicalLog limit settings log = NeedsMemoryToOrder limit settings log ⊎ HasTextOf (canonical_log_of_lines limit settings) log
+
+-- a list: to read the log, or since it has an item
+abbrev pub NeedsMemoryForList : ItemStyle → ℕ → Settings → List ℕ → Type 0
+NeedsMemoryForList style limit settings log = NeedsMemoryToCollect limit settings log ⊎ HasBytes (IsListWith style limit settings log)
+
+-- the lines of messages: to read the log, or since its first lines deliver one
+abbrev pub NeedsMemoryForPlacing : Notation → ℕ → Settings → List ℕ → Type 0
+NeedsMemoryForPlacing notation limit settings log =
+    NeedsMemoryToReceive limit settings log ⊎ HasTextOf (told_of_lines (placing_script notation limit) settings) log
+
+-- what explains a log: each has its counts
+abbrev pub NeedsMemoryForExplanation : ℕ → Settings → List ℕ → Type 0
+NeedsMemoryForExplanation limit settings log = ⊤
+
+-- the lines of pairs: to read the log, or since it has one
+abbrev pub NeedsMemoryForFinding : Notation → ℕ → Settings → List ℕ → Type 0
+NeedsMemoryForFinding notation limit settings log = NeedsMemoryToFind log ⊎ HasBytes (IsFindingWith notation settings log)
+
 -- the meaning of the log, or why it has none
 abbrev pub MeansInMemory : ℕ → Settings → List ℕ → Result (List ItemValue) Fault → Type 0
 MeansInMemory limit settings log (Ok items) = GivesMeaning limit settings log (Ok items)
-MeansInMemory limit settings log (Err fault) = IsRefused limit settings log fault
+MeansInMemory limit settings log (Err fault) = IsRefused NeedsMemoryToCollect limit settings log fault
+
+-- the log of which a fault tells needs memory
+abbrev pub NeedsMemoryOnSide : ℕ → Settings → List ℕ → List ℕ → CompareFault → Type 0
+NeedsMemoryOnSide limit settings one other (Left fault) = NeedsMemoryToCollect limit settings one
+NeedsMemoryOnSide limit settings one other (Right fault) = NeedsMemoryToCollect limit settings other
 
 -- how the meanings of the two logs compare, or why one has none
 abbrev pub ComparesInMemory : ℕ → Settings → List ℕ → List ℕ → Result Comparison CompareFault → Type 0
 ComparesInMemory limit settings one other (Ok comparison) =
     (compared : Compared) × Compares limit settings one other (Ok compared) × (compared.comparison ≡ comparison)
-ComparesInMemory limit settings one other (Err fault) = Compares limit settings one other (Err fault) × IsOfMemory (fault_in fault)
+ComparesInMemory limit settings one other (Err fault) =
+    Compares limit settings one other (Err fault) × IsOfMemory (NeedsMemoryOnSide limit settings one other fault) (fault_in fault)
 
 -- the fault of a text that is gathered in memory, where a write fails for want of memory alone
 abbrev pub fault_in_memory : Fault → Fault

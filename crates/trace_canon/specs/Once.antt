@@ -1,5 +1,5 @@
 -- A text of a log that is written by itself, once all of it is known.
-use Rattle.std.specs.Prelude.{◌≡◌, ◌≢◌, ◌-◌, List, ℕ, ◌++◌, length, Result, Ok, Err, IfErr}
+use Rattle.std.specs.Prelude.{◌≡◌, ◌≢◌, ◌-◌, ◌<◌, List, ℕ, ◌++◌, length, Result, Ok, Err, IfErr}
 use Rattle.trace_io.specs.Stream.{Agrees}
 use Rattle.trace_io.specs.Written.{HasFront}
 use Rattle.trace_io.specs.declared.device.Source.{Ghosts as SourceGhosts}
@@ -10,10 +10,10 @@ use Rattle.trace_log.specs.declared.summary.Summary.{Summary}
 use Rattle.trace_log.specs.Answers.{ReadsWhile}
 use Rattle.trace_log.specs.Devices.{ReadFrom, WroteTo}
 
--- What is written after `old` where a log has no such text: a front of one where writing failed, and else nothing. `Is`
--- says of what a text is made, with the counts of the log.
+-- What is written after `old` where a log has no such text: a front of one, which has bytes, where writing failed, and
+-- else nothing. `Is` says of what a text is made, with the counts of the log.
 abbrev pub LeavesOnce : {V : Type 0} → (V → List ℕ) → (V → Summary → Type 0) → Fault → List ℕ → List ℕ → Type 0
-LeavesOnce {V = V} text Is Write old new = (value : V) × (summary : Summary) × Is value summary × HasFront old (text value) new
+LeavesOnce {V = V} text Is Write old new = (value : V) × (summary : Summary) × Is value summary × (0 < length (text value)) × HasFront old (text value) new
 LeavesOnce text Is (BadLine line column) old new = new ≡ old
 LeavesOnce text Is (Oversize line announced) old new = new ≡ old
 LeavesOnce text Is LogLimit old new = new ≡ old

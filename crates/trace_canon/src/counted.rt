@@ -1,7 +1,7 @@
 //! The texts that logs in memory are answered with, and the counts of the log beside each. No device is asked.
 ghost use Rattle.std.specs.Prelude.{◌≡◌, Ok, Err, MatchResult};
 ghost use Rattle.isotp_receive.specs.declared.TheConstants.{MESSAGE_LIMIT};
-ghost use Rattle.trace_canon.specs.InMemory.{IsCanonicalLogWith, IsExplanationWith, IsFindingWith, IsListWith, IsPlacingWith, IsRefused, IsUnread, fault_in_memory};
+ghost use Rattle.trace_canon.specs.InMemory.{IsCanonicalLogWith, IsExplanationWith, IsFindingWith, IsListWith, IsPlacingWith, IsRefused, IsUnread, NeedsMemoryForCanonicalLog, NeedsMemoryForExplanation, NeedsMemoryForFinding, NeedsMemoryForList, NeedsMemoryForPlacing, fault_in_memory};
 
 use crate::explainer::explain;
 use crate::finding::find;
@@ -22,7 +22,7 @@ pub struct CountedText {
 
 /// The canonical log of a log, as [`normalise`](crate::normalise) writes it.
 pub fn canonical_log(alloc: Global, config: &Config, log: &[u8]) -> Result<CountedText, Fault>
-    ensures { MatchResult result (λ counted. IsCanonicalLogWith MESSAGE_LIMIT config.now log.now counted.text.items counted.summary) (IsRefused MESSAGE_LIMIT config.now log.now) }
+    ensures { MatchResult result (λ counted. IsCanonicalLogWith MESSAGE_LIMIT config.now log.now counted.text.items counted.summary) (IsRefused NeedsMemoryForCanonicalLog MESSAGE_LIMIT config.now log.now) }
 {
     let mut writer = Writing::new(Vec::new(alloc));
     let answer = normalise(alloc, config, &mut Bytes::new(log), &mut writer);
@@ -36,7 +36,7 @@ pub fn item_list(
     style: ItemStyle,
     log: &[u8],
 ) -> Result<CountedText, Fault>
-    ensures { MatchResult result (λ counted. IsListWith style MESSAGE_LIMIT config.now log.now counted.text.items counted.summary) (IsRefused MESSAGE_LIMIT config.now log.now) }
+    ensures { MatchResult result (λ counted. IsListWith style MESSAGE_LIMIT config.now log.now counted.text.items counted.summary) (IsRefused (NeedsMemoryForList style) MESSAGE_LIMIT config.now log.now) }
 {
     let mut writer = Writing::new(Vec::new(alloc));
     let answer = list(alloc, config, style, &mut Bytes::new(log), &mut writer);
@@ -50,7 +50,7 @@ pub fn message_lines(
     notation: Notation,
     log: &[u8],
 ) -> Result<CountedText, Fault>
-    ensures { MatchResult result (λ counted. IsPlacingWith notation MESSAGE_LIMIT config.now log.now counted.text.items counted.summary) (IsUnread MESSAGE_LIMIT config.now log.now) }
+    ensures { MatchResult result (λ counted. IsPlacingWith notation MESSAGE_LIMIT config.now log.now counted.text.items counted.summary) (IsUnread (NeedsMemoryForPlacing notation) MESSAGE_LIMIT config.now log.now) }
 {
     let mut writer = Writing::new(Vec::new(alloc));
     let answer = messages(alloc, config, notation, &mut Bytes::new(log), &mut writer);
@@ -64,7 +64,7 @@ pub fn explanation(
     notation: Notation,
     log: &[u8],
 ) -> Result<CountedText, Fault>
-    ensures { MatchResult result (λ counted. IsExplanationWith notation MESSAGE_LIMIT config.now log.now counted.text.items counted.summary) (IsUnread MESSAGE_LIMIT config.now log.now) }
+    ensures { MatchResult result (λ counted. IsExplanationWith notation MESSAGE_LIMIT config.now log.now counted.text.items counted.summary) (IsUnread NeedsMemoryForExplanation MESSAGE_LIMIT config.now log.now) }
 {
     let mut writer = Writing::new(Vec::new(alloc));
     let answer = explain(alloc, config, notation, &mut Bytes::new(log), &mut writer);
@@ -78,7 +78,7 @@ pub fn pair_lines(
     notation: Notation,
     log: &[u8],
 ) -> Result<CountedText, Fault>
-    ensures { MatchResult result (λ counted. IsFindingWith notation config.now log.now counted.text.items counted.summary) (IsUnread MESSAGE_LIMIT config.now log.now) }
+    ensures { MatchResult result (λ counted. IsFindingWith notation config.now log.now counted.text.items counted.summary) (IsUnread (NeedsMemoryForFinding notation) MESSAGE_LIMIT config.now log.now) }
 {
     let mut writer = Writing::new(Vec::new(alloc));
     let answer = find(alloc, config, notation, &mut Bytes::new(log), &mut writer);

@@ -2,7 +2,7 @@
 //! [`counted`](crate::counted) has the texts with the counts of the log beside them.
 ghost use Rattle.std.specs.Prelude.{MatchResult};
 ghost use Rattle.isotp_receive.specs.declared.TheConstants.{MESSAGE_LIMIT};
-ghost use Rattle.trace_canon.specs.InMemory.{ComparesInMemory, IsCanonicalLogWith, IsExplanationWith, IsListWith, IsPlacingWith, IsRefused, IsText, IsUnread, MeansInMemory};
+ghost use Rattle.trace_canon.specs.InMemory.{ComparesInMemory, IsCanonicalLogWith, IsExplanationWith, IsListWith, IsPlacingWith, IsRefused, IsText, IsUnread, MeansInMemory, NeedsMemoryForCanonicalLog, NeedsMemoryForExplanation, NeedsMemoryForList, NeedsMemoryForPlacing};
 
 use crate::collector::meaning_of;
 use crate::comparing::{Comparison, compare};
@@ -15,7 +15,7 @@ use uds_exchange::Meaning;
 
 /// The canonical log of a log, as [`normalise`](crate::normalise) writes it.
 pub fn canonical_log(alloc: Global, config: &Config, log: &[u8]) -> Result<Vec<u8>, Fault>
-    ensures { MatchResult result (λ text. IsText (IsCanonicalLogWith MESSAGE_LIMIT config.now log.now) text.items) (IsRefused MESSAGE_LIMIT config.now log.now) }
+    ensures { MatchResult result (λ text. IsText (IsCanonicalLogWith MESSAGE_LIMIT config.now log.now) text.items) (IsRefused NeedsMemoryForCanonicalLog MESSAGE_LIMIT config.now log.now) }
 {
     Ok(counted::canonical_log(alloc, config, log)?.text)
 }
@@ -27,7 +27,7 @@ pub fn item_list(
     style: ItemStyle,
     log: &[u8],
 ) -> Result<Vec<u8>, Fault>
-    ensures { MatchResult result (λ text. IsText (IsListWith style MESSAGE_LIMIT config.now log.now) text.items) (IsRefused MESSAGE_LIMIT config.now log.now) }
+    ensures { MatchResult result (λ text. IsText (IsListWith style MESSAGE_LIMIT config.now log.now) text.items) (IsRefused (NeedsMemoryForList style) MESSAGE_LIMIT config.now log.now) }
 {
     Ok(counted::item_list(alloc, config, style, log)?.text)
 }
@@ -39,7 +39,7 @@ pub fn message_lines(
     notation: Notation,
     log: &[u8],
 ) -> Result<Vec<u8>, Fault>
-    ensures { MatchResult result (λ text. IsText (IsPlacingWith notation MESSAGE_LIMIT config.now log.now) text.items) (IsUnread MESSAGE_LIMIT config.now log.now) }
+    ensures { MatchResult result (λ text. IsText (IsPlacingWith notation MESSAGE_LIMIT config.now log.now) text.items) (IsUnread (NeedsMemoryForPlacing notation) MESSAGE_LIMIT config.now log.now) }
 {
     Ok(counted::message_lines(alloc, config, notation, log)?.text)
 }
@@ -51,7 +51,7 @@ pub fn explanation(
     notation: Notation,
     log: &[u8],
 ) -> Result<Vec<u8>, Fault>
-    ensures { MatchResult result (λ text. IsText (IsExplanationWith notation MESSAGE_LIMIT config.now log.now) text.items) (IsUnread MESSAGE_LIMIT config.now log.now) }
+    ensures { MatchResult result (λ text. IsText (IsExplanationWith notation MESSAGE_LIMIT config.now log.now) text.items) (IsUnread NeedsMemoryForExplanation MESSAGE_LIMIT config.now log.now) }
 {
     Ok(counted::explanation(alloc, config, notation, log)?.text)
 }

@@ -4,11 +4,11 @@ ghost use Rattle.direction.specs.Dir.{Message};
 ghost use Rattle.isotp_receive.specs.declared.TheConstants.{MESSAGE_LIMIT};
 ghost use Rattle.uds_exchange.specs.Meaning.{meaning, flattened};
 ghost use Rattle.trace_log.specs.Answers.{Answers, ReadsWhile};
-ghost use Rattle.trace_log.specs.CanonicalLog.{canonical_log};
+ghost use Rattle.trace_log.specs.CanonicalLog.{canonical_log, canonical_log_of_lines};
 ghost use Rattle.trace_canon.specs.CanonicalScript.{StandsCanonical};
 ghost use Rattle.trace_log.specs.Devices.{ReadFrom, WroteTo};
-ghost use Rattle.trace_canon.specs.Keeping.{NeedsMemoryToOrder};
-ghost use Rattle.trace_log.specs.declared.fault.Fault.TheVariants.{Memory};
+ghost use Rattle.trace_canon.specs.Keeping.{HasTextOf, NeedsMemoryToOrder};
+ghost use Rattle.trace_log.specs.declared.fault.Fault.TheVariants.{Memory, Write};
 ghost use Rattle.trace_log.specs.Laws.{IsCanonicalFor, Records, Certifies};
 ghost use Rattle.trace_log.specs.Refusal.{IsNotRefusedWithin};
 ghost use Rattle.trace_io.specs.Stream.{Agrees};
@@ -58,6 +58,10 @@ pub fn normalise<R: Source, W: Target>(
     // Memory is refused only for a log that needs it: for a message of several frames, or for one that is held.
     ensures memory { (log : List ℕ) → Agrees (R.given reader.old) (R.given reader.new) (R.is_over reader.new) log
         → result ≡ Err Memory → NeedsMemoryToOrder MESSAGE_LIMIT config.now log }
+
+    // Writing fails only where the lines read have a canonical line.
+    ensures some { (log : List ℕ) → Agrees (R.given reader.old) (R.given reader.new) (R.is_over reader.new) log
+        → result ≡ Err Write → HasTextOf (canonical_log_of_lines MESSAGE_LIMIT config.now) log }
 
     // What it did with the devices.
     ensures read { ReadFrom R.Source Fault.Read config.now.max_bytes result reader.old reader.new }

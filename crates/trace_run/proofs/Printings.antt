@@ -31,6 +31,7 @@ module _ {W : Type 0} (target : Ghosts W) (text : List ℕ) (old new : W) where
           failed = well;
         };
         only = tt;
+        some = tt;
       }
 
   -- or a front of it
@@ -45,4 +46,5 @@ module _ {W : Type 0} (target : Ghosts W) (text : List ℕ) (old new : W) where
       failed = record { risen = λ _. carries.failures; same = λ other. absurd (other refl) };
     };
     only = refl;
+    some = carries.spoke refl;
   }

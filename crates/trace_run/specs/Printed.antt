@@ -1,5 +1,5 @@
 -- A text that is written by itself, once all of it is known.
-use Rattle.std.specs.Prelude.{◌≡◌, ◌-◌, List, ℕ, Result, IfErr}
+use Rattle.std.specs.Prelude.{◌≡◌, ◌<◌, List, ℕ, length, Result, IfErr, OnErr}
 use Rattle.trace_io.specs.Written.{HasWritten}
 use Rattle.trace_io.specs.declared.device.Target.{Ghosts}
 use Rattle.trace_log.specs.declared.fault.Fault.{Fault}
@@ -11,3 +11,5 @@ pub record Prints {A W : Type 0} (target : Ghosts W) (text : List ℕ) (old : W)
   pub written : HasWritten result (target.taken old) text (target.taken new)
   pub wrote : WroteTo target Write result old new
   pub only : IfErr result (λ fault. fault ≡ Write)
+  -- there was something to write where writing failed
+  pub some : OnErr result (0 < length text)

@@ -10,7 +10,7 @@ use Rattle.trace_log.specs.declared.fault.Fault.TheVariants.{BadLine, Oversize, 
 use Rattle.trace_log.specs.declared.fault.ConfigFault.{ConfigFault}
 use Rattle.trace_log.specs.declared.fault.ConfigFault.TheVariants.{IdRange, SameId, LimitRange}
 use Rattle.trace_log.specs.declared.summary.Summary.{Summary}
-use Rattle.trace_canon.specs.InMemory.{IsCanonicalLogWith, IsListWith, IsPlacingWith, IsExplanationWith, IsFindingWith, IsRefused, IsUnread, ComparesInMemory}
+use Rattle.trace_canon.specs.InMemory.{IsCanonicalLogWith, IsListWith, IsPlacingWith, IsExplanationWith, IsFindingWith, IsRefused, IsUnread, NeedsMemoryForCanonicalLog, NeedsMemoryForList, NeedsMemoryForPlacing, NeedsMemoryForExplanation, NeedsMemoryForFinding, ComparesInMemory}
 use Rattle.trace_log.specs.Settings.{Settings, Configures}
 use Rattle.udsnorm_c.specs.declared.answer.UdsnormAnswer.{UdsnormAnswer}
 use Rattle.udsnorm_c.specs.Spelled.{identifier_of, list_style, notation_of, put_at_front}
@@ -106,7 +106,7 @@ AnswersRefusal old new answer fault = (new ≡ old) × (answer ≡ refusal_of fa
 -- the canonical log of an accepted log, or why it is refused
 abbrev pub NormaliseAnswers : ℕ → ℕ → ℕ → ℕ → List ℕ → List ℕ → List ℕ → UdsnormAnswer → Type 0
 NormaliseAnswers limit tester unit max_bytes log old new answer = UnderSettings tester unit max_bytes
-    (λ settings. TextAnswers (IsCanonicalLogWith limit settings log) (IsRefused limit settings log) old new answer) (AnswersRefusal old new answer)
+    (λ settings. TextAnswers (IsCanonicalLogWith limit settings log) (IsRefused NeedsMemoryForCanonicalLog limit settings log) old new answer) (AnswersRefusal old new answer)
 
 -- there is such a style, and this holds of it; or there is none, which is answered, and the buffer is as it was
 abbrev pub Styled : {A : Type 0} → Option A → (A → Type 0) → List ℕ → List ℕ → UdsnormAnswer → Type 0
@@ -116,25 +116,25 @@ Styled (Some style) Holds old new answer = Holds style
 -- the list of an accepted log, or why it is refused
 abbrev pub ListAnswers : ℕ → ℕ → ℕ → ℕ → ℕ → List ℕ → List ℕ → List ℕ → UdsnormAnswer → Type 0
 ListAnswers limit tester unit max_bytes style log old new answer = UnderSettings tester unit max_bytes
-    (λ settings. Styled (list_style style) (λ style. TextAnswers (IsListWith style limit settings log) (IsRefused limit settings log) old new answer) old new answer)
+    (λ settings. Styled (list_style style) (λ style. TextAnswers (IsListWith style limit settings log) (IsRefused (NeedsMemoryForList style) limit settings log) old new answer) old new answer)
     (AnswersRefusal old new answer)
 
 -- the messages of a log that can be read with their places, or why it can't be
 abbrev pub MessagesAnswers : ℕ → ℕ → ℕ → ℕ → ℕ → List ℕ → List ℕ → List ℕ → UdsnormAnswer → Type 0
 MessagesAnswers limit tester unit max_bytes style log old new answer = UnderSettings tester unit max_bytes
-    (λ settings. Styled (notation_of style) (λ notation. TextAnswers (IsPlacingWith notation limit settings log) (IsUnread limit settings log) old new answer) old new answer)
+    (λ settings. Styled (notation_of style) (λ notation. TextAnswers (IsPlacingWith notation limit settings log) (IsUnread (NeedsMemoryForPlacing notation) limit settings log) old new answer) old new answer)
     (AnswersRefusal old new answer)
 
 -- what explains a log that can be read, or why it can't be
 abbrev pub ExplainAnswers : ℕ → ℕ → ℕ → ℕ → ℕ → List ℕ → List ℕ → List ℕ → UdsnormAnswer → Type 0
 ExplainAnswers limit tester unit max_bytes style log old new answer = UnderSettings tester unit max_bytes
-    (λ settings. Styled (notation_of style) (λ notation. TextAnswers (IsExplanationWith notation limit settings log) (IsUnread limit settings log) old new answer) old new answer)
+    (λ settings. Styled (notation_of style) (λ notation. TextAnswers (IsExplanationWith notation limit settings log) (IsUnread NeedsMemoryForExplanation limit settings log) old new answer) old new answer)
     (AnswersRefusal old new answer)
 
 -- the pairs of a log that can be read, or why it can't be; no identifier is asked for
 abbrev pub FindAnswers : ℕ → ℕ → ℕ → List ℕ → List ℕ → List ℕ → UdsnormAnswer → Type 0
 FindAnswers limit max_bytes style log old new answer = UnderSettings 0x7E0 0x7E8 max_bytes
-    (λ settings. Styled (notation_of style) (λ notation. TextAnswers (IsFindingWith notation settings log) (IsUnread limit settings log) old new answer) old new answer)
+    (λ settings. Styled (notation_of style) (λ notation. TextAnswers (IsFindingWith notation settings log) (IsUnread (NeedsMemoryForFinding notation) limit settings log) old new answer) old new answer)
     (AnswersRefusal old new answer)
 
 -- how two logs compare, or why one has no meaning

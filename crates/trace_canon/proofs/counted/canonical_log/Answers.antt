@@ -10,5 +10,5 @@ returns c =
     let empty = ap (λ w. w.taken) c.new-writer.ensures in
     let held = taken_is_held empty (ap (λ w. w.inner.items) c.new-writer.ensures ∙ c.new.ensures.items) ran.wrote.took in
     gathered _ _ (λ summary. record { text = c.into_inner.result; summary = summary }) c.normalise-answer.result c.counted.result
-    (canonical_in_memory MESSAGE_LIMIT c.args.config.now c.args.log.now _ c.normalise-answer.result _ _ _ empty (held ∙ ap (λ v. v.items) (sym c.into_inner.ensures)) ran.read.failed (ran.answer c.args.log.now agrees))
+    (canonical_in_memory MESSAGE_LIMIT c.args.config.now c.args.log.now _ c.normalise-answer.result _ _ _ empty (held ∙ ap (λ v. v.items) (sym c.into_inner.ensures)) ran.read.failed (ran.memory c.args.log.now agrees) (ran.some c.args.log.now agrees) (ran.answer c.args.log.now agrees))
     c.counted.ensures

@@ -1,6 +1,7 @@
 use Rattle.std.proofs.Common.{ap, sym, ◌∙◌}
 use Rattle.isotp_receive.specs.declared.TheConstants.{MESSAGE_LIMIT}
 use Rattle.trace_log.specs.Answers.{TellsOutcome}
+use Rattle.trace_canon.specs.Keeping.{NeedsMemoryToCollect}
 use Rattle.trace_canon.proofs.InMemories.{agrees_in_memory, gathered, taken_is_held, written_in_memory}
 use Rattle.trace_canon.proofs.counted.item_list.Goals as goal
 
@@ -12,5 +13,5 @@ returns c =
     let held = taken_is_held empty (ap (λ w. w.inner.items) c.new-writer.ensures ∙ c.new.ensures.items) ran.wrote.took in
     gathered _ _ (λ summary. record { text = c.into_inner.result; summary = summary }) c.list-answer.result c.counted.result
     (written_in_memory _ _ (TellsOutcome MESSAGE_LIMIT c.args.config.now c.args.log.now)
-    c.list-answer.result _ _ _ tt empty (held ∙ ap (λ v. v.items) (sym c.into_inner.ensures)) ran.read.failed (ran.answer c.args.log.now agrees))
+    (NeedsMemoryToCollect MESSAGE_LIMIT c.args.config.now c.args.log.now) c.list-answer.result _ _ _ tt empty (held ∙ ap (λ v. v.items) (sym c.into_inner.ensures)) ran.read.failed (ran.memory c.args.log.now agrees) (ran.answer c.args.log.now agrees))
     c.counted.ensures

@@ -1,5 +1,5 @@
 use Rattle.std.proofs.Common.{ap, sym, ◌∙◌}
-use Rattle.trace_canon.specs.Found.{IsUnheardFor}
+use Rattle.trace_canon.specs.Found.{IsUnheardFor, NeedsMemoryToFind}
 use Rattle.trace_canon.proofs.InMemories.{agrees_in_memory, gathered, taken_is_held, written_in_memory}
 use Rattle.trace_canon.proofs.counted.pair_lines.Goals as goal
 
@@ -11,5 +11,5 @@ returns c =
     let held = taken_is_held empty (ap (λ w. w.inner.items) c.new-writer.ensures ∙ c.new.ensures.items) ran.wrote.took in
     gathered _ _ (λ summary. record { text = c.into_inner.result; summary = summary }) c.find-answer.result c.counted.result
     (written_in_memory _ _ (IsUnheardFor c.args.config.now c.args.log.now)
-    c.find-answer.result _ _ _ tt empty (held ∙ ap (λ v. v.items) (sym c.into_inner.ensures)) ran.read.failed (ran.answer c.args.log.now agrees))
+    (NeedsMemoryToFind c.args.log.now) c.find-answer.result _ _ _ tt empty (held ∙ ap (λ v. v.items) (sym c.into_inner.ensures)) ran.read.failed (ran.memory c.args.log.now agrees) (ran.answer c.args.log.now agrees))
     c.counted.ensures

@@ -1,6 +1,6 @@
 use Rattle.std.proofs.Common.{refl, sym, ◌∙◌}
 use Rattle.trace_canon.specs.proving.Writing.{start_of}
-use Rattle.trace_canon.proofs.CanonicalScripts.{canonical_tells_the_same, canonical_again, recording_again, answer_is_certificate}
+use Rattle.trace_canon.proofs.CanonicalScripts.{canonical_tells_the_same, unwritten_some, canonical_again, recording_again, answer_is_certificate}
 use Rattle.trace_canon.proofs.CanonicalWriting.{place_none}
 use Rattle.trace_canon.proofs.normaliser.normalise.Goals as goal
 
@@ -22,3 +22,6 @@ returns-clause-recording g c = λ log agrees. recording_again c.args.config.now 
 
 pub returns-clause-certificate : goal.returns-clause-certificate
 returns-clause-certificate g c = λ log agrees. answer_is_certificate c.args.config.now log _ c.run.result _ _ (returns-clause-answer g c log agrees)
+
+pub returns-clause-some : goal.returns-clause-some
+returns-clause-some g c = λ log agrees wrong. unwritten_some c.args.config.now log _ c.run.result _ _ wrong (c.run.ensures.ran.answer log agrees)
