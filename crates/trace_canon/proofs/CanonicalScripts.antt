@@ -177,7 +177,7 @@ module _ (settings : Settings) where
     }
     canonical_some (inr refuses) = absurd (omega (arith, refuses.some))
 
-    writes_eagerly_told : TellsEagerly (canonical_script settings) MESSAGE_LIMIT settings log given old new → WritesEagerly MESSAGE_LIMIT settings log given old new
+    pub writes_eagerly_told : TellsEagerly (canonical_script settings) MESSAGE_LIMIT settings log given old new → WritesEagerly MESSAGE_LIMIT settings log given old new
     writes_eagerly_told eager =
         record { meanings = eager.meanings; read = eager.read; more = eager.more; wrote = eager.wrote ∙ ap (λ text. old ++ (text ++ eager.more)) (early_is eager.meanings) }
 
