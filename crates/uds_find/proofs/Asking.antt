@@ -42,9 +42,9 @@ by_first service before frame rest asker true speaks later waits =
     elim (later (Some frame) waits) [
       | inl last ↦ inl (behind service asker frame rest last)
       | inr here ↦ (
-        let said = asks_for service (mention_of frame) frame.id asker speaks here.0 in
-        inl (record { earlier = []; asking = frame; since = rest; place = refl; asks = said.0; sent = said.1; is_last = here.1 })
-      )
+          let said = asks_for service (mention_of frame) frame.id asker speaks here.0 in
+          inl (record { earlier = []; asking = frame; since = rest; place = refl; asks = said.0; sent = said.1; is_last = here.1 })
+          )
     ]
 by_first service before frame rest asker false silent later waits =
     elim (later before waits) [
