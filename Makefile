@@ -77,7 +77,7 @@ test: build lib
 	@python3 tests/python_package.py $(PROGRAM) $(LIBRARY)
 	@python3 tests/many_sessions.py $(PROGRAM) $(LIBRARY)
 	@python3 tests/hostile_input.py $(PROGRAM)
-	@python3 tests/ample_memory.py $(PROGRAM)
+	@python3 tests/ample_memory.py $(PROGRAM) $(LIBRARY)
 	@python3 tests/refused_memory.py $(PROGRAM)
 	@rt ci
 

@@ -139,6 +139,10 @@ def names(cases, folder):
         hinted(cases, f"no file {name!r}", ["list", name], folder, DEVICE, f"there is no file {shown}")
         read = subprocess.run(["bash", "-c", f"printf %s {shown}"], stdout=subprocess.PIPE, timeout=60).stdout
         cases.report(f"{shown} as a shell reads it", [] if read == name.encode() else [f"{read!r}"])
+    # However long a name is, all of it is told.
+    for power in range(8, 13):
+        long = "l" * 2**power
+        hinted(cases, f"a name of {len(long)} bytes", ["list", long], folder, DEVICE, f"{long} can't be opened")
     hinted(cases, "no file ''", ["list", ""], folder, DEVICE, "there is no file $''")
 
 

@@ -238,12 +238,12 @@ class Loaded:
     def __init__(self, path):
         self.library = ctypes.CDLL(str(path))
 
-    def text(self, job, session):
-        """What a call answers, and the text."""
+    def text(self, job, session, room=None):
+        """What a call answers, and the text, for which there is this room, or else enough."""
         call = JOBS[job][0]
         style = [] if call == "normalise" else [ctypes.c_uint32(STYLES.get(job, 0))]
-        room, answer = (8 if "objects" in job else 4) * len(session.log) + 512, Answer()
-        out = ctypes.create_string_buffer(room)
+        room, answer = (8 if "objects" in job else 4) * len(session.log) + 512 if room is None else room, Answer()
+        out = ctypes.create_string_buffer(max(room, 1))
         sides = [ctypes.c_uint32(session.tester), ctypes.c_uint32(session.unit)] if call != "find" else []
         status = self.library[f"udsnorm_{call}"](
             *sides, ctypes.c_uint64(session.limit), *style,
@@ -251,7 +251,7 @@ class Loaded:
         )
         if status != answer.status:
             raise ValueError("the result is not the status")
-        return answer, out.raw[: answer.length]
+        return answer, ctypes.string_at(out, min(answer.length, room))
 
     def compare(self, session, other):
         answer = Answer()

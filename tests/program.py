@@ -10,6 +10,7 @@ import errno
 import os
 import resource
 import select
+import shutil
 import signal
 import subprocess
 import sys
@@ -22,7 +23,7 @@ import oracle
 from cases import DEVICE, DIFFERENT, DONE, REFUSAL, WORDS, Cases
 from counts import counts_line
 from refuser import READ, WRITE, Refuser
-from runs import Ended, end, give, peak_kilobytes, start
+from runs import Ended, end, give, peak_kilobytes, run, start
 from tables import EXAMPLES
 from told import LONG_CANONICAL, LONG_LOG, READ_FAILED, WRITE_FAILED, oversize, place
 
@@ -254,6 +255,22 @@ def one_stream(cases):
     other = ["compare", "/dev/stdin", f"/dev/fd/{reader}"]
     cases.case("two pipes for the logs", cases.run(other, b"", pass_fds=[reader]), DONE, b"same\n")
     os.close(reader)
+    pipes_of_one_number(cases)
+
+
+def pipes_of_one_number(cases):
+    """Two named pipes that have one number on two devices are two streams."""
+    name = "two pipes of one number"
+    mounted = "mkdir one other && mount -t tmpfs one one && mount -t tmpfs other other && mkfifo one/log other/log"
+    numbers = 'test "$(stat -c %i one/log)" = "$(stat -c %i other/log)"'
+    apart = ["-rm", "sh", "-c"]
+    with tempfile.TemporaryDirectory() as folder:
+        if not shutil.which("unshare") or run("unshare", [*apart, f"{mounted} && {numbers}"], cwd=folder).status != DONE:
+            print(f"skipped {name}: no folder can be mounted here", flush=True)
+            return
+    with tempfile.TemporaryDirectory() as folder:
+        both = f'{mounted}; : > one/log & : > other/log & exec "$0" compare one/log other/log'
+        cases.case(name, run("unshare", [*apart, both, cases.program], cwd=folder), DONE, b"same\n")
 
 
 def take_20_bytes():

@@ -16,7 +16,6 @@ use Rattle.udsnorm.specs.declared.ended.Matter.TheVariants as matter
 use Rattle.udsnorm.specs.declared.ended.Which.{Which}
 use Rattle.udsnorm.specs.declared.ended.Which.TheVariants.{First, Second}
 use Rattle.udsnorm.specs.declared.looks.Look.{Look}
-use Rattle.udsnorm.specs.declared.noticing.TheConstants.{KEPT}
 use Rattle.udsnorm.specs.declared.opening.OpenFault.{OpenFault}
 use Rattle.udsnorm.specs.declared.opening.OpenFault.TheVariants.{Missing, Denied, Other}
 use Rattle.udsnorm.specs.declared.pair_jobs.PairAnswer.{PairAnswer}
@@ -34,14 +33,18 @@ abbrev pub knows_look : Which → Option Look → Option Known
 knows_look which None = None
 knows_look which (Some look) = knows which (matter.Looks look)
 
+-- the bytes by which it is seen what a log looks like: its first sixteen
+abbrev pub front_of : List ℕ → List ℕ
+front_of given = take 16 given
+
 -- What is known of this log that is refused at this place, whose source gave these bytes and was over or not. Where it
 -- was over, nothing before the end was refused: the last line is cut. Else it is known that a line lacks its stamp, or
 -- what the log looks like.
 abbrev pub knows_refused : Which → List ℕ → Bool → ℕ → ℕ → Option Known
 knows_refused which given is_over line column =
     if is_over then knows which matter.Cut
-    else if lacks_stamp (take KEPT given) line column then knows which (matter.NoStamp line)
-    else knows_look which (look_of (take KEPT given) line column)
+    else if lacks_stamp (front_of given) line column then knows which (matter.NoStamp line)
+    else knows_look which (look_of (front_of given) line column)
 
 -- What is known of a log by the fault of a run over it, whose source gave these bytes and was over or not: what it
 -- looks like where it is no log, the limit where that is passed, and that the log can't be read, which a folder can't;
