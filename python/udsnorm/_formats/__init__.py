@@ -5,8 +5,8 @@ out: nothing is lost in silence. A file that ends in the middle, or that its for
 behind the frames before.
 """
 
-from .frames import Fault, Frame, Tally, lines_of, shown
+from .frames import Fault, Frame, Tally, interface_of, lines_of, shown
 from .messages import Missing, frames as frames_of_messages
 from .opened import Log
 
-__all__ = ["Fault", "Frame", "Log", "Missing", "Tally", "frames_of_messages", "lines_of", "shown"]
+__all__ = ["Fault", "Frame", "Log", "Missing", "Tally", "frames_of_messages", "interface_of", "lines_of", "shown"]

@@ -74,7 +74,8 @@ class _Reader:
             raise line.unexplained("no event of an ASC file") from None
         if not line.is_whole:
             raise line.unexplained("")
-        self._leave_out("CAN XL frames" if words[0] == "CANXL" else "other events")
+        if words[:3] != ["Start", "of", "measurement"]:
+            self._leave_out("CAN XL frames" if words[0] == "CANXL" else "other events")
         return None
 
     def _leave_out(self, kind: str) -> None:

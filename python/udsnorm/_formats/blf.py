@@ -9,9 +9,9 @@ from __future__ import annotations
 import calendar
 import struct
 import zlib
-from typing import BinaryIO, Iterator, Optional
+from typing import BinaryIO, Dict, Iterator, Optional
 
-from .frames import BIT_RATE_SWITCH, ERROR_STATE, LENGTHS, Fault, Frame, Tally
+from .frames import BIT_RATE_SWITCH, ERROR_STATE, LENGTHS, Fault, Frame, Tally, interface_of
 
 #: What the first bytes of a file are.
 MAGIC = b"LOGG"
@@ -29,17 +29,18 @@ _TEN_MICROS = 1
 _CONTAINER = struct.Struct("<HxxxxxxIxxxx")
 _PLAIN, _ZLIB = 0, 2
 
-_LOG_CONTAINER, _MESSAGE, _MESSAGE_2, _FD_MESSAGE, _FD_MESSAGE_64 = 10, 1, 86, 100, 101
-_FRAMES = (_MESSAGE, _MESSAGE_2, _FD_MESSAGE, _FD_MESSAGE_64)
-_ERRORS = (2, 73, 104)
-#: No object of a frame is longer.
-_LONGEST_FRAME = 1 << 12
-
 # Channel, flags, length code, identifier; of CAN FD also flags and the number of bytes.
 _CLASSIC = struct.Struct("<HBBI")
 _FD = struct.Struct("<HBBI4xxBB5x")
 # Channel, length code, number of bytes, identifier, flags, direction, where more begins in the object.
 _FD_64 = struct.Struct("<BBBxI4xI18xBB4x")
+
+# The types of objects: those of frames with what stands before the data.
+_LOG_CONTAINER, _FD_MESSAGE, _FD_MESSAGE_64 = 10, 100, 101
+_FRAMES = {1: _CLASSIC, 86: _CLASSIC, _FD_MESSAGE: _FD, _FD_MESSAGE_64: _FD_64}
+_ERRORS = (2, 73, 104)
+#: No object of a frame is longer.
+_LONGEST_FRAME = 1 << 12
 
 # The flags of an object: its direction, of which 2 is a request to transmit; a remote frame; of CAN FD, and of its flags.
 _DIRECTION, _REQUEST, _REMOTE = 0x0F, 2, 0x80
@@ -140,6 +141,7 @@ class _Objects:
 
     def __init__(self, start: int, tally: Tally) -> None:
         self._start, self._tally = start, tally
+        self._names: Dict[int, str] = {}
 
     def frames(self, pieces: _Packed) -> Iterator[Frame]:
         """The frames, from the bytes of all objects in a row."""
@@ -152,17 +154,16 @@ class _Objects:
                 if mark != b"LOBJ":
                     at = self._behind_filling(held, at, pieces.at)
                     continue
-                if size < _OBJECT.size or (kind in _FRAMES and not _TIME.size <= head_size <= size <= _LONGEST_FRAME):
+                form = _FRAMES.get(kind)
+                least, most = (head_size + form.size, _LONGEST_FRAME) if form else (_OBJECT.size, size)
+                if not least <= size <= most or (form and head_size < _TIME.size):
                     raise Fault(f"byte {pieces.at}", "before it an object has a size that there is not")
-                if kind not in _FRAMES:
+                if not form:
                     self._tally.left_out["error frames" if kind in _ERRORS else f"objects of type {kind}"] += 1
                 elif at + size > len(held):
                     break
                 else:
-                    try:
-                        frame = self._frame(held[at : at + size], head_size, kind)
-                    except struct.error:
-                        raise Fault(f"byte {pieces.at}", "before it an object is too short for a frame") from None
+                    frame = self._frame(held, at, at + head_size, at + size, kind)
                     if frame:
                         yield frame
                 at += size
@@ -177,31 +178,31 @@ class _Objects:
             raise Fault(f"byte {place}", "before it no object begins where one has to")
         return found
 
-    def _frame(self, held: bytes, head: int, kind: int) -> Optional[Frame]:
-        """The frame of an object, if it is one of a bus."""
-        unit, time = _TIME.unpack_from(held)
+    def _frame(self, held: bytes, at: int, head: int, end: int, kind: int) -> Optional[Frame]:
+        """The frame of an object, whose head and which itself end there, if it is one of a bus."""
+        unit, time = _TIME.unpack_from(held, at)
         micros = (self._start + (time * 10000 if unit == _TEN_MICROS else time) + 500) // 1000
         flags: Optional[int] = None
         if kind == _FD_MESSAGE_64:
             channel, code, stored, identifier, of_frame, direction, behind = _FD_64.unpack_from(held, head)
             is_remote, begin = of_frame & _REMOTE_64, head + _FD_64.size
-            end = min(begin + stored, behind if behind >= begin else len(held))
+            end = min(end, begin + stored, at + behind if at + behind >= begin else end)
             if of_frame & _IS_FD_64:
                 flags = (BIT_RATE_SWITCH if of_frame & _SWITCH_64 else 0) | (ERROR_STATE if of_frame & _STATE_64 else 0)
         elif kind == _FD_MESSAGE:
             channel, direction, code, identifier, of_frame, stored = _FD.unpack_from(held, head)
             is_remote, begin = direction & _REMOTE, head + _FD.size
-            end = begin + stored
+            end = min(end, begin + stored)
             if of_frame & _IS_FD:
                 flags = (BIT_RATE_SWITCH if of_frame & _SWITCH else 0) | (ERROR_STATE if of_frame & _STATE else 0)
         else:
             channel, direction, code, identifier = _CLASSIC.unpack_from(held, head)
             is_remote, begin = direction & _REMOTE, head + _CLASSIC.size
-            end = begin + 8
         if direction & _DIRECTION == _REQUEST:
             self._tally.left_out["transmit requests"] += 1
             return None
-        interface, number, is_extended = f"can{channel}", identifier & ~_EXTENDED, bool(identifier & _EXTENDED)
+        interface = self._names.get(channel) or self._names.setdefault(channel, interface_of(channel))
+        number, is_extended = identifier & ~_EXTENDED, identifier >= _EXTENDED
         if is_remote:
             return Frame(micros, interface, number, is_extended, b"", None, code)
         length = LENGTHS[code & 15] if flags is not None else min(code, 8)

@@ -8,7 +8,7 @@ from typing import Dict, Iterable, Iterator, NamedTuple, Optional, Union
 
 #: How many bytes a frame can have, by its length code.
 LENGTHS = (0, 1, 2, 3, 4, 5, 6, 7, 8, 12, 16, 20, 24, 32, 48, 64)
-_IS_LENGTH = frozenset(LENGTHS)
+_OF_CLASSIC, _OF_FD = frozenset(LENGTHS[:9]), frozenset(LENGTHS)
 
 #: The flags of a frame of CAN FD in a line of candump: its bit rate switches; its sender is error passive.
 BIT_RATE_SWITCH, ERROR_STATE = 1, 2
@@ -97,12 +97,12 @@ def nearest(numerator: int, denominator: int) -> int:
 def lines_of(frames: Iterable[Frame], tally: Tally) -> Iterator[str]:
     """The line of each frame. One that no line can say is counted as left out."""
     for frame in frames:
-        why = _unsayable(frame)
-        if why:
-            tally.left_out[why] += 1
+        micros, interface, identifier, is_extended, data, flags, requested = frame
+        largest = 0x1FFFFFFF if is_extended else 0x7FF
+        if not (0 <= micros < _MICROS and 0 <= identifier <= largest and len(data) in (_OF_CLASSIC if flags is None else _OF_FD)):
+            tally.left_out[_why_unsayable(frame, largest)] += 1
             continue
         tally.written += 1
-        micros, interface, identifier, is_extended, data, flags, requested = frame
         digits = f"{identifier:08X}" if is_extended else f"{identifier:03X}"
         if requested is not None:
             body = f"R{min(requested, 8) or ''}"
@@ -113,14 +113,12 @@ def lines_of(frames: Iterable[Frame], tally: Tally) -> Iterator[str]:
         yield f"({micros // 1000000}.{micros % 1000000:06}) {interface} {digits}#{body}\n"
 
 
-def _unsayable(frame: Frame) -> Optional[str]:
-    """Why no line can say the frame, if none can."""
+def _why_unsayable(frame: Frame, largest: int) -> str:
+    """Why no line can say a frame that none can."""
     if not 0 <= frame.micros < _MICROS:
         return "stamps that no line can say"
-    if not 0 <= frame.identifier <= (0x1FFFFFFF if frame.is_extended else 0x7FF):
+    if not 0 <= frame.identifier <= largest:
         return "identifiers that no line can say"
-    if frame.flags is None and len(frame.data) > 8:
+    if frame.flags is None:
         return "classic frames of more than eight bytes"
-    if len(frame.data) not in _IS_LENGTH:
-        return "frames of a length that there is not"
-    return None
+    return "frames of a length that there is not"

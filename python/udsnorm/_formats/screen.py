@@ -89,7 +89,8 @@ def _frame(line: Line, found: "re.Match[str]", micros: int, tally: Tally) -> Opt
     words = re.split("[ `]", shown["data"]) if shown else []
     data = bytes(int(word, 16 if len(word) == 2 else 2) for word in words)
     is_read = _BEHIND.fullmatch(found["rest"], shown.end() if shown else 0) and len(data) <= length
-    if not is_read or (len(data) < length and not line.is_whole):
+    # Behind a length of 0 a remote frame would say so.
+    if not is_read or ((not data or len(data) < length) and not line.is_whole):
         raise line.unexplained("no line that candump writes for the screen")
     data = data[::-1] if shown and "`" in shown["data"] else data
     flags = (BIT_RATE_SWITCH if found["switch"] == "B" else 0) | (ERROR_STATE if found["state"] == "E" else 0)

@@ -26,7 +26,7 @@ class Line(NamedTuple):
 
 
 def lines(file: BinaryIO) -> Iterator[Line]:
-    """The lines of a file, but empty ones. Signs that are no ASCII, as Latin-1 has them in names, mean nothing here."""
+    """The lines of a file, but empty ones that are whole. Signs that are no ASCII, as Latin-1 has them in names, mean nothing here."""
     number = 0
     while True:
         line = file.readline(LONGEST)
@@ -39,7 +39,7 @@ def lines(file: BinaryIO) -> Iterator[Line]:
         if number == 1 and line.startswith(_BYTE_ORDER_MARK):
             line = line[len(_BYTE_ORDER_MARK) :]
         text = line.decode("ascii", "replace").rstrip()
-        if text:
+        if text or not is_whole:
             yield Line(number, text, is_whole)
 
 
