@@ -285,8 +285,12 @@ class Shipped(unittest.TestCase):
             python = environment / "bin" / "python"
             subprocess.run([python, "-m", "pip", "install", "--quiet", "--no-index", "--disable-pip-version-check", first], check=True)
             program = f"import udsnorm, sys; sys.stdout.buffer.write(udsnorm.normalise({str(VIN)!r}))"
-            found = run(python, ["-I", "-c", program], cwd=folder)
-            self.assertEqual((0, CANONICAL.read_bytes(), b""), tuple(found))
+            for words in (["-I", "-c", program], ["-I", "-m", "udsnorm", "normalise", VIN]):
+                found = run(python, words, cwd=folder, env={"PATH": ""})
+                self.assertEqual((0, CANONICAL.read_bytes(), b""), tuple(found))
+            shown = run(python, ["-m", "pip", "show", "--verbose", "udsnorm"]).output.decode()
+            for line in ("Author: Yozhdyrga maintainers", "License: MIT", "  Topic :: Software Development :: Testing"):
+                self.assertIn(line, shown.splitlines())
 
     def test_types(self):
         if not shutil.which("mypy"):
@@ -317,7 +321,7 @@ udsnorm.items(["a.log"])  # type: ignore[arg-type]
 
 def built_wheel(folder):
     """The wheel, made in a folder."""
-    words = [TOP / "packaging" / "wheel", given.library, folder]
+    words = [TOP / "packaging" / "wheel", given.program, given.library, folder]
     return Path(subprocess.run(words, check=True, stdout=subprocess.PIPE, text=True).stdout.strip())
 
 
