@@ -1,6 +1,6 @@
 #!/usr/bin/env python3
-"""Tests of README.md, docs/recipes.md and docs/formats.md, and where the folder of the library is given, of docs/python.md:
-their commands, taken out of the page itself, print what it shows.
+"""Tests of README.md, docs/recipes.md and docs/formats.md, and where the folder of the library is given, of docs/python.md and
+of what the Python package does: their commands, taken out of the page itself, print what it shows.
 
     tests/recipes.py crates/udsnorm/out/udsnorm [out/lib]
 
@@ -9,8 +9,8 @@ Each section is a session of bash in a folder of its own, with the sample logs i
 - `sh` without a name: the commands that make /tmp/try, copy sample logs to it and go there, done once a section, with the section's
   folder, which isn't there before, in its place;
 - `console TOOL...`: commands, each after `$`, and what they print. Where a tool is missing the block is skipped, by the tool's
-  name. One of `candump` needs a bus and is always skipped; `vcan0` is an interface, `pandas` and `python-can` are modules of
-  Python;
+  name. One of `candump` needs a bus and is always skipped; `vcan0` is an interface, `package` the Python package with its
+  library, and `pandas`, `pytest` and `python-can` are modules of Python;
 - `sh NAME`, `python NAME`: a script, saved as NAME for this section and those after it; the prose above says "Save as `NAME`";
 - `yaml`: a job of CI, whose commands stand in blocks of its section, too; the files that it keeps are there behind them.
 
@@ -32,7 +32,7 @@ PAGES = [TOP / "README.md", TOP / "docs" / "recipes.md", TOP / "docs" / "formats
 OF_PYTHON = TOP / "docs" / "python.md"
 
 # Modules of Python that blocks ask for, by the names of the tools.
-MODULES = {"pandas": "pandas", "python-can": "can"}
+MODULES = {"pandas": "pandas", "pytest": "pytest", "python-can": "can"}
 
 # Follows what each command prints. The next command still finds the status in $?.
 MARK = "\x01"
@@ -79,14 +79,16 @@ def kept_files(text):
     return [name.strip() for names in lists for name in names.split(",")]
 
 
-def missing_tool(tools):
+def missing_tool(tools, environment):
     for tool in tools:
         if tool == "candump":
             return "a bus"
         if tool == "vcan0":
             lacks = None if Path("/sys/class/net", tool).exists() else f"the interface {tool}"
+        elif tool == "package":
+            lacks = None if "LD_LIBRARY_PATH" in environment else "the folder of the library"
         elif tool in MODULES:
-            lacks = None if python_with(tool) else f"a Python that has {tool}"
+            lacks = None if has_module(shutil.which("python3", path=environment["PATH"]), tool) else f"a Python that has {tool}"
         else:
             lacks = None if shutil.which(tool) else tool
         if lacks:
@@ -94,35 +96,26 @@ def missing_tool(tools):
     return None
 
 
-def python_with(tool):
-    """A Python that has the module of this tool, if there is one: Debian's, where another one comes first."""
+def has_module(python, tool):
+    return subprocess.run([python, "-c", f"import {MODULES[tool]}"], capture_output=True).returncode == 0
+
+
+def python_with_most():
+    """The Python that has most of the modules: Debian's, where another one comes first."""
     found = filter(None, map(shutil.which, ("python3", "/usr/bin/python3")))
-    ask = ["-c", f"import {MODULES[tool]}"]
-    return next((python for python in found if subprocess.run([python, *ask], capture_output=True).returncode == 0), None)
+    return max(found, key=lambda python: sum(has_module(python, tool) for tool in MODULES))
 
 
-def use_python(home, tool):
-    """The commands find a Python that has the module of this tool, where there is one."""
-    link = home / "tools" / "python3"
-    link.unlink(missing_ok=True)
-    link.symlink_to(python_with(tool) or sys.executable)
-
-
-def surroundings_of_python(home, library):
-    """What a Python sees that finds the package and its library."""
-    use_python(home, "pandas")
-    return {"PYTHONPATH": str(TOP / "python"), "LD_LIBRARY_PATH": os.path.abspath(library)}
-
-
-def surroundings(home, program):
-    """What the commands see: the program by its name, and a git that knows who commits and no configuration of the machine."""
+def surroundings(home, program, library):
+    """What the commands see: the program by its name, the Python package where its library is given, and a git that knows who
+    commits and no configuration of the machine."""
     tools = home / "tools"
     tools.mkdir()
     (tools / "udsnorm").symlink_to(program)
-    use_python(home, "python-can")
+    (tools / "python3").symlink_to(python_with_most())
+    package = {"PYTHONPATH": str(TOP / "python"), "PYTHONDONTWRITEBYTECODE": "1", "LD_LIBRARY_PATH": os.path.abspath(library)} if library else {}
     who = {f"GIT_{role}_{part}": "test@example.com" for role in ("AUTHOR", "COMMITTER") for part in ("NAME", "EMAIL")}
-    found = {"PATH": f"{tools}:{os.environ['PATH']}", "HOME": str(home), "LC_ALL": "C", "GIT_CONFIG_NOSYSTEM": "1", **who}
-    return found
+    return {"PATH": f"{tools}:{os.environ['PATH']}", "HOME": str(home), "LC_ALL": "C", "GIT_CONFIG_NOSYSTEM": "1", **package, **who}
 
 
 def answers(folder, lines, environment):
@@ -139,7 +132,7 @@ def run_section(cases, page, title, blocks, folder, environment):
         kind, tools = (words + [""])[0], words[1:]
         if kind != "console":
             continue
-        lack = missing_tool(tools)
+        lack = missing_tool(tools, environment)
         if lack:
             print(f"skipped line {line} of {page.name}: it needs {lack}", flush=True)
             continue
@@ -208,13 +201,12 @@ def main():
     if len(sys.argv) not in (2, 3):
         sys.exit(__doc__)
     cases = Cases(os.path.abspath(sys.argv[1]))
+    library = sys.argv[2] if len(sys.argv) == 3 else None
     with tempfile.TemporaryDirectory() as directory:
         home = Path(directory)
-        environment = surroundings(home, cases.program)
-        for page in PAGES:
+        environment = surroundings(home, cases.program, library)
+        for page in [*PAGES, *([OF_PYTHON] if library else [])]:
             run_page(cases, page, home, environment)
-        if len(sys.argv) == 3:
-            run_page(cases, OF_PYTHON, home, environment | surroundings_of_python(home, sys.argv[2]))
     cases.report("the pages have commands", [] if cases.passed + cases.failed >= 36 else ["fewer than 36 commands were found"])
     cases.end()
 
