@@ -41,6 +41,7 @@ Begin Triggerblock Fri M\xe4r 14 10:13:20.000 pm 2023
    1.500000 1  7E0             TxRq d 1 01
    2.000000 CANFD   1 Rx        7E8  Motor_M\xe4dchen                   1 0 c 24 00 01 02 03 04 05 06 07 08 09 0a 0b 0c 0d 0e 0f 10 11 12 13 14 15 16 17   130000  130     3000 0 0 0 0 0
    2.100000 CANFD  10 Tx   18DAF110x                                  0 1 2  2 AA BB   130000  130     5000 46500250 4b140250 20011736 2001040d
+   2.150000 CANFD   4 Rx        4EE                                   0 0 9 12 00 01 02 03 04 05 06 07 08 09 0A 0B  1331984   11  0 46500250 460a0250 20011736 20010205
    2.200000 CANFD   1 Rx        7E0                                   0 0 3  3 02 10 03   130000  130        0 0 0 0 0
    2.300000 CANFD   1 Rx        7E0                                   0 0 8  0   130000  130       10 0 0 0 0
    2.400000 CANFD   1 Tx  ErrorFrame	Not Acknowledge error, dominant error flag    fffe   c7 31ca Arb.    556     44      0
@@ -58,6 +59,7 @@ ASC_LINES = [
     line(1400000, "can1", 0x321, remote=8),
     line(2000000, "can1", 0x7E8, LONG, 1),
     line(2100000, "can10", 0x18DAF110, b"\xaa\xbb", 2),
+    line(2150000, "can4", 0x4EE, LONG[:12], 0),
     line(2200000, "can1", 0x7E0, b"\x02\x10\x03"),
     line(2300000, "can1", 0x7E0, remote=8),
     line(2600000, "can1", 0x7E8, b"\x02\x50"),

@@ -201,8 +201,8 @@ class Faults(unittest.TestCase):
 
     def test_unexplained(self):
         for name, content, fault in (
-            ("a.asc", samples.ASC + "what is this\n", "line 26: no line of an ASC file"),
-            ("a.asc", samples.ASC + "   3.0 1  7E0  Rx   d 8 8\n   4.0 1  7E0  Rx   q 8 8\n", "line 27: no event of an ASC file"),
+            ("a.asc", samples.ASC + "what is this\n", "line 27: no line of an ASC file"),
+            ("a.asc", samples.ASC + "   3.0 1  7E0  Rx   d 8 8\n   4.0 1  7E0  Rx   q 8 8\n", "line 28: no event of an ASC file"),
             ("a.trc", samples.TRC_11 + "     6)      1346.8  Xx         0321  4  RTR\n", "line 9: no line of a TRC file"),
             ("a.trc", ";$FILEVERSION=3.7\n", "line 1: a TRC file of a version that this does not read: 3.7"),
             ("a.csv", samples.SAVVYCAN + "x,y,z\n", "line 7: no row of these columns"),

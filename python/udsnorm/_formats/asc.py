@@ -127,7 +127,9 @@ class _Reader:
         if flags & _REMOTE:
             return Frame(micros, interface_of(channel), identifier, is_extended, b"", None, code)
         of_fd = (BIT_RATE_SWITCH if switch == "1" else 0) | (ERROR_STATE if state == "1" else 0)
-        return Frame(micros, interface_of(channel), identifier, is_extended, data, of_fd if flags & _FD else None)
+        # Some tools write no flags, but what a classic frame has not.
+        is_fd = flags & _FD or of_fd or length > 8
+        return Frame(micros, interface_of(channel), identifier, is_extended, data, of_fd if is_fd else None)
 
     def _identifier(self, word: str) -> "tuple[int, bool]":
         found = _IDENTIFIER.fullmatch(word)

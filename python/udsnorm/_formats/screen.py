@@ -36,9 +36,9 @@ _MILLISECOND = 1000
 
 
 def looks_so(head: str) -> bool:
-    """The first line that is not empty is a frame."""
-    first = next((line for line in _COLOURS.sub("", head).split("\n") if line.strip()), "")
-    return bool(_LINE.match(first) or _LOST.match(first))
+    """The first line that is not empty, and no notice of lost frames, is a frame."""
+    first = next((line for line in _COLOURS.sub("", head).split("\n") if line.strip() and not _LOST.match(line)), "")
+    return bool(_LINE.match(first))
 
 
 def frames(file: io.BufferedReader, tally: Tally) -> Iterator[Frame]:
