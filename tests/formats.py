@@ -563,7 +563,7 @@ class OtherTools(unittest.TestCase):
         with tempfile.TemporaryDirectory() as folder:
             for path in LOGS:
                 text = path.read_text()
-                if "#R8_" in text:
+                if re.search("_[9A-F]", text):
                     # It can't read a raw length code, and its writer of databases then waits for ever.
                     continue
                 # Its TRC has classic frames with data alone.
@@ -573,8 +573,16 @@ class OtherTools(unittest.TestCase):
                         found = run(python, ["-B", "-m", "udsnorm", "convert", made], env=environment())
                         with self.subTest(path=path.name, suffix=suffix):
                             self.assertEqual((found.status, b"left out" in found.error), (DONE, False), found.error)
-                            self.assertEqual(frames_of(found.output.decode().splitlines()), source_frames(path))
+                            frames, want = frames_of(found.output.decode().splitlines()), source_frames(path)
+                            # Its CSV and its databases don't say which frames are of CAN FD.
+                            is_told = suffix not in ("csv", "db")
+                            self.assertEqual(*([one if is_told else bare(one) for one in each] for each in (frames, want)))
         self.assertEqual(self.refused, [])
+
+
+def bare(frame):
+    """A frame without the sign of CAN FD."""
+    return (*frame[:2], frame[2].lstrip("#"))
 
 
 # How python-can writes a log as another file.

@@ -305,8 +305,9 @@ class Shipped(unittest.TestCase):
 
 # Code that a user may write, with its types.
 TYPED = '''
-from typing import List, Optional
+from typing import Iterator, List, Optional
 import udsnorm
+from udsnorm.testing import assert_same_session
 
 text: bytes = udsnorm.normalise("a.log", tester=udsnorm.EXTENDED | 0x18DA10F1)
 requests: List[bytes] = [item.request for item in udsnorm.items(b"") if isinstance(item, udsnorm.Exchange)]
@@ -314,7 +315,11 @@ first: Optional[udsnorm.Difference] = udsnorm.compare(bytearray(), memoryview(b"
 dropped: int = udsnorm.explain("a.log").counts.dropped
 seconds: List[float] = [(message.end - message.begin) / 1e6 for message in udsnorm.messages("a.log")]
 answering: List[int] = [pair.unit for pair in udsnorm.find(memoryview(b""))]
+one_by_one: Iterator[udsnorm.Item] = udsnorm.iter_items("a.blf", tester="7E0", unit=0x7E8)
+recorded: bytes = udsnorm.from_messages([])
+assert_same_session("a.asc", b"", tester="18DA10F1", unit="18DAF110", page="page.html")
 udsnorm.normalise(1)  # type: ignore[arg-type]
+udsnorm.normalise(b"", tester=None)  # type: ignore[arg-type]
 udsnorm.items(["a.log"])  # type: ignore[arg-type]
 '''
 
