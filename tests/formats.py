@@ -20,7 +20,6 @@ import re
 import resource
 import shutil
 import struct
-import subprocess
 import sys
 import tempfile
 import unittest

@@ -155,11 +155,12 @@ class _Objects:
                     at = self._behind_filling(held, at, pieces.at)
                     continue
                 form = _FRAMES.get(kind)
-                least, most = (head_size + form.size, _LONGEST_FRAME) if form else (_OBJECT.size, size)
-                if not least <= size <= most or (form and head_size < _TIME.size):
-                    raise Fault(f"byte {pieces.at}", "before it an object has a size that there is not")
-                if not form:
+                if form is None:
+                    if size < _OBJECT.size:
+                        raise Fault(f"byte {pieces.at}", "before it an object has a size that there is not")
                     self._tally.left_out["error frames" if kind in _ERRORS else f"objects of type {kind}"] += 1
+                elif not (_TIME.size <= head_size and head_size + form.size <= size <= _LONGEST_FRAME):
+                    raise Fault(f"byte {pieces.at}", "before it an object has a size that there is not")
                 elif at + size > len(held):
                     break
                 else:

@@ -10,8 +10,9 @@ from .frames import BIT_RATE_SWITCH, ERROR_STATE, Fault, Frame, Tally, interface
 #: What the first bytes of these files are, and the readers of python-can.
 READERS = {b"SQLite format 3\0": "SqliteReader", b"MDF     ": "MF4Reader", b"UnFinMF ": "MF4Reader"}
 _SUFFIXES = {".db": "SqliteReader", ".mf4": "MF4Reader"}
+# What the modules are called by pip, and by Debian, if it has them.
+_PIP = {"can": "python-can", "asammdf": "asammdf"}
 _DEBIAN = {"can": "python3-can"}
-_PIP = {"can": "python-can"}
 
 
 class Missing(ImportError):
@@ -27,27 +28,26 @@ def frames_of_file(path: Optional[str], reader: str, tally: Tally) -> Iterator[F
     """The frames of a file that python-can reads. In a database no column says that a frame is one of CAN FD."""
     if path is None:
         raise Fault("byte 0", "python-can reads such a file by its name alone, and unpacked")
-    module = _imported("can", reader)
-    if reader == "MF4Reader":
-        _imported("asammdf", reader)
+    module = _imported("can")
     new = getattr(module, reader, None)
     if new is None:
-        raise Missing(f"this python-can, {module.__version__}, has no {reader}: a newer one has it (pip install -U python-can)")
-    place = "python-can"
+        raise Missing(f"python-can {module.__version__} has no {reader}, and a newer one has: pip install -U python-can")
+    if reader == "MF4Reader":
+        _imported("asammdf")
+    number = 0
     try:
         for number, message in enumerate(new(path), 1):
-            place = f"message {number}"
             yield from frames((message,), tally, reader == "SqliteReader")
     except Exception as error:
-        raise Fault(f"behind {place}", f"python-can can't read it: {' '.join(str(error).split())[:200]}") from None
+        raise Fault(f"behind message {number}", f"python-can can't read on: {' '.join(str(error).split())[:200]}") from None
 
 
-def _imported(module: str, reader: str) -> Any:
+def _imported(module: str) -> Any:
     try:
         return importlib.import_module(module)
     except ImportError:
-        debian = f"apt install {_DEBIAN[module]}" if module in _DEBIAN else "Debian has none"
-        raise Missing(f"{reader} needs {module}: pip install {_PIP.get(module, module)}; {debian}") from None
+        debian = f"apt install {_DEBIAN[module]}" if module in _DEBIAN else "Debian has no package"
+        raise Missing(f"this file needs {_PIP[module]}: pip install {_PIP[module]}; {debian}") from None
 
 
 def frames(messages: Iterable[Any], tally: Tally, is_told_by_length: bool = False) -> Iterator[Frame]:
