@@ -44,6 +44,8 @@ def _run(words: List[str]) -> int:
         print("udsnorm: the program udsnorm is neither beside the package, as in the wheel, nor on the PATH", file=sys.stderr)
         return _WRONG_WORDS
     if not any(map(_program.is_other, words)):
+        # Python ignores this signal, and the program would, too.
+        signal.signal(signal.SIGPIPE, signal.SIG_DFL)
         os.execv(program, ["udsnorm", *words])
     # So that the folder goes where the process is told to end.
     signal.signal(signal.SIGTERM, lambda *_: sys.exit(128 + signal.SIGTERM))
@@ -61,10 +63,10 @@ def _convert(words: List[str]) -> int:
         print("usage: python3 -m udsnorm convert FILE [LOG]", file=sys.stderr)
         return _WRONG_WORDS
     try:
-        with Log(words[0]) as log:
+        with Log(sys.stdin.fileno() if words[0] == "-" else words[0]) as log:
             if len(words) == 1:
                 return _write(log, sys.stdout.buffer)
-            if os.path.exists(words[1]) and os.path.samefile(words[0], words[1]):
+            if words[0] != "-" and os.path.exists(words[1]) and os.path.samefile(words[0], words[1]):
                 _program.tell(words[1], "this is the file that is read")
                 return _WRONG_WORDS
             with open(words[1], "wb") as out:

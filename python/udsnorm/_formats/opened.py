@@ -5,7 +5,6 @@ from __future__ import annotations
 import io
 import os
 import re
-import sys
 from typing import Any, Callable, Dict, Iterator, List, Optional, Tuple, Union
 
 from . import asc, blf, captures, csv, messages, packed, screen, trc
@@ -51,12 +50,12 @@ class _Joined(io.RawIOBase):
 
 
 class Log:
-    """A log that is opened, `-` for standard input: its lines, and a tally of what they leave out."""
+    """A log that is opened, by its path, or as a stream by its number: its lines, and a tally of what they leave out."""
 
-    def __init__(self, path: Union[str, "os.PathLike[str]"]) -> None:
-        self.path, self.tally = os.fspath(path), Tally()
-        opened: Union[int, str] = sys.stdin.fileno() if self.path == "-" else self.path
-        self._raw = io.BufferedReader(io.FileIO(opened, "rb", closefd=self.path != "-"), HEAD)
+    def __init__(self, opened: "Union[int, str, os.PathLike[str]]") -> None:
+        self._is_stream, self.tally = isinstance(opened, int), Tally()
+        self.path = "-" if isinstance(opened, int) else os.fspath(opened)
+        self._raw = io.BufferedReader(io.FileIO(opened, "rb", closefd=not self._is_stream), HEAD)
         try:
             self._look()
         except BaseException:
@@ -98,7 +97,7 @@ class Log:
             return captures.frames
         by_can = messages.reader_of(head, suffix)
         if by_can:
-            path, reader = None if self._is_packed or self.path == "-" else self.path, by_can
+            path, reader = None if self._is_packed or self._is_stream else self.path, by_can
             return lambda _, tally: messages.frames_of_file(path, reader, tally)
         if _LOG_LINE_BEGINS.match(head):
             return None
@@ -108,7 +107,7 @@ class Log:
     def read(self, limit: int) -> bytes:
         """The bytes as they stand: of a longer file no more than show that it is longer than the limit."""
         if not self._raw.seekable():
-            return self._file.read(limit + 1)
+            return self._file.read()
         self._raw.seek(0)
         is_longer = os.fstat(self._raw.fileno()).st_size > limit
         return self._raw.read(limit + 1) if is_longer else self._raw.read()
