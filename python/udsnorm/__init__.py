@@ -247,7 +247,7 @@ def _item_at(log: bytes, settings: Settings, number: int) -> Optional[Item]:
     return found[number - 1] if number <= len(found) else None
 
 
-def _fault(answer: Answer, log: Log) -> Exception:
+def _fault(answer: Answer, log: Log = b"") -> Exception:
     """Why there is no text of a log."""
     if answer.status == _library.MEMORY:
         return MemoryError()
