@@ -6,13 +6,14 @@ import re
 from typing import BinaryIO, Iterator, List, Optional
 
 from .frames import BIT_RATE_SWITCH, ERROR_STATE, Fault, Frame, Tally, interface_of
-from .texts import Line, data_of, fraction, lines
+from .texts import Line, data_of, fraction, length_of, lines
 
 _BASE = re.compile(r"\s*base\s+(hex|dec)(?:\s+timestamps\s+(absolute|relative))?", re.A | re.I)
 _EVENT = re.compile(r"\s*(\d{1,12})\.(\d{1,9})\s+(\S.*)", re.A)
 # What else a line may begin with: heads, comments, the marks of a block.
 _HEADS = ("date ", "internal events", "no internal events", "//", "begin triggerblock", "end triggerblock", "previous log file")
 _IDENTIFIER = re.compile(r"([0-9A-Fa-f]{1,10})(x?)")
+_FLAGS = re.compile(r"[0-9A-Fa-f]{1,8}")
 _DIRECTIONS = ("Rx", "Tx", "TxRq")
 
 # The flags of a line CANFD: a remote frame, a frame of CAN FD.
@@ -116,15 +117,15 @@ class _Reader:
             return None
         identifier, is_extended = self._identifier(what)
         at = 4 if words[4] in ("0", "1") and words[5] in ("0", "1") else 5
-        switch, state, code, length = words[at], words[at + 1], int(words[at + 2], 16), int(words[at + 3])
+        switch, state, code, length = words[at], words[at + 1], int(words[at + 2], 16), length_of(words[at + 3])
         if switch not in ("0", "1") or state not in ("0", "1"):
             raise ValueError
         data = self._data(line, words[at + 4 :], length)
         behind = words[at + 4 + len(data) :]
         if len(behind) < 4 and not line.is_whole:
             raise ValueError
-        flags = int(behind[2], 16) if len(behind) > 2 else _FD | (_REMOTE if code and not length else 0)
-        if flags & _REMOTE:
+        flags = int(behind[2], 16) if len(behind) > 2 and _FLAGS.fullmatch(behind[2]) else _FD
+        if flags & _REMOTE or (code and not length):
             return Frame(micros, interface_of(channel), identifier, is_extended, b"", None, code)
         of_fd = (BIT_RATE_SWITCH if switch == "1" else 0) | (ERROR_STATE if state == "1" else 0)
         # Some tools write no flags, but what a classic frame has not.
@@ -139,6 +140,8 @@ class _Reader:
 
     def _data(self, line: Line, words: List[str], length: int) -> bytes:
         """The data of a whole frame, or what a whole line has of them."""
+        if length < 0:
+            raise ValueError
         if self.base == 16:
             data = data_of(words, length)
         else:

@@ -8,7 +8,7 @@ from decimal import Decimal
 from typing import BinaryIO, Dict, Iterator, List, Optional
 
 from .frames import Fault, Frame, Tally, interface_of, nearest
-from .texts import Line, data_of, lines
+from .texts import Line, data_of, length_of, lines
 
 _SAVVYCAN = {"time stamp", "id", "extended", "bus", "len", "d1"}
 _PYTHON_CAN = {"timestamp", "arbitration_id", "extended", "remote", "error", "dlc", "data"}
@@ -51,7 +51,7 @@ def _of_savvycan(line: Line, row: Dict[str, str], cells: List[str], tally: Tally
     """`166064000,0000021A,false,Rx,0,8,FE,36,12,FE,69,05,07,AD,`: the stamp is in microseconds."""
     if not _MICROS.fullmatch(row["time stamp"]):
         raise ValueError
-    length = int(row["len"])
+    length = length_of(row["len"])
     data = data_of(cells, length)
     if len(data) < length and not line.is_whole:
         raise ValueError
@@ -63,7 +63,7 @@ def _of_savvycan(line: Line, row: Dict[str, str], cells: List[str], tally: Tally
 
 def _of_python_can(line: Line, row: Dict[str, str], _cells: List[str], tally: Tally) -> Optional[Frame]:
     """`1700000000.012,0x7e8,0,0,0,8,EBRi8ZBXQkE=`: no column says whether the frame is one of CAN FD."""
-    length = int(row["dlc"])
+    length = length_of(row["dlc"])
     is_remote = row["remote"] in _TRUE
     data = base64.b64decode(row["data"], validate=True)
     if len(data) > length or (len(data) < length and not (is_remote or line.is_whole)):

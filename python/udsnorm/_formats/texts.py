@@ -10,6 +10,7 @@ from .frames import Fault
 #: The most bytes of a line.
 LONGEST = 1 << 16
 _BYTE = re.compile(r"[0-9A-Fa-f]{2}")
+_LENGTH = re.compile(r"[0-9]{1,5}")
 _BYTE_ORDER_MARK = b"\xef\xbb\xbf"
 
 
@@ -46,6 +47,13 @@ def lines(file: BinaryIO) -> Iterator[Line]:
 def fraction(digits: str, places: int) -> int:
     """What digits behind a dot are, in units of so many places."""
     return int(digits[:places].ljust(places, "0"))
+
+
+def length_of(word: str) -> int:
+    """A length in decimal digits; else a ValueError."""
+    if not _LENGTH.fullmatch(word):
+        raise ValueError
+    return int(word)
 
 
 def data_of(words: Iterable[str], length: int) -> bytes:

@@ -6,7 +6,7 @@ import re
 from typing import BinaryIO, Dict, Iterator, List, Optional
 
 from .frames import BIT_RATE_SWITCH, ERROR_STATE, LENGTHS, Fault, Frame, Tally, interface_of
-from .texts import Line, data_of, fraction, lines
+from .texts import Line, data_of, fraction, length_of, lines
 
 # The columns of each version: number, offset, type, bus, identifier, direction, reserved, length or its code, data.
 _COLUMNS = {
@@ -79,7 +79,7 @@ def _frame(line: Line, columns: List[str], tally: Tally) -> Optional[Frame]:
             tally.left_out["other events"] += 1
             return None
         flags = _FRAMES[kind]
-        length = int(row["l"]) if "l" in row else LENGTHS[int(row["L"])]
+        length = length_of(row["l"]) if "l" in row else LENGTHS[length_of(row["L"])]
         is_remote = kind == "RR" or rest[:1] == ["RTR"]
         # A classic frame has at most eight bytes, whatever its length code.
         length = min(length, 8) if flags is None and "L" in row else length
