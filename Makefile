@@ -75,6 +75,7 @@ test: build lib
 	@python3 tests/differential.py $(PROGRAM)
 	@python3 tests/library.py $(PROGRAM) $(LIBRARY)
 	@python3 tests/python_package.py $(PROGRAM) $(LIBRARY)
+	@python3 tests/formats.py $(PROGRAM) $(LIBRARY)
 	@python3 tests/many_sessions.py $(PROGRAM) $(LIBRARY)
 	@python3 tests/hostile_input.py $(PROGRAM)
 	@python3 tests/ample_memory.py $(PROGRAM) $(LIBRARY)
@@ -130,9 +131,9 @@ interop: build
 browser: build
 	@$(or $(wildcard /usr/bin/python3),python3) tests/browser.py $(PROGRAM)
 
-# The Python package as a wheel, with the library inside: prints its path.
-wheel: lib
-	@packaging/wheel $(LIBRARY) out
+# The Python package as a wheel, with library and program inside: prints its path.
+wheel: build lib
+	@packaging/wheel $(PROGRAM) $(LIBRARY) out
 
 # How fast it is, beside other programs: a table, and no test.
 bench: build

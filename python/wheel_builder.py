@@ -1,4 +1,4 @@
-"""Makes the wheel of the package udsnorm, with the shared library inside: what `packaging/wheel` and `pip` call.
+"""Makes the wheel of the package udsnorm, with library and program inside: what `packaging/wheel` and `pip` call.
 
 A wheel is a zip file of the package and of what installers read (PEP 427, PEP 517). Equal files give equal wheels.
 """
@@ -20,10 +20,20 @@ METADATA = f"""Metadata-Version: 2.1
 Name: udsnorm
 Version: {VERSION}
 Summary: Compares recorded UDS sessions of an ECU (ISO 14229, ISO-TP or DoCAN, ISO 15765-2), from candump logs of SocketCAN, CAN or CAN FD, for regression tests and diffs of diagnostic traces
+Author: Yozhdyrga maintainers
+Author-email: maintainers@users.noreply.yozhdyrga.example
 License: MIT
+Keywords: UDS,ISO 14229,ISO-TP,ISO 15765-2,CAN,CAN FD,candump,ASC,BLF,TRC,pcap
+Classifier: Development Status :: 5 - Production/Stable
+Classifier: Environment :: Console
+Classifier: Framework :: Pytest
+Classifier: Intended Audience :: Developers
 Classifier: License :: OSI Approved :: MIT License
 Classifier: Operating System :: POSIX :: Linux
 Classifier: Programming Language :: Python :: 3
+Classifier: Programming Language :: Python :: 3 :: Only
+Classifier: Topic :: Software Development :: Testing
+Classifier: Topic :: System :: Logging
 Classifier: Typing :: Typed
 Requires-Python: >=3.9
 """
@@ -35,6 +45,11 @@ def library_folder():
     return Path(os.environ.get("UDSNORM_LIBRARY", TOP / "out" / "lib"))
 
 
+def program():
+    """Where `make build` puts the program, or what the environment says."""
+    return Path(os.environ.get("UDSNORM_PROGRAM", TOP / "crates" / "udsnorm" / "out" / "udsnorm"))
+
+
 def soname():
     return f"libudsnorm.so.{(TOP / 'library' / 'SONAME').read_text().strip()}"
 
@@ -42,9 +57,10 @@ def soname():
 def files():
     """What the wheel holds, but the list of it: names and bytes."""
     package = HERE / "udsnorm"
-    for path in sorted([*package.glob("*.py"), package / "py.typed"]):
-        yield f"udsnorm/{path.name}", path.read_bytes()
+    for path in sorted([*package.rglob("*.py"), package / "py.typed"]):
+        yield f"udsnorm/{path.relative_to(package)}", path.read_bytes()
     yield f"udsnorm/{soname()}", (library_folder() / soname()).read_bytes()
+    yield "udsnorm/udsnorm", program().read_bytes()
     yield f"{INFORMATION}/METADATA", METADATA.encode()
     yield f"{INFORMATION}/WHEEL", WHEEL.encode()
     yield f"{INFORMATION}/LICENSE", (TOP / "LICENSE").read_bytes()
@@ -60,7 +76,8 @@ def entry(name):
     """A file of the zip, with a date that does not change from build to build."""
     date = time.gmtime(int(os.environ.get("SOURCE_DATE_EPOCH", 315532800)))[:6]
     found = zipfile.ZipInfo(name, date)
-    found.external_attr = (0o755 if ".so" in name else 0o644) << 16
+    # pip keeps that a file may be run.
+    found.external_attr = (0o100755 if name == "udsnorm/udsnorm" or ".so" in name else 0o100644) << 16
     found.compress_type = zipfile.ZIP_DEFLATED
     return found
 

@@ -285,8 +285,12 @@ class Shipped(unittest.TestCase):
             python = environment / "bin" / "python"
             subprocess.run([python, "-m", "pip", "install", "--quiet", "--no-index", "--disable-pip-version-check", first], check=True)
             program = f"import udsnorm, sys; sys.stdout.buffer.write(udsnorm.normalise({str(VIN)!r}))"
-            found = run(python, ["-I", "-c", program], cwd=folder)
-            self.assertEqual((0, CANONICAL.read_bytes(), b""), tuple(found))
+            for words in (["-I", "-c", program], ["-I", "-m", "udsnorm", "normalise", VIN]):
+                found = run(python, words, cwd=folder, env={"PATH": ""})
+                self.assertEqual((0, CANONICAL.read_bytes(), b""), tuple(found))
+            shown = run(python, ["-m", "pip", "show", "--verbose", "udsnorm"]).output.decode()
+            for line in ("Author: Yozhdyrga maintainers", "License: MIT", "  Topic :: Software Development :: Testing"):
+                self.assertIn(line, shown.splitlines())
 
     def test_types(self):
         if not shutil.which("mypy"):
@@ -301,8 +305,9 @@ class Shipped(unittest.TestCase):
 
 # Code that a user may write, with its types.
 TYPED = '''
-from typing import List, Optional
+from typing import Iterator, List, Optional
 import udsnorm
+from udsnorm.testing import assert_same_session
 
 text: bytes = udsnorm.normalise("a.log", tester=udsnorm.EXTENDED | 0x18DA10F1)
 requests: List[bytes] = [item.request for item in udsnorm.items(b"") if isinstance(item, udsnorm.Exchange)]
@@ -310,14 +315,18 @@ first: Optional[udsnorm.Difference] = udsnorm.compare(bytearray(), memoryview(b"
 dropped: int = udsnorm.explain("a.log").counts.dropped
 seconds: List[float] = [(message.end - message.begin) / 1e6 for message in udsnorm.messages("a.log")]
 answering: List[int] = [pair.unit for pair in udsnorm.find(memoryview(b""))]
+one_by_one: Iterator[udsnorm.Item] = udsnorm.iter_items("a.blf", tester="7E0", unit=0x7E8)
+recorded: bytes = udsnorm.from_messages([])
+assert_same_session("a.asc", b"", tester="18DA10F1", unit="18DAF110", page="page.html")
 udsnorm.normalise(1)  # type: ignore[arg-type]
+udsnorm.normalise(b"", tester=None)  # type: ignore[arg-type]
 udsnorm.items(["a.log"])  # type: ignore[arg-type]
 '''
 
 
 def built_wheel(folder):
     """The wheel, made in a folder."""
-    words = [TOP / "packaging" / "wheel", given.library, folder]
+    words = [TOP / "packaging" / "wheel", given.program, given.library, folder]
     return Path(subprocess.run(words, check=True, stdout=subprocess.PIPE, text=True).stdout.strip())
 
 

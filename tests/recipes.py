@@ -1,6 +1,6 @@
 #!/usr/bin/env python3
-"""Tests of README.md, docs/recipes.md and docs/formats.md, and where the folder of the library is given, of docs/python.md:
-their commands, taken out of the page itself, print what it shows.
+"""Tests of README.md, docs/recipes.md and docs/formats.md, and where the folder of the library is given, of docs/python.md and
+of what the Python package does: their commands, taken out of the page itself, print what it shows.
 
     tests/recipes.py crates/udsnorm/out/udsnorm [out/lib]
 
@@ -10,8 +10,8 @@ end where its set-up does. Its blocks are:
 - `sh` without a name: the set-up, the commands that make /tmp/try, copy sample logs to it and go there; here a folder of the
   page's own stands in its place. A page without one has a folder in which `examples` is there;
 - `console TOOL...`: commands, each after `$`, and what they print. Where a tool is missing the block is skipped, by the tool's
-  name. One of `candump` needs a bus and is always skipped; `vcan0` is an interface, `pandas` and `python-can` are modules of
-  Python;
+  name. One of `candump` needs a bus and is always skipped; `vcan0` is an interface, `package` the Python package with its
+  library, and `pandas`, `pytest` and `python-can` are modules of Python;
 - `sh NAME`, `python NAME`: a script, saved as NAME at its place, executable; the prose above says "Save as `NAME`";
 - `yaml`: a job of CI, whose commands stand in blocks of its section, too; the files that it keeps are there at the end.
 
@@ -33,7 +33,7 @@ PAGES = [TOP / "README.md", TOP / "docs" / "recipes.md", TOP / "docs" / "formats
 OF_PYTHON = TOP / "docs" / "python.md"
 
 # Modules of Python that blocks ask for, by the names of the tools.
-MODULES = {"pandas": "pandas", "python-can": "can"}
+MODULES = {"pandas": "pandas", "pytest": "pytest", "python-can": "can"}
 
 # Follows what each command prints. The next command still finds the status in $?.
 MARK = "\x01"
@@ -80,14 +80,16 @@ def kept_files(text):
     return [name.strip() for names in lists for name in names.split(",")]
 
 
-def missing_tool(tools):
+def missing_tool(tools, environment):
     for tool in tools:
         if tool == "candump":
             return "a bus"
         if tool == "vcan0":
             lacks = None if Path("/sys/class/net", tool).exists() else f"the interface {tool}"
+        elif tool == "package":
+            lacks = None if "LD_LIBRARY_PATH" in environment else "the folder of the library"
         elif tool in MODULES:
-            lacks = None if python_with(tool) else f"a Python that has {tool}"
+            lacks = None if has_module(shutil.which("python3", path=environment["PATH"]), tool) else f"a Python that has {tool}"
         else:
             lacks = None if shutil.which(tool) else tool
         if lacks:
@@ -95,35 +97,26 @@ def missing_tool(tools):
     return None
 
 
-def python_with(tool):
-    """A Python that has the module of this tool, if there is one: Debian's, where another one comes first."""
+def has_module(python, tool):
+    return subprocess.run([python, "-c", f"import {MODULES[tool]}"], capture_output=True).returncode == 0
+
+
+def python_with_most():
+    """The Python that has most of the modules: Debian's, where another one comes first."""
     found = filter(None, map(shutil.which, ("python3", "/usr/bin/python3")))
-    ask = ["-c", f"import {MODULES[tool]}"]
-    return next((python for python in found if subprocess.run([python, *ask], capture_output=True).returncode == 0), None)
+    return max(found, key=lambda python: sum(has_module(python, tool) for tool in MODULES))
 
 
-def use_python(home, tool):
-    """The commands find a Python that has the module of this tool, where there is one."""
-    link = home / "tools" / "python3"
-    link.unlink(missing_ok=True)
-    link.symlink_to(python_with(tool) or sys.executable)
-
-
-def surroundings_of_python(home, library):
-    """What a Python sees that finds the package and its library."""
-    use_python(home, "pandas")
-    return {"PYTHONPATH": str(TOP / "python"), "LD_LIBRARY_PATH": os.path.abspath(library)}
-
-
-def surroundings(home, program):
-    """What the commands see: the program by its name, and a git that knows who commits and no configuration of the machine."""
+def surroundings(home, program, library):
+    """What the commands see: the program by its name, the Python package where its library is given, and a git that knows who
+    commits and no configuration of the machine."""
     tools = home / "tools"
     tools.mkdir()
     (tools / "udsnorm").symlink_to(program)
-    use_python(home, "python-can")
+    (tools / "python3").symlink_to(python_with_most())
+    package = {"PYTHONPATH": str(TOP / "python"), "PYTHONDONTWRITEBYTECODE": "1", "LD_LIBRARY_PATH": os.path.abspath(library)} if library else {}
     who = {f"GIT_{role}_{part}": "test@example.com" for role in ("AUTHOR", "COMMITTER") for part in ("NAME", "EMAIL")}
-    found = {"PATH": f"{tools}:{os.environ['PATH']}", "HOME": str(home), "LC_ALL": "C", "GIT_CONFIG_NOSYSTEM": "1", **who}
-    return found
+    return {"PATH": f"{tools}:{os.environ['PATH']}", "HOME": str(home), "LC_ALL": "C", "GIT_CONFIG_NOSYSTEM": "1", **package, **who}
 
 
 def answers(lines, environment):
@@ -144,14 +137,14 @@ def set_up(blocks, folder):
     return lines or [f"mkdir {folder} && ln -s {TOP}/examples {folder} && cd {folder}"]
 
 
-def steps_of(page, blocks):
+def steps_of(page, blocks, environment):
     """What a section has to run, each with what it has to print: a script to save, or a command."""
     for words, line, text in blocks:
         kind, names = (words + [""])[0], words[1:]
         if kind in ("sh", "python") and names:
             yield saving(names[0], text), []
         elif kind == "console":
-            lack = missing_tool(names)
+            lack = missing_tool(names, environment)
             if lack:
                 print(f"skipped line {line} of {page.name}: it needs {lack}", flush=True)
             else:
@@ -164,7 +157,7 @@ def run_page(cases, page, home, environment):
     found = sections(page.read_text())
     folder = home / page.stem
     wanted = [("set-up", command, []) for command in set_up(found[0][1], folder)]
-    wanted += [(title, command, lines) for title, blocks in found for command, lines in steps_of(page, blocks)]
+    wanted += [(title, command, lines) for title, blocks in found for command, lines in steps_of(page, blocks, environment)]
     wanted.append(("end", "pwd", [str(folder)]))
     came = answers([command for _, command, _ in wanted], environment)
     for at, (title, command, lines) in enumerate(wanted):
@@ -197,13 +190,12 @@ def main():
     if len(sys.argv) not in (2, 3):
         sys.exit(__doc__)
     cases = Cases(os.path.abspath(sys.argv[1]))
+    library = sys.argv[2] if len(sys.argv) == 3 else None
     with tempfile.TemporaryDirectory() as directory:
         home = Path(directory)
-        environment = surroundings(home, cases.program)
-        for page in PAGES:
+        environment = surroundings(home, cases.program, library)
+        for page in [*PAGES, *([OF_PYTHON] if library else [])]:
             run_page(cases, page, home, environment)
-        if len(sys.argv) == 3:
-            run_page(cases, OF_PYTHON, home, environment | surroundings_of_python(home, sys.argv[2]))
     cases.report("the pages have commands", [] if cases.passed + cases.failed >= 36 else ["fewer than 36 commands were found"])
     cases.end()
 

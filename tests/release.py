@@ -47,6 +47,11 @@ PACKAGED = {
 LIBRARIES = "usr/lib/x86_64-linux-gnu"
 NUMBER = (TOP / "library" / "SONAME").read_text().strip()
 PYTHON = "usr/lib/python3/dist-packages"
+MODULES = {
+    "py.typed", "__init__.py", "__main__.py", "_library.py", "_lines.py", "_program.py", "testing.py",
+    "_formats/__init__.py", "_formats/asc.py", "_formats/blf.py", "_formats/captures.py", "_formats/csv.py", "_formats/frames.py",
+    "_formats/messages.py", "_formats/opened.py", "_formats/packed.py", "_formats/screen.py", "_formats/texts.py", "_formats/trc.py",
+}
 OF_THE_LIBRARY = {
     f"libudsnorm{NUMBER}": {f"{LIBRARIES}/libudsnorm.so.{NUMBER}", f"{LIBRARIES}/libudsnorm.so.{VERSION}"},
     "libudsnorm-dev": {
@@ -57,7 +62,7 @@ OF_THE_LIBRARY = {
         "usr/share/doc/libudsnorm-dev/examples/normalise.c",
         "usr/share/doc/libudsnorm-dev/examples/compare.cpp",
     },
-    "python3-udsnorm": {f"{PYTHON}/udsnorm/{name}" for name in ("__init__.py", "_library.py", "_lines.py", "py.typed")},
+    "python3-udsnorm": {f"{PYTHON}/udsnorm/{name}" for name in MODULES},
 }
 PAPERS = ("copyright", "changelog.gz", "changelog.Debian.gz")
 
@@ -131,6 +136,8 @@ def tarball(cases, library, folder):
     cases.report("its program is the one that was built", [] if same else ["other bytes"])
     runs(cases, "its program where it lies", unpacked / "bin" / "udsnorm")
     imports(cases, "its wheel", modules, {})
+    (modules / "udsnorm" / "udsnorm").chmod(0o755)
+    runs_as_module(cases, "its wheel as a tool", modules, {})
     links_by_pkg_config(cases, "its library where it lies", unpacked)
     manual = (unpacked / "share" / "man" / "man1" / "udsnorm.1").read_text()
     cases.report("its manual page has the version", [] if f'"udsnorm {VERSION}"' in manual.split("\n")[0] else [manual[:80]])
@@ -210,6 +217,13 @@ def imports(cases, name, modules, found):
     program = "import sys, udsnorm; sys.stdout.buffer.write(udsnorm.normalise(sys.argv[1]))"
     environment = found | {"PATH": os.environ["PATH"], "PYTHONPATH": str(modules)}
     cases.case(name, run(sys.executable, ["-B", "-c", program, LOG], env=environment), DONE, CANONICAL.read_bytes())
+
+
+def runs_as_module(cases, name, modules, found):
+    """The Python package of a folder runs the program that lies in it."""
+    environment = found | {"PATH": "", "PYTHONPATH": str(modules)}
+    found = run(sys.executable, ["-B", "-m", "udsnorm", "normalise", LOG], env=environment)
+    cases.case(name, found, DONE, CANONICAL.read_bytes())
 
 
 def links(cases, name, root, examples, words, found):

@@ -7,7 +7,9 @@
     ...     print(item)
 
 A log is what `candump -l` or `-L` wrote: bytes, any other buffer (it is copied before the call), or the path of a file.
-Settings and errors are those of `normalise` for every call, but that `find` asks for no identifiers.
+A file may also have any other form that `python3 -m udsnorm` reads; `from_messages` makes a log of what python-can
+recorded. What such a log leaves out is told as a warning, `LeftOut`. Settings and errors are those of `normalise` for
+every call, but that `find` asks for no identifiers.
 
 The interpreter's lock is given up during a call, so threads run side by side.
 """
@@ -15,9 +17,12 @@ The interpreter's lock is given up during a call, so threads run side by side.
 from __future__ import annotations
 
 import os
-from typing import TYPE_CHECKING, Any, List, NamedTuple, Optional, Union
+import re
+import sys
+import warnings
+from typing import TYPE_CHECKING, Any, Iterable, Iterator, List, NamedTuple, Optional, Union
 
-from . import _library
+from . import _formats, _library
 from ._library import Answer, Settings
 from ._lines import Counts, Direction, Exchange, Item, Message, Outcome, Pair, Role, Stray
 from ._lines import items_of, messages_of, pairs_of
@@ -29,8 +34,9 @@ else:
     ReadableBuffer = Any
 
 __all__ = [
-    "Counts", "Difference", "Direction", "EXTENDED", "Exchange", "Explanation", "Item", "LIMIT", "Message", "Outcome",
-    "Pair", "Refused", "Role", "Stray", "TESTER", "UNIT", "compare", "explain", "find", "items", "messages", "normalise",
+    "Counts", "Difference", "Direction", "EXTENDED", "Exchange", "Explanation", "Identifier", "Item", "LIMIT", "LeftOut",
+    "Log", "Message", "Outcome", "Pair", "Refused", "Role", "Stray", "TESTER", "UNIT", "compare", "explain", "find",
+    "from_messages", "items", "iter_items", "iter_messages", "messages", "normalise",
 ]
 __version__ = _library.VERSION
 
@@ -41,6 +47,8 @@ TESTER, UNIT, LIMIT = 0x7E0, 0x7E8, 1 << 30
 
 #: The path of a file, bytes, or any other buffer.
 Log = Union[str, "os.PathLike[str]", ReadableBuffer]
+#: A number, as Linux's canid_t has it, or three or eight hexadecimal digits, as the program takes them.
+Identifier = Union[int, str]
 
 _SETTING_FAULTS = {
     _library.ID_RANGE: "identifier out of range",
@@ -49,19 +57,27 @@ _SETTING_FAULTS = {
 }
 
 
-class Refused(ValueError):
-    """A log is refused. The text is the line that the program tells.
+class LeftOut(UserWarning):
+    """Of a log that is no candump log something was left out, or is told otherwise. The text says how much of what."""
 
-    `reason` says why: "bad line", "oversize" (a message is announced that is too long), "log limit" or "output limit"
-    (the canonical log is longer than the limit). `line` and `column` count from 1, and are None where there is none;
-    `side` is "left" or "right" in a comparison.
+
+class Refused(ValueError):
+    """A log is refused. The text is the line that the program tells, behind the file's name where it was named.
+
+    `reason` says why: "bad line", "oversize" (a message is announced that is too long), "log limit", "output limit"
+    (the canonical log is longer than the limit) or "bad file" (one of another form ends in the middle, or can't be
+    explained). `line` and `column` count from 1, and are None where there is none; `side` is "left" or "right" in a
+    comparison, and `file` the path that was given.
     """
 
-    def __init__(self, reason: str, text: str, line: Optional[int], column: Optional[int], side: Optional[str]) -> None:
+    def __init__(
+        self, reason: str, text: str, line: Optional[int], column: Optional[int], side: Optional[str],
+        file: Optional[str] = None,
+    ) -> None:
         # These are what is handed on where the error passes from process to process.
-        super().__init__(reason, text, line, column, side)
-        self.reason, self.line, self.column, self.side = reason, line, column, side
-        self._text = f"{side}: {text}" if side else text
+        super().__init__(reason, text, line, column, side, file)
+        self.reason, self.line, self.column, self.side, self.file = reason, line, column, side, file
+        self._text = ": ".join(filter(None, (side, file and _formats.shown(file), text)))
 
     def __str__(self) -> str:
         return self._text
@@ -82,12 +98,12 @@ class Difference(NamedTuple):
     right: Optional[Item]
 
 
-def normalise(log: Log, *, tester: int = TESTER, unit: int = UNIT, limit: int = LIMIT) -> bytes:
+def normalise(log: Log, *, tester: Identifier = TESTER, unit: Identifier = UNIT, limit: int = LIMIT) -> bytes:
     """The canonical log. Two logs have the same meaning exactly where these are equal.
 
     `log`: its bytes in any buffer, or the path of a file.
     `tester`, `unit`: the identifiers of the frames that each side sends, as Linux's canid_t has them: 0 to 0x7FF, or
-    `EXTENDED | number` with a number up to 0x1FFFFFFF. They have to be different.
+    `EXTENDED | number` with a number up to 0x1FFFFFFF; or as a text, "7E0" or "18DA10F1". They have to be different.
     `limit`: the most bytes of the log, and of its canonical log: 1 to 2**40. It bounds the memory that a call takes.
 
     Raises `Refused` where the log is refused, `ValueError` for settings that there are not, `MemoryError`, and
@@ -96,21 +112,35 @@ def normalise(log: Log, *, tester: int = TESTER, unit: int = UNIT, limit: int = 
     return _text("normalise", log, _settings(tester, unit, limit))[1]
 
 
-def items(log: Log, *, tester: int = TESTER, unit: int = UNIT, limit: int = LIMIT) -> List[Item]:
+def items(log: Log, *, tester: Identifier = TESTER, unit: Identifier = UNIT, limit: int = LIMIT) -> List[Item]:
     """The exchanges and the stray messages of a log, in the order of its meaning.
 
     Settings and errors are those of `normalise`."""
+    return list(iter_items(log, tester=tester, unit=unit, limit=limit))
+
+
+def iter_items(
+    log: Log, *, tester: Identifier = TESTER, unit: Identifier = UNIT, limit: int = LIMIT
+) -> Iterator[Item]:
+    """The items of `items` one after the other, so that no list of them is held. Errors are raised by the call."""
     return items_of(_text("list", log, _settings(tester, unit, limit), _library.NO_NUMBERS)[1])
 
 
-def messages(log: Log, *, tester: int = TESTER, unit: int = UNIT, limit: int = LIMIT) -> List[Message]:
+def messages(log: Log, *, tester: Identifier = TESTER, unit: Identifier = UNIT, limit: int = LIMIT) -> List[Message]:
     """The messages of a log that were received whole, in the order in which they were complete, with their times.
 
     Settings and errors are those of `normalise`, but that no announced length and no canonical log refuses a log."""
+    return list(iter_messages(log, tester=tester, unit=unit, limit=limit))
+
+
+def iter_messages(
+    log: Log, *, tester: Identifier = TESTER, unit: Identifier = UNIT, limit: int = LIMIT
+) -> Iterator[Message]:
+    """The messages of `messages` one after the other, so that no list of them is held. Errors are raised by the call."""
     return messages_of(_text("messages", log, _settings(tester, unit, limit), _library.TEXT)[1])
 
 
-def explain(log: Log, *, tester: int = TESTER, unit: int = UNIT, limit: int = LIMIT) -> Explanation:
+def explain(log: Log, *, tester: Identifier = TESTER, unit: Identifier = UNIT, limit: int = LIMIT) -> Explanation:
     """What was dropped of a log and why, and its counts.
 
     Settings and errors are those of `normalise`, but that no announced length and no canonical log refuses a log."""
@@ -126,46 +156,88 @@ def find(log: Log, *, limit: int = LIMIT) -> List[Pair]:
 
 
 def compare(
-    left: Log, right: Log, *, tester: int = TESTER, unit: int = UNIT, limit: int = LIMIT
+    left: Log, right: Log, *, tester: Identifier = TESTER, unit: Identifier = UNIT, limit: int = LIMIT
 ) -> Optional[Difference]:
     """The first item in which two logs differ; None where they have the same meaning.
 
     Settings and errors are those of `normalise`. Where both logs are refused, the left one is told."""
     settings = _settings(tester, unit, limit)
-    one, other = _contents(left, limit), _contents(right, limit)
-    answer = _library.compare(settings, one, other)
-    if answer.status != _library.DONE:
-        raise _fault(answer)
-    if answer.item == 0:
+    number, one, other = _first_difference(left, right, settings)
+    if number == 0:
         return None
-    return Difference(answer.item, _item_at(one, settings, answer.item), _item_at(other, settings, answer.item))
+    return Difference(number, _item_at(one, settings, number), _item_at(other, settings, number))
 
 
-def _settings(tester: int, unit: int, limit: int) -> Settings:
+def from_messages(messages: Iterable[Any]) -> bytes:
+    """The log of messages of python-can, `can.Message`, in their order. What can't be said is warned of: `LeftOut`."""
+    tally = _formats.Tally()
+    log = "".join(_formats.lines_of(_formats.frames_of_messages(messages, tally), tally)).encode("ascii")
+    _warn("messages", tally)
+    return log
+
+
+def _settings(tester: Identifier, unit: Identifier, limit: int) -> Settings:
     """The settings as numbers that C has; no number is cut."""
-    if not (0 <= tester < 1 << 32 and 0 <= unit < 1 << 32):
-        raise ValueError(_SETTING_FAULTS[_library.ID_RANGE])
     if not 0 <= limit < 1 << 64:
         raise ValueError(_SETTING_FAULTS[_library.LIMIT_RANGE])
-    return Settings(tester, unit, limit)
+    return Settings(_number_of(tester), _number_of(unit), limit)
 
 
-def _contents(log: Log, limit: int) -> bytes:
-    """The bytes of a log: of a longer file no more than show that it is longer than the limit."""
+def _number_of(identifier: Identifier) -> int:
+    """An identifier as a number that C has."""
+    if isinstance(identifier, str):
+        if not re.fullmatch("[0-9A-Fa-f]{3}|[0-9A-Fa-f]{8}", identifier):
+            raise ValueError(_SETTING_FAULTS[_library.ID_RANGE])
+        identifier = int(identifier, 16) | (EXTENDED if len(identifier) == 8 else 0)
+    if not 0 <= identifier < 1 << 32:
+        raise ValueError(_SETTING_FAULTS[_library.ID_RANGE])
+    return identifier
+
+
+def _contents(log: Log, limit: int, side: Optional[str] = None) -> bytes:
+    """The bytes of a log: of a longer one no more than show that it is longer than the limit."""
     if isinstance(log, bytes):
         return log
-    if isinstance(log, (str, os.PathLike)):
-        with open(log, "rb") as file:
-            is_longer = os.fstat(file.fileno()).st_size > limit
-            return file.read(limit + 1) if is_longer else file.read()
-    return memoryview(log).tobytes()
+    if not isinstance(log, (str, os.PathLike)):
+        return memoryview(log).tobytes()
+    with _formats.Log(log) as file:
+        if file.is_as_it_stands:
+            return file.read(limit)
+        held = bytearray()
+        try:
+            for block in file.blocks():
+                held += block
+                if len(held) > limit:
+                    break
+        except _formats.Fault as fault:
+            raise Refused("bad file", str(fault), None, None, side, file.path) from None
+        _warn(file.path, file.tally)
+        return bytes(held)
+
+
+def _warn(name: str, tally: "_formats.Tally") -> None:
+    """Says what was left out, at the line that called the package."""
+    if str(tally):
+        inside = 1
+        while sys._getframe(inside).f_globals.get("__name__", "").partition(".")[0] == __name__:
+            inside += 1
+        warnings.warn(f"{_formats.shown(name)}: {tally}", LeftOut, stacklevel=inside + 1)
+
+
+def _first_difference(left: Log, right: Log, settings: Settings) -> "tuple[int, bytes, bytes]":
+    """The number of the first item in which two logs differ, 0 where there is none, and the bytes of both."""
+    one, other = _contents(left, settings.limit, "left"), _contents(right, settings.limit, "right")
+    answer = _library.compare(settings, one, other)
+    if answer.status != _library.DONE:
+        raise _fault(answer, right if answer.side == 2 else left)
+    return answer.item, one, other
 
 
 def _text(name: str, log: Log, settings: Settings, *style: int) -> "tuple[Answer, bytes]":
     """The answer of a call and its text."""
     answer, text = _library.text(name, settings, _contents(log, settings.limit), *style)
     if answer.status != _library.DONE:
-        raise _fault(answer)
+        raise _fault(answer, log)
     return answer, text
 
 
@@ -175,8 +247,8 @@ def _item_at(log: bytes, settings: Settings, number: int) -> Optional[Item]:
     return found[number - 1] if number <= len(found) else None
 
 
-def _fault(answer: Answer) -> Exception:
-    """Why there is no text."""
+def _fault(answer: Answer, log: Log = b"") -> Exception:
+    """Why there is no text of a log."""
     if answer.status == _library.MEMORY:
         return MemoryError()
     if answer.status in _SETTING_FAULTS:
@@ -189,4 +261,6 @@ def _fault(answer: Answer) -> Exception:
         _library.LOG_LIMIT: ("log limit", "log longer than the limit"),
         _library.OUTPUT_LIMIT: ("output limit", "canonical log longer than the limit"),
     }[answer.status]
-    return Refused(reason, text, answer.line or None, answer.column or None, {1: "left", 2: "right"}.get(answer.side))
+    file = os.fspath(log) if isinstance(log, (str, os.PathLike)) else None
+    side = {1: "left", 2: "right"}.get(answer.side)
+    return Refused(reason, text, answer.line or None, answer.column or None, side, file)

@@ -2,8 +2,7 @@
 
 from __future__ import annotations
 
-from typing import List, Literal, NamedTuple, Optional, Union, cast
-
+from typing import Iterator, List, Literal, NamedTuple, Optional, Union, cast
 
 Direction = Literal["tester", "unit"]
 Outcome = Literal["positive", "negative", "silent", "unanswered"]
@@ -23,12 +22,18 @@ class Exchange(NamedTuple):
     code: Optional[str]
     answer: Optional[bytes]
 
+    def __repr__(self) -> str:
+        return _shown(self)
+
 
 class Stray(NamedTuple):
     """A message outside of any exchange, and the side that sent it."""
 
     direction: Direction
     message: bytes
+
+    def __repr__(self) -> str:
+        return _shown(self)
 
 
 Item = Union[Exchange, Stray]
@@ -49,6 +54,9 @@ class Message(NamedTuple):
     begin: int
     end: int
     message: bytes
+
+    def __repr__(self) -> str:
+        return _shown(self)
 
 
 class Pair(NamedTuple):
@@ -75,9 +83,24 @@ class Counts(NamedTuple):
     pending: int
 
 
-def items_of(text: bytes) -> List[Item]:
+def _shown(item: Union[Exchange, Stray, Message]) -> str:
+    """An item with its bytes as hexadecimal digits."""
+    parts = (f"{name}={value.hex().upper() if isinstance(value, bytes) else repr(value)}" for name, value in item._asdict().items())
+    return f"{type(item).__name__}({', '.join(parts)})"
+
+
+def _rows(text: bytes) -> Iterator[List[str]]:
+    """The fields of each line, one line after the other."""
+    begin = 0
+    while begin < len(text):
+        end = text.index(b"\n", begin)
+        yield text[begin:end].decode("ascii").split(" ")
+        begin = end + 1
+
+
+def items_of(text: bytes) -> Iterator[Item]:
     """The items of a list without numbers."""
-    return [_item(line.split(" ")) for line in text.decode("ascii").splitlines()]
+    return map(_item, _rows(text))
 
 
 def _item(fields: List[str]) -> Item:
@@ -89,9 +112,9 @@ def _item(fields: List[str]) -> Item:
     return Exchange(service, request, outcome, code, answer)
 
 
-def messages_of(text: bytes) -> List[Message]:
+def messages_of(text: bytes) -> Iterator[Message]:
     """The messages of the lines that tell of them."""
-    return [_message(line.split(" ")) for line in text.decode("ascii").splitlines()]
+    return map(_message, _rows(text))
 
 
 def _message(fields: List[str]) -> Message:
@@ -104,7 +127,7 @@ def _message(fields: List[str]) -> Message:
 
 def pairs_of(text: bytes) -> List[Pair]:
     """The pairs of the lines that tell of them."""
-    return [_pair(line.split(" ")) for line in text.decode("ascii").splitlines()]
+    return [_pair(fields) for fields in _rows(text)]
 
 
 def _pair(fields: List[str]) -> Pair:

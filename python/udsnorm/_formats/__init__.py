@@ -1,0 +1,12 @@
+"""Readers of what other tools write, a module for each format, and the lines that candump would have written of it.
+
+A reader takes a file and a `Tally`. It gives the frames, in the order of the file, and counts in the tally what it leaves
+out: nothing is lost in silence. A file that ends in the middle, or that its format does not explain, raises `Fault`
+behind the frames before.
+"""
+
+from .frames import Fault, Frame, Tally, interface_of, lines_of, shown
+from .messages import Missing, frames as frames_of_messages
+from .opened import Log
+
+__all__ = ["Fault", "Frame", "Log", "Missing", "Tally", "frames_of_messages", "interface_of", "lines_of", "shown"]

@@ -1,0 +1,153 @@
+"""Vector's ASC: a line for each event of a measurement. Of CAN FD these are lines `CANFD`, also of classic frames there."""
+
+from __future__ import annotations
+
+import re
+from typing import BinaryIO, Iterator, List, Optional
+
+from .frames import BIT_RATE_SWITCH, ERROR_STATE, Fault, Frame, Tally, interface_of
+from .texts import Line, data_of, fraction, length_of, lines
+
+_BASE = re.compile(r"\s*base\s+(hex|dec)(?:\s+timestamps\s+(absolute|relative))?", re.A | re.I)
+_EVENT = re.compile(r"\s*(\d{1,12})\.(\d{1,9})\s+(\S.*)", re.A)
+# What else a line may begin with: heads, comments, the marks of a block.
+_HEADS = ("date ", "internal events", "no internal events", "//", "begin triggerblock", "end triggerblock", "previous log file")
+_IDENTIFIER = re.compile(r"([0-9A-Fa-f]{1,10})(x?)")
+_FLAGS = re.compile(r"[0-9A-Fa-f]{1,8}")
+_DIRECTIONS = ("Rx", "Tx", "TxRq")
+
+# The flags of a line CANFD: a remote frame, a frame of CAN FD.
+_REMOTE, _FD = 0x10, 0x1000
+
+
+def looks_so(head: str) -> bool:
+    """The first line is one of a head of this format."""
+    first = head.lstrip().split("\n", 1)[0].lower()
+    return first.startswith(("date ", "// version")) or bool(_BASE.match(first))
+
+
+def frames(file: BinaryIO, tally: Tally) -> Iterator[Frame]:
+    """The frames of a file. Relative stamps are from event to event, and are summed before they are rounded."""
+    reader = _Reader(tally)
+    is_empty, is_open = True, False
+    for line in lines(file):
+        is_empty = False
+        event = _EVENT.match(line.text)
+        if event:
+            frame = reader.frame_of(line, reader.nanos_of(event[1], event[2]), event[3].split())
+            if frame:
+                yield frame
+            continue
+        base, text = _BASE.match(line.text), line.text.lstrip().lower()
+        if base:
+            reader.base = 10 if base[1].lower() == "dec" else 16
+            reader.is_relative = (base[2] or "").lower() == "relative"
+        elif not text.startswith(_HEADS) or not (line.is_whole or text == "end triggerblock"):
+            raise line.unexplained("no line of an ASC file")
+        if text.startswith(("begin triggerblock", "end triggerblock")):
+            is_open = text.startswith("begin")
+    if is_empty:
+        raise Fault("line 1", "the file is empty")
+    if is_open:
+        tally.noted["blocks without their end"] += 1
+
+
+class _Reader:
+    """What the lines before say of how to read an event."""
+
+    def __init__(self, tally: Tally) -> None:
+        self.base, self.is_relative, self._tally, self._nanos = 16, False, tally, 0
+
+    def nanos_of(self, seconds: str, digits: str) -> int:
+        nanos = int(seconds) * 10**9 + fraction(digits, 9)
+        self._nanos = self._nanos + nanos if self.is_relative else nanos
+        return self._nanos
+
+    def frame_of(self, line: Line, nanos: int, words: List[str]) -> Optional[Frame]:
+        """The frame of an event, if it is one; else it is counted."""
+        micros = (nanos + 500) // 1000
+        try:
+            if words[0] == "CANFD":
+                return self._fd_frame(line, micros, words)
+            if words[0].isdigit():
+                return self._classic_frame(line, micros, words)
+        except (ValueError, IndexError):
+            raise line.unexplained("no event of an ASC file") from None
+        if not line.is_whole:
+            raise line.unexplained("")
+        if words[:3] != ["Start", "of", "measurement"]:
+            self._leave_out("CAN XL frames" if words[0] == "CANXL" else "other events")
+        return None
+
+    def _leave_out(self, kind: str) -> None:
+        self._tally.left_out[kind] += 1
+
+    def _classic_frame(self, line: Line, micros: int, words: List[str]) -> Optional[Frame]:
+        """`1 7E0 Rx d 8 02 10 03`, `1 18DA10F1x Tx r 8`, or another event of the channel."""
+        channel, what = words[0], words[1]
+        if what in ("ErrorFrame", "OverloadFrame", "Statistic:") or what.endswith("p"):
+            if not line.is_whole:
+                raise ValueError
+            self._leave_out("error frames" if what == "ErrorFrame" else "other events")
+            return None
+        identifier, is_extended = self._identifier(what)
+        direction, kind = words[2], words[3]
+        if direction not in _DIRECTIONS or kind not in ("d", "r"):
+            raise ValueError
+        if direction == "TxRq":
+            self._leave_out("transmit requests")
+            return None
+        interface = interface_of(channel)
+        if kind == "r":
+            has_length = len(words) > 4 and len(words[4]) == 1
+            if not (has_length or line.is_whole):
+                raise ValueError
+            return Frame(micros, interface, identifier, is_extended, b"", None, int(words[4], 16) if has_length else 0)
+        length = min(int(words[4], self.base), 8)
+        data = self._data(line, words[5:], length)
+        return Frame(micros, interface, identifier, is_extended, data)
+
+    def _fd_frame(self, line: Line, micros: int, words: List[str]) -> Optional[Frame]:
+        """`CANFD 1 Rx 7E0 Name 1 0 c 24 ..`, behind the data duration, length and flags. The name may be missing."""
+        channel, direction, what = words[1:4]
+        if direction not in _DIRECTIONS:
+            raise ValueError
+        if what.lower() == "errorframe" or direction == "TxRq":
+            self._leave_out("transmit requests" if direction == "TxRq" else "error frames")
+            return None
+        identifier, is_extended = self._identifier(what)
+        at = 4 if words[4] in ("0", "1") and words[5] in ("0", "1") else 5
+        switch, state, code, length = words[at], words[at + 1], int(words[at + 2], 16), length_of(words[at + 3])
+        if switch not in ("0", "1") or state not in ("0", "1"):
+            raise ValueError
+        data = self._data(line, words[at + 4 :], length)
+        behind = words[at + 4 + len(data) :]
+        if len(behind) < 4 and not line.is_whole:
+            raise ValueError
+        flags = int(behind[2], 16) if len(behind) > 2 and _FLAGS.fullmatch(behind[2]) else _FD
+        if flags & _REMOTE or (code and not length):
+            return Frame(micros, interface_of(channel), identifier, is_extended, b"", None, code)
+        of_fd = (BIT_RATE_SWITCH if switch == "1" else 0) | (ERROR_STATE if state == "1" else 0)
+        # Some tools write no flags, but what a classic frame has not.
+        is_fd = flags & _FD or of_fd or length > 8
+        return Frame(micros, interface_of(channel), identifier, is_extended, data, of_fd if is_fd else None)
+
+    def _identifier(self, word: str) -> "tuple[int, bool]":
+        found = _IDENTIFIER.fullmatch(word)
+        if not found:
+            raise ValueError
+        return int(found[1], self.base), bool(found[2])
+
+    def _data(self, line: Line, words: List[str], length: int) -> bytes:
+        """The data of a whole frame, or what a whole line has of them."""
+        if length < 0:
+            raise ValueError
+        if self.base == 16:
+            data = data_of(words, length)
+        else:
+            data = bytes(int(word) for word in words[:length] if word.isdigit())
+        # The last number of a decimal line may be cut, too.
+        is_cut = len(data) < length or (self.base == 10 and len(words) <= length)
+        if is_cut and not line.is_whole:
+            raise ValueError
+        return self._tally.shortened(data, length)

@@ -1,0 +1,619 @@
+#!/usr/bin/env python3
+"""Tests of the Python package as a tool: what it reads, what it says of what it leaves out, and the program over it.
+
+    tests/formats.py crates/udsnorm/out/udsnorm out/lib
+
+Files are built by `format_samples.py`, and made by log2asc and log2long of can-utils, python-can and tshark where these
+are. What is missing is named. The status is 1 where a test failed.
+"""
+
+import argparse
+import bz2
+import contextlib
+import ctypes
+import gzip
+import importlib
+import lzma
+import os
+import random
+import re
+import resource
+import shutil
+import struct
+import sys
+import tempfile
+import unittest
+import warnings
+import zlib
+from pathlib import Path
+from types import SimpleNamespace
+
+import format_samples as samples
+from cases import DEVICE, DIFFERENT, DONE, REFUSAL, WORDS
+from format_samples import SAMPLES
+from runs import run
+
+TOP = Path(__file__).resolve().parent.parent
+EXAMPLES = TOP / "examples"
+VIN = EXAMPLES / "vin.log"
+
+# The sample logs that are accepted.
+LOGS = sorted(path for path in EXAMPLES.glob("*.log") if path.name != "refused.log")
+PACKERS = {".gz": gzip.compress, ".bz2": bz2.compress, ".xz": lzma.compress}
+PLACES = 50
+# The most memory of a process that reads a hostile file: some ten more than Python with the package has.
+BYTES = 300 << 20
+
+given = argparse.Namespace()
+
+
+def environment():
+    """What a process sees that finds the package, its library and the program."""
+    found = {"PYTHONPATH": str(TOP / "python"), "LD_LIBRARY_PATH": str(given.library.resolve())}
+    return {**os.environ, **found, "PATH": f"{Path(given.program).parent}:{os.environ['PATH']}"}
+
+
+def package(words, **options):
+    """How `python3 -m udsnorm` ends."""
+    return run(sys.executable, ["-B", "-m", "udsnorm", *map(str, words)], **{"env": environment(), **options})
+
+
+class Read:
+    """What is read of a file: its lines, the fault if there is one, and the tally."""
+
+    def __init__(self, name, content):
+        with tempfile.TemporaryDirectory() as folder:
+            path = Path(folder, name)
+            path.write_bytes(content)
+            with formats.Log(path) as log:
+                held, self.fault = [], None
+                try:
+                    held.extend(log.blocks())
+                except formats.Fault as fault:
+                    self.fault = str(fault)
+        self.lines = b"".join(held).decode("ascii").splitlines(keepends=True)
+        self.tally = log.tally
+
+
+def blf_of(log):
+    """A BLF file of a candump log."""
+    objects = []
+    for stamp, interface, identifier, body in re.findall(r"\((\d+\.\d{6})\) +(\S+) +([0-9A-Fa-f]+)#([^\s_]*)", log.decode()):
+        word = int(identifier, 16) | (1 << 31 if len(identifier) == 8 else 0)
+        nanos, channel = int(stamp.replace(".", "")) * 1000, int(re.sub(r"\D", "", interface) or 0)
+        if body.startswith("#"):
+            data = bytes.fromhex(body[2:])
+            code = (0, 1, 2, 3, 4, 5, 6, 7, 8, 12, 16, 20, 24, 32, 48, 64).index(len(data))
+            objects.append(samples.blf_object(100, nanos, samples.blf_fd(channel, word, code, data)))
+        elif body.startswith("R"):
+            objects.append(samples.blf_object(1, nanos, samples.blf_classic(channel, word, b"", 0x80, int(body[1:] or 0))))
+        else:
+            objects.append(samples.blf_object(1, nanos, samples.blf_classic(channel, word, bytes.fromhex(body))))
+    return samples.blf_file(samples.blf_container(b"".join(map(samples.filled, objects))), start=(0,) * 8)
+
+
+def frames_of(lines):
+    """The frames of log lines, from the first one's time on, without what other tools leave out: interfaces, marks, flags and
+    raw length codes."""
+    found = [re.match(r"\((\d+)\.(\d{6})\) +\S+ +([0-9A-Fa-f]+)#(.*?)(?:_.)?(?: +[RT])?\s*$", line) for line in lines]
+    frames = [(int(one[1] + one[2]), one[3].upper(), re.sub("^#.", "#", one[4].upper())) for one in found]
+    return [(stamp - frames[0][0], identifier, body) for stamp, identifier, body in frames]
+
+
+def source_frames(path):
+    return frames_of([line for line in path.read_text().splitlines() if line.strip()])
+
+
+class Formats(unittest.TestCase):
+    """Each form of each format."""
+
+    def test_samples(self):
+        for sample in SAMPLES:
+            found = Read(sample.name, sample.content)
+            with self.subTest(sample.name):
+                self.assertEqual((found.lines, found.fault), (sample.lines, None))
+                self.assertEqual((found.tally.left_out, found.tally.noted), (sample.left_out, sample.noted))
+                self.assertEqual(found.tally.written, len(sample.lines))
+
+    def test_by_content_first(self):
+        """A file of another name, or of none, is read by what it is; what its first bytes don't tell, by its suffix."""
+        for sample in SAMPLES:
+            with self.subTest(sample.name):
+                suffixed = sample.name in ("of_1_0.trc",)
+                self.assertEqual(Read(sample.name if suffixed else "recorded", sample.content).lines, sample.lines)
+        self.assertEqual(Read("bare.asc", samples.ASC.split("\n", 7)[7].encode("latin-1")).lines, samples.ASC_LINES)
+
+    def test_packed(self):
+        for path in LOGS:
+            for suffix, pack in PACKERS.items():
+                with self.subTest(path=path.name, suffix=suffix):
+                    content = path.read_bytes()
+                    want = content.decode().splitlines(keepends=True)
+                    self.assertEqual(Read(f"{path.name}{suffix}", pack(content)).lines, want)
+                    self.assertEqual(Read("packed", pack(content[:100]) + pack(content[100:])).lines, want)
+        for sample in SAMPLES:
+            with self.subTest(sample.name):
+                self.assertEqual(Read(f"{sample.name}.gz", gzip.compress(sample.content)).lines, sample.lines)
+
+    def test_binary_data(self):
+        """What `candump -i` shows."""
+        self.assertEqual(Read("bits.txt", b"  can0  7E0   [2]  00000001 00111110\n").lines, [samples.line(0, "can0", 0x7E0, b"\x01\x3e")])
+
+    def test_lost_frames_are_counted(self):
+        notice = "DROPCOUNT: dropped 3 CAN frames on 'can1' socket (total drops 3)\n"
+        found = Read("lost.txt", (samples.screen_text() + notice).encode())
+        self.assertEqual((found.fault, found.tally.left_out["frames that candump lost"]), (None, 3))
+
+    def test_what_no_line_can_say(self):
+        frames = [
+            formats.Frame(-1, "can0", 1, False, b""), formats.Frame(10**16, "can0", 1, False, b""),
+            formats.Frame(0, "can0", 0x800, False, b""), formats.Frame(0, "can0", 1 << 29, True, b""),
+            formats.Frame(0, "can0", 1, False, bytes(9)), formats.Frame(0, "can0", 1, False, bytes(13), 0),
+            formats.Frame(10**16 - 1, "can0", 0x7FF, False, bytes(8)), formats.Frame(0, "can0", 0x1FFFFFFF, True, bytes(64), 3),
+        ]
+        tally = formats.Tally()
+        lines = list(formats.lines_of(frames, tally))
+        self.assertEqual(lines, [f"(9999999999.999999) can0 7FF#{'00' * 8}\n", f"(0.000000) can0 1FFFFFFF##3{'00' * 64}\n"])
+        self.assertEqual(tally.left_out, {
+            "stamps that no line can say": 2, "identifiers that no line can say": 2,
+            "classic frames of more than eight bytes": 1, "frames of a length that there is not": 1,
+        })
+        for name, want in {"can0": "can0", "1": "can1", "PCAN_USBBUS1": "PCAN_USBBUS1", "a b": "can0", "": "can0", "x" * 16: "can0", "a\n": "can0"}.items():
+            self.assertEqual(formats.interface_of(name), want)
+
+
+class Faults(unittest.TestCase):
+    """Files that end in the middle, that lie, or that are none of these."""
+
+    def test_cuts(self):
+        """Each sample, cut anywhere, is told as cut, or was whole before; and the frames before are there."""
+        for sample in SAMPLES:
+            is_text = not sample.name.endswith((".blf", ".pcap", ".pcapng"))
+            for place in range(1, PLACES + 1):
+                end = len(sample.content) * place // (PLACES + 1)
+                found = Read(sample.name, sample.content[:end])
+                with self.subTest(sample=sample.name, end=end):
+                    self.assertEqual(found.lines, sample.lines[: len(found.lines)])
+                    if found.fault is None and is_text:
+                        rest_of_line = sample.content.find(b"\n", end - 1) + 1
+                        self.assertEqual(found.lines, Read(sample.name, sample.content[:rest_of_line]).lines)
+                    elif found.fault is None:
+                        self.assertIn(end, sample.ends)
+
+    def test_cuts_of_packed_files(self):
+        """Of a packed log each cut is told, and what comes before it is whole lines of the log."""
+        content = b"".join(samples.line(at, "can0", 0x7E8, random.Random(at).randbytes(8)).encode() for at in range(5000))
+        want = content.decode().splitlines(keepends=True)
+        for suffix, pack in PACKERS.items():
+            packed = pack(content)
+            for place in range(1, PLACES + 1):
+                found = Read(f"log{suffix}", packed[: len(packed) * place // (PLACES + 1)])
+                with self.subTest(suffix=suffix, place=place):
+                    self.assertEqual(found.lines, want[: len(found.lines)])
+                    self.assertIsNotNone(found.fault)
+
+    def test_cut_log(self):
+        content = VIN.read_bytes()
+        self.assertEqual(Read("cut.log", content[:-4]).fault, "line 5: the file ends in the middle of a line")
+        self.assertIsNone(Read("whole.log", content[:-1]).fault)
+        self.assertEqual((Read("empty.log", b"").lines, Read("empty.log", b"").fault), ([], None))
+
+    def test_unexplained(self):
+        for name, content, fault in (
+            ("a.asc", samples.ASC + "what is this\n", "line 27: no line of an ASC file"),
+            ("a.asc", samples.ASC + "   3.0 1  7E0  Rx   d 8 8\n   4.0 1  7E0  Rx   q 8 8\n", "line 28: no event of an ASC file"),
+            ("a.trc", samples.TRC_11 + "     6)      1346.8  Xx         0321  4  RTR\n", "line 9: no line of a TRC file"),
+            ("a.trc", ";$FILEVERSION=3.7\n", "line 1: a TRC file of a version that this does not read: 3.7"),
+            ("a.csv", samples.SAVVYCAN + "x,y,z\n", "line 7: no row of these columns"),
+            ("a.csv", "time;id\n", "line 1: neither SavvyCAN's columns nor python-can's"),
+            ("a.txt", samples.screen_text() + "what is this\n", "line 10: no line that candump writes for the screen"),
+            ("a.txt", "what is this\n", "line 1: no log of a form that this reads"),
+            ("a.blf", "", "byte 0: the file ends in its head"),
+        ):
+            with self.subTest(fault):
+                self.assertEqual(Read(name, content.encode("latin-1")).fault, fault)
+
+    def test_damaged(self):
+        """Of a file with any bytes changed nothing but a fault comes, and the process goes on."""
+        rng = random.Random(1)
+        for sample in SAMPLES:
+            for _ in range(30):
+                content = bytearray(sample.content)
+                for _ in range(rng.randrange(1, 6)):
+                    content[rng.randrange(len(content))] = rng.choice((0, 0x20, 0x31, 0x39, 0x46, 0x80, 0xFF, rng.randrange(256)))
+                with self.subTest(sample=sample.name):
+                    for written in Read(sample.name, bytes(content)).lines:
+                        self.assertRegex(written, r"^\(\d{1,10}\.\d{6}\) [!-~]{1,15} [0-9A-F]{3,8}#[0-9A-FR#]*\n$")
+
+    def test_hostile(self):
+        """Sizes that lie: a clear fault, soon, and in bounded memory."""
+        container, zeros = samples.blf_container, bytes(100 << 20)
+        packed = zlib.compress(zeros)
+        head = struct.pack("<4sHHII", b"LOBJ", 16, 1, 32 + len(packed), 10)
+        told_small, told_large = (head + struct.pack("<HxxxxxxIxxxx", 2, size) + packed for size in (1000, 0xFFFFFFFF))
+        liar = struct.pack("<4sHHII", b"LOBJ", 32, 1, 0xFFFFFFF0, 115)
+        little = struct.pack("<4sHHII", b"LOBJ", 16, 1, 0, 115)
+        pcap_head = samples.pcap("<", False, 227, [])[0]
+        begun = samples.section("<") + samples.interface("<", 227)
+        for name, content, fault in (
+            ("a.blf", samples.blf_file(told_small), "unpacks to more bytes than it says"),
+            ("a.blf", samples.blf_file(told_large), "no object begins where one has to"),
+            ("a.blf", samples.blf_file(container(liar + bytes(1000))), "the file ends in the middle of an object"),
+            ("a.blf", samples.blf_file(liar), "the file ends in the middle of an object"),
+            ("a.blf", samples.blf_file(container(little + bytes(100))), "an object has a size that there is not"),
+            ("a.blf", b"LOGG" + b"\xff" * 140, "the file ends in the middle of an object"),
+            ("a.blf", samples.blf_file(container(samples.blf_object(1, 0, b"12"))), "an object has a size that there is not"),
+            ("a.blf", samples.blf_file(container(b"", 7)), "packed in a way that this does not read: 7"),
+            ("a.pcap", pcap_head + struct.pack("<IIII", 0, 0, 0xFFFFFFFF, 8), "a packet of 4294967295 bytes"),
+            ("a.pcapng", begun + struct.pack("<II", 6, 0xFFFFFFFC), "a block of 4294967292 bytes"),
+            ("a.pcapng", begun + struct.pack("<II", 4, 0xFFFFFFFC), "the file ends in the middle"),
+            ("a.pcapng", begun + struct.pack("<II", 6, 0), "a block of a size that there is not"),
+            ("a.pcapng", begun + samples.packet_block("<", 9, 0, bytes(16)), "a packet of an interface that there is not"),
+            ("a.asc", samples.ASC.encode("latin-1") + b"9" * (1 << 20), "it has more than 65536 bytes"),
+            ("a.asc", samples.ASC.encode("latin-1") + b"1.0 1 " + b"F" * 5000 + b" Rx d 8\n", "no event of an ASC file"),
+            ("a.csv", samples.PYTHON_CAN.encode() + b"1e-99999999,1,0,0,0,0,\n", "no row of these columns"),
+            ("a.csv", samples.SAVVYCAN.encode() + b"1,1,false,Rx,0," + b"9" * 5000 + b",1\n", "no row of these columns"),
+            ("a.log.gz", gzip.compress(VIN.read_bytes() + zeros), "it has more than 65536 bytes"),
+            ("a.log.xz", lzma.compress(zeros), "no log of a form that this reads"),
+        ):
+            with self.subTest(name=name, fault=fault), tempfile.TemporaryDirectory() as folder:
+                path = Path(folder, f"a\n{name}")
+                path.write_bytes(content)
+                found = package(["convert", path], preexec_fn=lambda: resource.setrlimit(resource.RLIMIT_AS, (BYTES, BYTES)))
+                lines = found.error.decode().splitlines()
+                self.assertEqual(found.status, REFUSAL, lines)
+                self.assertTrue(lines[0].startswith(f"{folder}/a\\x0a{name}: ") and fault in lines[0], lines)
+
+    def test_constant_memory(self):
+        """A long file is read in no more memory than a short one, by some megabytes."""
+        objects = b"".join(samples.filled(samples.blf_object(1, at * 10**6, samples.blf_classic(1, 0x7E8, bytes(8)))) for at in range(2000))
+        peaks = []
+        for times in (1, 100):
+            with tempfile.TemporaryDirectory() as folder:
+                path = Path(folder, "run.blf")
+                path.write_bytes(samples.blf_file(*[samples.blf_container(objects)] * times))
+                ask = f"import resource, sys; from udsnorm.__main__ import main; main(['convert', {str(path)!r}, '/dev/null']); print(resource.getrusage(resource.RUSAGE_SELF).ru_maxrss)"
+                peaks.append(int(run(sys.executable, ["-B", "-c", ask], env=environment()).output))
+        self.assertLess(peaks[1], peaks[0] + 4000)
+
+
+class Tool(unittest.TestCase):
+    """`python3 -m udsnorm`: the program's words, texts and statuses, over any log."""
+
+    def setUp(self):
+        self._folder = tempfile.TemporaryDirectory()
+        self.addCleanup(self._folder.cleanup)
+        self.folder = Path(self._folder.name)
+
+    def put(self, name, content):
+        path = self.folder / name
+        path.parent.mkdir(parents=True, exist_ok=True)
+        path.write_bytes(content)
+        return path
+
+    def same(self, words, wanted_words, **options):
+        """The package does over these files what the program does over those."""
+        found = package(words, cwd=self.folder, **options)
+        want = run(given.program, wanted_words, cwd=self.folder)
+        self.assertEqual((found.status, found.output, found.error), (want.status, want.output, want.error), words)
+        return found
+
+    def test_commands(self):
+        """Each command says of a BLF file, whose frames have no blank lines between them, what it says of the log."""
+        for path in LOGS:
+            log = b"".join(line for line in path.read_bytes().splitlines(keepends=True) if line.strip() and b" 2000" not in line)
+            self.put("run.log", log)
+            self.put("run.blf", blf_of(log))
+            self.put("run.log.xz", lzma.compress(log))
+            for command in ("normalise", "list", "messages", "explain", "find"):
+                self.same([command, "run.blf"], [command, "run.log"])
+                self.same([command, "run.log.xz"], [command, "run.log"])
+        self.same(["list", "--json", "--tester", "7E0", "run.blf"], ["list", "--json", "--tester", "7E0", "run.log"])
+
+    def test_what_the_program_does_itself(self):
+        for words in ([], ["--version"], ["--help"], ["list", VIN], ["list", "none.log"], ["list", self.folder], ["compare", "x"]):
+            self.same(words, words)
+        self.assertEqual(package(["list"], log=VIN.read_bytes()).output, run(given.program, ["list", VIN]).output)
+
+    def test_two_logs(self):
+        self.put("a.log", VIN.read_bytes())
+        self.put("a.blf", blf_of(VIN.read_bytes()))
+        self.put("lost.log", (EXAMPLES / "lost-frame.log").read_bytes())
+        self.assertEqual(self.same(["compare", "a.blf", "a.log"], ["compare", "a.log", "a.log"]).status, DONE)
+        self.assertEqual(self.same(["compare", "--show", "a.blf", "lost.log"], ["compare", "--show", "a.log", "lost.log"]).status, DIFFERENT)
+
+    def test_names_on_pages(self):
+        """The page shows the names that were given: the last part, or the paths where both have one name."""
+        for name in ("left/run.blf", "right/run.blf"):
+            self.put(name, blf_of(VIN.read_bytes()))
+        for place in (self.folder, self.folder / "left"):
+            other = os.path.relpath(self.folder / "right" / "run.blf", place)
+            found = package(["report", os.path.relpath(self.folder / "left" / "run.blf", place), other], cwd=place)
+            self.assertEqual((found.status, found.error), (DONE, b""))
+            self.assertIn(b"right/run.blf", found.output)
+            self.assertNotIn(b"udsnorm-", found.output)
+        self.assertIn(b"run.blf", package(["report", "left/run.blf"], cwd=self.folder).output)
+
+    def test_faults_are_refused_by_the_program(self):
+        """The frames before are there, and the program refuses the log at the frame behind them."""
+        content = blf_of(VIN.read_bytes())
+        self.put("cut.blf", content[:-4])
+        self.put("vin.log", VIN.read_bytes())
+        found = package(["list", "cut.blf"], cwd=self.folder)
+        self.assertEqual((found.status, found.output), (REFUSAL, b""))
+        self.assertRegex(found.error.decode(), r"^cut\.blf: byte \d+: the file ends in the middle of an object\nline \d column 1: not a log line\n")
+        found = package(["compare", "vin.log", "cut.blf"], cwd=self.folder)
+        self.assertEqual((found.status, found.error.splitlines()[-1][:12]), (REFUSAL, b"right: line "))
+        self.assertEqual(package(["report", "cut.blf"], cwd=self.folder).status, REFUSAL)
+
+    def test_what_is_left_out_is_told(self):
+        sample = next(one for one in SAMPLES if one.name == "packed.blf")
+        self.put(sample.name, sample.content)
+        told = b"packed.blf: frames 10; left out: objects of type 65 1, transmit requests 1, error frames 2; noted: frames with fewer bytes than their length says 1\n"
+        for words in (["list"], ["convert"]):
+            found = package([*words, sample.name], cwd=self.folder)
+            self.assertEqual((found.status, sorted(re.split("[;,:] ", found.error.decode()))), (DONE, sorted(re.split("[;,:] ", told.decode()))))
+
+    def test_convert(self):
+        self.put("run.blf", blf_of(VIN.read_bytes()))
+        found = package(["convert", "run.blf"], cwd=self.folder)
+        self.assertEqual((found.status, found.output, found.error), (DONE, VIN.read_bytes(), b""))
+        self.assertEqual(package(["convert", "run.blf", "run.log"], cwd=self.folder), (DONE, b"", b""))
+        self.assertEqual((self.folder / "run.log").read_bytes(), VIN.read_bytes())
+        self.assertEqual(package(["convert", "-"], log=blf_of(VIN.read_bytes())).output, VIN.read_bytes())
+        for words in ([], ["a", "b", "c"], ["--json", "a"], ["run.blf", "run.blf"]):
+            self.assertEqual(package(["convert", *words], cwd=self.folder).status, WORDS, words)
+        self.assertEqual((self.folder / "run.blf").read_bytes(), blf_of(VIN.read_bytes()))
+        self.assertEqual(package(["convert", "none.blf"], cwd=self.folder), (DEVICE, b"", b"none.blf: No such file or directory\n"))
+        with open("/dev/full", "wb") as full:
+            self.assertEqual(package(["convert", "run.blf"], cwd=self.folder, stdout=full).status, DEVICE)
+
+    def test_no_program(self):
+        self.put("run.blf", blf_of(VIN.read_bytes()))
+        found = package(["list", "run.blf"], cwd=self.folder, env={**environment(), "PATH": "/nowhere"})
+        self.assertEqual((found.status, found.output, found.error.count(b"\n")), (WORDS, b"", 1))
+
+    def test_missing_library(self):
+        """A Python without python-can says what to install."""
+        database = self.put("run.db", b"SQLite format 3\0" + bytes(100))
+        blocked = self.put("blocked/can.py", b"raise ImportError").parent
+        found = package(["convert", database], env={**environment(), "PYTHONPATH": f"{TOP / 'python'}:{blocked}"})
+        self.assertEqual((found.status, found.output), (WORDS, b""))
+        self.assertIn(b"pip install python-can; apt install python3-can", found.error)
+
+
+class Package(unittest.TestCase):
+    """What Python code sees."""
+
+    def test_files_of_any_form(self):
+        with tempfile.TemporaryDirectory() as folder:
+            path = Path(folder, "vin.blf")
+            path.write_bytes(blf_of(VIN.read_bytes()))
+            with warnings.catch_warnings():
+                warnings.simplefilter("error")
+                self.assertIsNone(udsnorm.compare(path, VIN))
+            cut = Path(folder, "cut.blf")
+            cut.write_bytes(path.read_bytes()[:-4])
+            with self.assertRaises(udsnorm.Refused) as caught:
+                udsnorm.compare(VIN, cut)
+            found = caught.exception
+            self.assertEqual((found.reason, found.line, found.side, found.file), ("bad file", None, "right", str(cut)))
+            self.assertRegex(str(found), rf"^right: {re.escape(str(cut))}: byte \d+: the file ends")
+            sample = Path(folder, "sample.asc")
+            sample.write_bytes(samples.ASC.encode("latin-1"))
+            with self.assertWarnsRegex(udsnorm.LeftOut, "left out: other events 3") as warned:
+                udsnorm.items(sample)
+            self.assertEqual(warned.filename, __file__)
+            with self.assertRaisesRegex(udsnorm.Refused, "log longer than the limit$"):
+                udsnorm.items(path, limit=100)
+
+    def test_messages_of_python_can(self):
+        """By objects of the same attributes, with a frame of each kind."""
+        plain = {"is_error_frame": False, "is_remote_frame": False, "is_fd": False, "bitrate_switch": False, "error_state_indicator": False}
+
+        def message(seconds, identifier, data, dlc, channel=0, **more):
+            fields = {**plain, "timestamp": seconds, "arbitration_id": identifier, "is_extended_id": identifier > 0x7FF, **more}
+            return SimpleNamespace(**fields, data=data, dlc=dlc, channel=channel)
+
+        recorded = [
+            message(1700000000.012, 0x7E0, bytearray(b"\x03\x22\xf1\x90"), 4),
+            message(1700000000.0123, 0x7E8, LONG, 24, "vcan1", is_fd=True, bitrate_switch=True),
+            message(2.0, 0x18DA10F1, b"", 8, None, is_remote_frame=True),
+            message(3.0, 0, b"", 0, is_error_frame=True),
+            message(float("nan"), 1, b"", 0),
+        ]
+        want = [
+            samples.line(1700000000012000, "can0", 0x7E0, b"\x03\x22\xf1\x90"),
+            samples.line(1700000000012300, "vcan1", 0x7E8, LONG, 1),
+            samples.line(2000000, "can0", 0x18DA10F1, remote=8),
+        ]
+        with self.assertWarnsRegex(udsnorm.LeftOut, "^messages: frames 3; left out: error frames 1, stamps that no line can say 1$"):
+            self.assertEqual(udsnorm.from_messages(iter(recorded)), "".join(want).encode())
+
+    def test_identifiers_as_texts(self):
+        log = (EXAMPLES / "vin.log").read_bytes().replace(b"7E0#", b"18DA10F1#").replace(b"7E8#", b"18DAF110#")
+        want = udsnorm.items(VIN)
+        self.assertEqual(udsnorm.items(log, tester="18DA10F1", unit="18daf110"), want)
+        self.assertEqual(udsnorm.items(VIN, tester="7e0", unit="7E8"), want)
+        for wrong in ("", "7E", "07E0", "800", "20000000", "7E0 ", "xyz"):
+            with self.assertRaisesRegex(ValueError, "^identifier out of range$"):
+                udsnorm.items(VIN, tester=wrong)
+
+    def test_shown_items(self):
+        exchange = udsnorm.items(VIN)[0]
+        self.assertEqual(repr(exchange), "Exchange(service='ReadDataByIdentifier', request=22F190, outcome='positive', code=None, answer=62F1905742413341354335304546313233343536)")
+        self.assertEqual(repr(udsnorm.Stray("tester", b"\x3e\x80")), "Stray(direction='tester', message=3E80)")
+        self.assertTrue(repr(udsnorm.messages(VIN)[0]).endswith("begin=1700000000000000, end=1700000000000000, message=22F190)"))
+
+    def test_iterating_forms(self):
+        self.assertEqual(list(udsnorm.iter_items(VIN)), udsnorm.items(VIN))
+        self.assertEqual(list(udsnorm.iter_messages(VIN)), udsnorm.messages(VIN))
+        self.assertIs(iter(found := udsnorm.iter_items(VIN)), found)
+        with self.assertRaises(udsnorm.Refused):
+            udsnorm.iter_items(b"x")
+
+
+class Assertions(unittest.TestCase):
+    """`udsnorm.testing`."""
+
+    def test_same(self):
+        testing.assert_same_session(VIN, EXAMPLES / "vin-fd-crlf.log")
+        testing.assert_same_session(VIN, VIN.read_bytes(), page="/nowhere/page.html")
+
+    def test_different(self):
+        with tempfile.TemporaryDirectory() as folder, path_with_program():
+            page, blf = Path(folder, "page.html"), Path(folder, "vin.blf")
+            blf.write_bytes(blf_of(VIN.read_bytes()))
+            with self.assertRaises(AssertionError) as caught:
+                testing.assert_same_session(blf, EXAMPLES / "lost-frame.log", page=page)
+            self.assertEqual(str(caught.exception).splitlines(), [
+                "the sessions differ at item 1",
+                f"--- {blf}",
+                f"+++ {EXAMPLES / 'lost-frame.log'}",
+                "@@ -1 +1,2 @@",
+                "+exchange ReadDataByIdentifier 22F190 -> unanswered",
+                " exchange ReadDataByIdentifier 22F190 -> positive 62F1905742413341354335304546313233343536",
+                f"both logs on a page: {page}",
+            ])
+            shown = page.read_bytes()
+            self.assertTrue(b"vin.blf" in shown and b"lost-frame.log" in shown and shown.rstrip().endswith(b"</html>"))
+
+    def test_long_sessions(self):
+        """The numbers are those of the whole lists, and however long both are, the message soon comes."""
+        log = b"".join(b"(%d.000000) can0 7E0#0322%04X\n" % (at, at % 65536) for at in range(20000))
+        other = log.replace(b"#03223A98", b"#03223A99")
+        with self.assertRaises(AssertionError) as caught:
+            testing.assert_same_session(log, other)
+        lines = str(caught.exception).splitlines()
+        self.assertEqual(lines[:4], ["the sessions differ at item 15001", "--- left", "+++ right", "@@ -14998,7 +14998,7 @@"])
+        self.assertEqual(lines[-1], "behind item 15997 nothing is compared")
+
+    def test_refused(self):
+        with self.assertRaisesRegex(udsnorm.Refused, "^right: line 1 column 1: not a log line$"):
+            testing.assert_same_session(VIN, b"x")
+
+
+@contextlib.contextmanager
+def path_with_program():
+    before = os.environ["PATH"]
+    os.environ["PATH"] = f"{Path(given.program).parent}:{before}"
+    try:
+        yield
+    finally:
+        os.environ["PATH"] = before
+
+
+class OtherTools(unittest.TestCase):
+    """Files that other tools made of the sample logs hold the frames of these. A tool refuses some of the logs."""
+
+    def setUp(self):
+        self.refused = []
+
+    def made(self, path, tool, *words, log=None):
+        """What a tool writes, None where it refuses the log of this path."""
+        if not shutil.which(tool):
+            self.skipTest(f"no {tool} is installed")
+        found = run(tool, words, log or b"")
+        self.refused += [path.name] if found.status else []
+        return None if found.status else found.output
+
+    def read(self, path):
+        """The frames of a file, of which nothing is left out."""
+        found = package(["convert", path])
+        self.assertEqual((found.status, b"left out" in found.error), (DONE, False), found.error)
+        return frames_of(found.output.decode().splitlines())
+
+    def test_log2asc(self):
+        with tempfile.TemporaryDirectory() as folder:
+            for path in LOGS:
+                interfaces = sorted(set(re.findall(r"\) +(\S+)", path.read_text())))
+                for more in ([], ["-f"]):
+                    made = Path(folder, f"{path.stem}.asc")
+                    if self.made(path, "log2asc", *more, "-I", path, "-O", made, *interfaces) is not None:
+                        with self.subTest(path.name):
+                            self.assertEqual(self.read(made), source_frames(path))
+        self.assertEqual(self.refused, [])
+
+    def test_log2long(self):
+        for path in LOGS:
+            shown = self.made(path, "log2long", log=path.read_bytes())
+            if shown is not None:
+                with self.subTest(path.name), tempfile.TemporaryDirectory() as folder:
+                    made = Path(folder, "shown.txt")
+                    made.write_bytes(shown)
+                    self.assertEqual(self.read(made), source_frames(path))
+        self.assertEqual(self.refused, ["single-frames.log"])
+
+    def test_tshark(self):
+        with tempfile.TemporaryDirectory() as folder:
+            for path in LOGS:
+                for kind in ("pcap", "nsecpcap", "pcapng"):
+                    made = Path(folder, f"made.{kind}")
+                    if self.made(path, "tshark", "-r", path, "-F", kind, "-w", made) is not None:
+                        with self.subTest(path=path.name, kind=kind):
+                            self.assertEqual(self.read(made), source_frames(path))
+        self.assertEqual(set(self.refused), {"candump-any.log", "candump-marks.log", "single-frames.log"})
+
+    def test_python_can(self):
+        """By the python-can of this Python, or of Debian's."""
+        python = next((one for one in ("python3", "/usr/bin/python3") if not run(one, ["-c", "import can"]).status), None)
+        if python is None:
+            self.skipTest("no python-can is installed")
+        with tempfile.TemporaryDirectory() as folder:
+            for path in LOGS:
+                text = path.read_text()
+                if re.search("_[9A-F]", text):
+                    # It can't read a raw length code, and its writer of databases then waits for ever.
+                    continue
+                # Its TRC has classic frames with data alone.
+                for suffix in ("asc", "blf", "csv", "db", *(() if "##" in text or "#R" in text else ("trc",))):
+                    made = Path(folder, f"{path.stem}.{suffix}")
+                    if self.made(path, python, "-c", CONVERT, path, made) is not None:
+                        found = run(python, ["-B", "-m", "udsnorm", "convert", made], env=environment())
+                        with self.subTest(path=path.name, suffix=suffix):
+                            self.assertEqual((found.status, b"left out" in found.error), (DONE, False), found.error)
+                            frames, want = frames_of(found.output.decode().splitlines()), source_frames(path)
+                            # Its CSV and its databases don't say which frames are of CAN FD.
+                            is_told = suffix not in ("csv", "db")
+                            self.assertEqual(*([one if is_told else bare(one) for one in each] for each in (frames, want)))
+        self.assertEqual(self.refused, [])
+
+
+def bare(frame):
+    """A frame without the sign of CAN FD."""
+    return (*frame[:2], frame[2].lstrip("#"))
+
+
+# How python-can writes a log as another file.
+CONVERT = """
+import sys, can
+writer = can.Logger(sys.argv[2])
+for message in can.LogReader(sys.argv[1]):
+    writer(message)
+writer.stop()
+"""
+LONG = samples.LONG
+
+
+def main():
+    words = argparse.ArgumentParser(description=__doc__, formatter_class=argparse.RawDescriptionHelpFormatter)
+    words.add_argument("program", type=os.path.abspath)
+    words.add_argument("library", type=Path)
+    words.add_argument("tests", nargs="*")
+    words.parse_args(namespace=given)
+    sys.path.insert(0, str(TOP / "python"))
+    # One that is loaded is found by its name.
+    ctypes.CDLL(str(given.library.resolve() / "libudsnorm.so"))
+    global udsnorm, formats, testing
+    udsnorm = importlib.import_module("udsnorm")
+    formats = importlib.import_module("udsnorm._formats")
+    testing = importlib.import_module("udsnorm.testing")
+    ended = unittest.main(argv=[sys.argv[0], *given.tests], exit=False, verbosity=1).result
+    for test, reason in ended.skipped:
+        print(f"skipped {test.id().rpartition('.')[2]}: {reason}", flush=True)
+    failed = len(ended.failures) + len(ended.errors)
+    print(f"{ended.testsRun - failed - len(ended.skipped)} passed, {failed} failed")
+    sys.exit(1 if failed else 0)
+
+
+main()
