@@ -322,6 +322,13 @@ class Tool(unittest.TestCase):
         self.assertEqual(self.same(["compare", "a.blf", "a.log"], ["compare", "a.log", "a.log"]).status, DONE)
         self.assertEqual(self.same(["compare", "--show", "a.blf", "lost.log"], ["compare", "--show", "a.log", "lost.log"]).status, DIFFERENT)
 
+    def test_paths_that_would_meet(self):
+        """A whole path, and the same from this folder on, are two logs."""
+        whole = self.put("run.blf", blf_of(VIN.read_bytes()))
+        inner = str(whole).lstrip("/")
+        self.put(inner, blf_of((EXAMPLES / "lost-frame.log").read_bytes()))
+        self.assertEqual(package(["compare", whole, inner], cwd=self.folder).status, DIFFERENT)
+
     def test_names_on_pages(self):
         """The page shows the names that were given: the last part, or the paths where both have one name."""
         for name in ("left/run.blf", "right/run.blf"):

@@ -7,7 +7,7 @@ import shutil
 import subprocess
 import sys
 from pathlib import Path
-from typing import BinaryIO, Optional, Sequence, Union
+from typing import BinaryIO, Dict, Optional, Sequence, Union
 
 from ._formats import Fault, Log, shown
 
@@ -44,12 +44,16 @@ class Folder:
 
     def __init__(self, root: str) -> None:
         self._root = Path(root)
+        self._sources: Dict[Path, str] = {}
 
-    def place_of(self, name: str) -> Path:
-        """Where the log of this name lies: an absolute path, or one with `..`, from the root of the file system on."""
+    def place_of(self, name: str, source: str) -> Path:
+        """Where the log of this name lies: an absolute path, or one with `..`, from the root of the file system on. Logs of
+        two sources lie in two places."""
         inside = Path(name)
         if inside.is_absolute() or ".." in inside.parts:
             inside = Path(os.path.abspath(name).lstrip("/"))
+        while self._sources.setdefault(inside, source) != source:
+            inside = "other" / inside
         place = self._root / inside
         place.parent.mkdir(parents=True, exist_ok=True)
         return place
@@ -58,12 +62,12 @@ class Folder:
         """The word that means here what this one means where the run was asked for."""
         if not is_other(word):
             if os.path.isfile(word) and not os.path.isabs(word):
-                place = self.place_of(word)
+                place = self.place_of(word, os.path.abspath(word))
                 if not place.is_symlink():
                     place.symlink_to(os.path.abspath(word))
                 return str(place.relative_to(self._root))
             return os.path.abspath(word) if os.path.exists(word) else word
-        place = self.place_of(word)
+        place = self.place_of(word, os.path.abspath(word))
         if not place.exists():
             with Log(word) as log:
                 _convert(log, place)
@@ -71,7 +75,7 @@ class Folder:
 
     def put(self, name: str, log: bytes) -> str:
         """The word that names a log of this name, which is put here."""
-        place = self.place_of(name)
+        place = self.place_of(name, f"log {len(self._sources)}")
         place.write_bytes(log)
         return str(place.relative_to(self._root))
 
