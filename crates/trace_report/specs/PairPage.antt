@@ -64,7 +64,7 @@ lettered_name log name = letter_mark log ++ name_text name
 abbrev pub pair_header : PairTitleValue → List ℕ
 pair_header title =
     codes "<div class=\"page\">\n<header>\n<p class=\"brand\">udsnorm report</p>\n<h1>" ++ lettered_name A title.left ++ codes "<br>"
-    ++ lettered_name B title.right ++ codes "</h1>\n" ++ identifiers_text title.tester title.unit ++ notice_with (codes "Items")
+    ++ lettered_name B title.right ++ codes "</h1>\n" ++ identifiers_text title.tester title.unit ++ notice_with (codes "Verdict") (codes "Items")
 
 -- the front of the page
 abbrev pub pair_front : PairTitleValue → List ℕ
