@@ -7,6 +7,7 @@ use Rattle.can_log.specs.Canonical.{identifier_text}
 use Rattle.can_log.specs.Digits.{hexadecimal}
 use Rattle.can_log.specs.declared.frame.Id.{Id}
 use Rattle.trace_log.specs.Settings.{Settings}
+use Rattle.trace_report.specs.Joined.{joined}
 use Rattle.trace_report.specs.Words.{is_within}
 
 -- a byte by its number: % and two digits
@@ -65,17 +66,18 @@ shapes_text =
     ++ codes "<g id=\"ue\"><line class=\"l\" x1=\"40%\" x2=\"100%\" y1=\"6\" y2=\"6\"/><svg x=\"40%\" overflow=\"visible\"><path class=\"k\" d=\"M-1 0v12m-5-12v12\"/></svg></g>\n"
     ++ codes "</defs></svg>\n"
 
--- the links of the page, which has this in its middle, and the notice of a page that breaks off, which the end of the
--- page hides
-abbrev pub notice_with : List ℕ → List ℕ
-notice_with middle =
-    codes "<p class=\"skip\"><a href=\"#verdict\">Verdict</a> <a href=\"#session\">" ++ middle ++ codes "</a> <a href=\"#help\">How to read this page</a></p>\n"
-    ++ codes "<p id=\"cut\" role=\"status\">This page has no end. What wrote it was stopped, or the file was cut, or the page is still loading: it tells nothing of the rest of the session.</p>\n"
-    ++ codes "</header>\n"
+-- the links of the page, of which the first is called `verdict` and the second `middle`; and the notice of a page that
+-- breaks off, which is hidden unless the style shows it, where the end of the page is missing
+abbrev pub notice_with : List ℕ → List ℕ → List ℕ
+notice_with verdict middle =
+    joined (codes "<p class=\"skip\"><a href=\"#verdict\">" ∷ verdict ∷ codes "</a> <a href=\"#session\">" ∷ middle
+    ∷ codes "</a> <a href=\"#help\">How to read this page</a></p>\n"
+    ∷ codes "<p id=\"cut\" role=\"status\" hidden>This page has no end. What wrote it was stopped, or the file was cut, or the page is still loading: it tells nothing of the rest of the session.</p>\n"
+    ∷ codes "</header>\n" ∷ [])
 
--- of one log
+-- of one log: its verdict is written last, which the style alone shows first and hides the word of
 abbrev pub notice_text : List ℕ
-notice_text = notice_with (codes "Session")
+notice_text = notice_with (codes "Verdict<span class=\"plain\">, at the end of this page</span>") (codes "Session")
 
 -- the two identifiers
 abbrev pub identifiers_text : Id → Id → List ℕ

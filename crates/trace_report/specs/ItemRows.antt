@@ -1,16 +1,17 @@
 -- The rows of a page of two sessions that tell items: one for each number, with the item of both logs. They stand in
 -- tables of 200, which fold.
-use Rattle.std.specs.Prelude.{ℕ, ◌+◌, ◌==◌, Bool, false, List, [], ◌∷◌, ◌++◌, codes, nat_le, Option, Some, None, unwrap_or, if◌then◌else◌}
+use Rattle.std.specs.Prelude.{ℕ, ◌+◌, ◌==◌, Bool, false, List, [], ◌∷◌, ◌++◌, codes, max, min, nat_le, Option, Some, None, unwrap_or, if◌then◌else◌}
 use Rattle.std.specs.Fmt.{decimal}
 use Rattle.uds_message.specs.Message.{is_suppressing}
 use Rattle.trace_report.specs.Blocks.{block_end, full_block, is_request_role}
 use Rattle.trace_report.specs.Contrast.{contrast_of, log_letter}
 use Rattle.trace_report.specs.Items.{RowMessage, PlacedItem, ItemPair, both, only_left, only_right}
-use Rattle.trace_report.specs.Rows.{asked_at, further_note, lines_text, role_words}
+use Rattle.trace_report.specs.Rows.{asked_at, further_note, named_lines, role_words}
 use Rattle.trace_report.specs.Words.{data_text, seconds_between}
 use Rattle.trace_report.specs.declared.contrast.Contrast.{Contrast}
 use Rattle.trace_report.specs.declared.contrast.LogName.{LogName}
 use Rattle.trace_report.specs.declared.contrast.LogName.TheVariants.{A, B}
+use Rattle.trace_report.specs.declared.row.MessagePlace.{MessagePlace}
 
 -- a message: what it is, and its bytes
 abbrev pub told_message : RowMessage → List ℕ
@@ -41,11 +42,16 @@ told_item item = told_message item.begin ++ told_reply_if (is_request_role item.
 abbrev pub last_message : PlacedItem → RowMessage
 last_message item = unwrap_or item.answer item.begin
 
+-- the lines of two messages, from the least to the greatest of their frames: one may begin before the other, and end
+-- behind it
+abbrev pub lines_of_both : MessagePlace → MessagePlace → List ℕ
+lines_of_both begin last = named_lines (min begin.first.line last.first.line) (max begin.last.line last.last.line)
+
 -- when an item was: its lines in this log, the time of its first message since the first frame, from whose unit no line
 -- break parts it, and how long after that its answer came
 abbrev pub item_note : LogName → ℕ → RowMessage → RowMessage → List ℕ
 item_note log origin begin last =
-    codes "<i>" ++ log_letter log ++ codes ": line " ++ lines_text begin.place.first.line last.place.last.line ++ codes ", "
+    codes "<i>" ++ log_letter log ++ codes ": " ++ lines_of_both begin.place last.place ++ codes ", "
     ++ seconds_between origin begin.place.last.micros ++ codes "&#160;s" ++ further_note (asked_at last.role) last.place.first.micros ++ codes "</i>"
 
 -- of an item

@@ -1,3 +1,4 @@
+pub mod Joined
 pub mod Words
 pub mod Front
 pub mod Targets

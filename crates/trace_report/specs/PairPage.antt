@@ -20,7 +20,7 @@ use Rattle.trace_report.specs.ItemRows.{pair_rows}
 use Rattle.trace_report.specs.Items.{ItemPair}
 use Rattle.trace_report.specs.Session.{SessionValue}
 use Rattle.trace_report.specs.Sorts.{counts_in}
-use Rattle.trace_report.specs.Verdict.{refusal_words, span_of, unclean_reason}
+use Rattle.trace_report.specs.Verdict.{refusal_words, span_of, unclean_reasons}
 use Rattle.trace_report.specs.declared.contrast.LogName.{LogName}
 use Rattle.trace_report.specs.declared.contrast.LogName.TheVariants.{A, B}
 use Rattle.trace_report.specs.declared.held_session.Held.{Held}
@@ -64,7 +64,7 @@ lettered_name log name = letter_mark log ++ name_text name
 abbrev pub pair_header : PairTitleValue → List ℕ
 pair_header title =
     codes "<div class=\"page\">\n<header>\n<p class=\"brand\">udsnorm report</p>\n<h1>" ++ lettered_name A title.left ++ codes "<br>"
-    ++ lettered_name B title.right ++ codes "</h1>\n" ++ identifiers_text title.tester title.unit ++ notice_with (codes "Items")
+    ++ lettered_name B title.right ++ codes "</h1>\n" ++ identifiers_text title.tester title.unit ++ notice_with (codes "Verdict") (codes "Items")
 
 -- the front of the page
 abbrev pub pair_front : PairTitleValue → List ℕ
@@ -82,7 +82,7 @@ same_verdict count =
 abbrev pub nothing_verdict : List ℕ
 nothing_verdict =
     codes "<section id=\"verdict\" class=\"warn\">\n<h2><span aria-hidden=\"true\">!</span> Neither session has an item</h2>\n"
-    ++ codes "<p>Other identifiers may be meant: see <code>--tester</code> and <code>--unit</code>.</p>\n"
+    ++ codes "<p>So they can't differ. Below stands what each recording has.</p>\n"
 
 -- that items before a difference are the same, where there are some
 abbrev pub same_before : ℕ → List ℕ
@@ -102,14 +102,12 @@ verdict_by count (Some first) = different_verdict first
 
 -- why a recording is not clean
 abbrev pub unclean_state : Summary → List ℕ
-unclean_state summary = codes "<b>The recording is not clean:</b> " ++ unclean_reason summary
+unclean_state summary = codes "<b>The recording is not clean:</b> " ++ unclean_reasons summary
 
 -- whether it is
 abbrev pub state_text : Summary → List ℕ
 state_text summary =
-    if summary.frames == 0 then codes "<b>No frame is of the tester or the unit.</b>"
-    else if is_clean summary then codes "The recording is clean."
-    else unclean_state summary
+    if is_clean summary then codes "The recording is clean." else unclean_state summary
 
 -- what was found of one log
 abbrev pub session_text : LogName → List ℕ → SessionValue → List ℕ

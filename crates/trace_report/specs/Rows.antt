@@ -93,6 +93,10 @@ several_lines first last = decimal first ++ codes "&#8211;" ++ decimal last
 abbrev pub lines_text : ℕ → ℕ → List ℕ
 lines_text first last = if first == last then decimal first else several_lines first last
 
+-- those lines, called so
+abbrev pub named_lines : ℕ → ℕ → List ℕ
+named_lines first last = if first == last then codes "line " ++ decimal first else codes "lines " ++ several_lines first last
+
 -- where a message stands: its number, its lines, and the time of its last frame since the time `origin`
 abbrev pub message_front : Bool → ℕ → MessageRole → MessagePlace → List ℕ
 message_front linked origin is place =

@@ -1,9 +1,10 @@
 -- The verdict of a report: whether the recording is clean, what needs a look, and all counts. It is known at the end,
 -- and written there; the style shows it first.
 use Rattle.std.specs.Fmt.{decimal}
-use Rattle.std.specs.Prelude.{ℕ, ◌==◌, ◌&&◌, Bool, List, [], ◌++◌, codes, if◌then◌else◌}
+use Rattle.std.specs.Prelude.{ℕ, ◌==◌, ◌&&◌, ◌||◌, not, nat_lt, Bool, List, [], ◌∷◌, ◌++◌, codes, if◌then◌else◌}
 use Rattle.trace_canon.specs.MessageLines.{stamp_text}
 use Rattle.trace_report.specs.Counts.{counts_text}
+use Rattle.trace_report.specs.Joined.{clause, joined}
 use Rattle.trace_report.specs.Links.{look_text}
 use Rattle.trace_report.specs.Words.{seconds_between}
 use Rattle.trace_log.specs.Summing.{is_clean}
@@ -23,12 +24,6 @@ span_text first last =
 abbrev pub span_of : ℕ → ℕ → ℕ → List ℕ
 span_of frames first last = if frames == 0 then [] else span_text first last
 
--- no frame is of the two sides
-abbrev pub empty_verdict : List ℕ
-empty_verdict =
-    codes "<section id=\"verdict\" class=\"warn\">\n<h2><span aria-hidden=\"true\">!</span> No frame of the tester or the unit</h2>\n"
-    ++ codes "<p>Other identifiers may be meant: see <code>--tester</code> and <code>--unit</code>."
-
 -- nothing of the two sides is known to be missing
 abbrev pub clean_verdict : List ℕ
 clean_verdict =
@@ -39,26 +34,58 @@ clean_verdict =
 abbrev pub unclean_start : List ℕ
 unclean_start = codes "<section id=\"verdict\" class=\"warn\">\n<h2><span aria-hidden=\"true\">!</span> The recording is not clean</h2>\n<p>"
 
--- of what was recorded nothing is in part
-abbrev pub is_whole : Summary → Bool
-is_whole summary = summary.dropped == 0 && (summary.ended == 0 && summary.unfinished == 0)
+-- no frame is of the two sides
+abbrev pub empty_start : List ℕ
+empty_start = codes "<section id=\"verdict\" class=\"warn\">\n<h2><span aria-hidden=\"true\">!</span> No frame of the tester or the unit</h2>\n<p>"
 
--- what it is: a frame of each side is wanted, all of what they sent, and the end of the last line
-abbrev pub unclean_reason : Summary → List ℕ
-unclean_reason summary =
-    if summary.tester_frames == 0 then codes "No frame is of the tester."
-    else if summary.unit_frames == 0 then codes "No frame is of the unit."
-    else if is_whole summary then codes "The log ends inside its last line: it may be cut."
-    else codes "Frames are missing, late, out of order or of no legal form. Messages that they belonged to are not below."
+-- of what was recorded something is in part
+abbrev pub is_partial : Summary → Bool
+is_partial summary = not (summary.dropped == 0) || (not (summary.ended == 0) || not (summary.unfinished == 0))
 
--- that, with its heading
+-- the log has bytes, the last of which is no line feed; one without bytes has no lines
+abbrev pub lacks_line_feed : Summary → Bool
+lacks_line_feed summary = nat_lt 0 summary.lines && not summary.ends_in_line_feed
+
+-- what was lost of its frames, in the words that `--strict` tells it
+abbrev pub lost_words : Summary → List ℕ
+lost_words summary =
+    joined (codes "<em>frames " ∷ decimal summary.frames ∷ codes " dropped " ∷ decimal summary.dropped ∷ codes " ended " ∷ decimal summary.ended
+    ∷ codes " unfinished " ∷ decimal summary.unfinished ∷ [])
+
+-- and what it lacks, in those words
+abbrev pub lacking_words : Summary → List ℕ
+lacking_words summary =
+    clause (summary.tester_frames == 0) (codes ", no frame of the tester") ++ clause (summary.unit_frames == 0) (codes ", no frame of the unit")
+    ++ clause (lacks_line_feed summary) (codes ", no line feed at the end") ++ codes ".</em>"
+
+-- what it means that no frame is of the two sides
+abbrev pub empty_words : Bool → List ℕ
+empty_words has_no_line =
+    if has_no_line then codes " The log is empty: it has no line."
+    else codes " Either no line has a frame, or other identifiers are meant: see <code>--tester</code> and <code>--unit</code>."
+
+-- what that means for the messages below
+abbrev pub meaning_words : Summary → List ℕ
+meaning_words summary =
+    clause (is_partial summary) (codes " Frames are missing, late, out of order or of no legal form. Messages that they belonged to are not below.")
+    ++ clause (lacks_line_feed summary) (codes " The log ends inside its last line: it may be cut.")
+    ++ clause (summary.frames == 0) (empty_words (summary.lines == 0))
+
+-- each reason why a log is not clean: a frame of each side is wanted, all of what they sent, and the end of the last line
+abbrev pub unclean_reasons : Summary → List ℕ
+unclean_reasons summary = lost_words summary ++ lacking_words summary ++ meaning_words summary
+
+-- the heading of a log that has no frame of the two sides, or is else not clean
+abbrev pub start_by : Bool → List ℕ
+start_by has_no_frame = if has_no_frame then empty_start else unclean_start
+
+-- each reason, with that
 abbrev pub unclean_verdict : Summary → List ℕ
-unclean_verdict summary = unclean_start ++ unclean_reason summary
+unclean_verdict summary = start_by (summary.frames == 0) ++ unclean_reasons summary
 
--- the heading, and its sentence
+-- the heading, and its sentences
 abbrev pub heading_text : Summary → List ℕ
-heading_text summary =
-    if summary.frames == 0 then empty_verdict else if is_clean summary then clean_verdict else unclean_verdict summary
+heading_text summary = if is_clean summary then clean_verdict else unclean_verdict summary
 
 -- whether each answer is positive, where there are so many requests, negative answers, and requests without an answer
 abbrev pub answers_text : ℕ → ℕ → ℕ → List ℕ

@@ -6,7 +6,8 @@ ghost use Rattle.trace_report.specs.proving.Pages.{title_of};
 
 use can_log::{Id, identifier_text};
 use trace_io::TextSink;
-use trace_text::say::{say_byte, say_text};
+use trace_text::Part;
+use trace_text::say::{say_byte, say_parts, say_text};
 
 /// What a page is made for: its style, the name of the log, and the identifiers.
 #[derive(Clone, Copy)]
@@ -173,27 +174,31 @@ fn say_identifier<S: TextSink>(id: Id, out: &mut S)
 fn say_notice<S: TextSink>(out: &mut S)
     ensures { S.says out.old notice_text out.new }
 {
-    say_notice_with("Session", out);
+    say_notice_with(
+        "Verdict<span class=\"plain\">, at the end of this page</span>",
+        "Session",
+        out,
+    );
 }
 
-/// Says the same with this link in the middle.
-pub(crate) fn say_notice_with<S: TextSink>(middle: &str, out: &mut S)
-    ensures { S.says out.old (notice_with middle.now) out.new }
+/// Says the same with a link to the verdict that is called so, and this one in the middle.
+pub(crate) fn say_notice_with<S: TextSink>(verdict: &'static str, middle: &'static str, out: &mut S)
+    ensures { S.says out.old (notice_with verdict.now middle.now) out.new }
 {
-    say_text(
+    say_parts(
         out,
-        "<p class=\"skip\"><a href=\"#verdict\">Verdict</a> <a href=\"#session\">",
+        &[
+            Part::Text("<p class=\"skip\"><a href=\"#verdict\">"),
+            Part::Text(verdict),
+            Part::Text("</a> <a href=\"#session\">"),
+            Part::Text(middle),
+            Part::Text("</a> <a href=\"#help\">How to read this page</a></p>\n"),
+            Part::Text(
+                "<p id=\"cut\" role=\"status\" hidden>This page has no end. What wrote it was stopped, or the file was cut, or the page is still loading: it tells nothing of the rest of the session.</p>\n",
+            ),
+            Part::Text("</header>\n"),
+        ],
     );
-    say_text(out, middle);
-    say_text(
-        out,
-        "</a> <a href=\"#help\">How to read this page</a></p>\n",
-    );
-    say_text(
-        out,
-        "<p id=\"cut\" role=\"status\">This page has no end. What wrote it was stopped, or the file was cut, or the page is still loading: it tells nothing of the rest of the session.</p>\n",
-    );
-    say_text(out, "</header>\n");
 }
 
 /// Says where the rows begin, with the filter.

@@ -2,7 +2,7 @@
 ghost use Rattle.std.specs.Prelude.{◌≡◌, ◌<◌, ◌+◌, ◌^◌, IfSome, length, option_map, take};
 ghost use Rattle.trace_report.specs.Blocks.{is_request_role as begins_exchange};
 ghost use Rattle.trace_report.specs.Items.{both, items_in, only_left, only_right, pairs_of};
-ghost use Rattle.trace_report.specs.ItemRows.{different_row, item_note, item_side, item_sides, next_table, no_answer_text, no_item, note_of, open_mark, pair_row, pair_rows, row_opening, same_row, table_opening, told_answer, told_item, told_message, told_reply, told_reply_if};
+ghost use Rattle.trace_report.specs.ItemRows.{different_row, item_note, item_side, item_sides, lines_of_both, next_table, no_answer_text, no_item, note_of, open_mark, pair_row, pair_rows, row_opening, same_row, table_opening, told_answer, told_item, told_message, told_reply, told_reply_if};
 ghost use Rattle.trace_report.specs.ItemRows as Spec;
 ghost use Rattle.trace_report.specs.Rows.{asked_at as time_asked, further_note};
 ghost use Rattle.trace_report.specs.proving.Holding.{held_rows, item_of, message_of, pair_of, taken_with};
@@ -12,8 +12,8 @@ use crate::blocks::{FULL_BLOCK, is_request_role, say_block_end};
 use crate::contrast::{LogName, contrast_of, say_log_letter};
 use crate::held_session::HeldRow;
 use crate::items::{LentItem, LentMessage, LentPair, NextPair, next_pair};
-use crate::message_rows::{asked_at, say_further_note, say_lines, say_role};
-use crate::row::MessageRole;
+use crate::message_rows::{asked_at, say_further_note, say_named_lines, say_role};
+use crate::row::{MessagePlace, MessageRole};
 use crate::words::{say_data, say_seconds_between};
 use trace_io::TextSink;
 use trace_text::say::{say_number, say_text};
@@ -320,13 +320,24 @@ fn say_item_note<S: TextSink>(
 {
     say_text(out, "<i>");
     say_log_letter(log, out);
-    say_text(out, ": line ");
-    say_lines(begin.place.first.line, last.place.last.line, out);
+    say_text(out, ": ");
+    say_lines_of_both(&begin.place, &last.place, out);
     say_text(out, ", ");
     say_seconds_between(origin, begin.place.last.micros, out);
     say_text(out, "&#160;s");
     say_reply_note(last.role, last.place.first.micros, out);
     say_text(out, "</i>");
+}
+
+/// Says the lines of two messages, each of which may begin or end outside the other one.
+fn say_lines_of_both<S: TextSink>(begin: &MessagePlace, last: &MessagePlace, out: &mut S)
+    ensures { S.says out.old (lines_of_both begin.now last.now) out.new }
+{
+    say_named_lines(
+        begin.first.line.min(last.first.line),
+        begin.last.line.max(last.last.line),
+        out,
+    );
 }
 
 /// Says how long after its request a message began, if it replies to one.

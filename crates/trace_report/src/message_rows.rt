@@ -1,6 +1,7 @@
 //! The rows of a report that tell messages.
-ghost use Rattle.std.specs.Prelude.{◌≡◌, true, false};
-ghost use Rattle.trace_report.specs.Rows.{after_alone, after_other, after_text, frames_note, further_note, item_cell, item_header, item_repeated, lines_text, message_front, message_row, negative_words, note_text, request_words, role_class, role_words, several_lines, single_note, stray_words};
+ghost use Rattle.std.specs.Fmt.{decimal};
+ghost use Rattle.std.specs.Prelude.{◌≡◌, ◌++◌, codes, true, false};
+ghost use Rattle.trace_report.specs.Rows.{after_alone, after_other, after_text, frames_note, further_note, item_cell, item_header, item_repeated, lines_text, message_front, message_row, named_lines, negative_words, note_text, request_words, role_class, role_words, several_lines, single_note, stray_words};
 ghost use Rattle.trace_report.specs.Rows as Spec;
 
 use crate::cells::{say_cell_end, say_cell_front};
@@ -140,6 +141,33 @@ fn say_several_lines<S: TextSink>(first: u64, last: u64, out: &mut S)
     say_number(out, first);
     say_text(out, "&#8211;");
     say_number(out, last);
+}
+
+/// Says the lines of the log from one to another, called so.
+pub(crate) fn say_named_lines<S: TextSink>(first: u64, last: u64, out: &mut S)
+    ensures { S.says out.old (named_lines first last) out.new }
+{
+    if first == last {
+        say_one_line(first, out);
+    } else {
+        say_more_lines(first, last, out);
+    }
+}
+
+/// Says a line of the log, called so.
+fn say_one_line<S: TextSink>(line: u64, out: &mut S)
+    ensures { S.says out.old (codes "line " ++ decimal line) out.new }
+{
+    say_text(out, "line ");
+    say_number(out, line);
+}
+
+/// Says several lines of the log, called so.
+fn say_more_lines<S: TextSink>(first: u64, last: u64, out: &mut S)
+    ensures { S.says out.old (codes "lines " ++ several_lines first last) out.new }
+{
+    say_text(out, "lines ");
+    say_several_lines(first, last, out);
 }
 
 /// Says what a message is to its item.

@@ -132,7 +132,7 @@ fn say_pair_header<S: TextSink>(title: &PairTitle<'_>, out: &mut S)
     say_lettered_name(LogName::B, title.right, out);
     say_text(out, "</h1>\n");
     say_identifiers(title.tester, title.unit, out);
-    say_notice_with("Items", out);
+    say_notice_with("Verdict", "Items", out);
 }
 
 /// Says a log by its letter and its name.

@@ -14,7 +14,7 @@ use crate::counts::say_counts;
 use crate::held_session::{Held, HeldSession};
 use crate::pair_page::{PairTitle, say_lettered_name};
 use crate::pairs::{FoundContrast, count_numbers, counts_of, first_difference};
-use crate::verdict::{say_span_of, say_unclean_reason};
+use crate::verdict::{say_span_of, say_unclean_reasons};
 use trace_io::TextSink;
 use trace_log::Summary;
 use trace_text::say::{say_number, say_place, say_text};
@@ -50,7 +50,7 @@ fn say_nothing_verdict<S: TextSink>(out: &mut S)
     );
     say_text(
         out,
-        "<p>Other identifiers may be meant: see <code>--tester</code> and <code>--unit</code>.</p>\n",
+        "<p>So they can't differ. Below stands what each recording has.</p>\n",
     );
 }
 
@@ -126,9 +126,7 @@ fn say_state_of<S: TextSink>(session: &HeldSession, out: &mut S)
 fn say_state<S: TextSink>(summary: &Summary, out: &mut S)
     ensures { S.says out.old (state_text summary.now) out.new }
 {
-    if summary.frames == 0 {
-        say_text(out, "<b>No frame is of the tester or the unit.</b>");
-    } else if summary.is_clean() {
+    if summary.is_clean() {
         say_text(out, "The recording is clean.");
     } else {
         say_unclean_state(summary, out);
@@ -140,7 +138,7 @@ fn say_unclean_state<S: TextSink>(summary: &Summary, out: &mut S)
     ensures { S.says out.old (unclean_state summary.now) out.new }
 {
     say_text(out, "<b>The recording is not clean:</b> ");
-    say_unclean_reason(summary, out);
+    say_unclean_reasons(summary, out);
 }
 
 /// Says the counts of a session.

@@ -13,13 +13,13 @@ body { margin: 0; background: var(--bg); color: var(--ink); font: 15px/1.45 syst
 header { order: 0; padding: 1.25rem 0 1rem; } #verdict { order: 1; } main { order: 2; } footer { order: 3; }
 h1 { font-size: 1.5rem; line-height: 1.2; margin: 0; overflow-wrap: anywhere; } h2 { font-size: 1.15rem; margin: 1.5rem 0 .5rem; }
 .brand { margin: 0 0 .15rem; color: var(--dim); font-size: .8rem; letter-spacing: .04em; }
-.ids, .skip { margin: .3rem 0 0; font-size: .9rem; } .ids span, .skip a { margin-right: 1rem; } .skip { font-size: .85rem; }
+.ids, .skip { margin: .3rem 0 0; font-size: .9rem; } .ids span, .skip a { margin-right: 1rem; } .skip { font-size: .85rem; } .plain { display: none; }
 .T { color: var(--t); font-weight: 600; } .U { color: var(--u); font-weight: 600; }
 a { color: inherit; text-underline-offset: .15em; } a:focus-visible, summary:focus-visible, input:focus-visible { outline: 2px solid var(--t); outline-offset: 2px; }
 code, samp { font: .8125rem/1.5 ui-monospace, \"DejaVu Sans Mono\", Menlo, Consolas, monospace; } samp { color: var(--dim); overflow-wrap: anywhere; }
 i { font-style: normal; color: var(--dim); font-size: .8125rem; } em { font-style: normal; font-weight: 600; overflow-wrap: anywhere; }
 mark { background: #ffd84d; color: #181b20; outline: 2px solid var(--ink); font-weight: 700; }
-#cut { display: none; margin: .8rem 0 0; padding: .6rem .9rem; border: 2px solid var(--bad); background: var(--badbg); color: var(--ink); }
+#cut { margin: .8rem 0 0; padding: .6rem .9rem; border: 2px solid var(--bad); background: var(--badbg); color: var(--ink); }
 @supports selector(:has(a)) { body:not(:has(#end)) #cut { display: block; } }
 #end { max-width: 72rem; margin: 0 auto; padding: 0 1.25rem 2rem; color: var(--dim); font-size: .8rem; }
 #verdict { border: 1px solid var(--rule); border-left: .4rem solid; padding: .9rem 1.1rem 1rem; border-radius: 4px; }

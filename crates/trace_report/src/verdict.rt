@@ -1,9 +1,10 @@
 //! The verdict of a report: its heading, whether each answer is positive, what needs a look, the counts, and the time
 //! that the log spans.
-ghost use Rattle.std.specs.Prelude.{◌≡◌};
+ghost use Rattle.std.specs.Prelude.{◌≡◌, ◌==◌};
+ghost use Rattle.trace_report.specs.Joined.{clause};
 ghost use Rattle.trace_report.specs.Links.{look_lines, look_list, look_text};
 ghost use Rattle.trace_report.specs.Links as Links;
-ghost use Rattle.trace_report.specs.Verdict.{answers_text, clean_verdict, empty_verdict, findings_text, heading_text, place_words, refusal_words, refused_heading, refused_verdict, span_of, span_text, stop_line, unclean_reason, unclean_verdict, verdict_text};
+ghost use Rattle.trace_report.specs.Verdict.{answers_text, clean_verdict, empty_words, findings_text, heading_text, lacking_words, lost_words, meaning_words, place_words, refusal_words, refused_heading, refused_verdict, span_of, span_text, start_by, stop_line, unclean_reasons, unclean_verdict, verdict_text};
 ghost use Rattle.trace_report.specs.Verdict as Spec;
 
 use crate::counts::{SortCounts, say_answers_of, say_counts};
@@ -12,7 +13,8 @@ use crate::tally::Tally;
 use crate::words::{say_seconds_between, say_stamp};
 use trace_io::TextSink;
 use trace_log::{Fault, Summary};
-use trace_text::say::{say_length, say_number, say_text};
+use trace_text::Part;
+use trace_text::say::{say_length, say_number, say_parts, say_text};
 
 /// Says the verdict of a log with this tally, whose first frame and last one have these times.
 pub(crate) fn say_verdict<S: TextSink>(
@@ -127,27 +129,11 @@ fn say_look_lines<S: TextSink>(tally: &Tally, out: &mut S)
 pub(crate) fn say_heading<S: TextSink>(summary: &Summary, out: &mut S)
     ensures { S.says out.old (heading_text summary.now) out.new }
 {
-    if summary.frames == 0 {
-        say_empty_verdict(out);
-    } else if summary.is_clean() {
+    if summary.is_clean() {
         say_clean_verdict(out);
     } else {
         say_unclean_verdict(summary, out);
     }
-}
-
-/// Says that no frame is of the two sides.
-fn say_empty_verdict<S: TextSink>(out: &mut S)
-    ensures { S.says out.old empty_verdict out.new }
-{
-    say_text(
-        out,
-        "<section id=\"verdict\" class=\"warn\">\n<h2><span aria-hidden=\"true\">!</span> No frame of the tester or the unit</h2>\n",
-    );
-    say_text(
-        out,
-        "<p>Other identifiers may be meant: see <code>--tester</code> and <code>--unit</code>.",
-    );
 }
 
 /// Says that nothing of the two sides is known to be missing.
@@ -168,36 +154,144 @@ fn say_clean_verdict<S: TextSink>(out: &mut S)
 fn say_unclean_verdict<S: TextSink>(summary: &Summary, out: &mut S)
     ensures { S.says out.old (unclean_verdict summary.now) out.new }
 {
-    say_text(
-        out,
-        "<section id=\"verdict\" class=\"warn\">\n<h2><span aria-hidden=\"true\">!</span> The recording is not clean</h2>\n<p>",
-    );
-    say_unclean_reason(summary, out);
+    say_start_by(summary.frames == 0, out);
+    say_unclean_reasons(summary, out);
 }
 
-/// Says why a recording is not clean.
-pub(crate) fn say_unclean_reason<S: TextSink>(summary: &Summary, out: &mut S)
-    ensures { S.says out.old (unclean_reason summary.now) out.new }
+/// Says the heading of a log that has no frame of the two sides, or is else not clean.
+fn say_start_by<S: TextSink>(has_no_frame: bool, out: &mut S)
+    ensures { S.says out.old (start_by has_no_frame) out.new }
 {
-    if summary.tester_frames == 0 {
-        say_text(out, "No frame is of the tester.");
-    } else if summary.unit_frames == 0 {
-        say_text(out, "No frame is of the unit.");
-    } else if is_whole(summary) {
-        say_text(out, "The log ends inside its last line: it may be cut.");
+    if has_no_frame {
+        say_text(
+            out,
+            "<section id=\"verdict\" class=\"warn\">\n<h2><span aria-hidden=\"true\">!</span> No frame of the tester or the unit</h2>\n<p>",
+        );
     } else {
         say_text(
             out,
-            "Frames are missing, late, out of order or of no legal form. Messages that they belonged to are not below.",
+            "<section id=\"verdict\" class=\"warn\">\n<h2><span aria-hidden=\"true\">!</span> The recording is not clean</h2>\n<p>",
         );
     }
 }
 
-/// Whether of what was recorded nothing is in part.
-fn is_whole(summary: &Summary) -> bool
-    ensures { result ≡ Spec.is_whole summary.now }
+/// Says each reason why a recording is not clean.
+pub(crate) fn say_unclean_reasons<S: TextSink>(summary: &Summary, out: &mut S)
+    ensures { S.says out.old (unclean_reasons summary.now) out.new }
 {
-    summary.dropped == 0 && summary.ended == 0 && summary.unfinished == 0
+    say_lost_words(summary, out);
+    say_lacking_words(summary, out);
+    say_meaning_words(summary, out);
+}
+
+/// Says what was lost of its frames, in the words that `--strict` tells it.
+fn say_lost_words<S: TextSink>(summary: &Summary, out: &mut S)
+    ensures { S.says out.old (lost_words summary.now) out.new }
+{
+    say_parts(
+        out,
+        &[
+            Part::Text("<em>frames "),
+            Part::Number(summary.frames),
+            Part::Text(" dropped "),
+            Part::Number(summary.dropped),
+            Part::Text(" ended "),
+            Part::Number(summary.ended),
+            Part::Text(" unfinished "),
+            Part::Number(summary.unfinished),
+        ],
+    );
+}
+
+/// Says what it lacks, in those words.
+fn say_lacking_words<S: TextSink>(summary: &Summary, out: &mut S)
+    ensures { S.says out.old (lacking_words summary.now) out.new }
+{
+    say_clause(summary.tester_frames == 0, ", no frame of the tester", out);
+    say_clause(summary.unit_frames == 0, ", no frame of the unit", out);
+    say_if_cut(summary, ", no line feed at the end", out);
+    say_text(out, ".</em>");
+}
+
+/// Says what that means for the messages.
+fn say_meaning_words<S: TextSink>(summary: &Summary, out: &mut S)
+    ensures { S.says out.old (meaning_words summary.now) out.new }
+{
+    say_if_partial(
+        summary,
+        " Frames are missing, late, out of order or of no legal form. Messages that they belonged to are not below.",
+        out,
+    );
+    say_if_cut(
+        summary,
+        " The log ends inside its last line: it may be cut.",
+        out,
+    );
+    say_if_empty(summary, out);
+}
+
+/// Says a text, where of what was recorded something is in part.
+fn say_if_partial<S: TextSink>(summary: &Summary, text: &'static str, out: &mut S)
+    ensures { S.says out.old (clause (Spec.is_partial summary.now) text.now) out.new }
+{
+    if is_partial(summary) {
+        say_text(out, text);
+    }
+}
+
+/// Says a text, where the log lacks its last line feed.
+fn say_if_cut<S: TextSink>(summary: &Summary, text: &'static str, out: &mut S)
+    ensures { S.says out.old (clause (Spec.lacks_line_feed summary.now) text.now) out.new }
+{
+    if lacks_line_feed(summary) {
+        say_text(out, text);
+    }
+}
+
+/// Says what it means that no frame is of the two sides, where none is.
+fn say_if_empty<S: TextSink>(summary: &Summary, out: &mut S)
+    ensures { S.says out.old (clause (summary.now.frames == 0) (empty_words (summary.now.lines == 0))) out.new }
+{
+    if summary.frames == 0 {
+        say_empty_words(summary.lines == 0, out);
+    }
+}
+
+/// Says what it means that no frame is of the two sides.
+fn say_empty_words<S: TextSink>(has_no_line: bool, out: &mut S)
+    ensures { S.says out.old (empty_words has_no_line) out.new }
+{
+    if has_no_line {
+        say_text(out, " The log is empty: it has no line.");
+    } else {
+        say_text(
+            out,
+            " Either no line has a frame, or other identifiers are meant: see <code>--tester</code> and <code>--unit</code>.",
+        );
+    }
+}
+
+/// Says a text, where it is so.
+fn say_clause<S: TextSink>(holds: bool, text: &'static str, out: &mut S)
+    ensures { S.says out.old (clause holds text.now) out.new }
+{
+    if holds {
+        say_text(out, text);
+    }
+}
+
+/// Whether of what was recorded something is in part.
+fn is_partial(summary: &Summary) -> bool
+    ensures { result ≡ Spec.is_partial summary.now }
+{
+    summary.dropped != 0 || summary.ended != 0 || summary.unfinished != 0
+}
+
+/// Whether the log has bytes, the last of which is no line feed.
+fn lacks_line_feed(summary: &Summary) -> bool
+    ensures { result ≡ Spec.lacks_line_feed summary.now }
+{
+    summary.lines > 0 && !summary.ends_in_line_feed
 }
 
 /// Says whether each answer is positive, where something was asked.

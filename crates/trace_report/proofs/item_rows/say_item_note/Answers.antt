@@ -4,7 +4,7 @@ pub returns : goal.returns
 returns g c =
     g.met.S.TextSink.onward _ _ _ _ _ (g.met.S.TextSink.onward _ _ _ _ _ (g.met.S.TextSink.onward _ _ _ _ _ (g.met.S.TextSink.onward _ _ _ _ _ (g.met.S.TextSink.onward _ _ _ _ _ (g.met.S.TextSink.onward _ _ _ _ _ (g.met.S.TextSink.onward _ _ _ _ _ (g.met.S.TextSink.onward _ _ _ _ _ c.say_text.ensures c.say_log_letter.ensures)
     c.say_text-2.ensures)
-    c.say_lines.ensures)
+    c.say_lines_of_both.ensures)
     c.say_text-3.ensures)
     c.say_seconds_between.ensures)
     c.say_text-4.ensures)
