@@ -11,7 +11,7 @@ use Rattle.trace_log.specs.declared.summary.Summary.{Summary}
 use Rattle.trace_io.specs.declared.device.Source.{Ghosts as SourceGhosts}
 use Rattle.trace_io.specs.declared.device.Target.{Ghosts as TargetGhosts}
 use Rattle.trace_io.specs.Counted.{CountedReader}
-use Rattle.udsnorm.specs.Asked.{Did, DidAsked, DidWords, IsDone, IsDoneBy, IsLogOf, IsUnread, ToldWords}
+use Rattle.udsnorm.specs.Asked.{Did, DidAsked, DidWords, IsDone, IsDoneBy, ToldWords}
 use Rattle.udsnorm.specs.Opening.{Saying, opened, two_files}
 use Rattle.udsnorm.specs.Ending.{flushes, has_unclean, is_unclean, status_of_run_of_two}
 use Rattle.udsnorm.specs.Commands.{EngineAnswers, PairEngineAnswers}
