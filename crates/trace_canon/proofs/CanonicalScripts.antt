@@ -136,7 +136,7 @@ module _ (settings : Settings) where
           front = begins.1 ∙ ap (λ x. x ++ begins.0) (sym (whole_is log wrote.meanings) ∙ wrote.front) ∙ append_assoc wrote.written wrote.missing begins.0;
         }
 
-    writes_eagerly_told : TellsEagerly (canonical_script settings) MESSAGE_LIMIT settings log given old new → WritesEagerly MESSAGE_LIMIT settings log given old new
+    pub writes_eagerly_told : TellsEagerly (canonical_script settings) MESSAGE_LIMIT settings log given old new → WritesEagerly MESSAGE_LIMIT settings log given old new
     writes_eagerly_told eager =
         record { meanings = eager.meanings; read = eager.read; more = eager.more; wrote = eager.wrote ∙ ap (λ text. old ++ (text ++ eager.more)) (early_is eager.meanings) }
 

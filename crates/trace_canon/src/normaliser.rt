@@ -3,7 +3,7 @@ ghost use Rattle.std.specs.Prelude.{◌≡◌, ◌-◌, ◌++◌, ℕ, List, len
 ghost use Rattle.direction.specs.Dir.{Message};
 ghost use Rattle.isotp_receive.specs.declared.TheConstants.{MESSAGE_LIMIT};
 ghost use Rattle.uds_exchange.specs.Meaning.{meaning, flattened};
-ghost use Rattle.trace_log.specs.Answers.{Answers, ReadsWhile};
+ghost use Rattle.trace_log.specs.Answers.{Answers, ReadsWhile, WritesEagerly};
 ghost use Rattle.trace_log.specs.CanonicalLog.{canonical_log};
 ghost use Rattle.trace_canon.specs.CanonicalScript.{StandsCanonical};
 ghost use Rattle.trace_log.specs.Devices.{ReadFrom, WroteTo};
@@ -39,6 +39,10 @@ pub fn normalise<R: Source, W: Target>(
     // What is answered and written, for each log with which the bytes that were read agree.
     ensures answer { (log : List ℕ) → Agrees (R.given reader.old) (R.given reader.new) (R.is_over reader.new) log
         → Answers MESSAGE_LIMIT config.now log (length (R.given reader.new) - length (R.given reader.old)) result (W.taken writer.old) (W.taken writer.new) }
+
+    // Before each read all is written whose place the lines so far decide.
+    ensures eager { (log : List ℕ) → Agrees (R.given reader.old) (R.given reader.new) (R.is_over reader.new) log
+        → WritesEagerly MESSAGE_LIMIT config.now log (length (R.given reader.new) - length (R.given reader.old)) (W.taken writer.old) (W.taken writer.new) }
 
     // What is written is accepted, is its own canonical log, and has the meaning of the log.
     ensures again { (log : List ℕ) → Agrees (R.given reader.old) (R.given reader.new) (R.is_over reader.new) log
