@@ -1,6 +1,6 @@
 -- What was done where the exit status is 0.
-use Rattle.std.proofs.Common.{◌≡◌, ◌≤◌, ◌+◌, ℕ, inl, inr, List, ◌++◌, Option, Some, None, Result, Ok, Err, arith, ap, sym, subst, ◌∙◌, Bool, false}
-use Rattle.std.specs.Prelude.{string_bytes}
+use Rattle.std.proofs.Common.{◌≡◌, [], refl, ◌≤◌, ◌+◌, ℕ, inl, inr, List, ◌++◌, Option, Some, None, Result, Ok, Err, arith, ap, sym, subst, ◌∙◌, Bool, false}
+use Rattle.std.specs.Prelude.{OnOk, string_bytes}
 use Rattle.isotp_receive.specs.declared.TheConstants.{MESSAGE_LIMIT}
 use Rattle.clap.specs.Walk.{Text}
 use Rattle.trace_log.specs.Settings.{Settings}
@@ -10,7 +10,9 @@ use Rattle.trace_log.specs.declared.fault.Fault.{Fault}
 use Rattle.trace_log.specs.declared.summary.Summary.{Summary}
 use Rattle.trace_io.specs.declared.device.Source.{Ghosts as SourceGhosts}
 use Rattle.trace_io.specs.declared.device.Target.{Ghosts as TargetGhosts}
+use Rattle.trace_io.specs.Counted.{CountedReader}
 use Rattle.udsnorm.specs.Asked.{Did, DidAsked, DidWords, IsDone, IsDoneBy, ToldWords}
+use Rattle.udsnorm.specs.Opening.{Saying, opened, two_files}
 use Rattle.udsnorm.specs.Ending.{flushes, has_unclean, is_unclean, status_of_run_of_two}
 use Rattle.udsnorm.specs.Commands.{EngineAnswers, PairEngineAnswers}
 use Rattle.udsnorm.specs.Values.{page_name, page_name_beside}
@@ -26,6 +28,26 @@ use Rattle.udsnorm.specs.declared.job.WordsFault.{WordsFault}
 use Rattle.udsnorm.specs.declared.job.WordsFault.TheVariants as words
 use Rattle.udsnorm.proofs.Pairs.{accepted_pair, same_of_zero}
 use Rattle.udsnorm.proofs.Statuses.{agrees_from_start, answers_from_start, answers_on_more, summary_of_done}
+
+abbrev pub given_by : {F : Type 0} → CountedReader F → List ℕ
+given_by log = log.given
+
+-- a file through which nothing was read
+abbrev fresh : {F : Type 0} → F → CountedReader F
+fresh log = record { inner = log; reads = 0; failures = 0; is_over = false; given = [] }
+
+-- what is said of a file is said of it where it is to be read
+pub opened_as : {F : Type 0} (says : Saying F → Type 0) {name : List ℕ} {log : F} {reader : CountedReader F} → reader ≡ fresh log → says (opened name log) → says (opened name reader.inner)
+opened_as {F} says {name} is told = subst (λ (r : CountedReader F). says (opened name r.inner)) (sym is) told
+
+pub two_files_as : {F : Type 0} (says : Saying F → Type 0) {one other : F} {left right : CountedReader F} → left ≡ fresh one → right ≡ fresh other
+    → says (two_files one other) → says (two_files left.inner right.inner)
+two_files_as {F} says {one} {other} {left} is_left is_right told =
+    subst (λ (r : CountedReader F). says (two_files left.inner r.inner)) (sym is_right) (subst (λ (l : CountedReader F). says (two_files l.inner other)) (sym is_left) told)
+
+-- what holds of an answer that is well
+of_well : {A E X : Type 0} {answer : Result A E} {value : A} → answer ≡ Ok value → OnOk answer X → X
+of_well {A} {E} {X} is holds = subst (λ (a : Result A E). OnOk a X) is holds
 
 is_not_four : (status : ℕ) → status ≡ 0 → status ≡ 4 → ⊥
 is_not_four status zero four = absurd (omega (arith, zero, four))
@@ -51,45 +73,61 @@ accepted : (job : Job) (name : List ℕ) (strict : Bool) (settings : Settings) (
     → (summary : Summary) × (is_unclean strict summary ≡ false) × EngineAnswers job name MESSAGE_LIMIT settings log n (Ok summary) old new
 accepted job name strict settings log n answer old new engine is = (is.0, is.2, subst (λ a. EngineAnswers job name MESSAGE_LIMIT settings log n a old new) is.1 engine)
 
-done_by : {F R W E : Type 0} (file : SourceGhosts F) (source : SourceGhosts R) (output : TargetGhosts W) (errors : TargetGhosts E) (asked : Result Plan WordsFault)
+done_by : {F R W E : Type 0} (says : Saying F → Type 0) (file : SourceGhosts (CountedReader F)) (source : SourceGhosts R) (output : TargetGhosts W) (errors : TargetGhosts E) (asked : Result Plan WordsFault)
     (before : R) (old : W) (unsaid : E) (status : ℕ) (known : Option Known) (after : R) (new : W) (said : E) (log : List ℕ)
-    → DidAsked file source output errors asked before old unsaid status known after new said
-    → status ≡ 0 → source.given after ≡ source.given before ++ log → IsDoneBy asked log (output.taken old) (output.taken new)
-done_by file source output errors (Ok (One job strict settings None)) before old unsaid status known after new said log (outcome, ran, known_is) zero grown =
+    → DidAsked says file source output errors asked before old unsaid status known after new said
+    → status ≡ 0 → source.given after ≡ source.given before ++ log → IsDoneBy says file asked log (output.taken old) (output.taken new)
+done_by says file source output errors (Ok (One job strict settings None)) before old unsaid status known after new said log (outcome, ran, known_is) zero grown =
     let is = summary_of_done strict (flushes ran.answer (output.taken new)) ran.answer outcome status ran.comes ran.status_is zero in
     accepted job (page_name None) strict settings log _ ran.answer (output.taken old) (output.taken new)
     (answers_on_more job (page_name None) MESSAGE_LIMIT settings (source.given before) (source.given after) log (source.is_over after) ran.answer (output.taken old) (output.taken new) grown ran.engine) is
-done_by file source output errors (Ok (One job strict settings (Some name))) before old unsaid status known after new said log (same, inl found) zero grown =
+done_by says file source output errors (Ok (One job strict settings (Some name))) before old unsaid status known after new said log (same, inl found) zero grown =
     let ran = found.ran in
     let log = file.given found.left in
     let is = summary_of_done strict (flushes ran.answer (output.taken new)) ran.answer found.outcome status ran.comes ran.status_is zero in
     let done = accepted job (page_name (Some (string_bytes name))) strict settings log _ ran.answer (output.taken old) (output.taken new)
-    (answers_from_start job (page_name (Some (string_bytes name))) MESSAGE_LIMIT settings (file.given found.opened) log (file.is_over found.left) ran.answer (output.taken old) (output.taken new) found.from_start ran.engine) is in
-    (log, done.0, done.1, done.2)
-done_by file source output errors (Ok (One job strict settings (Some name))) before old unsaid status known after new said log (same, inr unopened) zero grown =
-    absurd (is_not_four status zero unopened.0)
-done_by file source output errors (Ok (Two job strict settings left right)) before old unsaid status known after new said log (same, inl found) zero grown =
+    (answers_from_start job (page_name (Some (string_bytes name))) MESSAGE_LIMIT settings (file.given found.log) log (file.is_over found.left) ran.answer (output.taken old) (output.taken new) found.unread.from_start ran.engine) is in (
+      log,
+      record { opened = found.log; unread = found.unread; read = found.left; gave = refl; over = of_well is.1 ran.read.over },
+      done.0,
+      done.1,
+      done.2,
+    )
+done_by says file source output errors (Ok (One job strict settings (Some name))) before old unsaid status known after new said log (same, inr unopened) zero grown =
+    absurd (is_not_four status zero unopened.status_is)
+done_by says file source output errors (Ok (Two job strict settings left right)) before old unsaid status known after new said log (same, inl found) zero grown =
     let ran = found.ran in
     let one = file.given found.one_left in
     let other = file.given found.other_left in
-    let engine = ran.engine one other (agrees_from_start (file.given found.one) one (file.is_over found.one_left) found.from_start)
-    (agrees_from_start (file.given found.other) other (file.is_over found.other_left) found.from_start_too) in
+    let engine = ran.engine one other (agrees_from_start (file.given found.one) one (file.is_over found.one_left) found.one_unread.from_start)
+    (agrees_from_start (file.given found.other) other (file.is_over found.other_left) found.other_unread.from_start) in
     let done = same_of_done output job (page_name_beside (string_bytes left) (string_bytes right)) (page_name_beside (string_bytes right) (string_bytes left)) strict ran.wrote settings one other ran.answer ran.text status old new engine
     ran.status_is ran.output_is zero in
-    (one, other, ran.text, done.0, done.1, done.2, done.3, done.4)
-done_by file source output errors (Ok (Two job strict settings left right)) before old unsaid status known after new said log (same, inr (inl unopened)) zero grown =
-    absurd (is_not_four status zero unopened.0)
-done_by file source output errors (Ok (Two job strict settings left right)) before old unsaid status known after new said log (same, inr (inr (inl unopened))) zero grown =
-    absurd (is_not_four status zero unopened.0)
-done_by file source output errors (Ok (Two job strict settings left right)) before old unsaid status known after new said log (same, inr (inr (inr one))) zero grown =
-    absurd (omega (arith, one.0, zero))
-done_by file source output errors (Err (words.Help text)) before old unsaid status known after new said log (same, known_is, inl told) zero grown = told.1
-done_by file source output errors (Err (words.Help text)) before old unsaid status known after new said log (same, known_is, inr failed) zero grown =
+    let well = accepted_pair strict ran.wrote ran.answer status ran.status_is (omega (arith, zero)) in (
+      one,
+      other,
+      ran.text,
+      record { opened = found.one; unread = found.one_unread; read = found.one_left; gave = refl; over = of_well well.2 ran.left_read.over },
+      record { opened = found.other; unread = found.other_unread; read = found.other_left; gave = refl; over = of_well well.2 ran.right_read.over },
+      done.0,
+      done.1,
+      done.2,
+      done.3,
+      done.4,
+    )
+done_by says file source output errors (Ok (Two job strict settings left right)) before old unsaid status known after new said log (same, inr (inl unopened)) zero grown =
+    absurd (is_not_four status zero unopened.status_is)
+done_by says file source output errors (Ok (Two job strict settings left right)) before old unsaid status known after new said log (same, inr (inr (inl unopened))) zero grown =
+    absurd (is_not_four status zero unopened.status_is)
+done_by says file source output errors (Ok (Two job strict settings left right)) before old unsaid status known after new said log (same, inr (inr (inr one))) zero grown =
+    absurd (omega (arith, one.status_is, zero))
+done_by says file source output errors (Err (words.Help text)) before old unsaid status known after new said log (same, known_is, inl told) zero grown = told.1
+done_by says file source output errors (Err (words.Help text)) before old unsaid status known after new said log (same, known_is, inr failed) zero grown =
     absurd (is_not_four status zero failed.0)
-done_by file source output errors (Err (words.Words text)) before old unsaid status known after new said log (same, known_is, did) zero grown = absurd (omega (arith, did.0, zero))
-done_by file source output errors (Err words.Identifier) before old unsaid status known after new said log (same, known_is, did) zero grown = absurd (omega (arith, did.0, zero))
-done_by file source output errors (Err (words.Config reason)) before old unsaid status known after new said log (same, known_is, did) zero grown = absurd (omega (arith, did.0, zero))
-done_by file source output errors (Err words.Memory) before old unsaid status known after new said log (same, known_is, did) zero grown = absurd (omega (arith, did.0, zero))
+done_by says file source output errors (Err (words.Words text)) before old unsaid status known after new said log (same, known_is, did) zero grown = absurd (omega (arith, did.0, zero))
+done_by says file source output errors (Err words.Identifier) before old unsaid status known after new said log (same, known_is, did) zero grown = absurd (omega (arith, did.0, zero))
+done_by says file source output errors (Err (words.Config reason)) before old unsaid status known after new said log (same, known_is, did) zero grown = absurd (omega (arith, did.0, zero))
+done_by says file source output errors (Err words.Memory) before old unsaid status known after new said log (same, known_is, did) zero grown = absurd (omega (arith, did.0, zero))
 
 -- a run over a log of one name is one over the log of the same name
 pub ran_named : {R W E : Type 0} {source : SourceGhosts R} {output : TargetGhosts W} {errors : TargetGhosts E} {job : Job} {name other : List ℕ} {strict : Bool} {limit : ℕ} {settings : Settings}
@@ -112,20 +150,20 @@ ran_named_two {left = left} {right = right} {output = output} {errors = errors} 
     (subst (λ (called : List ℕ). RanTwo left right output errors job called other_name strict limit settings one other old unsaid status written one_now other_now new said) first ran)
 
 -- what was done of a plan was done of its equal
-pub did_of_equal : {F R W E : Type 0} (file : SourceGhosts F) (source : SourceGhosts R) (output : TargetGhosts W) (errors : TargetGhosts E) (plan other : Plan)
+pub did_of_equal : {F R W E : Type 0} (says : Saying F → Type 0) (file : SourceGhosts (CountedReader F)) (source : SourceGhosts R) (output : TargetGhosts W) (errors : TargetGhosts E) (plan other : Plan)
     (before : R) (old : W) (unsaid : E) (status : ℕ) (known : Option Known) (after : R) (new : W) (said : E) → plan ≡ other
-    → Did file source output errors other before old unsaid status known after new said → Did file source output errors plan before old unsaid status known after new said
-did_of_equal file source output errors plan other before old unsaid status known after new said same did =
-    subst (λ (p : Plan). Did file source output errors p before old unsaid status known after new said) (sym same) did
+    → Did says file source output errors other before old unsaid status known after new said → Did says file source output errors plan before old unsaid status known after new said
+did_of_equal says file source output errors plan other before old unsaid status known after new said same did =
+    subst (λ (p : Plan). Did says file source output errors p before old unsaid status known after new said) (sym same) did
 
 -- what was done of the words
-pub is_done : {F R W E : Type 0} (file : SourceGhosts F) (source : SourceGhosts R) (output : TargetGhosts W) (errors : TargetGhosts E) (given : List Text) (asked : Result Plan WordsFault)
-    (before : R) (old : W) (unsaid : E) (status : ℕ) (known : Option Known) (after : R) (new : W) (said : E) → DidWords file source output errors given asked before old unsaid status known after new said
-    → status ≡ 0 → (log : List ℕ) → source.given after ≡ source.given before ++ log → IsDone given log (output.taken old) (output.taken new)
-is_done file source output errors given asked before old unsaid status known after new said did zero log grown = record {
+pub is_done : {F R W E : Type 0} (says : Saying F → Type 0) (file : SourceGhosts (CountedReader F)) (source : SourceGhosts R) (output : TargetGhosts W) (errors : TargetGhosts E) (given : List Text) (asked : Result Plan WordsFault)
+    (before : R) (old : W) (unsaid : E) (status : ℕ) (known : Option Known) (after : R) (new : W) (said : E) → DidWords says file source output errors given asked before old unsaid status known after new said
+    → status ≡ 0 → (log : List ℕ) → source.given after ≡ source.given before ++ log → IsDone says file given log (output.taken old) (output.taken new)
+is_done says file source output errors given asked before old unsaid status known after new said did zero log grown = record {
   asked = asked;
   planned = did.planned;
-  done = done_by file source output errors asked before old unsaid status known after new said log did.did zero grown;
+  done = done_by says file source output errors asked before old unsaid status known after new said log did.did zero grown;
 }
 
 -- ---- of words that ask for nothing

@@ -11,9 +11,9 @@ pub ran_any : {R W : Type 0} (source : SourceGhosts R) (target : TargetGhosts W)
     → RanBy source target engine limit settings before old result after new → RanAny source target engine limit settings before old result after new
 ran_any source target normalises limit settings before old result after new ran = ran
 ran_any source target (writes text) limit settings before old result after new ran =
-    record { answer = ran.answer; memory = ran.memory; near = ran.near; read = ran.read; wrote = ran.wrote }
+    record { answer = ran.answer; eager = λ log agrees. tt; memory = ran.memory; near = ran.near; read = ran.read; wrote = ran.wrote }
 ran_any source target (finds notation) limit settings before old result after new ran =
-    record { answer = ran.answer; memory = ran.memory; near = ran.near; read = ran.read; wrote = ran.wrote }
+    record { answer = ran.answer; eager = λ log agrees. tt; memory = ran.memory; near = ran.near; read = ran.read; wrote = ran.wrote }
 ran_any source target (runs script needs) limit settings before old result after new ran =
-    record { answer = ran.run.answer; memory = ran.run.memory; near = ran.near; read = ran.run.read; wrote = ran.run.wrote }
+    record { answer = ran.run.answer; eager = ran.run.eager; memory = ran.run.memory; near = ran.near; read = ran.run.read; wrote = ran.run.wrote }
 ran_any source target (runs_in_style script) limit settings before old result after new ran = ran

@@ -1,14 +1,14 @@
 -- The commands of the program: the options and files of each, as the parser takes them, the task that it asks for, and
 -- what the engine answers and reads that does its job. A command is one entry of `command_entries`, and its job a case
 -- of `engine_of`; or, where it is over two logs, of `left_file`, `right_file`, `has_text` and `engine_of_pair`.
-use Rattle.std.specs.Prelude.{◌≡◌, ◌⊎◌, ◌-◌, ℕ, length, Bool, true, false, not, List, [], ◌∷◌, ◌++◌, map, Some, None, Option, Result, Ok, Err, codes, bytes_eq, if◌then◌else◌}
+use Rattle.std.specs.Prelude.{◌≡◌, ⊤, ◌⊎◌, ◌-◌, ℕ, length, Bool, true, false, not, List, [], ◌∷◌, ◌++◌, map, Some, None, Option, Result, Ok, Err, codes, bytes_eq, if◌then◌else◌}
 use Rattle.clap.specs.Faults.{fault_of}
 use Rattle.clap.specs.Kinds.{Kinds}
 use Rattle.clap.specs.Simple.{App, Shape, new_rule, new_shape, subcommand_of}
 use Rattle.clap.specs.Walk.{Row, Rule, Text, first_of}
 use Rattle.clap.specs.declared.builder.action.ArgAction.TheVariants.{SetTrue}
 use Rattle.clap.specs.declared.builder.value_parser.ValueParser.TheVariants.{Unsigned}
-use Rattle.trace_log.specs.Answers.{Answers, ReadsWhile}
+use Rattle.trace_log.specs.Answers.{Answers, ReadsWhile, WritesEagerly}
 use Rattle.trace_canon.specs.Compared.{Compares, fault_in}
 use Rattle.trace_canon.specs.ComparisonText.{comparison_text}
 use Rattle.trace_log.specs.Devices.{ReadFrom, WroteTo}
@@ -21,7 +21,7 @@ use Rattle.trace_log.specs.Needing.{HasFrame, IsKeptForMessage, NeedsMemoryToRec
 use Rattle.trace_canon.specs.Keeping.{CompletesKept, NeedsMemoryToCollect, NeedsMemoryToOrder}
 use Rattle.trace_log.specs.Refusal.{HasNoBadPlaceWithin, IsNotRefusedWithin}
 use Rattle.trace_log.specs.Settings.{Settings}
-use Rattle.trace_run.specs.Told.{Script, AnswersTold, RanLenient, answers_counts, needs_none}
+use Rattle.trace_run.specs.Told.{Script, AnswersTold, RanLenient, TellsEagerly, answers_counts, needs_none}
 use Rattle.trace_canon.specs.WatchScript.{watching_script}
 use Rattle.trace_canon.specs.declared.comparing.Compared.{Compared}
 use Rattle.trace_canon.specs.declared.comparison_lines.ComparisonStyle.{ComparisonStyle}
@@ -155,6 +155,17 @@ answers_of (runs script needs) limit settings log given result old new = Answers
 answers_of (runs_in_style script) limit settings log given result old new =
     (style : List ℕ) × AnswersTold (script style settings limit) answers_counts limit settings log given result old new
 
+-- What it has written of a log of which so many bytes were given: at least all that is told of the lines that had ended
+-- among all of these but the last 4,096, as many as one read may bring. So whoever follows a session sees its messages
+-- while it runs. A text of items or of pairs is written at the end alone.
+abbrev pub tells_eagerly_of : Engine → ℕ → Settings → List ℕ → ℕ → List ℕ → List ℕ → Type 0
+tells_eagerly_of normalises limit settings log given old new = WritesEagerly limit settings log given old new
+tells_eagerly_of (writes text) limit settings log given old new = ⊤
+tells_eagerly_of (finds notation) limit settings log given old new = ⊤
+tells_eagerly_of (runs script needs) limit settings log given old new = TellsEagerly (script limit) limit settings log given old new
+tells_eagerly_of (runs_in_style script) limit settings log given old new =
+    (style : List ℕ) × TellsEagerly (script style settings limit) limit settings log given old new
+
 -- nothing refuses the log for it among so many of its bytes; no length that is announced does this for one that is
 -- known by its script, nor for `find`
 abbrev pub unrefused_of : Engine → ℕ → Settings → List ℕ → ℕ → Type 0
@@ -173,11 +184,13 @@ needs_of (finds notation) limit settings log = NeedsMemoryToFind log
 needs_of (runs script needs) limit settings log = HasFrame (λ T e. IsKeptForMessage limit T e ⊎ needs limit T e) settings log
 needs_of (runs_in_style script) limit settings log = NeedsMemoryToReceive limit settings log
 
--- What is known of a run of any engine: what was answered and written, that memory was refused only for a log that
--- needs it, how near to what refuses the log it stopped reading, and what it did with its devices.
+-- What is known of a run of any engine: what was answered and written, that it was written before more was read, that
+-- memory was refused only for a log that needs it, how near to what refuses the log it stopped reading, and what it did with its devices.
 pub record RanAny {R W : Type 0} (source : SourceGhosts R) (target : TargetGhosts W) (engine : Engine) (limit : ℕ) (settings : Settings) (before : R) (old : W) (result : Result Summary Fault) (after : R) (new : W) : Type 0 where
   pub answer : (log : List ℕ) → Agrees (source.given before) (source.given after) (source.is_over after) log
       → answers_of engine limit settings log (length (source.given after) - length (source.given before)) result (target.taken old) (target.taken new)
+  pub eager : (log : List ℕ) → Agrees (source.given before) (source.given after) (source.is_over after) log
+      → tells_eagerly_of engine limit settings log (length (source.given after) - length (source.given before)) (target.taken old) (target.taken new)
   pub memory : (log : List ℕ) → Agrees (source.given before) (source.given after) (source.is_over after) log → result ≡ Err Memory → needs_of engine limit settings log
   pub near : (log : List ℕ) → Agrees (source.given before) (source.given after) (source.is_over after) log
       → ReadsWhile (unrefused_of engine limit settings log) (length (source.given after) - length (source.given before)) (source.failures before) (source.failures after)
@@ -209,6 +222,10 @@ engine_of (job.Find notation) name = finds notation
 -- what it answers, and what it writes
 abbrev pub EngineAnswers : Job → List ℕ → ℕ → Settings → List ℕ → ℕ → Result Summary Fault → List ℕ → List ℕ → Type 0
 EngineAnswers job name = answers_of (engine_of job name)
+
+-- what it has written before more is read
+abbrev pub EngineTellsEagerly : Job → List ℕ → ℕ → Settings → List ℕ → ℕ → List ℕ → List ℕ → Type 0
+EngineTellsEagerly job name = tells_eagerly_of (engine_of job name)
 
 -- for which logs it may be refused memory
 abbrev pub EngineNeeds : Job → List ℕ → ℕ → Settings → List ℕ → Type 0

@@ -17,6 +17,8 @@ use Rattle.udsnorm.specs.declared.ended.Which.{Which}
 use Rattle.udsnorm.specs.declared.ended.Which.TheVariants.{First, Second}
 use Rattle.udsnorm.specs.declared.looks.Look.{Look}
 use Rattle.udsnorm.specs.declared.noticing.TheConstants.{KEPT}
+use Rattle.udsnorm.specs.declared.opening.OpenFault.{OpenFault}
+use Rattle.udsnorm.specs.declared.opening.OpenFault.TheVariants.{Missing, Denied, Other}
 use Rattle.udsnorm.specs.declared.pair_jobs.PairAnswer.{PairAnswer}
 
 -- this is known of this log
@@ -101,6 +103,8 @@ IsKnownByTwo settings left left_over right right_over (Some (Ok pair)) known = k
 IsKnownByTwo settings left left_over right right_over (Some (Err (Left fault))) known = IsKnownByFault First settings left left_over fault known
 IsKnownByTwo settings left left_over right right_over (Some (Err (Right fault))) known = IsKnownByFault Second settings right right_over fault known
 
--- it is known of this log why it can't be opened: there is none, it may not be read, or something else
-abbrev pub IsKnownUnopened : Which → Option Known → Type 0
-IsKnownUnopened which known = (known ≡ knows which matter.Missing) ⊎ ((known ≡ knows which matter.Denied) ⊎ (known ≡ knows which matter.Unopened))
+-- it is known of this log why it can't be opened
+abbrev pub knows_unopened : Which → OpenFault → Option Known
+knows_unopened which Missing = knows which matter.Missing
+knows_unopened which Denied = knows which matter.Denied
+knows_unopened which Other = knows which matter.Unopened

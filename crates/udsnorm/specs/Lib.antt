@@ -8,7 +8,9 @@ pub mod Telling
 pub mod Ending
 pub mod Run
 pub mod Looks
+pub mod Opening
 pub mod Known
 pub mod Asked
 pub mod Hints
+pub mod Process
 pub mod proving

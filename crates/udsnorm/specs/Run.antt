@@ -11,7 +11,7 @@ use Rattle.trace_log.specs.declared.summary.Summary.{Summary}
 use Rattle.trace_io.specs.Stream.{Agrees, Took}
 use Rattle.trace_io.specs.declared.device.Source.{Ghosts as SourceGhosts}
 use Rattle.trace_io.specs.declared.device.Target.{Ghosts as TargetGhosts}
-use Rattle.udsnorm.specs.Commands.{EngineAnswers, EngineNeeds, EngineReads, PairEngineAnswers, PairEngineNeeds, PairEngineReads, has_text}
+use Rattle.udsnorm.specs.Commands.{EngineAnswers, EngineNeeds, EngineReads, EngineTellsEagerly, PairEngineAnswers, PairEngineNeeds, PairEngineReads, has_text}
 use Rattle.udsnorm.specs.Ending.{ComesTo, answer_written, flushes, status_of_run, status_of_run_of_two}
 use Rattle.udsnorm.specs.FaultLines.{run_text, run_two_text}
 use Rattle.udsnorm.specs.Telling.{TookText, WroteText}
@@ -27,6 +27,9 @@ pub record RanOne {R W E : Type 0} (source : SourceGhosts R) (output : TargetGho
   pub answer : Result Summary Fault
   pub engine : (log : List ℕ) → Agrees (source.given before) (source.given after) (source.is_over after) log
       → EngineAnswers job name limit settings log (length (source.given after) - length (source.given before)) answer (output.taken old) (output.taken new)
+  -- before each read all was written that the lines so far decide
+  pub eager : (log : List ℕ) → Agrees (source.given before) (source.given after) (source.is_over after) log
+      → EngineTellsEagerly job name limit settings log (length (source.given after) - length (source.given before)) (output.taken old) (output.taken new)
   -- memory was refused, with status 5, only for a log that needs it
   pub memory : (log : List ℕ) → Agrees (source.given before) (source.given after) (source.is_over after) log → status ≡ 5 → EngineNeeds job name limit settings log
   -- reading stopped within one piece of what refuses the log
@@ -49,7 +52,7 @@ pub record RanOne {R W E : Type 0} (source : SourceGhosts R) (output : TargetGho
 
 -- What a run over two logs did, which have these names on a page and have to be clean where the run is strict: from its
 -- inputs to its output and its error output, its exit status, and what was answered, where the text of that was
--- written.
+-- written. Nothing is written before both are read.
 pub record RanTwo {A B W E : Type 0} (left : SourceGhosts A) (right : SourceGhosts B) (output : TargetGhosts W) (errors : TargetGhosts E) (job : PairJob) (left_name right_name : List ℕ)
     (strict : Bool) (limit : ℕ) (settings : Settings) (one : A) (other : B) (old : W) (unsaid : E) (status : ℕ) (written : Option (Result PairAnswer CompareFault)) (one_now : A) (other_now : B) (new : W) (said : E) : Type 0 where
   -- what the engine answered, and its text, for all logs with which the bytes that were read agree

@@ -2,17 +2,17 @@
 
 ghost use Rattle.std.specs.Prelude.{◌≡◌, ◌⊎◌, option_map};
 ghost use Rattle.udsnorm.specs.Hints.{name_in};
-ghost use Rattle.udsnorm.specs.Known.{IsKnownBy, IsKnownByFault, IsKnownByTwo, IsKnownUnopened, is_foreign, known_of_done, known_of_pair, knows_dropped, knows_foreign, knows_limit, knows_no_pair, knows_refused};
+ghost use Rattle.udsnorm.specs.Known.{IsKnownBy, IsKnownByFault, IsKnownByTwo, is_foreign, known_of_done, known_of_pair, knows_dropped, knows_foreign, knows_limit, knows_no_pair, knows_refused, knows_unopened};
 ghost use Rattle.udsnorm.specs.declared.ended.Matter.TheVariants as matter;
 
 use crate::commands::Job;
 use crate::job::{Plan, WordsFault};
 use crate::looks::{Look, lacks_stamp, look_of};
 use crate::noticing::Noticing;
+use crate::opening::OpenFault;
 use crate::pair_jobs::PairAnswer;
 use can_log::Id;
 use std::fs::OpenFile;
-use std::io::{Error, ErrorKind};
 use trace_io::Target;
 use trace_log::{CompareFault, Config, Fault, LARGEST_LIMIT, Summary};
 
@@ -97,14 +97,14 @@ pub enum Matter {
     Dropped(u64),
 }
 
-/// What is known of a log that can't be opened, by the error.
-pub(crate) fn unopened(which: Which, error: &Error) -> Option<Known>
-    ensures { IsKnownUnopened which result }
+/// What is known of a log that can't be opened.
+pub(crate) fn unopened(which: Which, fault: OpenFault) -> Option<Known>
+    ensures { result ≡ knows_unopened which fault }
 {
-    let matter = match error.kind() {
-        ErrorKind::NotFound | ErrorKind::NotADirectory => Matter::Missing,
-        ErrorKind::PermissionDenied => Matter::Denied,
-        _ => Matter::Unopened,
+    let matter = match fault {
+        OpenFault::Missing => Matter::Missing,
+        OpenFault::Denied => Matter::Denied,
+        OpenFault::Other => Matter::Unopened,
     };
     Some(Known { which, matter })
 }

@@ -12,17 +12,19 @@
 //! refused, 6 with `--strict` the log is not clean.
 #![tactic(auto)]
 
-ghost use Rattle.std.specs.Prelude.{◌≡◌, ◌+◌, ◌≤◌, ◌⊎◌, ℕ, List, ◌++◌, length, true, map, string_bytes, Some};
+ghost use Rattle.std.specs.Prelude.{◌≡◌, ◌+◌, ◌≤◌, ℕ, List, ◌++◌, length, true, map, string_bytes, MatchResult};
+ghost use Rattle.std.specs.Process.{exit_status};
 ghost use Rattle.trace_canon.specs.Compared.{fault_in};
 ghost use Rattle.trace_io.specs.Counted.{AreLowCounts, IsLowCount};
-ghost use Rattle.udsnorm.specs.Asked.{Did, DidWords, IsDone, OneStream, RanFile, RanFiles, Unopened};
+ghost use Rattle.udsnorm.specs.Asked.{Did, DidFile, DidFiles, DidWords, IsDone, RanFiles, ToldWords};
 ghost use Rattle.isotp_receive.specs.declared.TheConstants.{MESSAGE_LIMIT};
-ghost use Rattle.udsnorm.specs.FaultLines.{fault_line, side_line};
+ghost use Rattle.udsnorm.specs.FaultLines.{side_line};
 ghost use Rattle.udsnorm.specs.Commands.{words_or_normalise};
-ghost use Rattle.udsnorm.specs.Known.{IsKnownUnopened};
+ghost use Rattle.udsnorm.specs.Known.{knows_unopened};
+ghost use Rattle.udsnorm.specs.Opening.{opened, two_files};
+ghost use Rattle.udsnorm.specs.Process.{Hinted, Served};
 ghost use Rattle.udsnorm.specs.Status.{status_of};
 ghost use Rattle.udsnorm.specs.Telling.{TookText};
-ghost use Rattle.udsnorm.specs.Values.{page_name as page_name_of, page_name_beside as page_name_of_two};
 
 mod command;
 mod commands;
@@ -33,6 +35,7 @@ mod identifiers;
 mod job;
 mod looks;
 mod noticing;
+mod opening;
 mod pair_jobs;
 mod run;
 mod stream;
@@ -46,9 +49,9 @@ use crate::ended::{End, Run, Which, known_of_file, known_of_files, known_of_inpu
 use crate::hints::give_hint;
 use crate::job::{Plan, WordsFault};
 use crate::noticing::Noticing;
+use crate::opening::{OpenFault, Opener};
 use crate::pair_jobs::PairJob;
 use crate::run::{run_one, run_two};
-use crate::stream::is_one_stream;
 use crate::tell::{tell, tell_fault, tell_one_stream, tell_side};
 use crate::values::{page_name, page_name_beside};
 use crate::words::plan;
@@ -56,7 +59,7 @@ use std::env::Env;
 use std::io::{ErrorKind, Input, IsTerminal, Print, Read};
 use std::process::ExitCode;
 use std::rt::Files;
-use std::{env, fs, io};
+use std::{env, io};
 use trace_io::{Source, Target, Writing};
 use trace_log::{CompareFault, Config, Fault};
 
@@ -65,21 +68,93 @@ const NO_TEXT: &str = "error: the command line is not UTF-8\n";
 
 fn main(rt: HostRuntime) -> ExitCode {
     let stderr = rt.stderr();
-    let mut input = Noticing::new(rt.reader());
-    let mut out = Writing::new(io::writer(&rt));
-    let mut err = Writing::new(io::writer(&stderr));
-    let status = match given_words(&rt) {
-        Ok(words) => {
-            let run = run_words(&rt, words.as_slice(), &mut input, &mut out, &mut err);
-            if stderr.is_terminal() {
-                // Where memory is refused there is none.
-                let _ = give_hint(&rt, words.as_slice(), &run, &mut err);
-            }
-            run.end.status
-        }
-        Err(fault) => tell(&fault, &mut out, &mut err),
-    };
-    ExitCode::from(status)
+    answer(
+        &rt,
+        given_words(&rt),
+        stderr.is_terminal(),
+        &mut Noticing::new(rt.reader()),
+        &mut Writing::new(io::writer(&rt)),
+        &mut Writing::new(io::writer(&stderr)),
+    )
+}
+
+/// Does what the words ask for, or tells why there are none, and answers how the process ends. Nothing is written beside:
+/// only where the error output is a terminal, it gets the hint of the run.
+fn answer<R: AllocGlobal + Files + Opener, I: Read, W: Target, E: Target>(
+    rt: &R,
+    words: Result<Vec<String>, WordsFault>,
+    at_terminal: bool,
+    input: &mut Noticing<I>,
+    out: &mut W,
+    err: &mut E,
+) -> ExitCode
+    requires input { AreLowCounts input.old.reads (length input.old.given) input.old.failures }
+    requires out { IsLowCount (W.failures out.old) }
+    requires err { IsLowCount (E.failures err.old) }
+    ensures ended { (status : ℕ) × (exit_status result ≡ status) × MatchResult words
+        (λ given. Served (R.says rt.now) ⟦<Noticing<R::Log> as Source>⟧ ⟦<Noticing<I> as Source>⟧ W.Target E.Target (map string_bytes given.items) at_terminal input.old out.old err.old status input.new out.new err.new)
+        (λ fault. (input.new ≡ input.old) × ToldWords W.Target E.Target fault out.old err.old status out.new err.new) }
+{
+    ExitCode::from(serve_or_tell(rt, words, at_terminal, input, out, err))
+}
+
+/// Does what the words ask for, or tells why there are none. Answers the exit status.
+fn serve_or_tell<R: AllocGlobal + Files + Opener, I: Read, W: Target, E: Target>(
+    rt: &R,
+    words: Result<Vec<String>, WordsFault>,
+    at_terminal: bool,
+    input: &mut Noticing<I>,
+    out: &mut W,
+    err: &mut E,
+) -> u8
+    requires input { AreLowCounts input.old.reads (length input.old.given) input.old.failures }
+    requires out { IsLowCount (W.failures out.old) }
+    requires err { IsLowCount (E.failures err.old) }
+    ensures served { MatchResult words
+        (λ given. Served (R.says rt.now) ⟦<Noticing<R::Log> as Source>⟧ ⟦<Noticing<I> as Source>⟧ W.Target E.Target (map string_bytes given.items) at_terminal input.old out.old err.old result input.new out.new err.new)
+        (λ fault. (input.new ≡ input.old) × ToldWords W.Target E.Target fault out.old err.old result out.new err.new) }
+{
+    match words {
+        Ok(words) => serve(rt, words.as_slice(), at_terminal, input, out, err),
+        Err(fault) => tell(&fault, out, err),
+    }
+}
+
+/// Does what the words ask for, gives the hint of that where the error output is a terminal, and answers the exit status.
+fn serve<R: AllocGlobal + Files + Opener, I: Read, W: Target, E: Target>(
+    rt: &R,
+    words: &[String],
+    at_terminal: bool,
+    input: &mut Noticing<I>,
+    out: &mut W,
+    err: &mut E,
+) -> u8
+    requires input { AreLowCounts input.old.reads (length input.old.given) input.old.failures }
+    requires out { IsLowCount (W.failures out.old) }
+    requires err { IsLowCount (E.failures err.old) }
+    ensures served { Served (R.says rt.now) ⟦<Noticing<R::Log> as Source>⟧ ⟦<Noticing<I> as Source>⟧ W.Target E.Target (map string_bytes words.now) at_terminal input.old out.old err.old result input.new out.new err.new }
+{
+    let run = run_words(rt, words, input, out, err);
+    hint_at_terminal(rt, at_terminal, words, &run, err);
+    run.end.status
+}
+
+/// Gives the hint of a run where the error output is a terminal.
+#[tactic(auto, using(crate::proofs::Serving::hinted_there, crate::proofs::Serving::hinted_elsewhere))]
+fn hint_at_terminal<R: AllocGlobal + Files, E: Target>(
+    rt: &R,
+    at_terminal: bool,
+    words: &[String],
+    run: &Run,
+    err: &mut E,
+)
+    ensures hinted { Hinted E.Target at_terminal run.now.asked (map string_bytes words.now) run.now.end.known err.old err.new }
+{
+    if !at_terminal {
+        return;
+    }
+    // Where memory is refused there is none.
+    let _ = give_hint(rt, words, run, err);
 }
 
 /// The words after the program's name.
@@ -93,26 +168,24 @@ fn given_words<R: AllocGlobal + Env>(rt: &R) -> Result<Vec<String>, WordsFault> 
 }
 
 /// Does what the words ask for, over the input where they name no file. Answers that, and how it ended.
-fn run_words<R: AllocGlobal + Files, I: Read, W: Target, E: Target>(
+fn run_words<R: AllocGlobal + Opener, I: Read, W: Target, E: Target>(
     rt: &R,
     words: &[String],
     input: &mut Noticing<I>,
     out: &mut W,
     err: &mut E,
 ) -> Run
-where
-    R::File: IsTerminal,
     requires input { AreLowCounts input.old.reads (length input.old.given) input.old.failures }
     requires out { IsLowCount (W.failures out.old) }
     requires err { IsLowCount (E.failures err.old) }
 
     // For each status: what the words ask for, what was done of it, from the input's reads to the output's writes and the
     // error output's, and what is then known for a hint.
-    ensures run { DidWords ⟦<Noticing<R::File> as Source>⟧ ⟦<Noticing<I> as Source>⟧ W.Target E.Target (words_or_normalise (map string_bytes words.now)) result.asked input.old out.old err.old result.end.status result.end.known input.new out.new err.new }
+    ensures run { DidWords (R.says rt.now) ⟦<Noticing<R::Log> as Source>⟧ ⟦<Noticing<I> as Source>⟧ W.Target E.Target (words_or_normalise (map string_bytes words.now)) result.asked input.old out.old err.old result.end.status result.end.known input.new out.new err.new }
 
     // With status 0 it is done: the output's writes took what is asked for, of the bytes that the input's reads gave.
     ensures done { result.end.status ≡ 0 → (log : List ℕ) → input.new.given ≡ input.old.given ++ log
-        → IsDone (words_or_normalise (map string_bytes words.now)) log (W.taken out.old) (W.taken out.new) }
+        → IsDone (R.says rt.now) ⟦<Noticing<R::Log> as Source>⟧ (words_or_normalise (map string_bytes words.now)) log (W.taken out.old) (W.taken out.new) }
     ensures flushed { result.end.status ≡ 0 → W.is_flushed out.new ≡ true }
     ensures once { result.end.status ≡ 0 → W.flushes out.new ≡ W.flushes out.old + 1 }
     ensures flushes { W.flushes out.new ≤ W.flushes out.old + 1 }
@@ -139,19 +212,17 @@ where
 }
 
 /// Does what is planned, over the files that are named or the input. Answers how it ended.
-fn carry_out<R: AllocGlobal + Files, I: Read, W: Target, E: Target>(
+fn carry_out<R: AllocGlobal + Opener, I: Read, W: Target, E: Target>(
     rt: &R,
     plan: &Plan,
     input: &mut Noticing<I>,
     out: &mut W,
     err: &mut E,
 ) -> End
-where
-    R::File: IsTerminal,
     requires input { AreLowCounts input.old.reads (length input.old.given) input.old.failures }
     requires out { IsLowCount (W.failures out.old) }
     requires err { IsLowCount (E.failures err.old) }
-    ensures did { Did ⟦<Noticing<R::File> as Source>⟧ ⟦<Noticing<I> as Source>⟧ W.Target E.Target plan.now input.old out.old err.old result.status result.known input.new out.new err.new }
+    ensures did { Did (R.says rt.now) ⟦<Noticing<R::Log> as Source>⟧ ⟦<Noticing<I> as Source>⟧ W.Target E.Target plan.now input.old out.old err.old result.status result.known input.new out.new err.new }
     ensures flushed { result.status ≡ 0 → W.is_flushed out.new ≡ true }
     ensures once { result.status ≡ 0 → W.flushes out.new ≡ W.flushes out.old + 1 }
     ensures flushes { W.flushes out.new ≤ W.flushes out.old + 1 }
@@ -192,7 +263,7 @@ where
 }
 
 /// Does a job over the log of a file.
-fn run_file<R: AllocGlobal + Files, W: Target, E: Target>(
+fn run_file<R: AllocGlobal + Opener, W: Target, E: Target>(
     rt: &R,
     job: Job,
     strict: bool,
@@ -203,15 +274,14 @@ fn run_file<R: AllocGlobal + Files, W: Target, E: Target>(
 ) -> End
     requires out { IsLowCount (W.failures out.old) }
     requires err { IsLowCount (E.failures err.old) }
-    ensures ran { RanFile ⟦<Noticing<R::File> as Source>⟧ W.Target E.Target job (page_name_of (Some (string_bytes name.now))) strict MESSAGE_LIMIT config.now out.old err.old result.status result.known out.new err.new
-        ⊎ Unopened E.Target (fault_line Fault.Read) Which.First out.old err.old result.status result.known out.new err.new }
+    ensures did { DidFile (R.says rt.now) ⟦<Noticing<R::Log> as Source>⟧ W.Target E.Target job (string_bytes name.now) strict config.now out.old err.old result.status result.known out.new err.new }
     ensures flushed { result.status ≡ 0 → W.is_flushed out.new ≡ true }
     ensures once { result.status ≡ 0 → W.flushes out.new ≡ W.flushes out.old + 1 }
     ensures flushes { W.flushes out.new ≤ W.flushes out.old + 1 }
 {
-    match fs::open(rt, name.as_str()) {
-        Ok(file) => {
-            let mut log = Noticing::new(file);
+    match rt.open_log(name) {
+        Ok(log) => {
+            let mut log = Noticing::new(log);
             let end = run_one(
                 rt.alloc(),
                 job,
@@ -227,15 +297,15 @@ fn run_file<R: AllocGlobal + Files, W: Target, E: Target>(
                 known: known_of_file(job, config, end.outcome, log, out),
             }
         }
-        Err(error) => End {
+        Err(fault) => End {
             status: tell_fault(Fault::Read, err),
-            known: unopened(Which::First, &error),
+            known: unopened(Which::First, fault),
         },
     }
 }
 
 /// Does a job over the logs of two files. Both are opened before either is read, and neither is where they are one stream.
-fn run_files<R: AllocGlobal + Files, W: Target, E: Target>(
+fn run_files<R: AllocGlobal + Opener, W: Target, E: Target>(
     rt: &R,
     job: PairJob,
     strict: bool,
@@ -245,38 +315,61 @@ fn run_files<R: AllocGlobal + Files, W: Target, E: Target>(
     out: &mut W,
     err: &mut E,
 ) -> End
-where
-    R::File: IsTerminal,
     requires out { IsLowCount (W.failures out.old) }
     requires err { IsLowCount (E.failures err.old) }
-    ensures ran { RanFiles ⟦<Noticing<R::File> as Source>⟧ W.Target E.Target job (page_name_of_two (string_bytes left_name.now) (string_bytes right_name.now)) (page_name_of_two (string_bytes right_name.now) (string_bytes left_name.now)) strict MESSAGE_LIMIT config.now out.old err.old result.status result.known out.new err.new
-        ⊎ (Unopened E.Target (side_line (CompareFault.Left Fault.Read)) Which.First out.old err.old result.status result.known out.new err.new
-        ⊎ (Unopened E.Target (side_line (CompareFault.Right Fault.Read)) Which.Second out.old err.old result.status result.known out.new err.new
-        ⊎ OneStream E.Target out.old err.old result.status result.known out.new err.new)) }
+    ensures did { DidFiles (R.says rt.now) ⟦<Noticing<R::Log> as Source>⟧ W.Target E.Target job (string_bytes left_name.now) (string_bytes right_name.now) strict config.now out.old err.old result.status result.known out.new err.new }
     ensures flushed { result.status ≡ 0 → W.is_flushed out.new ≡ true }
     ensures once { result.status ≡ 0 → W.flushes out.new ≡ W.flushes out.old + 1 }
     ensures flushes { W.flushes out.new ≤ W.flushes out.old + 1 }
 {
-    let left = match fs::open(rt, left_name.as_str()) {
-        Ok(file) => file,
-        Err(error) => {
+    let left = match rt.open_log(left_name) {
+        Ok(log) => log,
+        Err(why) => {
             let fault = CompareFault::Left(Fault::Read);
-            return tell_unopened(fault, Which::First, &error, err);
+            return tell_unopened(fault, Which::First, why, err);
         }
     };
-    let right = match fs::open(rt, right_name.as_str()) {
-        Ok(file) => file,
-        Err(error) => {
+    let right = match rt.open_log(right_name) {
+        Ok(log) => log,
+        Err(why) => {
             let fault = CompareFault::Right(Fault::Read);
-            return tell_unopened(fault, Which::Second, &error, err);
+            return tell_unopened(fault, Which::Second, why, err);
         }
     };
-    if is_one_stream(&left, &right) {
+    if rt.are_one_stream(&left, &right) {
         return End {
             status: tell_one_stream(err),
             known: None,
         };
     }
+    run_opened(
+        rt, job, strict, config, left_name, right_name, left, right, out, err,
+    )
+}
+
+/// The same over the files that were opened by these names.
+fn run_opened<R: AllocGlobal + Opener, W: Target, E: Target>(
+    rt: &R,
+    job: PairJob,
+    strict: bool,
+    config: &Config,
+    left_name: &String,
+    right_name: &String,
+    left: R::Log,
+    right: R::Log,
+    out: &mut W,
+    err: &mut E,
+) -> End
+    requires left { R.says rt.now (opened (string_bytes left_name.now) left) }
+    requires right { R.says rt.now (opened (string_bytes right_name.now) right) }
+    requires two { R.says rt.now (two_files left right) }
+    requires out { IsLowCount (W.failures out.old) }
+    requires err { IsLowCount (E.failures err.old) }
+    ensures ran { RanFiles (R.says rt.now) ⟦<Noticing<R::Log> as Source>⟧ W.Target E.Target job (string_bytes left_name.now) (string_bytes right_name.now) strict MESSAGE_LIMIT config.now out.old err.old result.status result.known out.new err.new }
+    ensures flushed { result.status ≡ 0 → W.is_flushed out.new ≡ true }
+    ensures once { result.status ≡ 0 → W.flushes out.new ≡ W.flushes out.old + 1 }
+    ensures flushes { W.flushes out.new ≤ W.flushes out.old + 1 }
+{
     let mut left = Noticing::new(left);
     let mut right = Noticing::new(right);
     let end = run_two(
@@ -298,19 +391,14 @@ where
 }
 
 /// Tells that the file of one of two logs can't be opened. Answers how that ended, with why it can't.
-fn tell_unopened<E: Target>(
-    fault: CompareFault,
-    which: Which,
-    error: &io::Error,
-    err: &mut E,
-) -> End
+fn tell_unopened<E: Target>(fault: CompareFault, which: Which, why: OpenFault, err: &mut E) -> End
     requires { IsLowCount (E.failures err.old) }
     ensures status { result.status ≡ status_of (fault_in fault) }
     ensures told { TookText (side_line fault) (E.failures err.old) (E.failures err.new) (E.taken err.old) (E.taken err.new) }
-    ensures known { IsKnownUnopened which result.known }
+    ensures known { result.known ≡ knows_unopened which why }
 {
     End {
         status: tell_side(fault, err),
-        known: unopened(which, error),
+        known: unopened(which, why),
     }
 }

@@ -1,6 +1,6 @@
 use Rattle.std.proofs.Common.{◌-◌, ℕ, List, length, subst}
 use Rattle.isotp_receive.specs.declared.TheConstants.{MESSAGE_LIMIT}
-use Rattle.trace_run.specs.Told.{AnswersTold, answers_counts}
+use Rattle.trace_run.specs.Told.{AnswersTold, TellsEagerly, answers_counts}
 use Rattle.trace_report.specs.Front.{page_title}
 use Rattle.trace_report.specs.Page.{report_script}
 use Rattle.udsnorm.proofs.commands.call_engine.Goals as goal
@@ -8,7 +8,7 @@ use Rattle.udsnorm.proofs.commands.call_engine.Goals as goal
 pub returns-in-Normalise : goal.returns-in-Normalise
 returns-in-Normalise g c =
     let ran = c.normalise.ensures in
-    record { ran = rw c.in-Normalise.is (record { answer = ran.answer; memory = ran.memory; near = ran.near; read = ran.read; wrote = ran.wrote }) }
+    record { ran = rw c.in-Normalise.is (record { answer = ran.answer; eager = ran.eager; memory = ran.memory; near = ran.near; read = ran.read; wrote = ran.wrote }) }
 
 pub returns-in-Items : goal.returns-in-Items
 returns-in-Items g c = record { ran = rw c.in-Items.is c.write_items.ensures.ran }
@@ -32,6 +32,11 @@ returns-in-Report g c =
           c.report_style.result.now,
           subst (λ (name : List ℕ). AnswersTold (report_script (page_title c.report_style.result.now name settings) MESSAGE_LIMIT) answers_counts MESSAGE_LIMIT settings log (length (g.R.Source.given c.report.new.reader) - length (g.R.Source.given c.args.input.now)) c.report.result (g.W.Target.taken c.args.out.now) (g.W.Target.taken c.report.new.writer)) c.as_bytes.ensures.value
               (ran.answer log agrees),
+        );
+        eager = λ log agrees. (
+          c.report_style.result.now,
+          subst (λ (name : List ℕ). TellsEagerly (report_script (page_title c.report_style.result.now name settings) MESSAGE_LIMIT) MESSAGE_LIMIT settings log (length (g.R.Source.given c.report.new.reader) - length (g.R.Source.given c.args.input.now)) (g.W.Target.taken c.args.out.now) (g.W.Target.taken c.report.new.writer)) c.as_bytes.ensures.value
+              (ran.eager log agrees),
         );
         memory = c.report.ensures.ran.memory (λ T e none. none);
         near = ran.near;

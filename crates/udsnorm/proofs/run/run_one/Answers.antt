@@ -21,6 +21,7 @@ returns-clause-ran g c =
     record {
       answer = answer;
       engine = λ log agrees. rw kept (c.do_job-answer.ensures.ran.answer log agrees);
+      eager = λ log agrees. rw kept (c.do_job-answer.ensures.ran.eager log agrees);
       memory = λ log agrees five. c.do_job-answer.ensures.ran.memory log agrees
           (memory_of_five c.args.strict (flushes answer taken) answer outcome c.tell_outcome.result (comes_to (flushes answer taken) answer outcome old new times times_now is_flushed ends) c.tell_outcome.ensures.status five);
       near = c.do_job-answer.ensures.ran.near;

@@ -1,0 +1,71 @@
+//! The files of logs, opened by their names.
+
+ghost use Rattle.std.specs.Prelude.{◌≡◌, MatchResult, false, string_bytes, true};
+ghost use Rattle.udsnorm.specs.Opening.{Saying, one_stream, opened, refused, two_files};
+
+use crate::stream::is_one_stream;
+use std::fs::{self, OpenFile};
+use std::io::{Error, ErrorKind, IsTerminal, Read};
+use std::rt::Files;
+
+/// Why a file can't be opened.
+#[derive(Clone, Copy)]
+pub enum OpenFault {
+    /// There is none of this name.
+    Missing,
+    /// It may not be read.
+    Denied,
+    /// Another reason.
+    Other,
+}
+
+/// Opens the files of logs. A contract over any opener names a file by what the system says of it; and only a call shows
+/// that it says so.
+pub trait Opener {
+    type Log: Read + OpenFile + Drop;
+
+    /// That the system says this.
+    ghost says: { Self → Saying Self.Log → Type 0 };
+
+    /// Opens the file of this name, to be read from its first byte.
+    fn open_log(&self, name: &String) -> Result<Self::Log, OpenFault>
+        ensures { MatchResult result
+            (λ log. says self.now (opened (string_bytes name.now) log)) (λ fault. says self.now (refused (string_bytes name.now) fault)) };
+
+    /// Whether two files are one stream, of which each byte is read once.
+    fn are_one_stream(&self, left: &Self::Log, right: &Self::Log) -> bool
+        ensures one { result ≡ true → says self.now (one_stream left.now right.now) }
+        ensures two { result ≡ false → says self.now (two_files left.now right.now) };
+}
+
+impl<R: Files> Opener for R
+where
+    R::File: IsTerminal,
+{
+    ghost use Rattle.std.specs.Prelude.{⊤};
+
+    type Log = R::File;
+
+    // std promises nothing of what the system says.
+    ghost says = { λ _ _. ⊤ };
+
+    fn open_log(&self, name: &String) -> Result<R::File, OpenFault> {
+        match fs::open(self, name.as_str()) {
+            Ok(log) => Ok(log),
+            Err(error) => Err(open_fault(&error)),
+        }
+    }
+
+    fn are_one_stream(&self, left: &R::File, right: &R::File) -> bool {
+        is_one_stream(left, right)
+    }
+}
+
+/// Why a file can't be opened, by the error.
+fn open_fault(error: &Error) -> OpenFault {
+    match error.kind() {
+        ErrorKind::NotFound | ErrorKind::NotADirectory => OpenFault::Missing,
+        ErrorKind::PermissionDenied => OpenFault::Denied,
+        _ => OpenFault::Other,
+    }
+}
