@@ -77,7 +77,7 @@ value_line option value = codes "hint: " ++ option ++ codes " is " ++ quoted val
 abbrev pub values_line : Text → Text → List ℕ
 values_line tester unit =
     if is_of_bus (identifier_of tester) then
-      (if is_of_bus (identifier_of unit) then codes "hint: --tester is " ++ quoted tester ++ codes ", --unit " ++ quoted unit ++ codes "\n" else value_line (codes "--unit") unit)
+    (if is_of_bus (identifier_of unit) then codes "hint: --tester is " ++ quoted tester ++ codes ", --unit " ++ quoted unit ++ codes "\n" else value_line (codes "--unit") unit)
     else value_line (codes "--tester") tester
 
 -- of the values that a command is given, or the usual ones

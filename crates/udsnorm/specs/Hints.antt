@@ -95,8 +95,8 @@ abbrev pub IsHint : Result Plan WordsFault → List Text → Option Known → Li
 IsHint (Ok plan) given known line = line ≡ hint_of_plan plan known
 IsHint (Err fault) given known line = IsAdviceFor fault given line
 
--- The hint of this run was told where hints are wanted, as far as the error output took it, and else nothing.
-pub record GaveHint {E : Type 0} (errors : TargetGhosts E) (is_wanted : Bool) (asked : Result Plan WordsFault) (given : List Text) (known : Option Known) (old new : E) : Type 0 where
+-- The hint of this run was told, as far as the error output took it.
+pub record GaveHint {E : Type 0} (errors : TargetGhosts E) (asked : Result Plan WordsFault) (given : List Text) (known : Option Known) (old new : E) : Type 0 where
   pub line : List ℕ
   pub is : IsHint asked given known line
-  pub told : TookText (if is_wanted then line else []) (errors.failures old) (errors.failures new) (errors.taken old) (errors.taken new)
+  pub told : TookText line (errors.failures old) (errors.failures new) (errors.taken old) (errors.taken new)

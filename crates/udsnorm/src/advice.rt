@@ -56,10 +56,7 @@ pub(crate) fn advice_for<R: AllocGlobal + Files>(
 }
 
 /// The line for words that don't fit the commands, by the first of them.
-fn advice_for_words<R: AllocGlobal + Files>(
-    rt: &R,
-    words: &[String],
-) -> Result<Vec<u8>, AllocError>
+fn advice_for_words<R: AllocGlobal + Files>(rt: &R, words: &[String]) -> Result<Vec<u8>, AllocError>
     ensures { IfOk result (λ line. IsOfWords (map string_bytes words.now) line.items) }
 {
     let alloc = rt.alloc();

@@ -1,6 +1,6 @@
 //! Hints: a line behind the text of a run, for the person at the terminal.
 
-ghost use Rattle.std.specs.Prelude.{◌≡◌, ◌<◌, ◌++◌, IfOk, OnOk, IfErr, Some, false, map, option_map, string_bytes};
+ghost use Rattle.std.specs.Prelude.{◌≡◌, ◌<◌, ◌++◌, IfOk, OnOk, IfErr, Some, true, false, map, option_map, string_bytes};
 ghost use Rattle.std.specs.List.{flat_map, list_all};
 ghost use Rattle.can_log.specs.Digits.{digit};
 ghost use Rattle.trace_io.specs.Counted.{IsLowCount};
@@ -54,7 +54,7 @@ pub fn give_hint<R: AllocGlobal + Files, E: Target>(
     is_wanted: bool,
     err: &mut E,
 ) -> Result<(), AllocError>
-    ensures hint { OnOk result (E.failures err.old ≡ 0 → GaveHint E.Target is_wanted run.now.asked (map string_bytes words.now) run.now.end.known err.old err.new) }
+    ensures hint { OnOk result (is_wanted ≡ true → E.failures err.old ≡ 0 → GaveHint E.Target run.now.asked (map string_bytes words.now) run.now.end.known err.old err.new) }
     ensures failed { 0 < E.failures err.old → err.new ≡ err.old }
     ensures unwanted { is_wanted ≡ false → err.new ≡ err.old }
     ensures memory { IfErr result (λ _. err.new ≡ err.old) }
@@ -63,9 +63,7 @@ pub fn give_hint<R: AllocGlobal + Files, E: Target>(
         return Ok(());
     }
     let line = hint_of(rt, words, run)?;
-    if !line.is_empty() {
-        tell_text(line.as_slice(), err);
-    }
+    tell_text(line.as_slice(), err);
     Ok(())
 }
 
@@ -75,7 +73,10 @@ pub fn tell_awaited<E: Target>(alloc: Global, words: &[String], err: &mut E)
     ensures { ToldAwaited E.Target (map string_bytes words.now) err.old err.new }
 {
     if let Ok(Plan::One { log: None, .. }) = plan(alloc, words) {
-        tell_text("hint: standard input is read; Ctrl-D ends it\n".as_bytes(), err);
+        tell_text(
+            "hint: standard input is read; Ctrl-D ends it\n".as_bytes(),
+            err,
+        );
     }
 }
 

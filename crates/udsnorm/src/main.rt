@@ -63,7 +63,8 @@ use trace_io::{Source, Target, Writing};
 use trace_log::{CompareFault, Config, Fault};
 
 /// What is told of a command line that is no text.
-const NO_TEXT: &str = "error: the command line is not UTF-8; a file with such a name is read as udsnorm list < FILE\n";
+const NO_TEXT: &str =
+    "error: the command line is not UTF-8; a file with such a name is read as udsnorm list < FILE\n";
 
 fn main(rt: HostRuntime) -> ExitCode {
     let stderr = rt.stderr();
@@ -81,7 +82,13 @@ fn main(rt: HostRuntime) -> ExitCode {
             }
             let run = run_words(&rt, words, &mut input, &mut out, &mut err);
             // Where memory is refused there is no hint.
-            let _ = give_hint(&rt, words, &run, is_hinted || asks_for_hints(words), &mut err);
+            let _ = give_hint(
+                &rt,
+                words,
+                &run,
+                is_hinted || asks_for_hints(words),
+                &mut err,
+            );
             run.end.status
         }
         Err(fault) => tell(&fault, &mut out, &mut err),

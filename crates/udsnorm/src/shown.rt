@@ -1,6 +1,6 @@
 //! The text that is told of wrong words, without a control character.
 
-ghost use Rattle.std.specs.Prelude.{◌≡◌, ◌++◌, IfOk, OnOk, string_bytes};
+ghost use Rattle.std.specs.Prelude.{◌≡◌, ◌<◌, ◌++◌, IfOk, OnOk, string_bytes};
 ghost use Rattle.can_log.specs.Digits.{digit};
 ghost use Rattle.udsnorm.specs.Shown.{IsShown, escaped, is_printable_ascii, is_shown, shown, shown_byte};
 
@@ -11,8 +11,9 @@ pub(crate) fn shown(alloc: Global, text: &str) -> Result<String, AllocError>
     ensures text { IfOk result (λ s. string_bytes s ≡ shown text.entry.now) }
     ensures plain { IfOk result (λ s. IsShown (string_bytes s)) }
 {
+    let bytes = text.as_bytes();
     let mut out = String::new(alloc);
-    'bytes: for byte in text.as_bytes() {
+    'bytes: for byte in bytes {
         push_shown(&mut out, *byte)?;
     }
     Ok(out)
@@ -20,9 +21,7 @@ pub(crate) fn shown(alloc: Global, text: &str) -> Result<String, AllocError>
 
 /// Whether words have printable ASCII alone.
 pub(crate) fn are_printable(words: &[String]) -> bool {
-    words
-        .iter()
-        .all(|word| word.as_bytes().iter().all(|byte| is_printable_ascii(*byte)))
+    words.iter().all(|word| word.as_bytes().iter().all(|byte| is_printable_ascii(*byte)))
 }
 
 /// Words with each byte escaped that is no printable ASCII.
@@ -74,7 +73,11 @@ fn digit(number: u8) -> char
     requires { number < 16 }
     ensures { result ≡ digit number }
 {
-    char::from(if number < 10 { b'0' + number } else { b'A' + (number - 10) })
+    char::from(if number < 10 {
+        b'0' + number
+    } else {
+        b'A' + (number - 10)
+    })
 }
 
 /// Whether a byte is shown as it is.

@@ -6,6 +6,6 @@ use Rattle.udsnorm.proofs.shown.shown.Given as goal
 
 abbrev pub invariant-bytes : goal.invariant-bytes
 invariant-bytes l = record {
-  text : string_bytes l.out ++ flat_map shown_byte (drop l.byte-index l.as_bytes) ≡ flat_map shown_byte l.as_bytes;
+  text : string_bytes l.out ++ flat_map shown_byte (drop l.byte-index l.bytes) ≡ flat_map shown_byte l.bytes;
   plain : IsShown (string_bytes l.out);
 }
