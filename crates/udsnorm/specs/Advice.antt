@@ -33,10 +33,14 @@ abbrev pub files_line : Text → Text → List ℕ
 files_line one other =
     codes "hint: " ++ quoted one ++ codes " and " ++ quoted other ++ codes " are files: udsnorm compare " ++ quoted one ++ codes " " ++ quoted other ++ codes "\n"
 
+-- of any other word and the one behind it, which name files
+abbrev pub IsOfTwo : Text → List Text → List ℕ → Type 0
+IsOfTwo word [] line = ⊥
+IsOfTwo word (other ∷ rest) line = line ≡ files_line word other
+
 -- of any other word and those behind it: the file system says which name a file
 abbrev pub IsOfFiles : Text → List Text → List ℕ → Type 0
-IsOfFiles word [] line = (line ≡ []) ⊎ (line ≡ file_line word)
-IsOfFiles word (other ∷ rest) line = (line ≡ []) ⊎ ((line ≡ file_line word) ⊎ (line ≡ files_line word other))
+IsOfFiles word rest line = (line ≡ []) ⊎ ((line ≡ file_line word) ⊎ IsOfTwo word rest line)
 
 abbrev pub IsOfFirst : Option (List ℕ) → Text → List Text → List ℕ → Type 0
 IsOfFirst (Some known) word rest line = line ≡ known
@@ -61,7 +65,7 @@ is_spelled text = list_all is_ascii_hexdigit text && ((length text == 3) || (len
 
 -- those behind `0x`
 abbrev pub behind_prefix : Text → Option Text
-behind_prefix (zero ∷ x ∷ rest) = if zero == code "0" && ((x == code "x" || x == code "X") && is_spelled rest) then Some rest else None
+behind_prefix (first ∷ mark ∷ rest) = if first == code "0" && (mark == code "x" || mark == code "X") && is_spelled rest then Some rest else None
 behind_prefix shorter = None
 
 -- what is said of a value that is no identifier, behind it
@@ -80,10 +84,14 @@ values_line tester unit =
     (if is_of_bus (identifier_of unit) then codes "hint: --tester is " ++ quoted tester ++ codes ", --unit " ++ quoted unit ++ codes "\n" else value_line (codes "--unit") unit)
     else value_line (codes "--tester") tester
 
--- of the values that a command is given, or the usual ones
+-- of the values that are given, or the usual ones
+abbrev pub given_line : List Row → List ℕ
+given_line rows = values_line (unwrap_or (first_of (codes "tester") rows) (codes "7E0")) (unwrap_or (first_of (codes "unit") rows) (codes "7E8"))
+
+-- of a command with these values
 abbrev pub IsOfCommand : Option (Text × List Row) → List ℕ → Type 0
 IsOfCommand None line = line ≡ []
-IsOfCommand (Some found) line = line ≡ values_line (unwrap_or (first_of (codes "tester") found.1) (codes "7E0")) (unwrap_or (first_of (codes "unit") found.1) (codes "7E8"))
+IsOfCommand (Some found) line = line ≡ given_line found.1
 
 -- ---- what is said
 

@@ -1,8 +1,8 @@
 //! What to write instead of words that ask for nothing.
 
 ghost use Rattle.std.specs.Prelude.{◌≡◌, ◌++◌, IfOk, OnOk, map, option_map, string_bytes};
-ghost use Rattle.clap.specs.Words.{subcommand_rows_of};
-ghost use Rattle.udsnorm.specs.Advice.{IsAdviceFor, IsOfCommand, IsOfFiles, IsOfWords, behind_prefix, file_line, files_line, is_of_bus, is_spelled, value_line, values_line, what_to_write};
+ghost use Rattle.clap.specs.Words.{found_of, rows_of, subcommand_rows_of};
+ghost use Rattle.udsnorm.specs.Advice.{IsAdviceFor, IsOfCommand, IsOfFiles, IsOfFirst, IsOfWords, behind_prefix, file_line, files_line, given_line, is_of_bus, is_spelled, line_of_word, value_line, values_line, what_to_write};
 ghost use Rattle.udsnorm.specs.Commands.{command_in, words_or_normalise};
 ghost use Rattle.udsnorm.specs.Identifiers.{identifier_of};
 
@@ -59,30 +59,52 @@ pub(crate) fn advice_for<R: AllocGlobal + Files>(
 fn advice_for_words<R: AllocGlobal + Files>(rt: &R, words: &[String]) -> Result<Vec<u8>, AllocError>
     ensures { IfOk result (λ line. IsOfWords (map string_bytes words.now) line.items) }
 {
-    let alloc = rt.alloc();
-    let Some(word) = words.first() else {
-        return Ok(Vec::new(alloc));
-    };
-    match word.as_str() {
-        "help" => line_of(alloc, &[Piece::Words(OF_HELP)]),
-        "version" => line_of(alloc, &[Piece::Words(OF_VERSION)]),
-        "-" => line_of(alloc, &[Piece::Words(OF_A_DASH)]),
-        name => advice_for_files(rt, name, words.get(1)),
+    match words {
+        [word, rest @ ..] => advice_for_first(rt, word.as_str(), rest),
+        [] => Ok(Vec::new(rt.alloc())),
     }
 }
 
-/// The line for the word that stands where a command has its place, and the one behind it: where the first names a file,
-/// or both do.
-fn advice_for_files<'a, R: AllocGlobal + Files>(
+/// The line for the word that stands where a command has its place, and those behind it.
+fn advice_for_first<R: AllocGlobal + Files>(
     rt: &R,
-    name: &'a str,
-    other: Option<&'a String>,
-) -> Result<Vec<u8>, AllocError> {
+    word: &str,
+    rest: &[String],
+) -> Result<Vec<u8>, AllocError>
+    ensures { IfOk result (λ line. IsOfFirst (line_of_word word.now) word.now (map string_bytes rest.now) line.items) }
+{
+    match line_of_word(word) {
+        Some(line) => line_of(rt.alloc(), &[Piece::Words(line)]),
+        None => advice_for_files(rt, word, rest),
+    }
+}
+
+/// What is said of a word that other programs have where a command has its place.
+fn line_of_word(word: &str) -> Option<&'static str>
+    ensures { option_map (λ t. t.now) result ≡ line_of_word word.now }
+{
+    match word {
+        "help" => Some(OF_HELP),
+        "version" => Some(OF_VERSION),
+        "-" => Some(OF_A_DASH),
+        _ => None,
+    }
+}
+
+/// The line for a word that no other program has there, and those behind it: where it names a file, or the next one
+/// does, too.
+fn advice_for_files<R: AllocGlobal + Files>(
+    rt: &R,
+    name: &str,
+    rest: &[String],
+) -> Result<Vec<u8>, AllocError>
+    ensures { IfOk result (λ line. IsOfFiles name.now (map string_bytes rest.now) line.items) }
+{
     if !names_a_file(rt, name) {
         return Ok(Vec::new(rt.alloc()));
     }
-    match other {
-        Some(other) if names_a_file(rt, other.as_str()) => {
+    match rest {
+        [other, ..] if names_a_file(rt, other.as_str()) => {
             files_line(rt.alloc(), name, other.as_str())
         }
         _ => file_line(rt.alloc(), name),
@@ -160,13 +182,18 @@ fn advice_for_matches(alloc: Global, matches: &ArgMatches<'_>) -> Result<Vec<u8>
     ensures { IfOk result (λ line. IsOfCommand (subcommand_rows_of matches.now) line.items) }
 {
     match matches.subcommand() {
-        Some((_, found)) => values_line(
-            alloc,
-            text_of(found, TESTER).unwrap_or(USUAL_TESTER),
-            text_of(found, UNIT).unwrap_or(USUAL_UNIT),
-        ),
+        Some((_, found)) => given_line(alloc, found),
         None => Ok(Vec::new(alloc)),
     }
+}
+
+/// The line for these values, or the usual ones.
+fn given_line(alloc: Global, found: &ArgMatches<'_>) -> Result<Vec<u8>, AllocError>
+    ensures { IfOk result (λ line. line.items ≡ given_line (rows_of (found_of found.now))) }
+{
+    let tester = text_of(found, TESTER).unwrap_or(USUAL_TESTER);
+    let unit = text_of(found, UNIT).unwrap_or(USUAL_UNIT);
+    values_line(alloc, tester, unit)
 }
 
 /// The line for two values of which one is no identifier, or that are the same.
@@ -221,7 +248,7 @@ fn value_line(alloc: Global, option: &'static str, value: &str) -> Result<Vec<u8
 
 /// Puts at the end of the line what to write, where that are these digits.
 fn push_what_to_write(line: &mut Vec<u8>, digits: Option<&[u8]>) -> Result<(), AllocError>
-    ensures { OnOk result (line.new.items ≡ line.old.items ++ what_to_write (option_map (λ t. t.now) digits)) }
+    ensures { OnOk result (line.new.items ≡ line.old.items ++ what_to_write (option_map (λ t. t.now) digits.entry)) }
 {
     match digits {
         Some(digits) => {
@@ -237,9 +264,13 @@ fn push_what_to_write(line: &mut Vec<u8>, digits: Option<&[u8]>) -> Result<(), A
 fn behind_prefix(value: &[u8]) -> Option<&[u8]>
     ensures { option_map (λ t. t.now) result ≡ behind_prefix value.entry.now }
 {
-    match value {
-        [b'0', b'x' | b'X', digits @ ..] if is_spelled(digits) => Some(digits),
-        _ => None,
+    let [zero, mark, digits @ ..] = value else {
+        return None;
+    };
+    if *zero == b'0' && (*mark == b'x' || *mark == b'X') && is_spelled(digits) {
+        Some(digits)
+    } else {
+        None
     }
 }
 

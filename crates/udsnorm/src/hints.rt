@@ -4,13 +4,13 @@ ghost use Rattle.std.specs.Prelude.{◌≡◌, ◌<◌, ◌++◌, IfOk, OnOk, If
 ghost use Rattle.std.specs.List.{flat_map, list_all};
 ghost use Rattle.can_log.specs.Digits.{digit};
 ghost use Rattle.trace_io.specs.Counted.{IsLowCount};
-ghost use Rattle.udsnorm.specs.Hints.{GaveHint, IsHint, ToldAwaited, asks_for_hints, hint_line, hint_of_plan, look_words, missing_words};
+ghost use Rattle.udsnorm.specs.Hints.{GaveHint, IsHint, ToldAwaited, asks_for_hints, awaited_line, hint_line, hint_of_plan, look_words, missing_words};
 ghost use Rattle.udsnorm.specs.Names.{before_name, behind_command, is_plain, is_plain_name, is_printable, quoted, quoted_byte};
 ghost use Rattle.udsnorm.specs.proving.Pieces.{piece_text, pieces_text};
 
 use crate::advice::advice_for;
 use crate::ended::{Known, Matter, Run, name_of};
-use crate::job::Plan;
+use crate::job::{Plan, WordsFault};
 use crate::looks::Look;
 use crate::tell::tell_text;
 use crate::words::plan;
@@ -72,11 +72,17 @@ pub fn tell_awaited<E: Target>(alloc: Global, words: &[String], err: &mut E)
     requires { IsLowCount (E.failures err.old) }
     ensures { ToldAwaited E.Target (map string_bytes words.now) err.old err.new }
 {
-    if let Ok(Plan::One { log: None, .. }) = plan(alloc, words) {
-        tell_text(
-            "hint: standard input is read; Ctrl-D ends it\n".as_bytes(),
-            err,
-        );
+    let asked = plan(alloc, words);
+    tell_text(awaited_line(&asked).as_bytes(), err);
+}
+
+/// What is told before this is done.
+fn awaited_line(asked: &Result<Plan, WordsFault>) -> &'static str
+    ensures { result.now ≡ awaited_line asked.now }
+{
+    match asked {
+        Ok(Plan::One { log: None, .. }) => "hint: standard input is read; Ctrl-D ends it\n",
+        _ => "",
     }
 }
 
@@ -223,7 +229,7 @@ fn hint_line(alloc: Global, matter: Matter, log: Option<&str>) -> Result<Vec<u8>
 
 /// What is said of a file that is not there, behind its name. A dash is meant for standard input.
 fn missing_words(name: Option<&str>) -> &'static str
-    ensures { result.now ≡ missing_words (option_map (λ t. t.now) name) }
+    ensures { result.now ≡ missing_words (option_map (λ t. t.now) name.entry) }
 {
     if name == Some("-") {
         "; standard input is read where no file is named, or as /dev/stdin\n"
