@@ -11,3 +11,4 @@ pub mod LineParts
 pub mod ToldTexts
 pub mod Fronts
 pub mod AskedHints
+pub mod Awaited

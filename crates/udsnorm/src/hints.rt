@@ -67,13 +67,19 @@ pub fn give_hint<R: AllocGlobal + Files, E: Target>(
     Ok(())
 }
 
-/// Tells that standard input is awaited, where the words ask for a job over it.
-pub fn tell_awaited<E: Target>(alloc: Global, words: &[String], err: &mut E)
-    requires { IsLowCount (E.failures err.old) }
-    ensures { ToldAwaited E.Target (map string_bytes words.now) err.old err.new }
+/// Tells that standard input is awaited, where the words ask for a job over it and this is to be told. Where the error
+/// output had failed before, it is left out.
+#[tactic(auto, using(crate::proofs::Awaited::low_after))]
+pub fn tell_awaited<E: Target>(alloc: Global, words: &[String], is_wanted: bool, err: &mut E)
+    ensures told { is_wanted ≡ true → E.failures err.old ≡ 0 → ToldAwaited E.Target (map string_bytes words.now) err.old err.new }
+    ensures failed { 0 < E.failures err.old → err.new ≡ err.old }
+    ensures unwanted { is_wanted ≡ false → err.new ≡ err.old }
+    ensures low { IsLowCount (E.failures err.old) → IsLowCount (E.failures err.new) }
 {
-    let asked = plan(alloc, words);
-    tell_text(awaited_line(&asked).as_bytes(), err);
+    if is_wanted && err.failures() == 0 {
+        let asked = plan(alloc, words);
+        tell_text(awaited_line(&asked).as_bytes(), err);
+    }
 }
 
 /// What is told before this is done.

@@ -77,9 +77,7 @@ fn main(rt: HostRuntime) -> ExitCode {
     let status = match given_words(&rt) {
         Ok(words) => {
             let words = words.as_slice();
-            if is_awaited {
-                tell_awaited(rt.alloc(), words, &mut err);
-            }
+            tell_awaited(rt.alloc(), words, is_awaited, &mut err);
             let run = run_words(&rt, words, &mut input, &mut out, &mut err);
             // Where memory is refused there is no hint.
             let _ = give_hint(
