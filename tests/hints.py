@@ -183,7 +183,6 @@ def words(cases, folder):
         (["Help"], None),
         (["logs"], None),
         (["none.log"], None),
-        (["list", "help"], None),
         (["list", "--lim", "1"], None),
         (["list", "--limit", "0"], "--limit takes 1 to 1099511627776 bytes"),
         (["--limit", "1"], None),
@@ -191,6 +190,7 @@ def words(cases, folder):
         (["compare", "mine.log"], None),
     ]:
         hinted(cases, f"the words {shlex.join(given)}", given, folder, WORDS, hint)
+    hinted(cases, "help is a name behind a command", ["list", "help"], folder, DEVICE, "there is no file help")
 
 
 def values(cases, folder):
