@@ -11,3 +11,5 @@ pub mod LineParts
 pub mod ToldTexts
 pub mod Fronts
 pub mod Serving
+pub mod AskedHints
+pub mod Awaited

@@ -1,13 +1,29 @@
 -- Lines of several parts, and how long they are.
-use Rattle.std.proofs.Common.{◌≡◌, ◌∙◌, ◌+◌, ◌≤◌, ℕ, Bool, true, false, List, ◌++◌, length, ap, sym, append_assoc, length-append, arith}
+use Rattle.std.proofs.Common.{◌≡◌, ◌∙◌, ◌+◌, ◌≤◌, ℕ, Bool, true, false, List, [], ◌++◌, length, ap, sym, append_assoc, append-nil, length-append, arith}
 use Rattle.std.specs.Prelude.{codes}
 use Rattle.udsnorm.specs.FaultLines.{clause}
+
+joined : (front part rest : List ℕ) → front ++ (part ++ rest) ≡ (front ++ part) ++ rest
+joined front part rest = sym (append_assoc front part rest)
 
 -- the parts, one after another, are the text of the parts before and behind
 pub is_two_numbers : (front a n b m c : List ℕ) → front ++ (a ++ (n ++ (b ++ (m ++ c)))) ≡ front ++ (a ++ n ++ b ++ m ++ c)
 is_two_numbers front a n b m c =
     ap (λ text. front ++ text)
     (sym (append_assoc a n (b ++ (m ++ c))) ∙ sym (append_assoc (a ++ n) b (m ++ c)) ∙ sym (append_assoc (a ++ n ++ b) m c))
+
+-- so are nine parts of a hint
+pub is_nine_parts : (a b c d e f g h i : List ℕ) → a ++ (b ++ (c ++ (d ++ (e ++ (f ++ (g ++ (h ++ (i ++ [])))))))) ≡ a ++ b ++ c ++ d ++ e ++ f ++ g ++ h ++ i
+is_nine_parts a b c d e f g h i =
+    joined a b (c ++ (d ++ (e ++ (f ++ (g ++ (h ++ (i ++ [])))))))
+    ∙ joined (a ++ b) c (d ++ (e ++ (f ++ (g ++ (h ++ (i ++ []))))))
+    ∙ joined (a ++ b ++ c) d (e ++ (f ++ (g ++ (h ++ (i ++ [])))))
+    ∙ joined (a ++ b ++ c ++ d) e (f ++ (g ++ (h ++ (i ++ []))))
+    ∙ joined (a ++ b ++ c ++ d ++ e) f (g ++ (h ++ (i ++ [])))
+    ∙ joined (a ++ b ++ c ++ d ++ e ++ f) g (h ++ (i ++ []))
+    ∙ joined (a ++ b ++ c ++ d ++ e ++ f ++ g) h (i ++ [])
+    ∙ joined (a ++ b ++ c ++ d ++ e ++ f ++ g ++ h) i []
+    ∙ append-nil (a ++ b ++ c ++ d ++ e ++ f ++ g ++ h ++ i)
 
 -- and are together as long as each of them
 pub length_of_two_numbers : (front a n b m c : List ℕ)

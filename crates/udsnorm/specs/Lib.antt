@@ -1,6 +1,7 @@
 pub mod Identifiers
 pub mod Values
 pub mod Commands
+pub mod Shown
 pub mod Words
 pub mod Status
 pub mod FaultLines
@@ -11,6 +12,8 @@ pub mod Looks
 pub mod Opening
 pub mod Known
 pub mod Asked
+pub mod Names
+pub mod Advice
 pub mod Hints
 pub mod Process
 pub mod proving

@@ -12,7 +12,7 @@
 //! refused, 6 with `--strict` the log is not clean.
 #![tactic(auto)]
 
-ghost use Rattle.std.specs.Prelude.{◌≡◌, ◌+◌, ◌≤◌, ℕ, List, ◌++◌, length, true, map, string_bytes, MatchResult};
+ghost use Rattle.std.specs.Prelude.{◌≡◌, ◌+◌, ◌≤◌, ◌&&◌, ◌||◌, ℕ, List, ◌++◌, length, true, map, string_bytes, MatchResult};
 ghost use Rattle.std.specs.Process.{exit_status};
 ghost use Rattle.trace_canon.specs.Compared.{fault_in};
 ghost use Rattle.trace_io.specs.Counted.{AreLowCounts, IsLowCount};
@@ -22,10 +22,12 @@ ghost use Rattle.udsnorm.specs.FaultLines.{side_line};
 ghost use Rattle.udsnorm.specs.Commands.{words_or_normalise};
 ghost use Rattle.udsnorm.specs.Known.{knows_unopened};
 ghost use Rattle.udsnorm.specs.Opening.{opened, two_files};
+ghost use Rattle.udsnorm.specs.Hints.{asks_for_hints};
 ghost use Rattle.udsnorm.specs.Process.{Hinted, Served};
 ghost use Rattle.udsnorm.specs.Status.{status_of};
 ghost use Rattle.udsnorm.specs.Telling.{TookText};
 
+mod advice;
 mod command;
 mod commands;
 mod ended;
@@ -38,6 +40,7 @@ mod noticing;
 mod opening;
 mod pair_jobs;
 mod run;
+mod shown;
 mod stream;
 mod tell;
 mod text;
@@ -46,7 +49,7 @@ mod words;
 
 use crate::commands::Job;
 use crate::ended::{End, Run, Which, known_of_file, known_of_files, known_of_input, unopened};
-use crate::hints::give_hint;
+use crate::hints::{asks_for_hints, give_hint, tell_awaited};
 use crate::job::{Plan, WordsFault};
 use crate::noticing::Noticing;
 use crate::opening::{OpenFault, Opener};
@@ -64,26 +67,40 @@ use trace_io::{Source, Target, Writing};
 use trace_log::{CompareFault, Config, Fault};
 
 /// What is told of a command line that is no text.
-const NO_TEXT: &str = "error: the command line is not UTF-8\n";
+const NO_TEXT: &str =
+    "error: the command line is not UTF-8; a file with such a name is read as udsnorm list < FILE\n";
 
 fn main(rt: HostRuntime) -> ExitCode {
     let stderr = rt.stderr();
+    let stdin = rt.reader();
+    let terminals = Terminals {
+        input: stdin.is_terminal(),
+        errors: stderr.is_terminal(),
+    };
     answer(
         &rt,
         given_words(&rt),
-        stderr.is_terminal(),
-        &mut Noticing::new(rt.reader()),
+        terminals,
+        &mut Noticing::new(stdin),
         &mut Writing::new(io::writer(&rt)),
         &mut Writing::new(io::writer(&stderr)),
     )
 }
 
+/// Which of the process's devices are terminals.
+#[derive(Clone, Copy)]
+struct Terminals {
+    input: bool,
+    errors: bool,
+}
+
 /// Does what the words ask for, or tells why there are none, and answers how the process ends. Nothing is written beside:
-/// only where the error output is a terminal, it gets the hint of the run.
+/// only where input and error output are terminals, that the input is read; and where the error output is one, or the
+/// words ask for hints, the hint of the run.
 fn answer<R: AllocGlobal + Files + Opener, I: Read, W: Target, E: Target>(
     rt: &R,
     words: Result<Vec<String>, WordsFault>,
-    at_terminal: bool,
+    terminals: Terminals,
     input: &mut Noticing<I>,
     out: &mut W,
     err: &mut E,
@@ -92,17 +109,17 @@ fn answer<R: AllocGlobal + Files + Opener, I: Read, W: Target, E: Target>(
     requires out { IsLowCount (W.failures out.old) }
     requires err { IsLowCount (E.failures err.old) }
     ensures ended { (status : ℕ) × (exit_status result ≡ status) × MatchResult words
-        (λ given. Served (R.says rt.now) ⟦<Noticing<R::Log> as Source>⟧ ⟦<Noticing<I> as Source>⟧ W.Target E.Target (map string_bytes given.items) at_terminal input.old out.old err.old status input.new out.new err.new)
+        (λ given. Served (R.says rt.now) ⟦<Noticing<R::Log> as Source>⟧ ⟦<Noticing<I> as Source>⟧ W.Target E.Target (map string_bytes given.items) terminals input.old out.old err.old status input.new out.new err.new)
         (λ fault. (input.new ≡ input.old) × ToldWords W.Target E.Target fault out.old err.old status out.new err.new) }
 {
-    ExitCode::from(serve_or_tell(rt, words, at_terminal, input, out, err))
+    ExitCode::from(serve_or_tell(rt, words, terminals, input, out, err))
 }
 
 /// Does what the words ask for, or tells why there are none. Answers the exit status.
 fn serve_or_tell<R: AllocGlobal + Files + Opener, I: Read, W: Target, E: Target>(
     rt: &R,
     words: Result<Vec<String>, WordsFault>,
-    at_terminal: bool,
+    terminals: Terminals,
     input: &mut Noticing<I>,
     out: &mut W,
     err: &mut E,
@@ -111,20 +128,20 @@ fn serve_or_tell<R: AllocGlobal + Files + Opener, I: Read, W: Target, E: Target>
     requires out { IsLowCount (W.failures out.old) }
     requires err { IsLowCount (E.failures err.old) }
     ensures served { MatchResult words
-        (λ given. Served (R.says rt.now) ⟦<Noticing<R::Log> as Source>⟧ ⟦<Noticing<I> as Source>⟧ W.Target E.Target (map string_bytes given.items) at_terminal input.old out.old err.old result input.new out.new err.new)
+        (λ given. Served (R.says rt.now) ⟦<Noticing<R::Log> as Source>⟧ ⟦<Noticing<I> as Source>⟧ W.Target E.Target (map string_bytes given.items) terminals input.old out.old err.old result input.new out.new err.new)
         (λ fault. (input.new ≡ input.old) × ToldWords W.Target E.Target fault out.old err.old result out.new err.new) }
 {
     match words {
-        Ok(words) => serve(rt, words.as_slice(), at_terminal, input, out, err),
+        Ok(words) => serve(rt, words.as_slice(), terminals, input, out, err),
         Err(fault) => tell(&fault, out, err),
     }
 }
 
-/// Does what the words ask for, gives the hint of that where the error output is a terminal, and answers the exit status.
+/// Does what the words ask for, with what is told beside, and answers the exit status.
 fn serve<R: AllocGlobal + Files + Opener, I: Read, W: Target, E: Target>(
     rt: &R,
     words: &[String],
-    at_terminal: bool,
+    terminals: Terminals,
     input: &mut Noticing<I>,
     out: &mut W,
     err: &mut E,
@@ -132,29 +149,41 @@ fn serve<R: AllocGlobal + Files + Opener, I: Read, W: Target, E: Target>(
     requires input { AreLowCounts input.old.reads (length input.old.given) input.old.failures }
     requires out { IsLowCount (W.failures out.old) }
     requires err { IsLowCount (E.failures err.old) }
-    ensures served { Served (R.says rt.now) ⟦<Noticing<R::Log> as Source>⟧ ⟦<Noticing<I> as Source>⟧ W.Target E.Target (map string_bytes words.now) at_terminal input.old out.old err.old result input.new out.new err.new }
+    ensures served { Served (R.says rt.now) ⟦<Noticing<R::Log> as Source>⟧ ⟦<Noticing<I> as Source>⟧ W.Target E.Target (map string_bytes words.now) terminals input.old out.old err.old result input.new out.new err.new }
 {
+    tell_awaited(rt.alloc(), words, is_awaited(terminals), err);
     let run = run_words(rt, words, input, out, err);
-    hint_at_terminal(rt, at_terminal, words, &run, err);
+    hint_where_wanted(rt, is_hinted(terminals, words), words, &run, err);
     run.end.status
 }
 
-/// Gives the hint of a run where the error output is a terminal.
-#[tactic(auto, using(crate::proofs::Serving::hinted_there, crate::proofs::Serving::hinted_elsewhere))]
-fn hint_at_terminal<R: AllocGlobal + Files, E: Target>(
+/// Whether somebody at a terminal may wait for the end of an input that is read there.
+fn is_awaited(terminals: Terminals) -> bool
+    ensures { result ≡ (terminals.errors && terminals.input) }
+{
+    terminals.errors && terminals.input
+}
+
+/// Whether hints are wanted: at a terminal, or where the words ask for them.
+fn is_hinted(terminals: Terminals, words: &[String]) -> bool
+    ensures { result ≡ (terminals.errors || asks_for_hints (map string_bytes words.now)) }
+{
+    terminals.errors || asks_for_hints(words)
+}
+
+/// Gives the hint of a run where it is wanted.
+#[tactic(auto, using(crate::proofs::Serving::hinted_by))]
+fn hint_where_wanted<R: AllocGlobal + Files, E: Target>(
     rt: &R,
-    at_terminal: bool,
+    is_wanted: bool,
     words: &[String],
     run: &Run,
     err: &mut E,
 )
-    ensures hinted { Hinted E.Target at_terminal run.now.asked (map string_bytes words.now) run.now.end.known err.old err.new }
+    ensures hinted { Hinted E.Target is_wanted run.now.asked (map string_bytes words.now) run.now.end.known err.old err.new }
 {
-    if !at_terminal {
-        return;
-    }
     // Where memory is refused there is none.
-    let _ = give_hint(rt, words, run, err);
+    let _ = give_hint(rt, words, run, is_wanted, err);
 }
 
 /// The words after the program's name.

@@ -5,8 +5,12 @@ returns g c = record {
   served = record {
     asked = c.run_words-run.result.asked;
     known = c.run_words-run.result.end.known;
+    begun = c.tell_awaited.new.err;
     told = c.run_words-run.new.err;
+    awaited =
+        let awaited = rw c.is_awaited.ensures at c.tell_awaited.ensures in
+        record { line = awaited.told; only_there = awaited.unwanted; only_behind = awaited.failed };
     did = c.run_words-run.ensures.run;
-    hinted = c.hint_at_terminal.ensures.hinted;
+    hinted = rw (← c.is_hinted.ensures) c.hint_where_wanted.ensures.hinted;
   };
 }
