@@ -83,6 +83,22 @@ def is_said_to_be_whole(browser, page):
     return ["the notice that its end is missing is shown"] if ask(browser, "noticeIsShown()") else []
 
 
+def is_said_to_be_whole_without_its_style(browser, page):
+    """Where its style is blocked, too; then the link at the top says where a verdict is that is not shown first."""
+    text = page.file.read_text()
+    bare = page.file.with_suffix(".bare.html")
+    bare.write_text(re.sub("<style>.*?</style>", "", text, count=1, flags=re.S))
+    wrong = is_said_to_be_whole(browser, page._replace(file=bare))
+    first = ask(browser, "verdictIsAbove()")
+    return wrong + ([] if ask(browser, "endIsNamed()") != first else [f"its verdict is {'not ' if not first else ''}first, and its top says otherwise"])
+
+
+def names_no_end_with_its_style(browser, page):
+    """The style shows the verdict first, so the link to it doesn't name another place."""
+    show(browser, page)
+    return ["the link to the verdict says that it is at the end"] if ask(browser, "endIsNamed()") else []
+
+
 def shows_the_verdict_first(browser, page):
     show(browser, page)
     wrong = []
@@ -291,6 +307,8 @@ CHECKS = [
     Check("asks the network for nothing", EVERY, asks_for_nothing),
     Check("tells the console nothing", EVERY, tells_the_console_nothing),
     Check("is said to be whole", EVERY, is_said_to_be_whole),
+    Check("is said to be whole without its style", EVERY, is_said_to_be_whole_without_its_style),
+    Check("does not say that its verdict is at the end", EVERY, names_no_end_with_its_style),
     Check("shows the verdict above the session", EVERY, shows_the_verdict_first),
     Check("fits", EVERY, fits),
     Check("can be read in light, dark and forced colours", [*SHORT, NOTHING], can_be_read),
@@ -312,6 +330,8 @@ PAIR_CHECKS = [
     Check("asks the network for nothing", EVERY, asks_for_nothing),
     Check("tells the console nothing", EVERY, tells_the_console_nothing),
     Check("is said to be whole", EVERY, is_said_to_be_whole),
+    Check("is said to be whole without its style", EVERY, is_said_to_be_whole_without_its_style),
+    Check("does not say that its verdict is at the end", EVERY, names_no_end_with_its_style),
     Check("shows the verdict above the items", EVERY, shows_the_verdict_first),
     Check("fits", EVERY, fits),
     Check("fits where all is open", EVERY, fits_where_all_is_open),
@@ -333,6 +353,9 @@ FLAWS = [
     (asks_for_nothing, EVERY_KIND, "<img src='http://127.0.0.1:1023/'>"),
     (tells_the_console_nothing, EVERY_KIND, "<script>console.log(1)</script>"),
     (is_said_to_be_whole, EVERY_KIND, "#cut { display: block !important; }"),
+    (is_said_to_be_whole_without_its_style, EVERY_KIND, "<style>#cut { display: block; }</style>"),
+    (is_said_to_be_whole_without_its_style, EVERY_KIND, "<style>.plain { display: none; }</style>"),
+    (names_no_end_with_its_style, EVERY_KIND, ".plain { display: inline !important; }"),
     (shows_the_verdict_first, EVERY_KIND, "#verdict { order: 9 !important; }"),
     (fits, EVERY_KIND, "h1 { min-width: 400px; }"),
     (fits, EVERY_KIND, "td b { white-space: nowrap; }"),

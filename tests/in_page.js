@@ -120,3 +120,6 @@ function noticeIsShown() {
   const notice = document.getElementById("cut");
   return isSeen(notice) && box(notice).bottom <= innerHeight;
 }
+
+// Whether the link to the verdict says that this is at the end of the page.
+const endIsNamed = () => all(".plain").some(isSeen);

@@ -177,6 +177,7 @@ def made_logs():
     """Logs that are made for one thing each."""
     for name, log in [
         ("nothing", b""),
+        ("blank lines", b"\n\r\n"),
         ("foreign frames alone", log_of("123#00", "000007E0#0322F190")),
         ("frames of the tester alone", log_of(REQUEST)),
         ("frames of the unit alone, some of them dropped", log_of(STRAY, UNKNOWN)),
@@ -282,13 +283,17 @@ def strict_runs(cases):
         ("a clean log", VIN),
         ("a log without its last line feed", VIN.removesuffix(b"\n")),
         ("a log with dropped frames", log_of(*needing_a_look())),
-        ("a log without a frame", b""),
+        ("a log without a line", b""),
+        ("a log of a blank line", b"\n"),
+        ("a log that lacks a side, a frame and its last line feed", log_of(UNKNOWN).removesuffix(b"\n")),
         ("a refused log", VIN + b"x\n"),
     ]:
         found = cases.run(["report", "--strict"], log)
         came = report_oracle.reported(log)
         told = oracle.unclean(log) if came.status == DONE else None
         wrong = page_differences(found, came, *([UNCLEAN, f"{told}\n".encode()] if told else []))
+        shown = f"<p><em>{told.removeprefix('not clean: ')}.</em>" if told else ""
+        wrong += [] if shown.encode() in found.output else [f"its page does not say {shown}"]
         cases.report(f"report --strict of {name}", wrong + ends_otherwise(cases, ["--strict"], log, found))
 
 

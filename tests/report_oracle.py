@@ -460,22 +460,47 @@ def span_text(frames):
 
 
 def heading(log, frames, counts):
-    """The look, the sign and the words of the heading, and the sentence below it, of a log that is not refused."""
-    senders = {entry.direction for entry in frames}
-    lost = counts["dropped"] + counts["ended"] + counts["unfinished"]
-    if not senders:
-        meant = "Other identifiers may be meant: see <code>--tester</code> and <code>--unit</code>."
-        return "warn", "!", "No frame of the tester or the unit", meant
-    if len(senders) == 2 and not lost and log.endswith(b"\n"):
+    """The look, the sign and the words of the heading, and the sentences below it, of a log that is not refused."""
+    told = unclean_words(log, frames, counts)
+    if not told:
         return "good", "&#10003;", "The recording is clean", "No frame of the two identifiers was dropped, and no message is in part."
-    if len(senders) == 1:
-        [missing] = {TESTER, UNIT} - senders
-        reason = f"No frame is of the {missing}."
-    elif lost:
-        reason = "Frames are missing, late, out of order or of no legal form. Messages that they belonged to are not below."
-    else:
-        reason = "The log ends inside its last line: it may be cut."
-    return "warn", "!", "The recording is not clean", reason
+    words = "The recording is not clean" if frames else "No frame of the tester or the unit"
+    return "warn", "!", words, " ".join([f"<em>{told}.</em>", *meant(log, frames, counts)])
+
+
+def unclean_words(log, frames, counts):
+    """What is told of a log that has to be clean and is not."""
+    senders = {entry.direction for entry in frames}
+    lacking = [f"frame of the {side}" for side in (TESTER, UNIT) if side not in senders]
+    lacking += ["line feed at the end"] if is_cut(log) else []
+    if not lacking and not lost(counts):
+        return None
+    told = " ".join(f"{name} {number}" for name, number in [("frames", len(frames)), *((name, counts[name]) for name in LOSSES)])
+    return told + "".join(f", no {what}" for what in lacking)
+
+
+def meant(log, frames, counts):
+    """What that means for what is below."""
+    sentences = []
+    if lost(counts):
+        sentences += ["Frames are missing, late, out of order or of no legal form.", "Messages that they belonged to are not below."]
+    if is_cut(log):
+        sentences.append("The log ends inside its last line: it may be cut.")
+    if not frames:
+        other = "Either no line has a frame, or other identifiers are meant: see <code>--tester</code> and <code>--unit</code>."
+        sentences.append(other if log else "The log is empty: it has no line.")
+    return sentences
+
+
+LOSSES = ("dropped", "ended", "unfinished")
+
+
+def lost(counts):
+    return sum(counts[name] for name in LOSSES)
+
+
+def is_cut(log):
+    return log != b"" and not log.endswith(b"\n")
 
 
 def answers_text(counts):
@@ -527,8 +552,8 @@ form-action 'none'">
 <p class="brand">udsnorm report</p>
 <h1>{heading}</h1>
 <p class="ids"><span class="T">tester {tester}</span> <span class="U">unit {unit}</span></p>
-<p class="skip"><a href="#verdict">Verdict</a> <a href="#session">{middle}</a> <a href="#help">How to read this page</a></p>
-<p id="cut" role="status">This page has no end. What wrote it was stopped, or the file was cut, or the page is still loading: \
+<p class="skip"><a href="#verdict">{verdict}</a> <a href="#session">{middle}</a> <a href="#help">How to read this page</a></p>
+<p id="cut" role="status" hidden>This page has no end. What wrote it was stopped, or the file was cut, or the page is still loading: \
 it tells nothing of the rest of the session.</p>
 </header>
 """
@@ -538,6 +563,9 @@ SESSION_START = """\
 <h2>Session</h2>
 <p class="filter"><input type="checkbox" id="only"> <label for="only">Show only what needs a look</label></p>
 """
+
+# What the link to the verdict is called where that is written last. The style shows it first, and hides the second word.
+VERDICT_AT_THE_END = 'Verdict<span class="plain">, at the end of this page</span>'
 
 STOP = '<p class="stop"><b>Refused here:</b> {fault}.</p>\n'
 
@@ -608,7 +636,7 @@ def page(log, name, refused=None, sides=SIDES):
 
 def front_text(name, sides):
     shown = name_text(name)
-    return FRONT.format(title=shown, heading=shown, middle="Session", style=STYLE, **sides) + SESSION_START
+    return FRONT.format(title=shown, heading=shown, verdict=VERDICT_AT_THE_END, middle="Session", style=STYLE, **sides) + SESSION_START
 
 
 def begun(log, name=STANDARD_INPUT, sides=SIDES):
@@ -735,7 +763,13 @@ def place_of_item(session, item):
     """Where an item stands in a log."""
     begin, last = item.begin, item.answer or item.begin
     time = f"{seconds(session.origin, begin.last.micros)}&#160;s"
-    return f"<i>{', '.join([f'{session.letter}: line {lines_text(begin.first, last.last)}', time, *after_words(last)])}</i>"
+    return f"<i>{', '.join([f'{session.letter}: {lines_of_item(item)}', time, *after_words(last)])}</i>"
+
+
+def lines_of_item(item):
+    """The lines of the frames that carry the messages of an item, from the least to the greatest."""
+    lines = [frame.line for row in (item.begin, item.answer) if row for frame in (row.first, row.last)]
+    return f"lines {min(lines)}&#8211;{max(lines)}" if min(lines) < max(lines) else f"line {min(lines)}"
 
 
 def item_row(left, right, number):
@@ -814,7 +848,7 @@ SAME_VERDICT = """\
 NOTHING_VERDICT = """\
 <section id="verdict" class="warn">
 <h2><span aria-hidden="true">!</span> Neither session has an item</h2>
-<p>Other identifiers may be meant: see <code>--tester</code> and <code>--unit</code>.</p>
+<p>So they can't differ. Below stands what each recording has.</p>
 """
 
 HELP_OF_TWO = HELP.format(
@@ -880,7 +914,7 @@ def pair_page(left_log, right_log, left_name, right_name, sides=SIDES):
 def pair_front(left_name, right_name, sides):
     title = f"{name_text(left_name)} and {name_text(right_name)}"
     heading = f"{lettered(A, left_name)}<br>{lettered(B, right_name)}"
-    return FRONT.format(title=title, heading=heading, middle="Items", style=STYLE, **sides)
+    return FRONT.format(title=title, heading=heading, verdict="Verdict", middle="Items", style=STYLE, **sides)
 
 
 def lettered(letter, name):
@@ -904,9 +938,7 @@ def session_text(session):
 def state_text(session, counts):
     """Whether a recording is clean."""
     look, _, words, reason = heading(session.log, session.frames, counts)
-    if not session.frames:
-        return "<b>No frame is of the tester or the unit.</b>"
-    return f"{words}." if look == "good" else f"<b>{words}:</b> {reason}"
+    return f"{words}." if look == "good" else f"<b>The recording is not clean:</b> {reason}"
 
 
 def counts_of_session(session):

@@ -77,6 +77,9 @@ DIFFERENCES = [
     ("silence in both", [SILENT, KEEP_ALIVE], [SILENT, KEEP_ALIVE], None),
 ]
 
+# The other frames of the message that FIRST begins.
+NEXT, LAST = "7E8#2133413543353045", "7E8#2246313233343536"
+
 # The lengths of messages, and the places at which they differ, about those at which a page shows less of one.
 LENGTHS = (2, 31, 33, 63, 64, 65, 80, 96)
 PLACES = (0, 1, 15, 16, 31, 32, 33, 47, 48, 62, 63, 64, 65, 79, 95)
@@ -374,12 +377,22 @@ def known_texts(cases):
         ]),
         ("an item that is the same", log_of(REQUEST, ANSWER), log_of("123#00", REQUEST, PENDING, ANSWER), [
             "<p>Items: 1. Each is equal in both, byte for byte",
-            "<i>A: line 1&#8211;2, 0.000000&#160;s, after 1.000&#160;ms</i><i>B: line 2&#8211;4, 0.000000&#160;s, after 2.000&#160;ms</i>",
+            "<i>A: lines 1&#8211;2, 0.000000&#160;s, after 1.000&#160;ms</i><i>B: lines 2&#8211;4, 0.000000&#160;s, after 2.000&#160;ms</i>",
             '<details class="b">\n<summary>From item 1</summary>\n',
         ]),
+        ("an answer that begins before its request", log_of(FIRST, REQUEST, NEXT, LAST), log_of(REQUEST, FIRST, NEXT, LAST), [
+            "<p>Items: 1. Each is equal in both, byte for byte",
+            "<i>A: lines 1&#8211;4, 0.001000&#160;s, ",
+            "<i>B: lines 1&#8211;4, 0.000000&#160;s, ",
+        ]),
+        ("an answer that begins before its request, among other lines", log_of(STRAY, "123#00", FIRST, "123#00", REQUEST, NEXT, "123#00", LAST), log_of(OTHER_STRAY, STRAY), [
+            "<br><i>A: lines 3&#8211;8, 0.004000&#160;s, ",
+            "<br><i>B: line 2, 0.001000&#160;s</i>",
+        ]),
         ("no item and no item, whose frame is dropped", b"", log_of(UNKNOWN), [
-            '<section id="verdict" class="warn">\n<h2><span aria-hidden="true">!</span> Neither session has an item</h2>\n<p>Other identifiers may be meant',
-            "<b>No frame is of the tester or the unit.</b>",
+            '<section id="verdict" class="warn">\n<h2><span aria-hidden="true">!</span> Neither session has an item</h2>\n<p>So they can\'t differ.',
+            "<b>The recording is not clean:</b> <em>frames 0 dropped 0 ended 0 unfinished 0, no frame of the tester, no frame of the unit.</em> The log is empty: it has no line.</p>",
+            "<b>The recording is not clean:</b> <em>frames 1 dropped 1 ended 0 unfinished 0, no frame of the tester.</em> Frames are missing,",
             "<h2>Items</h2>\n</main>\n",
         ]),
         ("an item more", log_of(REQUEST), log_of(REQUEST, SILENT, STRAY), [
