@@ -4,7 +4,7 @@
     tests/documents.py
 
 - the picture of the crates is the one that scripts/draw-crates draws of crates.txt, and names each crate and dependency;
-- the style that the program embeds in a report is that of crates/trace_report/style/report.css;
+- the style that the program embeds in a report is that of crates/trace_page/style/report.css;
 - each link of each document to a file of the repository, and to a heading in it, leads somewhere;
 - no line of their prose has more than 120 characters, and each table has a head;
 - the source files that documents name are there;
@@ -43,7 +43,7 @@ from cases import Cases
 TOP = Path(__file__).resolve().parent.parent
 DOCS = TOP / "docs"
 PICTURE = DOCS / "crates.svg"
-STYLE = TOP / "crates/trace_report/src/style.rt"
+STYLE = TOP / "crates/trace_page/src/style.rt"
 ARCHITECTURE = DOCS / "architecture.md"
 DEFINITIONS = DOCS / "definitions.md"
 PROVED = DOCS / "proved.md"

@@ -67,9 +67,10 @@ OF_LIBRARIES = {
     "trace_run: proofs": ["trace_log: proofs"],
     "trace_text: proofs": ["trace_log: proofs"],
     "trace_canon: proofs": ["trace_run: proofs", "trace_text: proofs", "uds_find: proofs"],
-    "trace_report: proofs": ["trace_canon: proofs"],
+    "trace_rows: proofs": ["trace_canon: proofs"],
+    "trace_page: proofs": ["trace_rows: proofs"],
 }
-OF_PROGRAM = {"udsnorm: make build": ["trace_report: proofs"], "tests/documents.py": [], "tests/make_check.py": []}
+OF_PROGRAM = {"udsnorm: make build": ["trace_page: proofs"], "tests/documents.py": [], "tests/make_check.py": []}
 OF_PROGRAM |= {f"tests/{test}.py": ["udsnorm: make build"] for test in ["command_line", "program", "sessions", "shipped", "recipes", "release"]}
 
 # The crates beside the program, each with those below it that are checked.
@@ -78,8 +79,8 @@ APART = {
     "json_reading": UP_TO_CANON,
     "udsnorm_c": UP_TO_CANON,
     "layer_bench": ["uds_message", "uds_exchange"],
-    "acceptance": [*UP_TO_CANON, "trace_report"],
-    "refused_memory": [*UP_TO_CANON, "trace_report"],
+    "acceptance": [*UP_TO_CANON, "trace_rows", "trace_page"],
+    "refused_memory": [*UP_TO_CANON, "trace_rows", "trace_page"],
 }
 OF_APART = {f"{crate}: proofs": [f"{name}: proofs" for name in below] for crate, below in APART.items()}
 ALL_STEPS = OF_LIBRARIES | OF_PROGRAM | OF_APART
@@ -137,7 +138,7 @@ def goes_upwards(cases, tree):
     for failing, step in [
         ("uds_message fmt", "uds_message: rt fmt"),
         ("uds_exchange lib", "uds_exchange: proofs"),
-        ("trace_report lib", "trace_report: proofs"),
+        ("trace_page lib", "trace_page: proofs"),
         ("udsnorm run", "udsnorm: make build"),
         ("layer_bench check", "layer_bench: proofs"),
         ("acceptance test", "acceptance: proofs"),

@@ -1,4 +1,4 @@
-//! A session through each call of `trace_report`, over devices that only a test has. What whole pages are is tested over the built
+//! A session through each call of `trace_rows` and `trace_page`, over devices that only a test has. What whole pages are is tested over the built
 //! program, by `tests/report.py` and `tests/report_pairs.py`.
 
 use crate::calls::{CANONICAL, LOG, assert_session, byte_by_byte, failing, full, sides};
@@ -11,13 +11,13 @@ use std::test::Fail;
 use trace_canon::Comparison;
 use trace_io::{Reading, Source, Target, Writing};
 use trace_log::{CompareFault, ConfigFault, Fault, Summary};
-use trace_report::{Held, PairTitle, hold_two, report, write_pair_page};
+use trace_page::{PairTitle, report, write_pair_page};
+use trace_rows::{Held, hold_two};
 
 /// A log of the same request, and of nothing else.
 const REQUEST: &str = "(0.000000) can0 7E0#0322F190\n";
 
 const TITLE: PairTitle<'static> = PairTitle {
-    style: "",
     left: b"log",
     right: b"canonical",
     tester: Id::Std(0x7E0),
@@ -31,7 +31,7 @@ fn reported<R: Read + Drop, W: Write + Drop>(
     writer: W,
 ) -> Result<(Result<Summary, Fault>, Writing<W>), ConfigFault> {
     let (mut reader, mut writer) = (Reading::new(reader), Writing::new(writer));
-    let answer = report(alloc, &sides()?, "", b"log", &mut reader, &mut writer);
+    let answer = report(alloc, &sides()?, b"log", &mut reader, &mut writer);
     Ok((answer, writer))
 }
 

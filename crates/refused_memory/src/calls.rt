@@ -10,7 +10,7 @@ use std::test::Fail;
 use trace_canon::Comparison;
 use trace_io::{Reading, Writing};
 use trace_log::{CompareFault, Config, Fault};
-use trace_report::PairTitle;
+use trace_page::PairTitle;
 use trace_text::{ItemStyle, Notation, Numbering};
 use uds_exchange::{Item, Meaning, MessageSink, OrderFault, Orderer, Pairing};
 
@@ -281,7 +281,7 @@ fn reported(alloc: Global, session: Session) -> Result<Made, Fail> {
     for made in TRIES {
         let mut log = Reading::new(session.log);
         let mut writer = Writing::new(Page::new());
-        match trace_report::report(alloc, &config()?, "", b"log", &mut log, &mut writer) {
+        match trace_page::report(alloc, &config()?, b"log", &mut log, &mut writer) {
             Err(Fault::Memory) => begun = writer.into_inner(),
             answer => {
                 answer?;
@@ -306,7 +306,6 @@ fn hold_two(rt: HostRuntime) -> Result<(), Fail> {
 /// Holds the log of a session and its canonical log, and writes the page of both. Where they were refused memory, there is none.
 fn held(alloc: Global, session: Session) -> Result<Made, Fail> {
     let title = PairTitle {
-        style: "",
         left: b"log",
         right: b"canonical",
         tester: Id::Std(0x7E0),
@@ -315,9 +314,9 @@ fn held(alloc: Global, session: Session) -> Result<Made, Fail> {
     for made in TRIES {
         let mut log = Reading::new(session.log);
         let mut canonical = Reading::new(session.canonical);
-        let answer = trace_report::hold_two(alloc, &config()?, &mut log, &mut canonical);
+        let answer = trace_rows::hold_two(alloc, &config()?, &mut log, &mut canonical);
         let mut writer = Writing::new(Page::new());
-        trace_report::write_pair_page(&title, &answer, &mut writer)?;
+        trace_page::write_pair_page(&title, &answer, &mut writer)?;
         let page = writer.into_inner();
         match answer {
             Err(CompareFault::Left(Fault::Memory) | CompareFault::Right(Fault::Memory)) => {

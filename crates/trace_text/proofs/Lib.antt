@@ -1,3 +1,5 @@
+pub mod Harmless
+pub mod Gaps
 pub mod OneMore
 pub mod NumberedNames
 pub mod ItemLines

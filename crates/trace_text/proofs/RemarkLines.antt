@@ -4,9 +4,7 @@ use Rattle.std.specs.Fmt.{decimal}
 use Rattle.std.specs.List.{flat_map}
 use Rattle.direction.specs.declared.Dir.{Dir}
 use Rattle.isotp_receive.specs.declared.event.Ended.{Ended}
-use Rattle.can_log.specs.Digits.{hexadecimal}
 use Rattle.isotp_receive.specs.declared.event.Reason.{Reason}
-use Rattle.isotp_receive.specs.declared.event.Reason.TheVariants as reason
 use Rattle.trace_text.specs.declared.remark.Remark.TheVariants as remark
 use Rattle.trace_log.specs.declared.summary.Count.{Count}
 use Rattle.trace_text.specs.ExplainText.{cause_text, count_text, counts_text, reception_text, reason_line, remark_line}
@@ -34,16 +32,6 @@ ended_is line ended side cause len side_is cause_is len_is =
     (codes " bytes ") (codes "ended: " ++ (why ++ codes "\n")) in
     let whole = seven (codes "line ") (decimal line) (codes ": ") reception (codes "ended: ") why (codes "\n") in
     rw (side_is, cause_is, len_is) (ap (λ x. codes "line " ++ (decimal line ++ (codes ": " ++ x))) inner ∙ whole)
-
--- the parts of the reason that a consecutive frame has another sequence number
-pub sequence_is : (expected found : ℕ)
-    → codes "sequence number " ++ (hexadecimal 1 expected ++ (codes " expected, " ++ (hexadecimal 1 found ++ (codes " found\n" ++ []))))
-    ≡ reason_line (reason.NextSequence expected found)
-sequence_is expected found = simp (append_assoc, append-nil)
-
--- and that a first frame announces too much
-pub announced_is : (announced number : ℕ) → number ≡ announced → decimal number ++ (codes " bytes announced\n" ++ []) ≡ reason_line (reason.TooLong announced)
-announced_is announced number same = rw same (simp (append_assoc, append-nil))
 
 -- the front of a dropped frame's line, up to the reason
 abbrev pub dropped_front : ℕ → List ℕ → List ℕ

@@ -1,4 +1,5 @@
 pub mod Words
+pub mod Shown
 pub mod Parts
 pub mod Json
 pub mod ListText

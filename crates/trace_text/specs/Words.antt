@@ -17,6 +17,11 @@ abbrev pub direction_text : Dir → List ℕ
 direction_text dir.Tester = codes "tester"
 direction_text dir.Unit = codes "unit"
 
+-- the letter of a side, by which a page names what is of it
+abbrev pub side_text : Dir → List ℕ
+side_text dir.Tester = codes "t"
+side_text dir.Unit = codes "u"
+
 -- the name of a service, or its identifier where the table has none
 unfoldable pub service_text : ℕ → List ℕ
 service_text sid = unwrap_or (option_map (λ row. row.name) (service_row sid)) (codes "service_" ++ hexadecimal 2 sid)

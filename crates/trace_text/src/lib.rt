@@ -15,9 +15,11 @@ mod parts;
 mod remark;
 mod remark_objects;
 pub mod say;
+mod shown;
 
 pub use item_lines::{ItemStyle, Numbering, say_item, say_items, say_worded};
 pub use item_objects::say_item_object;
 pub use notation::Notation;
 pub use parts::Part;
 pub use remark::{Remark, say_remark};
+pub use shown::{has_word, say_escaped};

@@ -1,6 +1,6 @@
 //! Names that lines of text have for what is in them.
 ghost use Rattle.std.specs.Prelude.{◌≡◌};
-ghost use Rattle.trace_text.specs.Words.{direction_text, role_text};
+ghost use Rattle.trace_text.specs.Words.{direction_text, role_text, side_text};
 ghost use Rattle.trace_text.specs.ExplainText.{cause_text, layout_fault_text};
 
 use direction::Dir;
@@ -15,6 +15,16 @@ pub fn direction_name(dir: Dir) -> &'static str
     match dir {
         Dir::Tester => "tester",
         Dir::Unit => "unit",
+    }
+}
+
+/// The letter of a side.
+pub(crate) fn side_letter(dir: Dir) -> &'static str
+    ensures { result.now ≡ side_text dir }
+{
+    match dir {
+        Dir::Tester => "t",
+        Dir::Unit => "u",
     }
 }
 

@@ -1,6 +1,11 @@
 //! The parts of a line of text.
 ghost use Rattle.std.specs.Prelude.{◌≡◌, ◌<◌, ◌++◌, ◌%◌, codes};
 ghost use Rattle.can_log.specs.Digits.{decimal, digit, hexadecimal};
+ghost use Rattle.trace_text.specs.Shown as Spec;
+
+use can_log::Id;
+use direction::Dir;
+use isotp_receive::{Cause, Reason};
 
 /// The hexadecimal digits.
 const DIGITS: [u8; 16] = *b"0123456789ABCDEF";
@@ -22,6 +27,32 @@ pub enum Part<'a> {
     Spelled(&'a [u8]),
     /// Two hexadecimal digits for each byte.
     Bytes(&'a [u8]),
+    /// Two hexadecimal digits for each byte, and a blank between.
+    Apart(&'a [u8]),
+    /// A blank and two hexadecimal digits for each byte.
+    Behind(&'a [u8]),
+    /// The bytes as letters: a dot for each that is no digit, letter, blank or one of - . / : _
+    Letters(&'a [u8]),
+    /// The bytes as a name in HTML.
+    Escaped(&'a [u8]),
+    /// A time in seconds, with six decimals.
+    Stamp(u64),
+    /// The seconds from one time to another, with a minus where this is the earlier one.
+    Seconds(u64, u64),
+    /// The same in milliseconds, with three decimals.
+    Milliseconds(u64, u64),
+    /// The numbers from one to another: both, with a dash of HTML between, or one where they are equal.
+    Range(u64, u64),
+    /// The name of the direction.
+    Direction(Dir),
+    /// The letter of the side, by which a page names what is of it.
+    Side(Dir),
+    /// The identifier in hexadecimal, of three digits or of eight.
+    Identifier(Id),
+    /// Why a frame was dropped.
+    Reason(Reason),
+    /// Why a reception ended.
+    Cause(Cause),
     /// The name of the service, or `service_` and two digits where it has none.
     Service(u8),
     /// The name of the response code, or `code_` and two digits where it has none.
@@ -44,6 +75,24 @@ pub(crate) fn numbered_code(code: u8) -> [u8; 7]
 {
     let [high, low] = hexadecimal_digits(code);
     [b'c', b'o', b'd', b'e', b'_', high, low]
+}
+
+/// A blank and the two digits of a byte.
+#[tactic(auto, unfolding(can_log::specs::Digits::digits))]
+pub(crate) fn byte_behind(byte: u8) -> [u8; 3]
+    ensures { result ≡ Spec.byte_behind byte }
+{
+    let [high, low] = hexadecimal_digits(byte);
+    [b' ', high, low]
+}
+
+/// % and the two digits of a byte.
+#[tactic(auto, unfolding(can_log::specs::Digits::digits))]
+pub(crate) fn numbered_byte(byte: u8) -> [u8; 3]
+    ensures { result ≡ Spec.numbered_byte byte }
+{
+    let [high, low] = hexadecimal_digits(byte);
+    [b'%', high, low]
 }
 
 /// The last hexadecimal digit of a number.

@@ -3,7 +3,7 @@ ghost use Rattle.trace_text.specs.ExplainText.{counts_text, reason_line, remark_
 ghost use Rattle.trace_log.specs.Summing.{seen_counts};
 ghost use Rattle.trace_text.specs.declared.remark.Remark.TheVariants as remark;
 
-use crate::names::{cause_name, direction_name, layout_fault_name};
+use crate::names::{cause_name, direction_name};
 use crate::notation::Notation;
 use crate::parts::Part;
 use crate::remark_objects::say_remark_object;
@@ -91,33 +91,7 @@ fn say_dropped_line<S: TextSink>(line: u64, dir: Dir, reason: Reason, out: &mut 
 fn say_reason<S: TextSink>(reason: Reason, out: &mut S)
     ensures { S.says out.old (reason_line reason) out.new }
 {
-    match reason {
-        Reason::Pdu(fault) => say_parts(
-            out,
-            &[Part::Text(layout_fault_name(fault)), Part::Text("\n")],
-        ),
-        Reason::FlowUnexpected => say_parts(out, &[Part::Text("flow control unexpected\n")]),
-        Reason::NextUnexpected => say_parts(out, &[Part::Text("consecutive frame unexpected\n")]),
-        Reason::NextLate => say_parts(out, &[Part::Text("consecutive frame late\n")]),
-        Reason::NextSequence { expected, found } => say_parts(
-            out,
-            &[
-                Part::Text("sequence number "),
-                Part::Digit(expected),
-                Part::Text(" expected, "),
-                Part::Digit(found),
-                Part::Text(" found\n"),
-            ],
-        ),
-        Reason::NextLength => say_parts(out, &[Part::Text("consecutive frame length\n")]),
-        Reason::TooLong { announced } => say_parts(
-            out,
-            &[
-                Part::Number(u64::from(announced)),
-                Part::Text(" bytes announced\n"),
-            ],
-        ),
-    }
+    say_parts(out, &[Part::Reason(reason), Part::Text("\n")]);
 }
 
 /// Says the line of a reception that stands at the end.

@@ -1,22 +1,27 @@
 //! The parts of a line of text, said one after another.
-ghost use Rattle.std.specs.Prelude.{◌+◌};
+ghost use Rattle.std.specs.Prelude.{◌≡◌, ◌+◌, map};
 ghost use Rattle.std.specs.Fmt.{decimal};
-ghost use Rattle.trace_text.specs.Parts.{counts_between, part_text, parts_text};
+ghost use Rattle.trace_text.specs.Parts.{before_gap, behind_gap, counts_between, filled, part_text, parts_text};
 ghost use Rattle.can_log.specs.Digits.{hexadecimal};
 ghost use Rattle.can_log.specs.Digits as digits;
 ghost use Rattle.trace_text.specs.ExplainText.{cause_text, layout_fault_text};
 ghost use Rattle.trace_text.specs.Words.{bytes_text, code_text, direction_text, service_text};
 
-use crate::names::{cause_name, direction_name, layout_fault_name};
+use crate::names::{cause_name, direction_name, layout_fault_name, side_letter};
 use crate::parts::{
     Part, hexadecimal_digits, last_digit, numbered_code, numbered_service, six_decimals,
     three_decimals,
 };
-use can_log::digits_of_bytes;
+use crate::shown::{
+    say_apart, say_behind, say_escaped, say_letters, say_milliseconds_between, say_range,
+    say_reason, say_seconds_between, say_stamp,
+};
+use can_log::{digits_of_bytes, identifier_text};
 use direction::Dir;
 use isotp_pdu::PduFault;
 use isotp_receive::Cause;
 use itoa::Buffer;
+use memchr::memchr;
 use trace_io::TextSink;
 use trace_log::Count;
 use uds_message::{code_name, service_name};
@@ -27,6 +32,31 @@ pub fn say_parts<S: TextSink>(out: &mut S, parts: &[Part<'_>])
 {
     'parts: for part in parts {
         say_part(out, *part);
+    }
+}
+
+/// Says a template with these parts in its gaps, one after another. Each @ is a gap.
+pub fn say_filled<S: TextSink>(template: &str, parts: &[Part<'_>], out: &mut S)
+    ensures { S.says out.old (filled template.now (map part_text parts.now)) out.new }
+{
+    let mut text = template.as_bytes();
+    'parts: for part in parts {
+        let (before, behind) = split_at_gap(text);
+        out.put(before);
+        say_part(out, *part);
+        text = behind;
+    }
+    out.put(text);
+}
+
+/// What stands before the first gap, and what behind it.
+fn split_at_gap<'a>(text: &'a [u8]) -> (&'a [u8], &'a [u8])
+    ensures before { result.0.now ≡ before_gap text.now }
+    ensures behind { result.1.now ≡ behind_gap text.now }
+{
+    match memchr(b'@', text) {
+        Some(place) => (text.split_at(place).0, text.split_at(place + 1).1),
+        None => (text, &[]),
     }
 }
 
@@ -85,14 +115,14 @@ pub fn say_byte<S: TextSink>(out: &mut S, byte: u8)
 pub fn say_digit<S: TextSink>(out: &mut S, number: u8)
     ensures { S.says out.old (hexadecimal 1 number) out.new }
 {
-    say_part(out, Part::Digit(number));
+    out.put(&last_digit(number));
 }
 
 /// Says the last six decimal digits of a number.
 pub fn say_six_decimals<S: TextSink>(out: &mut S, number: u64)
     ensures { S.says out.old (digits.decimal 6 number) out.new }
 {
-    say_part(out, Part::Decimals(number));
+    out.put(&six_decimals(number));
 }
 
 /// Says the last three decimal digits of a number.
@@ -157,6 +187,19 @@ fn say_part<S: TextSink>(out: &mut S, part: Part<'_>)
         Part::Decimals(number) => out.put(&six_decimals(number)),
         Part::Spelled(bytes) => out.put(bytes),
         Part::Bytes(bytes) => say_bytes(out, bytes),
+        Part::Apart(bytes) => say_apart(bytes, out),
+        Part::Behind(bytes) => say_behind(bytes, out),
+        Part::Letters(bytes) => say_letters(bytes, out),
+        Part::Escaped(name) => say_escaped(name, out),
+        Part::Stamp(micros) => say_stamp(micros, out),
+        Part::Seconds(start, end) => say_seconds_between(start, end, out),
+        Part::Milliseconds(start, end) => say_milliseconds_between(start, end, out),
+        Part::Range(first, last) => say_range(first, last, out),
+        Part::Direction(dir) => say_text(out, direction_name(dir)),
+        Part::Side(dir) => say_text(out, side_letter(dir)),
+        Part::Identifier(id) => out.put(identifier_text(id).as_slice()),
+        Part::Reason(reason) => say_reason(reason, out),
+        Part::Cause(cause) => say_text(out, cause_name(cause)),
         Part::Service(sid) => match service_name(sid) {
             Some(name) => out.put(name.as_bytes()),
             None => out.put(&numbered_service(sid)),

@@ -16,9 +16,9 @@ use Rattle.trace_run.specs.declared.machine.Stop.{Stop}
 use Rattle.trace_log.specs.declared.summary.Summary.{Summary}
 use Rattle.trace_log.proofs.Promises.{clean_log_is_recording, clean_summary_is_certificate, summary_certifies}
 use Rattle.trace_run.specs.Told.{AnswersTold, IsReadToEnd, Script, answers_counts}
-use Rattle.trace_report.specs.Held as Holds
-use Rattle.trace_report.specs.Session.{SessionValue}
-use Rattle.udsnorm.specs.Commands.{Engine, normalises, writes, finds, runs, runs_in_style, EngineAnswers, PairEngineAnswers, answers_of, engine_of}
+use Rattle.trace_rows.specs.Held as Holds
+use Rattle.trace_rows.specs.Session.{SessionValue}
+use Rattle.udsnorm.specs.Commands.{Engine, normalises, writes, finds, runs, runs_by_settings, EngineAnswers, PairEngineAnswers, answers_of, engine_of}
 use Rattle.udsnorm.specs.Ending.{status_of_run_of_two}
 use Rattle.udsnorm.specs.declared.commands.Job.{Job}
 use Rattle.udsnorm.specs.declared.pair_jobs.PairAnswer.{PairAnswer}
@@ -67,7 +67,7 @@ of_engine normalises settings log given summary old new (accepted, outcome, coun
 of_engine (writes text) settings log given summary old new (items, is, wrote) = of_clean settings log summary (of_accepted settings log is.accepted summary is.outcome is.counted)
 of_engine (finds notation) settings log given summary old new (pairs, (meanings, read, found), wrote) = λ clean. absurd (true≢false (sym clean ∙ ap is_clean found.1))
 of_engine (runs script needs) settings log given summary old new told = of_script (script MESSAGE_LIMIT) settings log given summary old new told
-of_engine (runs_in_style script) settings log given summary old new (style, told) = of_script (script style settings MESSAGE_LIMIT) settings log given summary old new told
+of_engine (runs_by_settings script) settings log given summary old new told = of_script (script settings MESSAGE_LIMIT) settings log given summary old new told
 
 -- whatever the job
 pub answer_certifies : (job : Job) (name : List ℕ) (settings : Settings) (log : List ℕ) (given : ℕ) (answer : Result Summary Fault) (old new : List ℕ)
@@ -99,7 +99,7 @@ of_pair (pair_job.Compare style) left_name right_name strict settings one other 
   is_certified settings one compared.left compares.0 (sym (ap (λ (p : PairAnswer). is_clean p.left) is) ∙ left_clean),
   is_certified settings other compared.right compares.1 (sym (ap (λ (p : PairAnswer). is_clean p.right) is) ∙ right_clean),
 )
-of_pair pair_job.Report left_name right_name strict settings one other pair text (style, held, (left, right), is, wrote) left_clean right_clean = (
+of_pair pair_job.Report left_name right_name strict settings one other pair text (held, (left, right), is, wrote) left_clean right_clean = (
   of_held settings one held.left left (sym (ap (λ (p : PairAnswer). is_clean p.left) is) ∙ left_clean),
   of_held settings other held.right right (sym (ap (λ (p : PairAnswer). is_clean p.right) is) ∙ right_clean),
 )

@@ -34,11 +34,11 @@ use Rattle.isotp_receive.specs.Trace.{Entry}
 use Rattle.trace_io.specs.Stream.{Agrees}
 use Rattle.trace_io.specs.declared.device.Source.{Ghosts as SourceGhosts}
 use Rattle.trace_io.specs.declared.device.Target.{Ghosts as TargetGhosts}
-use Rattle.trace_report.specs.Front.{page_title}
-use Rattle.trace_report.specs.Held.{HasOwnFrame, HoldsTwo, comparison_in}
-use Rattle.trace_report.specs.Page.{report_script}
-use Rattle.trace_report.specs.PairPage.{pair_page, pair_title}
-use Rattle.trace_report.specs.declared.held_session.Held.{Held}
+use Rattle.trace_page.specs.Front.{page_title}
+use Rattle.trace_rows.specs.Held.{HasOwnFrame, HoldsTwo, comparison_in}
+use Rattle.trace_page.specs.Page.{report_script}
+use Rattle.trace_page.specs.PairPage.{pair_page, pair_title}
+use Rattle.trace_rows.specs.declared.held_session.Held.{Held}
 use Rattle.udsnorm.specs.Ending.{has_unclean}
 use Rattle.udsnorm.specs.Status.{is_refusal}
 use Rattle.udsnorm.specs.Values.{comparison_style_in, notation_in, style_in}
@@ -138,13 +138,13 @@ command_entries =
 
 -- What is known of the call that does a job over one log: it is `normalise`, or writes a text of the items of the
 -- meaning, or of the pairs of identifiers, at the end; or it is the run of a machine, of which all is known by its
--- script and by the frames for which the machine needs memory. A page's script is in some style.
+-- script and by the frames for which the machine needs memory. A page's script is that of the settings.
 pub data Engine : Type 1 where
   normalises : Engine
   writes : TextOfItems → Engine
   finds : Notation → Engine
   runs : (ℕ → Script) → (ℕ → List Entry → Entry → Type 0) → Engine
-  runs_in_style : (List ℕ → Settings → ℕ → Script) → Engine
+  runs_by_settings : (Settings → ℕ → Script) → Engine
 
 -- what it answers, and what it then writes
 abbrev pub answers_of : Engine → ℕ → Settings → List ℕ → ℕ → Result Summary Fault → List ℕ → List ℕ → Type 0
@@ -152,8 +152,8 @@ answers_of normalises limit settings log given result old new = Answers limit se
 answers_of (writes text) limit settings log given result old new = WritesItems text limit settings log result old new
 answers_of (finds notation) limit settings log given result old new = Finds notation settings log result old new
 answers_of (runs script needs) limit settings log given result old new = AnswersTold (script limit) answers_counts limit settings log given result old new
-answers_of (runs_in_style script) limit settings log given result old new =
-    (style : List ℕ) × AnswersTold (script style settings limit) answers_counts limit settings log given result old new
+answers_of (runs_by_settings script) limit settings log given result old new =
+    AnswersTold (script settings limit) answers_counts limit settings log given result old new
 
 -- nothing refuses the log for it among so many of its bytes; no length that is announced does this for one that is
 -- known by its script, nor for `find`
@@ -162,7 +162,7 @@ unrefused_of normalises limit settings log = IsNotRefusedWithin limit settings l
 unrefused_of (writes text) limit settings log = IsNotRefusedWithin limit settings log
 unrefused_of (finds notation) limit settings log = HasNoBadPlaceWithin log
 unrefused_of (runs script needs) limit settings log = HasNoBadPlaceWithin log
-unrefused_of (runs_in_style script) limit settings log = HasNoBadPlaceWithin log
+unrefused_of (runs_by_settings script) limit settings log = HasNoBadPlaceWithin log
 
 -- The log needs memory for it: it has a frame whose bytes are kept for a message of several, or one that completes a
 -- message which the engine keeps; or, for `find`, an answer that is credited.
@@ -171,7 +171,7 @@ needs_of normalises limit settings log = NeedsMemoryToOrder limit settings log
 needs_of (writes text) limit settings log = NeedsMemoryToCollect limit settings log
 needs_of (finds notation) limit settings log = NeedsMemoryToFind log
 needs_of (runs script needs) limit settings log = HasFrame (λ T e. IsKeptForMessage limit T e ⊎ needs limit T e) settings log
-needs_of (runs_in_style script) limit settings log = NeedsMemoryToReceive limit settings log
+needs_of (runs_by_settings script) limit settings log = NeedsMemoryToReceive limit settings log
 
 -- What is known of a run of any engine: what was answered and written, that memory was refused only for a log that
 -- needs it, how near to what refuses the log it stopped reading, and what it did with its devices.
@@ -190,7 +190,7 @@ RanBy source target normalises limit settings = RanAny source target normalises 
 RanBy source target (writes text) limit settings = RanOverItems source target text limit settings
 RanBy source target (finds notation) limit settings = RanToFind source target notation settings
 RanBy source target (runs script needs) limit settings = RanLenient source target (script limit) answers_counts (needs limit) limit settings
-RanBy source target (runs_in_style script) limit settings = RanAny source target (runs_in_style script) limit settings
+RanBy source target (runs_by_settings script) limit settings = RanAny source target (runs_by_settings script) limit settings
 
 -- the text of items that a job writes
 abbrev pub text_of_items : ItemsJob → TextOfItems
@@ -203,7 +203,7 @@ engine_of (job.Items text) name = writes (text_of_items text)
 engine_of (job.Watch style) name = runs (λ limit. watching_script style) CompletesKept
 engine_of (job.Explain notation) name = runs (explain_script notation) (λ limit. needs_none)
 engine_of (job.Messages notation) name = runs (placing_script notation) (λ limit. needs_none)
-engine_of job.Report name = runs_in_style (λ style settings. report_script (page_title style name settings))
+engine_of job.Report name = runs_by_settings (λ settings. report_script (page_title name settings))
 engine_of (job.Find notation) name = finds notation
 
 -- what it answers, and what it writes
@@ -256,13 +256,13 @@ ComparesPair style strict limit settings one other (Err fault) text = Compares l
 abbrev pub pair_held : Held → PairAnswer
 pair_held held = record { comparison = comparison_in held; left = held.left.summary; right = held.right.summary }
 
--- what both logs say, and the page of that, in some style, or of a log that is refused
+-- what both logs say, and the page of that, or of a log that is refused
 abbrev pub PagesPair : List ℕ → List ℕ → Bool → ℕ → Settings → List ℕ → List ℕ → Result PairAnswer CompareFault → List ℕ → Type 0
 PagesPair left_name right_name strict limit settings one other (Ok pair) text =
-    (style : List ℕ) × (held : Held) × HoldsTwo limit settings one other (Ok held) × (pair ≡ pair_held held)
-    × (text ≡ pair_page (pair_title style left_name right_name settings) (Ok held))
+    (held : Held) × HoldsTwo limit settings one other (Ok held) × (pair ≡ pair_held held)
+    × (text ≡ pair_page (pair_title left_name right_name settings) (Ok held))
 PagesPair left_name right_name strict limit settings one other (Err fault) text =
-    (style : List ℕ) × HoldsTwo limit settings one other (Err fault) × (text ≡ pair_page (pair_title style left_name right_name settings) (Err fault))
+    HoldsTwo limit settings one other (Err fault) × (text ≡ pair_page (pair_title left_name right_name settings) (Err fault))
 
 -- the job has a text of this answer: a comparison of logs of which each is clean that has to be; a page of all logs but
 -- those of which a device failed or memory was refused

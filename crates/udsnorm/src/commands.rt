@@ -14,7 +14,7 @@ use std::alloc::Global;
 use trace_canon::{ItemText, explain, find, messages, normalise, watch, write_items};
 use trace_io::{Source, Target, TextSink};
 use trace_log::{Config, Fault, Summary};
-use trace_report::{report, report_style};
+use trace_page::report;
 use trace_text::{ItemStyle, Notation};
 use uds_exchange::Meaning;
 
@@ -354,7 +354,7 @@ fn call_engine<R: Source, W: Target>(
         Job::Watch(style) => watch(alloc, config, style, input, out),
         Job::Explain(notation) => explain(alloc, config, notation, input, out),
         Job::Messages(notation) => messages(alloc, config, notation, input, out),
-        Job::Report => report(alloc, config, report_style(), name.as_bytes(), input, out),
+        Job::Report => report(alloc, config, name.as_bytes(), input, out),
         Job::Find(notation) => find(alloc, config, notation, input, out),
     }
 }

@@ -7,7 +7,7 @@ ghost use Rattle.trace_log.specs.Devices.{ReadFrom};
 ghost use Rattle.trace_log.specs.declared.fault.Fault.{Fault as FaultValue};
 ghost use Rattle.trace_io.specs.Counted.{AreLowCounts, IsLowCount};
 ghost use Rattle.trace_io.specs.Stream.{Agrees};
-ghost use Rattle.trace_report.specs.PairPage.{pair_page, pair_title};
+ghost use Rattle.trace_page.specs.PairPage.{pair_page, pair_title};
 ghost use Rattle.udsnorm.specs.Commands.{PairEngineAnswers, PairEngineNeeds, PairEngineReads, has_text, left_file, pair_of, right_file};
 ghost use Rattle.udsnorm.specs.Ending.{has_unclean};
 ghost use Rattle.udsnorm.specs.Telling.{WroteText};
@@ -19,7 +19,8 @@ use std::alloc::Global;
 use trace_canon::{Compared, Comparison, ComparisonStyle, compare, write_comparison};
 use trace_io::{Source, Target};
 use trace_log::{CompareFault, Config, Fault, Summary};
-use trace_report::{Held, PairTitle, hold_two, report_style, write_pair_page};
+use trace_page::{PairTitle, write_pair_page};
+use trace_rows::{Held, hold_two};
 
 /// What the program does with two logs.
 #[derive(Clone, Copy, PartialEq, Eq)]
@@ -227,12 +228,11 @@ fn write_page<W: Target>(
     out: &mut W,
 ) -> bool
     requires { IsLowCount (W.failures out.old) }
-    ensures text { (style : List ℕ) × WroteText W.Target (pair_page (pair_title style left_name.now right_name.now config.now) answer.now) result out.old out.new }
+    ensures text { WroteText W.Target (pair_page (pair_title left_name.now right_name.now config.now) answer.now) result out.old out.new }
     ensures left_alone { has_text PairJob.Report false (answer_held answer.now) ≡ false → (result ≡ true) × (out.new ≡ out.old) }
     ensures flushes { W.flushes out.new ≡ W.flushes out.old }
 {
     let title = PairTitle {
-        style: report_style(),
         left: left_name.as_bytes(),
         right: right_name.as_bytes(),
         tester: config.tester(),

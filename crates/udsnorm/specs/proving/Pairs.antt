@@ -3,7 +3,7 @@ use Rattle.std.specs.Prelude.{ℕ, Bool, List, [], Result, Ok, Err}
 use Rattle.trace_canon.specs.declared.comparing.Compared.{Compared}
 use Rattle.trace_canon.specs.declared.comparison_lines.ComparisonStyle.{ComparisonStyle}
 use Rattle.trace_log.specs.declared.fault.CompareFault.{CompareFault}
-use Rattle.trace_report.specs.declared.held_session.Held.{Held}
+use Rattle.trace_rows.specs.declared.held_session.Held.{Held}
 use Rattle.udsnorm.specs.Commands.{pair_held, pair_of, text_of_compared}
 use Rattle.udsnorm.specs.declared.pair_jobs.PairAnswer.{PairAnswer}
 

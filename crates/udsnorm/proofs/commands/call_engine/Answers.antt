@@ -1,8 +1,8 @@
 use Rattle.std.proofs.Common.{◌-◌, ℕ, List, length, subst}
 use Rattle.isotp_receive.specs.declared.TheConstants.{MESSAGE_LIMIT}
 use Rattle.trace_run.specs.Told.{AnswersTold, answers_counts}
-use Rattle.trace_report.specs.Front.{page_title}
-use Rattle.trace_report.specs.Page.{report_script}
+use Rattle.trace_page.specs.Front.{page_title}
+use Rattle.trace_page.specs.Page.{report_script}
 use Rattle.udsnorm.proofs.commands.call_engine.Goals as goal
 
 pub returns-in-Normalise : goal.returns-in-Normalise
@@ -28,11 +28,8 @@ returns-in-Report g c =
     let ran = c.report.ensures.ran.run in
     record {
       ran = rw c.in-Report.is (record {
-        answer = λ log agrees. (
-          c.report_style.result.now,
-          subst (λ (name : List ℕ). AnswersTold (report_script (page_title c.report_style.result.now name settings) MESSAGE_LIMIT) answers_counts MESSAGE_LIMIT settings log (length (g.R.Source.given c.report.new.reader) - length (g.R.Source.given c.args.input.now)) c.report.result (g.W.Target.taken c.args.out.now) (g.W.Target.taken c.report.new.writer)) c.as_bytes.ensures.value
-              (ran.answer log agrees),
-        );
+        answer = λ log agrees. subst (λ (name : List ℕ). AnswersTold (report_script (page_title name settings) MESSAGE_LIMIT) answers_counts MESSAGE_LIMIT settings log (length (g.R.Source.given c.report.new.reader) - length (g.R.Source.given c.args.input.now)) c.report.result (g.W.Target.taken c.args.out.now) (g.W.Target.taken c.report.new.writer)) c.as_bytes.ensures.value
+              (ran.answer log agrees);
         memory = c.report.ensures.ran.memory (λ T e none. none);
         near = ran.near;
         read = ran.read;

@@ -1,7 +1,7 @@
 use Rattle.std.proofs.Common.{Result, subst, sym, ◌∙◌}
 use Rattle.isotp_receive.specs.declared.TheConstants.{MESSAGE_LIMIT}
 use Rattle.trace_log.specs.declared.fault.CompareFault.{CompareFault}
-use Rattle.trace_report.specs.PairPage.{pair_page, pair_title}
+use Rattle.trace_page.specs.PairPage.{pair_page, pair_title}
 use Rattle.udsnorm.specs.Commands.{ComparesPair, PagesPair}
 use Rattle.udsnorm.specs.proving.Pairs.{text_of_answer}
 use Rattle.udsnorm.specs.declared.pair_jobs.PairAnswer.{PairAnswer}
@@ -39,13 +39,12 @@ returns-in-Report-clause-engine g c =
     let left = c.args.left_name.now in
     let right = c.args.right_name.now in
     let settings = c.args.config.now in
-    let page = c.write_page.ensures.text in
-    let text = pair_page (pair_title page.0 left right settings) c.hold_two-answer.result in
+    let text = pair_page (pair_title left right settings) c.hold_two-answer.result in
     rw c.in-Report.is (
       text,
       λ one other agrees_one agrees_other. subst (λ (told : Result PairAnswer CompareFault). PagesPair left right c.args.strict MESSAGE_LIMIT settings one other told text) (sym c.answer_held.ensures)
-          (pages_pair page.0 left right c.args.strict MESSAGE_LIMIT settings one other c.hold_two-answer.result (c.hold_two-answer.ensures.answer one other agrees_one agrees_other)),
-      page.1,
+          (pages_pair left right c.args.strict MESSAGE_LIMIT settings one other c.hold_two-answer.result (c.hold_two-answer.ensures.answer one other agrees_one agrees_other)),
+      c.write_page.ensures.text,
     )
 
 pub returns-in-Report-clause-left_memory : goal.returns-in-Report-clause-left_memory

@@ -1,0 +1,6 @@
+mod ContrastTexts
+mod Identifiers
+mod PairTexts
+mod RowTexts
+mod SaidParts
+mod RowIdentifiers

@@ -1,0 +1,7 @@
+use Rattle.trace_page.proofs.brief_rows.say_brief_row.Goals as goal
+
+pub returns : goal.returns
+returns g c =
+    g.met.S.TextSink.onward _ _ _ _ _ (g.met.S.TextSink.onward _ _ _ _ _ (g.met.S.TextSink.onward _ _ _ _ _ c.say_message_front.ensures c.say_brief_words.ensures)
+    c.say_brief_data.ensures)
+    c.say_brief_end.ensures

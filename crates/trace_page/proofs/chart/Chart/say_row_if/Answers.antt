@@ -1,0 +1,32 @@
+use Rattle.std.proofs.Common.{Option, arith, ap, subst, sym, [], ◌∷◌, ◌++◌, ◌∙◌}
+use Rattle.trace_page.specs.declared.blocks.Blocks.{Blocks}
+use Rattle.trace_rows.specs.declared.row.Row.{Row}
+use Rattle.trace_page.specs.Blocks.{blocks_behind, no_blocks, rows_text}
+use Rattle.trace_page.specs.proving.Pages.{IsChartOf}
+use Rattle.trace_rows.specs.proving.Following.{row_if}
+use Rattle.trace_rows.specs.Rows.{row_of}
+use Rattle.trace_page.proofs.RowTexts.{blocks_onward, few_blocks}
+use Rattle.trace_page.proofs.chart.Chart.say_row_if.Goals as goal
+
+pub returns-in-Some-clause-stands : goal.returns-in-Some-clause-stands
+returns-in-Some-clause-stands g c = λ before few is.
+    let row = row_of c.in-Some.row in
+    let low = few_blocks before in
+    let counts = ap (λ (b : Blocks). b.count) is.blocks in
+    let rows = ap (λ (b : Blocks). b.rows) is.blocks in
+    subst (λ (o : Option Row). IsChartOf (before ++ row_if o) (record { blocks = c.say_next_row.new.blocks; tally = c.take.new.self })) (sym c.in-Some.is)
+    (record {
+      blocks = c.say_next_row.ensures.stands (omega (arith, counts, low.0)) (omega (arith, rows, low.1)) ∙ ap (λ b. blocks_behind b (row ∷ [])) is.blocks
+          ∙ sym (blocks_onward no_blocks before (row ∷ []));
+      tally = c.take.ensures before (omega arith) is.tally;
+    })
+
+pub returns-in-Some-clause-says : goal.returns-in-Some-clause-says
+returns-in-Some-clause-says g c = λ before few is.
+    let row = row_of c.in-Some.row in
+    let low = few_blocks before in
+    let counts = ap (λ (b : Blocks). b.count) is.blocks in
+    let rows = ap (λ (b : Blocks). b.rows) is.blocks in
+    subst (λ text. g.S.TextSink.says c.args.out.now text c.say_next_row.new.out)
+    (λ i. rows_text c.args.origin (is.blocks i) (row_if (sym c.in-Some.is i)))
+    (c.say_next_row.ensures.says (omega (arith, counts, low.0)) (omega (arith, rows, low.1)))

@@ -1,0 +1,8 @@
+use Rattle.trace_page.proofs.pair_page.say_pair_front.Goals as goal
+
+pub returns : goal.returns
+returns g c =
+    g.met.S.TextSink.onward _ _ _ _ _ (g.met.S.TextSink.onward _ _ _ _ _ (g.met.S.TextSink.onward _ _ _ _ _ (g.met.S.TextSink.onward _ _ _ _ _ c.say_text.ensures c.say_filled.ensures)
+    c.say_body_start.ensures)
+    c.say_filled-2.ensures)
+    c.say_header_end.ensures

@@ -1,0 +1,5 @@
+use Rattle.trace_page.proofs.pair_verdict.say_unclean_state.Goals as goal
+
+pub returns : goal.returns
+returns g c =
+    g.met.S.TextSink.onward _ _ _ _ _ c.say_text.ensures c.say_unclean_reasons.ensures

@@ -1,0 +1,26 @@
+use Rattle.std.proofs.Common.{◌<◌, ◌^◌, ◌-◌, List, arith, ap, subst, ◌++◌, length, refl}
+use Rattle.isotp_receive.specs.declared.TheConstants.{MESSAGE_LIMIT}
+use Rattle.trace_page.specs.Blocks.{blocks_of, rows_text}
+use Rattle.trace_rows.specs.Events.{rows_of}
+use Rattle.trace_page.specs.Front.{PageTitle}
+use Rattle.trace_page.specs.Page.{front_before, page_end}
+use Rattle.trace_rows.specs.Rows.{RowValue}
+use Rattle.trace_page.specs.proving.Pages.{IsChartOf}
+use Rattle.trace_rows.proofs.Promises.{few_rows}
+use Rattle.trace_page.proofs.reporter.ReporterMachine.end.Goals as goal
+
+pub returns-clause-says : goal.returns-clause-says
+returns-clause-says g c = λ start T known stand within.
+    let origin = c.say_front_before-origin.ensures.first T known.span refl in
+    let rows = c.end.ensures T known.follows stand in
+    let low : length (rows_of MESSAGE_LIMIT T) < 2 ^ 64 - 3 = omega (arith, known.few, few_rows MESSAGE_LIMIT T) in
+    let chart = subst (λ (l : List RowValue). IsChartOf l c.say_rows.new.self) (ap (λ l. rows_of MESSAGE_LIMIT T ++ l) rows)
+    (c.say_rows.ensures.stands (rows_of MESSAGE_LIMIT T) low known.chart) in
+    let last = c.last_of.ensures T known.span in
+    let front = subst (λ (title : PageTitle). g.S.TextSink.says c.args.out.now (front_before title T) c.say_front_before-origin.new.out) known.same
+    (c.say_front_before-origin.ensures.says T known.span) in
+    g.met.S.TextSink.onward _ _ _ _ _ (g.met.S.TextSink.onward _ _ _ _ _ front
+    (subst (λ text. g.S.TextSink.says c.say_front_before-origin.new.out text c.say_rows.new.out)
+    (λ i. rows_text (origin i) (blocks_of (rows_of MESSAGE_LIMIT T)) (rows i)) (c.say_rows.ensures.says (rows_of MESSAGE_LIMIT T) low known.chart)))
+    (subst (λ text. g.S.TextSink.says c.say_rows.new.out text c.say_page_end.new.out)
+    (λ i. page_end (chart.blocks i) (chart.tally i) c.args.summary.now (origin i) (last i)) c.say_page_end.ensures)

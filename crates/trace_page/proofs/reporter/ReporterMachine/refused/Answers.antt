@@ -1,0 +1,16 @@
+use Rattle.std.proofs.Common.{subst, refl}
+use Rattle.trace_page.specs.Front.{PageTitle}
+use Rattle.trace_page.specs.Page.{front_before, refused_end}
+use Rattle.trace_page.proofs.reporter.ReporterMachine.refused.Goals as goal
+
+pub returns : goal.returns
+returns g c = record {
+  says = λ start T known.
+      let origin = c.say_front_before-origin.ensures.first T known.span refl in
+      let last = c.last_of.ensures T known.span in
+      let front = subst (λ (title : PageTitle). g.S.TextSink.says c.args.out.now (front_before title T) c.say_front_before-origin.new.out) known.same
+      (c.say_front_before-origin.ensures.says T known.span) in
+      g.met.S.TextSink.onward _ _ _ _ _ front
+      (subst (λ text. g.S.TextSink.says c.say_front_before-origin.new.out text c.say_refused_end.new.out)
+      (λ i. refused_end c.args.why (known.chart.blocks i) (known.chart.tally i) c.args.summary.now (origin i) (last i)) c.say_refused_end.ensures);
+}

@@ -1,0 +1,105 @@
+-- The blocks of a report: rows stand in tables of some 200, which fold, so that a browser draws a long session in time.
+-- The first ten are written open, and the rows of the others are brief.
+use Rattle.std.specs.Prelude.{ℕ, ◌+◌, ◌==◌, Bool, ◌&&◌, ◌||◌, List, [], ◌∷◌, ◌++◌, nat_le, nat_lt, if◌then◌else◌}
+use Rattle.std.specs.Fmt.{decimal}
+use Rattle.trace_canon.specs.declared.begun.FramePlace.{FramePlace}
+use Rattle.trace_rows.specs.declared.row.MessagePlace.{MessagePlace}
+use Rattle.trace_page.specs.declared.blocks.Blocks.{Blocks}
+use Rattle.trace_rows.specs.Rows.{RowValue, message, no_answer, dropped, ended, unfinished, begins_exchange}
+use Rattle.trace_page.specs.RowLines.{row_text}
+use Rattle.trace_text.specs.Parts.{filled}
+use Rattle.trace_text.specs.Shown.{seconds_between}
+use Rattle.trace_page.specs.declared.blocks.TheConstants.{BLOCK_END, BODY, CHART, FOLDED_BLOCK, FROM_END, FROM_FRAME, FROM_ITEM, FROM_MESSAGE, OPEN_BLOCK, TITLE_END}
+
+-- a request closes a block that has this many rows
+abbrev pub full_block : ℕ
+full_block = 200
+
+-- and any row one that has so many
+abbrev pub largest_block : ℕ
+largest_block = 1000
+
+-- so many blocks are open
+abbrev pub open_blocks : ℕ
+open_blocks = 10
+
+-- a block begins before a row, which begins an exchange or does not, where so many blocks stand, the last with so many rows
+abbrev pub begins_block : Bool → Blocks → Bool
+begins_block exchange blocks =
+    blocks.count == 0 || (nat_le largest_block blocks.rows || (exchange && nat_le full_block blocks.rows))
+
+-- what stands then
+abbrev pub one_more_row : Bool → Blocks → Blocks
+one_more_row exchange blocks =
+    if begins_block exchange blocks then record { count = blocks.count + 1; rows = 1 } else record { count = blocks.count; rows = blocks.rows + 1 }
+
+-- before the first row
+abbrev pub no_blocks : Blocks
+no_blocks = record { count = 0; rows = 0 }
+
+-- what stands after these rows, where this stood before them
+abbrev pub blocks_behind : Blocks → List RowValue → Blocks
+blocks_behind blocks [] = blocks
+blocks_behind blocks (row ∷ rest) = blocks_behind (one_more_row (begins_exchange row) blocks) rest
+
+-- what stands after these rows
+abbrev pub blocks_of : List RowValue → Blocks
+blocks_of rows = blocks_behind no_blocks rows
+
+-- the title of a block that begins with a frame
+abbrev pub frame_title : ℕ → FramePlace → List ℕ
+frame_title origin place = filled FROM_FRAME.now (decimal place.line ∷ seconds_between origin place.micros ∷ [])
+
+-- of one that begins with a message
+abbrev pub message_title : ℕ → MessagePlace → List ℕ
+message_title origin place =
+    filled FROM_MESSAGE.now (decimal place.item ∷ decimal place.first.line ∷ seconds_between origin place.first.micros ∷ [])
+
+-- of the block that begins with a row
+abbrev pub block_title : ℕ → RowValue → List ℕ
+block_title origin (message is d place bytes) = message_title origin place
+block_title origin (no_answer number silent) = filled FROM_ITEM.now (decimal number ∷ [])
+block_title origin (dropped place d named why) = frame_title origin place
+block_title origin (ended place end) = frame_title origin place
+block_title origin (unfinished d line len) = FROM_END.now
+
+-- a block is open or folded, by how many stand before it
+abbrev pub block_start : ℕ → List ℕ
+block_start before = if nat_lt before open_blocks then OPEN_BLOCK.now else FOLDED_BLOCK.now
+
+-- the end of the last block, if one stands
+abbrev pub block_end : ℕ → List ℕ
+block_end count = if count == 0 then [] else BLOCK_END.now
+
+-- what stands before a row that begins a block
+abbrev pub block_front : ℕ → ℕ → RowValue → List ℕ
+block_front origin before row = block_end before ++ block_start before ++ block_title origin row ++ TITLE_END.now ++ CHART.now
+
+-- that, where a block begins
+abbrev pub front_if : Bool → ℕ → ℕ → RowValue → List ℕ
+front_if block origin before row = if block then block_front origin before row else []
+
+-- the start of a body of the table, where one begins
+abbrev pub body_if : Bool → List ℕ
+body_if body = if body then BODY.now else []
+
+-- what begins before a row: a block, and a body of the table with each exchange
+abbrev pub opening_text : ℕ → Blocks → RowValue → List ℕ
+opening_text origin blocks row =
+    front_if (begins_block (begins_exchange row) blocks) origin blocks.count row
+    ++ body_if (begins_block (begins_exchange row) blocks || begins_exchange row)
+
+-- the rows of the last block are brief
+abbrev pub is_brief : Blocks → Bool
+is_brief blocks = nat_lt open_blocks blocks.count
+
+-- the text of a row behind those blocks
+abbrev pub placed_text : ℕ → Blocks → RowValue → List ℕ
+placed_text origin blocks row =
+    opening_text origin blocks row ++ row_text (is_brief (one_more_row (begins_exchange row) blocks)) origin row
+
+-- the text of these rows, where those blocks stand before them
+abbrev pub rows_text : ℕ → Blocks → List RowValue → List ℕ
+rows_text origin blocks [] = []
+rows_text origin blocks (row ∷ rest) =
+    placed_text origin blocks row ++ rows_text origin (one_more_row (begins_exchange row) blocks) rest

@@ -1,0 +1,17 @@
+pub mod ShownBytes
+pub mod Front
+pub mod Identifiers
+pub mod RowLines
+pub mod Blocks
+pub mod Links
+pub mod Counts
+pub mod Verdict
+pub mod Help
+pub mod Page
+pub mod ContrastWords
+pub mod Marks
+pub mod ItemRows
+pub mod Difference
+pub mod PairPage
+pub mod Laws
+pub mod proving

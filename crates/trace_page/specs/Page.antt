@@ -1,0 +1,60 @@
+-- The text of a report: a front, the rows of the trace in blocks, and an end. It is told as the log is read: with the
+-- first frame the front, with each frame its rows, and at the end of the log, or where it is refused, the rest.
+use Rattle.std.specs.Prelude.{ℕ, false, List, [], ◌∷◌, ◌++◌}
+use Rattle.isotp_receive.specs.Trace.{Entry}
+use Rattle.trace_page.specs.declared.blocks.Blocks.{Blocks}
+use Rattle.trace_rows.specs.declared.tally.Tally.{Tally}
+use Rattle.trace_log.specs.declared.summary.Summary.{Summary}
+use Rattle.trace_page.specs.Blocks.{block_end, blocks_of, rows_text}
+use Rattle.trace_rows.specs.Events.{frame_rows, end_rows, rows_of}
+use Rattle.trace_page.specs.Front.{PageTitle, front_text}
+use Rattle.trace_page.specs.Help.{help_text}
+use Rattle.trace_rows.specs.Rows.{RowValue}
+use Rattle.trace_rows.specs.Sorts.{tally_of}
+use Rattle.trace_page.specs.Verdict.{refused_verdict, stop_line, verdict_text}
+use Rattle.trace_log.specs.declared.fault.Fault.{Fault}
+use Rattle.trace_run.specs.Told.{Script}
+use Rattle.trace_page.specs.declared.reporter.TheConstants.{SESSION_END}
+use Rattle.trace_rows.specs.Session.{all_rows, first_time, last_time}
+
+-- the front of a page stands before its first frame
+abbrev pub front_before : PageTitle → List Entry → List ℕ
+front_before title [] = front_text title
+front_before title (e ∷ rest) = []
+
+-- the text of rows behind those of the frames T, where `origin` is the time of the first frame
+abbrev pub rows_after : ℕ → ℕ → List Entry → List RowValue → List ℕ
+rows_after limit origin T rows = rows_text origin (blocks_of (rows_of limit T)) rows
+
+-- of each frame
+abbrev pub frame_text : PageTitle → ℕ → List Entry → Entry → List ℕ
+frame_text title limit T e = front_before title T ++ rows_after limit (first_time (T ++ e ∷ [])) T (frame_rows limit T e)
+
+-- the end of a page, behind rows that left these blocks and this tally
+abbrev pub page_end : Blocks → Tally → Summary → ℕ → ℕ → List ℕ
+page_end blocks tally summary first last = block_end blocks.count ++ SESSION_END.now ++ verdict_text tally summary first last ++ help_text
+
+-- and of the page of a log that is refused
+abbrev pub refused_end : Fault → Blocks → Tally → Summary → ℕ → ℕ → List ℕ
+refused_end why blocks tally summary first last =
+    block_end blocks.count ++ stop_line why ++ SESSION_END.now ++ refused_verdict why tally summary first last ++ help_text
+
+-- where all rows are these
+abbrev pub page_end_behind : List RowValue → List Entry → Summary → List ℕ
+page_end_behind rows T summary = page_end (blocks_of rows) (tally_of rows) summary (first_time T) (last_time 0 T)
+
+-- what is told at the end of a log
+abbrev pub last_text : PageTitle → ℕ → List Entry → Summary → List ℕ
+last_text title limit T summary =
+    front_before title T ++ rows_after limit (first_time T) T (end_rows limit T) ++ page_end_behind (all_rows limit T) T summary
+
+-- what is told where a log is refused for this reason, behind the frames T. What is open there is neither unfinished
+-- nor without an answer: so no row is told of it.
+abbrev pub refused_text : PageTitle → ℕ → List Entry → Summary → Fault → List ℕ
+refused_text title limit T summary why =
+    front_before title T ++ refused_end why (blocks_of (rows_of limit T)) (tally_of (rows_of limit T)) summary (first_time T) (last_time 0 T)
+
+-- the script of a report
+abbrev pub report_script : PageTitle → ℕ → Script
+report_script title limit =
+    record { strict = false; word = frame_text title limit; last = last_text title limit; refused = refused_text title limit }

@@ -1,0 +1,193 @@
+//! `report`: a machine that says a session as a page, each row as its frame comes.
+ghost use Rattle.std.specs.Prelude.{◌≡◌, List, [], ◌∷◌, ◌++◌, length, Option};
+ghost use Rattle.isotp_receive.specs.declared.TheConstants.{MESSAGE_LIMIT};
+ghost use Rattle.isotp_receive.specs.Trace.{Entry};
+ghost use Rattle.trace_run.specs.Told.{RanLenient, answers_counts, needs_none};
+ghost use Rattle.trace_io.specs.Counted.{IsLowCount, AreLowCounts};
+ghost use Rattle.trace_page.specs.Front.{page_title};
+ghost use Rattle.trace_rows.specs.Session.{first_time, last_time};
+ghost use Rattle.trace_page.specs.Page.{front_before, page_end, refused_end, report_script};
+ghost use Rattle.trace_rows.specs.proving.Following.{times_of};
+ghost use Rattle.trace_page.specs.proving.Pages.{title_of};
+
+use crate::blocks::say_block_end;
+use crate::chart::Chart;
+use crate::front::{Title, say_front};
+use crate::help::say_help;
+use crate::verdict::{say_refused_verdict, say_stop_line, say_verdict};
+use direction::Dir;
+use isotp_receive::{Event, Pair};
+use std::alloc::{AllocError, Global};
+use trace_canon::begun::FramePlace;
+use trace_io::{Source, Target, TextSink};
+use trace_log::{Config, Fault, Summary};
+use trace_rows::{Follower, Span};
+use trace_run::{Machine, Stop, run_lenient};
+use trace_text::say::say_text;
+
+const SESSION_END: &str = "</main>\n";
+
+/// Reads a log and writes its session as a page of HTML with the name of the log: each row as its frame comes, and
+/// at the end the verdict, which the style shows first.
+///
+/// The target is not flushed.
+pub fn report<R: Source, W: Target>(
+    alloc: Global,
+    config: &Config,
+    name: &[u8],
+    reader: &mut R,
+    writer: &mut W,
+) -> Result<Summary, Fault>
+    requires reader { AreLowCounts (R.reads reader.old) (length (R.given reader.old)) (R.failures reader.old) }
+    requires writer { IsLowCount (W.failures writer.old) }
+
+    // What is answered and written; that it is written before more is read; and what was done with the devices.
+    ensures ran { RanLenient R.Source W.Target (report_script (page_title name.now config.now) MESSAGE_LIMIT) answers_counts needs_none MESSAGE_LIMIT config.now reader.old writer.old result reader.new writer.new }
+{
+    let machine = Reporter {
+        title: Title {
+            name,
+            tester: config.tester(),
+            unit: config.unit(),
+        },
+        span: None,
+        follower: Follower::start(),
+        chart: Chart::start(),
+    };
+    run_lenient(alloc, config, machine, reader, writer)
+}
+
+/// Says a page. It keeps no message, and no row.
+#[derive(Drop)]
+pub(crate) struct Reporter<'a> {
+    pub title: Title<'a>,
+    /// Of the frames so far, if there are any.
+    pub span: Option<Span>,
+    pub follower: Follower,
+    pub chart: Chart,
+}
+
+impl<'a> Machine for Reporter<'a> {
+    ghost use Rattle.isotp_receive.specs.declared.TheConstants.{MESSAGE_LIMIT};
+    ghost use Rattle.trace_run.specs.Told.{answers_counts};
+    ghost use Rattle.trace_page.specs.Page.{report_script};
+    ghost use Rattle.trace_page.specs.proving.Pages.{Reports};
+    ghost use Rattle.trace_page.specs.proving.Pages.{title_of};
+
+    type Answer = Summary;
+
+    ghost stands = { λ start T now. Reports (title_of start.title) T now };
+
+    ghost script = { λ start. report_script (title_of start.title) MESSAGE_LIMIT };
+
+    ghost answers = { λ start. answers_counts };
+
+    ghost needs = { λ start T e. ⊥ };
+
+    #[inline(always)]
+    fn is_strict(&self) -> bool {
+        false
+    }
+
+    fn event<S: TextSink>(
+        &mut self,
+        line: u64,
+        micros: u64,
+        dir: Dir,
+        event: Event<'_>,
+        out: &mut S,
+    ) -> Result<(), AllocError> {
+        let origin = say_front_before(&self.title, self.span, micros, out);
+        self.span = Some(Span {
+            first: origin,
+            last: micros,
+        });
+        let rows = self.follower.take(FramePlace { line, micros }, dir, event);
+        self.chart.say_rows(origin, rows, out);
+        Ok(())
+    }
+
+    fn end<S: TextSink>(
+        self,
+        pair: &Pair,
+        summary: &Summary,
+        out: &mut S,
+    ) -> Result<Summary, Stop> {
+        let Reporter {
+            title,
+            span,
+            follower,
+            mut chart,
+        } = self;
+        let origin = say_front_before(&title, span, 0, out);
+        chart.say_rows(origin, follower.end(pair), out);
+        say_page_end(&chart, summary, origin, last_of(span), out);
+        Ok(*summary)
+    }
+
+    fn refused<S: TextSink>(self, summary: &Summary, why: Fault, out: &mut S) {
+        let Reporter {
+            title,
+            span,
+            follower: _,
+            chart,
+        } = self;
+        let origin = say_front_before(&title, span, 0, out);
+        say_refused_end(why, &chart, summary, origin, last_of(span), out);
+    }
+}
+
+fn say_front_before<S: TextSink>(
+    title: &Title<'_>,
+    span: Option<Span>,
+    micros: u64,
+    out: &mut S,
+) -> u64
+    ensures says { (T : List Entry) → span ≡ times_of T → S.says out.old (front_before (title_of title.now) T) out.new }
+    ensures origin { (T : List Entry) (e : Entry) → span ≡ times_of T → e.micros ≡ micros → result ≡ first_time (T ++ e ∷ []) }
+    ensures first { (T : List Entry) → span ≡ times_of T → micros ≡ 0 → result ≡ first_time T }
+{
+    match span {
+        Some(span) => span.first,
+        None => {
+            say_front(title, out);
+            micros
+        }
+    }
+}
+
+/// The time of the last frame, 0 where there is none.
+fn last_of(span: Option<Span>) -> u64
+    ensures { (T : List Entry) → span ≡ times_of T → result ≡ last_time 0 T }
+{
+    match span {
+        Some(span) => span.last,
+        None => 0,
+    }
+}
+
+fn say_page_end<S: TextSink>(chart: &Chart, summary: &Summary, first: u64, last: u64, out: &mut S)
+    ensures { S.says out.old (page_end chart.now.blocks chart.now.tally summary.now first last) out.new }
+{
+    say_block_end(chart.blocks.count, out);
+    say_text(out, SESSION_END);
+    say_verdict(&chart.tally, summary, first, last, out);
+    say_help(out);
+}
+
+fn say_refused_end<S: TextSink>(
+    why: Fault,
+    chart: &Chart,
+    summary: &Summary,
+    first: u64,
+    last: u64,
+    out: &mut S,
+)
+    ensures { S.says out.old (refused_end why chart.now.blocks chart.now.tally summary.now first last) out.new }
+{
+    say_block_end(chart.blocks.count, out);
+    say_stop_line(why, out);
+    say_text(out, SESSION_END);
+    say_refused_verdict(why, &chart.tally, summary, first, last, out);
+    say_help(out);
+}

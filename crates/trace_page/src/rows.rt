@@ -1,0 +1,42 @@
+//! The rows of a report.
+ghost use Rattle.std.specs.Prelude.{◌≡◌, ◌<◌, ◌^◌, ◌-◌, [], ◌∷◌};
+ghost use Rattle.trace_page.specs.Blocks.{blocks_behind, rows_text};
+ghost use Rattle.trace_page.specs.RowLines.{row_text};
+ghost use Rattle.trace_rows.specs.Rows.{row_of};
+
+use crate::blocks::{Blocks, is_brief, one_more_row, say_opening};
+use crate::brief_rows::say_message;
+use crate::lost_rows::{say_dropped_row, say_ended_row, say_no_answer_row, say_unfinished_row};
+use trace_io::TextSink;
+use trace_rows::{Row, begins_exchange};
+
+pub(crate) fn say_next_row<S: TextSink>(origin: u64, blocks: &mut Blocks, row: Row<'_>, out: &mut S)
+    ensures says { blocks.old.count < 2 ^ 64 - 1 → blocks.old.rows < 2 ^ 64 - 1 → S.says out.old (rows_text origin blocks.old (row_of row.entry ∷ [])) out.new }
+    ensures stands { blocks.old.count < 2 ^ 64 - 1 → blocks.old.rows < 2 ^ 64 - 1 → blocks.new ≡ blocks_behind blocks.old (row_of row.entry ∷ []) }
+{
+    say_opening(origin, *blocks, row, out);
+    *blocks = one_more_row(begins_exchange(row), *blocks);
+    say_row(is_brief(*blocks), origin, row, out);
+}
+
+fn say_row<S: TextSink>(brief: bool, origin: u64, row: Row<'_>, out: &mut S)
+    ensures { S.says out.old (row_text brief origin (row_of row.entry)) out.new }
+{
+    match row {
+        Row::Message {
+            role,
+            dir,
+            place,
+            message,
+        } => { say_message(brief, origin, role, dir, place, message, out) }
+        Row::NoAnswer { number, silent } => say_no_answer_row(number, silent, out),
+        Row::Dropped {
+            place,
+            dir,
+            named,
+            reason,
+        } => { say_dropped_row(origin, place, dir, named, reason, out) }
+        Row::Ended { place, ended } => say_ended_row(true, origin, place, ended, out),
+        Row::Unfinished { dir, line, len } => say_unfinished_row(true, dir, line, len, out),
+    }
+}

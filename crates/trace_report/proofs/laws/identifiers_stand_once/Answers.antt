@@ -1,5 +1,0 @@
-use Rattle.trace_report.proofs.Identifiers.{identifiers_stand_once}
-use Rattle.trace_report.proofs.laws.identifiers_stand_once.Goals as goal
-
-pub returns : goal.returns
-returns c = identifiers_stand_once

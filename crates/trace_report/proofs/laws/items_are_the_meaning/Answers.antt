@@ -1,5 +1,0 @@
-use Rattle.trace_report.proofs.SessionItems.{items_are_the_meaning}
-use Rattle.trace_report.proofs.laws.items_are_the_meaning.Goals as goal
-
-pub returns : goal.returns
-returns c = items_are_the_meaning

@@ -1,5 +1,0 @@
-use Rattle.trace_report.proofs.Identifiers.{links_have_targets}
-use Rattle.trace_report.proofs.laws.links_have_targets.Goals as goal
-
-pub returns : goal.returns
-returns c = links_have_targets

@@ -1,0 +1,77 @@
+-- What a page of two logs says of them is what `compare` answers.
+use Rattle.std.proofs.Common.{◌≡◌, ◌<◌, ℕ, zero, suc, List, [], ◌∷◌, Option, Some, None, map, take, arith, refl, ap, sym, subst, ◌∙◌, inl, inr, Ok}
+use Rattle.std.specs.Prelude.{slice_get}
+use Rattle.std.proofs.lemmas.Bool.{cases_lt}
+use Rattle.std.proofs.lemmas.Option.{none-some}
+use Rattle.can_log.proofs.Promises.{log_means_at_most_one}
+use Rattle.isotp_receive.specs.declared.TheConstants.{MESSAGE_LIMIT}
+use Rattle.trace_canon.specs.Sessions.{GivesSession}
+use Rattle.trace_canon.specs.Compared.{difference}
+use Rattle.trace_log.specs.Messages.{meaning_of_lines}
+use Rattle.trace_log.specs.Settings.{Settings}
+use Rattle.trace_log.specs.Trace.{trace}
+use Rattle.trace_canon.specs.declared.collector.Session.{Session}
+use Rattle.trace_canon.specs.declared.comparing.Comparison.{Comparison}
+use Rattle.trace_canon.specs.declared.comparing.Comparison.TheVariants.{Same, Different}
+use Rattle.uds_exchange.specs.Difference.{IsFirstDifference}
+use Rattle.uds_exchange.specs.Meaning.{ItemValue}
+use Rattle.trace_rows.specs.Held as Holds
+use Rattle.trace_rows.specs.Held.{comparison_in}
+use Rattle.trace_rows.specs.Items.{item_value, items_in}
+use Rattle.trace_rows.specs.Laws.{AgreesWithCompare}
+use Rattle.trace_rows.specs.Session.{SessionValue}
+use Rattle.trace_rows.proofs.ItemComparisons.{comparison_is_of_items}
+use Rattle.trace_rows.proofs.SessionItems.{items_are_the_meaning}
+
+-- Two lists have one first difference.
+
+kept : (xs : List ItemValue) (i j : ℕ) → i < j → slice_get (take j xs) i ≡ slice_get xs i
+kept xs zero zero low = absurd (omega (arith, low))
+kept xs (suc i) zero low = absurd (omega (arith, low))
+kept [] zero (suc j) low = refl
+kept [] (suc i) (suc j) low = refl
+kept (x ∷ xs) zero (suc j) low = refl
+kept (x ∷ xs) (suc i) (suc j) low = kept xs i j (omega (arith, low))
+
+below : (xs ys : List ItemValue) (i j : ℕ) → i < j → take j xs ≡ take j ys → slice_get xs i ≡ slice_get ys i
+below xs ys i j low same = sym (kept xs i j low) ∙ ap (λ (l : List ItemValue). slice_get l i) same ∙ kept ys i j low
+
+one-difference : (xs ys : List ItemValue) (p q : Option ℕ) → IsFirstDifference xs ys p → IsFirstDifference xs ys q → p ≡ q
+one-difference xs ys None None one other = refl
+one-difference xs ys None (Some j) same there = absurd (there.1 (ap (λ (l : List ItemValue). slice_get l j) same))
+one-difference xs ys (Some i) None there same = absurd (there.1 (ap (λ (l : List ItemValue). slice_get l i) same))
+one-difference xs ys (Some i) (Some j) one other = elim (cases_lt i j) [
+  | inl low ↦ absurd (one.1 (below xs ys i j low other.0))
+  | inr high ↦ elim (cases_lt j i) [
+    | inl low ↦ absurd (other.1 (below xs ys j i low one.0))
+    | inr low ↦ ap (λ n. Some n) (let e : i ≡ j = omega (arith, high, low) in e)
+  ]
+]
+
+same-comparison : (one other : Comparison) → difference one ≡ difference other → one ≡ other
+same-comparison Same Same is = refl
+same-comparison Same (Different item) is = absurd (none-some item is)
+same-comparison (Different item) Same is = absurd (none-some item (sym is))
+same-comparison (Different item) (Different place) is = ap (λ (p : Option ℕ). of p) is
+  where
+    of : Option ℕ → Comparison
+    of None = Same
+    of (Some n) = Different n
+
+-- the items of a log that is held are those that `compare` has
+same-items : (settings : Settings) (log : List ℕ) (held : SessionValue) (session : Session) → Holds.HoldsOne MESSAGE_LIMIT settings log (Ok held)
+    → GivesSession MESSAGE_LIMIT settings log (Ok session) → map item_value (items_in held.rows) ≡ session.meaning
+same-items settings log held session (meanings, read, is) accepted =
+    ap (λ (s : SessionValue). map item_value (items_in s.rows)) is ∙ items_are_the_meaning (trace settings meanings)
+    ∙ ap (meaning_of_lines MESSAGE_LIMIT settings) (log_means_at_most_one log meanings accepted.means.meanings read.1 accepted.means.means) ∙ sym accepted.means.found
+
+pub agrees_with_compare : AgreesWithCompare
+agrees_with_compare settings one other held compared holds compares =
+    let left = same-items settings one held.left compared.left holds.0 compares.0 in
+    let right = same-items settings other held.right compared.right holds.1 compares.1 in
+    let own = comparison_is_of_items (items_in held.left.rows) (items_in held.right.rows) in
+    let place = difference (comparison_in held) in
+    same-comparison (comparison_in held) compared.comparison
+    (one-difference compared.left.meaning compared.right.meaning place (difference compared.comparison)
+    (subst (λ items. IsFirstDifference items compared.right.meaning place) left (subst (λ items. IsFirstDifference (map item_value (items_in held.left.rows)) items place) right own))
+    compares.2)

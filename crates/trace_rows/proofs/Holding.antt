@@ -1,0 +1,86 @@
+-- What is kept of a log that is held, with one more frame and at its end.
+use Rattle.std.proofs.Common.{◌≡◌, ℕ, false, List, [], ◌∷◌, ◌++◌, Option, Some, None, Ok, Err, Result, refl, ap, sym, ◌∙◌}
+use Rattle.std.specs.Prelude.{◌≢◌}
+use Rattle.std.proofs.lemmas.Option.{none-some, same_Some}
+use Rattle.isotp_receive.specs.declared.TheConstants.{MESSAGE_LIMIT}
+use Rattle.isotp_receive.specs.Trace.{Entry}
+use Rattle.trace_log.proofs.Promises.{has_own_frame}
+use Rattle.trace_log.specs.Needing.{HasFrame}
+use Rattle.trace_log.specs.Settings.{Settings}
+use Rattle.trace_log.specs.Summing.{summary_of}
+use Rattle.trace_run.specs.Told.{AnswersTold, IsUnreadFor, TellsNothing}
+use Rattle.trace_log.specs.Trace.{trace}
+use Rattle.trace_log.specs.declared.fault.Fault.{Fault}
+use Rattle.trace_log.specs.declared.fault.Fault.TheVariants.{BadLine, Oversize, LogLimit, OutputLimit, Read, Write, Memory}
+use Rattle.trace_log.specs.declared.summary.Summary.{Summary}
+use Rattle.trace_rows.specs.Events.{end_rows}
+use Rattle.trace_rows.specs.Held.{HoldsOne, HasOwnFrame}
+use Rattle.trace_rows.specs.Session.{first_time, last_time}
+use Rattle.trace_rows.specs.Session.{SessionValue, session_of}
+use Rattle.trace_rows.specs.declared.holder.Heard.{Heard}
+use Rattle.trace_rows.specs.declared.span.Span.{Span}
+use Rattle.trace_rows.specs.proving.Following.{rows_in, times_of}
+use Rattle.trace_rows.specs.proving.Heard.{IsHeardOf, answers_heard, quiet_script}
+use Rattle.trace_rows.specs.proving.Holding.{first_of_span, last_of_span}
+use Rattle.trace_rows.proofs.Steps.{span_next}
+
+-- nothing is told
+pub quiet_tells_nothing : TellsNothing quiet_script
+quiet_tells_nothing = record { of_frames = λ T e. refl; at_the_end = λ T summary. refl; of_refusals = λ T summary why. refl }
+
+-- the times with one more frame
+pub span_goes_on : (T : List Entry) (e : Entry) (span : Span) (micros : ℕ) → Some span ≡ times_of T → e.micros ≡ micros
+    → Some (record { first = span.first; last = micros }) ≡ times_of (T ++ e ∷ [])
+span_goes_on [] e span micros is at = absurd (none-some span (sym is))
+span_goes_on (x ∷ T) e span micros is at =
+    span_next (x ∷ T) e span.first micros (ap (λ (s : Span). s.first) (same_Some span (record { first = x.micros; last = last_time x.micros T }) is)) (sym at)
+
+-- the times of a first frame
+pub span_begins : (T : List Entry) (e : Entry) (micros : ℕ) → None ≡ times_of T → e.micros ≡ micros
+    → Some (record { first = micros; last = micros }) ≡ times_of (T ++ e ∷ [])
+span_begins [] e micros is at = span_next [] e micros micros (sym at) (sym at)
+span_begins (x ∷ T) e micros is at = absurd (none-some (record { first = x.micros; last = last_time x.micros T }) is)
+
+-- the times of a session
+pub first_known : (T : List Entry) (span : Option Span) → span ≡ times_of T → first_of_span span ≡ first_time T
+first_known [] span is = ap first_of_span is
+first_known (x ∷ T) span is = ap first_of_span is
+
+pub last_known : (T : List Entry) (span : Option Span) → span ≡ times_of T → last_of_span span ≡ last_time 0 T
+last_known [] span is = ap last_of_span is
+last_known (x ∷ T) span is = ap last_of_span is
+
+module _ (settings : Settings) (log : List ℕ) (given : ℕ) (old new : List ℕ) where
+  -- what is answered of a log that can't be read
+  pub unread_so : (fault : Fault) → AnswersTold quiet_script answers_heard MESSAGE_LIMIT settings log given (Err fault) old new
+      → IsUnreadFor false MESSAGE_LIMIT settings log fault
+  unread_so (BadLine line column) answered = answered.0
+  unread_so (Oversize line announced) answered = answered.0
+  unread_so LogLimit answered = answered.0
+  unread_so OutputLimit (all, meanings, read, answer, wrote) = absurd answer
+  unread_so Read answered = tt
+  unread_so Write answered = tt
+  unread_so Memory answered = tt
+
+  -- and of one that can, where this session is of what was heard
+  pub read_so : (heard : Heard) (session : SessionValue)
+      → ((T : List Entry) (summary : Summary) → IsHeardOf T summary heard → session ≡ session_of MESSAGE_LIMIT T summary)
+      → AnswersTold quiet_script answers_heard MESSAGE_LIMIT settings log given (Ok heard) old new → HoldsOne MESSAGE_LIMIT settings log (Ok session)
+  read_so heard session is (all, meanings, read, answer, wrote) =
+      (meanings, read, is (trace settings meanings) (summary_of MESSAGE_LIMIT settings log meanings) answer)
+
+  -- the log has a frame where a row of its end is there
+  pub has_own_where_held : (heard : Heard) → rows_in heard.last ≢ [] → AnswersTold quiet_script answers_heard MESSAGE_LIMIT settings log given (Ok heard) old new
+      → HasOwnFrame settings log
+  has_own_where_held heard some (all, meanings, read, answer, wrote) =
+      has_own_frame settings log meanings read.1 (λ none. some (answer.last ∙ ap (λ (T : List Entry). end_rows MESSAGE_LIMIT T) none))
+
+-- and where a frame of it needs memory
+pub has_own_where_needed : (needs : List Entry → Entry → Type 0) (settings : Settings) (log : List ℕ) → HasFrame needs settings log → HasOwnFrame settings log
+has_own_where_needed needs settings log found =
+    record { before = found.before; line = found.line; frame = found.frame; begins = found.begins; own = found.own; holds = tt }
+
+-- the fault where there is one
+abbrev pub fault_of : {A : Type 0} → Result A Fault → Fault
+fault_of (Ok value) = Memory
+fault_of (Err why) = why

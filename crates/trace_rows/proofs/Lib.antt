@@ -1,0 +1,20 @@
+mod Numbered
+mod FoundContrasts
+mod Agreeing
+mod Distinct
+mod FewPairs
+mod FirstPlaces
+mod FrameCounting
+mod Holding
+mod ItemComparisons
+mod ItemValues
+mod LineOrder
+mod Linked
+mod Meeting
+mod PairCounting
+mod RowTargets
+mod RowsAround
+mod SessionItems
+mod Steps
+mod Tallies
+pub mod Promises

@@ -1,0 +1,127 @@
+-- What is known of the messages so far, with one message more.
+use Rattle.std.proofs.Common.{◌≡◌, ℕ, Bool, true, false, List, [], ◌∷◌, ◌++◌, Option, Some, None, IfSome, refl, ap, sym, subst, ◌∙◌, inl, inr, option_map, append-nil, append_assoc}
+use Rattle.std.specs.Prelude.{if◌then◌else◌, ◌&&◌, not}
+use Rattle.std.proofs.lemmas.Bool.{cases_Bool}
+use Rattle.direction.specs.Dir.{Message}
+use Rattle.direction.specs.declared.Dir.{Dir}
+use Rattle.isotp_receive.specs.declared.TheConstants.{MESSAGE_LIMIT}
+use Rattle.isotp_receive.specs.StandingReception.{stands}
+use Rattle.isotp_receive.specs.Trace.{Entry, role}
+use Rattle.isotp_receive.specs.Verdict.{EventValue, message, messages, told_message, verdict}
+use Rattle.uds_exchange.specs.Laws.{open_with}
+use Rattle.uds_exchange.specs.Meaning.{is_answer_to, is_tester_request}
+use Rattle.uds_exchange.specs.Numbering.{number_after, step_after}
+use Rattle.uds_exchange.specs.OneMessage.{step_if_open, step_of}
+use Rattle.uds_exchange.specs.Order.{open_request}
+use Rattle.uds_exchange.proofs.Promises.{open_request_goes_on}
+use Rattle.uds_message.specs.Message.{sid, is_final_for, is_pending_for, is_suppressing}
+use Rattle.uds_exchange.specs.Meaning.{is_from_tester}
+use Rattle.trace_canon.specs.MessageLines.{first_frame, place_of}
+use Rattle.trace_canon.specs.declared.begun.FramePlace.{FramePlace}
+use Rattle.trace_canon.proofs.Promises.{messages_next}
+use Rattle.trace_rows.specs.Events.{asked_in, completes_request, completes_request_by, ended_rows, frame_rows, frames_by, is_request_step, is_there, role_of_step, rows_before, verdict_rows}
+use Rattle.trace_rows.specs.Rows.{RowValue}
+use Rattle.trace_rows.specs.Rows.{message as message_row}
+use Rattle.trace_rows.specs.declared.follower.Follower.{Follower}
+use Rattle.trace_rows.specs.declared.places.Extent.{Extent}
+use Rattle.trace_rows.specs.proving.Following.{IsSilent, KnowsMessages}
+use Rattle.trace_rows.proofs.Steps.{asked_next}
+
+-- a message that is no request begins no exchange
+none_asks : (waiting : Option ℕ) (sent : Message) → is_request_step (step_if_open waiting sent) ≡ false
+none_asks None sent = refl
+none_asks (Some service) sent =
+    elim (cases_Bool (not (is_from_tester sent.0) && is_final_for service sent.1)) [
+      | inl e ↦ rw e refl
+      | inr e ↦ elim (cases_Bool (not (is_from_tester sent.0) && is_pending_for service sent.1)) [ inl q ↦ rw (e, q) refl | inr q ↦ rw (e, q) refl ]
+    ]
+
+-- an exchange begins with each request of the tester, and with nothing else
+asks : (waiting : Option ℕ) (sent : Message) → is_request_step (step_of waiting sent) ≡ is_tester_request sent
+asks waiting sent = elim (cases_Bool (is_tester_request sent)) [ inl e ↦ rw e refl | inr e ↦ rw e (none_asks waiting sent) ]
+
+-- what is kept of the last request is right with one more that asks
+pub silent_asked : (M : List Message) (sent : Message) (silent : Bool) → is_request_step (step_after M sent) ≡ true → silent ≡ is_suppressing sent.1
+    → IsSilent (M ++ sent ∷ []) silent
+silent_asked M sent silent is same =
+    subst (λ (o : Option (List ℕ)). IfSome o (λ (request : List ℕ). silent ≡ is_suppressing request)) (sym (open_request_goes_on M sent))
+    (by (open_request M))
+  where
+    asked : is_tester_request sent ≡ true
+    asked = sym (asks (option_map sid (open_request M)) sent) ∙ is
+
+    by : (o : Option (List ℕ)) → IfSome (open_with o sent) (λ (request : List ℕ). silent ≡ is_suppressing request)
+    by None = rw asked same
+    by (Some request) = rw asked same
+
+-- and with one that does not
+pub silent_still : (M : List Message) (sent : Message) (silent : Bool) → is_request_step (step_after M sent) ≡ false → IsSilent M silent
+    → IsSilent (M ++ sent ∷ []) silent
+silent_still M sent silent is same =
+    subst (λ (o : Option (List ℕ)). IfSome o (λ (request : List ℕ). silent ≡ is_suppressing request)) (sym (open_request_goes_on M sent))
+    (by (open_request M) same)
+  where
+    apart : is_tester_request sent ≡ false
+    apart = sym (asks (option_map sid (open_request M)) sent) ∙ is
+
+    by : (o : Option (List ℕ)) → IfSome o (λ (request : List ℕ). silent ≡ is_suppressing request)
+        → IfSome (open_with o sent) (λ (request : List ℕ). silent ≡ is_suppressing request)
+    by None same = rw apart tt
+    by (Some request) same =
+        elim (cases_Bool (is_answer_to request sent)) [ inl e ↦ rw (apart, e) tt | inr e ↦ rw (apart, e) same ]
+
+module _ (T : List Entry) (e : Entry) (d : Dir) (event : EventValue) (dir_is : e.dir ≡ d) (is : event ≡ verdict MESSAGE_LIMIT T e) where
+  -- the verdict of the frame
+  verdict_is : event.verdict ≡ (verdict MESSAGE_LIMIT T e).verdict
+  verdict_is = ap (λ (x : EventValue). x.verdict) is
+
+  -- a frame that completes a message: what is known with that message is known of the trace
+  pub met_next : (bytes : List ℕ) (here was : ℕ) (follower : Follower) → event.verdict ≡ message bytes → here ≡ e.micros → was ≡ asked_in MESSAGE_LIMIT T
+      → KnowsMessages (messages MESSAGE_LIMIT T ++ (d, bytes) ∷ []) (if is_request_step (step_after (messages MESSAGE_LIMIT T) (d, bytes)) then here else was) follower
+      → KnowsMessages (messages MESSAGE_LIMIT (T ++ e ∷ [])) (asked_in MESSAGE_LIMIT (T ++ e ∷ [])) follower
+  met_next bytes here was follower completes here_is was_is known =
+      let M = messages MESSAGE_LIMIT T in
+      let told : (verdict MESSAGE_LIMIT T e).verdict ≡ message bytes = sym verdict_is ∙ completes in
+      let all : messages MESSAGE_LIMIT (T ++ e ∷ []) ≡ M ++ (d, bytes) ∷ [] =
+      messages_next T e d event dir_is is ∙ ap (λ v. M ++ told_message d v) completes in
+      let asks_then : completes_request MESSAGE_LIMIT T e ≡ is_request_step (step_after M (d, bytes)) =
+      ap (λ v. completes_request_by MESSAGE_LIMIT T e v) told ∙ ap (λ (side : Dir). is_request_step (step_after M (side, bytes))) dir_is in
+      let asked_then : asked_in MESSAGE_LIMIT (T ++ e ∷ []) ≡ (if is_request_step (step_after M (d, bytes)) then here else was) =
+      asked_next MESSAGE_LIMIT T e ∙ (λ i. if asks_then i then sym here_is i else sym was_is i) in
+      subst (λ (l : List Message). KnowsMessages l (asked_in MESSAGE_LIMIT (T ++ e ∷ [])) follower) (sym all)
+      (subst (λ n. KnowsMessages (M ++ (d, bytes) ∷ []) n follower) (sym asked_then) known)
+
+  -- a frame that completes none
+  pub met_still : (follower : Follower) → told_message d event.verdict ≡ [] → completes_request_by MESSAGE_LIMIT T e event.verdict ≡ false
+      → KnowsMessages (messages MESSAGE_LIMIT T) (asked_in MESSAGE_LIMIT T) follower
+      → KnowsMessages (messages MESSAGE_LIMIT (T ++ e ∷ [])) (asked_in MESSAGE_LIMIT (T ++ e ∷ [])) follower
+  met_still follower none no_request known =
+      let M = messages MESSAGE_LIMIT T in
+      let all : messages MESSAGE_LIMIT (T ++ e ∷ []) ≡ M = messages_next T e d event dir_is is ∙ ap (λ l. M ++ l) none ∙ append-nil M in
+      let asks_not : completes_request MESSAGE_LIMIT T e ≡ false = ap (λ v. completes_request_by MESSAGE_LIMIT T e v) (sym verdict_is) ∙ no_request in
+      let asked_then : asked_in MESSAGE_LIMIT (T ++ e ∷ []) ≡ asked_in MESSAGE_LIMIT T =
+      asked_next MESSAGE_LIMIT T e ∙ ap (λ (b : Bool). if b then e.micros else asked_in MESSAGE_LIMIT T) asks_not in
+      subst (λ (l : List Message). KnowsMessages l (asked_in MESSAGE_LIMIT (T ++ e ∷ [])) follower) (sym all)
+      (subst (λ n. KnowsMessages M n follower) (sym asked_then) known)
+
+-- the rows of what a frame ended, then of the item that its message closes, and then of the message
+pub rows_of_message : (ended closing : List RowValue) (row : RowValue) → (ended ++ closing) ++ row ∷ [] ≡ ended ++ (closing ++ row ∷ [])
+rows_of_message ended closing row = append_assoc ended closing (row ∷ [])
+
+-- so they are the rows of the event
+pub message_event : (T : List Entry) (e : Entry) (d : Dir) (event : EventValue) (bytes : List ℕ) (asked : ℕ) (here : FramePlace) (extent : Extent)
+    → e.dir ≡ d → event ≡ verdict MESSAGE_LIMIT T e → event.verdict ≡ message bytes → asked ≡ asked_in MESSAGE_LIMIT T → here ≡ place_of e
+    → extent.first ≡ place_of (first_frame T e) → extent.frames ≡ frames_by (stands MESSAGE_LIMIT e.dir T) (role e.dir e)
+    → ended_rows e event.ended
+    ++ (rows_before (messages MESSAGE_LIMIT T) (step_after (messages MESSAGE_LIMIT T) (d, bytes))
+    ++ message_row (role_of_step asked (step_after (messages MESSAGE_LIMIT T) (d, bytes)) d bytes) d
+    (record { item = number_after (messages MESSAGE_LIMIT T) (d, bytes); first = extent.first; last = here; frames = extent.frames }) bytes ∷ [])
+    ≡ frame_rows MESSAGE_LIMIT T e
+message_event T e d event bytes asked here extent dir_is is told asked_is here_is first_is frames_is =
+    let M = messages MESSAGE_LIMIT T in
+    (λ i. ended_rows e (is i).ended
+    ++ (rows_before M (step_after M (sym dir_is i, bytes))
+    ++ message_row (role_of_step (asked_is i) (step_after M (sym dir_is i, bytes)) (sym dir_is i) bytes) (sym dir_is i)
+    (record { item = number_after M (sym dir_is i, bytes); first = first_is i; last = here_is i; frames = frames_is i }) bytes ∷ []))
+    ∙ ap (λ v. ended_rows e (verdict MESSAGE_LIMIT T e).ended ++ verdict_rows MESSAGE_LIMIT T e (is_there (verdict MESSAGE_LIMIT T e).ended) v)
+    (sym (sym (ap (λ (x : EventValue). x.verdict) is) ∙ told))

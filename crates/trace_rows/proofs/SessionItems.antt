@@ -1,0 +1,154 @@
+-- The items that the rows of a session tell are what its messages mean.
+use Rattle.std.proofs.Common.{◌≡◌, ℕ, Bool, List, [], ◌∷◌, ◌++◌, Option, Some, None, map, refl, ap, sym, subst, ◌∙◌, append_assoc, append-nil}
+use Rattle.std.specs.Prelude.{⊤}
+use Rattle.std.proofs.lemmas.List.{map-append}
+use Rattle.direction.specs.Dir.{Message}
+use Rattle.direction.specs.declared.Dir.{Dir}
+use Rattle.direction.specs.declared.Dir.TheVariants as dir
+use Rattle.isotp_receive.specs.declared.TheConstants.{MESSAGE_LIMIT}
+use Rattle.isotp_receive.specs.declared.event.Ended.{Ended}
+use Rattle.isotp_receive.specs.StandingReception.{StandingReception, receptions_after}
+use Rattle.isotp_receive.specs.Trace.{Entry}
+use Rattle.isotp_receive.specs.Verdict.{VerdictValue, message, began, stored, flowed, dropped, messages, told_message, verdict}
+use Rattle.trace_canon.proofs.Promises.{messages_next}
+use Rattle.uds_exchange.proofs.Promises.{meaning_goes_on, step_by_items}
+use Rattle.uds_exchange.specs.Meaning.{meaning}
+use Rattle.uds_exchange.specs.Numbering.{step_after}
+use Rattle.uds_exchange.specs.OneMessage.{step_of}
+use Rattle.uds_exchange.specs.Order.{open_request}
+use Rattle.uds_exchange.specs.declared.step.Step.{Step}
+use Rattle.uds_exchange.specs.declared.step.Step.TheVariants as becomes
+use Rattle.uds_exchange.specs.proving.Pairing.{join, waiting_sid}
+use Rattle.trace_rows.specs.Events.{asked_in, closing_rows, end_rows, ended_rows, is_there, message_place, role_of_step, rows_before, rows_of, standing_row, verdict_rows, waiting_row}
+use Rattle.trace_rows.specs.Items.{item_value, items_in}
+use Rattle.trace_rows.specs.Laws.{ItemsAreTheMeaning}
+use Rattle.trace_rows.specs.Session.{all_rows}
+use Rattle.trace_rows.specs.Rows.{RowValue}
+use Rattle.trace_rows.specs.Rows as row
+use Rattle.trace_rows.proofs.ItemValues.{RowKind, asks, answers, strays, nothing, kind, kind_of_step, answer_of, values_of, values-behind, values-by-kinds, kind-of-message, joined}
+use Rattle.trace_rows.proofs.Steps.{rows_next}
+
+-- Rows that are nothing to items.
+
+abbrev IsQuiet : List RowKind → Type 0
+IsQuiet [] = ⊤
+IsQuiet (asks bytes ∷ rest) = ⊥
+IsQuiet (answers bytes ∷ rest) = ⊥
+IsQuiet (strays d bytes ∷ rest) = ⊥
+IsQuiet (nothing ∷ rest) = IsQuiet rest
+
+no-answer : (ks : List RowKind) → IsQuiet ks → answer_of ks ≡ None
+no-answer [] quiet = refl
+no-answer (asks bytes ∷ rest) quiet = absurd quiet
+no-answer (answers bytes ∷ rest) quiet = absurd quiet
+no-answer (strays d bytes ∷ rest) quiet = absurd quiet
+no-answer (nothing ∷ rest) quiet = no-answer rest quiet
+
+no-item : (ks : List RowKind) → IsQuiet ks → values_of ks ≡ []
+no-item [] quiet = refl
+no-item (asks bytes ∷ rest) quiet = absurd quiet
+no-item (answers bytes ∷ rest) quiet = absurd quiet
+no-item (strays d bytes ∷ rest) quiet = absurd quiet
+no-item (nothing ∷ rest) quiet = no-item rest quiet
+
+no-more : (ks quiet : List RowKind) → IsQuiet quiet → values_of (ks ++ quiet) ≡ values_of ks
+no-more ks quiet is = values-behind ks quiet (no-answer quiet is) ∙ ap (λ l. values_of ks ++ l) (no-item quiet is) ∙ append-nil (values_of ks)
+
+ended-quiet : (e : Entry) (ended : Option Ended) → IsQuiet (map kind (ended_rows e ended))
+ended-quiet e None = tt
+ended-quiet e (Some end) = tt
+
+waiting-quiet : (M : List Message) (waits : Option (List ℕ)) → IsQuiet (map kind (waiting_row M waits))
+waiting-quiet M None = tt
+waiting-quiet M (Some request) = tt
+
+before-quiet : (M : List Message) (step : Step) → IsQuiet (map kind (rows_before M step))
+before-quiet M (becomes.Request service) = waiting-quiet M (open_request M)
+before-quiet M becomes.Answer = tt
+before-quiet M becomes.Removed = tt
+before-quiet M becomes.Hold = tt
+before-quiet M becomes.Pass = tt
+
+standing-quiet : (d : Dir) (standing : Option StandingReception) → IsQuiet (map kind (standing_row d standing))
+standing-quiet d None = tt
+standing-quiet d (Some begun) = tt
+
+-- One more frame.
+
+module _ (T : List Entry) (e : Entry) where
+  abbrev M : List Message
+  M = messages MESSAGE_LIMIT T
+
+  -- a message, behind rows that tell what the messages before mean
+  with-message : (ks : List RowKind) (bytes : List ℕ) → values_of ks ≡ meaning M
+      → values_of (ks ++ kind_of_step (step_after M (e.dir, bytes)) (e.dir, bytes) ∷ []) ≡ meaning (M ++ (e.dir, bytes) ∷ [])
+  with-message ks bytes so =
+      let x : Message = (e.dir, bytes) in
+      ap (λ step. values_of (ks ++ kind_of_step step x ∷ [])) (sym (step_by_items M x) ∙ ap (λ items. step_of (waiting_sid items) x) (sym so))
+      ∙ joined ks x ∙ ap (λ items. join items x) so ∙ sym (meaning_goes_on M x)
+
+  with-message-rows : (ks : List RowKind) (bytes : List ℕ) (step : Step) → step ≡ step_after M (e.dir, bytes) → values_of ks ≡ meaning M
+      → values_of (ks ++ map kind (rows_before M step ++ row.message (role_of_step (asked_in MESSAGE_LIMIT T) step e.dir bytes) e.dir (message_place MESSAGE_LIMIT T e bytes) bytes ∷ []))
+      ≡ meaning (M ++ (e.dir, bytes) ∷ [])
+  with-message-rows ks bytes step is so =
+      let sent = row.message (role_of_step (asked_in MESSAGE_LIMIT T) step e.dir bytes) e.dir (message_place MESSAGE_LIMIT T e bytes) bytes in
+      let before = map kind (rows_before M step) in
+      ap (λ l. values_of (ks ++ l)) (map-append kind (rows_before M step) (sent ∷ []))
+      ∙ ap values_of (sym (append_assoc ks before (kind sent ∷ [])))
+      ∙ ap (λ k. values_of ((ks ++ before) ++ k ∷ [])) (kind-of-message (asked_in MESSAGE_LIMIT T) step e.dir (message_place MESSAGE_LIMIT T e bytes) bytes
+      ∙ ap (λ s. kind_of_step s (e.dir, bytes)) is)
+      ∙ with-message (ks ++ before) bytes (no-more ks before (before-quiet M step) ∙ so)
+
+  with-verdict : (ks : List RowKind) (named : Bool) (did : VerdictValue) → values_of ks ≡ meaning M
+      → values_of (ks ++ map kind (verdict_rows MESSAGE_LIMIT T e named did)) ≡ meaning (M ++ told_message e.dir did)
+  with-verdict ks named (message bytes) so = with-message-rows ks bytes (step_after M (e.dir, bytes)) refl so
+  with-verdict ks named began so = ap values_of (append-nil ks) ∙ so ∙ ap meaning (sym (append-nil M))
+  with-verdict ks named stored so = ap values_of (append-nil ks) ∙ so ∙ ap meaning (sym (append-nil M))
+  with-verdict ks named flowed so = ap values_of (append-nil ks) ∙ so ∙ ap meaning (sym (append-nil M))
+  with-verdict ks named (dropped reason) so = no-more ks (nothing ∷ []) tt ∙ so ∙ ap meaning (sym (append-nil M))
+
+  pub one-more-frame : values_of (map kind (rows_of MESSAGE_LIMIT T)) ≡ meaning M
+      → values_of (map kind (rows_of MESSAGE_LIMIT (T ++ e ∷ []))) ≡ meaning (messages MESSAGE_LIMIT (T ++ e ∷ []))
+  one-more-frame so =
+      let event = verdict MESSAGE_LIMIT T e in
+      let ks = map kind (rows_of MESSAGE_LIMIT T) in
+      let ended = ended_rows e event.ended in
+      let did = verdict_rows MESSAGE_LIMIT T e (is_there event.ended) event.verdict in
+      ap (λ rows. values_of (map kind rows)) (rows_next MESSAGE_LIMIT T e)
+      ∙ ap values_of (map-append kind (rows_of MESSAGE_LIMIT T) (ended ++ did))
+      ∙ ap (λ l. values_of (ks ++ l)) (map-append kind ended did)
+      ∙ ap values_of (sym (append_assoc ks (map kind ended) (map kind did)))
+      ∙ with-verdict (ks ++ map kind ended) (is_there event.ended) event.verdict (no-more ks (map kind ended) (ended-quiet e event.ended) ∙ so)
+      ∙ ap meaning (sym (messages_next T e e.dir event refl refl))
+
+-- All frames.
+
+abbrev MeansSo : List Entry → Type 0
+MeansSo T = values_of (map kind (rows_of MESSAGE_LIMIT T)) ≡ meaning (messages MESSAGE_LIMIT T)
+
+means-so-behind : (past T : List Entry) → MeansSo past → MeansSo (past ++ T)
+means-so-behind past [] so = subst MeansSo (sym (append-nil past)) so
+means-so-behind past (e ∷ rest) so = subst MeansSo (append_assoc past (e ∷ []) rest) (means-so-behind (past ++ e ∷ []) rest (one-more-frame past e so))
+
+end-quiet : (T : List Entry) (ks : List RowKind) → values_of (ks ++ map kind (end_rows MESSAGE_LIMIT T)) ≡ values_of ks
+end-quiet T ks =
+    let stand = receptions_after MESSAGE_LIMIT T in
+    let one = standing_row dir.Tester stand.tester in
+    let other = standing_row dir.Unit stand.unit in
+    let last = closing_rows (messages MESSAGE_LIMIT T) in
+    ap (λ l. values_of (ks ++ l)) (map-append kind (one ++ other) last ∙ ap (λ l. l ++ map kind last) (map-append kind one other))
+    ∙ ap values_of (sym (append_assoc ks (map kind one ++ map kind other) (map kind last)) ∙ ap (λ l. l ++ map kind last) (sym (append_assoc ks (map kind one) (map kind other))))
+    ∙ no-more ((ks ++ map kind one) ++ map kind other) (map kind last) (waiting-quiet (messages MESSAGE_LIMIT T) (open_request (messages MESSAGE_LIMIT T)))
+    ∙ no-more (ks ++ map kind one) (map kind other) (standing-quiet dir.Unit stand.unit)
+    ∙ no-more ks (map kind one) (standing-quiet dir.Tester stand.tester)
+
+pub items_are_the_meaning : ItemsAreTheMeaning
+items_are_the_meaning T =
+    values-by-kinds (all_rows MESSAGE_LIMIT T)
+    ∙ ap values_of (map-append kind (rows_of MESSAGE_LIMIT T) (end_rows MESSAGE_LIMIT T))
+    ∙ end-quiet T (map kind (rows_of MESSAGE_LIMIT T))
+    ∙ means-so-behind [] T refl
+
+-- and so do those of the rows of its frames alone
+pub rows_mean_so : (T : List Entry) → map item_value (items_in (rows_of MESSAGE_LIMIT T)) ≡ meaning (messages MESSAGE_LIMIT T)
+rows_mean_so T = values-by-kinds (rows_of MESSAGE_LIMIT T) ∙ means-so-behind [] T refl

@@ -1,0 +1,104 @@
+-- What a report has of a trace, with one more frame.
+use Rattle.std.proofs.Common.{◌≡◌, ◌≤◌, ◌*◌, ℕ, Bool, List, [], ◌∷◌, ◌++◌, length, Option, Some, None, arith, refl, ap, sym, ◌∙◌, append_assoc, append-nil}
+use Rattle.std.proofs.lemmas.List.{length-append}
+use Rattle.std.specs.Prelude.{if◌then◌else◌}
+use Rattle.direction.specs.Dir.{Message}
+use Rattle.isotp_receive.specs.declared.event.Ended.{Ended}
+use Rattle.isotp_receive.specs.Trace.{Entry}
+use Rattle.isotp_receive.specs.Verdict.{VerdictValue, message, began, stored, flowed, dropped, messages, verdict}
+use Rattle.uds_exchange.specs.Numbering.{step_after}
+use Rattle.uds_exchange.specs.Order.{open_request}
+use Rattle.uds_exchange.specs.declared.step.Step.{Step}
+use Rattle.uds_exchange.specs.declared.step.Step.TheVariants as becomes
+use Rattle.trace_rows.specs.Events.{asked_behind, asked_in, completes_request, ended_rows, frame_rows, is_there, message_place, role_of_step, rows_before, rows_behind, rows_of, verdict_rows, waiting_row}
+use Rattle.trace_rows.specs.Session.{first_time, last_time}
+use Rattle.trace_rows.specs.Rows as row
+use Rattle.trace_rows.specs.proving.Following.{times_of}
+
+rows_more : (limit : ℕ) (past T : List Entry) (e : Entry) → rows_behind limit past (T ++ e ∷ []) ≡ rows_behind limit past T ++ frame_rows limit (past ++ T) e
+rows_more limit past [] e =
+    append-nil (frame_rows limit past e) ∙ ap (λ (before : List Entry). frame_rows limit before e) (sym (append-nil past))
+rows_more limit past (x ∷ T) e =
+    let front = frame_rows limit past x in
+    let between = rows_behind limit (past ++ x ∷ []) T in
+    ap (λ rest. front ++ rest) (rows_more limit (past ++ x ∷ []) T e)
+    ∙ ap (λ (before : List Entry). front ++ (between ++ frame_rows limit before e)) (append_assoc past (x ∷ []) T)
+    ∙ sym (append_assoc front between (frame_rows limit (past ++ x ∷ T) e))
+
+-- its rows
+pub rows_next : (limit : ℕ) (T : List Entry) (e : Entry) → rows_of limit (T ++ e ∷ []) ≡ rows_of limit T ++ frame_rows limit T e
+rows_next limit T e = rows_more limit [] T e
+
+asked_more : (limit earlier : ℕ) (past T : List Entry) (e : Entry)
+    → asked_behind limit earlier past (T ++ e ∷ []) ≡ (if completes_request limit (past ++ T) e then e.micros else asked_behind limit earlier past T)
+asked_more limit earlier past [] e =
+    ap (λ (before : List Entry). if completes_request limit before e then e.micros else earlier) (sym (append-nil past))
+asked_more limit earlier past (x ∷ T) e =
+    let asked = if completes_request limit past x then x.micros else earlier in
+    asked_more limit asked (past ++ x ∷ []) T e
+    ∙ ap (λ (before : List Entry). if completes_request limit before e then e.micros else asked_behind limit asked (past ++ x ∷ []) T) (append_assoc past (x ∷ []) T)
+
+-- the time at which its last request was complete
+pub asked_next : (limit : ℕ) (T : List Entry) (e : Entry)
+    → asked_in limit (T ++ e ∷ []) ≡ (if completes_request limit T e then e.micros else asked_in limit T)
+asked_next limit T e = asked_more limit 0 [] T e
+
+-- the time of its last frame
+pub last_next : (earlier : ℕ) (T : List Entry) (e : Entry) → last_time earlier (T ++ e ∷ []) ≡ e.micros
+last_next earlier [] e = refl
+last_next earlier (x ∷ T) e = last_next x.micros T e
+
+-- the times of a trace with one more frame
+pub span_next : (T : List Entry) (e : Entry) (first last : ℕ) → first ≡ first_time (T ++ e ∷ []) → last ≡ e.micros
+    → Some (record { first = first; last = last }) ≡ times_of (T ++ e ∷ [])
+span_next [] e first last first_is last_is = (λ i. Some (record { first = first_is i; last = last_is i }))
+span_next (x ∷ T) e first last first_is last_is = (λ i. Some (record { first = first_is i; last = (last_is ∙ sym (last_next x.micros T e)) i }))
+
+-- Rows are few: three of a frame at the most.
+
+few_waiting : (M : List Message) (waiting : Option (List ℕ)) → length (waiting_row M waiting) ≤ 1
+few_waiting M None = omega arith
+few_waiting M (Some request) = omega arith
+
+few_before : (M : List Message) (step : Step) → length (rows_before M step) ≤ 1
+few_before M (becomes.Request service) = few_waiting M (open_request M)
+few_before M becomes.Answer = omega arith
+few_before M becomes.Removed = omega arith
+few_before M becomes.Hold = omega arith
+few_before M becomes.Pass = omega arith
+
+few_ended : (e : Entry) (ended : Option Ended) → length (ended_rows e ended) ≤ 1
+few_ended e None = omega arith
+few_ended e (Some end) = omega arith
+
+few_of_verdict : (limit : ℕ) (T : List Entry) (e : Entry) (named : Bool) (did : VerdictValue) → length (verdict_rows limit T e named did) ≤ 2
+few_of_verdict limit T e named (message bytes) =
+    let M = messages limit T in
+    let step = step_after M (e.dir, bytes) in
+    let one = few_before M step in
+    let row = row.message (role_of_step (asked_in limit T) step e.dir bytes) e.dir (message_place limit T e bytes) bytes in
+    let both = length-append (rows_before M step) (row ∷ []) in
+    omega (arith, one, both)
+few_of_verdict limit T e named began = omega arith
+few_of_verdict limit T e named stored = omega arith
+few_of_verdict limit T e named flowed = omega arith
+few_of_verdict limit T e named (dropped reason) = omega arith
+
+few_of_frame : (limit : ℕ) (T : List Entry) (e : Entry) → length (frame_rows limit T e) ≤ 3
+few_of_frame limit T e =
+    let event = verdict limit T e in
+    let ended = few_ended e event.ended in
+    let did = few_of_verdict limit T e (is_there event.ended) event.verdict in
+    let both = length-append (ended_rows e event.ended) (verdict_rows limit T e (is_there event.ended) event.verdict) in
+    omega (arith, ended, did, both)
+
+few_behind : (limit : ℕ) (past T : List Entry) → length (rows_behind limit past T) ≤ 3 * length T
+few_behind limit past [] = omega arith
+few_behind limit past (e ∷ rest) =
+    let first = few_of_frame limit past e in
+    let later = few_behind limit (past ++ e ∷ []) rest in
+    let both = length-append (frame_rows limit past e) (rows_behind limit (past ++ e ∷ []) rest) in
+    omega (arith, first, later, both)
+
+pub few_rows : (limit : ℕ) (T : List Entry) → length (rows_of limit T) ≤ 3 * length T
+few_rows limit T = few_behind limit [] T

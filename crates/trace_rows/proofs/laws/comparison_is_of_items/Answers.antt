@@ -1,0 +1,5 @@
+use Rattle.trace_rows.proofs.ItemComparisons.{comparison_is_of_items}
+use Rattle.trace_rows.proofs.laws.comparison_is_of_items.Goals as goal
+
+pub returns : goal.returns
+returns c = comparison_is_of_items

@@ -1,0 +1,156 @@
+-- The rows of a trace: what the report tells of each frame, and of the end of the log, by the frames before it.
+use Rattle.std.specs.Prelude.{ℕ, ◌+◌, Bool, true, false, List, [], ◌∷◌, ◌++◌, Option, Some, None, if◌then◌else◌}
+use Rattle.direction.specs.Dir.{Message}
+use Rattle.direction.specs.declared.Dir.{Dir}
+use Rattle.direction.specs.declared.Dir.TheVariants as dir
+use Rattle.isotp_receive.specs.declared.event.Ended.{Ended}
+use Rattle.isotp_receive.specs.StandingReception.{StandingReception, receptions_after, stands}
+use Rattle.isotp_receive.specs.Trace.{Entry, FrameRole, single, first, consecutive, continue_or_wait, overflow, no_part, role}
+use Rattle.isotp_receive.specs.Verdict.{VerdictValue, EventValue, message, began, stored, flowed, dropped, messages, verdict}
+use Rattle.uds_exchange.specs.Numbering.{number_after, open_number, step_after}
+use Rattle.uds_exchange.specs.Order.{open_request}
+use Rattle.uds_exchange.specs.declared.step.Step.{Step}
+use Rattle.uds_exchange.specs.declared.step.Step.TheVariants as becomes
+use Rattle.uds_message.specs.Message.{is_keep_alive, is_negative_response, is_suppressing}
+use Rattle.trace_canon.specs.MessageLines.{first_frame, place_of}
+use Rattle.trace_rows.specs.Rows.{RowValue}
+use Rattle.trace_rows.specs.Rows as row
+use Rattle.trace_rows.specs.declared.row.MessagePlace.{MessagePlace}
+use Rattle.trace_rows.specs.declared.row.MessageRole.{MessageRole}
+use Rattle.trace_rows.specs.declared.row.MessageRole.TheVariants as is
+
+-- the message begins an exchange
+abbrev pub is_request_step : Step → Bool
+is_request_step (becomes.Request service) = true
+is_request_step becomes.Answer = false
+is_request_step becomes.Removed = false
+is_request_step becomes.Hold = false
+is_request_step becomes.Pass = false
+
+-- the frame e completes a request after the frames T
+abbrev pub completes_request_by : ℕ → List Entry → Entry → VerdictValue → Bool
+completes_request_by limit T e (message bytes) = is_request_step (step_after (messages limit T) (e.dir, bytes))
+completes_request_by limit T e began = false
+completes_request_by limit T e stored = false
+completes_request_by limit T e flowed = false
+completes_request_by limit T e (dropped reason) = false
+
+-- by what it does there
+abbrev pub completes_request : ℕ → List Entry → Entry → Bool
+completes_request limit T e = completes_request_by limit T e (verdict limit T e).verdict
+
+-- the time of the last of these frames that completes a request, where the frames `past` came before them; `earlier`
+-- where none of them does
+abbrev pub asked_behind : ℕ → ℕ → List Entry → List Entry → ℕ
+asked_behind limit earlier past [] = earlier
+asked_behind limit earlier past (e ∷ rest) =
+    asked_behind limit (if completes_request limit past e then e.micros else earlier) (past ++ e ∷ []) rest
+
+-- the time at which the last request of a trace was complete; 0 where it has none
+abbrev pub asked_in : ℕ → List Entry → ℕ
+asked_in limit T = asked_behind limit 0 [] T
+
+-- an answer by its first byte
+abbrev pub answer_role : ℕ → List ℕ → MessageRole
+answer_role asked bytes = if is_negative_response bytes then is.Negative asked else is.Positive asked
+
+-- a message of a tester that belongs to no exchange: the keep-alive, or a stray
+abbrev pub other_tester_role : List ℕ → MessageRole
+other_tester_role bytes = if is_keep_alive bytes then is.KeepAlive else is.Stray
+
+-- of either side
+abbrev pub other_role : Dir → List ℕ → MessageRole
+other_role dir.Tester bytes = other_tester_role bytes
+other_role dir.Unit bytes = is.Stray
+
+-- what a message is, by what becomes of it, where the last request was complete at the time `asked`
+abbrev pub role_of_step : ℕ → Step → Dir → List ℕ → MessageRole
+role_of_step asked (becomes.Request service) d bytes = is.Request
+role_of_step asked becomes.Answer d bytes = answer_role asked bytes
+role_of_step asked becomes.Removed d bytes = is.Pending asked
+role_of_step asked becomes.Hold d bytes = other_role d bytes
+role_of_step asked becomes.Pass d bytes = other_role d bytes
+
+-- how many frames carry a message that a frame of this role completes, where this stands for its direction
+abbrev pub frames_by : Option StandingReception → FrameRole → ℕ
+frames_by standing (single whole) = 1
+frames_by None (consecutive sequence_number can_dl bytes) = 1
+frames_by (Some begun) (consecutive sequence_number can_dl bytes) = begun.taken + 2
+frames_by standing (first start) = 1
+frames_by standing continue_or_wait = 1
+frames_by standing overflow = 1
+frames_by standing no_part = 1
+
+-- where a message stands that the frame e completes after the frames T
+abbrev pub message_place : ℕ → List Entry → Entry → List ℕ → MessagePlace
+message_place limit T e bytes = record {
+  item = number_after (messages limit T) (e.dir, bytes);
+  first = place_of (first_frame T e);
+  last = place_of e;
+  frames = frames_by (stands limit e.dir T) (role e.dir e);
+}
+
+-- the row of the request that waits after these messages, if one does: it has no answer
+abbrev pub waiting_row : List Message → Option (List ℕ) → List RowValue
+waiting_row M None = []
+waiting_row M (Some request) = row.no_answer (open_number M) (is_suppressing request) ∷ []
+
+-- of an exchange that ends with these messages
+abbrev pub closing_rows : List Message → List RowValue
+closing_rows M = waiting_row M (open_request M)
+
+-- what closes before a message, where it is a request
+abbrev pub rows_before : List Message → Step → List RowValue
+rows_before M step = if is_request_step step then closing_rows M else []
+
+-- the row of a message of which this becomes, where M came before it
+abbrev pub message_rows : ℕ → List Entry → Entry → List ℕ → Step → List RowValue
+message_rows limit T e bytes step =
+    rows_before (messages limit T) step
+    ++ row.message (role_of_step (asked_in limit T) step e.dir bytes) e.dir (message_place limit T e bytes) bytes ∷ []
+
+-- something ended
+abbrev pub is_there : Option Ended → Bool
+is_there None = false
+is_there (Some end) = true
+
+-- of what the frame e does after the frames T
+abbrev pub verdict_rows : ℕ → List Entry → Entry → Bool → VerdictValue → List RowValue
+verdict_rows limit T e named (message bytes) = message_rows limit T e bytes (step_after (messages limit T) (e.dir, bytes))
+verdict_rows limit T e named began = []
+verdict_rows limit T e named stored = []
+verdict_rows limit T e named flowed = []
+verdict_rows limit T e named (dropped reason) = row.dropped (place_of e) e.dir named reason ∷ []
+
+-- of what it ends
+abbrev pub ended_rows : Entry → Option Ended → List RowValue
+ended_rows e None = []
+ended_rows e (Some end) = row.ended (place_of e) end ∷ []
+
+-- of both
+abbrev pub event_rows : ℕ → List Entry → Entry → EventValue → List RowValue
+event_rows limit T e event = ended_rows e event.ended ++ verdict_rows limit T e (is_there event.ended) event.verdict
+
+-- the rows of the frame e after the frames T
+abbrev pub frame_rows : ℕ → List Entry → Entry → List RowValue
+frame_rows limit T e = event_rows limit T e (verdict limit T e)
+
+-- the rows of these frames, where the frames `past` came before them
+abbrev pub rows_behind : ℕ → List Entry → List Entry → List RowValue
+rows_behind limit past [] = []
+rows_behind limit past (e ∷ rest) = frame_rows limit past e ++ rows_behind limit (past ++ e ∷ []) rest
+
+-- the rows of a trace
+abbrev pub rows_of : ℕ → List Entry → List RowValue
+rows_of limit T = rows_behind limit [] T
+
+-- of a reception that stands at the end, if one does
+abbrev pub standing_row : Dir → Option StandingReception → List RowValue
+standing_row d None = []
+standing_row d (Some begun) = row.unfinished d begun.line begun.len ∷ []
+
+-- the rows of the end: the receptions that stand, the tester's first, and the request that waits
+abbrev pub end_rows : ℕ → List Entry → List RowValue
+end_rows limit T =
+    standing_row dir.Tester (receptions_after limit T).tester ++ standing_row dir.Unit (receptions_after limit T).unit
+    ++ closing_rows (messages limit T)

@@ -1,0 +1,11 @@
+pub mod Targets
+pub mod Rows
+pub mod Events
+pub mod Sorts
+pub mod Session
+pub mod Items
+pub mod Contrast
+pub mod Around
+pub mod Held
+pub mod Laws
+pub mod proving

@@ -1,0 +1,119 @@
+-- What needs a look in a report: for each reason how many rows, and links to the first ten.
+use Rattle.std.specs.Prelude.{ℕ, ◌-◌, ◌==◌, ◌&&◌, Bool, List, [], ◌∷◌, ◌++◌, if◌then◌else◌, true, false, length, take}
+use Rattle.std.specs.List.{flat_map}
+use Rattle.direction.specs.declared.Dir.TheVariants as dir
+use Rattle.trace_rows.specs.declared.counts.SortCounts.{SortCounts}
+use Rattle.trace_rows.specs.declared.tally.Tally.{Tally}
+use Rattle.arrayvec.specs.ArrayVec.{ArrayVec}
+use Rattle.direction.specs.declared.Dir.{Dir}
+use Rattle.trace_rows.specs.Rows.{RowValue, message, no_answer, dropped, ended, unfinished}
+use Rattle.trace_rows.specs.declared.row.MessageRole.{MessageRole}
+use Rattle.trace_rows.specs.declared.row.MessageRole.TheVariants as role
+use Rattle.trace_rows.specs.declared.sorts.Sort.{Sort}
+use Rattle.trace_rows.specs.declared.sorts.Sort.TheVariants as sort
+use Rattle.trace_rows.specs.declared.tally.FirstTargets.{FirstTargets}
+
+-- nothing needs a look
+abbrev pub needs_no_look : SortCounts → Bool
+needs_no_look counts =
+    counts.drops == 0 && (counts.ends == 0 && (counts.partials == 0 && (counts.negatives == 0 && (counts.unanswered == 0 && counts.strays == 0))))
+
+-- the sort of a message
+abbrev pub sort_of_role : MessageRole → Sort
+sort_of_role role.Request = sort.Requests
+sort_of_role (role.Positive asked) = sort.Positives
+sort_of_role (role.Negative asked) = sort.Negatives
+sort_of_role (role.Pending asked) = sort.Pendings
+sort_of_role role.KeepAlive = sort.KeepAlives
+sort_of_role role.Stray = sort.Strays
+
+-- the sort of an item without an answer
+abbrev pub sort_of_silence : Bool → Sort
+sort_of_silence true = sort.Silent
+sort_of_silence false = sort.Unanswered
+
+-- the sort of a row
+abbrev pub sort_of : RowValue → Sort
+sort_of (message is d place bytes) = sort_of_role is
+sort_of (no_answer number asked) = sort_of_silence asked
+sort_of (dropped place d named why) = sort.Drops
+sort_of (ended place end) = sort.Ends
+sort_of (unfinished d line len) = sort.Partials
+
+-- the number of a sort, by which two are told apart
+abbrev pub rank : Sort → ℕ
+rank sort.Requests = 0
+rank sort.Positives = 1
+rank sort.Negatives = 2
+rank sort.Pendings = 3
+rank sort.KeepAlives = 4
+rank sort.Strays = 5
+rank sort.Unanswered = 6
+rank sort.Silent = 7
+rank sort.Drops = 8
+rank sort.Ends = 9
+rank sort.Partials = 10
+
+-- a row is of this sort
+abbrev pub is_of : Sort → RowValue → Bool
+is_of kind row = rank kind == rank (sort_of row)
+
+-- the number by which a link names a side
+abbrev pub side_number : Dir → ℕ
+side_number dir.Tester = 0
+side_number dir.Unit = 1
+
+-- where a link to a row leads: to the number of its item or to its line, or to its side
+abbrev pub target_of : RowValue → ℕ
+target_of (message is d place bytes) = place.item
+target_of (no_answer number asked) = number
+target_of (dropped place d named why) = place.line
+target_of (ended place end) = place.line
+target_of (unfinished d line len) = side_number d
+
+-- the targets of the rows of a sort, in order
+abbrev pub targets_of : Sort → List RowValue → List ℕ
+targets_of kind rows = flat_map (λ row. if is_of kind row then target_of row ∷ [] else []) rows
+
+-- how many there are
+abbrev pub count_of : Sort → List RowValue → ℕ
+count_of kind rows = length (targets_of kind rows)
+
+-- so many are linked to
+abbrev pub most_links : ℕ
+most_links = 10
+
+-- the first of them
+abbrev pub first_of : Sort → List RowValue → ArrayVec ℕ
+first_of kind rows = record { items = take most_links (targets_of kind rows) }
+
+-- how many rows there are of each sort
+abbrev pub counts_in : List RowValue → SortCounts
+counts_in rows = record {
+  requests = count_of sort.Requests rows;
+  positives = count_of sort.Positives rows;
+  negatives = count_of sort.Negatives rows;
+  unanswered = count_of sort.Unanswered rows;
+  silent = count_of sort.Silent rows;
+  pendings = count_of sort.Pendings rows;
+  keep_alives = count_of sort.KeepAlives rows;
+  strays = count_of sort.Strays rows;
+  drops = count_of sort.Drops rows;
+  ends = count_of sort.Ends rows;
+  partials = count_of sort.Partials rows;
+}
+
+-- of each sort that needs a look
+abbrev pub first_targets : List RowValue → FirstTargets
+first_targets rows = record {
+  drops = first_of sort.Drops rows;
+  ends = first_of sort.Ends rows;
+  partials = first_of sort.Partials rows;
+  negatives = first_of sort.Negatives rows;
+  unanswered = first_of sort.Unanswered rows;
+  strays = first_of sort.Strays rows;
+}
+
+-- both: all that the verdict of a report has of its rows
+abbrev pub tally_of : List RowValue → Tally
+tally_of rows = record { counts = counts_in rows; first = first_targets rows }

@@ -1,0 +1,97 @@
+-- Devices of proof: what a report keeps of the frames so far.
+use Rattle.std.specs.Prelude.{◌≡◌, ℕ, ◌+◌, ◌≤◌, ◌^◌, min, Bool, true, false, List, [], ◌∷◌, ◌++◌, Option, Some, None, IfSome, if◌then◌else◌}
+use Rattle.direction.specs.Dir.{Message}
+use Rattle.direction.specs.declared.Dir.{Dir}
+use Rattle.direction.specs.declared.Dir.TheVariants.{Tester, Unit}
+use Rattle.isotp_receive.specs.declared.TheConstants.{MESSAGE_LIMIT}
+use Rattle.isotp_receive.specs.StandingReception.{StandingReception, stands}
+use Rattle.isotp_receive.specs.Trace.{Entry, same_direction}
+use Rattle.isotp_receive.specs.Verdict.{VerdictValue, message, began, stored, flowed, dropped, messages}
+use Rattle.uds_exchange.specs.Numbering.{CountsItems, one_more, step_after}
+use Rattle.uds_exchange.specs.Order.{open_request}
+use Rattle.uds_message.specs.Message.{is_suppressing}
+use Rattle.trace_canon.specs.declared.begun.FramePlace.{FramePlace}
+use Rattle.trace_canon.specs.proving.Begun.{IsBegunAt}
+use Rattle.trace_rows.specs.Events.{asked_in, is_request_step}
+use Rattle.trace_rows.specs.Session.{last_time}
+use Rattle.trace_rows.specs.Rows.{RowValue, row_of}
+use Rattle.trace_rows.specs.Rows as row
+use Rattle.trace_rows.specs.declared.follower.Follower.{Follower}
+use Rattle.trace_rows.specs.declared.follower.NewRows.{NewRows}
+use Rattle.trace_rows.specs.declared.frames.FrameCounts.{FrameCounts}
+use Rattle.trace_rows.specs.declared.places.Places.{Places}
+use Rattle.trace_rows.specs.declared.span.Span.{Span}
+use Rattle.trace_rows.specs.declared.row.Row.{Row}
+
+-- how many consecutive frames a reception took, after what became of a frame of the same direction or the other one
+abbrev pub counted_by : Bool → VerdictValue → ℕ → ℕ
+counted_by true began taken = 0
+counted_by true stored taken = one_more taken
+counted_by true (message bytes) taken = taken
+counted_by true flowed taken = taken
+counted_by true (dropped reason) taken = taken
+counted_by false did taken = taken
+
+-- the count of d after a frame of `sender`
+abbrev pub taken_after : Dir → Dir → VerdictValue → ℕ → ℕ
+taken_after d sender did taken = counted_by (same_direction d sender) did taken
+
+-- this many consecutive frames were taken by the reception of d that stands after the frames T, if one does
+abbrev pub IsTaken : Dir → List Entry → ℕ → Type 0
+IsTaken d T taken = IfSome (stands MESSAGE_LIMIT d T) (λ (standing : StandingReception). taken ≡ standing.taken)
+
+-- these counts are of the frames T
+pub record CountFrames (T : List Entry) (counts : FrameCounts) : Type 0 where
+  pub tester : IsTaken Tester T counts.tester
+  pub unit : IsTaken Unit T counts.unit
+
+-- how many frames carry a message that a frame completed, where the reception began there that stood and that the frame
+-- did not end, if one did, and took so many consecutive frames
+abbrev pub frames_with : Option FramePlace → ℕ → ℕ
+frames_with None taken = 1
+frames_with (Some begun) taken = min (taken + 2) 18446744073709551615
+
+-- where the receptions began that stand after the frames T, and how many frames they took
+pub record KnowsPlaces (T : List Entry) (places : Places) : Type 0 where
+  pub tester : IsBegunAt Tester T places.begun.tester
+  pub unit : IsBegunAt Unit T places.begun.unit
+  pub frames : CountFrames T places.frames
+
+-- whether the request that waits after these messages, if one does, asked for no positive answer
+abbrev pub IsSilent : List Message → Bool → Type 0
+IsSilent M silent = IfSome (open_request M) (λ (request : List ℕ). silent ≡ is_suppressing request)
+
+-- This is known after these messages: the numbers of their items, when the last request was complete, and how it asked.
+pub record KnowsMessages (M : List Message) (asked : ℕ) (follower : Follower) : Type 0 where
+  pub counts : CountsItems M follower.numbers
+  pub silent : IsSilent M follower.silent
+  pub asked_then : follower.asked ≡ asked
+
+-- it is known with one more message, which a frame in this place completed
+abbrev pub MeetsMessage : List Message → Message → FramePlace → ℕ → Follower → Type 0
+MeetsMessage M sent here asked follower =
+    KnowsMessages (M ++ sent ∷ []) (if is_request_step (step_after M sent) then here.micros else asked) follower
+
+-- all that the rows of further frames depend on is known after the frames T
+pub record Follows (T : List Entry) (follower : Follower) : Type 0 where
+  pub met : KnowsMessages (messages MESSAGE_LIMIT T) (asked_in MESSAGE_LIMIT T) follower
+  pub places : KnowsPlaces T follower.places
+
+-- a row that may be there
+abbrev pub row_if : Option Row → List RowValue
+row_if None = []
+row_if (Some row) = row_of row ∷ []
+
+-- the rows of a frame, or of the end
+abbrev pub rows_in : NewRows → List RowValue
+rows_in rows = row_if rows.first ++ row_if rows.second ++ row_if rows.third
+
+-- the row of a reception that stands at the end, if one does
+abbrev pub unfinished_if : Dir → Option (ℕ × ℕ) → List RowValue
+unfinished_if d None = []
+unfinished_if d (Some begun) = row.unfinished d begun.0 begun.1 ∷ []
+
+-- the times of the first frame and the last one, if there are frames
+abbrev pub times_of : List Entry → Option Span
+times_of [] = None
+times_of (e ∷ rest) = Some (record { first = e.micros; last = last_time e.micros rest })

@@ -1,0 +1,41 @@
+-- Devices of proof: what the verdict of a report is made of, with one more row of a sort.
+use Rattle.std.specs.Prelude.{ℕ, [], ◌∷◌, ◌++◌, take}
+use Rattle.arrayvec.specs.ArrayVec.{ArrayVec}
+use Rattle.uds_exchange.specs.Numbering.{one_more}
+use Rattle.trace_rows.specs.Sorts.{most_links}
+use Rattle.trace_rows.specs.declared.counts.SortCounts.{SortCounts}
+use Rattle.trace_rows.specs.declared.sorts.Sort.{Sort}
+use Rattle.trace_rows.specs.declared.sorts.Sort.TheVariants as sort
+use Rattle.trace_rows.specs.declared.tally.FirstTargets.{FirstTargets}
+
+-- the counts
+abbrev pub counts_with : Sort → SortCounts → SortCounts
+counts_with sort.Requests counts = record counts { requests = one_more counts.requests }
+counts_with sort.Positives counts = record counts { positives = one_more counts.positives }
+counts_with sort.Negatives counts = record counts { negatives = one_more counts.negatives }
+counts_with sort.Pendings counts = record counts { pendings = one_more counts.pendings }
+counts_with sort.KeepAlives counts = record counts { keep_alives = one_more counts.keep_alives }
+counts_with sort.Strays counts = record counts { strays = one_more counts.strays }
+counts_with sort.Unanswered counts = record counts { unanswered = one_more counts.unanswered }
+counts_with sort.Silent counts = record counts { silent = one_more counts.silent }
+counts_with sort.Drops counts = record counts { drops = one_more counts.drops }
+counts_with sort.Ends counts = record counts { ends = one_more counts.ends }
+counts_with sort.Partials counts = record counts { partials = one_more counts.partials }
+
+-- the first targets of a sort, with one more
+abbrev pub kept : ArrayVec ℕ → ℕ → ArrayVec ℕ
+kept first target = record { items = take most_links (first.items ++ target ∷ []) }
+
+-- those of each sort that needs a look
+abbrev pub first_with : Sort → ℕ → FirstTargets → FirstTargets
+first_with sort.Drops target first = record first { drops = kept first.drops target }
+first_with sort.Ends target first = record first { ends = kept first.ends target }
+first_with sort.Partials target first = record first { partials = kept first.partials target }
+first_with sort.Negatives target first = record first { negatives = kept first.negatives target }
+first_with sort.Unanswered target first = record first { unanswered = kept first.unanswered target }
+first_with sort.Strays target first = record first { strays = kept first.strays target }
+first_with sort.Requests target first = first
+first_with sort.Positives target first = first
+first_with sort.Pendings target first = first
+first_with sort.KeepAlives target first = first
+first_with sort.Silent target first = first

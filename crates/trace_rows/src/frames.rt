@@ -1,0 +1,70 @@
+//! How many frames carry a message.
+ghost use Rattle.std.specs.Prelude.{◌≡◌, true};
+ghost use Rattle.direction.specs.declared.Dir.TheVariants.{Tester, Unit};
+ghost use Rattle.isotp_receive.specs.EventSeen.{seen_verdict};
+ghost use Rattle.trace_rows.specs.proving.Following.{counted_by, frames_with, taken_after};
+
+use direction::Dir;
+use isotp_receive::Verdict;
+use trace_canon::begun::FramePlace;
+
+/// Of each direction how many consecutive frames the reception took that stands, if one does.
+#[derive(Clone, Copy, Debug)]
+pub struct FrameCounts {
+    pub tester: u64,
+    pub unit: u64,
+}
+
+impl FrameCounts {
+    /// Before the first frame.
+    pub(crate) fn start() -> FrameCounts
+        ensures tester { result.tester ≡ 0 }
+        ensures unit { result.unit ≡ 0 }
+    {
+        FrameCounts { tester: 0, unit: 0 }
+    }
+
+    /// Takes what became of a frame.
+    pub(crate) fn take(&mut self, dir: Dir, verdict: Verdict<'_>)
+        ensures tester { self.new.tester ≡ taken_after Tester dir (seen_verdict verdict.entry) self.old.tester }
+        ensures unit { self.new.unit ≡ taken_after Unit dir (seen_verdict verdict.entry) self.old.unit }
+    {
+        match dir {
+            Dir::Tester => self.tester = counted(verdict, self.tester),
+            Dir::Unit => self.unit = counted(verdict, self.unit),
+        }
+    }
+
+    /// The count of a direction.
+    pub(crate) fn of(&self, dir: Dir) -> u64
+        ensures tester { dir ≡ Tester → result ≡ self.now.tester }
+        ensures unit { dir ≡ Unit → result ≡ self.now.unit }
+    {
+        match dir {
+            Dir::Tester => self.tester,
+            Dir::Unit => self.unit,
+        }
+    }
+}
+
+/// The count after what became of a frame of its direction.
+fn counted(verdict: Verdict<'_>, taken: u64) -> u64
+    ensures { result ≡ counted_by true (seen_verdict verdict.entry) taken }
+{
+    match verdict {
+        Verdict::Began => 0,
+        Verdict::Stored => taken.saturating_add(1),
+        Verdict::Message(_) | Verdict::Flow | Verdict::Dropped(_) => taken,
+    }
+}
+
+/// How many frames carry a message that a frame completed, where the reception began there that stood and that the frame
+/// did not end, if one did, and took so many consecutive frames.
+pub(crate) fn frames_carrying(begun: Option<FramePlace>, taken: u64) -> u64
+    ensures { result ≡ frames_with begun taken }
+{
+    match begun {
+        Some(_) => taken.saturating_add(2),
+        None => 1,
+    }
+}

@@ -1,0 +1,59 @@
+//! Where messages begin, and how many frames carry them.
+ghost use Rattle.std.specs.Prelude.{◌≡◌, ◌^◌, ◌<◌, ℕ, List, [], ◌∷◌, ◌++◌, length};
+ghost use Rattle.isotp_receive.specs.declared.TheConstants.{MESSAGE_LIMIT};
+ghost use Rattle.isotp_receive.specs.EventSeen.{seen_event};
+ghost use Rattle.isotp_receive.specs.StandingReception.{stands};
+ghost use Rattle.isotp_receive.specs.Trace.{Entry, role};
+ghost use Rattle.isotp_receive.specs.Verdict.{message as completes, verdict};
+ghost use Rattle.trace_canon.specs.MessageLines.{first_frame, place_of};
+ghost use Rattle.trace_rows.specs.Events.{frames_by};
+ghost use Rattle.trace_rows.specs.proving.Following.{KnowsPlaces};
+
+use crate::frames::{FrameCounts, frames_carrying};
+use direction::Dir;
+use isotp_receive::Event;
+use trace_canon::begun::{Begun, FramePlace, left};
+
+/// Of the receptions that stand: where they began, and how many frames they took.
+#[derive(Clone, Copy, Debug)]
+pub struct Places {
+    pub begun: Begun,
+    pub frames: FrameCounts,
+}
+
+/// Where a message begins, and how many frames carry it.
+#[derive(Clone, Copy, Debug)]
+pub struct Extent {
+    pub first: FramePlace,
+    pub frames: u64,
+}
+
+impl Places {
+    /// Before the first frame.
+    pub(crate) fn start() -> Places
+        ensures { KnowsPlaces [] result }
+    {
+        Places {
+            begun: Begun::start(),
+            frames: FrameCounts::start(),
+        }
+    }
+
+    /// Takes what a frame did that stands here. Answers the extent of the message that it completed, if it completed one.
+    pub(crate) fn take(&mut self, here: FramePlace, dir: Dir, event: Event<'_>) -> Extent
+        ensures next { (T : List Entry) (e : Entry) → e.line ≡ here.line → e.micros ≡ here.micros → e.dir ≡ dir → length T < 2 ^ 62
+            → seen_event event.entry ≡ verdict MESSAGE_LIMIT T e → KnowsPlaces T self.old → KnowsPlaces (T ++ e ∷ []) self.new }
+        ensures first { (T : List Entry) (e : Entry) (bytes : List ℕ) → e.line ≡ here.line → e.micros ≡ here.micros → e.dir ≡ dir
+            → seen_event event.entry ≡ verdict MESSAGE_LIMIT T e → (seen_event event.entry).verdict ≡ completes bytes → KnowsPlaces T self.old
+            → result.first ≡ place_of (first_frame T e) }
+        ensures frames { (T : List Entry) (e : Entry) (bytes : List ℕ) → e.dir ≡ dir → length T < 2 ^ 62
+            → seen_event event.entry ≡ verdict MESSAGE_LIMIT T e → (seen_event event.entry).verdict ≡ completes bytes → KnowsPlaces T self.old
+            → result.frames ≡ frames_by (stands MESSAGE_LIMIT e.dir T) (role e.dir e) }
+    {
+        let begun = left(dir, event.ended, self.begun.of(dir));
+        let frames = frames_carrying(begun, self.frames.of(dir));
+        let first = self.begun.take(here, dir, event);
+        self.frames.take(dir, event.verdict);
+        Extent { first, frames }
+    }
+}

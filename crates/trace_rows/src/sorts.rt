@@ -1,0 +1,84 @@
+//! The sorts of a report's rows: what is counted, and where links lead.
+ghost use Rattle.std.specs.Prelude.{◌≡◌};
+ghost use Rattle.trace_rows.specs.Sorts as Spec;
+ghost use Rattle.trace_rows.specs.Rows.{row_of};
+
+use crate::row::{MessageRole, Row};
+use direction::Dir;
+
+/// What needs a look, and what else is counted.
+#[derive(Clone, Copy, Debug)]
+pub(crate) enum Sort {
+    Requests,
+    Positives,
+    Negatives,
+    Pendings,
+    KeepAlives,
+    Strays,
+    Unanswered,
+    Silent,
+    Drops,
+    Ends,
+    Partials,
+}
+
+/// The sort of a row.
+pub(crate) fn sort_of(row: Row<'_>) -> Sort
+    ensures { result ≡ Spec.sort_of (row_of row.entry) }
+{
+    match row {
+        Row::Message { role, .. } => sort_of_role(role),
+        Row::NoAnswer { silent, .. } => sort_of_silence(silent),
+        Row::Dropped { .. } => Sort::Drops,
+        Row::Ended { .. } => Sort::Ends,
+        Row::Unfinished { .. } => Sort::Partials,
+    }
+}
+
+/// The sort of a message.
+fn sort_of_role(role: MessageRole) -> Sort
+    ensures { result ≡ Spec.sort_of_role role }
+{
+    match role {
+        MessageRole::Request => Sort::Requests,
+        MessageRole::Positive { .. } => Sort::Positives,
+        MessageRole::Negative { .. } => Sort::Negatives,
+        MessageRole::Pending { .. } => Sort::Pendings,
+        MessageRole::KeepAlive => Sort::KeepAlives,
+        MessageRole::Stray => Sort::Strays,
+    }
+}
+
+/// The sort of an item without an answer.
+fn sort_of_silence(silent: bool) -> Sort
+    ensures { result ≡ Spec.sort_of_silence silent }
+{
+    if silent {
+        Sort::Silent
+    } else {
+        Sort::Unanswered
+    }
+}
+
+/// Where a link to a row leads: to the number of its item or to its line, or to its side.
+pub(crate) fn target_of(row: Row<'_>) -> u64
+    ensures { result ≡ Spec.target_of (row_of row.entry) }
+{
+    match row {
+        Row::Message { place, .. } => place.item,
+        Row::NoAnswer { number, .. } => number,
+        Row::Dropped { place, .. } => place.line,
+        Row::Ended { place, .. } => place.line,
+        Row::Unfinished { dir, .. } => side_number(dir),
+    }
+}
+
+/// The number by which a link names a side.
+fn side_number(dir: Dir) -> u64
+    ensures { result ≡ Spec.side_number dir }
+{
+    match dir {
+        Dir::Tester => 0,
+        Dir::Unit => 1,
+    }
+}

@@ -1,0 +1,90 @@
+//! What a report keeps of its rows for the verdict.
+ghost use Rattle.std.specs.Prelude.{◌≡◌, ◌<◌, ◌^◌, ◌-◌, List, [], ◌∷◌, ◌++◌, length, take};
+ghost use Rattle.trace_rows.specs.Rows.{RowValue, row_of};
+ghost use Rattle.trace_rows.specs.Sorts.{first_targets, most_links, tally_of};
+ghost use Rattle.trace_rows.specs.proving.Tallying.{first_with};
+
+use crate::counts::SortCounts;
+use crate::row::Row;
+use crate::sorts::{Sort, sort_of, target_of};
+use arrayvec::ArrayVec;
+
+/// Of each sort that needs a look, where links to its first rows lead.
+#[derive(Debug, Drop)]
+pub struct FirstTargets {
+    pub drops: ArrayVec<u64, 10>,
+    pub ends: ArrayVec<u64, 10>,
+    pub partials: ArrayVec<u64, 10>,
+    pub negatives: ArrayVec<u64, 10>,
+    pub unanswered: ArrayVec<u64, 10>,
+    pub strays: ArrayVec<u64, 10>,
+}
+
+impl FirstTargets {
+    /// Before the first row.
+    fn start() -> FirstTargets
+        ensures { result ≡ first_targets [] }
+    {
+        FirstTargets {
+            drops: ArrayVec::new(),
+            ends: ArrayVec::new(),
+            partials: ArrayVec::new(),
+            negatives: ArrayVec::new(),
+            unanswered: ArrayVec::new(),
+            strays: ArrayVec::new(),
+        }
+    }
+
+    /// Takes a row of this sort, to which a link leads there.
+    fn take(&mut self, sort: Sort, target: u64)
+        ensures { self.new ≡ first_with sort target self.old }
+    {
+        match sort {
+            Sort::Drops => keep(&mut self.drops, target),
+            Sort::Ends => keep(&mut self.ends, target),
+            Sort::Partials => keep(&mut self.partials, target),
+            Sort::Negatives => keep(&mut self.negatives, target),
+            Sort::Unanswered => keep(&mut self.unanswered, target),
+            Sort::Strays => keep(&mut self.strays, target),
+            Sort::Requests | Sort::Positives | Sort::Pendings | Sort::KeepAlives | Sort::Silent =>
+                {}
+        }
+    }
+}
+
+/// Keeps a target behind those before it, if there is room.
+fn keep(first: &mut ArrayVec<u64, 10>, target: u64)
+    ensures { first.new.items ≡ take most_links (first.old.items ++ target ∷ []) }
+{
+    if !first.is_full() {
+        first.push(target);
+    }
+}
+
+/// How many rows there are of each sort, and where links to the first of them lead.
+#[derive(Debug, Drop)]
+pub struct Tally {
+    pub counts: SortCounts,
+    pub first: FirstTargets,
+}
+
+impl Tally {
+    /// Before the first row.
+    pub fn start() -> Tally
+        ensures { result ≡ tally_of [] }
+    {
+        Tally {
+            counts: SortCounts::start(),
+            first: FirstTargets::start(),
+        }
+    }
+
+    /// Takes one more row.
+    pub fn take(&mut self, row: Row<'_>)
+        ensures { (rows : List RowValue) → length rows < 2 ^ 64 - 1 → self.old ≡ tally_of rows → self.new ≡ tally_of (rows ++ row_of row.entry ∷ []) }
+    {
+        let sort = sort_of(row);
+        self.counts.take(sort);
+        self.first.take(sort, target_of(row));
+    }
+}

@@ -1,0 +1,5 @@
+use Rattle.trace_text.proofs.shown.say_announced_reason.Goals as goal
+
+pub returns : goal.returns
+returns g c =
+    g.met.S.TextSink.onward _ _ _ _ _ c.say_number.ensures c.say_text.ensures
