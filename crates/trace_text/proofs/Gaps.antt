@@ -1,6 +1,6 @@
 -- The first gap of a template.
 use Prim.Native.Nat.{zero, suc}
-use Rattle.std.proofs.Common.{◌≡◌, ℕ, ◌+◌, ◌<◌, ◌≤◌, true, false, List, [], ◌∷◌, ◌++◌, length, take, drop, get_or, map, refl, ap, ◌∙◌, append_assoc, drop-cons, arith, inl, inr}
+use Rattle.std.proofs.Common.{◌≡◌, ℕ, ◌+◌, ◌<◌, ◌≤◌, true, false, List, [], ◌∷◌, ◌++◌, length, take, drop, get_or, map, refl, ap, add-one, ◌∙◌, append_assoc, drop-cons, arith, inl, inr}
 use Rattle.std.specs.Prelude.{◌==◌}
 use Rattle.std.proofs.lemmas.Bool.{cases_Bool}
 use Rattle.std.proofs.lemmas.List.{drop_all}
@@ -9,17 +9,21 @@ use Rattle.trace_text.specs.Parts.{before_gap, behind_gap, filled, part_text}
 use Rattle.trace_text.specs.declared.parts.Part.{Part}
 
 -- it stands where the byte is an @ and none before it is
-pub gap_found : (text : List ℕ) (place : ℕ) → place < length text → Passes (is_byte 64) text place → Nowhere (Passes (is_byte 64) text) 0 place
-    → (before_gap text ≡ take place text) × (behind_gap text ≡ drop (place + 1) text)
-gap_found [] place below is before = absurd (omega (arith, below))
-gap_found (b ∷ rest) zero below is before = rw is (refl, refl)
-gap_found (b ∷ rest) (suc k) below is before =
+gap_at : (text : List ℕ) (place : ℕ) → place < length text → Passes (is_byte 64) text place → Nowhere (Passes (is_byte 64) text) 0 place
+    → (before_gap text ≡ take place text) × (behind_gap text ≡ drop (suc place) text)
+gap_at [] place below is before = absurd (omega (arith, below))
+gap_at (b ∷ rest) zero below is before = rw is (refl, refl)
+gap_at (b ∷ rest) (suc k) below is before =
     elim (cases_Bool (b == 64)) [
       | inl e ↦ absurd (before 0 (omega arith) (omega arith) e)
       | inr e ↦
-          let later = gap_found rest k (omega (arith, below)) is (λ j low high. before (suc j) (omega arith) (omega (arith, high))) in
+          let later = gap_at rest k (omega (arith, below)) is (λ j low high. before (suc j) (omega arith) (omega (arith, high))) in
           rw e (ap (λ t. b ∷ t) later.0, later.1)
     ]
+
+pub gap_found : (text : List ℕ) (place : ℕ) → place < length text → Passes (is_byte 64) text place → Nowhere (Passes (is_byte 64) text) 0 place
+    → (before_gap text ≡ take place text) × (behind_gap text ≡ drop (place + 1) text)
+gap_found text place below is before = rw (add-one place) (gap_at text place below is before)
 
 -- and nowhere, where no byte is one
 pub no_gap : (text : List ℕ) → Nowhere (Passes (is_byte 64) text) 0 (length text) → (before_gap text ≡ text) × (behind_gap text ≡ [])
@@ -43,9 +47,9 @@ part_more : (whole said text before behind : List ℕ) (parts : List Part) (k : 
     → whole ≡ ((said ++ before) ++ part_text (get_or parts k d)) ++ filled behind (map part_text (drop (k + 1) parts))
 unfolding filled
 part_more whole said text before behind parts k d below before_is behind_is is =
-    rw (before_is, behind_is)
+    rw (before_is, behind_is, add-one k)
     (is ∙ ap (λ (rest : List Part). said ++ filled text (map part_text rest)) (drop-cons parts k d below)
-    ∙ four said (before_gap text) (part_text (get_or parts k d)) (filled (behind_gap text) (map part_text (drop (k + 1) parts))))
+    ∙ four said (before_gap text) (part_text (get_or parts k d)) (filled (behind_gap text) (map part_text (drop (suc k) parts))))
 
 -- it is said
 pub fill_more : {S : Type 0} (says : S → List ℕ → S → Type 0) → ((s m t : S) (a b : List ℕ) → says s a m → says m b t → says s (a ++ b) t)

@@ -29,8 +29,11 @@ abbrev pub milliseconds_between : ℕ → ℕ → List ℕ
 milliseconds_between start end = sign_text start end ++ milliseconds_text (abs_diff start end)
 
 -- the numbers from one to another: both, with a dash of HTML between, or one where they are equal
+abbrev pub both_numbers : ℕ → ℕ → List ℕ
+both_numbers first last = decimal first ++ codes "&#8211;" ++ decimal last
+
 abbrev pub range_text : ℕ → ℕ → List ℕ
-range_text first last = if first == last then decimal first else decimal first ++ codes "&#8211;" ++ decimal last
+range_text first last = if first == last then decimal first else both_numbers first last
 
 -- a blank and two digits for a byte
 abbrev pub byte_behind : ℕ → List ℕ

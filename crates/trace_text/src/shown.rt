@@ -1,6 +1,6 @@
 //! Times and bytes as they are shown: differences of times, bytes with blanks between, as letters, and names in HTML.
 ghost use Rattle.std.specs.Prelude.{◌≡◌};
-ghost use Rattle.trace_text.specs.Shown.{bytes_apart, bytes_behind, letters, milliseconds_between, milliseconds_text, name_byte, name_text, plain_byte, range_text, seconds_between, sign_text, stamp_text};
+ghost use Rattle.trace_text.specs.Shown.{both_numbers, bytes_apart, bytes_behind, letters, milliseconds_between, milliseconds_text, name_byte, name_text, plain_byte, range_text, seconds_between, sign_text, stamp_text};
 ghost use Rattle.trace_text.specs.Shown as Spec;
 ghost use Rattle.trace_text.specs.ExplainText.{reason_text};
 ghost use Rattle.isotp_receive.specs.declared.event.Reason.TheVariants as reason;
@@ -58,11 +58,20 @@ pub(crate) fn say_milliseconds_between<S: TextSink>(start: u64, end: u64, out: &
 pub(crate) fn say_range<S: TextSink>(first: u64, last: u64, out: &mut S)
     ensures { S.says out.old (range_text first last) out.new }
 {
-    say_number(out, first);
-    if first != last {
-        say_text(out, "&#8211;");
-        say_number(out, last);
+    if first == last {
+        say_number(out, first);
+    } else {
+        say_both_numbers(first, last, out);
     }
+}
+
+/// Says two numbers, and a dash between.
+fn say_both_numbers<S: TextSink>(first: u64, last: u64, out: &mut S)
+    ensures { S.says out.old (both_numbers first last) out.new }
+{
+    say_number(out, first);
+    say_text(out, "&#8211;");
+    say_number(out, last);
 }
 
 /// Says why a frame was dropped.

@@ -4,7 +4,7 @@ use Rattle.trace_text.proofs.Gaps.{fill_end, fill_more}
 use Rattle.trace_text.proofs.say.say_filled.Goals as goal
 
 pub parts-init : goal.parts-init
-parts-init g c = ([], ap (λ t. filled t (map part_text c.args.parts.now)) (sym c.as_bytes.ensures.value), g.met.S.TextSink.nothing c.args.out.now)
+parts-init g c = ([], ap (λ t. filled t (map part_text c.args.parts.now)) (sym c.as_bytes-text.ensures.value), g.met.S.TextSink.nothing c.args.out.now)
 
 pub parts-preserved : goal.parts-preserved
 parts-preserved g c =

@@ -6,7 +6,7 @@ pub returns-in-Some : goal.returns-in-Some
 returns-in-Some c =
     let found = c.in-Some.ensures in
     let gap = gap_found c.args.text.now c.in-Some.place found.0.high found.1 found.0.before in
-    record { before = c.split_at.ensures.front ∙ sym gap.0; behind = c.split_at-2.ensures.back ∙ sym gap.1 }
+    record { before = c.split_at.ensures.front ∙ sym gap.0; behind = c.split_at-in-Some.ensures.back ∙ sym gap.1 }
 
 pub returns-in-None : goal.returns-in-None
 returns-in-None c = let none = no_gap c.args.text.now c.in-None.ensures in record { before = sym none.0; behind = sym none.1 }
