@@ -1,5 +1,5 @@
 -- The identifiers of a page: each stands once.
-use Rattle.std.proofs.Common.{eq-eqb, eqb-true, ◌≡◌, ◌<◌, ◌^◌, ℕ, Bool, true, List, [], ◌∷◌, map, arith, refl, ap}
+use Rattle.std.proofs.Common.{eq-eqb, eqb-true, ◌≡◌, ◌<◌, ◌^◌, ℕ, Bool, true, List, [], ◌∷◌, map, arith, refl, ap, ◌∙◌}
 use Rattle.std.specs.Prelude.{◌≢◌, ◌==◌, not, ◌&&◌, bytes_eq}
 use Rattle.std.specs.List.{AllByRecursion, list_all}
 use Rattle.std.proofs.lemmas.Bool.{and_parts}

@@ -30,9 +30,13 @@ abbrev pub told_answer : List ℕ → Option RowMessage → List ℕ
 told_answer request None = no_answer_text (is_suppressing request)
 told_answer request (Some reply) = told_message reply
 
--- that, behind an arrow, where the first message is a request
+-- that, behind an arrow
+abbrev pub told_reply : List ℕ → Option RowMessage → List ℕ
+told_reply request reply = the.REPLY.now ++ told_answer request reply
+
+-- where the first message is a request
 abbrev pub told_reply_if : Bool → List ℕ → Option RowMessage → List ℕ
-told_reply_if is_request request reply = if is_request then the.REPLY.now ++ told_answer request reply else []
+told_reply_if is_request request reply = if is_request then told_reply request reply else []
 
 -- an item
 abbrev pub told_item : PlacedItem → List ℕ

@@ -6,7 +6,7 @@ use Rattle.trace_text.specs.Parts.{filled}
 use Rattle.trace_text.specs.Shown.{bytes_behind}
 use Rattle.trace_text.specs.Words.{bytes_text}
 use Rattle.trace_page.specs.ShownBytes.{most_shown, shown_first}
-use Rattle.trace_page.specs.declared.marks.TheConstants.{AHEAD, LATER_WINDOW, MARKED, MARKED_END, MORE, WINDOW}
+use Rattle.trace_page.specs.declared.marks.TheConstants.{AHEAD, BEHIND_MARK, LATER_WINDOW, MARKED, MARKED_END, MORE, WINDOW}
 
 -- two digits for a byte, and a blank
 abbrev pub byte_ahead : ℕ → List ℕ
@@ -16,10 +16,14 @@ byte_ahead b = filled AHEAD.now (bytes_text (b ∷ []) ∷ [])
 abbrev pub bytes_ahead : List ℕ → List ℕ
 bytes_ahead bytes = flat_map byte_ahead bytes
 
--- the first of these bytes with a mark, and the others behind it; a mark of its own where there is none
+-- a byte with a mark, and others behind it
+abbrev pub marked : ℕ → List ℕ → List ℕ
+marked b rest = filled MARKED.now (bytes_text (b ∷ []) ∷ []) ++ filled BEHIND_MARK.now (bytes_behind rest ∷ [])
+
+-- the first of these bytes so; a mark of its own where there is none
 abbrev pub mark_first : List ℕ → List ℕ
 mark_first [] = MARKED_END.now
-mark_first (b ∷ rest) = filled MARKED.now (bytes_text (b ∷ []) ∷ bytes_behind rest ∷ [])
+mark_first (b ∷ rest) = marked b rest
 
 -- so many bytes are shown before a place that is not among the first ones
 abbrev pub shown_before : ℕ

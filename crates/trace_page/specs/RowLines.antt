@@ -67,18 +67,21 @@ role_words (role.Pending asked) d bytes = row.PENDING.now
 role_words role.KeepAlive d bytes = row.KEEP_ALIVE.now
 role_words role.Stray d bytes = filled row.STRAY.now (direction_text d ∷ [])
 
--- the note on a message of one frame or of several: how many bytes these carry, and how long after its request the first
--- of them came, if it replies to one
-abbrev pub note_by : Bool → Option ℕ → ℕ → ℕ → ℕ → List ℕ
-note_by true None first count frames = filled row.FRAMES.now (decimal count ∷ decimal frames ∷ [])
-note_by true (Some asked) first count frames =
-    filled row.FRAMES_AFTER.now (decimal count ∷ decimal frames ∷ milliseconds_between asked first ∷ [])
-note_by false None first count frames = []
-note_by false (Some asked) first count frames = filled row.AFTER.now (milliseconds_between asked first ∷ [])
+-- the note on a message of one frame: how long after its request it came, if it replies to one
+abbrev pub single_note : Option ℕ → ℕ → List ℕ
+single_note None first = []
+single_note (Some asked) first = filled row.AFTER.now (milliseconds_between asked first ∷ [])
 
--- of a message of so many bytes
+-- on a message of several frames: how many bytes they carry, and how long after its request the first of them came
+abbrev pub frames_note : ℕ → ℕ → Option ℕ → ℕ → List ℕ
+frames_note count frames None first = filled row.FRAMES.now (decimal count ∷ decimal frames ∷ [])
+frames_note count frames (Some asked) first =
+    filled row.FRAMES_AFTER.now (decimal count ∷ decimal frames ∷ milliseconds_between asked first ∷ [])
+
+-- on a message of so many bytes
 abbrev pub note_text : MessageRole → MessagePlace → ℕ → List ℕ
-note_text is place count = note_by (nat_lt 1 place.frames) (asked_at is) place.first.micros count place.frames
+note_text is place count =
+    if nat_lt 1 place.frames then frames_note count place.frames (asked_at is) place.first.micros else single_note (asked_at is) place.first.micros
 
 -- the row of a message
 abbrev pub message_row : ℕ → MessageRole → Dir → MessagePlace → List ℕ → List ℕ

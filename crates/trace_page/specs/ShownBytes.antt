@@ -29,16 +29,23 @@ folded_data front rest =
     if has_word rest then filled the.FOLDED_LETTERED.now (bytes_apart front ∷ count ∷ bytes_apart rest ∷ letters rest ∷ [])
     else filled the.FOLDED.now (bytes_apart front ∷ count ∷ bytes_apart rest ∷ [])
 
--- the bytes of a message, as far as its row shows them: of a block of data the first, and how many others it has; the
--- canonical log has those
+-- the first bytes of a block of data, and how many others it has; the canonical log has those
+abbrev pub cut_data : List ℕ → ℕ → List ℕ
+cut_data front more = filled the.CUT.now (bytes_apart front ∷ decimal more ∷ [])
+
+-- the bytes of a message, as far as its row shows them
 abbrev pub data_text : List ℕ → List ℕ
 data_text bytes =
     if nat_le (length bytes) most_shown then short_data bytes
     else if nat_le (length bytes) most_folded then folded_data (take shown_first bytes) (drop shown_first bytes)
-    else filled the.CUT.now (bytes_apart (take shown_first bytes) ∷ decimal (length bytes - shown_first) ∷ [])
+    else cut_data (take shown_first bytes) (length bytes - shown_first)
+
+-- for a brief row
+abbrev pub brief_cut : List ℕ → ℕ → List ℕ
+brief_cut front more = filled the.BRIEF_CUT.now (bytes_apart front ∷ decimal more ∷ [])
 
 -- the bytes of a message, as far as a brief row shows them
 abbrev pub brief_data : List ℕ → List ℕ
 brief_data bytes =
     if nat_le (length bytes) shown_first then filled the.BRIEF.now (bytes_apart bytes ∷ [])
-    else filled the.BRIEF_CUT.now (bytes_apart (take shown_first bytes) ∷ decimal (length bytes - shown_first) ∷ [])
+    else brief_cut (take shown_first bytes) (length bytes - shown_first)

@@ -2,7 +2,7 @@
 ghost use Rattle.std.specs.Prelude.{◌≡◌, ◌<◌, ◌+◌, ◌^◌, [], ◌∷◌, IfSome, length, option_map, take};
 ghost use Rattle.trace_rows.specs.Rows.{is_request_role as begins_exchange};
 ghost use Rattle.trace_rows.specs.Items.{both, items_in, pairs_of};
-ghost use Rattle.trace_page.specs.ItemRows.{both_row, different_row, item_note, item_side, left_row, lines_of_both, named_lines, next_table, no_answer_text, note_end, note_front, note_of, pair_row, pair_rows, right_row, row_opening, same_row, table_front, table_opening, told_answer, told_item, told_message, told_reply_if};
+ghost use Rattle.trace_page.specs.ItemRows.{both_row, different_row, item_note, item_side, left_row, lines_of_both, named_lines, next_table, no_answer_text, note_end, note_front, note_of, pair_row, pair_rows, right_row, row_opening, same_row, table_front, table_opening, told_answer, told_item, told_message, told_reply, told_reply_if};
 ghost use Rattle.uds_message.specs.Message.{is_suppressing as suppresses};
 ghost use Rattle.trace_page.specs.ItemRows as Spec;
 ghost use Rattle.trace_rows.specs.proving.Holding.{held_rows, item_of, message_of, pair_of, taken_with};
@@ -260,9 +260,15 @@ fn say_told_reply_if<S: TextSink>(
     ensures { S.says out.old (told_reply_if (begins_exchange role) request.now (option_map message_of reply.entry)) out.new }
 {
     if is_request_role(role) {
-        say_text(out, REPLY);
-        say_told_answer(request, reply, out);
+        say_told_reply(request, reply, out);
     }
+}
+
+fn say_told_reply<S: TextSink>(request: &[u8], reply: Option<LentMessage<'_>>, out: &mut S)
+    ensures { S.says out.old (told_reply request.now (option_map message_of reply.entry)) out.new }
+{
+    say_text(out, REPLY);
+    say_told_answer(request, reply, out);
 }
 
 fn say_told_answer<S: TextSink>(request: &[u8], reply: Option<LentMessage<'_>>, out: &mut S)

@@ -1,6 +1,6 @@
 //! The bytes of a message with a mark at the place at which another message differs.
 ghost use Rattle.std.specs.Prelude.{◌≡◌, [], ◌∷◌, take, drop};
-ghost use Rattle.trace_page.specs.Marks.{bytes_ahead, mark_first, marked_data, marked_from, more_text, window_front, window_text};
+ghost use Rattle.trace_page.specs.Marks.{bytes_ahead, mark_first, marked, marked_data, marked_from, more_text, window_front, window_text};
 ghost use Rattle.trace_page.specs.Marks as Spec;
 
 use crate::shown_bytes::{MOST_SHOWN, SHOWN_FIRST};
@@ -17,7 +17,9 @@ const LATER_WINDOW: &str = "<i>behind @ bytes:</i> <code>";
 
 const AHEAD: &str = "@ ";
 
-const MARKED: &str = "<mark>@</mark>@</code>";
+const MARKED: &str = "<mark>@</mark>";
+
+const BEHIND_MARK: &str = "@</code>";
 
 const MARKED_END: &str = "<mark>end</mark></code>";
 
@@ -111,9 +113,16 @@ fn say_mark_first<S: TextSink>(bytes: &[u8], out: &mut S)
     ensures { S.says out.old (mark_first bytes.now) out.new }
 {
     match bytes.split_first() {
-        Some((first, rest)) => say_filled(MARKED, &[Bytes(&[*first]), Behind(rest)], out),
+        Some((first, rest)) => say_marked(*first, rest, out),
         None => say_text(out, MARKED_END),
     }
+}
+
+fn say_marked<S: TextSink>(byte: u8, rest: &[u8], out: &mut S)
+    ensures { S.says out.old (marked byte rest.now) out.new }
+{
+    say_filled(MARKED, &[Bytes(&[byte])], out);
+    say_filled(BEHIND_MARK, &[Behind(rest)], out);
 }
 
 fn say_more<S: TextSink>(behind: u64, out: &mut S)

@@ -1,14 +1,12 @@
 //! The rows of a report that tell messages, and what they are made of.
 ghost use Rattle.std.specs.Prelude.{◌≡◌, [], ◌∷◌};
-ghost use Rattle.trace_page.specs.RowLines.{cell_end, cell_front, message_front, message_row, note_text, place_text, role_words, row_start};
+ghost use Rattle.trace_page.specs.RowLines.{cell_end, cell_front, frames_note, message_front, message_row, note_text, place_text, role_words, row_start, single_note};
 
 use crate::shown_bytes::say_data;
 use direction::Dir;
 use trace_io::TextSink;
 use trace_rows::{MessagePlace, MessageRole, asked_at, begins_item};
-use trace_text::Part::{
-    Code, Direction, Milliseconds, Number, Range, Seconds, Service, Side, Text,
-};
+use trace_text::Part::{Code, Direction, Milliseconds, Number, Range, Seconds, Service, Side};
 use trace_text::say::{say_filled, say_text};
 use uds_message::{response_code, sid};
 
@@ -141,19 +139,41 @@ pub(crate) fn say_role<S: TextSink>(role: MessageRole, dir: Dir, message: &[u8],
 pub(crate) fn say_note<S: TextSink>(role: MessageRole, place: MessagePlace, count: u64, out: &mut S)
     ensures { S.says out.old (note_text role place count) out.new }
 {
+    let asked = asked_at(role);
+    if place.frames > 1 {
+        say_frames_note(count, place.frames, asked, place.first.micros, out);
+    } else {
+        say_single_note(asked, place.first.micros, out);
+    }
+}
+
+fn say_frames_note<S: TextSink>(
+    count: u64,
+    frames: u64,
+    asked: Option<u64>,
+    first: u64,
+    out: &mut S,
+)
+    ensures { S.says out.old (frames_note count frames asked first) out.new }
+{
     let count = Number(count);
-    let frames = Number(place.frames);
-    let first = place.first.micros;
-    match (place.frames > 1, asked_at(role)) {
-        (true, None) => say_filled(FRAMES, &[count, frames], out),
-        (true, Some(asked)) => {
+    let frames = Number(frames);
+    match asked {
+        None => say_filled(FRAMES, &[count, frames], out),
+        Some(asked) => {
             say_filled(
                 FRAMES_AFTER,
                 &[count, frames, Milliseconds(asked, first)],
                 out,
             );
         }
-        (false, None) => {}
-        (false, Some(asked)) => say_filled(AFTER, &[Milliseconds(asked, first)], out),
+    }
+}
+
+fn say_single_note<S: TextSink>(asked: Option<u64>, first: u64, out: &mut S)
+    ensures { S.says out.old (single_note asked first) out.new }
+{
+    if let Some(asked) = asked {
+        say_filled(AFTER, &[Milliseconds(asked, first)], out);
     }
 }

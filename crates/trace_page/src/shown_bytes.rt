@@ -1,6 +1,6 @@
 //! The bytes of messages, as far as a row shows them.
 ghost use Rattle.std.specs.Prelude.{◌≡◌, [], ◌∷◌};
-ghost use Rattle.trace_page.specs.ShownBytes.{brief_data, data_text, folded_data, short_data};
+ghost use Rattle.trace_page.specs.ShownBytes.{brief_cut, brief_data, cut_data, data_text, folded_data, short_data};
 
 use trace_io::TextSink;
 use trace_text::Part::{Apart, Letters, Number};
@@ -42,7 +42,7 @@ pub(crate) fn say_data<S: TextSink>(bytes: &[u8], out: &mut S)
         if bytes.len() <= MOST_FOLDED {
             say_folded_data(front, rest, out);
         } else {
-            say_filled(CUT, &[Apart(front), Number(rest.len() as u64)], out);
+            say_cut_data(front, rest.len() as u64, out);
         }
     }
 }
@@ -57,7 +57,7 @@ fn say_short_data<S: TextSink>(bytes: &[u8], out: &mut S)
     }
 }
 
-fn say_folded_data<S: TextSink>(front: &[u8], rest: &[u8], out: &mut S)
+fn say_folded_data<'a, S: TextSink>(front: &'a [u8], rest: &'a [u8], out: &mut S)
     ensures { S.says out.old (folded_data front.now rest.now) out.new }
 {
     let count = Number(rest.len() as u64);
@@ -72,6 +72,12 @@ fn say_folded_data<S: TextSink>(front: &[u8], rest: &[u8], out: &mut S)
     }
 }
 
+fn say_cut_data<S: TextSink>(front: &[u8], more: u64, out: &mut S)
+    ensures { S.says out.old (cut_data front.now more) out.new }
+{
+    say_filled(CUT, &[Apart(front), Number(more)], out);
+}
+
 pub(crate) fn say_brief_data<S: TextSink>(bytes: &[u8], out: &mut S)
     ensures { S.says out.old (brief_data bytes.now) out.new }
 {
@@ -79,6 +85,12 @@ pub(crate) fn say_brief_data<S: TextSink>(bytes: &[u8], out: &mut S)
         say_filled(BRIEF, &[Apart(bytes)], out);
     } else {
         let (front, rest) = bytes.split_at(SHOWN_FIRST);
-        say_filled(BRIEF_CUT, &[Apart(front), Number(rest.len() as u64)], out);
+        say_brief_cut(front, rest.len() as u64, out);
     }
+}
+
+fn say_brief_cut<S: TextSink>(front: &[u8], more: u64, out: &mut S)
+    ensures { S.says out.old (brief_cut front.now more) out.new }
+{
+    say_filled(BRIEF_CUT, &[Apart(front), Number(more)], out);
 }

@@ -12,6 +12,10 @@ use Rattle.trace_page.specs.declared.reporter.Reporter.{Reporter}
 use Rattle.trace_rows.specs.proving.Following.{Follows, times_of}
 use Rattle.trace_page.specs.declared.front.Title.{Title}
 
+-- what a page is made for
+abbrev pub title_of : Title → PageTitle
+title_of title = record { name = title.name.now; tester = title.tester; unit = title.unit }
+
 -- these rows were said
 pub record IsChartOf (rows : List RowValue) (chart : Chart) : Type 0 where
   pub blocks : chart.blocks ≡ blocks_of rows
@@ -24,7 +28,3 @@ pub record Reports (title : PageTitle) (T : List Entry) (reporter : Reporter) : 
   pub span : reporter.span ≡ times_of T
   pub follows : Follows T reporter.follower
   pub chart : IsChartOf (rows_of MESSAGE_LIMIT T) reporter.chart
-
--- what a page is made for
-abbrev pub title_of : Title → PageTitle
-title_of title = record { name = title.name.now; tester = title.tester; unit = title.unit }

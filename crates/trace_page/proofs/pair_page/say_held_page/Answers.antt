@@ -6,7 +6,7 @@ use Rattle.trace_page.proofs.pair_page.say_held_page.Goals as goal
 
 pub returns : goal.returns
 returns g c =
-    let behind = c.first_difference.ensures in
+    let behind = c.first_difference-found.ensures in
     let found = is_found c.args.held.now c.first_difference-found.result behind.behind behind.within in
     let said =
     g.met.S.TextSink.onward _ _ _ _ _ (g.met.S.TextSink.onward _ _ _ _ _ (g.met.S.TextSink.onward _ _ _ _ _ (g.met.S.TextSink.onward _ _ _ _ _ (g.met.S.TextSink.onward _ _ _ _ _ (g.met.S.TextSink.onward _ _ _ _ _ c.say_pair_front.ensures c.say_pair_verdict.ensures)
