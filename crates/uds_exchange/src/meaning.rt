@@ -53,6 +53,13 @@ impl Meaning {
         self.items.get(i)
     }
 
+    /// All items, in their order.
+    pub fn items(&self) -> &[Item]
+        ensures { item_values result.now ≡ self.now }
+    {
+        self.items.as_slice()
+    }
+
     /// The first place, counted from 0, at which the two meanings differ: the items are not equal, or only one of the
     /// two has an item there.
     pub fn first_difference(&self, other: &Meaning) -> Option<usize>
