@@ -1,8 +1,10 @@
 -- What is received of a log, one more line at a time.
-use Rattle.std.proofs.Common.{◌≡◌, ℕ, ◌+◌, ◌<◌, ◌≤◌, ◌^◌, Bool, true, false, List, [], ◌∷◌, ◌++◌, length, arith, refl, ap, sym, subst, ◌∙◌, Option, Some, None, length-append, cond}
+use Rattle.std.proofs.Common.{◌≡◌, ℕ, ◌+◌, ◌<◌, ◌≤◌, ◌^◌, ◌&&◌, ◌||◌, Bool, true, false, List, [], ◌∷◌, ◌++◌, length, arith, refl, ap, sym, subst, ◌∙◌, Option, Some, None, length-append, cond}
 use Rattle.std.specs.Prelude.{option_to_list}
 use Rattle.std.specs.List.{count_by}
+use Rattle.std.proofs.lemmas.List.Folds.{list_any-append}
 use Rattle.std.proofs.lemmas.List.Sums.{count_by-le-length, sum_by-append}
+use Rattle.direction.specs.Dir.{Message}
 use Rattle.direction.specs.declared.Dir.{Dir}
 use Rattle.can_log.specs.declared.frame.Stamped.{Stamped}
 use Rattle.isotp_receive.specs.declared.TheConstants.{MESSAGE_LIMIT}
@@ -15,7 +17,7 @@ use Rattle.isotp_receive.specs.Events.{events}
 use Rattle.isotp_receive.proofs.Promises.{one_more_keeps_within, messages_are_few, events_go_on, events_are_as_many}
 use Rattle.trace_log.specs.declared.summary.Summary.{Summary}
 use Rattle.trace_log.specs.Settings.{Settings, direction_of}
-use Rattle.trace_log.specs.Summing.{counted_in, counted_more, frames_of, is_message, more_if}
+use Rattle.trace_log.specs.Summing.{completed, counted_in, counted_more, frames_of, has_sent, is_message, more_if}
 use Rattle.trace_log.specs.Trace.{trace, trace_from, entry_of}
 use Rattle.trace_log.specs.proving.Receiving.{Receives, entry_in}
 use Rattle.trace_log.proofs.Traces.{trace_blank, trace_foreign, trace_directed}
@@ -41,6 +43,17 @@ told_count d began = refl
 told_count d stored = refl
 told_count d flowed = refl
 told_count d (dropped reason) = refl
+
+or_false : (b : Bool) → (b || false) ≡ b
+or_false true = refl
+or_false false = refl
+
+told_sent : (side : Dir) (is_so : List ℕ → Bool) (d : Dir) (told : VerdictValue) → has_sent side is_so (told_message d told) ≡ completed side is_so d told
+told_sent side is_so d (message bytes) = or_false (same_direction side d && is_so bytes)
+told_sent side is_so d began = refl
+told_sent side is_so d stored = refl
+told_sent side is_so d flowed = refl
+told_sent side is_so d (dropped reason) = refl
 
 -- one more frame: of the events that pass a test, of the frames of a side, and of the messages
 module _ (limit : ℕ) (T : List Entry) (e : Entry) (few : length T < 2 ^ 62) where
@@ -69,9 +82,17 @@ module _ (limit : ℕ) (T : List Entry) (e : Entry) (few : length T < 2 ^ 62) wh
       ∙ ap (λ n. length (messages limit T) + n) (told_count e.dir told)
       ∙ sym (more_exactly (is_message told) (length (messages limit T)) (omega arith))
 
+  sent_more : (side : Dir) (is_so : List ℕ → Bool) → has_sent side is_so (messages limit (T ++ e ∷ []))
+      ≡ (has_sent side is_so (messages limit T) || completed side is_so e.dir (verdict limit T e).verdict)
+  sent_more side is_so =
+      let told = (verdict limit T e).verdict in
+      ap (has_sent side is_so) (messages_more limit T e)
+      ∙ list_any-append (λ (m : Message). same_direction side m.0 && is_so m.1) (messages limit T) (told_message e.dir told)
+      ∙ ap (λ b. has_sent side is_so (messages limit T) || b) (told_sent side is_so e.dir told)
+
   -- whatever is counted of it
   pub counted_next : counted_in limit (T ++ e ∷ []) ≡ counted_more e.dir (verdict limit T e) (counted_in limit T)
-  counted_next = simp (events_more, frames_more, delivered_more)
+  counted_next = simp (events_more, frames_more, delivered_more, sent_more)
 
 -- ---- lines
 

@@ -1,13 +1,15 @@
 -- What is counted in a log, by what each frame of its trace does at its place.
 use Prim.Native.Char.{code}
-use Rattle.std.specs.Prelude.{ℕ, ◌+◌, ◌==◌, ◌&&◌, min, nat_lt, Bool, true, false, if◌then◌else◌, List, [], ◌∷◌, length, map, codes, Option, Some, None, is_some}
-use Rattle.std.specs.List.{count_by, last_or}
+use Rattle.std.specs.Prelude.{ℕ, ◌+◌, ◌==◌, ◌&&◌, ◌||◌, not, min, nat_lt, Bool, true, false, if◌then◌else◌, List, [], ◌∷◌, length, map, codes, Option, Some, None, is_some}
+use Rattle.std.specs.List.{count_by, last_or, list_any}
+use Rattle.direction.specs.Dir.{Message}
 use Rattle.direction.specs.declared.Dir.{Dir}
 use Rattle.direction.specs.declared.Dir.TheVariants as dir
 use Rattle.can_log.specs.declared.frame.Stamped.{Stamped}
 use Rattle.isotp_receive.specs.Events.{is_dropped, dropped_in, ended_in, unfinished_in}
 use Rattle.isotp_receive.specs.Trace.{Entry, same_direction}
 use Rattle.isotp_receive.specs.Verdict.{VerdictValue, EventValue, message, began, stored, flowed, dropped, messages}
+use Rattle.uds_message.specs.Message.{is_request, is_response_sid, sid}
 use Rattle.uds_exchange.specs.Meaning.{removed_messages}
 use Rattle.trace_log.specs.declared.summary.Count.{Count}
 use Rattle.trace_log.specs.declared.summary.Summary.{Summary}
@@ -28,6 +30,14 @@ is_line_feed (Some b) = b == code "\n"
 abbrev pub ends_in_line_feed : List ℕ → Bool
 ends_in_line_feed log = is_line_feed (last_or None log)
 
+-- the message has the first byte of a response, of which bit 6 is set (ISO 14229-1, service identifier values)
+abbrev pub is_response : List ℕ → Bool
+is_response bytes = is_response_sid (sid bytes)
+
+-- one of the messages is of this side, and is so
+abbrev pub has_sent : Dir → (List ℕ → Bool) → List Message → Bool
+has_sent d is_so M = list_any (λ (one : Message). same_direction d one.0 && is_so one.1) M
+
 -- what is counted frame by frame in a trace; the other counts are 0
 abbrev pub counted_in : ℕ → List Entry → Summary
 counted_in limit T = record {
@@ -41,6 +51,9 @@ counted_in limit T = record {
   unfinished = 0;
   pending = 0;
   ends_in_line_feed = false;
+  tester_asks = has_sent dir.Tester is_request (messages limit T);
+  tester_answers = has_sent dir.Tester is_response (messages limit T);
+  unit_asks = has_sent dir.Unit is_request (messages limit T);
 }
 
 -- the counts of a log whose lines mean this
@@ -71,6 +84,11 @@ abbrev pub is_clean : Summary → Bool
 is_clean summary =
     nat_lt 0 summary.tester_frames && (nat_lt 0 summary.unit_frames && ((summary.dropped == 0) && ((summary.ended == 0) && ((summary.unfinished == 0) && summary.ends_in_line_feed))))
 
+-- Whether tester and unit seem to be exchanged in a log with this summary: the tester sent no request, and the unit one,
+-- and the tester what has the first byte of a response.
+abbrev pub looks_exchanged : Summary → Bool
+looks_exchanged summary = not summary.tester_asks && (summary.tester_answers && summary.unit_asks)
+
 -- ---- devices of proof: counts with their names as the code has them, and the counts of frames as they grow
 
 -- counts by their names and numbers
@@ -85,9 +103,25 @@ is_message began = false
 is_message stored = false
 is_message flowed = false
 
+-- the frame completed a message of this side, which is so
+abbrev pub completed : Dir → (List ℕ → Bool) → Dir → VerdictValue → Bool
+completed side is_so d (message bytes) = same_direction side d && is_so bytes
+completed side is_so d (dropped reason) = false
+completed side is_so d began = false
+completed side is_so d stored = false
+completed side is_so d flowed = false
+
 -- one more, where it is so, up to the largest number of 64 bits
 abbrev pub more_if : Bool → ℕ → ℕ
 more_if b n = if b then min (n + 1) 18446744073709551615 else n
+
+-- the counts with one message more that is noted, of this side
+abbrev pub noted : Dir → List ℕ → Summary → Summary
+noted d bytes counts = record counts {
+  tester_asks = counts.tester_asks || (same_direction dir.Tester d && is_request bytes);
+  tester_answers = counts.tester_answers || (same_direction dir.Tester d && is_response bytes);
+  unit_asks = counts.unit_asks || (same_direction dir.Unit d && is_request bytes);
+}
 
 -- the counts of a trace with one more frame, which this side sent and which did this
 abbrev pub counted_more : Dir → EventValue → Summary → Summary
@@ -97,4 +131,7 @@ counted_more d event counts = record counts {
   messages = more_if (is_message event.verdict) counts.messages;
   dropped = more_if (is_dropped event.verdict) counts.dropped;
   ended = more_if (is_some event.ended) counts.ended;
+  tester_asks = counts.tester_asks || completed dir.Tester is_request d event.verdict;
+  tester_answers = counts.tester_answers || completed dir.Tester is_response d event.verdict;
+  unit_asks = counts.unit_asks || completed dir.Unit is_request d event.verdict;
 }

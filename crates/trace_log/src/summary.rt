@@ -2,11 +2,13 @@
 ghost use Rattle.std.specs.Prelude.{◌≡◌, []};
 ghost use Rattle.isotp_receive.specs.EventSeen.{seen_event};
 ghost use Rattle.isotp_receive.specs.declared.TheConstants.{MESSAGE_LIMIT};
-ghost use Rattle.trace_log.specs.Summing.{counted_in, counted_more, named_counts, seen_counts};
+ghost use Rattle.trace_log.specs.Summing.{counted_in, counted_more, named_counts, noted, seen_counts};
+ghost use Rattle.uds_message.specs.Message.{is_request};
 ghost use Rattle.trace_log.specs.Summing as Spec;
 
 use direction::Dir;
 use isotp_receive::{Event, Verdict};
+use uds_message::{TesterKind, is_response_sid, sid, tester_kind};
 
 /// The counts of a log that was read to its end.
 #[derive(Clone, Copy, Debug, PartialEq, Eq)]
@@ -31,6 +33,12 @@ pub struct Summary {
     pub pending: u64,
     /// Whether the last byte of the log is a line feed. A log without bytes has none.
     pub ends_in_line_feed: bool,
+    /// Whether the tester sent a request.
+    pub tester_asks: bool,
+    /// Whether the tester sent a message with the first byte of a response.
+    pub tester_answers: bool,
+    /// Whether the unit sent what were a request of the tester.
+    pub unit_asks: bool,
 }
 
 /// The name of a count, and its number.
@@ -53,11 +61,14 @@ impl Summary {
             unfinished: 0,
             pending: 0,
             ends_in_line_feed: false,
+            tester_asks: false,
+            tester_answers: false,
+            unit_asks: false,
         }
     }
 
-    /// Counts what one more frame of a direction did, in `tester_frames` or `unit_frames`, `messages`, `dropped` and `ended`:
-    /// the others are known at the end. Each stays at the largest number.
+    /// Counts what one more frame of a direction did, in `tester_frames` or `unit_frames`, `messages`, `dropped` and `ended`,
+    /// and whether its message asks or answers: the others are known at the end. Each stays at the largest number.
     pub fn count(&mut self, dir: Dir, event: Event<'_>)
         ensures { self.new ≡ counted_more dir (seen_event event.entry) self.old }
     {
@@ -69,9 +80,25 @@ impl Summary {
             self.ended = self.ended.saturating_add(1);
         }
         match event.verdict {
-            Verdict::Message(_) => self.messages = self.messages.saturating_add(1),
+            Verdict::Message(message) => {
+                self.messages = self.messages.saturating_add(1);
+                self.note(dir, message);
+            }
             Verdict::Dropped(_) => self.dropped = self.dropped.saturating_add(1),
             Verdict::Began | Verdict::Stored | Verdict::Flow => {}
+        }
+    }
+
+    /// Notes whether a message of a direction asks or answers.
+    fn note(&mut self, dir: Dir, message: &[u8])
+        ensures { self.new ≡ noted dir message.now self.old }
+    {
+        match dir {
+            Dir::Tester => {
+                self.tester_asks = self.tester_asks || is_request(message);
+                self.tester_answers = self.tester_answers || is_response_sid(sid(message));
+            }
+            Dir::Unit => self.unit_asks = self.unit_asks || is_request(message),
         }
     }
 
@@ -102,4 +129,19 @@ impl Summary {
             && self.unfinished == 0
             && self.ends_in_line_feed
     }
+
+    /// Whether the tester seems to be the unit, and the unit the tester: no request is of the tester, one is of the unit,
+    /// and the tester answers.
+    pub fn looks_exchanged(&self) -> bool
+        ensures { result ≡ Spec.looks_exchanged self.now }
+    {
+        !self.tester_asks && self.tester_answers && self.unit_asks
+    }
+}
+
+/// Whether a message is a request, where the tester sent it.
+fn is_request(message: &[u8]) -> bool
+    ensures { result ≡ is_request message.now }
+{
+    tester_kind(message) == TesterKind::Request
 }
