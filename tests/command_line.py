@@ -38,6 +38,14 @@ OUT_OF_RANGE = b"identifier out of range\n"
 SAME_IDENTIFIER = b"tester and unit have the same identifier\n"
 LIMIT_RANGE = b"limit out of range\n"
 
+NO_TEXT = b"error: the command line is not UTF-8; a file with such a name is read as udsnorm list < FILE\n"
+
+# Wrong words with other bytes than printable ASCII, and how the parser's text has them.
+ESCAPED = [
+    (["e\x1b[31m"], b"e\\x1B[31m"), (["two\nlines"], b"two\\x0Alines"), (["list", "--Pr\u00fcf"], b"--Pr\\xC3\\xBCf"),
+    (["list", "a", "\x7f\x80"], b"\\x7F\\xC2\\x80"), (["list", "--limit", "1\t"], b"1\\x09"), (["b\\x1B ~!"], b"b\\x1B ~!"),
+]
+
 # The most bytes of a path, with the one that ends it.
 PATH_MAX = 4096
 
@@ -402,7 +410,12 @@ def wrong_words(cases):
         wrong += [] if error.startswith(b"error: ") and error.endswith(b"\n") else [f"error output {error!r}"]
         cases.report(f"wrong words {words}", wrong)
     for words in [[b"\xff\xfe"], ["list", b"\xff"], ["list", b"--tester=\xff"]]:
-        cases.case(f"words that are no UTF-8: {words}", cases.run(words, LOG), WORDS, b"", b"error: the command line is not UTF-8\n")
+        cases.case(f"words that are no UTF-8: {words}", cases.run(words, LOG), WORDS, b"", NO_TEXT)
+    for words, shown in ESCAPED:
+        status, output, error = cases.run(words, LOG)
+        wrong = [] if (status, output) == (WORDS, b"") and shown in error else [f"status {status}, output {output!r}, error output {error!r}"]
+        wrong += [f"{byte:02X} is told" for byte in sorted({*error} - {10, *range(32, 127)})]
+        cases.report(f"what is told of the words {words}", wrong)
 
 
 def wrong_values(cases):

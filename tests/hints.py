@@ -1,5 +1,6 @@
 #!/usr/bin/env python3
-"""Tests of the hints of the built program: a terminal as standard error is told a line more, and nothing else is.
+"""Tests of the hints of the built program: a terminal as standard error is told a line more, and nothing else is without
+`--hints`.
 
     tests/hints.py crates/udsnorm/out/udsnorm
 
@@ -9,10 +10,12 @@ Prints a line for each case and ends with `N passed, M failed`; its status is 1 
 import gzip
 import lzma
 import os
+import select
 import shlex
 import subprocess
 import sys
 import tempfile
+import termios
 import tty
 from pathlib import Path
 
@@ -36,8 +39,10 @@ NAMES = {
     "\x1b[2J\n": "$'\\x1B[2J\\x0A'",
     "Prüf~": "$'Pr\\xC3\\xBCf~'",
     "$HOME": "$'$HOME'",
-    "-": "-",
 }
+
+# What is told before a terminal is read.
+AWAITED = b"hint: standard input is read; Ctrl-D ends it\n"
 
 # What a log looks like that begins with the sign of zstd.
 ZSTANDARD = "looks compressed with zstd; zstdcat unpacks it"
@@ -74,6 +79,16 @@ def hinted(cases, name, words, folder, status, hint, **options):
     line = f"hint: {hint}\n".encode() if hint else b""
     cases.case(name, found, status, plain.output, plain.error + line)
     cases.report(f"{name}, without a terminal", ["it has a hint"] if plain.status != status or b"hint: " in plain.error else [])
+    if words:
+        asked = cases.run(with_hints(words), cwd=folder, **options)
+        is_same = asked.status == status and asked.output == plain.output and asked.error.endswith(line)
+        cases.report(f"{name}, with --hints", [] if is_same and asked.error.count(b"hint: ") == (1 if hint else 0) else [f"{asked}"])
+
+
+def with_hints(words):
+    """The words with `--hints` more, which stands before the `--` that ends options."""
+    end = words.index("--") if "--" in words else len(words)
+    return [*words[:end], "--hints", *words[end:]]
 
 
 def files(cases, folder):
@@ -140,10 +155,15 @@ def names(cases, folder):
         read = subprocess.run(["bash", "-c", f"printf %s {shown}"], stdout=subprocess.PIPE, timeout=60).stdout
         cases.report(f"{shown} as a shell reads it", [] if read == name.encode() else [f"{read!r}"])
     hinted(cases, "no file ''", ["list", ""], folder, DEVICE, "there is no file $''")
+    for given in [["list", "-"], ["compare", "-", "mine.log"], ["compare", "mine.log", "-"]]:
+        hint = "there is no file -; standard input is read where no file is named, or as /dev/stdin"
+        hinted(cases, shlex.join(given), given, folder, DEVICE, hint)
 
 
 def words(cases, folder):
-    """The name of a file where a command has its place."""
+    """What to write instead of words that don't fit: the name of a file where a command has its place, or of two, and words that
+    other programs have there."""
+    to_help = "udsnorm --help has the commands, udsnorm COMMAND --help the options of one"
     Path(folder, "two words.log").write_bytes(b"")
     Path(folder, "list").write_bytes(b"")
     Path(folder, "--limit").write_bytes(b"")
@@ -151,15 +171,68 @@ def words(cases, folder):
         (["mine.log"], "mine.log is a file: udsnorm list mine.log"),
         (["./list"], "./list is a file: udsnorm list ./list"),
         (["two words.log", "--json"], "$'two words.log' is a file: udsnorm list $'two words.log'"),
+        (["mine.log", "two words.log"], "mine.log and $'two words.log' are files: udsnorm compare mine.log $'two words.log'"),
+        (["mine.log", "./list", "--show"], "mine.log and ./list are files: udsnorm compare mine.log ./list"),
+        (["mine.log", "none.log"], "mine.log is a file: udsnorm list mine.log"),
+        (["mine.log", "list"], "mine.log is a file: udsnorm list mine.log"),
+        (["none.log", "mine.log"], None),
+        (["help"], to_help),
+        (["help", "list"], to_help),
+        (["version"], "udsnorm --version tells the version"),
+        (["-"], "standard input is read where no file is named: udsnorm list"),
+        (["Help"], None),
         (["logs"], None),
         (["none.log"], None),
+        (["list", "help"], None),
         (["list", "--lim", "1"], None),
-        (["list", "--limit", "0"], None),
+        (["list", "--limit", "0"], "--limit takes 1 to 1099511627776 bytes"),
         (["--limit", "1"], None),
         (["list", "mine.log", "mine.log"], None),
         (["compare", "mine.log"], None),
     ]:
         hinted(cases, f"the words {shlex.join(given)}", given, folder, WORDS, hint)
+
+
+def values(cases, folder):
+    """Which option has a value that is no identifier, and what to write; or both have the same one."""
+    rule = "; an identifier has three hexadecimal digits, up to 7FF, or eight, up to 1FFFFFFF"
+    for given, hint in [
+        (["list", "--tester", "0x7E0"], "--tester is 0x7E0; write 7E0"),
+        (["list", "--unit=0X18DAF110"], "--unit is 0X18DAF110; write 18DAF110"),
+        (["compare", "--unit", "0x7e8", "none.log", "none.log"], "--unit is 0x7e8; write 7e8"),
+        (["list", "--tester", "0x7E"], "--tester is 0x7E" + rule),
+        (["list", "--tester", "7E0h"], "--tester is 7E0h" + rule),
+        (["list", "--tester", "7G0", "--unit", "0x7E8"], "--tester is 7G0" + rule),
+        (["list", "--tester", ""], "--tester is $''" + rule),
+        (["list", "--tester", "\x1b[31m"], "--tester is $'\\x1B[31m'" + rule),
+        (["list", "--tester", "800"], "--tester is 800" + rule),
+        (["list", "--unit", "20000000", "--limit", "0"], "--unit is 20000000" + rule),
+        (["list", "--tester", "7E8"], "--tester is 7E8, --unit 7E8"),
+        (["watch", "--unit", "7e0"], "--tester is 7E0, --unit 7e0"),
+    ]:
+        hinted(cases, f"the values {shlex.join(given)}", given, folder, WORDS, hint)
+
+
+def awaited(cases, folder):
+    """Before a terminal is read as standard input, a terminal as standard error is told."""
+    for given, is_awaited, is_empty in [
+        ([], True, True), (["list"], True, True), (["find", "--json"], True, True), (["list", "mine.log"], False, False), (["--version"], False, False),
+        (["compare", "mine.log", "mine.log"], False, False),
+    ]:
+        ours, theirs = os.openpty()
+        attributes = termios.tcgetattr(theirs)
+        attributes[1] &= ~termios.OPOST
+        attributes[3] &= ~termios.ECHO
+        termios.tcsetattr(theirs, termios.TCSANOW, attributes)
+        process = subprocess.Popen([cases.program, *given], stdin=theirs, stdout=subprocess.DEVNULL, stderr=theirs, cwd=folder)
+        told = os.read(ours, 4096) if is_awaited and select.select([ours], [], [], 60)[0] else b""
+        os.write(ours, b"\x04")
+        status = process.wait(timeout=60)
+        rest = os.read(ours, 4096) if select.select([ours], [], [], 0)[0] else b""
+        os.close(theirs)
+        os.close(ours)
+        want = (0, AWAITED if is_awaited else b"", b"hint: standard input is empty\n" if is_empty else b"")
+        cases.report(f"a terminal for {shlex.join(given)}", [] if (status, told, rest) == want else [f"{(status, told, rest)}"])
 
 
 def pairs(cases, folder):
@@ -168,7 +241,7 @@ def pairs(cases, folder):
     hint = "nothing in {} answers another identifier; find needs the frames of both sides, and looks at each identifier up to 1FFFFFFF"
     for given in [["find", "request.log"], ["find", "--json", "request.log"]]:
         hinted(cases, f"no pair for {shlex.join(given)}", given, folder, 0, hint.format("request.log"))
-    hinted(cases, "no pair in no log", ["find"], folder, 0, hint.format("standard input"))
+    hinted(cases, "no pair in no log", ["find"], folder, 0, "standard input is empty")
     for given in [["find", "mine.log"], ["find", "--json", "mine.log"]]:
         hinted(cases, f"nothing of {shlex.join(given)}", given, folder, 0, None)
 
@@ -187,7 +260,7 @@ def foreign(cases, folder):
         hinted(cases, f"{job} of other identifiers", [job, "other.log"], folder, 0, None if found else usual)
         hinted(cases, f"{job} of no frames", [job, "error.log"], folder, 0, told.format("error.log") if found else hint.format("error.log", "7E0 or 7E8", " error.log"))
         hinted(cases, f"{job} of a blank line", [job, "blank.log"], folder, 0, told.format("blank.log") if found else hint.format("blank.log", "7E0 or 7E8", " blank.log"))
-        hinted(cases, f"{job} of an empty log", [job, "empty.log"], folder, 0, told.format("empty.log") if found else None)
+        hinted(cases, f"{job} of an empty log", [job, "empty.log"], folder, 0, "empty.log is empty")
     for given, hint_of in [
         (["list", "an other.log"], ("$'an other.log'", "7E0 or 7E8", " $'an other.log'")),
         (["list", "--", "-other.log"], ("-other.log", "7E0 or 7E8", " -- -other.log")),
@@ -200,8 +273,8 @@ def foreign(cases, folder):
     for job in ["compare", "report"]:
         for left, right, status in [("other.log", "mine.log", 1), ("mine.log", "other.log", 1), ("other.log", "an other.log", 0)]:
             hinted(cases, f"{job} {left} {right}", [job, left, right], folder, status, usual)
-        hinted(cases, f"{job} mine.log empty.log", [job, "mine.log", "empty.log"], folder, 1, None)
-        hinted(cases, f"{job} empty.log other.log", [job, "empty.log", "other.log"], folder, 0, usual)
+        hinted(cases, f"{job} mine.log empty.log", [job, "mine.log", "empty.log"], folder, 1, "empty.log is empty")
+        hinted(cases, f"{job} empty.log other.log", [job, "empty.log", "other.log"], folder, 0, "empty.log is empty")
     hinted(cases, "compare --strict", ["compare", "--strict", "mine.log", "other.log"], folder, UNCLEAN, usual)
 
 
@@ -288,8 +361,9 @@ def drops(cases, folder):
 
 def silent(cases, folder):
     """Where there is nothing to say, nothing is said; and a hint that can't be told changes no status."""
-    for given in [[], ["list", "mine.log"], ["--help"], ["--version"], ["compare", "mine.log", "mine.log"]]:
+    for given in [["list", "mine.log"], ["--help"], ["--version"], ["compare", "mine.log", "mine.log"]]:
         hinted(cases, f"nothing of {shlex.join(given)}", given, folder, 0, None)
+    hinted(cases, "no words", [], folder, 0, None, log=VIN.read_bytes())
     ours, theirs = os.openpty()
     os.close(ours)
     done = subprocess.run([cases.program, "list", "none.log"], stderr=theirs, stdout=subprocess.PIPE, cwd=folder, timeout=60)
@@ -302,7 +376,7 @@ def main():
         sys.exit(__doc__)
     cases = Cases(os.path.abspath(sys.argv[1]))
     with tempfile.TemporaryDirectory() as folder:
-        for test in [files, denied, limits, names, words, pairs, foreign, looks, compressed, cut, drops, silent]:
+        for test in [files, denied, limits, names, words, values, awaited, pairs, foreign, looks, compressed, cut, drops, silent]:
             test(cases, folder)
     cases.end()
 

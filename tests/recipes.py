@@ -4,15 +4,16 @@ their commands, taken out of the page itself, print what it shows.
 
     tests/recipes.py crates/udsnorm/out/udsnorm [out/lib]
 
-Each section is a session of bash in a folder of its own, with the sample logs in its folder examples/. Its blocks are:
+Each page is one session of bash, from its first block to its last one, which begins with the top of the repository and has to
+end where its set-up does. Its blocks are:
 
-- `sh` without a name: the commands that make /tmp/try, copy sample logs to it and go there, done once a section, with the section's
-  folder, which isn't there before, in its place;
+- `sh` without a name: the set-up, the commands that make /tmp/try, copy sample logs to it and go there; here a folder of the
+  page's own stands in its place. A page without one has a folder in which `examples` is there;
 - `console TOOL...`: commands, each after `$`, and what they print. Where a tool is missing the block is skipped, by the tool's
   name. One of `candump` needs a bus and is always skipped; `vcan0` is an interface, `pandas` and `python-can` are modules of
   Python;
-- `sh NAME`, `python NAME`: a script, saved as NAME for this section and those after it; the prose above says "Save as `NAME`";
-- `yaml`: a job of CI, whose commands stand in blocks of its section, too; the files that it keeps are there behind them.
+- `sh NAME`, `python NAME`: a script, saved as NAME at its place, executable; the prose above says "Save as `NAME`";
+- `yaml`: a job of CI, whose commands stand in blocks of its section, too; the files that it keeps are there at the end.
 
 Prints a line for each case and ends with `N passed, M failed`; its status is 1 where a case failed.
 """
@@ -125,32 +126,56 @@ def surroundings(home, program):
     return found
 
 
-def answers(folder, lines, environment):
-    """What each command line prints, on standard output and standard error together."""
+def answers(lines, environment):
+    """What each command line of one session prints, on standard output and standard error together."""
     script = "exec 2>&1\n" + "".join(line + BEHIND for line in lines)
-    done = subprocess.run(["bash", "-c", script], cwd=folder, env=environment, stdin=subprocess.DEVNULL, capture_output=True, text=True, timeout=120)
+    done = subprocess.run(["bash", "-c", script], cwd=TOP, env=environment, stdin=subprocess.DEVNULL, capture_output=True, text=True, timeout=300)
     return done.stdout.split(MARK)[:-1]
 
 
-def run_section(cases, page, title, blocks, folder, environment):
-    """Each command of a section that is run is a case."""
-    wanted = []
+def saving(name, text):
+    """The command that saves a script."""
+    return "\n".join([f"cat > {name} <<'END_OF_SCRIPT'", *text, "END_OF_SCRIPT", f"chmod +x {name}"])
+
+
+def set_up(blocks, folder):
+    """The commands of a page's set-up, in this folder."""
+    lines = [line.replace("/tmp/try", str(folder)) for words, _, text in blocks if words == ["sh"] for line in text]
+    return lines or [f"mkdir {folder} && ln -s {TOP}/examples {folder} && cd {folder}"]
+
+
+def steps_of(page, blocks):
+    """What a section has to run, each with what it has to print: a script to save, or a command."""
     for words, line, text in blocks:
-        kind, tools = (words + [""])[0], words[1:]
-        if kind != "console":
-            continue
-        lack = missing_tool(tools)
-        if lack:
-            print(f"skipped line {line} of {page.name}: it needs {lack}", flush=True)
-            continue
-        wanted += commands(text)
-    came = answers(folder, [command for command, _ in wanted], environment)
-    for at, (command, lines) in enumerate(wanted):
+        kind, names = (words + [""])[0], words[1:]
+        if kind in ("sh", "python") and names:
+            yield saving(names[0], text), []
+        elif kind == "console":
+            lack = missing_tool(names)
+            if lack:
+                print(f"skipped line {line} of {page.name}: it needs {lack}", flush=True)
+            else:
+                yield from commands(text)
+
+
+def run_page(cases, page, home, environment):
+    """Each command of a page that is run is a case."""
+    scripts_are_named(cases, page)
+    found = sections(page.read_text())
+    folder = home / page.stem
+    wanted = [("set-up", command, []) for command in set_up(found[0][1], folder)]
+    wanted += [(title, command, lines) for title, blocks in found for command, lines in steps_of(page, blocks)]
+    wanted.append(("end", "pwd", [str(folder)]))
+    came = answers([command for _, command, _ in wanted], environment)
+    for at, (title, command, lines) in enumerate(wanted):
         want = "".join(line + "\n" for line in lines)
-        found = came[at] if at < len(came) else "nothing, since the session ended before"
-        cases.report(f"{title} $ {command}", [] if found == want else [f"printed {found!r}, not {want!r}"])
-    for job in [text for words, _, text in blocks if words == ["yaml"]]:
-        run_job(cases, title, job, [command.split(";")[0] for command, _ in wanted], folder)
+        found_there = came[at] if at < len(came) else "nothing, since the session ended before"
+        shown = command.split("\n")[0]
+        cases.report(f"{page.name}: {title} $ {shown}", [] if found_there == want else [f"printed {found_there!r}, not {want!r}"])
+    for title, blocks in found:
+        ran = [command.split(";")[0] for place, command, _ in wanted if place == title]
+        for job in [text for words, _, text in blocks if words == ["yaml"]]:
+            run_job(cases, title, job, ran, folder)
 
 
 def run_job(cases, title, job, commands_run, folder):
@@ -162,46 +187,10 @@ def run_job(cases, title, job, commands_run, folder):
         cases.report(f"{title}: a job keeps {name}", [] if made else ["it is not there, or empty"])
 
 
-def set_up(blocks, folder, environment):
-    """What is wrong with the set-up of a page, if it has one: it makes this folder, and ends in it."""
-    lines = [line.replace("/tmp/try", str(folder)) for words, _, text in blocks if words == ["sh"] for line in text]
-    if not lines:
-        folder.mkdir()
-        return []
-    script = "\n".join(["set -e", *lines, "pwd"])
-    done = subprocess.run(["bash", "-c", script], cwd=TOP, env=environment, capture_output=True, text=True, timeout=60)
-    folder.mkdir(exist_ok=True)
-    return [] if done.stdout == f"{folder}\n" else [f"it ends in {done.stdout!r}: {done.stderr!r}"]
-
-
-def save_scripts(blocks, folder):
-    for words, _, text in blocks:
-        if words[:1] in (["sh"], ["python"]) and len(words) == 2:
-            script = folder / words[1]
-            script.write_text("".join(line + "\n" for line in text))
-            script.chmod(0o755)
-
-
 def scripts_are_named(cases, page):
     """A rendered page shows no name behind a fence: the prose right above each script says it."""
     for above, name in re.findall(r"^(.*)\n+```(?:sh|python) (\S+)$", page.read_text(), re.M):
         cases.report(f"{page.name} says to save {name}", [] if f"ave as `{name}`" in above else [f"above it stands {above!r}"])
-
-
-def run_page(cases, page, home, environment):
-    """Each section of a page in a folder of its own, with the scripts of those before it."""
-    scripts_are_named(cases, page)
-    found = sections(page.read_text())
-    (home / page.stem).mkdir()
-    for number, (title, blocks) in enumerate(found):
-        folder = home / page.stem / str(number)
-        wrong = set_up(found[0][1], folder, environment)
-        if wrong or number == 0:
-            cases.report(f"the set-up of {page.name} for {title}", wrong)
-        (folder / "examples").symlink_to(TOP / "examples")
-        for _, before in found[: number + 1]:
-            save_scripts(before, folder)
-        run_section(cases, page, title, blocks, folder, environment)
 
 
 def main():

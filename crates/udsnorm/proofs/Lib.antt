@@ -10,3 +10,4 @@ pub mod SpelledIdentifiers
 pub mod LineParts
 pub mod ToldTexts
 pub mod Fronts
+pub mod AskedHints

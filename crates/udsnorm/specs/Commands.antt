@@ -90,6 +90,10 @@ without_numbers = flag (codes "no-numbers") ∷ []
 abbrev pub strictly : List Rule
 strictly = flag (codes "strict") ∷ []
 
+-- that hints are told, wherever
+abbrev pub hinted : List Rule
+hinted = flag (codes "hints") ∷ []
+
 -- that the items are shown at which two logs differ
 abbrev pub showing : List Rule
 showing = flag (codes "show") ∷ []
@@ -126,14 +130,14 @@ pub record CommandEntry : Type 0 where
 -- all of them, in the order of the program's help
 abbrev pub command_entries : List CommandEntry
 command_entries =
-    record { name = codes "normalise"; rules = sides ++ usual_limit ++ one_log ++ strictly; task = λ rows. task.One job.Normalise }
-    ∷ record { name = codes "list"; rules = sides ++ usual_limit ++ one_log ++ without_numbers ++ as_json ++ strictly; task = λ rows. task.One (job.Items (items_job.List (style_in rows))) }
-    ∷ record { name = codes "watch"; rules = sides ++ largest_limit ++ one_log ++ without_numbers ++ as_json ++ strictly; task = λ rows. task.One (job.Watch (style_in rows)) }
-    ∷ record { name = codes "explain"; rules = sides ++ usual_limit ++ one_log ++ as_json ++ strictly; task = λ rows. task.One (job.Explain (notation_in rows)) }
-    ∷ record { name = codes "messages"; rules = sides ++ largest_limit ++ one_log ++ as_json ++ strictly; task = λ rows. task.One (job.Messages (notation_in rows)) }
-    ∷ record { name = codes "report"; rules = sides ++ largest_limit ++ one_or_two_logs ++ strictly; task = λ rows. report_task (first_of (codes "OTHER") rows) }
-    ∷ record { name = codes "find"; rules = usual_limit ++ one_log ++ as_json; task = λ rows. task.One (job.Find (notation_in rows)) }
-    ∷ record { name = codes "compare"; rules = sides ++ usual_limit ++ two_logs ++ showing ++ as_json ++ strictly; task = λ rows. task.Two (pair_job.Compare (comparison_style_in rows)) }
+    record { name = codes "normalise"; rules = sides ++ usual_limit ++ one_log ++ strictly ++ hinted; task = λ rows. task.One job.Normalise }
+    ∷ record { name = codes "list"; rules = sides ++ usual_limit ++ one_log ++ without_numbers ++ as_json ++ strictly ++ hinted; task = λ rows. task.One (job.Items (items_job.List (style_in rows))) }
+    ∷ record { name = codes "watch"; rules = sides ++ largest_limit ++ one_log ++ without_numbers ++ as_json ++ strictly ++ hinted; task = λ rows. task.One (job.Watch (style_in rows)) }
+    ∷ record { name = codes "explain"; rules = sides ++ usual_limit ++ one_log ++ as_json ++ strictly ++ hinted; task = λ rows. task.One (job.Explain (notation_in rows)) }
+    ∷ record { name = codes "messages"; rules = sides ++ largest_limit ++ one_log ++ as_json ++ strictly ++ hinted; task = λ rows. task.One (job.Messages (notation_in rows)) }
+    ∷ record { name = codes "report"; rules = sides ++ largest_limit ++ one_or_two_logs ++ strictly ++ hinted; task = λ rows. report_task (first_of (codes "OTHER") rows) }
+    ∷ record { name = codes "find"; rules = usual_limit ++ one_log ++ as_json ++ hinted; task = λ rows. task.One (job.Find (notation_in rows)) }
+    ∷ record { name = codes "compare"; rules = sides ++ usual_limit ++ two_logs ++ showing ++ as_json ++ strictly ++ hinted; task = λ rows. task.Two (pair_job.Compare (comparison_style_in rows)) }
     ∷ []
 
 -- What is known of the call that does a job over one log: it is `normalise`, or writes a text of the items of the

@@ -1,5 +1,5 @@
 -- What is known of a log for a hint, by what a run over it came to.
-use Rattle.std.specs.Prelude.{◌≡◌, ◌⊎◌, ℕ, ◌==◌, ◌&&◌, nat_lt, Bool, List, length, take, Option, Some, None, Result, Ok, Err, if◌then◌else◌}
+use Rattle.std.specs.Prelude.{◌≡◌, ◌⊎◌, ℕ, ◌==◌, nat_lt, Bool, List, length, take, Option, Some, None, Result, Ok, Err, if◌then◌else◌}
 use Rattle.trace_log.specs.Settings.{Settings}
 use Rattle.trace_log.specs.declared.config.TheConstants.{LARGEST_LIMIT}
 use Rattle.trace_log.specs.declared.fault.CompareFault.{CompareFault}
@@ -53,21 +53,26 @@ IsKnownByFault which settings given is_over Read known = (known ≡ knows which 
 IsKnownByFault which settings given is_over Write known = known ≡ None
 IsKnownByFault which settings given is_over Memory known = known ≡ None
 
--- it is known that the log has no pair, where the output took nothing
-abbrev pub knows_no_pair : List ℕ → Option Known
-knows_no_pair taken = if nat_lt 0 (length taken) then None else knows First matter.NoPair
+-- it is known that the log has no pair, where the output took nothing, or that it is empty
+abbrev pub knows_no_pair : Summary → List ℕ → Option Known
+knows_no_pair summary taken =
+    if nat_lt 0 (length taken) then None else if summary.lines == 0 then knows First matter.Empty else knows First matter.NoPair
 
 -- it is known how many frames of an accepted log were dropped, where any was
 abbrev pub knows_dropped : ℕ → Option Known
 knows_dropped count = if nat_lt 0 count then knows First (matter.Dropped count) else None
 
--- a log with these counts has lines, and no frame of either side
-abbrev pub is_foreign : Summary → Bool
-is_foreign summary = nat_lt 0 summary.lines && summary.frames == 0
+-- What is known of this log by its counts: that it has no line, or no frame with one of the identifiers.
+abbrev pub known_by_counts : Which → Settings → Summary → Option Known
+known_by_counts which settings summary =
+    if summary.lines == 0 then knows which matter.Empty
+    else if summary.frames == 0 then knows which (matter.Foreign settings.tester settings.unit)
+    else None
 
--- it is known that this log has no frame with one of the identifiers
-abbrev pub knows_foreign : Which → Settings → Option Known
-knows_foreign which settings = knows which (matter.Foreign settings.tester settings.unit)
+-- the one that is known, or else the other
+abbrev pub or_else : Option Known → Option Known → Option Known
+or_else (Some known) other = Some known
+or_else None other = other
 
 -- it is known how many frames were dropped, where the job is not to explain that
 abbrev pub knows_dropped_for : Job → ℕ → Option Known
@@ -75,17 +80,14 @@ knows_dropped_for (job.Explain notation) count = None
 knows_dropped_for other count = knows_dropped count
 
 -- What is known of a log that was accepted, by the job over it, the identifiers, its counts and what the output took:
--- that it has no pair, where the job was to find some; and else that it has no frame with one of the identifiers, or
--- how many were dropped.
+-- that it has no pair, where the job was to find some; and else what its counts tell, or how many frames were dropped.
 abbrev pub known_of_done : Job → Settings → Summary → List ℕ → Option Known
-known_of_done (job.Find notation) settings summary taken = knows_no_pair taken
-known_of_done other settings summary taken = if is_foreign summary then knows_foreign First settings else knows_dropped_for other summary.dropped
+known_of_done (job.Find notation) settings summary taken = knows_no_pair summary taken
+known_of_done other settings summary taken = or_else (known_by_counts First settings summary) (knows_dropped_for other summary.dropped)
 
--- what is known of two logs that were accepted: of the first one that has no frame with one of the identifiers, that it
--- has none
+-- what is known of two logs that were accepted: what the counts of the first one tell, or else those of the second one
 abbrev pub known_of_pair : Settings → PairAnswer → Option Known
-known_of_pair settings pair =
-    if is_foreign pair.left then knows_foreign First settings else if is_foreign pair.right then knows_foreign Second settings else None
+known_of_pair settings pair = or_else (known_by_counts First settings pair.left) (known_by_counts Second settings pair.right)
 
 -- what is known of a log by the outcome of a job over it, whose source gave these bytes and was over or not, and of
 -- which the output took this

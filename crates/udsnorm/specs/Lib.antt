@@ -1,6 +1,7 @@
 pub mod Identifiers
 pub mod Values
 pub mod Commands
+pub mod Shown
 pub mod Words
 pub mod Status
 pub mod FaultLines
@@ -10,5 +11,7 @@ pub mod Run
 pub mod Looks
 pub mod Known
 pub mod Asked
+pub mod Names
+pub mod Advice
 pub mod Hints
 pub mod proving

@@ -7,6 +7,7 @@ use Rattle.clap.specs.declared.error.kind.ErrorKind.TheVariants.{DisplayHelp, Di
 use Rattle.can_log.specs.declared.frame.Id.{Id}
 use Rattle.trace_log.specs.Settings.{Settings, Configures}
 use Rattle.udsnorm.specs.Commands.{command_in, left_file, refusals, right_file, task_named}
+use Rattle.udsnorm.specs.Shown.{IsShown}
 use Rattle.udsnorm.specs.Values.{is_strict, limit_in, tester_in, unit_in}
 use Rattle.udsnorm.specs.declared.commands.Task.{Task}
 use Rattle.udsnorm.specs.declared.commands.Task.TheVariants as task
@@ -55,7 +56,7 @@ abbrev pub IsRefusedFor : Task → List Row → WordsFault → Type 0
 IsRefusedFor asked rows Identifier = IsConfiguredIn rows (Err Identifier)
 IsRefusedFor asked rows (Config fault) = IsConfiguredIn rows (Err (Config fault))
 IsRefusedFor asked rows (Help text) = ⊥
-IsRefusedFor asked rows (Words text) = LacksFile asked rows
+IsRefusedFor asked rows (Words text) = LacksFile asked rows × IsShown (string_bytes text)
 IsRefusedFor asked rows Memory = ⊤
 
 -- a plan for the command that was found, or why there is none
@@ -67,16 +68,16 @@ IsPlannedFrom (Some found) (Err fault) = IsRefusedFor (task_named found.0 found.
 -- what an error of the parser of this kind is called
 abbrev pub IsCalled : ErrorKind → WordsFault → Type 0
 IsCalled kind (Help text) = (kind ≡ DisplayHelp) ⊎ (kind ≡ DisplayVersion)
-IsCalled kind (Words text) = (kind ≢ DisplayHelp) × (kind ≢ DisplayVersion) × (kind ≢ OutOfMemory)
+IsCalled kind (Words text) = (kind ≢ DisplayHelp) × (kind ≢ DisplayVersion) × (kind ≢ OutOfMemory) × IsShown (string_bytes text)
 IsCalled kind Memory = kind ≡ OutOfMemory
 IsCalled kind Identifier = ⊥
 IsCalled kind (Config fault) = ⊥
 
 -- what is said of words that the parser does not take: help or the version, where one of them was asked for, or what is
--- wrong with them; or that memory is refused
+-- wrong with them, in printable ASCII; or that memory is refused
 abbrev pub IsRefusedBy : Kinds → WordsFault → Type 0
 IsRefusedBy kinds (Help text) = IsAmong DisplayHelp kinds ⊎ IsAmong DisplayVersion kinds
-IsRefusedBy kinds (Words text) = (kind : ErrorKind) × (kind ≢ DisplayHelp) × (kind ≢ DisplayVersion) × IsAmong kind kinds
+IsRefusedBy kinds (Words text) = IsShown (string_bytes text) × ((kind : ErrorKind) × (kind ≢ DisplayHelp) × (kind ≢ DisplayVersion) × IsAmong kind kinds)
 IsRefusedBy kinds Memory = ⊤
 IsRefusedBy kinds Identifier = ⊥
 IsRefusedBy kinds (Config fault) = ⊥

@@ -109,7 +109,7 @@ pub(crate) const COMMANDS: &[CommandRow] = &[
         name: "normalise",
         about: "Writes the canonical log",
         after_help: OF_NORMALISE,
-        arguments: &[SIDES, USUAL_LIMIT_OF_BOTH, ONE_LOG, STRICTLY],
+        arguments: &[SIDES, USUAL_LIMIT_OF_BOTH, ONE_LOG, STRICTLY, HINTED],
     },
     CommandRow {
         name: "list",
@@ -122,6 +122,7 @@ pub(crate) const COMMANDS: &[CommandRow] = &[
             WITHOUT_NUMBERS,
             AS_JSON,
             STRICTLY,
+            HINTED,
         ],
     },
     CommandRow {
@@ -135,31 +136,32 @@ pub(crate) const COMMANDS: &[CommandRow] = &[
             WITHOUT_NUMBERS,
             AS_JSON,
             STRICTLY,
+            HINTED,
         ],
     },
     CommandRow {
         name: "explain",
         about: "Writes which frames were dropped and which receptions ended early, and why",
         after_help: OF_EXPLAIN,
-        arguments: &[SIDES, USUAL_LIMIT, ONE_LOG, AS_JSON, STRICTLY],
+        arguments: &[SIDES, USUAL_LIMIT, ONE_LOG, AS_JSON, STRICTLY, HINTED],
     },
     CommandRow {
         name: "messages",
         about: "Writes each message with its lines and time stamps",
         after_help: OF_MESSAGES,
-        arguments: &[SIDES, LARGEST_LIMIT, ONE_LOG, AS_JSON, STRICTLY],
+        arguments: &[SIDES, LARGEST_LIMIT, ONE_LOG, AS_JSON, STRICTLY, HINTED],
     },
     CommandRow {
         name: "report",
         about: "Writes the session as a page of HTML, to look at",
         after_help: OF_REPORT,
-        arguments: &[SIDES, LARGEST_LIMIT, ONE_OR_TWO_LOGS, STRICTLY],
+        arguments: &[SIDES, LARGEST_LIMIT, ONE_OR_TWO_LOGS, STRICTLY, HINTED],
     },
     CommandRow {
         name: "find",
         about: "Writes which identifiers ask and which answer, for a log whose identifiers nobody told",
         after_help: OF_FIND,
-        arguments: &[USUAL_LIMIT, ONE_LOG, AS_JSON],
+        arguments: &[USUAL_LIMIT, ONE_LOG, AS_JSON, HINTED],
     },
     CommandRow {
         name: "compare",
@@ -172,6 +174,7 @@ pub(crate) const COMMANDS: &[CommandRow] = &[
             SHOWING,
             AS_JSON,
             STRICTLY,
+            HINTED,
         ],
     },
 ];
@@ -190,6 +193,8 @@ pub(crate) const STRICT: &str = "strict";
 pub(crate) const JSON: &str = "json";
 
 pub(crate) const SHOW: &str = "show";
+
+pub(crate) const HINTS: &str = "hints";
 
 pub(crate) const LOG: &str = "LOG";
 
@@ -247,6 +252,11 @@ const WITHOUT_NUMBERS: &[Argument] = &[Argument::Flag {
 const STRICTLY: &[Argument] = &[Argument::Flag {
     name: STRICT,
     help: "Ends with status 6 where a frame was lost that can be seen",
+}];
+
+const HINTED: &[Argument] = &[Argument::Flag {
+    name: HINTS,
+    help: "Tells hints also where standard error is no terminal",
 }];
 
 const SHOWING: &[Argument] = &[Argument::Flag {

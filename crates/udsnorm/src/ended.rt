@@ -2,7 +2,7 @@
 
 ghost use Rattle.std.specs.Prelude.{◌≡◌, ◌⊎◌, option_map};
 ghost use Rattle.udsnorm.specs.Hints.{name_in};
-ghost use Rattle.udsnorm.specs.Known.{IsKnownBy, IsKnownByFault, IsKnownByTwo, IsKnownUnopened, is_foreign, known_of_done, known_of_pair, knows_dropped, knows_foreign, knows_limit, knows_no_pair, knows_refused};
+ghost use Rattle.udsnorm.specs.Known.{IsKnownBy, IsKnownByFault, IsKnownByTwo, IsKnownUnopened, known_by_counts, known_of_done, known_of_pair, knows, knows_dropped, knows_dropped_for, knows_limit, knows_no_pair, knows_refused};
 ghost use Rattle.udsnorm.specs.declared.ended.Matter.TheVariants as matter;
 
 use crate::commands::Job;
@@ -83,10 +83,10 @@ pub enum Matter {
     Limit(u64),
     /// No identifier in it answers another one.
     NoPair,
+    /// It has no bytes.
+    Empty,
     /// It has lines, and no frame with one of these identifiers.
     Foreign { tester: Id, unit: Id },
-    /// It was named where a command has its place.
-    NoCommand,
     /// It is no log, and looks like something else.
     Looks(Look),
     /// It is a log up to its end, where the last line breaks off.
@@ -146,31 +146,44 @@ fn known_of_done<W: Target>(job: Job, config: &Config, summary: &Summary, out: &
     ensures { result ≡ known_of_done job config.now summary.now (W.taken out.now) }
 {
     match job {
-        Job::Find(_) => known_of_pairs(out),
-        _ if is_foreign(summary) => known_foreign(Which::First, config),
-        Job::Explain(_) => None,
-        _ => known_of_dropped(summary.dropped),
+        Job::Find(_) => known_of_pairs(summary, out),
+        _ => match known_by_counts(Which::First, config, summary) {
+            Some(known) => Some(known),
+            None => known_of_drops(job, summary.dropped),
+        },
     }
 }
 
-/// Whether a log with these counts has lines, and no frame of either side.
-fn is_foreign(summary: &Summary) -> bool
-    ensures { result ≡ is_foreign summary.now }
+/// What is known of a log by its counts: that it is empty, or has no frame of either side.
+fn known_by_counts(which: Which, config: &Config, summary: &Summary) -> Option<Known>
+    ensures { result ≡ known_by_counts which config.now summary.now }
 {
-    summary.lines > 0 && summary.frames == 0
+    let tester = config.tester();
+    let unit = config.unit();
+    if summary.lines == 0 {
+        knows(which, Matter::Empty)
+    } else if summary.frames == 0 {
+        knows(which, Matter::Foreign { tester, unit })
+    } else {
+        None
+    }
 }
 
-/// What is known of a log without a frame of either side.
-fn known_foreign(which: Which, config: &Config) -> Option<Known>
-    ensures { result ≡ knows_foreign which config.now }
+/// This is known of this log.
+fn knows(which: Which, matter: Matter) -> Option<Known>
+    ensures { result ≡ knows which matter }
 {
-    Some(Known {
-        which,
-        matter: Matter::Foreign {
-            tester: config.tester(),
-            unit: config.unit(),
-        },
-    })
+    Some(Known { which, matter })
+}
+
+/// What is known of a log of which so many frames were dropped, where the job is not to explain that.
+fn known_of_drops(job: Job, count: u64) -> Option<Known>
+    ensures { result ≡ knows_dropped_for job count }
+{
+    match job {
+        Job::Explain(_) => None,
+        _ => known_of_dropped(count),
+    }
 }
 
 /// What is known of a log of which so many frames were dropped: that, where any was.
@@ -187,17 +200,17 @@ fn known_of_dropped(count: u64) -> Option<Known>
     }
 }
 
-/// What is known of a log in which pairs were to be found: that there is none, where nothing was written.
-fn known_of_pairs<W: Target>(out: &W) -> Option<Known>
-    ensures { result ≡ knows_no_pair (W.taken out.now) }
+/// What is known of a log in which pairs were to be found: that it is empty, or that there is none, where nothing was
+/// written.
+fn known_of_pairs<W: Target>(summary: &Summary, out: &W) -> Option<Known>
+    ensures { result ≡ knows_no_pair summary.now (W.taken out.now) }
 {
     if out.has_taken() {
         None
+    } else if summary.lines == 0 {
+        knows(Which::First, Matter::Empty)
     } else {
-        Some(Known {
-            which: Which::First,
-            matter: Matter::NoPair,
-        })
+        knows(Which::First, Matter::NoPair)
     }
 }
 
@@ -224,12 +237,9 @@ pub(crate) fn known_of_files<F: OpenFile + Drop>(
 fn known_of_pair(config: &Config, pair: &PairAnswer) -> Option<Known>
     ensures { result ≡ known_of_pair config.now pair.now }
 {
-    if is_foreign(&pair.left) {
-        known_foreign(Which::First, config)
-    } else if is_foreign(&pair.right) {
-        known_foreign(Which::Second, config)
-    } else {
-        None
+    match known_by_counts(Which::First, config, &pair.left) {
+        Some(known) => Some(known),
+        None => known_by_counts(Which::Second, config, &pair.right),
     }
 }
 

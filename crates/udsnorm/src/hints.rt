@@ -1,20 +1,22 @@
 //! Hints: a line behind the text of a run, for the person at the terminal.
 
-ghost use Rattle.std.specs.Prelude.{◌≡◌, ◌<◌, ◌++◌, IfOk, OnOk, IfErr, Some, map, option_map, string_bytes};
+ghost use Rattle.std.specs.Prelude.{◌≡◌, ◌<◌, ◌++◌, IfOk, OnOk, IfErr, Some, true, false, map, option_map, string_bytes};
 ghost use Rattle.std.specs.List.{flat_map, list_all};
 ghost use Rattle.can_log.specs.Digits.{digit};
-ghost use Rattle.udsnorm.specs.Hints.{GaveHint, IsSubject, before_name, either_text, find_words, hint_line, is_plain, is_plain_name, is_printable, look_words, quoted, quoted_byte, subject_seen};
+ghost use Rattle.trace_io.specs.Counted.{IsLowCount};
+ghost use Rattle.udsnorm.specs.Hints.{GaveHint, IsHint, ToldAwaited, asks_for_hints, hint_line, hint_of_plan, look_words, missing_words};
+ghost use Rattle.udsnorm.specs.Names.{before_name, behind_command, is_plain, is_plain_name, is_printable, quoted, quoted_byte};
 ghost use Rattle.udsnorm.specs.proving.Pieces.{piece_text, pieces_text};
 
-use crate::commands::COMMANDS;
-use crate::ended::{Matter, Run, name_of};
-use crate::job::WordsFault;
+use crate::advice::advice_for;
+use crate::ended::{Known, Matter, Run, name_of};
+use crate::job::Plan;
 use crate::looks::Look;
 use crate::tell::tell_text;
+use crate::words::plan;
 use can_log::{Id, identifier_text};
 use itoa::Buffer;
 use std::alloc::{AllocError, Global};
-use std::fs;
 use std::rt::Files;
 use trace_io::Target;
 
@@ -33,94 +35,99 @@ pub(crate) enum Piece<'a> {
     Words(&'static str),
     /// The number in decimal.
     Number(u64),
-    /// One of two identifiers.
-    Either(Id, Id),
+    /// The identifier.
+    Identifier(Id),
+    /// The name or value as a shell has it.
+    Quoted(&'a [u8]),
     /// The name of a log, which has none if it is standard input.
     Log(Option<&'a str>),
-    /// The words that name the identifiers of the log.
-    Find(Option<&'a str>),
+    /// The name of a log behind a command, where it has one.
+    Behind(Option<&'a str>),
 }
 
-/// What a hint is about, and of which log.
-#[derive(Clone, Copy)]
-pub(crate) struct Subject<'a> {
-    pub(crate) matter: Matter,
-    pub(crate) log: Option<&'a str>,
-}
-
-/// Tells the hint of a run, where there is one. Where the text of the run could not be told, or memory is refused, it
-/// is left out.
+/// Tells the hint of a run, where there is one and hints are wanted. Where the text of the run could not be told, or memory
+/// is refused, it is left out.
 pub fn give_hint<R: AllocGlobal + Files, E: Target>(
     rt: &R,
     words: &[String],
     run: &Run,
+    is_wanted: bool,
     err: &mut E,
 ) -> Result<(), AllocError>
-    ensures hint { OnOk result (E.failures err.old ≡ 0 → GaveHint E.Target run.now.asked (map string_bytes words.now) run.now.end.known err.old err.new) }
+    ensures hint { OnOk result (is_wanted ≡ true → E.failures err.old ≡ 0 → GaveHint E.Target run.now.asked (map string_bytes words.now) run.now.end.known err.old err.new) }
     ensures failed { 0 < E.failures err.old → err.new ≡ err.old }
+    ensures unwanted { is_wanted ≡ false → err.new ≡ err.old }
     ensures memory { IfErr result (λ _. err.new ≡ err.old) }
 {
-    if err.failures() > 0 {
+    if !is_wanted || err.failures() > 0 {
         return Ok(());
     }
-    match subject_of(rt, words, run) {
-        Some(subject) => {
-            let line = hint_line(rt.alloc(), subject.matter, subject.log)?;
-            tell_text(line.as_slice(), err);
-            Ok(())
-        }
-        None => Ok(()),
+    let line = hint_of(rt, words, run)?;
+    tell_text(line.as_slice(), err);
+    Ok(())
+}
+
+/// Tells that standard input is awaited, where the words ask for a job over it.
+pub fn tell_awaited<E: Target>(alloc: Global, words: &[String], err: &mut E)
+    requires { IsLowCount (E.failures err.old) }
+    ensures { ToldAwaited E.Target (map string_bytes words.now) err.old err.new }
+{
+    if let Ok(Plan::One { log: None, .. }) = plan(alloc, words) {
+        tell_text(
+            "hint: standard input is read; Ctrl-D ends it\n".as_bytes(),
+            err,
+        );
     }
 }
 
-/// What the hint of a run is about, if it has one.
-fn subject_of<'a, R: Files>(rt: &R, words: &'a [String], run: &'a Run) -> Option<Subject<'a>>
-    ensures { IsSubject run.now.asked (map string_bytes words.now) run.now.end.known (option_map subject_seen result) }
+/// Whether the words ask for hints.
+pub fn asks_for_hints(words: &[String]) -> bool
+    ensures { result ≡ asks_for_hints (map string_bytes words.now) }
+{
+    words.iter().any(|word| word.as_str() == "--hints")
+}
+
+/// The line of the hint of a run, which is empty where there is none.
+fn hint_of<R: AllocGlobal + Files>(
+    rt: &R,
+    words: &[String],
+    run: &Run,
+) -> Result<Vec<u8>, AllocError>
+    ensures { IfOk result (λ line. IsHint run.now.asked (map string_bytes words.now) run.now.end.known line.items) }
 {
     match &run.asked {
-        Ok(plan) => match run.end.known {
-            Some(known) => Some(Subject {
-                matter: known.matter,
-                log: name_of(plan, known.which),
-            }),
-            None => None,
-        },
-        Err(WordsFault::Words(_)) => match words.first() {
-            Some(word) if names_a_file(rt, word.as_str()) => Some(Subject {
-                matter: Matter::NoCommand,
-                log: Some(word.as_str()),
-            }),
-            _ => None,
-        },
-        Err(_) => None,
+        Ok(plan) => hint_of_plan(rt.alloc(), plan, run.end.known),
+        Err(fault) => advice_for(rt, words, fault),
     }
 }
 
-/// Whether a word names a file, where the parser looks for a command.
-fn names_a_file<R: Files>(rt: &R, word: &str) -> bool {
-    if word.starts_with("-") || is_command(word) {
-        return false;
+/// The line of what is known of a plan that was carried out.
+fn hint_of_plan(alloc: Global, plan: &Plan, known: Option<Known>) -> Result<Vec<u8>, AllocError>
+    ensures { IfOk result (λ line. line.items ≡ hint_of_plan plan.now known) }
+{
+    match known {
+        Some(known) => hint_line(alloc, known.matter, name_of(plan, known.which)),
+        None => Ok(Vec::new(alloc)),
     }
-    match fs::metadata(rt, word) {
-        Ok(found) => !found.is_dir(),
-        Err(_) => false,
-    }
-}
-
-/// Whether a word is a command.
-fn is_command(word: &str) -> bool {
-    COMMANDS.iter().any(|row| row.name == word)
 }
 
 /// The line of a hint about a log.
 fn hint_line(alloc: Global, matter: Matter, log: Option<&str>) -> Result<Vec<u8>, AllocError>
     ensures { IfOk result (λ line. line.items ≡ hint_line matter (option_map (λ t. t.now) log.entry)) }
 {
-    let find = Piece::Find(log);
+    let name = log;
+    let behind = Piece::Behind(log);
     let log = Piece::Log(log);
     let end = Piece::Words("\n");
     match matter {
-        Matter::Missing => line_of(alloc, &[Piece::Words("hint: there is no file "), log, end]),
+        Matter::Missing => line_of(
+            alloc,
+            &[
+                Piece::Words("hint: there is no file "),
+                log,
+                Piece::Words(missing_words(name)),
+            ],
+        ),
         Matter::Folder => line_of(
             alloc,
             &[Piece::Words("hint: "), log, Piece::Words(" is a folder\n")],
@@ -167,11 +174,17 @@ fn hint_line(alloc: Global, matter: Matter, log: Option<&str>) -> Result<Vec<u8>
                 Piece::Words("hint: "),
                 log,
                 Piece::Words(" has no frame of "),
-                Piece::Either(tester, unit),
-                Piece::Words("; "),
-                find,
+                Piece::Identifier(tester),
+                Piece::Words(" or "),
+                Piece::Identifier(unit),
+                Piece::Words("; udsnorm find"),
+                behind,
                 Piece::Words(" names its identifiers\n"),
             ],
+        ),
+        Matter::Empty => line_of(
+            alloc,
+            &[Piece::Words("hint: "), log, Piece::Words(" is empty\n")],
         ),
         Matter::Looks(look) => line_of(
             alloc,
@@ -205,16 +218,17 @@ fn hint_line(alloc: Global, matter: Matter, log: Option<&str>) -> Result<Vec<u8>
                 Piece::Words("; udsnorm explain shows where\n"),
             ],
         ),
-        Matter::NoCommand => line_of(
-            alloc,
-            &[
-                Piece::Words("hint: "),
-                log,
-                Piece::Words(" is a file: udsnorm list "),
-                log,
-                end,
-            ],
-        ),
+    }
+}
+
+/// What is said of a file that is not there, behind its name. A dash is meant for standard input.
+fn missing_words(name: Option<&str>) -> &'static str
+    ensures { result.now ≡ missing_words (option_map (λ t. t.now) name) }
+{
+    if name == Some("-") {
+        "; standard input is read where no file is named, or as /dev/stdin\n"
+    } else {
+        "\n"
     }
 }
 
@@ -244,7 +258,7 @@ fn look_words(look: Look) -> &'static str
 }
 
 /// The line of these pieces, one after another.
-fn line_of(alloc: Global, pieces: &[Piece<'_>]) -> Result<Vec<u8>, AllocError>
+pub(crate) fn line_of(alloc: Global, pieces: &[Piece<'_>]) -> Result<Vec<u8>, AllocError>
     ensures { IfOk result (λ line. line.items ≡ pieces_text pieces.entry.now) }
 {
     let mut line = Vec::new(alloc);
@@ -255,44 +269,36 @@ fn line_of(alloc: Global, pieces: &[Piece<'_>]) -> Result<Vec<u8>, AllocError>
 }
 
 /// Puts a piece at the end of the line.
-fn push_piece(line: &mut Vec<u8>, piece: Piece<'_>) -> Result<(), AllocError>
+pub(crate) fn push_piece(line: &mut Vec<u8>, piece: Piece<'_>) -> Result<(), AllocError>
     ensures { OnOk result (line.new.items ≡ line.old.items ++ piece_text piece.entry) }
 {
     match piece {
         Piece::Words(text) => line.extend_from_slice(text.as_bytes()),
         Piece::Number(number) => line.extend_from_slice(Buffer::new().format(number).as_bytes()),
-        Piece::Either(tester, unit) => push_either(line, tester, unit),
+        Piece::Identifier(id) => line.extend_from_slice(identifier_text(id).as_slice()),
+        Piece::Quoted(bytes) => push_quoted(line, bytes),
         Piece::Log(None) => line.extend_from_slice(b"standard input"),
         Piece::Log(Some(name)) => push_quoted(line, name.as_bytes()),
-        Piece::Find(None) => line.extend_from_slice(b"udsnorm find"),
-        Piece::Find(Some(name)) => push_find(line, name.as_bytes()),
+        Piece::Behind(None) => Ok(()),
+        Piece::Behind(Some(name)) => push_behind(line, name.as_bytes()),
     }
 }
 
-/// Puts one of two identifiers at the end of the line.
-fn push_either(line: &mut Vec<u8>, tester: Id, unit: Id) -> Result<(), AllocError>
-    ensures { OnOk result (line.new.items ≡ line.old.items ++ either_text tester unit) }
-{
-    line.extend_from_slice(identifier_text(tester).as_slice())?;
-    line.extend_from_slice(b" or ")?;
-    line.extend_from_slice(identifier_text(unit).as_slice())
-}
-
-/// Puts the words that name the identifiers of a log at the end of the line.
-fn push_find(line: &mut Vec<u8>, name: &[u8]) -> Result<(), AllocError>
-    ensures { OnOk result (line.new.items ≡ line.old.items ++ find_words (Some name.now)) }
+/// Puts the name of a log behind a command.
+fn push_behind(line: &mut Vec<u8>, name: &[u8]) -> Result<(), AllocError>
+    ensures { OnOk result (line.new.items ≡ line.old.items ++ behind_command (Some name.now)) }
 {
     line.extend_from_slice(before_name(name))?;
     push_quoted(line, name)
 }
 
-/// The words before a name. Behind `--` one that begins with a dash is no option.
+/// What stands between a command and a name. Behind `--` one that begins with a dash is no option.
 fn before_name(name: &[u8]) -> &'static [u8]
     ensures { result.now ≡ before_name name.now }
 {
     match name.first() {
-        Some(byte) if *byte == b'-' => b"udsnorm find -- ",
-        _ => b"udsnorm find ",
+        Some(byte) if *byte == b'-' => b" -- ",
+        _ => b" ",
     }
 }
 

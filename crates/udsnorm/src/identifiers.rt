@@ -14,7 +14,7 @@ pub(crate) fn identifier(text: &str) -> Option<Id>
     ensures { result ≡ identifier_of text.now }
 {
     // A sign is no digit of an identifier.
-    if !are_digits(text) {
+    if !are_digits(text.as_bytes()) {
         return None;
     }
     match text.len() {
@@ -25,8 +25,8 @@ pub(crate) fn identifier(text: &str) -> Option<Id>
 }
 
 /// Whether a text has hexadecimal digits alone.
-fn are_digits(text: &str) -> bool
+pub(crate) fn are_digits(text: &[u8]) -> bool
     ensures { result ≡ list_all is_ascii_hexdigit text.now }
 {
-    text.as_bytes().iter().all(|byte| byte.is_ascii_hexdigit())
+    text.iter().all(|byte| byte.is_ascii_hexdigit())
 }

@@ -24,6 +24,7 @@ ghost use Rattle.udsnorm.specs.Status.{status_of};
 ghost use Rattle.udsnorm.specs.Telling.{TookText};
 ghost use Rattle.udsnorm.specs.Values.{page_name as page_name_of, page_name_beside as page_name_of_two};
 
+mod advice;
 mod command;
 mod commands;
 mod ended;
@@ -35,6 +36,7 @@ mod looks;
 mod noticing;
 mod pair_jobs;
 mod run;
+mod shown;
 mod stream;
 mod tell;
 mod text;
@@ -43,7 +45,7 @@ mod words;
 
 use crate::commands::Job;
 use crate::ended::{End, Run, Which, known_of_file, known_of_files, known_of_input, unopened};
-use crate::hints::give_hint;
+use crate::hints::{asks_for_hints, give_hint, tell_awaited};
 use crate::job::{Plan, WordsFault};
 use crate::noticing::Noticing;
 use crate::pair_jobs::PairJob;
@@ -61,20 +63,32 @@ use trace_io::{Source, Target, Writing};
 use trace_log::{CompareFault, Config, Fault};
 
 /// What is told of a command line that is no text.
-const NO_TEXT: &str = "error: the command line is not UTF-8\n";
+const NO_TEXT: &str =
+    "error: the command line is not UTF-8; a file with such a name is read as udsnorm list < FILE\n";
 
 fn main(rt: HostRuntime) -> ExitCode {
     let stderr = rt.stderr();
-    let mut input = Noticing::new(rt.reader());
+    let stdin = rt.reader();
+    let is_hinted = stderr.is_terminal();
+    let is_awaited = is_hinted && stdin.is_terminal();
+    let mut input = Noticing::new(stdin);
     let mut out = Writing::new(io::writer(&rt));
     let mut err = Writing::new(io::writer(&stderr));
     let status = match given_words(&rt) {
         Ok(words) => {
-            let run = run_words(&rt, words.as_slice(), &mut input, &mut out, &mut err);
-            if stderr.is_terminal() {
-                // Where memory is refused there is none.
-                let _ = give_hint(&rt, words.as_slice(), &run, &mut err);
+            let words = words.as_slice();
+            if is_awaited {
+                tell_awaited(rt.alloc(), words, &mut err);
             }
+            let run = run_words(&rt, words, &mut input, &mut out, &mut err);
+            // Where memory is refused there is no hint.
+            let _ = give_hint(
+                &rt,
+                words,
+                &run,
+                is_hinted || asks_for_hints(words),
+                &mut err,
+            );
             run.end.status
         }
         Err(fault) => tell(&fault, &mut out, &mut err),

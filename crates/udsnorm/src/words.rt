@@ -5,12 +5,14 @@ ghost use Rattle.clap.specs.Words.{FailsBy, found_of, kind_of, rows_of, subcomma
 ghost use Rattle.udsnorm.specs.Commands.{command_in, refusals, words_or_normalise};
 ghost use Rattle.udsnorm.specs.Identifiers.{identifier_of};
 ghost use Rattle.udsnorm.specs.Words.{IsCalled, IsConfiguredBy, IsConfiguredIn, IsPlanOf, IsPlanned, IsPlannedFrom, IsRefusedFor};
+ghost use Rattle.udsnorm.specs.Shown.{IsShown};
 
 use crate::command::command;
 use crate::commands::{Job, LIMIT, LOG, TESTER, Task, UNIT, USUAL_TESTER, USUAL_UNIT, task_named};
 use crate::identifiers::identifier;
 use crate::job::{Plan, WordsFault};
 use crate::pair_jobs::{PairJob, left_file, right_file};
+use crate::shown::{are_printable, escaped_words, shown};
 use crate::values::{is_strict, text_of};
 use clap::error::ErrorKind;
 use clap::{ArgMatches, Error};
@@ -27,12 +29,12 @@ pub fn plan(alloc: Global, words: &[String]) -> Result<Plan, WordsFault>
 {
     match found(alloc, words) {
         Ok(matches) => planned(alloc, &matches),
-        Err(error) => Err(refusal(alloc, &error)?),
+        Err(error) => Err(refusal(alloc, words, &error)?),
     }
 }
 
 /// What the parser finds in the words.
-fn found<'a>(alloc: Global, words: &'a [String]) -> Result<ArgMatches<'a>, Error>
+pub(crate) fn found<'a>(alloc: Global, words: &'a [String]) -> Result<ArgMatches<'a>, Error>
     ensures matches { IfOk result (λ m. subcommand_rows_of m ≡ command_in (words_or_normalise (map string_bytes words.entry.now))) }
     ensures kinds { FailsBy (refusals (words_or_normalise (map string_bytes words.entry.now))) result }
 {
@@ -44,8 +46,8 @@ fn found<'a>(alloc: Global, words: &'a [String]) -> Result<ArgMatches<'a>, Error
     }
 }
 
-/// What the parser's error is called.
-fn refusal(alloc: Global, error: &Error) -> Result<WordsFault, AllocError>
+/// What the parser's error about these words is called.
+fn refusal(alloc: Global, words: &[String], error: &Error) -> Result<WordsFault, AllocError>
     ensures { IfOk result (IsCalled (kind_of error.now)) }
 {
     match error.kind() {
@@ -53,8 +55,47 @@ fn refusal(alloc: Global, error: &Error) -> Result<WordsFault, AllocError>
         ErrorKind::DisplayHelp | ErrorKind::DisplayVersion => {
             Ok(WordsFault::Help(format!(in alloc; "{error}")?))
         }
-        _ => Ok(WordsFault::Words(format!(in alloc; "{error}")?)),
+        _ => Ok(WordsFault::Words(told(alloc, words, error)?)),
     }
+}
+
+/// What is told of words for which the parser has this error: its text, where each word is as it can be shown.
+fn told(alloc: Global, words: &[String], error: &Error) -> Result<String, AllocError>
+    ensures { IfOk result (λ text. IsShown (string_bytes text)) }
+{
+    if are_printable(words) {
+        return text_of_error(alloc, error);
+    }
+    let escaped = escaped_words(alloc, words)?;
+    told_again(alloc, escaped.as_slice(), error)
+}
+
+/// What is told of these words, which are escaped, or else of those for which the parser had the error.
+fn told_again(alloc: Global, escaped: &[String], error: &Error) -> Result<String, AllocError>
+    ensures { IfOk result (λ text. IsShown (string_bytes text)) }
+{
+    match found(alloc, escaped) {
+        Ok(_) => text_of_error(alloc, error),
+        Err(again) => text_of_either(alloc, &again, error),
+    }
+}
+
+/// The text of an error, if it is of the same kind as the other one, and else of that.
+fn text_of_either(alloc: Global, error: &Error, other: &Error) -> Result<String, AllocError>
+    ensures { IfOk result (λ text. IsShown (string_bytes text)) }
+{
+    match error.kind() {
+        ErrorKind::OutOfMemory => Err(AllocError),
+        kind if kind == other.kind() => text_of_error(alloc, error),
+        _ => text_of_error(alloc, other),
+    }
+}
+
+/// The text of an error, as it can be shown.
+fn text_of_error(alloc: Global, error: &Error) -> Result<String, AllocError>
+    ensures { IfOk result (λ text. IsShown (string_bytes text)) }
+{
+    shown(alloc, format!(in alloc; "{error}")?.as_str())
 }
 
 /// The plan of the command that the parser found.

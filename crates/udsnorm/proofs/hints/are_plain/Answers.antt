@@ -1,7 +1,7 @@
 use Rattle.std.proofs.Common.{rules, tests}
 use Rattle.std.proofs.lemmas.Iterator.{YieldsList-from_slice}
 use Rattle.std.proofs.lemmas.Iterator.Search.{all_from_yields_List}
-use Rattle.udsnorm.specs.Hints.{is_plain}
+use Rattle.udsnorm.specs.Names.{is_plain}
 use Rattle.udsnorm.proofs.hints.are_plain.Goals as goal
 
 pub returns : goal.returns

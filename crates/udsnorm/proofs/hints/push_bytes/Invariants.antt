@@ -1,6 +1,6 @@
 use Rattle.std.proofs.Common.{◌≡◌, ◌++◌, drop}
 use Rattle.std.specs.List.{flat_map}
-use Rattle.udsnorm.specs.Hints.{quoted_byte}
+use Rattle.udsnorm.specs.Names.{quoted_byte}
 use Rattle.udsnorm.proofs.hints.push_bytes.Given as goal
 
 abbrev pub invariant-bytes : goal.invariant-bytes

@@ -11,7 +11,7 @@ use Rattle.udsnorm.proofs.identifiers.identifier.Goals as goal
 pub returns-in-3 : goal.returns-in-3
 unfolding identifier_of
 returns-in-3 c =
-    let each : list_all is_ascii_hexdigit c.args.text.now ≡ true = sym c.are_digits.ensures ∙ c.if-not-are_digits.false in
+    let each : list_all is_ascii_hexdigit c.args.text.now ≡ true = sym (c.are_digits.ensures ∙ ap (list_all is_ascii_hexdigit) c.as_bytes.ensures.value) ∙ c.if-not-are_digits.false in
     let long : length c.args.text.now ≡ 3 = c.in-3.is in
     let read = digits_are_read 16 c.args.text.now c.from_str_radix.result c.from_str_radix.ensures.value each (omega arith) (rw long (omega arith)) in
     let ok : c.ok.result ≡ Some (digits_value 16 c.args.text.now) = c.ok.ensures.value ∙ ap result_ok read in
@@ -21,7 +21,7 @@ returns-in-3 c =
 pub returns-in-8 : goal.returns-in-8
 unfolding identifier_of
 returns-in-8 c =
-    let each : list_all is_ascii_hexdigit c.args.text.now ≡ true = sym c.are_digits.ensures ∙ c.if-not-are_digits.false in
+    let each : list_all is_ascii_hexdigit c.args.text.now ≡ true = sym (c.are_digits.ensures ∙ ap (list_all is_ascii_hexdigit) c.as_bytes.ensures.value) ∙ c.if-not-are_digits.false in
     let long : length c.args.text.now ≡ 8 = c.in-8.is in
     let read = digits_are_read 32 c.args.text.now c.from_str_radix-in-8.result c.from_str_radix-in-8.ensures.value each (omega arith) (rw long (omega arith)) in
     let ok : c.ok-in-8.result ≡ Some (digits_value 16 c.args.text.now) = c.ok-in-8.ensures.value ∙ ap result_ok read in
