@@ -278,6 +278,30 @@ def foreign(cases, folder):
     hinted(cases, "compare --strict", ["compare", "--strict", "mine.log", "other.log"], folder, UNCLEAN, usual)
 
 
+def exchanged(cases, folder):
+    """A log of which tester and unit are exchanged: the tester sends no request and an answer, and the unit a request."""
+    request, answer = b"(1.000000) can0 7E0#0322F190\n", b"(1.010000) can0 7E8#0462F19041\n"
+    alive, alive_of_unit, refusal = b"(1.020000) can0 7E0#023E80\n", b"(1.020000) can0 7E8#023E80\n", b"(1.010000) can0 7E8#037F2231\n"
+    swapped = ["--tester", "7E8", "--unit", "7E0"]
+    told = "tester and unit look exchanged in {}: udsnorm list --tester 7E0 --unit 7E8{}"
+    for name, log, is_told in [
+        ("whole.log", VIN.read_bytes(), True), ("short.log", request + answer, True), ("refused.log", request + refusal, True),
+        ("requests.log", request, False), ("answers.log", answer, False), ("alive.log", request + answer + alive, True),
+        ("both.log", request + answer + b"(1.030000) can0 7E8#0322F190\n", False), ("strange.log", answer + alive, False),
+        ("kept.log", request + answer + alive_of_unit, True), ("-dash.log", request + answer, True),
+    ]:
+        Path(folder, name).write_bytes(log)
+        given = ["list", *swapped, "--", name] if name[0] == "-" else ["list", *swapped, name]
+        hinted(cases, f"exchanged sides in {name}", given, folder, 0, told.format(name, f" -- {name}" if name[0] == "-" else f" {name}") if is_told else None)
+        if name[0] != "-":
+            hinted(cases, f"the right sides in {name}", ["list", name], folder, 0, None)
+    for job in over_one_log(cases.program, "--tester"):
+        hinted(cases, f"{job} with exchanged sides", [job, *swapped, "short.log"], folder, 0, told.format("short.log", " short.log"))
+    hinted(cases, "exchanged sides in standard input", ["list", *swapped], folder, 0, told.format("standard input", ""), log=request + answer)
+    hinted(cases, "exchanged sides of a right log", ["compare", *swapped, "requests.log", "short.log"], folder, 1, told.format("short.log", " short.log"))
+    hinted(cases, "exchanged sides, strictly", ["list", "--strict", *swapped, "short.log"], folder, 0, told.format("short.log", " short.log"))
+
+
 def looks(cases, folder):
     """What a log looks like that is refused in its first line."""
     lines = VIN.read_bytes()
@@ -376,7 +400,7 @@ def main():
         sys.exit(__doc__)
     cases = Cases(os.path.abspath(sys.argv[1]))
     with tempfile.TemporaryDirectory() as folder:
-        for test in [files, denied, limits, names, words, values, awaited, pairs, foreign, looks, compressed, cut, drops, silent]:
+        for test in [files, denied, limits, names, words, values, awaited, pairs, foreign, exchanged, looks, compressed, cut, drops, silent]:
             test(cases, folder)
     cases.end()
 

@@ -1,6 +1,7 @@
 -- What is known of a log for a hint, by what a run over it came to.
 use Rattle.std.specs.Prelude.{◌≡◌, ◌⊎◌, ℕ, ◌==◌, nat_lt, Bool, List, length, take, Option, Some, None, Result, Ok, Err, if◌then◌else◌}
 use Rattle.trace_log.specs.Settings.{Settings}
+use Rattle.trace_log.specs.Summing.{looks_exchanged}
 use Rattle.trace_log.specs.declared.config.TheConstants.{LARGEST_LIMIT}
 use Rattle.trace_log.specs.declared.fault.CompareFault.{CompareFault}
 use Rattle.trace_log.specs.declared.fault.CompareFault.TheVariants.{Left, Right}
@@ -62,11 +63,13 @@ knows_no_pair summary taken =
 abbrev pub knows_dropped : ℕ → Option Known
 knows_dropped count = if nat_lt 0 count then knows First (matter.Dropped count) else None
 
--- What is known of this log by its counts: that it has no line, or no frame with one of the identifiers.
+-- What is known of this log by its counts: that it has no line, or no frame with one of the identifiers, or that these
+-- look exchanged.
 abbrev pub known_by_counts : Which → Settings → Summary → Option Known
 known_by_counts which settings summary =
     if summary.lines == 0 then knows which matter.Empty
     else if summary.frames == 0 then knows which (matter.Foreign settings.tester settings.unit)
+    else if looks_exchanged summary then knows which (matter.Exchanged settings.tester settings.unit)
     else None
 
 -- the one that is known, or else the other
