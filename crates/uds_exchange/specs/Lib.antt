@@ -1,4 +1,5 @@
 pub mod Meaning
+pub mod Exchanged
 pub mod Roles
 pub mod ItemSeen
 pub mod Difference
