@@ -20,3 +20,4 @@ mod LineOrder
 mod RowTargets
 mod Identifiers
 pub mod Harmless
+pub mod ToldAnswers
