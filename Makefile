@@ -137,7 +137,7 @@ wheel: build lib
 
 # How fast it is, beside other programs: a table, and no test.
 bench: build
-	@bench/run
+	@bench/whole-logs
 
 # The yardstick of bench/rival, built by cargo, writes what the program writes. No part of `test`, since it needs cargo.
 rival: build

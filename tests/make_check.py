@@ -78,6 +78,7 @@ APART = {
     "json_reading": UP_TO_CANON,
     "udsnorm_c": UP_TO_CANON,
     "layer_bench": ["uds_message", "uds_exchange"],
+    "session_bench": [*UP_TO_CANON, "trace_report"],
     "acceptance": [*UP_TO_CANON, "trace_report"],
     "refused_memory": [*UP_TO_CANON, "trace_report"],
 }

@@ -12,7 +12,7 @@
 //! ```
 //!
 //! Each prints its word and a number that every result goes into, so that no result can be left out.
-//! Without words each layer does a little work, of which the number is known. `bench/run` measures.
+//! Without words each layer does a little work, of which the number is known. `bench/layers` measures.
 #![tactic(auto)]
 
 mod line;
