@@ -10,8 +10,8 @@ use Rattle.can_log.specs.declared.frame.Id.{Id}
 use Rattle.can_log.specs.declared.frame.Kind.{Kind}
 use Rattle.can_log.specs.Frame.{IsFrame, IsIdentifier}
 use Rattle.can_log.proofs.SpelledBytes.{bytes_len}
-use Rattle.can_log.specs.Line.{spell_body, spell_line, identifier_of, frame_kind_of, data_of, bytes_spelled, IsRunOf, IsIdentifierText, IsDataText, IsBody, IsLineSpelling}
-use Rattle.can_log.specs.proving.Plain.{HavePlainWidths, IsStamp, AreDecimals, AreFlags, seconds_of, micros_of, most_digits, flags_spelled, digits_of, body_text, body_with, plain_text, spelling_of}
+use Rattle.can_log.specs.Line.{spell_body, spell_line, parts_in, stamped_of, LineMeans, IsLineText, identifier_of, frame_kind_of, data_of, bytes_spelled, IsRunOf, IsIdentifierText, IsDataText, IsBody, IsLineSpelling}
+use Rattle.can_log.specs.proving.Plain.{HavePlainWidths, IsStamp, AreDecimals, AreFlags, seconds_of, micros_of, most_digits, flags_spelled, digits_of, body_text, body_with, ending_text, end_text, line_text, plain_text, spelling_of, IsPlainReturn, IsPlainEnding}
 use Rattle.can_log.proofs.EachElement.{AllByRecursion-front, AllByRecursion-back}
 use Rattle.can_log.proofs.Spelling.{id_to}
 
@@ -24,21 +24,28 @@ pub eight_are : (digits : List ℕ) → IsRunOf is_ascii_hexdigit 0 16 digits �
 eight_are digits run eight = (record { each = run.each; enough = omega arith; few = omega arith }, inr eight)
 
 -- the body, with flags or without
-body_spelled : (flags : Option (Bor (List ℕ))) (digits : List ℕ) → flags_spelled flags ++ digits ≡ spell_body (body_with flags digits) ++ []
-body_spelled None digits = sym (append-nil (digits ++ []) ∙ append-nil digits)
-body_spelled (Some flags) digits = sym (append-nil (codes "#" ++ (flags.now ++ digits)))
+body_spelled : (flags : Option (Bor (List ℕ))) (digits : List ℕ) → flags_spelled flags ++ digits ≡ spell_body (body_with flags digits)
+body_spelled None digits = sym (append-nil digits)
+body_spelled (Some flags) digits = refl
 
 body_is : (flags : Option (Bor (List ℕ))) (digits : List ℕ) → AreFlags flags → IsDataText (most_digits flags) digits → IsBody (body_with flags digits)
 body_is None digits are text = text
 body_is (Some flags) digits are text = (are, text)
 
-pub text_is_spelled : (fields : Fields) → IsStamp fields.stamp.now → plain_text fields ≡ spell_line (spelling_of fields)
-unfolding body_text
+-- a text with a carriage return or without
+text_returned : (text returned : List ℕ) → IsPlainReturn returned → IsLineText text (text ++ returned)
+text_returned text returned (inl none) = inl (ap (λ (z : List ℕ). text ++ z) none ∙ append-nil text)
+text_returned text returned (inr cr) = inr (ap (λ (z : List ℕ). text ++ z) cr)
+
+pub text_is_spelled : (fields : Fields) → IsStamp fields.stamp.now → plain_text fields ≡ line_text fields
+unfolding body_text end_text
 text_is_spelled fields stamp =
-    let rest = λ (z : List ℕ). codes ") " ++ (fields.interface.now ++ (codes " " ++ (fields.identifier.now ++ (codes "#" ++ z)))) in
-    ap (λ (z : List ℕ). codes "(" ++ (fields.stamp.now ++ rest z)) (body_spelled fields.body.flags (digits_of fields.body))
-    ∙ ap (λ (z : List ℕ). codes "(" ++ (z ++ rest (spell_body (body_with fields.body.flags (digits_of fields.body)) ++ []))) stamp.point
-    ∙ ap (λ (z : List ℕ). codes "(" ++ z) (append_assoc (seconds_of fields.stamp.now) (codes "." ++ micros_of fields.stamp.now) _)
+    let rest = λ (z : List ℕ). codes ") " ++ (fields.interface.now ++ (codes " " ++ (fields.identifier.now ++ (codes "#" ++ (z ++ ending_text fields.ending))))) in
+    let body = body_spelled fields.body.flags (digits_of fields.body) in
+    let spelled = spell_body (body_with fields.body.flags (digits_of fields.body)) in
+    ap (λ (z : List ℕ). codes "(" ++ (fields.stamp.now ++ rest z)) body
+    ∙ ap (λ (z : List ℕ). codes "(" ++ (z ++ rest spelled)) stamp.point
+    ∙ simp append_assoc
 
 -- the stamp has decimal digits alone
 pub plain_is_line : (fields : Fields) → HavePlainWidths fields → AreDecimals (seconds_of fields.stamp.now ++ micros_of fields.stamp.now)
@@ -54,8 +61,13 @@ plain_is_line fields widths digits =
       second_gap = record { each = (refl, tt); enough = omega arith; few = omega arith };
       identifier = widths.identifier;
       body = body_is fields.body.flags (digits_of fields.body) widths.body.flags widths.body.digits;
-      mark = tt;
+      mark = widths.ending.mark;
     }
+
+-- what a line of plain form records
+pub plain_means : (fields : Fields) → IsPlainEnding fields.ending → IsLineSpelling (spelling_of fields)
+    → LineMeans (line_text fields) (Some (stamped_of (parts_in (spelling_of fields))))
+plain_means fields ending legal = (spelling_of fields, legal, text_returned (spell_line (spelling_of fields)) fields.ending.carriage_return.now ending.returned, refl)
 
 -- ---- the frame
 

@@ -11,11 +11,12 @@ use Rattle.can_log.specs.declared.scanner.Judgement.{Judgement}
 use Rattle.can_log.specs.declared.scanner.Judgement.TheVariants as judgement
 use Rattle.can_log.specs.declared.plain.Fields.{Fields}
 use Rattle.can_log.specs.Line.{LineMeans, IsNoLine, IsLineSpelling, spell_line, stamped_of, parts_in}
-use Rattle.can_log.specs.proving.Plain.{spelling_of}
+use Rattle.can_log.specs.proving.Plain.{spelling_of, line_text, IsPlainEnding}
 use Rattle.can_log.specs.Refused.{NoLineFeed, HasCompletion, IsRefusedPlace, IsUnfinishedAt}
 use Rattle.can_log.specs.Scanning.{Place, Standing, Scans, ScansFrom, Finishes, FinishesFrom}
 use Rattle.can_log.specs.proving.Judging.{Judged}
 use Rattle.can_log.proofs.LineFeeds.{at_feed, line_clean}
+use Rattle.can_log.proofs.PlainLines.{plain_means}
 use Rattle.can_log.proofs.RefusedPlaces.{place_extends, not_refused}
 
 abbrev stand : ℕ → List ℕ → ℕ → Option Place → Standing
@@ -40,13 +41,13 @@ scan_means lines taken line line2 refused piece front after used what e none par
 
 -- the same, of a line of plain form whose answer is what it records
 pub plain_scanned : (lines taken : ℕ) (line : List ℕ) (refused : Option Place) (piece rest : List ℕ) (fields : Fields) (answer : Scan)
-    → refused ≡ None → line ≡ [] → piece ≡ spell_line (spelling_of fields) ++ (codes "\n" ++ rest) → IsLineSpelling (spelling_of fields)
+    → refused ≡ None → line ≡ [] → piece ≡ line_text fields ++ (codes "\n" ++ rest) → IsPlainEnding fields.ending → IsLineSpelling (spelling_of fields)
     → answer ≡ scan.Line (length piece - length rest) (lines + 1) (Some (stamped_of (parts_in (spelling_of fields))))
     → Scans (stand lines line taken refused) piece answer (stand (lines + 1) line (taken + (length piece - length rest)) refused)
-plain_scanned lines taken line refused piece rest fields answer e none parts legal is =
-    let front = spell_line (spelling_of fields) in
+plain_scanned lines taken line refused piece rest fields answer e none parts ending legal is =
+    let front = line_text fields in
     let what = Some (stamped_of (parts_in (spelling_of fields))) in
-    let told : LineMeans front what = (spelling_of fields, legal, inl refl, refl) in
+    let told : LineMeans front what = plain_means fields ending legal in
     let means : LineMeans (line ++ front) what = subst (λ (z : List ℕ). LineMeans (z ++ front) what) (sym none) told in
     let whole = ap (λ (z : List ℕ). length z) parts ∙ length-append front (codes "\n" ++ rest) in
     let used : length piece - length rest ≡ length front + 1 = omega (arith, whole) in

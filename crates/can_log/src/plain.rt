@@ -5,7 +5,7 @@ ghost use Rattle.std.specs.Prelude.{◌≡◌, ◌≤◌, ◌+◌, ◌*◌, ◌+
 ghost use Rattle.std.specs.Str.Parse.{digits_value};
 ghost use Rattle.can_log.specs.Line.{parts_in, identifier_of, stamped_of, frame_kind_of, spell_line, IsLineSpelling, IsRunOf, IsIdentifierText, IsDataText};
 ghost use Rattle.can_log.specs.proving.FieldReader.{is_in};
-ghost use Rattle.can_log.specs.proving.Plain.{HavePlainWidths, AreDecimals, seconds_of, micros_of, IsPlainBody, AreFlags, digits_of, body_with, flags_spelled, most_digits, body_text, plain_text, spelling_of};
+ghost use Rattle.can_log.specs.proving.Plain.{HavePlainWidths, AreDecimals, IsStamp, seconds_of, micros_of, IsPlainBody, AreFlags, digits_of, body_with, flags_spelled, most_digits, body_text, end_text, line_text, plain_text, spelling_of, IsPlainEnding, ending_text, mark_text, IsPlainMark, IsPlainReturn};
 ghost use Rattle.can_log.specs.declared.field.Class.TheVariants.{Visible};
 
 use crate::frame::{Frame, Id, Kind, Stamped};
@@ -15,8 +15,8 @@ use crate::meaning::{decoded, identifier_of};
 use crate::stamp::{has_decimals, time_of};
 
 /// The longest line of plain form, without its line feed: a stamp of 20 bytes, 15 of the interface, a space, 8 digits of the
-/// identifier, `##`, the digit of the flags, and 128 of the data.
-pub(crate) const LONGEST_PLAIN: usize = 175;
+/// identifier, `##`, the digit of the flags, 128 of the data, a space, a mark, and a carriage return.
+pub(crate) const LONGEST_PLAIN: usize = 178;
 
 /// The longest line of a classic frame in plain form, and what else the lanes reach: a stamp of 20 bytes, 15 of the interface,
 /// a space, 8 digits of the identifier, `#`, 16 of the data, and a line feed.
@@ -38,6 +38,7 @@ pub(crate) struct Fields<'a> {
     /// The identifier, decoded where its digits are counted: there it is known how many they are.
     id: Id,
     body: PlainBody<'a>,
+    ending: PlainEnding<'a>,
 }
 
 /// What follows the identifier and its `#`.
@@ -51,13 +52,22 @@ struct PlainBody<'a> {
     behind: &'a [u8],
 }
 
+/// What follows the data, up to the line feed.
+#[derive(Clone, Copy)]
+struct PlainEnding<'a> {
+    /// `R` or `T`, after a space, or nothing.
+    mark: Option<&'a [u8]>,
+    /// A carriage return, or nothing.
+    carriage_return: &'a [u8],
+}
+
 /// The fields of the first line, if it is of plain form, and the bytes after its line feed. In plain form it is
 /// `(1700000000.000241) can0 7E0#031089D2AAAAAAAA` or `(1700000000.000241) can0 7E0##1031089D2`, with ten digits of seconds,
-/// gaps of one space, and an identifier of either format. `None` says no more than that the line has another form, or that
-/// the piece ends too near for the lanes.
+/// gaps of one space, and an identifier of either format. A mark may follow, and a carriage return. `None` says no more than
+/// that the line has another form, or that the piece ends too near for the lanes.
 #[inline(always)]
 pub(crate) fn plain_line(piece: &[u8]) -> Option<(Fields<'_>, &[u8])>
-    ensures line { IfSome result (λ x. piece.now ≡ spell_line (spelling_of x.0) ++ (codes "\n" ++ x.1.now)) }
+    ensures line { IfSome result (λ x. piece.now ≡ line_text x.0 ++ (codes "\n" ++ x.1.now)) }
     ensures legal { IfSome result (λ x. IsLineSpelling (spelling_of x.0)) }
     ensures widths { IfSome result (λ x. HavePlainWidths x.0) }
     ensures decimals { IfSome result (λ x. AreDecimals (seconds_of x.0.stamp.now ++ micros_of x.0.stamp.now)) }
@@ -153,10 +163,7 @@ fn fields_of(piece: &[u8]) -> Option<(Fields<'_>, &[u8])>
     let [b'(', rest @ ..] = piece else {
         return None;
     };
-    let (stamp, rest) = rest.split_at(17);
-    if stamp[10] != b'.' {
-        return None;
-    }
+    let (stamp, rest) = stamp_in_front(rest)?;
     let [b')', b' ', rest @ ..] = rest else {
         return None;
     };
@@ -168,15 +175,31 @@ fn fields_of(piece: &[u8]) -> Option<(Fields<'_>, &[u8])>
     let [b'#', rest @ ..] = rest else {
         return None;
     };
-    let (body, rest) = body_in_front(rest)?;
+    let (body, ending, rest) = end_in_front(rest)?;
     let fields = Fields {
         stamp,
         interface,
         identifier,
         id,
         body,
+        ending,
     };
     Some((fields, rest))
+}
+
+/// The stamp, as far as the places of its parts show it, and the bytes after it.
+#[inline(always)]
+fn stamp_in_front(bytes: &[u8]) -> Option<(&[u8], &[u8])>
+    requires { 17 ≤ length bytes.now }
+    ensures parts { IfSome result (λ x. bytes.now ≡ x.0.now ++ x.1.now) }
+    ensures stamp { IfSome result (λ x. IsStamp x.0.now) }
+    ensures length { IfSome result (λ x. length bytes.now ≡ 17 + length x.1.now) }
+{
+    let (stamp, rest) = bytes.split_at(17);
+    if stamp[10] != b'.' {
+        return None;
+    }
+    Some((stamp, rest))
 }
 
 /// The name of the interface, and the bytes after it.
@@ -216,25 +239,85 @@ fn identifier_in_front(bytes: &[u8]) -> Option<(&[u8], Id, &[u8])>
     }
 }
 
-/// The body of a line that ends after its data, and the bytes after its line feed.
+/// The body of a line, what follows its data, and the bytes after its line feed.
+#[tactic(auto, unfolding(crate::specs::proving::Plain::end_text))]
+#[inline(always)]
+fn end_in_front(bytes: &[u8]) -> Option<(PlainBody<'_>, PlainEnding<'_>, &[u8])>
+    requires { most_digits None + 15 ≤ length bytes.now }
+    ensures parts { IfSome result (λ x. bytes.now ≡ end_text x.0 x.1 ++ (codes "\n" ++ x.2.now)) }
+    ensures body { IfSome result (λ x. IsPlainBody x.0) }
+    ensures ending { IfSome result (λ x. IsPlainEnding x.1) }
+{
+    let (body, rest) = body_in_front(bytes)?;
+    let (ending, rest) = ending_in_front(rest)?;
+    Some((body, ending, rest))
+}
+
+/// The body of a line, and the bytes after its data.
 #[tactic(auto, unfolding(crate::specs::proving::Plain::body_text))]
 #[inline(always)]
 fn body_in_front(bytes: &[u8]) -> Option<(PlainBody<'_>, &[u8])>
     requires { most_digits None + 15 ≤ length bytes.now }
-    ensures parts { IfSome result (λ x. bytes.now ≡ body_text x.0 ++ (codes "\n" ++ x.1.now)) }
+    ensures parts { IfSome result (λ x. bytes.now ≡ body_text x.0 ++ x.1.now) }
     ensures legal { IfSome result (λ x. IsPlainBody x.0) }
 {
     let (flags, behind) = flags_in_front(bytes)?;
     let digits = digits_in_front(flags, behind)?;
-    if behind[digits] != b'\n' {
-        return None;
-    }
     let body = PlainBody {
         flags,
         digits,
         behind,
     };
-    Some((body, &behind[digits + 1..]))
+    Some((body, &behind[digits..]))
+}
+
+/// What stands before the line feed at the front, and the bytes after it. Most lines end at once.
+#[inline(always)]
+fn ending_in_front(bytes: &[u8]) -> Option<(PlainEnding<'_>, &[u8])>
+    ensures parts { IfSome result (λ x. bytes.now ≡ ending_text x.0 ++ (codes "\n" ++ x.1.now)) }
+    ensures legal { IfSome result (λ x. IsPlainEnding x.0) }
+{
+    if let [b'\n', rest @ ..] = bytes {
+        let ending = PlainEnding {
+            mark: None,
+            carriage_return: &bytes[..0],
+        };
+        return Some((ending, rest));
+    }
+    let (mark, behind) = mark_in_front(bytes);
+    let (carriage_return, rest) = return_in_front(behind);
+    let [b'\n', rest @ ..] = rest else {
+        return None;
+    };
+    let ending = PlainEnding {
+        mark,
+        carriage_return,
+    };
+    Some((ending, rest))
+}
+
+/// A mark after a space, if there is one, and the bytes after it.
+#[inline(always)]
+fn mark_in_front(bytes: &[u8]) -> (Option<&[u8]>, &[u8])
+    ensures parts { bytes.now ≡ mark_text result.0 ++ result.1.now }
+    ensures legal { IsPlainMark result.0 }
+{
+    match bytes {
+        [b' ', b'R' | b'T', rest @ ..] => (Some(&bytes[1..2]), rest),
+        _ => (None, bytes),
+    }
+}
+
+/// A carriage return, or nothing, and the bytes after it.
+#[inline(always)]
+fn return_in_front(bytes: &[u8]) -> (&[u8], &[u8])
+    ensures parts { bytes.now ≡ result.0.now ++ result.1.now }
+    ensures legal { IsPlainReturn result.0.now }
+{
+    match bytes {
+        [b'\r', ..] => bytes.split_at(1),
+        _ => bytes.split_at(0),
+    }
 }
 
 /// `#` and the digit of the flags, where an FD frame has them, and the bytes after them.

@@ -1,14 +1,15 @@
 -- A device of proof: the fields of a line of plain form, and the spelling that they make.
-use Rattle.std.specs.Prelude.{◌≡◌, ℕ, ◌≤◌, ◌==◌, if◌then◌else◌, Bool, List, [], ◌++◌, ◌+◌, length, take, drop, codes, IsTrue, Option, Some, None, ⊤}
+use Rattle.std.specs.Prelude.{◌≡◌, ℕ, ◌≤◌, ◌⊎◌, ◌==◌, if◌then◌else◌, Bool, List, [], ◌++◌, ◌+◌, length, take, drop, codes, IsTrue, Option, Some, None, ⊤}
 use Rattle.std.specs.List.{AllByRecursion}
 use Rattle.std.specs.Char.{is_ascii_digit, is_ascii_hexdigit}
 use Rattle.std.specs.Int.{trailing_zeros, w64}
 use Rattle.std.specs.Borrow.{Bor}
 use Rattle.can_log.specs.declared.plain.Fields.{Fields}
 use Rattle.can_log.specs.declared.plain.PlainBody.{PlainBody}
+use Rattle.can_log.specs.declared.plain.PlainEnding.{PlainEnding}
 use Rattle.can_log.specs.declared.field.Class.TheVariants.{Visible}
 use Rattle.can_log.specs.proving.FieldReader.{is_in}
-use Rattle.can_log.specs.Line.{LineSpelling, identifier_of, IsRunOf, IsIdentifierText, IsDataText, Body, classic, fd}
+use Rattle.can_log.specs.Line.{LineSpelling, identifier_of, spell_line, spell_mark, IsRunOf, IsIdentifierText, IsDataText, IsMark, Body, classic, fd}
 
 -- the most digits of data of a frame with flags, and of one without
 abbrev pub most_digits : Option (Bor (List ℕ)) → ℕ
@@ -45,6 +46,36 @@ abbrev pub body_with : Option (Bor (List ℕ)) → List ℕ → Body
 body_with None digits = classic digits None
 body_with (Some flags) digits = fd flags.now digits
 
+-- the mark after one space
+abbrev pub mark_with : Option (Bor (List ℕ)) → Option (List ℕ × List ℕ)
+mark_with None = None
+mark_with (Some mark) = Some (codes " ", mark.now)
+
+-- its bytes
+abbrev pub mark_text : Option (Bor (List ℕ)) → List ℕ
+mark_text mark = spell_mark (mark_with mark)
+
+-- it is one of a line
+abbrev pub IsPlainMark : Option (Bor (List ℕ)) → Type 0
+IsPlainMark mark = IsMark (mark_with mark)
+
+-- one carriage return, or nothing
+abbrev pub IsPlainReturn : List ℕ → Type 0
+IsPlainReturn bytes = (bytes ≡ []) ⊎ (bytes ≡ codes "\r")
+
+-- the bytes before the line feed
+abbrev pub ending_text : PlainEnding → List ℕ
+ending_text ending = mark_text ending.mark ++ ending.carriage_return.now
+
+-- they may stand there
+pub record IsPlainEnding (ending : PlainEnding) : Type 0 where
+  pub mark : IsPlainMark ending.mark
+  pub returned : IsPlainReturn ending.carriage_return.now
+
+-- the bytes after the `#` of the identifier
+unfoldable pub end_text : PlainBody → PlainEnding → List ℕ
+end_text body ending = body_text body ++ ending_text ending
+
 -- the digits of a stamp such as `1700000000.000241` before its point, and those after it
 abbrev pub seconds_of : List ℕ → List ℕ
 seconds_of stamp = take 10 stamp
@@ -61,7 +92,7 @@ pub record IsStamp (stamp : List ℕ) : Type 0 where
   pub long : length stamp ≡ 17
   pub point : stamp ≡ seconds_of stamp ++ (codes "." ++ micros_of stamp)
 
--- gaps of one space, and no mark
+-- gaps of one space
 abbrev pub spelling_of : Fields → LineSpelling
 spelling_of fields = record {
   seconds = seconds_of fields.stamp.now;
@@ -71,14 +102,18 @@ spelling_of fields = record {
   second_gap = codes " ";
   identifier = fields.identifier.now;
   body = body_with fields.body.flags (digits_of fields.body);
-  mark = None;
+  mark = mark_with fields.ending.mark;
 }
 
--- the bytes of the line
+-- the bytes of the line as the fields lie there
 abbrev pub plain_text : Fields → List ℕ
 plain_text fields =
     codes "(" ++ (fields.stamp.now ++ (codes ") " ++ (fields.interface.now ++ (codes " "
-    ++ (fields.identifier.now ++ (codes "#" ++ body_text fields.body))))))
+    ++ (fields.identifier.now ++ (codes "#" ++ end_text fields.body fields.ending))))))
+
+-- the bytes of the line as its parts spell them
+abbrev pub line_text : Fields → List ℕ
+line_text fields = spell_line (spelling_of fields) ++ fields.ending.carriage_return.now
 
 -- the fields that end where other bytes begin are legal, and the others have one width; the identifier is the one spelled
 pub record HavePlainWidths (fields : Fields) : Type 0 where
@@ -87,6 +122,7 @@ pub record HavePlainWidths (fields : Fields) : Type 0 where
   pub identifier : IsIdentifierText fields.identifier.now
   pub decoded : fields.id ≡ identifier_of fields.identifier.now
   pub body : IsPlainBody fields.body
+  pub ending : IsPlainEnding fields.ending
 
 -- n bytes at the front pass the test, at most sixteen
 abbrev pub IsFrontOf : (ℕ → Bool) → ℕ → List ℕ → Type 0

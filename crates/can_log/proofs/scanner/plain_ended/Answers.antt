@@ -1,7 +1,8 @@
 use Rattle.std.proofs.Common.{◌++◌, List, ℕ, Some, inl, refl, sym, subst, ◌∙◌, arith}
 use Rattle.can_log.specs.Line.{LineMeans, spell_line}
-use Rattle.can_log.specs.proving.Plain.{spelling_of}
+use Rattle.can_log.specs.proving.Plain.{line_text}
 use Rattle.can_log.proofs.LineFeeds.{line_clean, same_line}
+use Rattle.can_log.proofs.PlainLines.{plain_means}
 use Rattle.can_log.proofs.PaddedLines.{fed_behind}
 use Rattle.can_log.proofs.scanner.plain_ended.Goals as goal
 
@@ -10,9 +11,10 @@ returns c =
     let line = c.args.line.now in
     let bytes = c.args.bytes.now in
     let found = c.in_ok-fields in
-    let front = spell_line (spelling_of found.fields) in
+    let front = line_text found.fields in
     let what = Some c.plain_stamped.result in
-    let told : LineMeans front what = (spelling_of found.fields, found.ensures.legal, inl refl, c.plain_stamped.ensures) in
+    let told : LineMeans front what =
+    subst (λ s. LineMeans front (Some s)) (sym c.plain_stamped.ensures) (plain_means found.fields found.ensures.widths.ending found.ensures.legal) in
     let is = sym (fed_behind line bytes _ _ c.copy_from_slice.ensures.after c.copy_from_slice-2.ensures.after (omega arith)) ∙ found.ensures.line in
     let same = (same_line (line ++ bytes) _ front found.field-0-1.now c.requires (line_clean front what told) is).0 in
     subst (λ (z : List ℕ). LineMeans z what) (sym same) told

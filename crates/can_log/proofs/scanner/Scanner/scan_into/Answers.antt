@@ -10,5 +10,5 @@ returns-in-Some-plain_line c =
     let none : line ≡ [] = nil_of line c.is_empty.result c.is_empty.ensures c.if-is_empty.true in
     record {
       answer = rw (← c.self.view_is) (plain_scanned c.self.inside.lines c.self.inside.taken line _ c.args.piece.now found.rest.now found.fields c.answer_plain.new.answer
-          (none_seen _ c.self.inside.refused c.in_default.is) none found.ensures.line found.ensures.legal c.answer_plain.ensures);
+          (none_seen _ c.self.inside.refused c.in_default.is) none found.ensures.line found.ensures.widths.ending found.ensures.legal c.answer_plain.ensures);
     }

@@ -16,7 +16,7 @@ returns-then-not-has-clause-foreign c =
       not_first = λ same. not_had (c.has.ensures.1 (inl (c.plain_identifier-id.ensures ∙ same)));
       not_second = λ same. not_had (c.has.ensures.1 (inr (c.plain_identifier-id.ensures ∙ same)));
       scans = rw (← c.self.view_is) (plain_scanned c.self.inside.lines c.self.inside.taken line _ c.args.piece.now found.rest.now found.fields _
-          (none_seen _ c.self.inside.refused c.in_default.is) none found.ensures.line found.ensures.legal refl);
+          (none_seen _ c.self.inside.refused c.in_default.is) none found.ensures.line found.ensures.widths.ending found.ensures.legal refl);
     }
 
 pub returns-in-Some-plain_line-clause-answer : goal.returns-in-Some-plain_line-clause-answer
@@ -25,4 +25,4 @@ returns-in-Some-plain_line-clause-answer c =
     let line = c.self.inside.line.items in
     let none : line ≡ [] = nil_of line c.is_empty.result c.is_empty.ensures c.if-is_empty.true in
     rw (← c.self.view_is) (plain_scanned c.self.inside.lines c.self.inside.taken line _ c.args.piece.now found.rest.now found.fields c.answer_plain.new.answer
-    (none_seen _ c.self.inside.refused c.in_default.is) none found.ensures.line found.ensures.legal c.answer_plain.ensures)
+    (none_seen _ c.self.inside.refused c.in_default.is) none found.ensures.line found.ensures.widths.ending found.ensures.legal c.answer_plain.ensures)
