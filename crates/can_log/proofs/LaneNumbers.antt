@@ -1,16 +1,81 @@
 -- Sixteen decimal digits as the lanes of a vector, and the number that they spell.
-use Rattle.std.proofs.Common.{◌≡◌, ℕ, ◌+◌, ◌*◌, ◌<◌, ◌%◌, ◌++◌, List, [], ◌∷◌, length, sym, ◌∙◌, true, arith}
+use Prim.Native.Char.{code}
+use Prim.Native.Nat.{zero, suc}
+use Rattle.std.proofs.Common.{◌≡◌, ℕ, ◌+◌, ◌-◌, ◌*◌, ◌<◌, ◌≤◌, ◌%◌, ◌++◌, List, [], ◌∷◌, length, length-append, take, drop, replicate, append_assoc, refl, sym, ap, subst, ◌∙◌, true, arith}
+use Rattle.std.specs.Prelude.{codes}
+use Rattle.std.proofs.Math.Seq.{take-append_seam, drop-append_seam}
+use Rattle.std.proofs.lemmas.List.{append-nil, drop-replicate, take-replicate, length-replicate, length-take-le}
+use borrow.Rule.Slice.PartMut.{put_mid}
 use Rattle.std.specs.Char.{is_ascii_digit, digit_value}
 use Rattle.std.specs.Str.Parse.{digits_value}
 use Rattle.std.proofs.lemmas.Simd.{pick_l_whole}
-use Rattle.can_log.specs.proving.Plain.{AreDecimals, seconds_of, micros_of}
+use Rattle.can_log.specs.proving.Plain.{AreDecimals, IsStamp, seconds_of, micros_of, time_spelled}
 use Rattle.can_log.proofs.DigitValues.{digit_is}
-use Rattle.can_log.proofs.EachElement.{AllByRecursion-front, AllByRecursion-back}
+use Rattle.can_log.proofs.EachElement.{AllByRecursion-front, AllByRecursion-back, AllByRecursion-append, AllByRecursion-replicate}
 
 -- the digits before and after the point spell one number
 pub stamp_value : (stamp : List ℕ) → length stamp ≡ 17
     → digits_value 10 (seconds_of stamp ++ micros_of stamp) ≡ digits_value 10 (seconds_of stamp) * 1000000 + digits_value 10 (micros_of stamp)
 stamp_value stamp long = rw (sym (pick_l_whole 0 stamp 17 long)) (omega arith)
+
+-- zeros in front change no number
+zeros_first : (n : ℕ) (digits : List ℕ) → digits_value 10 (replicate n (code "0") ++ digits) ≡ digits_value 10 digits
+zeros_first zero digits = refl
+zeros_first (suc n) digits = zeros_first n digits
+
+-- a stamp laid behind zeros, as far as the end of the longest
+pub padded_by : (stamp laid : List ℕ) → length stamp ≤ 17 → laid ≡ stamp
+    → put_mid (17 - length stamp) (17 - (17 - length stamp)) (replicate 17 48) laid ≡ replicate (17 - length stamp) (code "0") ++ stamp
+padded_by stamp laid few is =
+    let k = 17 - length stamp in
+    let none : 17 - k - (17 - k) ≡ 0 = omega arith in
+    let behind : drop (17 - k) (drop k (replicate 17 48)) ≡ [] =
+    ap (drop (17 - k)) (drop-replicate k 17 48) ∙ drop-replicate (17 - k) (17 - k) 48 ∙ ap (λ (m : ℕ). replicate m 48) none
+    in
+    let front : take k (replicate 17 48) ≡ replicate k 48 = take-replicate k 17 48 (omega arith) in
+    (λ i. front i ++ (is i ++ behind i)) ∙ ap (λ (z : List ℕ). replicate k 48 ++ z) (append-nil stamp)
+
+-- a stamp with zeros in front, as long as the longest, has the same microseconds, and the zeros before the same seconds
+record IsPadded (stamp padded : List ℕ) : Type 0 where
+  pub seconds : seconds_of padded ≡ replicate (17 - length stamp) (code "0") ++ seconds_of stamp
+  pub micros : micros_of padded ≡ micros_of stamp
+
+padded_parts : (stamp padded : List ℕ) → IsStamp stamp → padded ≡ replicate (17 - length stamp) (code "0") ++ stamp → IsPadded stamp padded
+padded_parts stamp padded is filled =
+    let zeros = replicate (17 - length stamp) (code "0") in
+    let seconds = seconds_of stamp in
+    let micros = micros_of stamp in
+    let zeros_long : length zeros ≡ 17 - length stamp = length-replicate (17 - length stamp) (code "0") in
+    let seconds_long : length seconds ≡ length stamp - 7 = length-take-le (length stamp - 7) stamp (omega arith) in
+    let long : length padded ≡ 17 = ap (λ (l : List ℕ). length l) filled ∙ length-append zeros stamp ∙ omega (arith, zeros_long, is.longest) in
+    let whole : padded ≡ (zeros ++ seconds) ++ (code "." ∷ micros) =
+    filled ∙ ap (λ (l : List ℕ). zeros ++ l) is.point ∙ sym (append_assoc zeros seconds (code "." ∷ micros)) in
+    let first : length padded - 7 ≡ length (zeros ++ seconds) =
+    omega (arith, long, length-append zeros seconds, zeros_long, seconds_long, is.shortest, is.longest) in
+    let behind : length padded - 6 ≡ length ((zeros ++ seconds) ++ codes ".") =
+    omega (arith, long, length-append (zeros ++ seconds) (codes "."), length-append zeros seconds, zeros_long, seconds_long, is.shortest, is.longest) in
+    record {
+      seconds = ap (λ (k : ℕ). take k padded) first ∙ ap (take (length (zeros ++ seconds))) whole ∙ take-append_seam (zeros ++ seconds) (code "." ∷ micros);
+      micros = ap (λ (k : ℕ). drop k padded) behind ∙ ap (drop (length ((zeros ++ seconds) ++ codes "."))) (whole ∙ sym (append_assoc (zeros ++ seconds) (codes ".") micros))
+          ∙ drop-append_seam ((zeros ++ seconds) ++ codes ".") micros;
+    }
+
+pub padded_time_is : (stamp padded : List ℕ) → IsStamp stamp → padded ≡ replicate (17 - length stamp) (code "0") ++ stamp → time_spelled padded ≡ time_spelled stamp
+padded_time_is stamp padded is filled =
+    let parts = padded_parts stamp padded is filled in
+    let zeros = 17 - length stamp in
+    ap (λ (l : List ℕ). digits_value 10 l * 1000000 + digits_value 10 (micros_of padded)) parts.seconds
+    ∙ ap (λ (l : List ℕ). digits_value 10 (replicate zeros (code "0") ++ seconds_of stamp) * 1000000 + digits_value 10 l) parts.micros
+    ∙ ap (λ (n : ℕ). n * 1000000 + digits_value 10 (micros_of stamp)) (zeros_first zeros (seconds_of stamp))
+
+pub padded_decimals : (stamp padded : List ℕ) → IsStamp stamp → padded ≡ replicate (17 - length stamp) (code "0") ++ stamp → AreDecimals (seconds_of padded ++ micros_of padded)
+padded_decimals stamp padded is filled =
+    let parts = padded_parts stamp padded is filled in
+    let zeros = replicate (17 - length stamp) (code "0") in
+    let whole : seconds_of padded ++ micros_of padded ≡ zeros ++ (seconds_of stamp ++ micros_of stamp) =
+    ap (λ (l : List ℕ). l ++ micros_of padded) parts.seconds ∙ ap (λ (l : List ℕ). (zeros ++ seconds_of stamp) ++ l) parts.micros
+    ∙ append_assoc zeros (seconds_of stamp) (micros_of stamp) in
+    subst AreDecimals (sym whole) (AllByRecursion-append (λ b. is_ascii_digit b ≡ true) zeros (seconds_of stamp ++ micros_of stamp) (AllByRecursion-replicate (λ b. is_ascii_digit b ≡ true) (17 - length stamp) (code "0") refl) is.decimals)
 
 -- ---- the steps of the lanes
 

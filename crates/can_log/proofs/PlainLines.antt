@@ -1,9 +1,10 @@
 -- The fields of a line of plain form are those of a line, where each has bytes of its kind alone.
 use Prim.Native.Char.{code}
-use Rattle.std.proofs.Common.{◌≡◌, ℕ, ◌++◌, true, List, [], length, length-take, length-drop, append_assoc, Option, Some, None, refl, sym, ap, ◌∙◌, arith, inl, inr}
+use Rattle.std.proofs.Common.{◌≡◌, ℕ, suc, ◌+◌, ◌≤◌, ◌++◌, true, List, ◌∷◌, get_or, take, drop, length, length-take, length-drop, append_assoc, subst, Option, Some, None, refl, sym, ap, ◌∙◌, arith, ◌-◌, inl, inr}
 use Rattle.std.specs.Prelude.{codes, nat_lt, slice_index}
 use Rattle.std.specs.Borrow.{Bor}
-use Rattle.std.proofs.lemmas.List.{append-nil}
+use Rattle.std.proofs.Math.Seq.{drop-cons}
+use Rattle.std.proofs.lemmas.List.{append-nil, length-take-le, get_or-take, take-append-drop, take-take, drop-take}
 use Rattle.std.specs.Char.{is_ascii_digit, is_ascii_hexdigit}
 use Rattle.can_log.specs.declared.plain.Fields.{Fields}
 use Rattle.can_log.specs.declared.frame.Id.{Id}
@@ -11,8 +12,8 @@ use Rattle.can_log.specs.declared.frame.Kind.{Kind}
 use Rattle.can_log.specs.Frame.{IsFrame, IsIdentifier}
 use Rattle.can_log.proofs.SpelledBytes.{bytes_len}
 use Rattle.can_log.specs.Line.{spell_body, spell_line, parts_in, stamped_of, LineMeans, IsLineText, identifier_of, frame_kind_of, data_of, bytes_spelled, IsRunOf, IsIdentifierText, IsDataText, IsBody, IsLineSpelling}
-use Rattle.can_log.specs.proving.Plain.{HavePlainWidths, IsStamp, AreDecimals, AreFlags, seconds_of, micros_of, most_digits, flags_spelled, digits_of, body_text, body_with, ending_text, end_text, line_text, plain_text, spelling_of, IsPlainReturn, IsPlainEnding}
-use Rattle.can_log.proofs.EachElement.{AllByRecursion-front, AllByRecursion-back}
+use Rattle.can_log.specs.proving.Plain.{HavePlainWidths, IsStamp, AreDecimals, AreFlags, seconds_of, micros_of, most_digits, flags_spelled, digits_of, body_text, body_with, ending_text, end_text, plain_text, spelling_of, IsPlainReturn}
+use Rattle.can_log.proofs.EachElement.{AllByRecursion-front, AllByRecursion-back, AllByRecursion-append}
 use Rattle.can_log.proofs.Spelling.{id_to}
 
 -- three digits, of which the first is below 8
@@ -32,12 +33,47 @@ body_is : (flags : Option (Bor (List ℕ))) (digits : List ℕ) → AreFlags fla
 body_is None digits are text = text
 body_is (Some flags) digits are text = (are, text)
 
+-- a point among seven bytes and more, with digits before it and after it, makes a stamp
+pub stamp_is : (stamp : List ℕ) (n : ℕ) → length stamp ≡ n + 7 → 1 ≤ n → n ≤ 10 → get_or stamp n 0 ≡ code "."
+    → AreDecimals (take n stamp ++ drop (suc n) stamp) → IsStamp stamp
+stamp_is stamp n long some few point digits =
+    let first : n ≡ length stamp - 7 = omega (arith, long) in
+    let second : suc n ≡ length stamp - 6 = omega (arith, long) in
+    let behind : drop n stamp ≡ code "." ∷ drop (suc n) stamp =
+    drop-cons stamp n 0 (omega (arith, long)) ∙ ap (λ (b : ℕ). b ∷ drop (suc n) stamp) point
+    in
+    record {
+      shortest = omega (arith, long);
+      longest = omega (arith, long);
+      point = sym (take-append-drop n stamp) ∙ ap (λ (z : List ℕ). take n stamp ++ z) behind
+          ∙ ap (λ (k : ℕ). take k stamp ++ (code "." ∷ drop (suc n) stamp)) first
+          ∙ ap (λ (k : ℕ). take (length stamp - 7) stamp ++ (code "." ∷ drop k stamp)) second;
+      decimals = subst (λ (k : ℕ). AreDecimals (take k stamp ++ drop (length stamp - 6) stamp)) first
+          (subst (λ (k : ℕ). AreDecimals (take n stamp ++ drop k stamp)) second digits);
+    }
+
+-- the same, of the front of some bytes, whose digits are counted before the point and after it
+pub stamp_cut : (bytes stamp : List ℕ) (n : ℕ) → stamp ≡ take (n + 7) bytes → 1 ≤ n → n ≤ 10 → n + 7 ≤ length bytes → get_or bytes n 0 ≡ code "."
+    → AreDecimals (take n bytes) → AreDecimals (take 6 (drop (n + 1) bytes)) → IsStamp stamp
+stamp_cut bytes stamp n is some few room point before after =
+    let long : length stamp ≡ n + 7 = ap (λ (l : List ℕ). length l) is ∙ length-take-le (n + 7) bytes room in
+    let there : get_or stamp n 0 ≡ code "." = ap (λ (l : List ℕ). get_or l n 0) is ∙ get_or-take (n + 7) bytes n 0 (omega arith) ∙ point in
+    let front : take n stamp ≡ take n bytes = ap (take n) is ∙ take-take n (n + 7) bytes (omega arith) in
+    let whole : n + 7 ≡ (n + 1) + 6 = omega arith in
+    let next : suc n ≡ n + 1 = omega arith in
+    let back : drop (suc n) stamp ≡ take 6 (drop (n + 1) bytes) =
+    ap (λ (k : ℕ). drop k stamp) next ∙ ap (drop (n + 1)) (is ∙ ap (λ (k : ℕ). take k bytes) whole) ∙ drop-take (n + 1) 6 bytes
+    in
+    let digits = AllByRecursion-append (λ b. is_ascii_digit b ≡ true) (take n bytes) (take 6 (drop (n + 1) bytes)) before after in
+    stamp_is stamp n long some few there (subst AreDecimals (sym (λ i. front i ++ back i)) digits)
+
 -- a text with a carriage return or without
 text_returned : (text returned : List ℕ) → IsPlainReturn returned → IsLineText text (text ++ returned)
 text_returned text returned (inl none) = inl (ap (λ (z : List ℕ). text ++ z) none ∙ append-nil text)
 text_returned text returned (inr cr) = inr (ap (λ (z : List ℕ). text ++ z) cr)
 
-pub text_is_spelled : (fields : Fields) → IsStamp fields.stamp.now → plain_text fields ≡ line_text fields
+-- the bytes of the line are its parts as they are spelled, and a carriage return or nothing
+text_is_spelled : (fields : Fields) → IsStamp fields.stamp.now → plain_text fields ≡ spell_line (spelling_of fields) ++ fields.ending.carriage_return.now
 unfolding body_text end_text
 text_is_spelled fields stamp =
     let rest = λ (z : List ℕ). codes ") " ++ (fields.interface.now ++ (codes " " ++ (fields.identifier.now ++ (codes "#" ++ (z ++ ending_text fields.ending))))) in
@@ -47,15 +83,15 @@ text_is_spelled fields stamp =
     ∙ ap (λ (z : List ℕ). codes "(" ++ (z ++ rest spelled)) stamp.point
     ∙ simp append_assoc
 
--- the stamp has decimal digits alone
-pub plain_is_line : (fields : Fields) → HavePlainWidths fields → AreDecimals (seconds_of fields.stamp.now ++ micros_of fields.stamp.now)
-    → IsLineSpelling (spelling_of fields)
-plain_is_line fields widths digits =
+-- the fields of plain form are those of a line
+plain_is_line : (fields : Fields) → HavePlainWidths fields → IsLineSpelling (spelling_of fields)
+plain_is_line fields widths =
     let stamp = fields.stamp.now in
+    let digits = widths.stamp.decimals in
     let decimal : ℕ → Type 0 = λ b. is_ascii_digit b ≡ true in
     record {
-      seconds = record { each = AllByRecursion-front decimal (seconds_of stamp) (micros_of stamp) digits; enough = omega (arith, widths.stamp.long, length-take 10 stamp); few = omega (arith, length-take 10 stamp) };
-      micros = record { each = AllByRecursion-back decimal (seconds_of stamp) (micros_of stamp) digits; enough = omega (arith, widths.stamp.long, length-drop 11 stamp); few = omega (arith, widths.stamp.long, length-drop 11 stamp) };
+      seconds = record { each = AllByRecursion-front decimal (seconds_of stamp) (micros_of stamp) digits; enough = omega (arith, widths.stamp.shortest, length-take (length stamp - 7) stamp); few = omega (arith, widths.stamp.longest, length-take (length stamp - 7) stamp) };
+      micros = record { each = AllByRecursion-back decimal (seconds_of stamp) (micros_of stamp) digits; enough = omega (arith, widths.stamp.shortest, length-drop (length stamp - 6) stamp); few = omega (arith, widths.stamp.shortest, length-drop (length stamp - 6) stamp) };
       gap = record { each = (refl, tt); enough = omega arith; few = omega arith };
       interface = widths.interface;
       second_gap = record { each = (refl, tt); enough = omega arith; few = omega arith };
@@ -65,9 +101,11 @@ plain_is_line fields widths digits =
     }
 
 -- what a line of plain form records
-pub plain_means : (fields : Fields) → IsPlainEnding fields.ending → IsLineSpelling (spelling_of fields)
-    → LineMeans (line_text fields) (Some (stamped_of (parts_in (spelling_of fields))))
-plain_means fields ending legal = (spelling_of fields, legal, text_returned (spell_line (spelling_of fields)) fields.ending.carriage_return.now ending.returned, refl)
+pub plain_means : (fields : Fields) → HavePlainWidths fields → LineMeans (plain_text fields) (Some (stamped_of (parts_in (spelling_of fields))))
+plain_means fields widths =
+    let text = spell_line (spelling_of fields) in
+    let returned = text_returned text fields.ending.carriage_return.now widths.ending.returned in
+    (spelling_of fields, plain_is_line fields widths, subst (IsLineText text) (sym (text_is_spelled fields widths.stamp)) returned, refl)
 
 -- ---- the frame
 

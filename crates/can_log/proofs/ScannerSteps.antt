@@ -1,8 +1,8 @@
 -- What a scanner answers on a piece, and at the end, and how it stands then.
 use Prim.Native.Char.{code}
-use Rattle.std.proofs.Common.{◌≡◌, ℕ, suc, ◌+◌, ◌-◌, ◌<◌, true, sym, ap, subst, ◌∙◌, refl, arith, inl, length-append}
+use Rattle.std.proofs.Common.{◌≡◌, ℕ, suc, ◌+◌, ◌-◌, ◌<◌, Bool, true, false, sym, ap, subst, ◌∙◌, refl, arith, length-append}
 use Rattle.std.proofs.Common.{List, [], ◌∷◌, ◌++◌, length, get_or, take, drop, append_assoc, Option, Some, None}
-use Rattle.std.specs.Prelude.{◌==◌, option_map, codes}
+use Rattle.std.specs.Prelude.{◌==◌, option_map, is_some, codes}
 use Rattle.std.proofs.lemmas.List.{length-take-le}
 use Rattle.can_log.specs.declared.frame.Stamped.{Stamped}
 use Rattle.can_log.specs.declared.scanner.Scan.{Scan}
@@ -10,10 +10,12 @@ use Rattle.can_log.specs.declared.scanner.Scan.TheVariants as scan
 use Rattle.can_log.specs.declared.scanner.Judgement.{Judgement}
 use Rattle.can_log.specs.declared.scanner.Judgement.TheVariants as judgement
 use Rattle.can_log.specs.declared.plain.Fields.{Fields}
-use Rattle.can_log.specs.Line.{LineMeans, IsNoLine, IsLineSpelling, spell_line, stamped_of, parts_in}
-use Rattle.can_log.specs.proving.Plain.{spelling_of, line_text, IsPlainEnding}
+use Rattle.can_log.specs.declared.frame.Id.{Id}
+use Rattle.can_log.specs.Line.{LineMeans, IsNoLine, identifier_of, stamped_of, parts_in}
+use Rattle.can_log.specs.proving.Plain.{HavePlainWidths, spelling_of, plain_text}
+use Rattle.can_log.specs.proving.Taking.{TakesPlain}
 use Rattle.can_log.specs.Refused.{NoLineFeed, HasCompletion, IsRefusedPlace, IsUnfinishedAt}
-use Rattle.can_log.specs.Scanning.{Place, Standing, Scans, ScansFrom, Finishes, FinishesFrom}
+use Rattle.can_log.specs.Scanning.{Place, Standing, Scans, ScansFrom, ScansForeign, Finishes, FinishesFrom}
 use Rattle.can_log.specs.proving.Judging.{Judged}
 use Rattle.can_log.proofs.LineFeeds.{at_feed, line_clean}
 use Rattle.can_log.proofs.PlainLines.{plain_means}
@@ -29,6 +31,11 @@ place line column = record { line = line; column = column }
 pub none_seen : {P : Type 0} (see : P → Place) (o : Option P) → o ≡ None → option_map see o ≡ None
 none_seen see o e = ap (option_map see) e
 
+-- an option that was found to have no value
+pub none_of : {P : Type 0} (o : Option P) (some : Bool) → some ≡ is_some o → some ≡ false → o ≡ None
+none_of None some e without = refl
+none_of (Some p) some e without = absurd (cc)
+
 -- ---- on a piece
 
 pub scan_means : (lines taken : ℕ) (line line2 : List ℕ) (refused : Option Place) (piece front after : List ℕ) (used : ℕ) (what : Option Stamped)
@@ -39,20 +46,39 @@ scan_means lines taken line line2 refused piece front after used what e none par
     subst (λ (r : Option Place). Scans (stand lines line taken r) piece (scan.Line used (lines + 1) what) (stand (lines + 1) line2 (taken + used) r)) (sym e)
     (front, after, parts, clean, long, refl, means, stands)
 
--- the same, of a line of plain form whose answer is what it records
-pub plain_scanned : (lines taken : ℕ) (line : List ℕ) (refused : Option Place) (piece rest : List ℕ) (fields : Fields) (answer : Scan)
-    → refused ≡ None → line ≡ [] → piece ≡ line_text fields ++ (codes "\n" ++ rest) → IsPlainEnding fields.ending → IsLineSpelling (spelling_of fields)
-    → answer ≡ scan.Line (length piece - length rest) (lines + 1) (Some (stamped_of (parts_in (spelling_of fields))))
-    → Scans (stand lines line taken refused) piece answer (stand (lines + 1) line (taken + (length piece - length rest)) refused)
-plain_scanned lines taken line refused piece rest fields answer e none parts ending legal is =
-    let front = line_text fields in
+-- the same, of a line of plain form
+pub plain_taken : (lines taken : ℕ) (line : List ℕ) (refused : Option Place) (piece rest : List ℕ) (fields : Fields)
+    → refused ≡ None → line ≡ [] → piece ≡ plain_text fields ++ (codes "\n" ++ rest) → HavePlainWidths fields
+    → TakesPlain (stand lines line taken refused) piece fields (length piece - length rest) (stand (lines + 1) line (taken + (length piece - length rest)) refused)
+plain_taken lines taken line refused piece rest fields e none parts widths =
+    let front = plain_text fields in
     let what = Some (stamped_of (parts_in (spelling_of fields))) in
-    let told : LineMeans front what = plain_means fields ending legal in
+    let told : LineMeans front what = plain_means fields widths in
     let means : LineMeans (line ++ front) what = subst (λ (z : List ℕ). LineMeans (z ++ front) what) (sym none) told in
     let whole = ap (λ (z : List ℕ). length z) parts ∙ length-append front (codes "\n" ++ rest) in
     let used : length piece - length rest ≡ length front + 1 = omega (arith, whole) in
-    subst (λ (a : Scan). Scans (stand lines line taken refused) piece a (stand (lines + 1) line (taken + (length piece - length rest)) refused)) (sym is)
-    (scan_means lines taken line line refused piece front rest (length piece - length rest) what e none parts used (line_clean front what told) means)
+    record {
+      widths = widths;
+      counted = refl;
+      scans = scan_means lines taken line line refused piece front rest (length piece - length rest) what e none parts used (line_clean front what told) means;
+    }
+
+-- its frame is of neither wanted identifier
+pub taken_foreign : {first second : Id} {old new : Standing} {piece : List ℕ} {fields : Fields} {used : ℕ} → TakesPlain old piece fields used new
+    → (identifier_of fields.identifier.now ≡ first → ⊥) → (identifier_of fields.identifier.now ≡ second → ⊥) → ScansForeign first second old piece used new
+taken_foreign {fields = fields} takes not_first not_second = record {
+  stamped = stamped_of (parts_in (spelling_of fields));
+  not_first = not_first;
+  not_second = not_second;
+  scans = takes.scans;
+}
+
+-- it is answered
+pub taken_answered : {old new : Standing} {piece : List ℕ} {fields : Fields} {used : ℕ} (answer : Scan) → TakesPlain old piece fields used new
+    → answer ≡ scan.Line used new.lines (Some (stamped_of (parts_in (spelling_of fields)))) → Scans old piece answer new
+taken_answered {old = old} {new = new} {piece = piece} {fields = fields} {used = used} answer takes is =
+    let what = Some (stamped_of (parts_in (spelling_of fields))) in
+    subst (λ (a : Scan). Scans old piece a new) (sym (is ∙ ap (λ (n : ℕ). scan.Line used n what) takes.counted)) takes.scans
 
 -- the same, of the first line feed at a place
 pub scan_means_at : (lines taken : ℕ) (line line2 : List ℕ) (refused : Option Place) (piece : List ℕ) (at : ℕ) (what : Option Stamped)

@@ -4,3 +4,4 @@ pub mod LineReader
 pub mod Views
 pub mod Plain
 pub mod Judging
+pub mod Taking

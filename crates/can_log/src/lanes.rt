@@ -1,7 +1,7 @@
 //! Bytes of one class at the front of others, by lanes: sixteen bytes are tested at once, each in a lane of a vector.
 
 ghost use Rattle.std.specs.Prelude.{◌≡◌, ◌≤◌, ◌%◌, length, take};
-ghost use Rattle.std.specs.Char.{is_ascii_hexdigit};
+ghost use Rattle.std.specs.Char.{is_ascii_digit, is_ascii_hexdigit};
 ghost use Rattle.can_log.specs.Line.{IsRunOf};
 ghost use Rattle.can_log.specs.proving.FieldReader.{is_in};
 ghost use Rattle.can_log.specs.proving.Plain.{IsFrontOf, first_set};
@@ -20,6 +20,17 @@ pub(crate) fn visible_front(bytes: &[u8]) -> usize
 {
     let lanes = u8x16::from_slice(bytes);
     let stops = (lanes - u8x16::splat(b'!')).simd_gt(u8x16::splat(b'~' - b'!'));
+    first_set(stops.to_bitmask())
+}
+
+/// How many bytes at the front are decimal digits, of sixteen.
+#[inline(always)]
+pub(crate) fn decimal_front(bytes: &[u8]) -> usize
+    requires { LANES ≤ length bytes.now }
+    ensures { IsFrontOf is_ascii_digit result bytes.now }
+{
+    let lanes = u8x16::from_slice(bytes);
+    let stops = (lanes - u8x16::splat(b'0')).simd_gt(u8x16::splat(9));
     first_set(stops.to_bitmask())
 }
 

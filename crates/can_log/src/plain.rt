@@ -2,17 +2,16 @@
 //! line is judged as a whole, sixteen bytes at a time, and its end is found from that of its data.
 
 ghost use Rattle.std.specs.Prelude.{◌≡◌, ◌≤◌, ◌+◌, ◌*◌, ◌++◌, IfSome, None, codes, length, take};
-ghost use Rattle.std.specs.Str.Parse.{digits_value};
-ghost use Rattle.can_log.specs.Line.{parts_in, identifier_of, stamped_of, frame_kind_of, spell_line, IsLineSpelling, IsRunOf, IsIdentifierText, IsDataText};
+ghost use Rattle.can_log.specs.Line.{parts_in, identifier_of, stamped_of, frame_kind_of, IsRunOf, IsIdentifierText, IsDataText};
 ghost use Rattle.can_log.specs.proving.FieldReader.{is_in};
-ghost use Rattle.can_log.specs.proving.Plain.{HavePlainWidths, AreDecimals, IsStamp, seconds_of, micros_of, IsPlainBody, AreFlags, digits_of, body_with, flags_spelled, most_digits, body_text, end_text, line_text, plain_text, spelling_of, IsPlainEnding, ending_text, mark_text, IsPlainMark, IsPlainReturn};
+ghost use Rattle.can_log.specs.proving.Plain.{HavePlainWidths, IsStamp, time_spelled, IsPlainBody, AreFlags, digits_of, body_with, flags_spelled, most_digits, body_text, end_text, plain_text, spelling_of, IsPlainEnding, ending_text, mark_text, IsPlainMark, IsPlainReturn};
 ghost use Rattle.can_log.specs.declared.field.Class.TheVariants.{Visible};
 
 use crate::frame::{Frame, Id, Kind, Stamped};
 use crate::hexadecimal::is_hex_digit;
-use crate::lanes::{LANES, hex_front, hex_run, visible_front};
+use crate::lanes::{LANES, decimal_front, hex_front, hex_run, visible_front};
 use crate::meaning::{decoded, identifier_of};
-use crate::stamp::{has_decimals, time_of};
+use crate::stamp::{LONGEST_STAMP, has_decimals, padded_time_of, time_of};
 
 /// The longest line of plain form, without its line feed: a stamp of 20 bytes, 15 of the interface, a space, 8 digits of the
 /// identifier, `##`, the digit of the flags, 128 of the data, a space, a mark, and a carriage return.
@@ -31,7 +30,7 @@ const LONGEST_INTERFACE: usize = 15;
 /// The fields of a line by their places, of which the identifier alone is decoded.
 #[derive(Clone, Copy)]
 pub(crate) struct Fields<'a> {
-    /// Ten digits of seconds, a point, and six digits of microseconds.
+    /// One to ten digits of seconds, a point, and six digits of microseconds.
     stamp: &'a [u8],
     interface: &'a [u8],
     identifier: &'a [u8],
@@ -62,20 +61,41 @@ struct PlainEnding<'a> {
 }
 
 /// The fields of the first line, if it is of plain form, and the bytes after its line feed. In plain form it is
-/// `(1700000000.000241) can0 7E0#031089D2AAAAAAAA` or `(1700000000.000241) can0 7E0##1031089D2`, with ten digits of seconds,
-/// gaps of one space, and an identifier of either format. A mark may follow, and a carriage return. `None` says no more than
-/// that the line has another form, or that the piece ends too near for the lanes.
+/// `(1700000000.000241) can0 7E0#031089D2AAAAAAAA` or `(1700000000.000241) can0 7E0##1031089D2`, with ten digits of seconds, or,
+/// where not `IS_LONG`, with one to nine; with gaps of one space, and an identifier of either format. A mark may follow, and a
+/// carriage return. `None` says no more than that the line has another form, or that the piece ends too near for the lanes.
 #[inline(always)]
-pub(crate) fn plain_line(piece: &[u8]) -> Option<(Fields<'_>, &[u8])>
-    ensures line { IfSome result (λ x. piece.now ≡ line_text x.0 ++ (codes "\n" ++ x.1.now)) }
-    ensures legal { IfSome result (λ x. IsLineSpelling (spelling_of x.0)) }
+pub(crate) fn plain_line<const IS_LONG: bool>(piece: &[u8]) -> Option<(Fields<'_>, &[u8])>
+    ensures line { IfSome result (λ x. piece.now ≡ plain_text x.0 ++ (codes "\n" ++ x.1.now)) }
     ensures widths { IfSome result (λ x. HavePlainWidths x.0) }
-    ensures decimals { IfSome result (λ x. AreDecimals (seconds_of x.0.stamp.now ++ micros_of x.0.stamp.now)) }
 {
-    let (fields, rest) = fields_of(piece)?;
-    if !has_decimals(fields.stamp) {
+    if piece.len() < ROOM_OF_CLASSIC {
         return None;
     }
+    let [b'(', rest @ ..] = piece else {
+        return None;
+    };
+    let (stamp, rest) = stamp_in_front::<IS_LONG>(rest)?;
+    let [b')', b' ', rest @ ..] = rest else {
+        return None;
+    };
+    let (interface, rest) = interface_in_front(rest)?;
+    let [b' ', rest @ ..] = rest else {
+        return None;
+    };
+    let (identifier, id, rest) = identifier_in_front(rest)?;
+    let [b'#', rest @ ..] = rest else {
+        return None;
+    };
+    let (body, ending, rest) = end_in_front(rest)?;
+    let fields = Fields {
+        stamp,
+        interface,
+        identifier,
+        id,
+        body,
+        ending,
+    };
     Some((fields, rest))
 }
 
@@ -104,7 +124,6 @@ pub(crate) fn plain_identifier(fields: Fields<'_>) -> Id
 pub(crate) fn plain_stamped(fields: Fields<'_>, id: Id) -> Stamped
     requires widths { HavePlainWidths fields }
     requires identifier { id ≡ identifier_of fields.identifier.now }
-    requires decimals { AreDecimals (seconds_of fields.stamp.now ++ micros_of fields.stamp.now) }
     ensures { result ≡ stamped_of (parts_in (spelling_of fields.entry)) }
 {
     let data = decoded(plain_digits(fields));
@@ -120,7 +139,6 @@ pub(crate) fn plain_stamped(fields: Fields<'_>, id: Id) -> Stamped
 pub(crate) fn put_plain_stamped(fields: Fields<'_>, id: Id, stamped: &mut Stamped)
     requires widths { HavePlainWidths fields }
     requires identifier { id ≡ identifier_of fields.identifier.now }
-    requires decimals { AreDecimals (seconds_of fields.stamp.now ++ micros_of fields.stamp.now) }
     requires size { length (digits_of fields.body) ≡ 2 * length stamped.old.frame.bytes }
     ensures { stamped.new ≡ stamped_of (parts_in (spelling_of fields.entry)) }
 {
@@ -133,11 +151,14 @@ pub(crate) fn put_plain_stamped(fields: Fields<'_>, id: Id, stamped: &mut Stampe
 /// The time of a line with these fields, in microseconds.
 #[inline(always)]
 pub(crate) fn plain_time(fields: Fields<'_>) -> u64
-    requires widths { HavePlainWidths fields }
-    requires decimals { AreDecimals (seconds_of fields.stamp.now ++ micros_of fields.stamp.now) }
-    ensures { result ≡ digits_value 10 (seconds_of fields.entry.stamp.now) * 1000000 + digits_value 10 (micros_of fields.entry.stamp.now) }
+    requires { HavePlainWidths fields }
+    ensures { result ≡ time_spelled fields.entry.stamp.now }
 {
-    time_of(fields.stamp)
+    if fields.stamp.len() == LONGEST_STAMP {
+        time_of(fields.stamp)
+    } else {
+        padded_time_of(fields.stamp)
+    }
 }
 
 /// The kind of the frame: an FD frame has flags.
@@ -151,55 +172,52 @@ pub(crate) fn plain_kind(fields: Fields<'_>) -> Kind
     }
 }
 
-/// The fields of the first line, where the bytes between them are those of the plain form, and the bytes after the line.
+/// The stamp, with ten digits of seconds or with fewer, and the bytes after it.
 #[inline(always)]
-fn fields_of(piece: &[u8]) -> Option<(Fields<'_>, &[u8])>
-    ensures line { IfSome result (λ x. piece.now ≡ plain_text x.0 ++ (codes "\n" ++ x.1.now)) }
-    ensures widths { IfSome result (λ x. HavePlainWidths x.0) }
-{
-    if piece.len() < ROOM_OF_CLASSIC {
-        return None;
-    }
-    let [b'(', rest @ ..] = piece else {
-        return None;
-    };
-    let (stamp, rest) = stamp_in_front(rest)?;
-    let [b')', b' ', rest @ ..] = rest else {
-        return None;
-    };
-    let (interface, rest) = interface_in_front(rest)?;
-    let [b' ', rest @ ..] = rest else {
-        return None;
-    };
-    let (identifier, id, rest) = identifier_in_front(rest)?;
-    let [b'#', rest @ ..] = rest else {
-        return None;
-    };
-    let (body, ending, rest) = end_in_front(rest)?;
-    let fields = Fields {
-        stamp,
-        interface,
-        identifier,
-        id,
-        body,
-        ending,
-    };
-    Some((fields, rest))
-}
-
-/// The stamp, as far as the places of its parts show it, and the bytes after it.
-#[inline(always)]
-fn stamp_in_front(bytes: &[u8]) -> Option<(&[u8], &[u8])>
-    requires { 17 ≤ length bytes.now }
+fn stamp_in_front<const IS_LONG: bool>(bytes: &[u8]) -> Option<(&[u8], &[u8])>
+    requires { 10 + LANES ≤ length bytes.now }
     ensures parts { IfSome result (λ x. bytes.now ≡ x.0.now ++ x.1.now) }
     ensures stamp { IfSome result (λ x. IsStamp x.0.now) }
-    ensures length { IfSome result (λ x. length bytes.now ≡ 17 + length x.1.now) }
+    ensures length { IfSome result (λ x. length bytes.now ≤ 17 + length x.1.now) }
 {
-    let (stamp, rest) = bytes.split_at(17);
-    if stamp[10] != b'.' {
+    if IS_LONG {
+        long_stamp_in_front(bytes)
+    } else {
+        short_stamp_in_front(bytes)
+    }
+}
+
+/// A stamp with ten digits of seconds, as those of most logs have: each of its parts has its place.
+#[inline(always)]
+fn long_stamp_in_front(bytes: &[u8]) -> Option<(&[u8], &[u8])>
+    requires { LONGEST_STAMP ≤ length bytes.now }
+    ensures parts { IfSome result (λ x. bytes.now ≡ x.0.now ++ x.1.now) }
+    ensures stamp { IfSome result (λ x. IsStamp x.0.now) }
+    ensures length { IfSome result (λ x. length bytes.now ≤ 17 + length x.1.now) }
+{
+    let (stamp, rest) = bytes.split_at(LONGEST_STAMP);
+    if stamp[10] != b'.' || !has_decimals(stamp) {
         return None;
     }
     Some((stamp, rest))
+}
+
+/// A stamp with one to nine digits of seconds. Its point is where they end.
+#[inline(always)]
+fn short_stamp_in_front(bytes: &[u8]) -> Option<(&[u8], &[u8])>
+    requires { 10 + LANES ≤ length bytes.now }
+    ensures parts { IfSome result (λ x. bytes.now ≡ x.0.now ++ x.1.now) }
+    ensures stamp { IfSome result (λ x. IsStamp x.0.now) }
+    ensures length { IfSome result (λ x. length bytes.now ≤ 17 + length x.1.now) }
+{
+    let seconds = decimal_front(bytes);
+    if seconds < 1 || seconds > 9 || bytes[seconds] != b'.' {
+        return None;
+    }
+    if decimal_front(&bytes[seconds + 1..]) != 6 {
+        return None;
+    }
+    Some(bytes.split_at(seconds + 7))
 }
 
 /// The name of the interface, and the bytes after it.
@@ -260,6 +278,7 @@ fn body_in_front(bytes: &[u8]) -> Option<(PlainBody<'_>, &[u8])>
     requires { most_digits None + 15 ≤ length bytes.now }
     ensures parts { IfSome result (λ x. bytes.now ≡ body_text x.0 ++ x.1.now) }
     ensures legal { IfSome result (λ x. IsPlainBody x.0) }
+    ensures room { IfSome result (λ x. 15 ≤ length x.1.now) }
 {
     let (flags, behind) = flags_in_front(bytes)?;
     let digits = digits_in_front(flags, behind)?;
@@ -274,15 +293,16 @@ fn body_in_front(bytes: &[u8]) -> Option<(PlainBody<'_>, &[u8])>
 /// What stands before the line feed at the front, and the bytes after it. Most lines end at once.
 #[inline(always)]
 fn ending_in_front(bytes: &[u8]) -> Option<(PlainEnding<'_>, &[u8])>
+    requires { 1 ≤ length bytes.now }
     ensures parts { IfSome result (λ x. bytes.now ≡ ending_text x.0 ++ (codes "\n" ++ x.1.now)) }
     ensures legal { IfSome result (λ x. IsPlainEnding x.0) }
 {
-    if let [b'\n', rest @ ..] = bytes {
+    if bytes[0] == b'\n' {
         let ending = PlainEnding {
             mark: None,
             carriage_return: &bytes[..0],
         };
-        return Some((ending, rest));
+        return Some((ending, &bytes[1..]));
     }
     let (mark, behind) = mark_in_front(bytes);
     let (carriage_return, rest) = return_in_front(behind);

@@ -1,6 +1,6 @@
 //! Lines out of the pieces of a log.
 
-ghost use Rattle.std.specs.Prelude.{◌≡◌, ℕ, ◌≤◌, ◌+◌, ◌^◌, ◌++◌, Option, Some, ◌<◌, IfOk, IfErr, IfNone, IfSome, codes, length, take};
+ghost use Rattle.std.specs.Prelude.{◌≡◌, ℕ, ◌≤◌, ◌+◌, ◌^◌, ◌++◌, Option, Some, ◌<◌, IfOk, IfErr, IfNone, IfSome, IsTrue, false, codes, length, take};
 ghost use Rattle.can_log.specs.Frame.{IsFrame};
 ghost use Rattle.can_log.specs.Line.{LineMeans, IsDataText, bytes_spelled, identifier_of, stamped_of, parts_in};
 ghost use Rattle.can_log.specs.Refused.{NoLineFeed, HasCompletion, IsRefusedPlace};
@@ -9,7 +9,8 @@ ghost use Rattle.can_log.specs.Scanning.{Scans, ScansForeign, Finishes};
 ghost use Rattle.can_log.specs.WholeLog.{at_start};
 ghost use Rattle.can_log.specs.declared.scanner.Scan.TheVariants.{Bad, Line};
 ghost use Rattle.can_log.specs.declared.frame.Stamped.{Stamped as StampedValue};
-ghost use Rattle.can_log.specs.proving.Plain.{HavePlainWidths, AreDecimals, seconds_of, micros_of, spelling_of};
+ghost use Rattle.can_log.specs.proving.Plain.{HavePlainWidths, spelling_of};
+ghost use Rattle.can_log.specs.proving.Taking.{TakesPlain};
 
 use crate::field::Stop;
 use crate::frame::{Frame, Id, Kind, Stamped};
@@ -126,21 +127,11 @@ impl Scanner {
         requires { self.old.taken + length piece.now ≤ 2 ^ 62 }
         ensures answer { Scans self.old piece.now answer.new self.new }
     {
-        if let Some(place) = self.refused {
-            *answer = bad(place);
+        // The way of most lines.
+        if self.scan_plain_into::<true>(piece, answer) {
             return;
         }
-        if self.line.is_empty() {
-            // The way of most lines.
-            if let Some((fields, rest)) = plain_line(piece) {
-                let used = piece.len() - rest.len();
-                self.lines += 1;
-                self.taken += used as u64;
-                answer_plain(answer, used, self.lines, fields, plain_identifier(fields));
-                return;
-            }
-        }
-        self.scan_any_into(piece, answer);
+        self.scan_short_into(piece, answer);
     }
 
     /// The same for a caller that wants the frames of two identifiers alone. Where a line of plain form records another frame,
@@ -157,34 +148,123 @@ impl Scanner {
         ensures foreign { IfSome result (λ used. ScansForeign wanted.now.first wanted.now.second self.old piece.now used self.new) }
         ensures answer { IfNone result (Scans self.old piece.now answer.new self.new) }
     {
-        if let Some(refused) = self.refused {
-            *answer = bad(refused);
-            return None;
+        match self.scan_plain_wanted_into::<true>(wanted, piece, answer) {
+            Some(foreign) => foreign,
+            None => self.scan_short_wanted_into(wanted, piece, answer),
         }
-        if self.line.is_empty() {
-            if let Some((fields, rest)) = plain_line(piece) {
-                let length = piece.len() - rest.len();
-                self.lines += 1;
-                self.taken += length as u64;
-                let id = plain_identifier(fields);
-                if !wanted.has(id) {
-                    return Some(length);
-                }
-                answer_plain(answer, length, self.lines, fields, id);
-                return None;
-            }
-        }
-        self.scan_any_into(piece, answer);
-        None
     }
 
-    /// The same for a line of any form, and for one that is cut. It is separate, so that the calls above make a frame at one
+    /// `scan_into` for a line whose seconds have fewer than ten digits, and for any other. It is separate, so that in the way of
+    /// most lines each place up to the interface is known when it is compiled.
+    #[inline(never)]
+    fn scan_short_into(&mut self, piece: &[u8], answer: &mut Scan)
+        requires { self.old.taken + length piece.now ≤ 2 ^ 62 }
+        ensures answer { Scans self.old piece.now answer.new self.new }
+    {
+        if self.scan_plain_into::<false>(piece, answer) {
+            return;
+        }
+        self.scan_any_into(piece, answer);
+    }
+
+    /// `scan_wanted_into` for such a line.
+    #[inline(never)]
+    fn scan_short_wanted_into(
+        &mut self,
+        wanted: &Wanted,
+        piece: &[u8],
+        answer: &mut Scan,
+    ) -> Option<usize>
+        requires { self.old.taken + length piece.now ≤ 2 ^ 62 }
+        ensures foreign { IfSome result (λ used. ScansForeign wanted.now.first wanted.now.second self.old piece.now used self.new) }
+        ensures answer { IfNone result (Scans self.old piece.now answer.new self.new) }
+    {
+        match self.scan_plain_wanted_into::<false>(wanted, piece, answer) {
+            Some(foreign) => foreign,
+            None => {
+                self.scan_any_into(piece, answer);
+                None
+            }
+        }
+    }
+
+    /// Answers the next line of a piece, if it is of plain form, and tells whether it is.
+    #[inline(always)]
+    fn scan_plain_into<const IS_LONG: bool>(&mut self, piece: &[u8], answer: &mut Scan) -> bool
+        requires { self.old.taken + length piece.now ≤ 2 ^ 62 }
+        ensures answer { IsTrue result → Scans self.old piece.now answer.new self.new }
+        ensures left { result ≡ false → self.new ≡ self.old }
+    {
+        let Some((fields, used)) = self.take_plain::<IS_LONG>(piece) else {
+            return false;
+        };
+        answer_plain(answer, used, self.lines, fields, plain_identifier(fields));
+        true
+    }
+
+    /// The same for a caller that wants two identifiers alone: what `scan_wanted_into` gives, if the line is of plain form.
+    #[inline(always)]
+    fn scan_plain_wanted_into<const IS_LONG: bool>(
+        &mut self,
+        wanted: &Wanted,
+        piece: &[u8],
+        answer: &mut Scan,
+    ) -> Option<Option<usize>>
+        requires { self.old.taken + length piece.now ≤ 2 ^ 62 }
+        ensures foreign { IfSome result (λ foreign. IfSome foreign (λ used. ScansForeign wanted.now.first wanted.now.second self.old piece.now used self.new)) }
+        ensures answer { IfSome result (λ foreign. IfNone foreign (Scans self.old piece.now answer.new self.new)) }
+        ensures left { IfNone result (self.new ≡ self.old) }
+    {
+        let (fields, used) = self.take_plain::<IS_LONG>(piece)?;
+        let id = plain_identifier(fields);
+        if !wanted.has(id) {
+            return Some(Some(used));
+        }
+        answer_plain(answer, used, self.lines, fields, id);
+        Some(None)
+    }
+
+    /// Takes the next line of a piece, if it is of plain form and nothing comes before it: its fields, and how many bytes of
+    /// the piece it has.
+    #[inline(always)]
+    fn take_plain<'a, const IS_LONG: bool>(
+        &mut self,
+        piece: &'a [u8],
+    ) -> Option<(Fields<'a>, usize)>
+        requires { self.old.taken + length piece.now ≤ 2 ^ 62 }
+        ensures taken { IfSome result (λ x. TakesPlain self.old piece.now x.0 x.1 self.new) }
+        ensures left { IfNone result (self.new ≡ self.old) }
+    {
+        if self.refused.is_some() || !self.line.is_empty() {
+            return None;
+        }
+        let (fields, rest) = plain_line::<IS_LONG>(piece)?;
+        let used = piece.len() - rest.len();
+        self.lines += 1;
+        self.taken += used as u64;
+        Some((fields, used))
+    }
+
+    /// `scan_into` for a line of any form, and for one that is cut. It is separate, so that the calls above make a frame at one
     /// place alone, and have no room for another answer, which would be cleared for each line.
     #[inline(never)]
     fn scan_any_into(&mut self, piece: &[u8], answer: &mut Scan)
         requires { self.old.taken + length piece.now ≤ 2 ^ 62 }
         ensures answer { Scans self.old piece.now answer.new self.new }
     {
+        if let [b'\n', ..] = piece {
+            if self.line.is_empty() && self.refused.is_none() {
+                // A blank line.
+                self.lines += 1;
+                self.taken += 1;
+                *answer = Scan::Line {
+                    used: 1,
+                    line: self.lines,
+                    what: None,
+                };
+                return;
+            }
+        }
         *answer = self.scan_any(piece);
     }
 
@@ -281,7 +361,6 @@ impl Default for Scanner {
 fn answer_plain(answer: &mut Scan, used: usize, line: u64, fields: Fields<'_>, id: Id)
     requires widths { HavePlainWidths fields }
     requires identifier { id ≡ identifier_of fields.identifier.now }
-    requires decimals { AreDecimals (seconds_of fields.stamp.now ++ micros_of fields.stamp.now) }
     ensures { answer.new ≡ Line used line (Some (stamped_of (parts_in (spelling_of fields.entry)))) }
 {
     if let Scan::Line {
@@ -397,7 +476,7 @@ fn plain_ended(line: &[u8], bytes: &[u8]) -> Option<Stamped>
     let mut padded = [b'\n'; ROOM_OF_PLAIN];
     padded[..length].copy_from_slice(line);
     padded[length..end].copy_from_slice(bytes);
-    let (fields, _) = plain_line(&padded)?;
+    let (fields, _) = plain_line::<true>(&padded)?;
     Some(plain_stamped(fields, plain_identifier(fields)))
 }
 

@@ -1,13 +1,16 @@
 //! The time stamp of a plain line, by lanes: its sixteen digits are tested at once, and their value is found in four steps.
 
-ghost use Rattle.std.specs.Prelude.{◌≡◌, ◌+◌, ◌*◌, ◌++◌, IsTrue, length};
+ghost use Rattle.std.specs.Prelude.{◌≡◌, ◌++◌, IsTrue, length};
 ghost use Rattle.std.specs.List.{AllByRecursion};
 ghost use Rattle.std.specs.Char.{is_ascii_digit};
 ghost use Rattle.std.specs.Str.Parse.{digits_value};
-ghost use Rattle.can_log.specs.proving.Plain.{AreDecimals, IsStamp, seconds_of, micros_of};
+ghost use Rattle.can_log.specs.proving.Plain.{AreDecimals, IsStamp, seconds_of, micros_of, time_spelled};
 
 use crate::lanes::{LANES, first_set};
 use std::simd::prelude::*;
+
+/// How many bytes a stamp has with ten digits of seconds, the most.
+pub(crate) const LONGEST_STAMP: usize = 17;
 
 /// Whether the stamp has decimal digits before and after its point.
 #[inline(always)]
@@ -23,9 +26,20 @@ pub(crate) fn has_decimals(stamp: &[u8]) -> bool
 pub(crate) fn time_of(stamp: &[u8]) -> u64
     requires long { length stamp.now ≡ 17 }
     requires digits { AreDecimals (seconds_of stamp.now ++ micros_of stamp.now) }
-    ensures { result ≡ digits_value 10 (seconds_of stamp.now) * 1000000 + digits_value 10 (micros_of stamp.now) }
+    ensures { result ≡ time_spelled stamp.now }
 {
     decimal_number(digits_of(stamp))
+}
+
+/// The same of a stamp with fewer digits of seconds: zeros before them make it as long.
+#[inline(never)]
+pub(crate) fn padded_time_of(stamp: &[u8]) -> u64
+    requires { IsStamp stamp.now }
+    ensures { result ≡ time_spelled stamp.now }
+{
+    let mut padded = [b'0'; LONGEST_STAMP];
+    padded[LONGEST_STAMP - stamp.len()..].copy_from_slice(stamp);
+    time_of(&padded)
 }
 
 /// The digits of the stamp, without its point.

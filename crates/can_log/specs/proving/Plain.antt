@@ -1,7 +1,8 @@
 -- A device of proof: the fields of a line of plain form, and the spelling that they make.
-use Rattle.std.specs.Prelude.{◌≡◌, ℕ, ◌≤◌, ◌⊎◌, ◌==◌, if◌then◌else◌, Bool, List, [], ◌++◌, ◌+◌, length, take, drop, codes, IsTrue, Option, Some, None, ⊤}
+use Rattle.std.specs.Prelude.{◌≡◌, ℕ, ◌≤◌, ◌⊎◌, ◌==◌, if◌then◌else◌, Bool, List, [], ◌++◌, ◌+◌, ◌-◌, ◌*◌, length, take, drop, codes, IsTrue, Option, Some, None, ⊤}
 use Rattle.std.specs.List.{AllByRecursion}
 use Rattle.std.specs.Char.{is_ascii_digit, is_ascii_hexdigit}
+use Rattle.std.specs.Str.Parse.{digits_value}
 use Rattle.std.specs.Int.{trailing_zeros, w64}
 use Rattle.std.specs.Borrow.{Bor}
 use Rattle.can_log.specs.declared.plain.Fields.{Fields}
@@ -9,7 +10,7 @@ use Rattle.can_log.specs.declared.plain.PlainBody.{PlainBody}
 use Rattle.can_log.specs.declared.plain.PlainEnding.{PlainEnding}
 use Rattle.can_log.specs.declared.field.Class.TheVariants.{Visible}
 use Rattle.can_log.specs.proving.FieldReader.{is_in}
-use Rattle.can_log.specs.Line.{LineSpelling, identifier_of, spell_line, spell_mark, IsRunOf, IsIdentifierText, IsDataText, IsMark, Body, classic, fd}
+use Rattle.can_log.specs.Line.{LineSpelling, identifier_of, spell_mark, IsRunOf, IsIdentifierText, IsDataText, IsMark, Body, classic, fd}
 
 -- the most digits of data of a frame with flags, and of one without
 abbrev pub most_digits : Option (Bor (List ℕ)) → ℕ
@@ -76,21 +77,27 @@ pub record IsPlainEnding (ending : PlainEnding) : Type 0 where
 unfoldable pub end_text : PlainBody → PlainEnding → List ℕ
 end_text body ending = body_text body ++ ending_text ending
 
--- the digits of a stamp such as `1700000000.000241` before its point, and those after it
+-- the digits of a stamp such as `1700000000.000241` before its point, and the six after it
 abbrev pub seconds_of : List ℕ → List ℕ
-seconds_of stamp = take 10 stamp
+seconds_of stamp = take (length stamp - 7) stamp
 
 abbrev pub micros_of : List ℕ → List ℕ
-micros_of stamp = drop 11 stamp
+micros_of stamp = drop (length stamp - 6) stamp
+
+-- the microseconds that they spell
+abbrev pub time_spelled : List ℕ → ℕ
+time_spelled stamp = digits_value 10 (seconds_of stamp) * 1000000 + digits_value 10 (micros_of stamp)
 
 -- each is a decimal digit
 abbrev pub AreDecimals : List ℕ → Type 0
 AreDecimals = AllByRecursion (λ b. IsTrue (is_ascii_digit b))
 
--- ten bytes, a point, and six bytes
+-- one to ten digits, a point, and six digits
 pub record IsStamp (stamp : List ℕ) : Type 0 where
-  pub long : length stamp ≡ 17
+  pub shortest : 8 ≤ length stamp
+  pub longest : length stamp ≤ 17
   pub point : stamp ≡ seconds_of stamp ++ (codes "." ++ micros_of stamp)
+  pub decimals : AreDecimals (seconds_of stamp ++ micros_of stamp)
 
 -- gaps of one space
 abbrev pub spelling_of : Fields → LineSpelling
@@ -111,11 +118,7 @@ plain_text fields =
     codes "(" ++ (fields.stamp.now ++ (codes ") " ++ (fields.interface.now ++ (codes " "
     ++ (fields.identifier.now ++ (codes "#" ++ end_text fields.body fields.ending))))))
 
--- the bytes of the line as its parts spell them
-abbrev pub line_text : Fields → List ℕ
-line_text fields = spell_line (spelling_of fields) ++ fields.ending.carriage_return.now
-
--- the fields that end where other bytes begin are legal, and the others have one width; the identifier is the one spelled
+-- the fields are legal, and the identifier is the one spelled
 pub record HavePlainWidths (fields : Fields) : Type 0 where
   pub stamp : IsStamp fields.stamp.now
   pub interface : IsRunOf (is_in Visible) 1 15 fields.interface.now
