@@ -1,15 +1,15 @@
 -- Sixteen decimal digits as the lanes of a vector, and the number that they spell.
 use Prim.Native.Char.{code}
 use Prim.Native.Nat.{zero, suc}
-use Rattle.std.proofs.Common.{◌≡◌, ℕ, ◌+◌, ◌-◌, ◌*◌, ◌<◌, ◌≤◌, ◌%◌, ◌++◌, List, [], ◌∷◌, length, length-append, take, drop, replicate, append_assoc, refl, sym, ap, subst, ◌∙◌, true, arith}
+use Rattle.std.proofs.Common.{◌≡◌, ℕ, ◌+◌, ◌-◌, ◌*◌, ◌<◌, ◌≤◌, ◌%◌, ◌++◌, List, [], ◌∷◌, length, length-append, length-drop, take, drop, replicate, append_assoc, refl, sym, ap, subst, ◌∙◌, true, arith}
 use Rattle.std.specs.Prelude.{codes}
 use Rattle.std.proofs.Math.Seq.{take-append_seam, drop-append_seam}
-use Rattle.std.proofs.lemmas.List.{append-nil, drop-replicate, take-replicate, length-replicate, length-take-le}
+use Rattle.std.proofs.lemmas.List.{append-nil, take-replicate, length-replicate, length-take-le, take-take, take-append-drop, take_at, drop_at, drop_all}
 use borrow.Rule.Slice.PartMut.{put_mid}
 use Rattle.std.specs.Char.{is_ascii_digit, digit_value}
 use Rattle.std.specs.Str.Parse.{digits_value}
 use Rattle.std.proofs.lemmas.Simd.{pick_l_whole}
-use Rattle.can_log.specs.proving.Plain.{AreDecimals, IsStamp, seconds_of, micros_of, time_spelled}
+use Rattle.can_log.specs.proving.Plain.{AreDecimals, IsStamp, seconds_of, micros_of, padded, time_spelled}
 use Rattle.can_log.proofs.DigitValues.{digit_is}
 use Rattle.can_log.proofs.EachElement.{AllByRecursion-front, AllByRecursion-back, AllByRecursion-append, AllByRecursion-replicate}
 
@@ -23,57 +23,71 @@ zeros_first : (n : ℕ) (digits : List ℕ) → digits_value 10 (replicate n (co
 zeros_first zero digits = refl
 zeros_first (suc n) digits = zeros_first n digits
 
--- a stamp laid behind zeros, as far as the end of the longest
-pub padded_by : (stamp laid : List ℕ) → length stamp ≤ 17 → laid ≡ stamp
-    → put_mid (17 - length stamp) (17 - (17 - length stamp)) (replicate 17 48) laid ≡ replicate (17 - length stamp) (code "0") ++ stamp
-padded_by stamp laid few is =
-    let k = 17 - length stamp in
-    let none : 17 - k - (17 - k) ≡ 0 = omega arith in
-    let behind : drop (17 - k) (drop k (replicate 17 48)) ≡ [] =
-    ap (drop (17 - k)) (drop-replicate k 17 48) ∙ drop-replicate (17 - k) (17 - k) 48 ∙ ap (λ (m : ℕ). replicate m 48) none
+-- zeros whose end a stamp is laid over, by its first eight bytes and its last eight
+pub padded_by : (stamp first second : List ℕ) → 8 ≤ length stamp → length stamp < 17 → first ≡ take 8 stamp → second ≡ drop (length stamp - 8) stamp
+    → put_mid 9 (17 - 9) (put_mid (17 - length stamp) (17 - length stamp + 8 - (17 - length stamp)) (replicate 17 48) first) second ≡ padded stamp
+padded_by stamp first second enough few one two =
+    let z = 17 - length stamp in
+    let n = length stamp - 8 in
+    let zeros = replicate z (code "0") in
+    let begins : take z (replicate 17 48) ≡ zeros = take-replicate z 17 48 (omega arith) in
+    let all : List ℕ = replicate 17 48 in
+    let left : List ℕ = drop (z + 8 - z) (drop z all) in
+    let left_long : length left ≤ 17 - z - 8 = omega (arith, length-drop (z + 8 - z) (drop z all), length-drop z all) in
+    let front : List ℕ = zeros ++ take n stamp in
+    let front_long : length front ≡ 9 = length-append zeros (take n stamp) ∙ omega (arith, length-replicate z (code "0"), length-take-le n stamp (omega arith)) in
+    let over : List ℕ = drop n (take 8 stamp) ++ left in
+    let over_long : length over ≤ 8 = omega (arith, length-append (drop n (take 8 stamp)) left, length-drop n (take 8 stamp), length-take-le 8 stamp enough, left_long) in
+    let cut : take 8 stamp ≡ take n stamp ++ drop n (take 8 stamp) =
+    sym (take-append-drop n (take 8 stamp)) ∙ ap (λ (l : List ℕ). l ++ drop n (take 8 stamp)) (take-take n 8 stamp (omega arith))
     in
-    let front : take k (replicate 17 48) ≡ replicate k 48 = take-replicate k 17 48 (omega arith) in
-    (λ i. front i ++ (is i ++ behind i)) ∙ ap (λ (z : List ℕ). replicate k 48 ++ z) (append-nil stamp)
+    let laid : put_mid z (z + 8 - z) (replicate 17 48) first ≡ front ++ over =
+    (λ i. begins i ++ (one i ++ left)) ∙ ap (λ (l : List ℕ). zeros ++ (l ++ left)) cut ∙ simp append_assoc
+    in
+    let kept : take 9 (front ++ over) ≡ front = take_at front over 9 front_long in
+    let gone : drop 8 (drop 9 (front ++ over)) ≡ [] = ap (drop 8) (drop_at front over 9 front_long) ∙ drop_all 8 over over_long in
+    ap (λ (l : List ℕ). put_mid 9 8 l second) laid ∙ (λ i. kept i ++ (two i ++ gone i)) ∙ ap (λ (l : List ℕ). front ++ l) (append-nil (drop n stamp))
+    ∙ append_assoc zeros (take n stamp) (drop n stamp) ∙ ap (λ (l : List ℕ). zeros ++ l) (take-append-drop n stamp)
 
 -- a stamp with zeros in front, as long as the longest, has the same microseconds, and the zeros before the same seconds
-record IsPadded (stamp padded : List ℕ) : Type 0 where
-  pub seconds : seconds_of padded ≡ replicate (17 - length stamp) (code "0") ++ seconds_of stamp
-  pub micros : micros_of padded ≡ micros_of stamp
+record IsPadded (stamp longest : List ℕ) : Type 0 where
+  pub seconds : seconds_of longest ≡ replicate (17 - length stamp) (code "0") ++ seconds_of stamp
+  pub micros : micros_of longest ≡ micros_of stamp
 
-padded_parts : (stamp padded : List ℕ) → IsStamp stamp → padded ≡ replicate (17 - length stamp) (code "0") ++ stamp → IsPadded stamp padded
-padded_parts stamp padded is filled =
+padded_parts : (stamp longest : List ℕ) → IsStamp stamp → longest ≡ padded stamp → IsPadded stamp longest
+padded_parts stamp longest is filled =
     let zeros = replicate (17 - length stamp) (code "0") in
     let seconds = seconds_of stamp in
     let micros = micros_of stamp in
     let zeros_long : length zeros ≡ 17 - length stamp = length-replicate (17 - length stamp) (code "0") in
     let seconds_long : length seconds ≡ length stamp - 7 = length-take-le (length stamp - 7) stamp (omega arith) in
-    let long : length padded ≡ 17 = ap (λ (l : List ℕ). length l) filled ∙ length-append zeros stamp ∙ omega (arith, zeros_long, is.longest) in
-    let whole : padded ≡ (zeros ++ seconds) ++ (code "." ∷ micros) =
+    let long : length longest ≡ 17 = ap (λ (l : List ℕ). length l) filled ∙ length-append zeros stamp ∙ omega (arith, zeros_long, is.longest) in
+    let whole : longest ≡ (zeros ++ seconds) ++ (code "." ∷ micros) =
     filled ∙ ap (λ (l : List ℕ). zeros ++ l) is.point ∙ sym (append_assoc zeros seconds (code "." ∷ micros)) in
-    let first : length padded - 7 ≡ length (zeros ++ seconds) =
+    let first : length longest - 7 ≡ length (zeros ++ seconds) =
     omega (arith, long, length-append zeros seconds, zeros_long, seconds_long, is.shortest, is.longest) in
-    let behind : length padded - 6 ≡ length ((zeros ++ seconds) ++ codes ".") =
+    let behind : length longest - 6 ≡ length ((zeros ++ seconds) ++ codes ".") =
     omega (arith, long, length-append (zeros ++ seconds) (codes "."), length-append zeros seconds, zeros_long, seconds_long, is.shortest, is.longest) in
     record {
-      seconds = ap (λ (k : ℕ). take k padded) first ∙ ap (take (length (zeros ++ seconds))) whole ∙ take-append_seam (zeros ++ seconds) (code "." ∷ micros);
-      micros = ap (λ (k : ℕ). drop k padded) behind ∙ ap (drop (length ((zeros ++ seconds) ++ codes "."))) (whole ∙ sym (append_assoc (zeros ++ seconds) (codes ".") micros))
+      seconds = ap (λ (k : ℕ). take k longest) first ∙ ap (take (length (zeros ++ seconds))) whole ∙ take-append_seam (zeros ++ seconds) (code "." ∷ micros);
+      micros = ap (λ (k : ℕ). drop k longest) behind ∙ ap (drop (length ((zeros ++ seconds) ++ codes "."))) (whole ∙ sym (append_assoc (zeros ++ seconds) (codes ".") micros))
           ∙ drop-append_seam ((zeros ++ seconds) ++ codes ".") micros;
     }
 
-pub padded_time_is : (stamp padded : List ℕ) → IsStamp stamp → padded ≡ replicate (17 - length stamp) (code "0") ++ stamp → time_spelled padded ≡ time_spelled stamp
-padded_time_is stamp padded is filled =
-    let parts = padded_parts stamp padded is filled in
+pub padded_time_is : (stamp longest : List ℕ) → IsStamp stamp → longest ≡ padded stamp → time_spelled longest ≡ time_spelled stamp
+padded_time_is stamp longest is filled =
+    let parts = padded_parts stamp longest is filled in
     let zeros = 17 - length stamp in
-    ap (λ (l : List ℕ). digits_value 10 l * 1000000 + digits_value 10 (micros_of padded)) parts.seconds
+    ap (λ (l : List ℕ). digits_value 10 l * 1000000 + digits_value 10 (micros_of longest)) parts.seconds
     ∙ ap (λ (l : List ℕ). digits_value 10 (replicate zeros (code "0") ++ seconds_of stamp) * 1000000 + digits_value 10 l) parts.micros
     ∙ ap (λ (n : ℕ). n * 1000000 + digits_value 10 (micros_of stamp)) (zeros_first zeros (seconds_of stamp))
 
-pub padded_decimals : (stamp padded : List ℕ) → IsStamp stamp → padded ≡ replicate (17 - length stamp) (code "0") ++ stamp → AreDecimals (seconds_of padded ++ micros_of padded)
-padded_decimals stamp padded is filled =
-    let parts = padded_parts stamp padded is filled in
+pub padded_decimals : (stamp longest : List ℕ) → IsStamp stamp → longest ≡ padded stamp → AreDecimals (seconds_of longest ++ micros_of longest)
+padded_decimals stamp longest is filled =
+    let parts = padded_parts stamp longest is filled in
     let zeros = replicate (17 - length stamp) (code "0") in
-    let whole : seconds_of padded ++ micros_of padded ≡ zeros ++ (seconds_of stamp ++ micros_of stamp) =
-    ap (λ (l : List ℕ). l ++ micros_of padded) parts.seconds ∙ ap (λ (l : List ℕ). (zeros ++ seconds_of stamp) ++ l) parts.micros
+    let whole : seconds_of longest ++ micros_of longest ≡ zeros ++ (seconds_of stamp ++ micros_of stamp) =
+    ap (λ (l : List ℕ). l ++ micros_of longest) parts.seconds ∙ ap (λ (l : List ℕ). (zeros ++ seconds_of stamp) ++ l) parts.micros
     ∙ append_assoc zeros (seconds_of stamp) (micros_of stamp) in
     subst AreDecimals (sym whole) (AllByRecursion-append (λ b. is_ascii_digit b ≡ true) zeros (seconds_of stamp ++ micros_of stamp) (AllByRecursion-replicate (λ b. is_ascii_digit b ≡ true) (17 - length stamp) (code "0") refl) is.decimals)
 

@@ -11,7 +11,7 @@ use crate::frame::{Frame, Id, Kind, Stamped};
 use crate::hexadecimal::is_hex_digit;
 use crate::lanes::{LANES, decimal_front, hex_front, hex_run, visible_front};
 use crate::meaning::{decoded, identifier_of};
-use crate::stamp::{LONGEST_STAMP, has_decimals, padded_time_of, time_of};
+use crate::stamp::{LONGEST_STAMP, has_decimals, time_of, time_of_short};
 
 /// The longest line of plain form, without its line feed: a stamp of 20 bytes, 15 of the interface, a space, 8 digits of the
 /// identifier, `##`, the digit of the flags, 128 of the data, a space, a mark, and a carriage return.
@@ -99,6 +99,18 @@ pub(crate) fn plain_line<const IS_LONG: bool>(piece: &[u8]) -> Option<(Fields<'_
     Some((fields, rest))
 }
 
+/// The same, with one to ten digits of seconds.
+#[inline(always)]
+pub(crate) fn any_plain_line(piece: &[u8]) -> Option<(Fields<'_>, &[u8])>
+    ensures line { IfSome result (λ x. piece.now ≡ plain_text x.0 ++ (codes "\n" ++ x.1.now)) }
+    ensures widths { IfSome result (λ x. HavePlainWidths x.0) }
+{
+    match plain_line::<true>(piece) {
+        Some(found) => Some(found),
+        None => plain_line::<false>(piece),
+    }
+}
+
 /// The digits of the data of a line with these fields.
 #[inline(always)]
 pub(crate) fn plain_digits(fields: Fields<'_>) -> &[u8]
@@ -157,7 +169,7 @@ pub(crate) fn plain_time(fields: Fields<'_>) -> u64
     if fields.stamp.len() == LONGEST_STAMP {
         time_of(fields.stamp)
     } else {
-        padded_time_of(fields.stamp)
+        time_of_short(fields.stamp)
     }
 }
 

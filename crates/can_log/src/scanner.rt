@@ -18,8 +18,8 @@ use crate::lanes::LANES;
 use crate::line::judge;
 use crate::meaning::{decoded, stamped_of};
 use crate::plain::{
-    Fields, LONGEST_PLAIN, plain_digits, plain_identifier, plain_kind, plain_line, plain_stamped,
-    plain_time, put_plain_stamped,
+    Fields, LONGEST_PLAIN, any_plain_line, plain_digits, plain_identifier, plain_kind, plain_line,
+    plain_stamped, plain_time, put_plain_stamped,
 };
 use crate::wanted::Wanted;
 use arrayvec::ArrayVec;
@@ -276,8 +276,10 @@ impl Scanner {
         if let Some(place) = self.refused {
             return bad(place);
         }
+        // Where the lanes had room, and found no plain form, it is not looked for again.
+        let is_untried = !self.line.is_empty() || piece.len() < ROOM_OF_PLAIN;
         match memchr(b'\n', piece) {
-            Some(at) => match ended(self.line.as_slice(), &piece[..at]) {
+            Some(at) => match ended(self.line.as_slice(), &piece[..at], is_untried) {
                 Ok(what) => {
                     self.line.clear();
                     self.lines += 1;
@@ -444,15 +446,17 @@ enum Judgement {
     Refused(u32),
 }
 
-/// What a line that ends after `bytes` means, or the column that is refused.
-fn ended(line: &[u8], bytes: &[u8]) -> Result<Option<Stamped>, u32>
+/// What a line that ends after `bytes` means, or the column that is refused. It may be of plain form where that is untried.
+fn ended(line: &[u8], bytes: &[u8], is_untried: bool) -> Result<Option<Stamped>, u32>
     requires short { length line.now ≤ 223 }
     requires clean { NoLineFeed (line.now ++ bytes.now) }
     ensures ok { IfOk result (λ what. LineMeans (line.now ++ bytes.now) what) }
     ensures err { IfErr result (λ column. IsRefusedPlace ((line.now ++ bytes.now) ++ codes "\n") column) }
 {
-    if let Some(stamped) = plain_ended(line, bytes) {
-        return Ok(Some(stamped));
+    if is_untried {
+        if let Some(stamped) = plain_ended(line, bytes) {
+            return Ok(Some(stamped));
+        }
     }
     match line_judgement(line, bytes) {
         Judgement::Means(what) => Ok(what),
@@ -476,7 +480,7 @@ fn plain_ended(line: &[u8], bytes: &[u8]) -> Option<Stamped>
     let mut padded = [b'\n'; ROOM_OF_PLAIN];
     padded[..length].copy_from_slice(line);
     padded[length..end].copy_from_slice(bytes);
-    let (fields, _) = plain_line::<true>(&padded)?;
+    let (fields, _) = any_plain_line(&padded)?;
     Some(plain_stamped(fields, plain_identifier(fields)))
 }
 

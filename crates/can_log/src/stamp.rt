@@ -1,10 +1,10 @@
 //! The time stamp of a plain line, by lanes: its sixteen digits are tested at once, and their value is found in four steps.
 
-ghost use Rattle.std.specs.Prelude.{◌≡◌, ◌++◌, IsTrue, length};
+ghost use Rattle.std.specs.Prelude.{◌≡◌, ◌≤◌, ◌<◌, ◌++◌, IsTrue, length};
 ghost use Rattle.std.specs.List.{AllByRecursion};
 ghost use Rattle.std.specs.Char.{is_ascii_digit};
 ghost use Rattle.std.specs.Str.Parse.{digits_value};
-ghost use Rattle.can_log.specs.proving.Plain.{AreDecimals, IsStamp, seconds_of, micros_of, time_spelled};
+ghost use Rattle.can_log.specs.proving.Plain.{AreDecimals, IsStamp, seconds_of, micros_of, time_spelled, padded};
 
 use crate::lanes::{LANES, first_set};
 use std::simd::prelude::*;
@@ -31,15 +31,29 @@ pub(crate) fn time_of(stamp: &[u8]) -> u64
     decimal_number(digits_of(stamp))
 }
 
-/// The same of a stamp with fewer digits of seconds: zeros before them make it as long.
+/// The same of a stamp with fewer digits of seconds.
 #[inline(never)]
-pub(crate) fn padded_time_of(stamp: &[u8]) -> u64
-    requires { IsStamp stamp.now }
+pub(crate) fn time_of_short(stamp: &[u8]) -> u64
+    requires stamp { IsStamp stamp.now }
+    requires short { length stamp.now < LONGEST_STAMP }
     ensures { result ≡ time_spelled stamp.now }
 {
-    let mut padded = [b'0'; LONGEST_STAMP];
-    padded[LONGEST_STAMP - stamp.len()..].copy_from_slice(stamp);
-    time_of(&padded)
+    time_of(&padded(stamp))
+}
+
+/// The stamp with zeros in front, as many as make it the longest. It is copied by its first eight bytes and its last eight, which
+/// overlap: so the length of each copy is known when it is compiled.
+#[inline(always)]
+fn padded(stamp: &[u8]) -> [u8; LONGEST_STAMP]
+    requires enough { 8 ≤ length stamp.now }
+    requires short { length stamp.now < LONGEST_STAMP }
+    ensures { result ≡ padded stamp.now }
+{
+    let zeros = LONGEST_STAMP - stamp.len();
+    let mut longest = [b'0'; LONGEST_STAMP];
+    longest[zeros..zeros + 8].copy_from_slice(&stamp[..8]);
+    longest[LONGEST_STAMP - 8..].copy_from_slice(&stamp[stamp.len() - 8..]);
+    longest
 }
 
 /// The digits of the stamp, without its point.

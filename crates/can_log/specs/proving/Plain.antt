@@ -1,5 +1,6 @@
 -- A device of proof: the fields of a line of plain form, and the spelling that they make.
-use Rattle.std.specs.Prelude.{◌≡◌, ℕ, ◌≤◌, ◌⊎◌, ◌==◌, if◌then◌else◌, Bool, List, [], ◌++◌, ◌+◌, ◌-◌, ◌*◌, length, take, drop, codes, IsTrue, Option, Some, None, ⊤}
+use Prim.Native.Char.{code}
+use Rattle.std.specs.Prelude.{◌≡◌, ℕ, ◌≤◌, ◌⊎◌, ◌==◌, if◌then◌else◌, Bool, List, [], ◌++◌, ◌+◌, ◌-◌, ◌*◌, replicate, length, take, drop, codes, IsTrue, Option, Some, None, ⊤}
 use Rattle.std.specs.List.{AllByRecursion}
 use Rattle.std.specs.Char.{is_ascii_digit, is_ascii_hexdigit}
 use Rattle.std.specs.Str.Parse.{digits_value}
@@ -87,6 +88,10 @@ micros_of stamp = drop (length stamp - 6) stamp
 -- the microseconds that they spell
 abbrev pub time_spelled : List ℕ → ℕ
 time_spelled stamp = digits_value 10 (seconds_of stamp) * 1000000 + digits_value 10 (micros_of stamp)
+
+-- zeros, and a stamp behind them, as long as the longest
+abbrev pub padded : List ℕ → List ℕ
+padded stamp = replicate (17 - length stamp) (code "0") ++ stamp
 
 -- each is a decimal digit
 abbrev pub AreDecimals : List ℕ → Type 0
