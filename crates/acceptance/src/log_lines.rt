@@ -131,6 +131,57 @@ means 1700000000001928 7E0#30 Classic
 means 1700000000002169 7E8#00000000000000000000000000000000000000000000000000000000000000000000000000000000000000000000000000000000000000000000000000000000 Fd
 ";
 
+/// Lines of plain form with marks, with carriage returns, and with fewer digits of seconds.
+const PLAIN_OF_OTHER_RECORDERS: &str = "\
+lines of plain form with marks, carriage returns and fewer digits of seconds
+line (1700000000.000241) can0 7E0#031089D2AAAAAAAA R
+line (1700000000.000482) can0 18DA00F1#0a1B T\r
+line (1700000000.000723) can0 000#\r
+line (1700000000.000964) can0 7E8##10C62F19041 T
+line (1700000000.001205) can0 7FF##F0104 R\r
+line (1.000001) can0 7E0#021001
+line (22.000020) can0 7E8#025001AAAAAAAAAA R
+line (333.000300) can0 18DA00F1##11122 T\r
+line (4444.004000) ~ 7E0#
+line (55555.050000) can0 7E0#0A\r
+line (666666.600000) vcan12345678901 7E0#0B
+line (7777777.000000) can0 7E0#0C
+line (88888888.999999) can0 7E0#0D
+line (999999999.999999) can0 7E0#0E R\r
+line
+line (000000000.000000) can0 7E0##2000102030405060708090A0B0C0D0E0F101112131415161718191A1B1C1D1E1F202122232425262728292A2B2C2D2E2F303132333435363738393A3B3C3D3E3F R\r
+means 1700000000000241 7E0#031089D2AAAAAAAA Classic
+means 1700000000000482 18DA00F1#0A1B Classic
+means 1700000000000723 000# Classic
+means 1700000000000964 7E8#0C62F19041 Fd
+means 1700000000001205 7FF#0104 Fd
+means 1000001 7E0#021001 Classic
+means 22000020 7E8#025001AAAAAAAAAA Classic
+means 333000300 18DA00F1#1122 Fd
+means 4444004000 7E0# Classic
+means 55555050000 7E0#0A Classic
+means 666666600000 7E0#0B Classic
+means 7777777000000 7E0#0C Classic
+means 88888888999999 7E0#0D Classic
+means 999999999999999 7E0#0E Classic
+means nothing
+means 0 7E0#000102030405060708090A0B0C0D0E0F101112131415161718191A1B1C1D1E1F202122232425262728292A2B2C2D2E2F303132333435363738393A3B3C3D3E3F Fd
+";
+
+/// What is refused in such lines, where others stand behind them: for a line near the end of a piece is not read by the lanes.
+const REFUSED_OF_OTHER_RECORDERS: &str = "\
+47 (1700000000.000241) can0 7E0#031089D2AAAAAAAA X
+48 (1700000000.000241) can0 7E0#031089D2AAAAAAAA RR
+47 (1700000000.000241) can0 7E0#031089D2AAAAAAAA\r\r
+49 (1700000000.000241) can0 7E0#031089D2AAAAAAAA R\r\r
+46 (1700000000.000241) can0 7E0#031089D2AAAAAAAAR
+2 (.000241) can0 7E0#031089D2AAAAAAAA
+9 (1.00024) can0 7E0#031089D2AAAAAAAA
+10 (1.0002410) can0 7E0#031089D2AAAAAAAA
+17 (999999999.99999) can0 7E0#031089D2AAAAAAAA
+18 (999999999.9999999) can0 7E0#031089D2AAAAAAAA
+5 (123,000241) can0 7E0#031089D2AAAAAAAA";
+
 #[test]
 fn logs_are_read_however_they_are_cut(rt: HostRuntime) -> Result<(), Fail> {
     for row in rows_of(LOGS) {
@@ -141,7 +192,8 @@ fn logs_are_read_however_they_are_cut(rt: HostRuntime) -> Result<(), Fail> {
 
 #[test]
 fn lines_of_plain_form_mean_what_they_spell(rt: HostRuntime) -> Result<(), Fail> {
-    assert_log(&rt, rt.alloc(), PLAIN)
+    assert_log(&rt, rt.alloc(), PLAIN)?;
+    assert_log(&rt, rt.alloc(), PLAIN_OF_OTHER_RECORDERS)
 }
 
 /// The log of a row means what the row has.
@@ -346,6 +398,20 @@ fn refused_bytes_are_found_however_the_log_is_cut(rt: HostRuntime) -> Result<(),
     for refused in lines_of(REFUSED) {
         let (column, line) = refused.split_once(' ').ok_or("no column")?;
         let row = format!(in alloc; "{refused}\n{line}\nrefused line 1 column {column}\n")?;
+        assert_log(&rt, alloc, &row)?;
+    }
+    Ok(())
+}
+
+#[test]
+fn refused_bytes_of_other_recorders_are_found(rt: HostRuntime) -> Result<(), Fail> {
+    let alloc = rt.alloc();
+    for refused in lines_of(REFUSED_OF_OTHER_RECORDERS) {
+        let (column, line) = refused.split_once(' ').ok_or("no column")?;
+        let other = "line (1.000000) can0 7E0#0000000000000000\n";
+        let row = format!(in alloc;
+            "{refused}\nline {line}\n{other}{other}{other}refused line 1 column {column}\n"
+        )?;
         assert_log(&rt, alloc, &row)?;
     }
     Ok(())
