@@ -23,6 +23,7 @@ pub mod LineFields
 pub mod Spelling
 pub mod LineReads
 pub mod PlainLines
+pub mod LongestFronts
 pub mod Judging
 -- what holds of lines
 pub mod LineFeeds

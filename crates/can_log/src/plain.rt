@@ -11,7 +11,7 @@ use crate::frame::{Frame, Id, Kind, Stamped};
 use crate::hexadecimal::is_hex_digit;
 use crate::lanes::{LANES, decimal_front, hex_front, hex_run, visible_front};
 use crate::meaning::{decoded, identifier_of};
-use crate::stamp::{LONGEST_STAMP, has_decimals, time_of, time_of_short};
+use crate::stamp::{LONGEST_FRONT, LONGEST_STAMP, is_longest_front, time_of, time_of_short};
 
 /// The longest line of plain form, without its line feed: a stamp of 20 bytes, 15 of the interface, a space, 8 digits of the
 /// identifier, `##`, the digit of the flags, 128 of the data, a space, a mark, and a carriage return.
@@ -72,13 +72,7 @@ pub(crate) fn plain_line<const IS_LONG: bool>(piece: &[u8]) -> Option<(Fields<'_
     if piece.len() < ROOM_OF_CLASSIC {
         return None;
     }
-    let [b'(', rest @ ..] = piece else {
-        return None;
-    };
-    let (stamp, rest) = stamp_in_front::<IS_LONG>(rest)?;
-    let [b')', b' ', rest @ ..] = rest else {
-        return None;
-    };
+    let (stamp, rest) = stamp_in_front::<IS_LONG>(piece)?;
     let (interface, rest) = interface_in_front(rest)?;
     let [b' ', rest @ ..] = rest else {
         return None;
@@ -184,43 +178,49 @@ pub(crate) fn plain_kind(fields: Fields<'_>) -> Kind
     }
 }
 
-/// The stamp, with ten digits of seconds or with fewer, and the bytes after it.
+/// The stamp, with ten digits of seconds or with fewer, and the bytes after its parentheses and a space.
 #[inline(always)]
-fn stamp_in_front<const IS_LONG: bool>(bytes: &[u8]) -> Option<(&[u8], &[u8])>
-    requires { 10 + LANES ≤ length bytes.now }
-    ensures parts { IfSome result (λ x. bytes.now ≡ x.0.now ++ x.1.now) }
+fn stamp_in_front<const IS_LONG: bool>(piece: &[u8]) -> Option<(&[u8], &[u8])>
+    requires { ROOM_OF_CLASSIC ≤ length piece.now }
+    ensures parts { IfSome result (λ x. piece.now ≡ codes "(" ++ (x.0.now ++ (codes ") " ++ x.1.now))) }
     ensures stamp { IfSome result (λ x. IsStamp x.0.now) }
-    ensures length { IfSome result (λ x. length bytes.now ≤ 17 + length x.1.now) }
+    ensures length { IfSome result (λ x. length piece.now ≤ LONGEST_FRONT + length x.1.now) }
 {
     if IS_LONG {
-        long_stamp_in_front(bytes)
-    } else {
-        short_stamp_in_front(bytes)
+        return long_stamp_in_front(piece);
     }
+    let [b'(', rest @ ..] = piece else {
+        return None;
+    };
+    let (stamp, rest) = short_stamp_in_front(rest)?;
+    let [b')', b' ', rest @ ..] = rest else {
+        return None;
+    };
+    Some((stamp, rest))
 }
 
 /// A stamp with ten digits of seconds, as those of most logs have: each of its parts has its place.
 #[inline(always)]
-fn long_stamp_in_front(bytes: &[u8]) -> Option<(&[u8], &[u8])>
-    requires { LONGEST_STAMP ≤ length bytes.now }
-    ensures parts { IfSome result (λ x. bytes.now ≡ x.0.now ++ x.1.now) }
+fn long_stamp_in_front(piece: &[u8]) -> Option<(&[u8], &[u8])>
+    requires { LONGEST_FRONT ≤ length piece.now }
+    ensures parts { IfSome result (λ x. piece.now ≡ codes "(" ++ (x.0.now ++ (codes ") " ++ x.1.now))) }
     ensures stamp { IfSome result (λ x. IsStamp x.0.now) }
-    ensures length { IfSome result (λ x. length bytes.now ≤ 17 + length x.1.now) }
+    ensures length { IfSome result (λ x. length piece.now ≤ LONGEST_FRONT + length x.1.now) }
 {
-    let (stamp, rest) = bytes.split_at(LONGEST_STAMP);
-    if stamp[10] != b'.' || !has_decimals(stamp) {
+    let (front, rest) = piece.split_at(LONGEST_FRONT);
+    if !is_longest_front(front) {
         return None;
     }
-    Some((stamp, rest))
+    Some((&front[1..18], rest))
 }
 
-/// A stamp with one to nine digits of seconds. Its point is where they end.
+/// A stamp with one to nine digits of seconds, and the bytes after it. Its point is where they end.
 #[inline(always)]
 fn short_stamp_in_front(bytes: &[u8]) -> Option<(&[u8], &[u8])>
     requires { 10 + LANES ≤ length bytes.now }
     ensures parts { IfSome result (λ x. bytes.now ≡ x.0.now ++ x.1.now) }
     ensures stamp { IfSome result (λ x. IsStamp x.0.now) }
-    ensures length { IfSome result (λ x. length bytes.now ≤ 17 + length x.1.now) }
+    ensures length { IfSome result (λ x. length bytes.now ≤ LONGEST_STAMP + length x.1.now) }
 {
     let seconds = decimal_front(bytes);
     if seconds < 1 || seconds > 9 || bytes[seconds] != b'.' {

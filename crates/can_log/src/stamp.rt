@@ -1,10 +1,11 @@
-//! The time stamp of a plain line, by lanes: its sixteen digits are tested at once, and their value is found in four steps.
+//! The time stamp of a plain line, by lanes: it is tested at once with what stands around it, and the value of its sixteen
+//! digits is found in four steps.
 
-ghost use Rattle.std.specs.Prelude.{◌≡◌, ◌≤◌, ◌<◌, ◌++◌, IsTrue, length};
+ghost use Rattle.std.specs.Prelude.{◌≡◌, ◌≤◌, ◌<◌, ◌++◌, ◌==◌, IsTrue, length};
 ghost use Rattle.std.specs.List.{AllByRecursion};
 ghost use Rattle.std.specs.Char.{is_ascii_digit};
 ghost use Rattle.std.specs.Str.Parse.{digits_value};
-ghost use Rattle.can_log.specs.proving.Plain.{AreDecimals, IsStamp, seconds_of, micros_of, time_spelled, padded};
+ghost use Rattle.can_log.specs.proving.Plain.{AreDecimals, IsStamp, seconds_of, micros_of, time_spelled, padded, IsLongestFront};
 
 use crate::lanes::{LANES, first_set};
 use std::simd::prelude::*;
@@ -12,13 +13,35 @@ use std::simd::prelude::*;
 /// How many bytes a stamp has with ten digits of seconds, the most.
 pub(crate) const LONGEST_STAMP: usize = 17;
 
-/// Whether the stamp has decimal digits before and after its point.
+/// How many bytes such a stamp has in its parentheses, with a space behind them.
+pub(crate) const LONGEST_FRONT: usize = 20;
+
+/// Whether these bytes are a stamp with ten digits of seconds in its parentheses, and a space. They are compared, in two vectors
+/// that overlap, with those of a stamp of zeros: by XOR a digit differs from `0` by no more than 9, and each other byte by
+/// nothing.
 #[inline(always)]
-pub(crate) fn has_decimals(stamp: &[u8]) -> bool
-    requires { length stamp.now ≡ 17 }
-    ensures { IsTrue result → AreDecimals (seconds_of stamp.now ++ micros_of stamp.now) }
+pub(crate) fn is_longest_front(front: &[u8]) -> bool
+    requires { length front.now ≡ 20 }
+    ensures { IsTrue result → IsLongestFront front.now }
 {
-    are_decimals(digits_of(stamp))
+    let first = u8x16::from_slice(front) ^ u8x16::from_array(*b"(0000000000.0000");
+    let last = u8x16::from_slice(&front[4..]) ^ u8x16::from_array(*b"0000000.000000) ");
+    let first = first.saturating_sub(u8x16::from_array([
+        0, 9, 9, 9, 9, 9, 9, 9, 9, 9, 9, 0, 9, 9, 9, 9,
+    ]));
+    let last = last.saturating_sub(u8x16::from_array([
+        9, 9, 9, 9, 9, 9, 9, 0, 9, 9, 9, 9, 9, 9, 0, 0,
+    ]));
+    are_zeros(first | last)
+}
+
+/// Whether each of sixteen lanes is 0.
+#[inline(always)]
+fn are_zeros(lanes: u8x16) -> bool
+    requires { length lanes ≡ 16 }
+    ensures { IsTrue result → AllByRecursion (λ b. IsTrue (b == 0)) lanes }
+{
+    first_set(lanes.simd_gt(u8x16::splat(0)).to_bitmask()) == LANES
 }
 
 /// The time in microseconds.
@@ -68,16 +91,6 @@ fn digits_of(stamp: &[u8]) -> u8x16
         micros,
         [0, 1, 2, 3, 4, 5, 6, 7, 8, 9, 26, 27, 28, 29, 30, 31],
     )
-}
-
-/// Whether each of sixteen bytes is a decimal digit.
-#[inline(always)]
-fn are_decimals(bytes: u8x16) -> bool
-    requires { length bytes ≡ 16 }
-    ensures { IsTrue result → AreDecimals bytes }
-{
-    let others = (bytes - u8x16::splat(b'0')).simd_gt(u8x16::splat(9));
-    first_set(others.to_bitmask()) == LANES
 }
 
 /// The number that sixteen digits spell: each step makes one number of two that lie side by side.

@@ -104,6 +104,11 @@ pub record IsStamp (stamp : List ℕ) : Type 0 where
   pub point : stamp ≡ seconds_of stamp ++ (codes "." ++ micros_of stamp)
   pub decimals : AreDecimals (seconds_of stamp ++ micros_of stamp)
 
+-- the longest stamp in its parentheses, and a space
+pub record IsLongestFront (front : List ℕ) : Type 0 where
+  pub parts : front ≡ codes "(" ++ (take 17 (drop 1 front) ++ codes ") ")
+  pub stamp : IsStamp (take 17 (drop 1 front))
+
 -- gaps of one space
 abbrev pub spelling_of : Fields → LineSpelling
 spelling_of fields = record {

@@ -1,11 +1,13 @@
-use Rattle.std.proofs.Common.{◌≡◌, ℕ, ◌-◌, ◌++◌, length, take, drop, subst, arith}
-use Rattle.can_log.specs.proving.Plain.{AreDecimals}
-use Rattle.can_log.proofs.PlainLines.{stamp_is}
+use Rattle.std.proofs.Common.{◌≡◌, ◌++◌, List, ℕ, append_assoc, drop, take, sym, ap, ◌∙◌}
+use Rattle.std.specs.Prelude.{codes}
+use Rattle.std.proofs.lemmas.List.{take-append-drop}
 use Rattle.can_log.proofs.plain.long_stamp_in_front.Goals as goal
 
-pub returns-clause-stamp : goal.returns-clause-stamp
-returns-clause-stamp c =
-    let stamp = c.split_at.result.0.now in
-    let long : length stamp ≡ 17 = c.split_at.ensures.front_len in
-    stamp_is stamp 10 long (omega arith) (omega arith) c.if-stamp-ne46.false
-    (subst (λ (n : ℕ). AreDecimals (take (n - 7) stamp ++ drop (n - 6) stamp)) long (c.has_decimals.ensures c.if-not-has_decimals.false))
+pub returns-clause-parts : goal.returns-clause-parts
+returns-clause-parts c =
+    let piece = c.args.piece.now in
+    let front = c.split_at.result.0.now in
+    let rest = c.split_at.result.1.now in
+    let found = c.is_longest_front.ensures c.if-not-is_longest_front.false in
+    let whole : front ++ rest ≡ piece = (λ i. c.split_at.ensures.front i ++ c.split_at.ensures.back i) ∙ take-append-drop 20 piece in
+    sym whole ∙ ap (λ (z : List ℕ). z ++ rest) found.parts ∙ ap (λ (z : List ℕ). codes "(" ++ z) (append_assoc (take 17 (drop 1 front)) (codes ") ") rest)
