@@ -17,8 +17,8 @@ use crate::stamp::{LONGEST_FRONT, LONGEST_STAMP, is_longest_front, time_of, time
 /// identifier, `##`, the digit of the flags, 128 of the data, a space, a mark, and a carriage return.
 pub(crate) const LONGEST_PLAIN: usize = 178;
 
-/// The longest line of a classic frame in plain form, and what else the lanes reach: a stamp of 20 bytes, 15 of the interface,
-/// a space, 8 digits of the identifier, `#`, 16 of the data, and a line feed.
+/// The longest line of a classic frame in plain form up to the byte behind its data, and what else the lanes reach: a stamp of
+/// 20 bytes, 15 of the interface, a space, 8 digits of the identifier, `#`, 16 of the data, and that byte.
 const ROOM_OF_CLASSIC: usize = 62 + LANES;
 
 /// The most digits of data of an FD frame, and what else the lanes reach.
