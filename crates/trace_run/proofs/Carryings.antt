@@ -1,9 +1,23 @@
 -- What was said to a page, once nothing is left on it.
-use Rattle.std.proofs.Common.{◌≡◌, Bool, true, false, List, [], ◌++◌, ℕ, refl, sym, append-nil}
+use Rattle.std.proofs.Common.{◌≡◌, ◌<◌, Bool, true, false, List, [], ◌∷◌, ◌++◌, ℕ, length, arith, refl, ap, sym, subst, ◌∙◌, append-nil, append_assoc, length-append}
 use Rattle.trace_io.specs.Written.{HasFront}
 use Rattle.trace_io.specs.declared.device.Target.{Ghosts}
-use Rattle.trace_run.specs.proving.Carrying.{Carries}
-use Rattle.trace_run.proofs.WrittenFronts.{written_all}
+use Rattle.trace_run.specs.proving.Carrying.{Carries, HasCarried}
+use Rattle.trace_run.proofs.WrittenFronts.{written_all, front_longer}
+
+-- a text that was said, and found room behind what is held
+carried_more : (failed : Bool) (old said text held new : List ℕ) → HasCarried failed old said held new → HasCarried failed old (said ++ text) (held ++ text) new
+carried_more false old said text held new is = record {
+  front = is.front;
+  parts = ap (λ x. x ++ text) is.parts ∙ append_assoc is.front held text;
+  wrote = is.wrote;
+}
+carried_more true old said text held new is = front_longer old said text new is
+
+-- where that is something, so is all that was said
+some_more : (said text held : List ℕ) → (0 < length held → 0 < length said) → 0 < length (held ++ text) → 0 < length (said ++ text)
+some_more said text [] is some = omega (arith, length-append said text)
+some_more said text (byte ∷ held) is some = omega (arith, is (omega arith), length-append said text)
 
 module _ {W : Type 0} (target : Ghosts W) where
   -- what was said was written
@@ -16,3 +30,19 @@ module _ {W : Type 0} (target : Ghosts W) where
   wrote_front start now said true carries = carries.written
   wrote_front start now said false carries =
       record { front = said; rest = []; parts = sym (append-nil said); wrote = wrote_all start now said carries }
+
+  -- a text more was said, and is held behind what was
+  pub held_more : (start now : W) (said text held held_now : List ℕ) (failed : Bool) → held_now ≡ held ++ text → Carries target start said failed held now
+      → Carries target start (said ++ text) failed held_now now
+  held_more start now said text held held_now failed is so_far =
+      subst (λ h. Carries target start (said ++ text) failed h now) (sym is) (record {
+        low = so_far.low;
+        held_some = some_more said text held so_far.held_some;
+        spoke = λ has. omega (arith, so_far.spoke has, length-append said text);
+        still = λ none. so_far.still (omega (arith, none, length-append said text));
+        failures = so_far.failures;
+        no_empty_write = so_far.no_empty_write;
+        flushes = so_far.flushes;
+        took = so_far.took;
+        written = carried_more failed (target.taken start) said text held (target.taken now) so_far.written;
+      })

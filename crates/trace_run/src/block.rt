@@ -64,12 +64,17 @@ impl Block {
         &self.bytes[..self.len]
     }
 
-    /// How many more bytes there is room for.
+    /// Appends the bytes where there is room for them. Answers whether there was.
     #[inline(always)]
-    fn room(&self) -> usize
-        ensures { result + length self.now ≡ BLOCK }
+    pub(crate) fn take(&mut self, bytes: &[u8]) -> bool
+        ensures took { result ≡ true → self.new ≡ self.old ++ bytes.now }
+        ensures full { result ≡ false → (self.new ≡ self.old) × (0 < length bytes.now) }
     {
-        BLOCK - self.len
+        if self.len + bytes.len() > BLOCK {
+            return false;
+        }
+        self.append(bytes);
+        true
     }
 
     /// Appends bytes that there is room for.
@@ -84,9 +89,8 @@ impl Block {
     }
 }
 
-/// Appends the text to the block. A block that has no room for it is written first, and a text that no block has room for
+/// Writes the block, which has no room for the text, and begins it anew with the text. A text that no block has room for
 /// is written at once.
-#[inline(always)]
 pub(crate) fn gather<W: Target>(
     writer: &mut W,
     block: &mut Block,
@@ -100,12 +104,10 @@ pub(crate) fn gather<W: Target>(
     ensures took { Took (W.taken writer.old) (W.taken writer.new) (W.contents writer.old) (W.contents writer.new) }
     ensures taken { HasGathered result (W.taken writer.old) (block.old ++ text.now) (W.taken writer.new) block.new }
 {
-    if block.room() < text.len() {
-        write_all(writer, block.as_slice())?;
-        block.clear();
-        if text.len() > BLOCK {
-            return write_all(writer, text);
-        }
+    write_all(writer, block.as_slice())?;
+    block.clear();
+    if text.len() > BLOCK {
+        return write_all(writer, text);
     }
     block.append(text);
     Ok(())

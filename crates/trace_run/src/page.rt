@@ -1,5 +1,5 @@
 //! The page that text is gathered on, between a machine and the target.
-ghost use Rattle.std.specs.Prelude.{◌≡◌, [], true, false};
+ghost use Rattle.std.specs.Prelude.{◌≡◌, ◌<◌, [], length, true, false};
 ghost use Rattle.trace_run.specs.proving.Carrying.{Speaks, Settles, SaysNoMore};
 
 use crate::block::{Block, gather};
@@ -49,18 +49,29 @@ impl<'a, W: Target> TextSink for Drain<'a, W> {
       speaks_onward W.Target s.page.now.failed m.page.now.failed t.page.now.failed s.page.now.block m.page.now.block t.page.now.block s.target.now m.target.now t.target.now a b one.2 two.2,
     ) };
 
+    #[inline(always)]
     fn put(&mut self, text: &[u8]) {
         put_text(self.target, self.page, text);
     }
 }
 
-/// Puts a text on the page, which is written first where it is full.
+/// Puts a text on the page. Most texts find room there: so much stands where a text is said, and what else there is to do
+/// stands apart.
+#[inline(always)]
 fn put_text<W: Target>(target: &mut W, page: &mut Page, text: &[u8])
     ensures { Speaks W.Target page.old.failed page.old.block target.old text.now page.new.failed page.new.block target.new }
 {
-    if text.is_empty() {
-        return;
+    if !page.block.take(text) {
+        put_anew(target, page, text);
     }
+}
+
+/// Puts a text on a page that has no room for it: what is on the page is written first.
+#[inline(never)]
+fn put_anew<W: Target>(target: &mut W, page: &mut Page, text: &[u8])
+    requires { 0 < length text.now }
+    ensures { Speaks W.Target page.old.failed page.old.block target.old text.now page.new.failed page.new.block target.new }
+{
     if page.failed {
         return;
     }
