@@ -1,5 +1,5 @@
 -- What is told of a request without an answer.
-use Rattle.std.proofs.Common.{◌≡◌, ℕ, ◌+◌, Bool, true, false, List, length, codes, arith, refl, ap, None}
+use Rattle.std.proofs.Common.{◌≡◌, ℕ, Bool, true, false, List, length, codes, refl, ap}
 use Rattle.std.specs.Prelude.{◌↔◌, if◌then◌else◌}
 use Rattle.uds_message.specs.Message.{is_suppressing}
 use Rattle.trace_text.specs.Json.{Value, string, Members, nothing, member}

@@ -59,18 +59,16 @@ pub(crate) fn last_digit(number: u8) -> [u8; 1]
 pub(crate) fn six_decimals(number: u64) -> [u8; 6]
     ensures { result ≡ decimal 6 number }
 {
-    let tens = number / 10;
-    let hundreds = tens / 10;
-    let thousands = hundreds / 10;
-    let ten_thousands = thousands / 10;
-    let hundred_thousands = ten_thousands / 10;
+    let last = (number % 1_000_000) as u32;
+    let thousands = last / 1_000;
+    let ones = last % 1_000;
     [
-        decimal_digit(hundred_thousands),
-        decimal_digit(ten_thousands),
+        decimal_digit(thousands / 100),
+        decimal_digit(thousands / 10),
         decimal_digit(thousands),
-        decimal_digit(hundreds),
-        decimal_digit(tens),
-        decimal_digit(number),
+        decimal_digit(ones / 100),
+        decimal_digit(ones / 10),
+        decimal_digit(ones),
     ]
 }
 
@@ -79,17 +77,16 @@ pub(crate) fn six_decimals(number: u64) -> [u8; 6]
 pub(crate) fn three_decimals(number: u64) -> [u8; 3]
     ensures { result ≡ decimal 3 number }
 {
-    let tens = number / 10;
-    let hundreds = tens / 10;
+    let last = (number % 1_000) as u32;
     [
-        decimal_digit(hundreds),
-        decimal_digit(tens),
-        decimal_digit(number),
+        decimal_digit(last / 100),
+        decimal_digit(last / 10),
+        decimal_digit(last),
     ]
 }
 
 /// The last decimal digit of a number.
-fn decimal_digit(number: u64) -> u8
+fn decimal_digit(number: u32) -> u8
     ensures { result ≡ digit (number % 10) }
 {
     DIGITS[(number % 10) as usize]

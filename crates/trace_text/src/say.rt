@@ -1,5 +1,5 @@
 //! The parts of a line of text, said one after another.
-ghost use Rattle.std.specs.Prelude.{◌+◌};
+ghost use Rattle.std.specs.Prelude.{◌+◌, ◌<◌, ◌≤◌, length, take};
 ghost use Rattle.std.specs.Fmt.{decimal};
 ghost use Rattle.trace_text.specs.Parts.{counts_between, part_text, parts_text};
 ghost use Rattle.can_log.specs.Digits.{hexadecimal};
@@ -60,7 +60,8 @@ pub fn say_text<S: TextSink>(out: &mut S, text: &str)
     out.put(text.as_bytes());
 }
 
-/// Says a number in decimal.
+/// Says a number in decimal. It stands apart, as what else is long to say, so that [`say_parts`] is a small loop.
+#[inline(never)]
 pub fn say_number<S: TextSink>(out: &mut S, number: u64)
     ensures { S.says out.old (decimal number) out.new }
 {
@@ -68,10 +69,12 @@ pub fn say_number<S: TextSink>(out: &mut S, number: u64)
 }
 
 /// Says the number of what is at a place, counted from 1.
+#[inline(never)]
 pub fn say_place<S: TextSink>(out: &mut S, place: usize)
     ensures { S.says out.old (decimal (place + 1)) out.new }
 {
-    say_part(out, Part::Place(place));
+    // One more than the largest place is no `usize`.
+    out.put(Buffer::new().format(place as u128 + 1).as_bytes());
 }
 
 /// Says the two digits of a byte.
@@ -85,14 +88,15 @@ pub fn say_byte<S: TextSink>(out: &mut S, byte: u8)
 pub fn say_digit<S: TextSink>(out: &mut S, number: u8)
     ensures { S.says out.old (hexadecimal 1 number) out.new }
 {
-    say_part(out, Part::Digit(number));
+    out.put(&last_digit(number));
 }
 
 /// Says the last six decimal digits of a number.
+#[inline(never)]
 pub fn say_six_decimals<S: TextSink>(out: &mut S, number: u64)
     ensures { S.says out.old (digits.decimal 6 number) out.new }
 {
-    say_part(out, Part::Decimals(number));
+    out.put(&six_decimals(number));
 }
 
 /// Says the last three decimal digits of a number.
@@ -131,44 +135,47 @@ pub fn say_layout_fault<S: TextSink>(out: &mut S, fault: PduFault)
 }
 
 /// Says the name of a service (ISO 14229-1), or `service_` and two digits where it has none.
+#[inline(never)]
 pub fn say_service<S: TextSink>(out: &mut S, sid: u8)
     ensures { S.says out.old (service_text sid) out.new }
 {
-    say_part(out, Part::Service(sid));
+    match service_name(sid) {
+        Some(name) => say_text(out, name),
+        None => out.put(&numbered_service(sid)),
+    }
 }
 
 /// Says the name of a response code (ISO 14229-1, Annex A.1), or `code_` and two digits where it has none.
+#[inline(never)]
 pub fn say_code<S: TextSink>(out: &mut S, code: u8)
     ensures { S.says out.old (code_text code) out.new }
 {
-    say_part(out, Part::Code(code));
+    match code_name(code) {
+        Some(name) => say_text(out, name),
+        None => out.put(&numbered_code(code)),
+    }
 }
 
 /// Says a part.
+#[inline(always)]
 fn say_part<S: TextSink>(out: &mut S, part: Part<'_>)
     ensures { S.says out.old (part_text part.entry) out.new }
 {
     match part {
-        Part::Text(text) => out.put(text.as_bytes()),
-        Part::Number(number) => out.put(Buffer::new().format(number).as_bytes()),
-        // One more than the largest place is no `usize`.
-        Part::Place(place) => out.put(Buffer::new().format(place as u128 + 1).as_bytes()),
-        Part::Digit(number) => out.put(&last_digit(number)),
-        Part::Decimals(number) => out.put(&six_decimals(number)),
+        Part::Text(text) => say_text(out, text),
+        Part::Number(number) => say_number(out, number),
+        Part::Place(place) => say_place(out, place),
+        Part::Digit(number) => say_digit(out, number),
+        Part::Decimals(number) => say_six_decimals(out, number),
         Part::Spelled(bytes) => out.put(bytes),
         Part::Bytes(bytes) => say_bytes(out, bytes),
-        Part::Service(sid) => match service_name(sid) {
-            Some(name) => out.put(name.as_bytes()),
-            None => out.put(&numbered_service(sid)),
-        },
-        Part::Code(code) => match code_name(code) {
-            Some(name) => out.put(name.as_bytes()),
-            None => out.put(&numbered_code(code)),
-        },
+        Part::Service(sid) => say_service(out, sid),
+        Part::Code(code) => say_code(out, code),
     }
 }
 
 /// Says two digits for each byte: of eight bytes at once, as long as there are eight.
+#[inline(never)]
 fn say_bytes<S: TextSink>(out: &mut S, bytes: &[u8])
     ensures { S.says out.old (bytes_text bytes.now) out.new }
 {
@@ -180,11 +187,30 @@ fn say_bytes<S: TextSink>(out: &mut S, bytes: &[u8])
     say_few_bytes(out, rest);
 }
 
-/// The same one by one.
+/// The same of fewer than eight bytes: they stand in front of eight, whose digits are made at once.
+#[inline(always)]
 fn say_few_bytes<S: TextSink>(out: &mut S, bytes: &[u8])
+    requires { length bytes.now < 8 }
     ensures { S.says out.old (bytes_text bytes.now) out.new }
 {
-    'bytes: for byte in bytes {
-        out.put(&hexadecimal_digits(*byte));
+    match *bytes {
+        [] => {}
+        [a] => say_front(out, &[a, 0, 0, 0, 0, 0, 0, 0], 1),
+        [a, b] => say_front(out, &[a, b, 0, 0, 0, 0, 0, 0], 2),
+        [a, b, c] => say_front(out, &[a, b, c, 0, 0, 0, 0, 0], 3),
+        [a, b, c, d] => say_front(out, &[a, b, c, d, 0, 0, 0, 0], 4),
+        [a, b, c, d, e] => say_front(out, &[a, b, c, d, e, 0, 0, 0], 5),
+        [a, b, c, d, e, f] => say_front(out, &[a, b, c, d, e, f, 0, 0], 6),
+        [a, b, c, d, e, f, g] => say_front(out, &[a, b, c, d, e, f, g, 0], 7),
+        _ => {}
     }
+}
+
+/// Says the digits of so many of eight bytes.
+#[inline(always)]
+fn say_front<S: TextSink>(out: &mut S, eight: &[u8; 8], count: usize)
+    requires { count ≤ 8 }
+    ensures { S.says out.old (bytes_text (take count eight.now)) out.new }
+{
+    out.put(&digits_of_bytes(eight)[..2 * count]);
 }
