@@ -1,13 +1,11 @@
 //! The text of a meaning, said item by item.
 ghost use Rattle.std.specs.Prelude.{◌++◌, codes, option_map};
 ghost use Rattle.uds_exchange.specs.ItemSeen.{lent_value};
-ghost use Rattle.trace_text.specs.ListText.{item_line, worded_line, item_text, list_text, number_text, outcome_line};
+ghost use Rattle.trace_text.specs.ListText.{answer_text, item_line, worded_line, item_text, list_text, number_text, outcome_line};
 
 use crate::item_objects::say_item_object;
-use crate::names::direction_name;
 use crate::notation::Notation;
-use crate::parts::Part;
-use crate::say::say_parts;
+use crate::say::{say_bytes, say_code, say_direction, say_number, say_service, say_text};
 use trace_io::TextSink;
 use uds_exchange::{LentItem, Meaning};
 use uds_message::{is_negative_response, is_suppressing, response_code, sid};
@@ -47,7 +45,7 @@ pub fn say_item<S: TextSink>(number: u64, style: ItemStyle, item: LentItem<'_>, 
         Notation::Text => say_worded(number, style.numbering, item, out),
         Notation::Json => {
             say_item_object(number, style.numbering, item, out);
-            say_parts(out, &[Part::Text("\n")]);
+            say_text(out, "\n");
         }
     }
 }
@@ -65,7 +63,10 @@ fn say_item_number<S: TextSink>(number: u64, numbering: Numbering, out: &mut S)
     ensures { S.says out.old (number_text numbering number) out.new }
 {
     match numbering {
-        Numbering::Shown => say_parts(out, &[Part::Number(number), Part::Text(" ")]),
+        Numbering::Shown => {
+            say_number(out, number);
+            say_text(out, " ");
+        }
         Numbering::Hidden => {}
     }
 }
@@ -76,28 +77,20 @@ fn say_unnumbered<S: TextSink>(item: LentItem<'_>, out: &mut S)
 {
     match item {
         LentItem::Exchange { request, answer } => {
-            say_parts(
-                out,
-                &[
-                    Part::Text("exchange "),
-                    Part::Service(sid(request)),
-                    Part::Text(" "),
-                    Part::Bytes(request),
-                    Part::Text(" -> "),
-                ],
-            );
+            say_text(out, "exchange ");
+            say_service(out, sid(request));
+            say_text(out, " ");
+            say_bytes(out, request);
+            say_text(out, " -> ");
             say_outcome(request, answer, out);
         }
-        LentItem::Stray { dir, bytes } => say_parts(
-            out,
-            &[
-                Part::Text("stray "),
-                Part::Text(direction_name(dir)),
-                Part::Text(" "),
-                Part::Bytes(bytes),
-                Part::Text("\n"),
-            ],
-        ),
+        LentItem::Stray { dir, bytes } => {
+            say_text(out, "stray ");
+            say_direction(out, dir);
+            say_text(out, " ");
+            say_bytes(out, bytes);
+            say_text(out, "\n");
+        }
     }
 }
 
@@ -106,25 +99,25 @@ fn say_outcome<S: TextSink>(request: &[u8], answer: Option<&[u8]>, out: &mut S)
     ensures { S.says out.old (outcome_line request.now (option_map (λ reply. reply.now) answer.entry)) out.new }
 {
     match answer {
-        None if is_suppressing(request) => say_parts(out, &[Part::Text("silent\n")]),
-        None => say_parts(out, &[Part::Text("unanswered\n")]),
-        Some(reply) if is_negative_response(reply) => say_parts(
-            out,
-            &[
-                Part::Text("negative "),
-                Part::Code(response_code(reply)),
-                Part::Text(" "),
-                Part::Bytes(reply),
-                Part::Text("\n"),
-            ],
-        ),
-        Some(reply) => say_parts(
-            out,
-            &[
-                Part::Text("positive "),
-                Part::Bytes(reply),
-                Part::Text("\n"),
-            ],
-        ),
+        None if is_suppressing(request) => say_text(out, "silent\n"),
+        None => say_text(out, "unanswered\n"),
+        Some(reply) => say_answer(reply, out),
+    }
+}
+
+/// Says the answer to a request, to the end of its line.
+fn say_answer<S: TextSink>(reply: &[u8], out: &mut S)
+    ensures { S.says out.old (answer_text reply.now ++ codes "\n") out.new }
+{
+    if is_negative_response(reply) {
+        say_text(out, "negative ");
+        say_code(out, response_code(reply));
+        say_text(out, " ");
+        say_bytes(out, reply);
+        say_text(out, "\n");
+    } else {
+        say_text(out, "positive ");
+        say_bytes(out, reply);
+        say_text(out, "\n");
     }
 }

@@ -5,6 +5,6 @@ use Rattle.trace_text.proofs.item_lines.say_item.Goals as goal
 
 pub returns-in-Json : goal.returns-in-Json
 returns-in-Json g c =
-    subst (λ text. g.S.TextSink.says c.args.out.now text c.say_parts.new.out)
+    subst (λ text. g.S.TextSink.says c.args.out.now text c.say_text.new.out)
     (ap (λ notation. written_line notation c.args.style.numbering c.args.number (lent_value c.args.item)) (sym c.in-Json.is))
-    (g.met.S.TextSink.onward _ _ _ _ _ c.say_item_object.ensures c.say_parts.ensures)
+    (g.met.S.TextSink.onward _ _ _ _ _ c.say_item_object.ensures c.say_text.ensures)

@@ -1,0 +1,19 @@
+use Rattle.std.proofs.Common.{◌∙◌, sym, subst}
+use Rattle.trace_text.proofs.ItemLines.{negative_line, positive_line}
+use Rattle.trace_text.proofs.item_lines.say_answer.Goals as goal
+
+pub returns-then-is_negative_response : goal.returns-then-is_negative_response
+returns-then-is_negative_response g c =
+    let line = negative_line c.args.reply.now c.response_code.result (sym c.is_negative_response.ensures ∙ c.if-is_negative_response.true) c.response_code.ensures in
+    subst (λ text. g.S.TextSink.says c.args.out.now text c.say_text-then-is_negative_response-2.new.out) line
+    (g.met.S.TextSink.onward _ _ _ _ _ (g.met.S.TextSink.onward _ _ _ _ _ (g.met.S.TextSink.onward _ _ _ _ _ (g.met.S.TextSink.onward _ _ _ _ _ c.say_text.ensures c.say_code.ensures)
+    c.say_text-then-is_negative_response.ensures)
+    c.say_bytes.ensures)
+    c.say_text-then-is_negative_response-2.ensures)
+
+pub returns-else-is_negative_response : goal.returns-else-is_negative_response
+returns-else-is_negative_response g c =
+    let line = positive_line c.args.reply.now (sym c.is_negative_response.ensures ∙ c.if-is_negative_response.false) in
+    subst (λ text. g.S.TextSink.says c.args.out.now text c.say_text-else-is_negative_response-2.new.out) line
+    (g.met.S.TextSink.onward _ _ _ _ _ (g.met.S.TextSink.onward _ _ _ _ _ c.say_text-else-is_negative_response.ensures c.say_bytes-else-is_negative_response.ensures)
+    c.say_text-else-is_negative_response-2.ensures)
