@@ -1,5 +1,5 @@
 -- What a machine that places messages keeps and says of one more frame.
-use Rattle.std.proofs.Common.{◌≡◌, ℕ, List, [], ◌∷◌, ◌++◌, refl, ap, sym, subst, ◌∙◌, append-nil, append_assoc, codes, ◌/◌}
+use Rattle.std.proofs.Common.{◌≡◌, ℕ, List, [], ◌∷◌, ◌++◌, refl, ap, sym, subst, ◌∙◌, append_assoc, codes, ◌/◌}
 use Rattle.std.specs.Fmt.{decimal}
 use Rattle.can_log.specs.Digits as digits
 use Rattle.can_log.specs.Frame.{FrameValue}
@@ -13,7 +13,7 @@ use Rattle.uds_exchange.specs.Numbering.{step_after, number_after}
 use Rattle.uds_exchange.specs.declared.step.Step.{Step}
 use Rattle.trace_canon.specs.proving.Begun.{IsBegunAt}
 use Rattle.trace_canon.specs.Begun.{begun_after, began_at}
-use Rattle.trace_canon.specs.MessageLines.{PlacedMessage, place_of, stamp_text, extent_text, first_frame, placed_line, placed_members, placed_text, placed_behind, delivered_line}
+use Rattle.trace_canon.specs.MessageLines.{PlacedMessage, place_of, stamp_text, first_frame, placed_members, placed_text, placed_behind, delivered_line}
 use Rattle.trace_text.specs.Words.{role_text}
 use Rattle.trace_text.specs.Json.{object_line}
 use Rattle.trace_text.specs.Words.{bytes_text, direction_text}
@@ -98,32 +98,7 @@ two_stamps front start end between rest =
     ap (λ x. front (decimal (start / 1000000) ++ (codes "." ++ (digits.decimal 6 start ++ (between ++ x))))) (stamp_end (decimal (end / 1000000)) (codes ".") (digits.decimal 6 end) rest)
     ∙ ap front (stamp_end (decimal (start / 1000000)) (codes ".") (digits.decimal 6 start) (between ++ (stamp_text end ++ rest)))
 
-extent_end : (a b c d e f g h rest : List ℕ) → a ++ (b ++ (c ++ (d ++ (e ++ (f ++ (g ++ (h ++ rest))))))) ≡ (a ++ b ++ c ++ d ++ e ++ f ++ g ++ h) ++ rest
-extent_end a b c d e f g h rest = simp append_assoc
-
-line_end : (a b c d e f g h i : List ℕ) → a ++ (b ++ (c ++ (d ++ (e ++ (f ++ (g ++ (h ++ (i ++ [])))))))) ≡ a ++ b ++ c ++ d ++ e ++ f ++ g ++ h ++ i
-line_end a b c d e f g h i = simp (append_assoc, append-nil)
-
--- the parts of the line of a message
-abbrev line_parts_of : ℕ → List ℕ → List ℕ → List ℕ → FramePlace → FramePlace → List ℕ
-line_parts_of number role side bytes start end =
-    decimal number ++ (codes " " ++ (role ++ (codes " " ++ (side ++ (codes " lines " ++ (decimal start.line ++ (codes " to " ++ (decimal end.line ++ (codes " at "
-    ++ (decimal (start.micros / 1000000) ++ (codes "." ++ (digits.decimal 6 start.micros ++ (codes " to "
-    ++ (decimal (end.micros / 1000000) ++ (codes "." ++ (digits.decimal 6 end.micros ++ (codes " " ++ (bytes ++ (codes "\n" ++ [])))))))))))))))))))
-
-pub line_parts : (number : ℕ) (step : Step) (sent : Message) (start end : FramePlace) (role side : List ℕ) → role ≡ role_text step → side ≡ direction_text sent.0
-    → line_parts_of number role side (bytes_text sent.1) start end ≡ placed_line (placed_at number step sent start end)
-line_parts number step sent start end role side role_is side_is =
-    let last_words : List ℕ = codes " " ++ (bytes_text sent.1 ++ (codes "\n" ++ [])) in
-    let front : List ℕ → List ℕ = λ x. codes " lines " ++ (decimal start.line ++ (codes " to " ++ (decimal end.line ++ (codes " at " ++ x)))) in
-    let stamps = two_stamps front start.micros end.micros (codes " to ") last_words in
-    let extent = extent_end (codes " lines ") (decimal start.line) (codes " to ") (decimal end.line) (codes " at ") (stamp_text start.micros) (codes " to ") (stamp_text end.micros) last_words in
-    let whole = line_end (decimal number) (codes " ") (role_text step) (codes " ") (direction_text sent.0) (extent_text start end) (codes " ") (bytes_text sent.1) (codes "\n") in
-    rw (role_is, side_is)
-    (ap (λ x. decimal number ++ (codes " " ++ (role_text step ++ (codes " " ++ (direction_text sent.0 ++ x)))))
-    (stamps ∙ extent) ∙ whole)
-
--- the parts of its object
+-- the parts of the object of a message
 abbrev object_parts_of : ℕ → List ℕ → List ℕ → List ℕ → FramePlace → FramePlace → List ℕ
 object_parts_of number role side bytes start end =
     codes "{\"item\":" ++ (decimal number ++ (codes ",\"role\":\"" ++ (role ++ (codes "\",\"direction\":\"" ++ (side

@@ -1,7 +1,7 @@
 //! `messages`: a machine that says each message with its place in the log, as it is delivered.
 ghost use Rattle.std.specs.Prelude.{length};
 ghost use Rattle.isotp_receive.specs.declared.TheConstants.{MESSAGE_LIMIT};
-ghost use Rattle.trace_canon.specs.MessageLines.{placed_line, placed_text, placing_script};
+ghost use Rattle.trace_canon.specs.MessageLines.{extent_text, placed_line, placed_text, placing_script, stamp_text};
 ghost use Rattle.trace_run.specs.Told.{RanLenient, answers_counts, needs_none};
 ghost use Rattle.trace_io.specs.Counted.{IsLowCount, AreLowCounts};
 
@@ -13,9 +13,9 @@ use std::alloc::{AllocError, Global};
 use trace_io::{Source, Target, TextSink};
 use trace_log::{Config, Fault, Summary};
 use trace_run::{Machine, Stop, run_lenient};
-use trace_text::names::{direction_name, role_name};
-use trace_text::say::say_parts;
-use trace_text::{Notation, Part};
+use trace_text::Notation;
+use trace_text::names::role_name;
+use trace_text::say::{say_bytes, say_direction, say_number, say_six_decimals, say_text};
 use uds_exchange::{Numbers, Step};
 
 /// Reads a log and writes a line for each message that is delivered, as it comes, in words or as an object of JSON: the
@@ -137,29 +137,36 @@ fn say_message_line<S: TextSink>(
 )
     ensures { S.says out.old (placed_line (record { number = number; step = step; sent = (dir, message.now); start = first; end = last })) out.new }
 {
-    say_parts(
-        out,
-        &[
-            Part::Number(number),
-            Part::Text(" "),
-            Part::Text(role_name(step)),
-            Part::Text(" "),
-            Part::Text(direction_name(dir)),
-            Part::Text(" lines "),
-            Part::Number(first.line),
-            Part::Text(" to "),
-            Part::Number(last.line),
-            Part::Text(" at "),
-            Part::Number(first.micros / 1_000_000),
-            Part::Text("."),
-            Part::Decimals(first.micros),
-            Part::Text(" to "),
-            Part::Number(last.micros / 1_000_000),
-            Part::Text("."),
-            Part::Decimals(last.micros),
-            Part::Text(" "),
-            Part::Bytes(message),
-            Part::Text("\n"),
-        ],
-    );
+    say_number(out, number);
+    say_text(out, " ");
+    say_text(out, role_name(step));
+    say_text(out, " ");
+    say_direction(out, dir);
+    say_extent(out, first, last);
+    say_text(out, " ");
+    say_bytes(out, message);
+    say_text(out, "\n");
+}
+
+/// Says the lines and the stamps of the first frame of a message and of its last one.
+fn say_extent<S: TextSink>(out: &mut S, first: FramePlace, last: FramePlace)
+    ensures { S.says out.old (extent_text first last) out.new }
+{
+    say_text(out, " lines ");
+    say_number(out, first.line);
+    say_text(out, " to ");
+    say_number(out, last.line);
+    say_text(out, " at ");
+    say_stamp(out, first.micros);
+    say_text(out, " to ");
+    say_stamp(out, last.micros);
+}
+
+/// Says the time of a frame: its seconds, a dot, and six digits.
+fn say_stamp<S: TextSink>(out: &mut S, micros: u64)
+    ensures { S.says out.old (stamp_text micros) out.new }
+{
+    say_number(out, micros / 1_000_000);
+    say_text(out, ".");
+    say_six_decimals(out, micros);
 }

@@ -176,7 +176,7 @@ fn say_part<S: TextSink>(out: &mut S, part: Part<'_>)
 
 /// Says two digits for each byte: of eight bytes at once, as long as there are eight.
 #[inline(never)]
-pub(crate) fn say_bytes<S: TextSink>(out: &mut S, bytes: &[u8])
+pub fn say_bytes<S: TextSink>(out: &mut S, bytes: &[u8])
     ensures { S.says out.old (bytes_text bytes.now) out.new }
 {
     let mut rest = bytes;

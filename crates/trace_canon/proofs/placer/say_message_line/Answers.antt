@@ -1,8 +1,15 @@
 use Rattle.std.proofs.Common.{subst}
-use Rattle.trace_canon.proofs.PlacingScripts.{line_parts}
 use Rattle.trace_canon.proofs.placer.say_message_line.Goals as goal
 
 pub returns : goal.returns
 returns g c =
-    subst (λ text. g.S.TextSink.says c.args.out.now text c.say_parts.new.out)
-    (line_parts c.args.number c.args.step (c.args.dir, c.args.message.now) c.args.first c.args.last _ _ c.role_name.ensures c.direction_name.ensures) c.say_parts.ensures
+    let role = subst (λ text. g.S.TextSink.says c.say_text.new.out text c.say_text-2.new.out) c.role_name.ensures c.say_text-2.ensures in
+    g.met.S.TextSink.onward _ _ _ _ _ (g.met.S.TextSink.onward _ _ _ _ _ (g.met.S.TextSink.onward _ _ _ _ _ (g.met.S.TextSink.onward _ _ _ _ _ (g.met.S.TextSink.onward _ _ _ _ _ (g.met.S.TextSink.onward _ _ _ _ _ (g.met.S.TextSink.onward _ _ _ _ _ (g.met.S.TextSink.onward _ _ _ _ _ (c.say_number.ensures)
+    (c.say_text.ensures))
+    (role))
+    (c.say_text-3.ensures))
+    (c.say_direction.ensures))
+    (c.say_extent.ensures))
+    (c.say_text-4.ensures))
+    (c.say_bytes.ensures))
+    (c.say_text-5.ensures)
