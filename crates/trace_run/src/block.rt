@@ -5,6 +5,7 @@ ghost use Rattle.trace_run.specs.proving.Gathering.{HasGathered};
 
 use can_log::LONGEST_LINE;
 use std::marker::Model;
+use std::simd::{u8x4, u8x8};
 use trace_io::{DeviceFault, Target, write_all};
 
 /// The most bytes that are gathered for one write: 64 canonical lines of the longest kind.
@@ -84,7 +85,7 @@ impl Block {
         ensures { self.new ≡ self.old ++ bytes.now }
     {
         let end = self.len + bytes.len();
-        self.bytes[self.len..end].copy_from_slice(bytes);
+        copy(bytes, &mut self.bytes[self.len..end]);
         self.len = end;
     }
 }
@@ -111,4 +112,26 @@ pub(crate) fn gather<W: Target>(
     }
     block.append(text);
     Ok(())
+}
+
+/// Copies bytes over as many others. From 4 to 16 they are copied by two stores, which may overlap: that needs no call.
+#[inline(always)]
+fn copy(from: &[u8], to: &mut [u8])
+    requires { length from.now ≡ length to.old }
+    ensures { to.new ≡ from.now }
+{
+    let count = from.len();
+    if 8 <= count && count <= 16 {
+        let front = u8x8::from_slice(from);
+        let back = u8x8::from_slice(&from[count - 8..]);
+        front.copy_to_slice(to);
+        back.copy_to_slice(&mut to[count - 8..]);
+    } else if 4 <= count && count < 8 {
+        let front = u8x4::from_slice(from);
+        let back = u8x4::from_slice(&from[count - 4..]);
+        front.copy_to_slice(to);
+        back.copy_to_slice(&mut to[count - 4..]);
+    } else {
+        to.copy_from_slice(from);
+    }
 }
