@@ -5,6 +5,8 @@ mod FrameCounting
 mod Meeting
 mod Holding
 mod FirstPlaces
+mod BytesBehind
+mod WordPlaces
 mod SaidParts
 mod ContrastTexts
 mod RowsAround

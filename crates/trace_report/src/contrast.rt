@@ -112,8 +112,20 @@ fn is_same_side(a: Dir, b: Dir) -> bool
     }
 }
 
-/// The first place at which bytes differ, or at which one of the messages ends.
+/// The first place at which bytes differ, or at which one of the messages ends. Most are the same, and that is told many
+/// bytes at once.
 fn first_place(a: &[u8], b: &[u8]) -> Option<usize>
+    ensures { result ≡ Spec.first_place a.now b.now }
+{
+    if a == b {
+        None
+    } else {
+        place_of_difference(a, b)
+    }
+}
+
+/// That place, looked for byte by byte.
+fn place_of_difference(a: &[u8], b: &[u8]) -> Option<usize>
     ensures { result ≡ Spec.first_place a.now b.now }
 {
     let mut left = a;

@@ -1,12 +1,14 @@
 //! The words of a report: times, and the bytes of messages.
-ghost use Rattle.std.specs.Prelude.{◌≡◌, length};
+ghost use Rattle.std.specs.Prelude.{◌≡◌, ◌<◌, length, take};
 ghost use Rattle.std.specs.Fmt.{decimal};
 ghost use Rattle.trace_canon.specs.MessageLines.{stamp_text};
-ghost use Rattle.trace_report.specs.Words.{brief_cut, brief_data, byte_behind, bytes_apart, bytes_behind, cut_data, data_text, folded_data, grey_letters, letter_text, letters, letters_text, milliseconds_between, milliseconds_text, seconds_between, short_data, sign_text};
+ghost use Rattle.trace_report.specs.Words.{brief_cut, brief_data, bytes_apart, bytes_behind, cut_data, data_text, folded_data, grey_letters, letter_text, letters, letters_text, milliseconds_between, milliseconds_text, seconds_between, short_data, sign_text};
 ghost use Rattle.trace_report.specs.Words as Spec;
 
+use can_log::digits_of_bytes;
+use std::simd::prelude::*;
 use trace_io::TextSink;
-use trace_text::say::{say_byte, say_number, say_six_decimals, say_text, say_three_decimals};
+use trace_text::say::{say_number, say_six_decimals, say_text, say_three_decimals};
 
 /// Up to so many bytes, all of a message are shown.
 pub(crate) const MOST_SHOWN: usize = 64;
@@ -65,27 +67,73 @@ pub(crate) fn say_milliseconds_between<S: TextSink>(start: u64, end: u64, out: &
 fn say_bytes_apart<S: TextSink>(bytes: &[u8], out: &mut S)
     ensures { S.says out.old (bytes_apart bytes.now) out.new }
 {
-    if let Some((first, rest)) = bytes.split_first() {
-        say_byte(out, *first);
-        say_bytes_behind(rest, out);
+    match bytes.split_first_chunk::<8>() {
+        Some((eight, rest)) => {
+            out.put(&eight_behind(eight)[1..]);
+            say_bytes_behind(rest, out);
+        }
+        None => say_few_apart(bytes, out),
     }
 }
 
-/// Says a blank and two digits for each byte.
+/// Says them of fewer than eight bytes.
+fn say_few_apart<S: TextSink>(bytes: &[u8], out: &mut S)
+    requires { length bytes.now < 8 }
+    ensures { S.says out.old (bytes_apart bytes.now) out.new }
+{
+    if bytes.len() > 0 {
+        out.put(&eight_behind(&padded(bytes))[1..3 * bytes.len()]);
+    }
+}
+
+/// Says a blank and two digits for each byte: of eight bytes at once, as long as there are eight.
 pub(crate) fn say_bytes_behind<S: TextSink>(bytes: &[u8], out: &mut S)
     ensures { S.says out.old (bytes_behind bytes.now) out.new }
 {
-    'bytes: for byte in bytes {
-        say_byte_behind(*byte, out);
+    let mut rest = bytes;
+    'eights: while let Some((eight, behind)) = rest.split_first_chunk::<8>() {
+        out.put(&eight_behind(eight));
+        rest = behind;
     }
+    say_few_behind(rest, out);
 }
 
-/// Says a blank and two digits.
-fn say_byte_behind<S: TextSink>(byte: u8, out: &mut S)
-    ensures { S.says out.old (byte_behind byte) out.new }
+/// Says them of fewer than eight bytes.
+fn say_few_behind<S: TextSink>(bytes: &[u8], out: &mut S)
+    requires { length bytes.now < 8 }
+    ensures { S.says out.old (bytes_behind bytes.now) out.new }
 {
-    say_text(out, " ");
-    say_byte(out, byte);
+    out.put(&eight_behind(&padded(bytes))[..3 * bytes.len()]);
+}
+
+/// Fewer than eight bytes, with others behind them that are not said.
+#[inline(always)]
+fn padded(bytes: &[u8]) -> [u8; 8]
+    requires { length bytes.now < 8 }
+    ensures { take (length bytes.now) result ≡ bytes.now }
+{
+    let mut eight = [0; 8];
+    eight[..bytes.len()].copy_from_slice(bytes);
+    eight
+}
+
+/// A blank and two digits for each of eight bytes.
+#[inline(always)]
+fn eight_behind(bytes: &[u8; 8]) -> [u8; 24]
+    ensures { result ≡ bytes_behind bytes.now }
+{
+    let digits = u8x16::from_array(digits_of_bytes(bytes));
+    let blanks = u8x16::splat(b' ');
+    let front: u8x16 = digits.shuffle(
+        blanks,
+        [16, 0, 1, 16, 2, 3, 16, 4, 5, 16, 6, 7, 16, 8, 9, 16],
+    );
+    let back: u8x8 = digits.shuffle(blanks, [10, 11, 16, 12, 13, 16, 14, 15]);
+    let [a, b, c, d, e, f, g, h, i, j, k, l, m, n, o, p] = front.to_array();
+    let [q, r, s, t, u, v, w, x] = back.to_array();
+    [
+        a, b, c, d, e, f, g, h, i, j, k, l, m, n, o, p, q, r, s, t, u, v, w, x,
+    ]
 }
 
 /// Whether a byte is a digit or a letter of ASCII.
@@ -111,26 +159,24 @@ fn is_mark(byte: u8) -> bool
     is_letter(byte) || is_sign(byte)
 }
 
-/// Whether the first four bytes are shown so.
-fn begins_with_word(bytes: &[u8]) -> bool
-    ensures { result ≡ Spec.begins_with_word bytes.now }
-{
-    match bytes {
-        [a, b, c, d, ..] => is_mark(*a) && is_mark(*b) && is_mark(*c) && is_mark(*d),
-        _ => false,
-    }
-}
-
 /// Whether four bytes in a row are.
 fn has_word(bytes: &[u8]) -> bool
     ensures { result ≡ Spec.has_word bytes.now }
 {
     let mut rest = bytes;
-    'places: while let Some((_, behind)) = rest.split_first() {
-        if begins_with_word(rest) {
+    'places: while let [a, b, c, d, ..] = rest {
+        // No four in a row go over a byte that is none, so the last of four is looked at first.
+        rest = if !is_mark(*d) {
+            &rest[4..]
+        } else if !is_mark(*c) {
+            &rest[3..]
+        } else if !is_mark(*b) {
+            &rest[2..]
+        } else if !is_mark(*a) {
+            &rest[1..]
+        } else {
             return true;
-        }
-        rest = behind;
+        };
     }
     false
 }
