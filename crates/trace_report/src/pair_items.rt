@@ -1,12 +1,11 @@
 //! The items of a page of two logs: those before the first difference, the difference, and those behind it.
 ghost use Rattle.std.specs.Prelude.{◌≡◌, ◌<◌, ◌+◌, ◌^◌, drop, false, length, take, true, Some};
-ghost use Rattle.trace_report.specs.Contrast.{first_contrast};
 ghost use Rattle.trace_report.specs.Held.{pairs_in};
 ghost use Rattle.trace_report.specs.ItemRows.{pair_rows};
 ghost use Rattle.trace_report.specs.Items.{items_in, pairs_of};
 ghost use Rattle.trace_report.specs.PairPage.{contrast_side, difference_text, items_after, items_before, items_text, later_items, rows_to_difference, same_items};
 ghost use Rattle.trace_report.specs.Difference.{contrast_chart};
-ghost use Rattle.trace_report.specs.proving.Holding.{contrast_found, held_rows};
+ghost use Rattle.trace_report.specs.proving.Holding.{IfDifferent, contrast_found, first_compared, held_rows};
 ghost use Rattle.trace_report.specs.PairPage.{pair_title_of};
 
 use crate::contrast::{LogName, say_contrast_words};
@@ -15,17 +14,24 @@ use crate::held_session::{Held, HeldRow, HeldSession};
 use crate::item_rows::say_pair_rows;
 use crate::items::next_pair;
 use crate::pair_page::{PairTitle, say_lettered_name};
-use crate::pairs::{FoundContrast, first_difference};
+use crate::pairs::{Compared, FoundContrast};
 use trace_io::TextSink;
 use trace_text::say::{say_place, say_text};
 
-/// Says all items, with the first difference, if there is one.
-pub(crate) fn say_items<S: TextSink>(title: &PairTitle<'_>, held: &Held, out: &mut S)
-    ensures { S.says out.old (items_text (pair_title_of title.now) held.now (pairs_in held.now) (first_contrast (pairs_in held.now))) out.new }
+/// Says all items of two sessions that are this to each other, with the first difference, if there is one.
+pub(crate) fn say_items<S: TextSink>(
+    title: &PairTitle<'_>,
+    held: &Held,
+    compared: &Compared<'_>,
+    out: &mut S,
+)
+    ensures { IfDifferent compared.now (λ found. drop (found.before + 1) (pairs_in held.now) ≡ pairs_of (items_in (held_rows found.left.now)) (items_in (held_rows found.right.now)))
+        → IfDifferent compared.now (λ found. found.before + 2 + (length found.left.now + length found.right.now) < 2 ^ 64)
+        → S.says out.old (items_text (pair_title_of title.now) held.now (pairs_in held.now) (first_compared compared.now)) out.new }
 {
-    match first_difference(held) {
-        None => say_same_items(held, out),
-        Some(found) => say_different_items(title, held, &found, out),
+    match compared {
+        Compared::Same(_) => say_same_items(held, out),
+        Compared::Different(found) => say_different_items(title, held, found, out),
     }
 }
 

@@ -1,31 +1,29 @@
 //! The verdict of a page of two logs, and what was found of each of them.
-ghost use Rattle.std.specs.Prelude.{◌≡◌, None, length};
-ghost use Rattle.trace_report.specs.Contrast.{first_contrast};
+ghost use Rattle.std.specs.Prelude.{◌≡◌, ℕ, None};
 ghost use Rattle.trace_report.specs.Counts.{counts_text};
-ghost use Rattle.trace_report.specs.Held.{pairs_in};
 ghost use Rattle.trace_report.specs.PairPage.{different_verdict, nothing_verdict, same_before, same_verdict, session_text, sessions_text, state_text, unclean_state, verdict_by};
 ghost use Rattle.trace_report.specs.Sorts.{counts_in};
 ghost use Rattle.trace_report.specs.Verdict.{span_of};
-ghost use Rattle.trace_report.specs.proving.Holding.{contrast_found};
+ghost use Rattle.trace_report.specs.proving.Holding.{IfSame, contrast_found, first_compared};
 ghost use Rattle.trace_report.specs.PairPage.{pair_title_of};
 
 use crate::contrast::{LogName, say_contrast_words};
 use crate::counts::say_counts;
 use crate::held_session::{Held, HeldSession};
 use crate::pair_page::{PairTitle, say_lettered_name};
-use crate::pairs::{FoundContrast, count_numbers, counts_of, first_difference};
+use crate::pairs::{Compared, FoundContrast, counts_of};
 use crate::verdict::{say_span_of, say_unclean_reasons};
 use trace_io::TextSink;
 use trace_log::Summary;
 use trace_text::say::{say_number, say_place, say_text};
 
 /// Says whether the two sessions are the same, if they have items.
-pub(crate) fn say_pair_verdict<S: TextSink>(held: &Held, out: &mut S)
-    ensures { S.says out.old (verdict_by (length (pairs_in held.now)) (first_contrast (pairs_in held.now))) out.new }
+pub(crate) fn say_pair_verdict<S: TextSink>(compared: &Compared<'_>, out: &mut S)
+    ensures { (count : ℕ) → IfSame compared.now (λ same. same ≡ count) → S.says out.old (verdict_by count (first_compared compared.now)) out.new }
 {
-    match first_difference(held) {
-        None => say_verdict_of_same(count_numbers(held), out),
-        Some(found) => say_different_verdict(&found, out),
+    match compared {
+        Compared::Same(count) => say_verdict_of_same(*count, out),
+        Compared::Different(found) => say_different_verdict(found, out),
     }
 }
 

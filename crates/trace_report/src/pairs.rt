@@ -1,10 +1,11 @@
-//! What is found of two sessions that are held: how many numbers they have, and where they first differ.
-ghost use Rattle.std.specs.Prelude.{◌≡◌, ◌+◌, ◌<◌, ◌^◌, IfSome, drop, length, option_map};
+//! What is found of two sessions that are held: how many items they have, if they are the same, and else where they first
+//! differ.
+ghost use Rattle.std.specs.Prelude.{◌≡◌, ◌+◌, ◌<◌, ◌^◌, drop, length};
 ghost use Rattle.trace_report.specs.Contrast.{first_contrast};
 ghost use Rattle.trace_report.specs.Held.{comparison_in, pairs_in};
 ghost use Rattle.trace_report.specs.Items.{items_in, pairs_of};
 ghost use Rattle.trace_report.specs.Sorts.{counts_in};
-ghost use Rattle.trace_report.specs.proving.Holding.{contrast_found, held_rows};
+ghost use Rattle.trace_report.specs.proving.Holding.{IfDifferent, IfSame, first_compared, held_rows};
 
 use crate::contrast::{Contrast, contrast_of};
 use crate::counts::SortCounts;
@@ -24,40 +25,31 @@ pub(crate) struct FoundContrast<'a> {
     pub right: &'a [HeldRow],
 }
 
-/// How many numbers two sessions have.
-pub(crate) fn count_pairs(left: &[HeldRow], right: &[HeldRow]) -> usize
-    ensures { length left.now + length right.now < 2 ^ 64 → result ≡ length (pairs_of (items_in (held_rows left.now)) (items_in (held_rows right.now))) }
-{
-    let mut count: usize = 0;
-    let mut left_rest = left;
-    let mut right_rest = right;
-    'pairs: while let Some(next) = next_pair(left_rest, right_rest) {
-        count = count.saturating_add(1);
-        left_rest = next.left;
-        right_rest = next.right;
-    }
-    count
+/// What two sessions are to each other: the same, and how many items each has, or different.
+#[derive(Clone, Copy, Debug)]
+pub(crate) enum Compared<'a> {
+    Same(usize),
+    Different(FoundContrast<'a>),
 }
 
-/// The first difference of two sessions, if there is one.
-pub(crate) fn first_contrast_of<'a>(
-    left: &'a [HeldRow],
-    right: &'a [HeldRow],
-) -> Option<FoundContrast<'a>>
+/// What the sessions with these rows are to each other.
+pub(crate) fn compare_rows<'a>(left: &'a [HeldRow], right: &'a [HeldRow]) -> Compared<'a>
     ensures first { length left.now + length right.now < 2 ^ 64
-        → option_map contrast_found result ≡ first_contrast (pairs_of (items_in (held_rows left.now)) (items_in (held_rows right.now))) }
+        → first_compared result ≡ first_contrast (pairs_of (items_in (held_rows left.now)) (items_in (held_rows right.now))) }
+    ensures count { length left.now + length right.now < 2 ^ 64
+        → IfSame result (λ count. count ≡ length (pairs_of (items_in (held_rows left.now)) (items_in (held_rows right.now)))) }
     ensures behind { length left.now + length right.now < 2 ^ 64
-        → IfSome result (λ found. drop (found.before + 1) (pairs_of (items_in (held_rows left.now)) (items_in (held_rows right.now)))
+        → IfDifferent result (λ found. drop (found.before + 1) (pairs_of (items_in (held_rows left.now)) (items_in (held_rows right.now)))
         ≡ pairs_of (items_in (held_rows found.left.now)) (items_in (held_rows found.right.now))) }
     ensures within { length left.now + length right.now < 2 ^ 64
-        → IfSome result (λ found. found.before + (length found.left.now + length found.right.now) < length left.now + length right.now) }
+        → IfDifferent result (λ found. found.before + (length found.left.now + length found.right.now) < length left.now + length right.now) }
 {
     let mut before: usize = 0;
     let mut left_rest = left;
     let mut right_rest = right;
     'pairs: while let Some(next) = next_pair(left_rest, right_rest) {
         if let Some(how) = contrast_of(next.pair) {
-            return Some(FoundContrast {
+            return Compared::Different(FoundContrast {
                 before,
                 pair: next.pair,
                 how,
@@ -69,7 +61,7 @@ pub(crate) fn first_contrast_of<'a>(
         left_rest = next.left;
         right_rest = next.right;
     }
-    None
+    Compared::Same(before)
 }
 
 /// How many rows there are of each sort.
@@ -85,20 +77,14 @@ pub(crate) fn counts_of(rows: &[HeldRow]) -> SortCounts
     counts
 }
 
-/// How many numbers two sessions that are held have.
-pub(crate) fn count_numbers(held: &Held) -> usize
-    ensures { result ≡ length (pairs_in held.now) }
+/// What two sessions that are held are to each other.
+pub(crate) fn compare_held<'a>(held: &'a Held) -> Compared<'a>
+    ensures first { first_compared result ≡ first_contrast (pairs_in held.now) }
+    ensures count { IfSame result (λ count. count ≡ length (pairs_in held.now)) }
+    ensures behind { IfDifferent result (λ found. drop (found.before + 1) (pairs_in held.now) ≡ pairs_of (items_in (held_rows found.left.now)) (items_in (held_rows found.right.now))) }
+    ensures within { IfDifferent result (λ found. found.before + 2 + (length found.left.now + length found.right.now) < 2 ^ 64) }
 {
-    count_pairs(held.left.rows(), held.right.rows())
-}
-
-/// The first difference of two sessions that are held, if there is one.
-pub(crate) fn first_difference<'a>(held: &'a Held) -> Option<FoundContrast<'a>>
-    ensures first { option_map contrast_found result ≡ first_contrast (pairs_in held.now) }
-    ensures behind { IfSome result (λ found. drop (found.before + 1) (pairs_in held.now) ≡ pairs_of (items_in (held_rows found.left.now)) (items_in (held_rows found.right.now))) }
-    ensures within { IfSome result (λ found. found.before + 2 + (length found.left.now + length found.right.now) < 2 ^ 64) }
-{
-    first_contrast_of(held.left.rows(), held.right.rows())
+    compare_rows(held.left.rows(), held.right.rows())
 }
 
 impl Held {
@@ -106,9 +92,9 @@ impl Held {
     pub fn comparison(&self) -> Comparison
         ensures { result ≡ comparison_in self.now }
     {
-        match first_difference(self) {
-            Some(found) => Comparison::Different { item: found.before },
-            None => Comparison::Same,
+        match compare_held(self) {
+            Compared::Same(_) => Comparison::Same,
+            Compared::Different(found) => Comparison::Different { item: found.before },
         }
     }
 }

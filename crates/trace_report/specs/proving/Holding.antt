@@ -1,5 +1,5 @@
 -- Devices of proof: what the code holds of a session, and lends of it, without where its bytes lie in memory.
-use Rattle.std.specs.Prelude.{ℕ, List, [], ◌∷◌, ◌-◌, map, option_map, take, Option, Some, None}
+use Rattle.std.specs.Prelude.{ℕ, ⊤, List, [], ◌∷◌, ◌-◌, map, option_map, take, Option, Some, None}
 use Rattle.trace_report.specs.Contrast.{FirstContrast}
 use Rattle.trace_report.specs.Items.{RowMessage, PlacedItem, ItemPair, both, only_left, only_right, items_in, pairs_of}
 use Rattle.trace_report.specs.Rows.{RowValue, message, no_answer, dropped, ended, unfinished}
@@ -11,6 +11,8 @@ use Rattle.trace_report.specs.declared.items.LentPair.{LentPair}
 use Rattle.trace_report.specs.declared.items.LentPair.TheVariants as lent
 use Rattle.trace_report.specs.declared.items.NextItem.{NextItem}
 use Rattle.trace_report.specs.declared.items.NextPair.{NextPair}
+use Rattle.trace_report.specs.declared.pairs.Compared.{Compared}
+use Rattle.trace_report.specs.declared.pairs.Compared.TheVariants as compared
 use Rattle.trace_report.specs.declared.pairs.FoundContrast.{FoundContrast}
 use Rattle.trace_report.specs.declared.reporter.Span.{Span}
 
@@ -67,3 +69,18 @@ taken_with most (Some next) = pair_of next.pair ∷ take (most - 1) (pairs_of (i
 -- the first difference that was found
 abbrev pub contrast_found : FoundContrast → FirstContrast
 contrast_found found = record { before = found.before; pair = pair_of found.pair; how = found.how }
+
+-- what two sessions are to each other: their first difference, if there is one
+abbrev pub first_compared : Compared → Option FirstContrast
+first_compared (compared.Same count) = None
+first_compared (compared.Different found) = Some (contrast_found found)
+
+-- where they are the same, this holds of the number of their items
+abbrev pub IfSame : Compared → (ℕ → Type 0) → Type 0
+IfSame (compared.Same count) P = P count
+IfSame (compared.Different found) P = ⊤
+
+-- where they differ, this holds of the difference
+abbrev pub IfDifferent : Compared → (FoundContrast → Type 0) → Type 0
+IfDifferent (compared.Same count) P = ⊤
+IfDifferent (compared.Different found) P = P found

@@ -2,7 +2,7 @@ use Rattle.std.proofs.Common.{◌≡◌, ◌+◌, ◌<◌, Option, IfSome, lengt
 use Rattle.trace_report.specs.declared.items.NextPair.{NextPair}
 use Rattle.trace_report.specs.proving.Holding.{pair_of, pairs_with}
 use Rattle.trace_report.proofs.PairCounting.{behind_next, one_same}
-use Rattle.trace_report.proofs.pairs.first_contrast_of.Goals as goal
+use Rattle.trace_report.proofs.pairs.compare_rows.Goals as goal
 
 pub returns-in-Some-contrast_of-clause-behind : goal.returns-in-Some-contrast_of-clause-behind
 returns-in-Some-contrast_of-clause-behind c = λ few.

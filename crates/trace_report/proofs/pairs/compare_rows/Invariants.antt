@@ -2,7 +2,7 @@ use Rattle.std.proofs.Common.{◌+◌, ◌<◌, ◌≤◌, ◌^◌, length}
 use Rattle.trace_report.specs.Items.{items_in, pairs_of}
 use Rattle.trace_report.specs.proving.Holding.{held_rows}
 use Rattle.trace_report.proofs.PairCounting.{SameUpTo}
-use Rattle.trace_report.proofs.pairs.first_contrast_of.Given as goal
+use Rattle.trace_report.proofs.pairs.compare_rows.Given as goal
 
 abbrev pub invariant-pairs : goal.invariant-pairs
 invariant-pairs l =
