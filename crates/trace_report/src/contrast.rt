@@ -4,10 +4,11 @@ ghost use Rattle.trace_report.specs.Contrast.{byte_or_end, bytes_words, contrast
 ghost use Rattle.trace_report.specs.Contrast as Spec;
 ghost use Rattle.trace_report.specs.Items.{both};
 ghost use Rattle.trace_report.specs.declared.contrast.Contrast.TheVariants.{Answers};
-ghost use Rattle.trace_report.specs.proving.Holding.{item_of, message_of, pair_of};
+ghost use Rattle.trace_report.specs.proving.Holding.{item_of, lent_message, pair_of};
 
 use crate::blocks::is_request_role;
-use crate::items::{LentItem, LentMessage, LentPair};
+use crate::held_session::HeldMessage;
+use crate::items::{LentItem, LentPair};
 use crate::marks::parted;
 use direction::Dir;
 use trace_io::TextSink;
@@ -68,7 +69,7 @@ fn contrast_of_items(a: LentItem<'_>, b: LentItem<'_>) -> Option<Contrast>
 fn contrast_of_exchanges(a: LentItem<'_>, b: LentItem<'_>) -> Option<Contrast>
     ensures { result ≡ contrast_of_kinds true true (item_of a.entry) (item_of b.entry) }
 {
-    match first_place(a.begin.message, b.begin.message) {
+    match first_place(a.begin.message.as_slice(), b.begin.message.as_slice()) {
         Some(place) => Some(Contrast::Requests(place)),
         None => contrast_of_answers(a.answer, b.answer),
     }
@@ -81,21 +82,21 @@ fn contrast_of_strays(a: LentItem<'_>, b: LentItem<'_>) -> Option<Contrast>
     if !is_same_side(a.begin.dir, b.begin.dir) {
         return Some(Contrast::Sides(a.begin.dir));
     }
-    match first_place(a.begin.message, b.begin.message) {
+    match first_place(a.begin.message.as_slice(), b.begin.message.as_slice()) {
         Some(place) => Some(Contrast::Strays(place)),
         None => None,
     }
 }
 
 /// How two answers differ, if they do.
-fn contrast_of_answers(a: Option<LentMessage<'_>>, b: Option<LentMessage<'_>>) -> Option<Contrast>
-    ensures { result ≡ Spec.contrast_of_answers (option_map message_of a.entry) (option_map message_of b.entry) }
+fn contrast_of_answers(a: Option<&HeldMessage>, b: Option<&HeldMessage>) -> Option<Contrast>
+    ensures { result ≡ Spec.contrast_of_answers (option_map lent_message a.entry) (option_map lent_message b.entry) }
 {
     match (a, b) {
         (None, None) => None,
         (Some(_), None) => Some(Contrast::Unanswered(LogName::B)),
         (None, Some(_)) => Some(Contrast::Unanswered(LogName::A)),
-        (Some(a), Some(b)) => match first_place(a.message, b.message) {
+        (Some(a), Some(b)) => match first_place(a.message.as_slice(), b.message.as_slice()) {
             Some(place) => Some(Contrast::Answers(place)),
             None => None,
         },
@@ -268,11 +269,11 @@ fn say_other_letter<S: TextSink>(log: LogName, out: &mut S)
 }
 
 /// The bytes of an answer, none where there is no answer.
-fn answer_bytes<'a>(answer: Option<LentMessage<'a>>) -> &'a [u8]
-    ensures { result.now ≡ Spec.answer_bytes (option_map message_of answer.entry) }
+fn answer_bytes<'a>(answer: Option<&'a HeldMessage>) -> &'a [u8]
+    ensures { result.now ≡ Spec.answer_bytes (option_map lent_message answer.entry) }
 {
     match answer {
-        Some(reply) => reply.message,
+        Some(reply) => reply.message.as_slice(),
         None => &[],
     }
 }
@@ -282,7 +283,7 @@ fn begin_left<'a>(pair: LentPair<'a>) -> &'a [u8]
     ensures { result.now ≡ Spec.begin_left (pair_of pair.entry) }
 {
     match pair {
-        LentPair::Both(a, _) | LentPair::OnlyLeft(a) => a.begin.message,
+        LentPair::Both(a, _) | LentPair::OnlyLeft(a) => a.begin.message.as_slice(),
         LentPair::OnlyRight(_) => &[],
     }
 }
@@ -292,7 +293,7 @@ fn begin_right<'a>(pair: LentPair<'a>) -> &'a [u8]
     ensures { result.now ≡ Spec.begin_right (pair_of pair.entry) }
 {
     match pair {
-        LentPair::Both(_, b) | LentPair::OnlyRight(b) => b.begin.message,
+        LentPair::Both(_, b) | LentPair::OnlyRight(b) => b.begin.message.as_slice(),
         LentPair::OnlyLeft(_) => &[],
     }
 }

@@ -12,15 +12,19 @@ use std::marker::Model;
 use trace_canon::begun::FramePlace;
 use trace_log::Summary;
 
+/// A message of a session, with its bytes.
+#[derive(Debug, Drop)]
+pub(crate) struct HeldMessage {
+    pub role: MessageRole,
+    pub dir: Dir,
+    pub place: MessagePlace,
+    pub message: Vec<u8>,
+}
+
 /// A row, with the bytes of its message. The variants are those of a row that is lent.
 #[derive(Debug, Drop)]
 pub(crate) enum HeldRow {
-    Message {
-        role: MessageRole,
-        dir: Dir,
-        place: MessagePlace,
-        message: Vec<u8>,
-    },
+    Message(HeldMessage),
     NoAnswer {
         number: u64,
         silent: bool,
@@ -48,16 +52,11 @@ impl HeldRow {
         ensures { row_of result ≡ held_row self.now }
     {
         match self {
-            HeldRow::Message {
-                role,
-                dir,
-                place,
-                message,
-            } => Row::Message {
-                role: *role,
-                dir: *dir,
-                place: *place,
-                message: message.as_slice(),
+            HeldRow::Message(sent) => Row::Message {
+                role: sent.role,
+                dir: sent.dir,
+                place: sent.place,
+                message: sent.message.as_slice(),
             },
             HeldRow::NoAnswer { number, silent } => Row::NoAnswer {
                 number: *number,
@@ -97,12 +96,12 @@ pub(crate) fn copied_row(alloc: Global, row: Row<'_>) -> Result<HeldRow, AllocEr
             dir,
             place,
             message,
-        } => Ok(HeldRow::Message {
+        } => Ok(HeldRow::Message(HeldMessage {
             role,
             dir,
             place,
             message: copied(alloc, message)?,
-        }),
+        })),
         Row::NoAnswer { number, silent } => Ok(HeldRow::NoAnswer { number, silent }),
         Row::Dropped {
             place,

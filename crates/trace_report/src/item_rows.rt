@@ -5,13 +5,13 @@ ghost use Rattle.trace_report.specs.Items.{both, items_in, only_left, only_right
 ghost use Rattle.trace_report.specs.ItemRows.{different_row, item_note, item_side, item_sides, lines_of_both, next_table, no_answer_text, no_item, note_of, open_mark, pair_row, pair_rows, row_opening, same_row, table_opening, told_answer, told_item, told_message, told_reply, told_reply_if};
 ghost use Rattle.trace_report.specs.ItemRows as Spec;
 ghost use Rattle.trace_report.specs.Rows.{asked_at as time_asked, further_note};
-ghost use Rattle.trace_report.specs.proving.Holding.{held_rows, item_of, message_of, pair_of, taken_with};
+ghost use Rattle.trace_report.specs.proving.Holding.{held_rows, item_of, lent_message, message_of, pair_of, taken_with};
 ghost use Rattle.uds_message.specs.Message.{is_suppressing as suppresses};
 
 use crate::blocks::{FULL_BLOCK, is_request_role, say_block_end};
 use crate::contrast::{LogName, contrast_of, say_log_letter};
-use crate::held_session::HeldRow;
-use crate::items::{LentItem, LentMessage, LentPair, NextPair, next_pair};
+use crate::held_session::{HeldMessage, HeldRow};
+use crate::items::{LentItem, LentPair, NextPair, next_pair};
 use crate::message_rows::{asked_at, say_further_note, say_named_lines, say_role};
 use crate::row::{MessagePlace, MessageRole};
 use crate::words::{say_data, say_seconds_between};
@@ -237,25 +237,31 @@ fn say_told_item<S: TextSink>(item: LentItem<'_>, out: &mut S)
     ensures { S.says out.old (told_item (item_of item.entry)) out.new }
 {
     say_told_message(item.begin, out);
-    say_told_reply_if(item.begin.role, item.begin.message, item.answer, out);
+    say_told_reply_if(
+        item.begin.role,
+        item.begin.message.as_slice(),
+        item.answer,
+        out,
+    );
 }
 
 /// Says a message, without its place.
-fn say_told_message<S: TextSink>(sent: LentMessage<'_>, out: &mut S)
-    ensures { S.says out.old (told_message (message_of sent.entry)) out.new }
+fn say_told_message<S: TextSink>(sent: &HeldMessage, out: &mut S)
+    ensures { S.says out.old (told_message (message_of sent.now)) out.new }
 {
-    say_role(sent.role, sent.dir, sent.message, out);
-    say_data(sent.message, out);
+    let bytes = sent.message.as_slice();
+    say_role(sent.role, sent.dir, bytes, out);
+    say_data(bytes, out);
 }
 
 /// Says the answer to a message, or what stands in its place, where that is a request.
 fn say_told_reply_if<S: TextSink>(
     role: MessageRole,
     request: &[u8],
-    reply: Option<LentMessage<'_>>,
+    reply: Option<&HeldMessage>,
     out: &mut S,
 )
-    ensures { S.says out.old (told_reply_if (begins_exchange role) request.now (option_map message_of reply.entry)) out.new }
+    ensures { S.says out.old (told_reply_if (begins_exchange role) request.now (option_map lent_message reply.entry)) out.new }
 {
     if is_request_role(role) {
         say_told_reply(request, reply, out);
@@ -263,16 +269,16 @@ fn say_told_reply_if<S: TextSink>(
 }
 
 /// Says the answer to a request, or what stands in its place, behind an arrow.
-fn say_told_reply<S: TextSink>(request: &[u8], reply: Option<LentMessage<'_>>, out: &mut S)
-    ensures { S.says out.old (told_reply request.now (option_map message_of reply.entry)) out.new }
+fn say_told_reply<S: TextSink>(request: &[u8], reply: Option<&HeldMessage>, out: &mut S)
+    ensures { S.says out.old (told_reply request.now (option_map lent_message reply.entry)) out.new }
 {
     say_text(out, " &#8594; ");
     say_told_answer(request, reply, out);
 }
 
 /// Says the answer to a request, or what stands in its place.
-fn say_told_answer<S: TextSink>(request: &[u8], reply: Option<LentMessage<'_>>, out: &mut S)
-    ensures { S.says out.old (told_answer request.now (option_map message_of reply.entry)) out.new }
+fn say_told_answer<S: TextSink>(request: &[u8], reply: Option<&HeldMessage>, out: &mut S)
+    ensures { S.says out.old (told_answer request.now (option_map lent_message reply.entry)) out.new }
 {
     match reply {
         Some(reply) => say_told_message(reply, out),
@@ -312,11 +318,11 @@ fn say_note_of<S: TextSink>(log: LogName, origin: u64, item: LentItem<'_>, out: 
 fn say_item_note<S: TextSink>(
     log: LogName,
     origin: u64,
-    begin: LentMessage<'_>,
-    last: LentMessage<'_>,
+    begin: &HeldMessage,
+    last: &HeldMessage,
     out: &mut S,
 )
-    ensures { S.says out.old (item_note log origin (message_of begin.entry) (message_of last.entry)) out.new }
+    ensures { S.says out.old (item_note log origin (message_of begin.now) (message_of last.now)) out.new }
 {
     say_text(out, "<i>");
     say_log_letter(log, out);

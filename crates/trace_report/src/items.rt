@@ -2,28 +2,18 @@
 ghost use Rattle.std.specs.Prelude.{◌≡◌, ◌+◌, ◌<◌, [], IfSome, length, option_map};
 ghost use Rattle.trace_report.specs.Items.{item_begun, items_in, message_in, pairs_of};
 ghost use Rattle.trace_report.specs.Items as Spec;
-ghost use Rattle.trace_report.specs.proving.Holding.{held_row, held_rows, item_of, items_with, message_of, pairs_with};
+ghost use Rattle.trace_report.specs.proving.Holding.{held_row, held_rows, item_of, items_with, lent_message, pairs_with};
 
 use crate::blocks::is_request_role;
-use crate::held_session::HeldRow;
+use crate::held_session::{HeldMessage, HeldRow};
 use crate::message_rows::begins_item;
-use crate::row::{MessagePlace, MessageRole};
-use direction::Dir;
-
-/// A message of a session, lent.
-#[derive(Clone, Copy, Debug)]
-pub(crate) struct LentMessage<'a> {
-    pub role: MessageRole,
-    pub dir: Dir,
-    pub place: MessagePlace,
-    pub message: &'a [u8],
-}
+use crate::row::MessageRole;
 
 /// An item of a session, lent: the message that begins it, and its answer, if it has one.
 #[derive(Clone, Copy, Debug)]
 pub(crate) struct LentItem<'a> {
-    pub begin: LentMessage<'a>,
-    pub answer: Option<LentMessage<'a>>,
+    pub begin: &'a HeldMessage,
+    pub answer: Option<&'a HeldMessage>,
 }
 
 /// What two sessions have of one number, lent.
@@ -103,8 +93,8 @@ fn next_item<'a>(rows: &'a [HeldRow]) -> Option<NextItem<'a>>
 }
 
 /// The message of a row that begins an item, lent, if it does.
-fn message_begun(row: &HeldRow) -> Option<LentMessage<'_>>
-    ensures { option_map message_of result ≡ Spec.beginning (message_in (held_row row.now)) }
+fn message_begun(row: &HeldRow) -> Option<&HeldMessage>
+    ensures { option_map lent_message result ≡ Spec.beginning (message_in (held_row row.now)) }
 {
     match message_of_row(row) {
         Some(sent) if begins_item(sent.role) => Some(sent),
@@ -113,8 +103,8 @@ fn message_begun(row: &HeldRow) -> Option<LentMessage<'_>>
 }
 
 /// The answer to a message of this role among the rows behind it, if it is a request and has one.
-fn answer_to<'a>(role: MessageRole, rows: &'a [HeldRow]) -> Option<LentMessage<'a>>
-    ensures { option_map message_of result ≡ Spec.answer_to role (held_rows rows.now) }
+fn answer_to<'a>(role: MessageRole, rows: &'a [HeldRow]) -> Option<&'a HeldMessage>
+    ensures { option_map lent_message result ≡ Spec.answer_to role (held_rows rows.now) }
 {
     if is_request_role(role) {
         answer_in(rows)
@@ -124,8 +114,8 @@ fn answer_to<'a>(role: MessageRole, rows: &'a [HeldRow]) -> Option<LentMessage<'
 }
 
 /// The answer to a request among the rows behind it, if it has one.
-fn answer_in<'a>(rows: &'a [HeldRow]) -> Option<LentMessage<'a>>
-    ensures { option_map message_of result ≡ Spec.answer_in (held_rows rows.now) }
+fn answer_in<'a>(rows: &'a [HeldRow]) -> Option<&'a HeldMessage>
+    ensures { option_map lent_message result ≡ Spec.answer_in (held_rows rows.now) }
 {
     let mut rest = rows;
     'rows: while let Some((row, behind)) = rest.split_first() {
@@ -156,21 +146,11 @@ pub(crate) fn is_answer_role(role: MessageRole) -> bool
 }
 
 /// The message of a row, lent, if it has one.
-fn message_of_row(row: &HeldRow) -> Option<LentMessage<'_>>
-    ensures { option_map message_of result ≡ message_in (held_row row.now) }
+fn message_of_row(row: &HeldRow) -> Option<&HeldMessage>
+    ensures { option_map lent_message result ≡ message_in (held_row row.now) }
 {
     match row {
-        HeldRow::Message {
-            role,
-            dir,
-            place,
-            message,
-        } => Some(LentMessage {
-            role: *role,
-            dir: *dir,
-            place: *place,
-            message: message.as_slice(),
-        }),
+        HeldRow::Message(sent) => Some(sent),
         HeldRow::NoAnswer { .. }
         | HeldRow::Dropped { .. }
         | HeldRow::Ended { .. }

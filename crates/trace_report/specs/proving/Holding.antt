@@ -1,12 +1,13 @@
 -- Devices of proof: what the code holds of a session, and lends of it, without where its bytes lie in memory.
 use Rattle.std.specs.Prelude.{ℕ, ⊤, List, [], ◌∷◌, ◌-◌, map, option_map, take, Option, Some, None}
+use Rattle.std.specs.Borrow.{Bor}
 use Rattle.trace_report.specs.Contrast.{FirstContrast}
 use Rattle.trace_report.specs.Items.{RowMessage, PlacedItem, ItemPair, both, only_left, only_right, items_in, pairs_of}
 use Rattle.trace_report.specs.Rows.{RowValue, message, no_answer, dropped, ended, unfinished}
+use Rattle.trace_report.specs.declared.held_session.HeldMessage.{HeldMessage}
 use Rattle.trace_report.specs.declared.held_session.HeldRow.{HeldRow}
 use Rattle.trace_report.specs.declared.held_session.HeldRow.TheVariants as held
 use Rattle.trace_report.specs.declared.items.LentItem.{LentItem}
-use Rattle.trace_report.specs.declared.items.LentMessage.{LentMessage}
 use Rattle.trace_report.specs.declared.items.LentPair.{LentPair}
 use Rattle.trace_report.specs.declared.items.LentPair.TheVariants as lent
 use Rattle.trace_report.specs.declared.items.NextItem.{NextItem}
@@ -18,7 +19,7 @@ use Rattle.trace_report.specs.declared.reporter.Span.{Span}
 
 -- a row that is held
 abbrev pub held_row : HeldRow → RowValue
-held_row (held.Message is d place bytes) = message is d place bytes.items
+held_row (held.Message sent) = message sent.role sent.dir sent.place sent.message.items
 held_row (held.NoAnswer number silent) = no_answer number silent
 held_row (held.Dropped place d named why) = dropped place d named why
 held_row (held.Ended place end) = ended place end
@@ -37,13 +38,17 @@ abbrev pub last_of_span : Option Span → ℕ
 last_of_span None = 0
 last_of_span (Some span) = span.last
 
--- a message that is lent
-abbrev pub message_of : LentMessage → RowMessage
-message_of sent = record { role = sent.role; dir = sent.dir; place = sent.place; bytes = sent.message.now }
+-- a message that is held
+abbrev pub message_of : HeldMessage → RowMessage
+message_of sent = record { role = sent.role; dir = sent.dir; place = sent.place; bytes = sent.message.items }
+
+-- one that is lent
+abbrev pub lent_message : Bor HeldMessage → RowMessage
+lent_message sent = message_of sent.now
 
 -- an item that is
 abbrev pub item_of : LentItem → PlacedItem
-item_of item = record { begin = message_of item.begin; answer = option_map message_of item.answer }
+item_of item = record { begin = lent_message item.begin; answer = option_map lent_message item.answer }
 
 -- two items that are
 abbrev pub pair_of : LentPair → ItemPair
