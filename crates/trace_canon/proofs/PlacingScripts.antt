@@ -1,7 +1,6 @@
 -- What a machine that places messages keeps and says of one more frame.
-use Rattle.std.proofs.Common.{◌≡◌, ℕ, List, [], ◌∷◌, ◌++◌, refl, ap, sym, subst, ◌∙◌, append_assoc, codes, ◌/◌}
+use Rattle.std.proofs.Common.{◌≡◌, ℕ, List, [], ◌∷◌, ◌++◌, refl, ap, sym, subst, ◌∙◌, codes}
 use Rattle.std.specs.Fmt.{decimal}
-use Rattle.can_log.specs.Digits as digits
 use Rattle.can_log.specs.Frame.{FrameValue}
 use Rattle.direction.specs.Dir.{Message}
 use Rattle.direction.specs.declared.Dir.{Dir}
@@ -87,32 +86,15 @@ module _ (T : List Entry) (e : Entry) (line micros : ℕ) (d : Dir) (event : Eve
       words ∙ ap (λ x. placed_text notation (placed_behind (messages MESSAGE_LIMIT T) (x, whole) (first_frame T e) e)) (sym dir_is)
       ∙ ap (delivered_line notation MESSAGE_LIMIT T e) (sym told)
 
--- pieces put together from the back, and from the front
-stamp_end : (seconds dot decimals rest : List ℕ) → seconds ++ (dot ++ (decimals ++ rest)) ≡ (seconds ++ dot ++ decimals) ++ rest
-stamp_end seconds dot decimals rest = simp append_assoc
-
-two_stamps : (front : List ℕ → List ℕ) (start end : ℕ) (between rest : List ℕ)
-    → front (decimal (start / 1000000) ++ (codes "." ++ (digits.decimal 6 start ++ (between ++ (decimal (end / 1000000) ++ (codes "." ++ (digits.decimal 6 end ++ rest)))))))
-    ≡ front (stamp_text start ++ (between ++ (stamp_text end ++ rest)))
-two_stamps front start end between rest =
-    ap (λ x. front (decimal (start / 1000000) ++ (codes "." ++ (digits.decimal 6 start ++ (between ++ x))))) (stamp_end (decimal (end / 1000000)) (codes ".") (digits.decimal 6 end) rest)
-    ∙ ap front (stamp_end (decimal (start / 1000000)) (codes ".") (digits.decimal 6 start) (between ++ (stamp_text end ++ rest)))
-
 -- the parts of the object of a message
 abbrev object_parts_of : ℕ → List ℕ → List ℕ → List ℕ → FramePlace → FramePlace → List ℕ
 object_parts_of number role side bytes start end =
     codes "{\"item\":" ++ (decimal number ++ (codes ",\"role\":\"" ++ (role ++ (codes "\",\"direction\":\"" ++ (side
     ++ (codes "\",\"first_line\":" ++ (decimal start.line ++ (codes ",\"last_line\":" ++ (decimal end.line
-    ++ (codes ",\"start\":\"" ++ (decimal (start.micros / 1000000) ++ (codes "." ++ (digits.decimal 6 start.micros
-    ++ (codes "\",\"end\":\"" ++ (decimal (end.micros / 1000000) ++ (codes "." ++ (digits.decimal 6 end.micros
-    ++ (codes "\",\"message\":\"" ++ (bytes ++ (codes "\"}\n" ++ []))))))))))))))))))))
+    ++ (codes ",\"start\":\"" ++ (stamp_text start.micros ++ (codes "\",\"end\":\"" ++ (stamp_text end.micros
+    ++ (codes "\",\"message\":\"" ++ (bytes ++ (codes "\"}\n" ++ []))))))))))))))))
 
-pub object_parts : (number : ℕ) (step : Step) (sent : Message) (start end : FramePlace) (role side : List ℕ) → role ≡ role_text step → side ≡ direction_text sent.0
-    → object_parts_of number role side (bytes_text sent.1) start end ≡ object_line (placed_members (placed_at number step sent start end))
-object_parts number step sent start end role side role_is side_is =
-    let message_words : List ℕ = codes "\",\"message\":\"" ++ (bytes_text sent.1 ++ (codes "\"}\n" ++ [])) in
-    let front : List ℕ → List ℕ = λ x.
-    codes "{\"item\":" ++ (decimal number ++ (codes ",\"role\":\"" ++ (role_text step ++ (codes "\",\"direction\":\"" ++ (direction_text sent.0
-    ++ (codes "\",\"first_line\":" ++ (decimal start.line ++ (codes ",\"last_line\":" ++ (decimal end.line ++ (codes ",\"start\":\"" ++ x)))))))))) in
-    rw (role_is, side_is)
-    (two_stamps front start.micros end.micros (codes "\",\"end\":\"") message_words ∙ sym (line_is (placed_members (placed_at number step sent start end))))
+pub object_parts : (number : ℕ) (step : Step) (sent : Message) (start end : FramePlace) (role : List ℕ) → role ≡ role_text step
+    → object_parts_of number role (direction_text sent.0) (bytes_text sent.1) start end ≡ object_line (placed_members (placed_at number step sent start end))
+object_parts number step sent start end role role_is =
+    rw role_is (sym (line_is (placed_members (placed_at number step sent start end))))

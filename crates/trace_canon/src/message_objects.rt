@@ -3,11 +3,11 @@ ghost use Rattle.trace_text.specs.Json.{object_line};
 ghost use Rattle.trace_canon.specs.MessageLines.{placed_members};
 
 use crate::begun::FramePlace;
+use crate::placer::say_stamp;
 use direction::Dir;
 use trace_io::TextSink;
-use trace_text::Part;
-use trace_text::names::{direction_name, role_name};
-use trace_text::say::say_parts;
+use trace_text::names::role_name;
+use trace_text::say::{say_bytes, say_direction, say_number, say_text};
 use uds_exchange::Step;
 
 /// Says the line of a message, that has its first frame and its last one in these places, as an object.
@@ -22,30 +22,21 @@ pub(crate) fn say_message_object<S: TextSink>(
 )
     ensures { S.says out.old (object_line (placed_members (record { number = number; step = step; sent = (dir, message.now); start = first; end = last }))) out.new }
 {
-    say_parts(
-        out,
-        &[
-            Part::Text("{\"item\":"),
-            Part::Number(number),
-            Part::Text(",\"role\":\""),
-            Part::Text(role_name(step)),
-            Part::Text("\",\"direction\":\""),
-            Part::Text(direction_name(dir)),
-            Part::Text("\",\"first_line\":"),
-            Part::Number(first.line),
-            Part::Text(",\"last_line\":"),
-            Part::Number(last.line),
-            Part::Text(",\"start\":\""),
-            Part::Number(first.micros / 1_000_000),
-            Part::Text("."),
-            Part::Decimals(first.micros),
-            Part::Text("\",\"end\":\""),
-            Part::Number(last.micros / 1_000_000),
-            Part::Text("."),
-            Part::Decimals(last.micros),
-            Part::Text("\",\"message\":\""),
-            Part::Bytes(message),
-            Part::Text("\"}\n"),
-        ],
-    );
+    say_text(out, "{\"item\":");
+    say_number(out, number);
+    say_text(out, ",\"role\":\"");
+    say_text(out, role_name(step));
+    say_text(out, "\",\"direction\":\"");
+    say_direction(out, dir);
+    say_text(out, "\",\"first_line\":");
+    say_number(out, first.line);
+    say_text(out, ",\"last_line\":");
+    say_number(out, last.line);
+    say_text(out, ",\"start\":\"");
+    say_stamp(out, first.micros);
+    say_text(out, "\",\"end\":\"");
+    say_stamp(out, last.micros);
+    say_text(out, "\",\"message\":\"");
+    say_bytes(out, message);
+    say_text(out, "\"}\n");
 }

@@ -163,7 +163,7 @@ fn say_extent<S: TextSink>(out: &mut S, first: FramePlace, last: FramePlace)
 }
 
 /// Says the time of a frame: its seconds, a dot, and six digits.
-fn say_stamp<S: TextSink>(out: &mut S, micros: u64)
+pub(crate) fn say_stamp<S: TextSink>(out: &mut S, micros: u64)
     ensures { S.says out.old (stamp_text micros) out.new }
 {
     say_number(out, micros / 1_000_000);
