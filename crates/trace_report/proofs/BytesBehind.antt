@@ -6,7 +6,7 @@ use Rattle.std.proofs.Math.Seq.{take-append_seam}
 use Rattle.std.proofs.lemmas.Grind.{flat_map-append}
 use Rattle.std.proofs.lemmas.List.{take-append-drop, length-take-le, take_rest}
 use Rattle.can_log.specs.Digits.{digits, hexadecimal}
-use Rattle.trace_report.specs.Words.{byte_behind, bytes_apart, bytes_behind}
+use Rattle.trace_report.specs.Words.{byte_behind, bytes_apart, bytes_behind, letter_text, letters}
 
 -- the digits of eight bytes with blanks between, taken from among them and sixteen blanks behind them
 pub spaced_digits : (a b c d e f g h : ℕ) (written : List ℕ) → written ≡ flat_map (hexadecimal 2) (a ∷ b ∷ c ∷ d ∷ e ∷ f ∷ g ∷ h ∷ [])
@@ -59,3 +59,9 @@ whole_apart rest eight behind text one long is =
     let eight_long : length eight ≡ 8 = ap length one ∙ length-take-le 8 rest (omega (arith, long)) in
     let all : 23 ≡ length text - 1 = omega (arith, eight_long, ap length is, long_behind eight) in
     ap (λ n. take n (drop 1 text)) all ∙ take_rest text 1
+
+-- the letters of what is left begin with those of its first eight bytes
+pub eight_letters_more : (rest eight behind text : List ℕ) → eight ≡ take 8 rest → behind ≡ drop 8 rest → text ≡ letters eight
+    → letters rest ≡ text ++ letters behind
+eight_letters_more rest eight behind text one two is =
+    rw (is, one, two) (ap letters (sym (take-append-drop 8 rest)) ∙ flat_map-append letter_text (take 8 rest) (drop 8 rest))

@@ -94,6 +94,7 @@ impl Follower {
 
     /// Takes a message that a frame here completed. Answers the row of the item that it closes, if it closes one, and
     /// its own.
+    #[inline(always)]
     fn take_message<'a>(
         &mut self,
         here: FramePlace,

@@ -86,7 +86,8 @@ impl HeldRow {
     }
 }
 
-/// A row of its own.
+/// A row of its own. Laid in line, where it is known which rows come.
+#[inline(always)]
 pub(crate) fn copied_row(alloc: Global, row: Row<'_>) -> Result<HeldRow, AllocError>
     ensures { IfOk result (λ h. held_row h ≡ row_of row.entry) }
 {
@@ -123,7 +124,7 @@ pub(crate) fn copied_row(alloc: Global, row: Row<'_>) -> Result<HeldRow, AllocEr
 fn copied(alloc: Global, bytes: &[u8]) -> Result<Vec<u8>, AllocError>
     ensures { IfOk result (λ v. v.items ≡ bytes.now) }
 {
-    let mut copy = Vec::new(alloc);
+    let mut copy = Vec::with_capacity(alloc, bytes.len())?;
     copy.extend_from_slice(bytes)?;
     Ok(copy)
 }

@@ -40,6 +40,7 @@ impl Places {
     }
 
     /// Takes what a frame did that stands here. Answers the extent of the message that it completed, if it completed one.
+    #[inline(always)]
     pub(crate) fn take(&mut self, here: FramePlace, dir: Dir, event: Event<'_>) -> Extent
         ensures next { (T : List Entry) (e : Entry) → e.line ≡ here.line → e.micros ≡ here.micros → e.dir ≡ dir → length T < 2 ^ 62
             → seen_event event.entry ≡ verdict MESSAGE_LIMIT T e → KnowsPlaces T self.old → KnowsPlaces (T ++ e ∷ []) self.new }

@@ -199,13 +199,43 @@ fn say_letter<S: TextSink>(byte: u8, out: &mut S)
     out.put(&[shown_byte(byte)]);
 }
 
-/// Says what is shown for each byte.
+/// Says what is shown for each byte: for eight bytes at once, as long as there are eight.
 fn say_letters<S: TextSink>(bytes: &[u8], out: &mut S)
+    ensures { S.says out.old (letters bytes.now) out.new }
+{
+    let mut rest = bytes;
+    'eights: while let Some((eight, behind)) = rest.split_first_chunk::<8>() {
+        out.put(&eight_letters(eight));
+        rest = behind;
+    }
+    say_few_letters(rest, out);
+}
+
+/// Says it byte by byte.
+fn say_few_letters<S: TextSink>(bytes: &[u8], out: &mut S)
     ensures { S.says out.old (letters bytes.now) out.new }
 {
     'bytes: for byte in bytes {
         say_letter(*byte, out);
     }
+}
+
+/// What is shown for eight bytes.
+#[inline(always)]
+fn eight_letters(bytes: &[u8; 8]) -> [u8; 8]
+    ensures { result ≡ letters bytes.now }
+{
+    let [a, b, c, d, e, f, g, h] = *bytes;
+    [
+        shown_byte(a),
+        shown_byte(b),
+        shown_byte(c),
+        shown_byte(d),
+        shown_byte(e),
+        shown_byte(f),
+        shown_byte(g),
+        shown_byte(h),
+    ]
 }
 
 /// Says bytes as letters, where they may be text.

@@ -1,12 +1,23 @@
-use Rattle.std.proofs.Common.{refl, sym, subst}
-use Rattle.trace_report.specs.Words.{letter_text}
-use Rattle.trace_text.proofs.Promises.{one_more_text}
+use Rattle.std.proofs.Common.{[], ◌++◌, refl, ap, sym, subst, ◌∙◌, append_assoc}
+use Rattle.trace_report.specs.Words.{letters}
+use Rattle.trace_report.proofs.BytesBehind.{eight_letters_more}
 use Rattle.trace_report.proofs.words.say_letters.Goals as goal
 
-pub bytes-init : goal.bytes-init
-bytes-init g c = g.met.S.TextSink.nothing c.args.out.now
+pub eights-init : goal.eights-init
+eights-init g c = ([], refl, g.met.S.TextSink.nothing c.args.out.now)
 
-pub bytes-preserved : goal.bytes-preserved
-bytes-preserved g c =
-    subst (λ text. g.S.TextSink.says c.args.out.now text c.say_letter.new.out) (sym (one_more_text letter_text c.args.bytes.now c.bytes.byte-index 0 _ c.bytes-test.true refl))
-    (g.met.S.TextSink.onward _ _ _ _ _ c.bytes.invariant c.say_letter.ensures)
+pub eights-preserved : goal.eights-preserved
+eights-preserved g c =
+    let so_far = c.eights.invariant in
+    let text = c.eight_letters.result in
+    let more = eight_letters_more c.eights.rest.now c.in-Some.eight.now c.in-Some.behind.now text c.in-Some.ensures.cases.0 c.in-Some.ensures.cases.1 c.eight_letters.ensures in (
+      so_far.0 ++ text,
+      so_far.1 ∙ ap (λ x. so_far.0 ++ x) more ∙ sym (append_assoc so_far.0 text (letters c.in-Some.behind.now)),
+      g.met.S.TextSink.onward c.args.out.now c.eights.out c.put.new.self so_far.0 text so_far.2 c.put.ensures,
+    )
+
+pub returns : goal.returns
+returns g c =
+    let so_far = c.eights.invariant in
+    subst (λ text. g.S.TextSink.says c.args.out.now text c.say_few_letters.new.out) (sym so_far.1)
+    (g.met.S.TextSink.onward c.args.out.now c.eights.out c.say_few_letters.new.out so_far.0 (letters c.eights.rest.now) so_far.2 c.say_few_letters.ensures)
