@@ -5,3 +5,4 @@ pub mod Tallying
 pub mod Holding
 pub mod Heard
 pub mod Charting
+pub mod Laying

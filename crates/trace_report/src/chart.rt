@@ -7,16 +7,19 @@ ghost use Rattle.trace_report.specs.proving.Pages.{row_of};
 
 use crate::blocks::{Blocks, no_blocks};
 use crate::follower::NewRows;
+use crate::laid_text::LaidText;
 use crate::row::Row;
 use crate::rows::say_next_row;
 use crate::tally::Tally;
 use trace_io::TextSink;
 
 /// The blocks of the rows that were said, and what the verdict needs of them.
-#[derive(Debug, Drop)]
+#[derive(Drop)]
 pub(crate) struct Chart {
     pub blocks: Blocks,
     pub tally: Tally,
+    /// Where each row is laid in turn.
+    pub laid: LaidText,
 }
 
 impl Chart {
@@ -27,6 +30,7 @@ impl Chart {
         Chart {
             blocks: no_blocks(),
             tally: Tally::start(),
+            laid: LaidText::new(),
         }
     }
 
@@ -50,7 +54,7 @@ impl Chart {
             → S.says out.old (rows_text origin (blocks_of before) (row_if row.entry)) out.new }
     {
         if let Some(row) = row {
-            say_next_row(origin, &mut self.blocks, row, out);
+            say_next_row(origin, &mut self.blocks, &mut self.laid, row, out);
             self.tally.take(row);
         }
     }

@@ -1,5 +1,5 @@
 //! The rows of a page of two sessions that tell items, one for each number.
-ghost use Rattle.std.specs.Prelude.{◌≡◌, ◌<◌, ◌+◌, ◌^◌, IfSome, length, option_map, take};
+ghost use Rattle.std.specs.Prelude.{◌≡◌, ◌<◌, ◌+◌, ◌++◌, ◌^◌, IfSome, length, option_map, take};
 ghost use Rattle.trace_report.specs.Blocks.{is_request_role as begins_exchange};
 ghost use Rattle.trace_report.specs.Items.{both, items_in, only_left, only_right, pairs_of};
 ghost use Rattle.trace_report.specs.ItemRows.{different_row, item_note, item_side, item_sides, lines_of_both, next_table, no_answer_text, no_item, note_of, open_mark, pair_row, pair_rows, row_opening, same_row, table_opening, told_answer, told_item, told_message, told_reply, told_reply_if};
@@ -12,6 +12,7 @@ use crate::blocks::{FULL_BLOCK, is_request_role, say_block_end};
 use crate::contrast::{LogName, contrast_of, say_log_letter};
 use crate::held_session::{HeldMessage, HeldRow};
 use crate::items::{LentItem, LentPair, NextPair, next_pair};
+use crate::laid_text::LaidText;
 use crate::message_rows::{asked_at, say_further_note, say_named_lines, say_role};
 use crate::row::{MessagePlace, MessageRole};
 use crate::words::{say_data, say_seconds_between};
@@ -34,14 +35,23 @@ pub(crate) fn say_pair_rows<S: TextSink>(
     ensures { number + (length left.now + length right.now) < 2 ^ 64
         → S.says out.old (pair_rows opened left_origin right_origin 0 number (take most (pairs_of (items_in (held_rows left.now)) (items_in (held_rows right.now))))) out.new }
 {
+    let mut laid = LaidText::new();
     let mut placed: u64 = 0;
     let mut current = number;
     let mut more = most;
     let mut left_rest = left;
     let mut right_rest = right;
     'pairs: while let Some(next) = next_within(more, left_rest, right_rest) {
-        say_row_opening(opened, placed, current, out);
-        say_pair_row(left_origin, right_origin, current, next.pair, out);
+        say_next_pair_row(
+            opened,
+            placed,
+            left_origin,
+            right_origin,
+            current,
+            next.pair,
+            &mut laid,
+            out,
+        );
         placed = one_more_placed(placed);
         current = current.saturating_add(1);
         more -= 1;
@@ -49,6 +59,43 @@ pub(crate) fn say_pair_rows<S: TextSink>(
         right_rest = next.right;
     }
     say_block_end(placed, out);
+}
+
+/// Says the row of a number, and what begins before it: at once, where there is room to lay it.
+fn say_next_pair_row<S: TextSink>(
+    opened: bool,
+    placed: u64,
+    left: u64,
+    right: u64,
+    number: u64,
+    pair: LentPair<'_>,
+    laid: &mut LaidText,
+    out: &mut S,
+)
+    ensures { S.says out.old (row_opening opened placed number ++ pair_row left right number (pair_of pair.entry)) out.new }
+{
+    laid.clear();
+    say_placed_pair_row(opened, placed, left, right, number, pair, laid);
+    match laid.text() {
+        Some(text) => out.put(text),
+        None => say_placed_pair_row(opened, placed, left, right, number, pair, out),
+    }
+}
+
+/// Says what begins before the row of a number, where so many rows stand in the last table, and the row.
+fn say_placed_pair_row<S: TextSink>(
+    opened: bool,
+    placed: u64,
+    left: u64,
+    right: u64,
+    number: u64,
+    pair: LentPair<'_>,
+    out: &mut S,
+)
+    ensures { S.says out.old (row_opening opened placed number ++ pair_row left right number (pair_of pair.entry)) out.new }
+{
+    say_row_opening(opened, placed, number, out);
+    say_pair_row(left, right, number, pair, out);
 }
 
 /// What two sessions have of the next number, if they have an item more and so many are wanted.

@@ -44,6 +44,7 @@ mod help;
 mod holder;
 mod item_rows;
 mod items;
+mod laid_text;
 pub mod laws;
 mod links;
 mod lost_rows;

@@ -1,23 +1,44 @@
 //! The rows of a report.
-ghost use Rattle.std.specs.Prelude.{◌≡◌, ◌<◌, ◌^◌, ◌-◌, [], ◌∷◌};
-ghost use Rattle.trace_report.specs.Blocks.{blocks_behind, rows_text};
+ghost use Rattle.std.specs.Prelude.{◌≡◌, ◌<◌, ◌^◌, ◌-◌, [], ◌∷◌, ◌++◌};
+ghost use Rattle.trace_report.specs.Blocks.{blocks_behind, opening_text, rows_text};
 ghost use Rattle.trace_report.specs.Rows.{row_text};
 ghost use Rattle.trace_report.specs.proving.Pages.{row_of};
 
 use crate::blocks::{Blocks, begins_exchange, is_brief, one_more_row, say_opening};
 use crate::brief_rows::say_message;
+use crate::laid_text::LaidText;
 use crate::lost_rows::{say_dropped_row, say_ended_row, say_no_answer_row, say_unfinished_row};
 use crate::row::Row;
 use trace_io::TextSink;
 
-/// Says a row behind those before, and what begins before it.
-pub(crate) fn say_next_row<S: TextSink>(origin: u64, blocks: &mut Blocks, row: Row<'_>, out: &mut S)
+/// Says a row behind those before, and what begins before it: at once, where there is room to lay it.
+pub(crate) fn say_next_row<S: TextSink>(
+    origin: u64,
+    blocks: &mut Blocks,
+    laid: &mut LaidText,
+    row: Row<'_>,
+    out: &mut S,
+)
     ensures says { blocks.old.count < 2 ^ 64 - 1 → blocks.old.rows < 2 ^ 64 - 1 → S.says out.old (rows_text origin blocks.old (row_of row.entry ∷ [])) out.new }
     ensures stands { blocks.old.count < 2 ^ 64 - 1 → blocks.old.rows < 2 ^ 64 - 1 → blocks.new ≡ blocks_behind blocks.old (row_of row.entry ∷ []) }
 {
-    say_opening(origin, *blocks, row, out);
-    *blocks = one_more_row(begins_exchange(row), *blocks);
-    say_row(is_brief(*blocks), origin, row, out);
+    let before = *blocks;
+    *blocks = one_more_row(begins_exchange(row), before);
+    let brief = is_brief(*blocks);
+    laid.clear();
+    say_placed_row(origin, before, brief, row, laid);
+    match laid.text() {
+        Some(text) => out.put(text),
+        None => say_placed_row(origin, before, brief, row, out),
+    }
+}
+
+/// Says what begins before a row that stands behind these blocks, and the row, in a block of brief rows or in another.
+fn say_placed_row<S: TextSink>(origin: u64, before: Blocks, brief: bool, row: Row<'_>, out: &mut S)
+    ensures { S.says out.old (opening_text origin before (row_of row.entry) ++ row_text brief origin (row_of row.entry)) out.new }
+{
+    say_opening(origin, before, row, out);
+    say_row(brief, origin, row, out);
 }
 
 /// Says a row, in a page whose first frame has the time `origin`, in a block of brief rows or in another.

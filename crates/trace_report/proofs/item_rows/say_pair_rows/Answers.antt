@@ -27,6 +27,6 @@ pairs-preserved g c = λ few.
     ∙ pair_rows_next c.args.opened c.args.left_origin c.args.right_origin c.pairs.placed c.pairs.current (pair_of next.pair) rest _ _ c.one_more_placed-placed.ensures number)
     stood.1 in (
       omega (arith, number, stood.0, shorter),
-      part_said (λ text. g.S.TextSink.says c.args.out.now text c.pairs.out) (λ text. g.S.TextSink.says c.args.out.now text c.say_pair_row.new.out) whole part _ said
-          (λ front before. g.met.S.TextSink.onward _ _ _ _ _ before (g.met.S.TextSink.onward _ _ _ _ _ c.say_row_opening.ensures c.say_pair_row.ensures)),
+      part_said (λ text. g.S.TextSink.says c.args.out.now text c.pairs.out) (λ text. g.S.TextSink.says c.args.out.now text c.say_next_pair_row.new.out) whole part _ said
+          (λ front before. g.met.S.TextSink.onward _ _ _ _ _ before c.say_next_pair_row.ensures),
     )

@@ -13,7 +13,7 @@ returns-in-Some-clause-stands g c = λ before few is.
     let low = few_blocks before in
     let counts = ap (λ (b : Blocks). b.count) is.blocks in
     let rows = ap (λ (b : Blocks). b.rows) is.blocks in
-    subst (λ (o : Option Row). IsChartOf (before ++ row_if o) (record { blocks = c.say_next_row.new.blocks; tally = c.take.new.self })) (sym c.in-Some.is)
+    subst (λ (o : Option Row). IsChartOf (before ++ row_if o) (record { blocks = c.say_next_row.new.blocks; tally = c.take.new.self; laid = c.say_next_row.new.laid })) (sym c.in-Some.is)
     (record {
       blocks = c.say_next_row.ensures.stands (omega (arith, counts, low.0)) (omega (arith, rows, low.1)) ∙ ap (λ b. blocks_behind b (row ∷ [])) is.blocks
           ∙ sym (blocks_onward no_blocks before (row ∷ []));
