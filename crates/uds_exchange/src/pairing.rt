@@ -111,11 +111,11 @@ impl Pairing {
     }
 }
 
-/// The bytes, copied into new memory.
+/// The bytes, copied into new memory of their length.
 pub(crate) fn copy(alloc: Global, bytes: &[u8]) -> Result<Vec<u8>, AllocError>
     ensures { IfOk result (λ v. v.items ≡ bytes.now) }
 {
-    let mut v = Vec::new(alloc);
+    let mut v = Vec::with_capacity(alloc, bytes.len())?;
     v.extend_from_slice(bytes)?;
     Ok(v)
 }
