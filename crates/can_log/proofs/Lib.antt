@@ -11,6 +11,7 @@ pub mod WrittenDigits
 pub mod DigitValues
 pub mod LaneDigits
 pub mod LaneRuns
+pub mod DigitMasks
 pub mod LaneNumbers
 pub mod SpelledBytes
 pub mod HexTable

@@ -1,16 +1,20 @@
 //! Bytes of one class at the front of others, by lanes: sixteen bytes are tested at once, each in a lane of a vector.
 
-ghost use Rattle.std.specs.Prelude.{◌≡◌, ◌≤◌, ◌%◌, length, take};
+ghost use Rattle.std.specs.Prelude.{◌≡◌, ◌≤◌, ◌<◌, ◌%◌, ◌/◌, ◌^◌, length, take};
 ghost use Rattle.std.specs.Char.{is_ascii_digit, is_ascii_hexdigit};
 ghost use Rattle.can_log.specs.Line.{IsRunOf};
 ghost use Rattle.can_log.specs.proving.FieldReader.{is_in};
-ghost use Rattle.can_log.specs.proving.Plain.{IsFrontOf, first_set};
+ghost use Rattle.std.specs.Int.{trailing_zeros, w64};
+ghost use Rattle.can_log.specs.proving.Plain.{IsFrontOf, first_set, others_in};
 ghost use Rattle.can_log.specs.declared.field.Class.TheVariants.{Visible};
 
 use std::simd::prelude::*;
 
 /// How many bytes are tested at once.
 pub(crate) const LANES: usize = 16;
+
+/// How many bytes two vectors have.
+pub(crate) const BOTH: usize = 2 * LANES;
 
 /// How many bytes at the front are visible, of sixteen: neither spaces nor control characters.
 #[inline(always)]
@@ -40,10 +44,40 @@ pub(crate) fn hex_front(bytes: &[u8]) -> usize
     requires { LANES ≤ length bytes.now }
     ensures { IsFrontOf is_ascii_hexdigit result bytes.now }
 {
+    first_set(other_digits(bytes))
+}
+
+/// Which of sixteen bytes at the front are no hexadecimal digits: a bit for each, the lowest for the first.
+#[inline(always)]
+fn other_digits(bytes: &[u8]) -> u64
+    requires { LANES ≤ length bytes.now }
+    ensures mask { result ≡ others_in 16 bytes.now }
+    ensures small { result < 65536 }
+{
     let lanes = u8x16::from_slice(bytes);
     let is_other = (lanes - u8x16::splat(b'0')).simd_gt(u8x16::splat(9));
     let from_a = (lanes | u8x16::splat(0x20)) - u8x16::splat(b'a');
-    first_set((is_other & from_a.simd_gt(u8x16::splat(5))).to_bitmask())
+    (is_other & from_a.simd_gt(u8x16::splat(5))).to_bitmask()
+}
+
+/// The same of 32 bytes. Several fields lie there, and the end of each is found by one look at them all: none waits for the end
+/// of the field before.
+#[inline(always)]
+pub(crate) fn other_digits_of_both(bytes: &[u8]) -> u64
+    requires { BOTH ≤ length bytes.now }
+    ensures { result ≡ others_in 32 bytes.now }
+{
+    other_digits(bytes) + 65_536 * other_digits(&bytes[LANES..])
+}
+
+/// How many bytes are hexadecimal digits from the place on that such a mask was shifted to; more than 32 where it tells of no
+/// other.
+#[inline(always)]
+pub(crate) fn digits_told(others: u64, passed: usize) -> usize
+    requires { passed < 64 }
+    ensures { result ≡ trailing_zeros w64 (others / 2 ^ passed) }
+{
+    (others >> passed).trailing_zeros() as usize
 }
 
 /// How many bytes at the front are hexadecimal digits, and no more than `most`, a multiple of the lanes.

@@ -1,15 +1,18 @@
 //! Lines of plain form. In most lines of a log the fields have one width, or end where a byte of another kind follows: such a
 //! line is judged as a whole, sixteen bytes at a time, and its end is found from that of its data.
 
+ghost use Rattle.std.specs.Char.{is_ascii_hexdigit};
 ghost use Rattle.std.specs.Prelude.{◌≡◌, ◌≤◌, ◌+◌, ◌*◌, ◌++◌, IfSome, None, codes, length, take};
 ghost use Rattle.can_log.specs.Line.{parts_in, identifier_of, stamped_of, frame_kind_of, IsRunOf, IsIdentifierText, IsDataText};
 ghost use Rattle.can_log.specs.proving.FieldReader.{is_in};
-ghost use Rattle.can_log.specs.proving.Plain.{HavePlainWidths, IsStamp, time_spelled, IsPlainBody, AreFlags, digits_of, body_with, flags_spelled, most_digits, body_text, end_text, plain_text, spelling_of, IsPlainEnding, ending_text, mark_text, IsPlainMark, IsPlainReturn};
+ghost use Rattle.can_log.specs.proving.Plain.{HavePlainWidths, IsStamp, time_spelled, IsPlainBody, AreFlags, digits_of, body_with, flags_spelled, most_digits, body_text, end_text, plain_text, spelling_of, IsPlainEnding, ending_text, mark_text, IsPlainMark, IsPlainReturn, IsFrontOf, Tells};
 ghost use Rattle.can_log.specs.declared.field.Class.TheVariants.{Visible};
 
 use crate::frame::{Frame, Id, Kind, Stamped};
 use crate::hexadecimal::is_hex_digit;
-use crate::lanes::{LANES, decimal_front, hex_front, hex_run, visible_front};
+use crate::lanes::{
+    LANES, decimal_front, digits_told, hex_front, hex_run, other_digits_of_both, visible_front,
+};
 use crate::meaning::{decoded, identifier_of};
 use crate::stamp::{LONGEST_FRONT, LONGEST_STAMP, is_longest_front, time_of, time_of_short};
 
@@ -51,6 +54,30 @@ struct PlainBody<'a> {
     behind: &'a [u8],
 }
 
+/// Which bytes behind a stamp are hexadecimal digits.
+#[derive(Clone, Copy)]
+struct Told {
+    /// A bit for each of 32 bytes, set where that is no digit.
+    others: u64,
+    /// How many of the bytes are passed.
+    passed: usize,
+}
+
+impl Told {
+    ghost use Rattle.std.specs.Prelude.{◌≤◌};
+    ghost use Rattle.std.specs.Char.{is_ascii_hexdigit};
+    ghost use Rattle.can_log.specs.proving.Plain.{IsFrontOf, Tells};
+
+    /// How many of the bytes that come next, which are these, are digits; more than sixteen where it tells of no end.
+    #[inline(always)]
+    fn digits(self, _bytes: &[u8]) -> usize
+        requires { Tells self _bytes.now }
+        ensures { result ≤ 16 → IsFrontOf is_ascii_hexdigit result _bytes.now }
+    {
+        digits_told(self.others, self.passed)
+    }
+}
+
 /// What follows the data, up to the line feed.
 #[derive(Clone, Copy)]
 struct PlainEnding<'a> {
@@ -73,15 +100,18 @@ pub(crate) fn plain_line<const IS_LONG: bool>(piece: &[u8]) -> Option<(Fields<'_
         return None;
     }
     let (stamp, rest) = stamp_in_front::<IS_LONG>(piece)?;
+    let others = other_digits_of_both(rest);
     let (interface, rest) = interface_in_front(rest)?;
-    let [b' ', rest @ ..] = rest else {
-        return None;
+    let told = Told {
+        others,
+        passed: interface.len() + 1,
     };
-    let (identifier, id, rest) = identifier_in_front(rest)?;
-    let [b'#', rest @ ..] = rest else {
-        return None;
+    let (identifier, id, rest) = identifier_in_front(told, rest)?;
+    let told = Told {
+        others,
+        passed: told.passed + identifier.len() + 1,
     };
-    let (body, ending, rest) = end_in_front(rest)?;
+    let (body, ending, rest) = end_in_front(told, rest)?;
     let fields = Fields {
         stamp,
         interface,
@@ -232,31 +262,53 @@ fn short_stamp_in_front(bytes: &[u8]) -> Option<(&[u8], &[u8])>
     Some(bytes.split_at(seconds + 7))
 }
 
-/// The name of the interface, and the bytes after it.
+/// The name of the interface, and the bytes after it and a space.
 #[inline(always)]
 fn interface_in_front(bytes: &[u8]) -> Option<(&[u8], &[u8])>
     requires { LANES ≤ length bytes.now }
-    ensures parts { IfSome result (λ x. bytes.now ≡ x.0.now ++ x.1.now) }
+    ensures parts { IfSome result (λ x. bytes.now ≡ x.0.now ++ (codes " " ++ x.1.now)) }
     ensures interface { IfSome result (λ x. IsRunOf (is_in Visible) 1 15 x.0.now) }
-    ensures length { IfSome result (λ x. length bytes.now ≤ 15 + length x.1.now) }
+    ensures length { IfSome result (λ x. length bytes.now ≤ 16 + length x.1.now) }
 {
     let length = visible_front(bytes);
     if length < 1 || length > LONGEST_INTERFACE {
         return None;
     }
-    Some(bytes.split_at(length))
+    let (interface, rest) = bytes.split_at(length);
+    let [b' ', rest @ ..] = rest else {
+        return None;
+    };
+    Some((interface, rest))
+}
+
+/// The digits of the identifier, the identifier, and the bytes after the digits and a `#`.
+#[inline(always)]
+fn identifier_in_front(told: Told, bytes: &[u8]) -> Option<(&[u8], Id, &[u8])>
+    requires room { LANES ≤ length bytes.now }
+    requires told { Tells told bytes.now }
+    ensures parts { IfSome result (λ x. bytes.now ≡ x.0.now ++ (codes "#" ++ x.2.now)) }
+    ensures identifier { IfSome result (λ x. IsIdentifierText x.0.now) }
+    ensures decoded { IfSome result (λ x. x.1 ≡ identifier_of x.0.now) }
+    ensures length { IfSome result (λ x. length bytes.now ≤ 9 + length x.2.now) }
+{
+    let (digits, id, rest) = identifier_digits(told, bytes)?;
+    let [b'#', rest @ ..] = rest else {
+        return None;
+    };
+    Some((digits, id, rest))
 }
 
 /// The digits of the identifier, the identifier, and the bytes after the digits.
 #[inline(always)]
-fn identifier_in_front(bytes: &[u8]) -> Option<(&[u8], Id, &[u8])>
-    requires { LANES ≤ length bytes.now }
+fn identifier_digits(told: Told, bytes: &[u8]) -> Option<(&[u8], Id, &[u8])>
+    requires room { LANES ≤ length bytes.now }
+    requires told { Tells told bytes.now }
     ensures parts { IfSome result (λ x. bytes.now ≡ x.0.now ++ x.2.now) }
     ensures identifier { IfSome result (λ x. IsIdentifierText x.0.now) }
     ensures decoded { IfSome result (λ x. x.1 ≡ identifier_of x.0.now) }
     ensures length { IfSome result (λ x. length bytes.now ≤ 8 + length x.2.now) }
 {
-    match hex_front(bytes) {
+    match told.digits(bytes) {
         8 => {
             let (digits, rest) = bytes.split_at(8);
             Some((digits, identifier_of(digits), rest))
@@ -272,13 +324,14 @@ fn identifier_in_front(bytes: &[u8]) -> Option<(&[u8], Id, &[u8])>
 /// The body of a line, what follows its data, and the bytes after its line feed.
 #[tactic(auto, unfolding(crate::specs::proving::Plain::end_text))]
 #[inline(always)]
-fn end_in_front(bytes: &[u8]) -> Option<(PlainBody<'_>, PlainEnding<'_>, &[u8])>
-    requires { most_digits None + 15 ≤ length bytes.now }
+fn end_in_front(told: Told, bytes: &[u8]) -> Option<(PlainBody<'_>, PlainEnding<'_>, &[u8])>
+    requires room { most_digits None + 15 ≤ length bytes.now }
+    requires told { Tells told bytes.now }
     ensures parts { IfSome result (λ x. bytes.now ≡ end_text x.0 x.1 ++ (codes "\n" ++ x.2.now)) }
     ensures body { IfSome result (λ x. IsPlainBody x.0) }
     ensures ending { IfSome result (λ x. IsPlainEnding x.1) }
 {
-    let (body, rest) = body_in_front(bytes)?;
+    let (body, rest) = body_in_front(told, bytes)?;
     let (ending, rest) = ending_in_front(rest)?;
     Some((body, ending, rest))
 }
@@ -286,14 +339,15 @@ fn end_in_front(bytes: &[u8]) -> Option<(PlainBody<'_>, PlainEnding<'_>, &[u8])>
 /// The body of a line, and the bytes after its data.
 #[tactic(auto, unfolding(crate::specs::proving::Plain::body_text))]
 #[inline(always)]
-fn body_in_front(bytes: &[u8]) -> Option<(PlainBody<'_>, &[u8])>
-    requires { most_digits None + 15 ≤ length bytes.now }
+fn body_in_front(told: Told, bytes: &[u8]) -> Option<(PlainBody<'_>, &[u8])>
+    requires room { most_digits None + 15 ≤ length bytes.now }
+    requires told { Tells told bytes.now }
     ensures parts { IfSome result (λ x. bytes.now ≡ body_text x.0 ++ x.1.now) }
     ensures legal { IfSome result (λ x. IsPlainBody x.0) }
     ensures room { IfSome result (λ x. 15 ≤ length x.1.now) }
 {
     let (flags, behind) = flags_in_front(bytes)?;
-    let digits = digits_in_front(flags, behind)?;
+    let digits = digits_in_front(told, flags, behind)?;
     let body = PlainBody {
         flags,
         digits,
@@ -370,16 +424,32 @@ fn flags_in_front(bytes: &[u8]) -> Option<(Option<&[u8]>, &[u8])>
     Some((Some(flags), rest))
 }
 
-/// How many digits of data there are, where two make each byte.
+/// How many digits of data there are, where two make each byte. Those of an FD frame may lie farther than a mask tells of.
 #[inline(always)]
-fn digits_in_front(flags: Option<&[u8]>, bytes: &[u8]) -> Option<usize>
-    requires { most_digits flags + 15 ≤ length bytes.now }
+fn digits_in_front(told: Told, flags: Option<&[u8]>, bytes: &[u8]) -> Option<usize>
+    requires room { most_digits flags + 15 ≤ length bytes.now }
+    requires told { flags ≡ None → Tells told bytes.now }
     ensures text { IfSome result (λ digits. IsDataText (most_digits flags.entry) (take digits bytes.now)) }
     ensures fits { IfSome result (λ digits. digits ≤ most_digits flags.entry) }
 {
     let digits = match flags {
-        None => hex_run(16, bytes),
+        None => classic_digits(told, bytes),
         Some(_) => hex_run(128, bytes),
     };
     if digits % 2 == 0 { Some(digits) } else { None }
+}
+
+/// How many digits of data a classic frame has. Most lie within the 32 bytes that the mask tells of.
+#[inline(always)]
+fn classic_digits(told: Told, bytes: &[u8]) -> usize
+    requires room { LANES ≤ length bytes.now }
+    requires told { Tells told bytes.now }
+    ensures { IsFrontOf is_ascii_hexdigit result bytes.now }
+{
+    let digits = told.digits(bytes);
+    if digits <= LANES {
+        digits
+    } else {
+        hex_front(bytes)
+    }
 }

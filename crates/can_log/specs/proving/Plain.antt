@@ -1,12 +1,14 @@
 -- A device of proof: the fields of a line of plain form, and the spelling that they make.
 use Prim.Native.Char.{code}
-use Rattle.std.specs.Prelude.{◌≡◌, ℕ, ◌≤◌, ◌⊎◌, ◌==◌, if◌then◌else◌, Bool, List, [], ◌++◌, ◌+◌, ◌-◌, ◌*◌, replicate, length, take, drop, codes, IsTrue, Option, Some, None, ⊤}
+use Rattle.std.specs.Prelude.{◌≡◌, ℕ, ◌≤◌, ◌⊎◌, ◌==◌, if◌then◌else◌, Bool, not, List, [], ◌++◌, ◌+◌, ◌-◌, ◌*◌, replicate, length, take, drop, map, codes, IsTrue, Option, Some, None, ⊤}
 use Rattle.std.specs.List.{AllByRecursion}
 use Rattle.std.specs.Char.{is_ascii_digit, is_ascii_hexdigit}
 use Rattle.std.specs.Str.Parse.{digits_value}
 use Rattle.std.specs.Int.{trailing_zeros, w64}
+use lib.Lanes.{mask_l}
 use Rattle.std.specs.Borrow.{Bor}
 use Rattle.can_log.specs.declared.plain.Fields.{Fields}
+use Rattle.can_log.specs.declared.plain.Told.{Told}
 use Rattle.can_log.specs.declared.plain.PlainBody.{PlainBody}
 use Rattle.can_log.specs.declared.plain.PlainEnding.{PlainEnding}
 use Rattle.can_log.specs.declared.field.Class.TheVariants.{Visible}
@@ -144,3 +146,15 @@ IsFrontOf test n bytes = (n ≤ 16) × IsRunOf test 0 16 (take n bytes)
 -- the place of the lowest bit that is set in a mask of sixteen lanes, or 16
 abbrev pub first_set : ℕ → ℕ
 first_set mask = if mask == 0 then 16 else trailing_zeros w64 mask
+
+-- a mask of some bytes at the front: a bit is set for each that is no hexadecimal digit
+abbrev pub others_in : ℕ → List ℕ → ℕ
+others_in count bytes = mask_l (map (λ b. not (is_ascii_hexdigit b)) (take count bytes))
+
+-- such a mask of 32 bytes was made of bytes of which some stood before these
+pub record Tells (told : Told) (bytes : List ℕ) : Type 0 where
+  pub before : List ℕ
+  pub passed : told.passed ≡ length before
+  pub few : told.passed ≤ 32
+  pub enough : 32 ≤ told.passed + length bytes
+  pub others : told.others ≡ others_in 32 (before ++ bytes)

@@ -1,16 +1,7 @@
-use Rattle.std.proofs.Common.{ℕ, cond, ltb, refl, bit_and}
-use lib.Lanes.{chunk}
-use Rattle.std.specs.Char.{is_ascii_hexdigit}
-use Rattle.std.proofs.lemmas.Simd.{length-chunk, splat_is_map, zip2_splat}
-use Rattle.can_log.proofs.LaneRuns.{lanes_joined, run_in_front}
+use Rattle.std.proofs.Common.{◌∙◌, ap}
+use Rattle.can_log.specs.proving.Plain.{first_set}
+use Rattle.can_log.proofs.DigitMasks.{front_from_mask}
 use Rattle.can_log.proofs.lanes.hex_front.Goals as goal
 
 pub returns : goal.returns
-returns c =
-    let v = chunk 0 16 c.args.bytes.now in
-    let long = length-chunk 0 16 c.args.bytes.now c.requires in
-    run_in_front is_ascii_hexdigit c.args.bytes.now _ _ c.requires c.type_inv.bytes c.first_set.ensures _
-    (lanes_joined bit_and _ _ v
-    (lanes_joined (λ a b. cond (ltb a b) 255 0) _ _ v (splat_is_map v 16 9 long) (zip2_splat {Y = ℕ} _ v 16 48 long))
-    (lanes_joined (λ a b. cond (ltb a b) 255 0) _ _ v (splat_is_map v 16 5 long) (lanes_joined _ _ _ v (zip2_splat {Y = ℕ} _ v 16 32 long) (splat_is_map v 16 97 long))))
-    refl
+returns c = front_from_mask c.args.bytes.now c.first_set.result c.requires (c.first_set.ensures ∙ ap first_set c.other_digits.ensures.mask)
