@@ -168,7 +168,7 @@ means nothing
 means 0 7E0#000102030405060708090A0B0C0D0E0F101112131415161718191A1B1C1D1E1F202122232425262728292A2B2C2D2E2F303132333435363738393A3B3C3D3E3F Fd
 ";
 
-/// What is refused in such lines, where others stand behind them: for a line near the end of a piece is not read by the lanes.
+/// What is refused in such lines, where others stand behind them: for a line near the end of a piece is read elsewhere.
 const REFUSED_OF_OTHER_RECORDERS: &str = "\
 47 (1700000000.000241) can0 7E0#031089D2AAAAAAAA X
 48 (1700000000.000241) can0 7E0#031089D2AAAAAAAA RR
@@ -417,7 +417,7 @@ fn refused_bytes_of_other_recorders_are_found(rt: HostRuntime) -> Result<(), Fai
     Ok(())
 }
 
-// After each line stands another, since a line near the end of a piece is not read as one of plain form.
+// After each line stands another, since a line near the end of a piece is read elsewhere.
 #[test]
 fn each_byte_of_a_plain_line_is_looked_at(rt: HostRuntime) {
     let mut log =

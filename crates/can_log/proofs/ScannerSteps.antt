@@ -81,21 +81,18 @@ taken_answered {old = old} {new = new} {piece = piece} {fields = fields} {used =
     subst (λ (a : Scan). Scans old piece a new) (sym (is ∙ ap (λ (n : ℕ). scan.Line used n what) takes.counted)) takes.scans
 
 -- the same, of the first line feed at a place
-pub scan_means_at : (lines taken : ℕ) (line line2 : List ℕ) (refused : Option Place) (piece : List ℕ) (at : ℕ) (what : Option Stamped)
-    → refused ≡ None → line2 ≡ [] → at < length piece → (get_or piece at 0 == code "\n") ≡ true
-    → NoLineFeed (take at piece) → LineMeans (line ++ take at piece) what
-    → Scans (stand lines line taken refused) piece (scan.Line (at + 1) (lines + 1) what) (stand (lines + 1) line2 (taken + (at + 1)) refused)
-scan_means_at lines taken line line2 refused piece at what e none lt feed clean means =
+pub scan_means_at : (old new : Standing) (piece : List ℕ) (at : ℕ) (what : Option Stamped) → old.refused ≡ None → at < length piece
+    → (get_or piece at 0 == code "\n") ≡ true → NoLineFeed (take at piece) → LineMeans (old.line ++ take at piece) what
+    → new ≡ record old { lines = old.lines + 1; line = []; taken = old.taken + (at + 1) } → Scans old piece (scan.Line (at + 1) new.lines what) new
+scan_means_at old new piece at what none lt feed clean means is =
     let long = ap (λ (k : ℕ). k + 1) (sym (length-take-le at piece (omega arith))) in
-    scan_means lines taken line line2 refused piece (take at piece) (drop (suc at) piece) (at + 1) what e none (at_feed piece at lt feed) long clean means
+    subst (λ (s : Standing). Scans old piece (scan.Line (at + 1) s.lines what) s) (sym is)
+    (scan_means old.lines old.taken old.line [] old.refused piece (take at piece) (drop (suc at) piece) (at + 1) what none refl (at_feed piece at lt feed) long clean means)
 
-pub scan_goes_on : (lines taken : ℕ) (line line2 : List ℕ) (refused : Option Place) (piece : List ℕ) → refused ≡ None → line2 ≡ line ++ piece
-    → NoLineFeed piece → HasCompletion (line ++ piece)
-    → Scans (stand lines line taken refused) piece scan.NeedMore (stand lines line2 (taken + length piece) refused)
-scan_goes_on lines taken line line2 refused piece e is clean legal =
-    let stands = ap (λ (z : List ℕ). stand lines z (taken + length piece) None) is in
-    subst (λ (r : Option Place). Scans (stand lines line taken r) piece scan.NeedMore (stand lines line2 (taken + length piece) r)) (sym e)
-    (clean, legal, stands)
+pub scan_goes_on : (old new : Standing) (piece : List ℕ) → old.refused ≡ None → NoLineFeed piece → HasCompletion (old.line ++ piece)
+    → new ≡ record old { line = old.line ++ piece; taken = old.taken + length piece } → Scans old piece scan.NeedMore new
+scan_goes_on old new piece none clean legal is =
+    subst (λ (r : Option Place). ScansFrom r old piece scan.NeedMore new) (sym none) (clean, legal, is)
 
 pub scan_refuses : (old new : Standing) (piece : List ℕ) (answer : Scan) (column : ℕ) → old.refused ≡ None → answer ≡ scan.Bad (old.lines + 1) column
     → new ≡ record old { refused = Some (place (old.lines + 1) column) } → IsRefusedPlace (old.line ++ piece) column → Scans old piece answer new

@@ -3,5 +3,6 @@ pub mod FieldReader
 pub mod LineReader
 pub mod Views
 pub mod Plain
+pub mod Padded
 pub mod Judging
 pub mod Taking

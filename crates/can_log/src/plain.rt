@@ -8,12 +8,12 @@ ghost use Rattle.can_log.specs.proving.FieldReader.{is_in};
 ghost use Rattle.can_log.specs.proving.Plain.{HavePlainWidths, IsStamp, time_spelled, IsPlainBody, AreFlags, digits_of, body_with, flags_spelled, most_digits, body_text, end_text, plain_text, spelling_of, IsPlainEnding, ending_text, mark_text, IsPlainMark, IsPlainReturn, IsFrontOf, Tells};
 ghost use Rattle.can_log.specs.declared.field.Class.TheVariants.{Visible};
 
-use crate::frame::{Frame, Id, Kind, Stamped};
+use crate::frame::{Id, Kind, Stamped};
 use crate::hexadecimal::is_hex_digit;
 use crate::lanes::{
     LANES, decimal_front, digits_told, hex_front, hex_run, other_digits_of_both, visible_front,
 };
-use crate::meaning::{decoded, identifier_of};
+use crate::meaning::identifier_of;
 use crate::stamp::{LONGEST_FRONT, LONGEST_STAMP, is_longest_front, time_of, time_of_short};
 
 /// The longest line of plain form, without its line feed: a stamp of 20 bytes, 15 of the interface, a space, 8 digits of the
@@ -155,22 +155,8 @@ pub(crate) fn plain_identifier(fields: Fields<'_>) -> Id
     fields.id
 }
 
-/// What a line with these fields records, of which the identifier is decoded.
-#[inline(always)]
-pub(crate) fn plain_stamped(fields: Fields<'_>, id: Id) -> Stamped
-    requires widths { HavePlainWidths fields }
-    requires identifier { id ≡ identifier_of fields.identifier.now }
-    ensures { result ≡ stamped_of (parts_in (spelling_of fields.entry)) }
-{
-    let data = decoded(plain_digits(fields));
-    let frame = Frame::from_parts(id, plain_kind(fields), data);
-    Stamped {
-        micros: plain_time(fields),
-        frame,
-    }
-}
-
-/// The same, put over an earlier frame with as many bytes of data, and so with nothing cleared and nothing copied.
+/// What a line with these fields records, of which the identifier is decoded: put over an earlier frame with as many bytes of
+/// data, and so with nothing cleared and nothing copied.
 #[inline(always)]
 pub(crate) fn put_plain_stamped(fields: Fields<'_>, id: Id, stamped: &mut Stamped)
     requires widths { HavePlainWidths fields }

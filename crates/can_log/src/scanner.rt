@@ -1,6 +1,6 @@
 //! Lines out of the pieces of a log.
 
-ghost use Rattle.std.specs.Prelude.{◌≡◌, ℕ, ◌≤◌, ◌+◌, ◌^◌, ◌++◌, Option, Some, ◌<◌, IfOk, IfErr, IfNone, IfSome, IsTrue, false, codes, length, take};
+ghost use Rattle.std.specs.Prelude.{◌≡◌, ℕ, ◌≤◌, ◌+◌, ◌-◌, ◌^◌, ◌++◌, Option, Some, [], ◌<◌, IfOk, IfErr, IfNone, IfSome, IsTrue, false, codes, length, take};
 ghost use Rattle.can_log.specs.Frame.{IsFrame};
 ghost use Rattle.can_log.specs.Line.{LineMeans, IsDataText, bytes_spelled, identifier_of, stamped_of, parts_in};
 ghost use Rattle.can_log.specs.Refused.{NoLineFeed, HasCompletion, IsRefusedPlace};
@@ -10,6 +10,7 @@ ghost use Rattle.can_log.specs.WholeLog.{at_start};
 ghost use Rattle.can_log.specs.declared.scanner.Scan.TheVariants.{Bad, Line};
 ghost use Rattle.can_log.specs.declared.frame.Stamped.{Stamped as StampedValue};
 ghost use Rattle.can_log.specs.proving.Plain.{HavePlainWidths, spelling_of};
+ghost use Rattle.can_log.specs.proving.Padded.{line_feeds};
 ghost use Rattle.can_log.specs.proving.Taking.{TakesPlain};
 
 use crate::field::Stop;
@@ -19,8 +20,9 @@ use crate::line::judge;
 use crate::meaning::{decoded, stamped_of};
 use crate::plain::{
     Fields, LONGEST_PLAIN, any_plain_line, plain_digits, plain_identifier, plain_kind, plain_line,
-    plain_stamped, plain_time, put_plain_stamped,
+    plain_time, put_plain_stamped,
 };
+use crate::stamp::LONGEST_FRONT;
 use crate::wanted::Wanted;
 use arrayvec::ArrayVec;
 use memchr::memchr;
@@ -28,6 +30,12 @@ use std::marker::Model;
 
 /// Room for a line of plain form, its line feed, and what the lanes reach beyond it.
 const ROOM_OF_PLAIN: usize = LONGEST_PLAIN + 1 + LANES;
+
+/// A line of plain form with the longest stamp, and else as short as one is.
+const SHORT_LINE: &[u8] = b"(1700000000.000000) a 000#";
+
+/// Where the point of its stamp stands.
+const POINT: usize = 11;
 
 /// What came of a piece of the log, or of its end.
 #[derive(Debug, Drop, PartialEq, Eq)]
@@ -265,10 +273,48 @@ impl Scanner {
                 return;
             }
         }
+        if self.scan_padded_into(piece, answer) {
+            return;
+        }
         *answer = self.scan_any(piece);
     }
 
-    /// The same, as a value.
+    /// Answers a line of plain form that is cut, or that ends so near to the end of the piece that the lanes have no room; and
+    /// tells whether it is one.
+    #[inline(always)]
+    fn scan_padded_into(&mut self, piece: &[u8], answer: &mut Scan) -> bool
+        requires { self.old.taken + length piece.now ≤ 2 ^ 62 }
+        ensures answer { IsTrue result → Scans self.old piece.now answer.new self.new }
+        ensures left { result ≡ false → self.new ≡ self.old }
+    {
+        // Where the lanes had room, and found no plain form, it is not looked for again.
+        let is_tried = self.line.is_empty() && piece.len() >= ROOM_OF_PLAIN;
+        if is_tried || self.refused.is_some() {
+            return false;
+        }
+        let Some(at) = memchr(b'\n', piece) else {
+            if !is_front_of_plain(self.line.as_slice(), piece) {
+                return false;
+            }
+            self.keep(piece);
+            *answer = Scan::NeedMore;
+            return true;
+        };
+        if self.line.len() + at > LONGEST_PLAIN {
+            return false;
+        }
+        let mut padded = [b'\n'; ROOM_OF_PLAIN];
+        put_line(&mut padded, self.line.as_slice(), &piece[..at]);
+        let Some((fields, _)) = any_plain_line(&padded) else {
+            return false;
+        };
+        self.end_line(at + 1);
+        answer_plain(answer, at + 1, self.lines, fields, plain_identifier(fields));
+        true
+    }
+
+    /// The answer on a line of any form, as a value.
+    #[inline(never)]
     fn scan_any(&mut self, piece: &[u8]) -> Scan
         requires { self.old.taken + length piece.now ≤ 2 ^ 62 }
         ensures answer { Scans self.old piece.now result self.new }
@@ -276,14 +322,10 @@ impl Scanner {
         if let Some(place) = self.refused {
             return bad(place);
         }
-        // Where the lanes had room, and found no plain form, it is not looked for again.
-        let is_untried = !self.line.is_empty() || piece.len() < ROOM_OF_PLAIN;
         match memchr(b'\n', piece) {
-            Some(at) => match ended(self.line.as_slice(), &piece[..at], is_untried) {
+            Some(at) => match ended(self.line.as_slice(), &piece[..at]) {
                 Ok(what) => {
-                    self.line.clear();
-                    self.lines += 1;
-                    self.taken += at as u64 + 1;
+                    self.end_line(at + 1);
                     Scan::Line {
                         used: at + 1,
                         line: self.lines,
@@ -294,14 +336,37 @@ impl Scanner {
             },
             None => match refused_column(self.line.as_slice(), piece) {
                 None => {
-                    // There is room: what can be completed has at most 223 bytes.
-                    let _ = self.line.try_extend_from_slice(piece);
-                    self.taken += piece.len() as u64;
+                    self.keep(piece);
                     Scan::NeedMore
                 }
                 Some(column) => self.refuse(column),
             },
         }
+    }
+
+    /// Ends the line after so many bytes of a piece.
+    #[inline(always)]
+    fn end_line(&mut self, bytes: usize)
+        requires some { 1 ≤ bytes }
+        requires room { self.old.taken + bytes ≤ 2 ^ 62 }
+        ensures { self.new ≡ record self.old { lines = self.old.lines + 1; line = []; taken = self.old.taken + bytes } }
+    {
+        self.line.clear();
+        self.lines += 1;
+        self.taken += bytes as u64;
+    }
+
+    /// Keeps a piece in which the line does not end.
+    #[inline(always)]
+    fn keep(&mut self, piece: &[u8])
+        requires room { self.old.taken + length piece.now ≤ 2 ^ 62 }
+        requires clean { NoLineFeed piece.now }
+        requires legal { HasCompletion (self.old.line ++ piece.now) }
+        ensures { self.new ≡ record self.old { line = self.old.line ++ piece.now; taken = self.old.taken + length piece.now } }
+    {
+        // There is room: what can be completed has at most 223 bytes.
+        let _ = self.line.try_extend_from_slice(piece);
+        self.taken += piece.len() as u64;
     }
 
     /// Takes the last line of the log, if it has no line feed. It is asked when no piece is left.
@@ -446,18 +511,13 @@ enum Judgement {
     Refused(u32),
 }
 
-/// What a line that ends after `bytes` means, or the column that is refused. It may be of plain form where that is untried.
-fn ended(line: &[u8], bytes: &[u8], is_untried: bool) -> Result<Option<Stamped>, u32>
+/// What a line that ends after `bytes` means, or the column that is refused.
+fn ended(line: &[u8], bytes: &[u8]) -> Result<Option<Stamped>, u32>
     requires short { length line.now ≤ 223 }
     requires clean { NoLineFeed (line.now ++ bytes.now) }
     ensures ok { IfOk result (λ what. LineMeans (line.now ++ bytes.now) what) }
     ensures err { IfErr result (λ column. IsRefusedPlace ((line.now ++ bytes.now) ++ codes "\n") column) }
 {
-    if is_untried {
-        if let Some(stamped) = plain_ended(line, bytes) {
-            return Ok(Some(stamped));
-        }
-    }
     match line_judgement(line, bytes) {
         Judgement::Means(what) => Ok(what),
         Judgement::Short => Err((line.len() + bytes.len() + 1) as u32),
@@ -465,23 +525,62 @@ fn ended(line: &[u8], bytes: &[u8], is_untried: bool) -> Result<Option<Stamped>,
     }
 }
 
-/// What a line that ends after `bytes` records, if it is of plain form. It may be cut, and the lanes reach beyond its end: so
-/// it is copied to where line feeds follow.
-#[inline(always)]
-fn plain_ended(line: &[u8], bytes: &[u8]) -> Option<Stamped>
+/// Whether a few bytes make a line of plain form of what is there so far. `false` says no more than that none were found that do.
+#[inline(never)]
+fn is_front_of_plain(line: &[u8], bytes: &[u8]) -> bool
     requires { NoLineFeed (line.now ++ bytes.now) }
-    ensures { IfSome result (λ stamped. LineMeans (line.now ++ bytes.now) (Some stamped)) }
+    ensures { IsTrue result → HasCompletion (line.now ++ bytes.now) }
 {
-    let length = line.len();
-    let end = length + bytes.len();
+    let end = line.len() + bytes.len();
     if end > LONGEST_PLAIN {
-        return None;
+        return false;
     }
     let mut padded = [b'\n'; ROOM_OF_PLAIN];
+    put_line(&mut padded, line, bytes);
+    let Some(completion) = completion_of(&padded[..end]) else {
+        return false;
+    };
+    let whole = end + completion.len();
+    if whole > LONGEST_PLAIN {
+        return false;
+    }
+    padded[end..whole].copy_from_slice(completion);
+    let completed: &[u8] = &padded;
+    if end < POINT {
+        return plain_line::<false>(completed).is_some();
+    }
+    plain_line::<true>(completed).is_some()
+}
+
+/// What is likely to complete a line with the longest stamp, cut in its stamp or in its data: the rest of the stamp and a frame
+/// without data, or the second digit of a byte, or nothing.
+#[inline(always)]
+fn completion_of(front: &[u8]) -> Option<&'static [u8]>
+    ensures few { IfSome result (λ completion. length completion.now ≤ 16) }
+    ensures clean { IfSome result (λ completion. NoLineFeed completion.now) }
+{
+    if front.len() <= LONGEST_FRONT {
+        // Where the seconds are cut, those that are there are taken for all.
+        return Some(&SHORT_LINE[front.len().max(POINT)..]);
+    }
+    let behind = &front[LONGEST_FRONT..];
+    let at = memchr(b'#', behind)?;
+    // Of an FD frame two bytes stand before the digits: another `#`, and the flags.
+    let is_halved = (behind.len() - at) % 2 == 0;
+    Some(if is_halved { b"0" } else { b"" })
+}
+
+/// Puts a line that may be cut where line feeds stand: the lanes reach beyond its end. They are handed in, since an array that
+/// is returned is copied.
+#[inline(always)]
+fn put_line(padded: &mut [u8; ROOM_OF_PLAIN], line: &[u8], bytes: &[u8])
+    requires feeds { padded.old ≡ line_feeds ROOM_OF_PLAIN }
+    requires short { length line.now + length bytes.now ≤ LONGEST_PLAIN }
+    ensures { padded.new ≡ (line.now ++ bytes.now) ++ line_feeds (ROOM_OF_PLAIN - (length line.now + length bytes.now)) }
+{
+    let length = line.len();
     padded[..length].copy_from_slice(line);
-    padded[length..end].copy_from_slice(bytes);
-    let (fields, _) = any_plain_line(&padded)?;
-    Some(plain_stamped(fields, plain_identifier(fields)))
+    padded[length..length + bytes.len()].copy_from_slice(bytes);
 }
 
 /// The column that is refused, if one is.
