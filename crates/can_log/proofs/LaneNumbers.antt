@@ -1,11 +1,10 @@
 -- Sixteen decimal digits as the lanes of a vector, and the number that they spell.
 use Prim.Native.Char.{code}
 use Prim.Native.Nat.{zero, suc}
-use Rattle.std.proofs.Common.{◌≡◌, ℕ, ◌+◌, ◌-◌, ◌*◌, ◌<◌, ◌≤◌, ◌%◌, ◌++◌, List, [], ◌∷◌, length, length-append, length-drop, take, drop, replicate, append_assoc, refl, sym, ap, subst, ◌∙◌, true, arith}
+use Rattle.std.proofs.Common.{◌≡◌, ℕ, ◌+◌, ◌-◌, ◌*◌, ◌<◌, ◌%◌, ◌++◌, List, [], ◌∷◌, length, length-append, take, drop, replicate, append_assoc, refl, sym, ap, subst, ◌∙◌, true, arith}
 use Rattle.std.specs.Prelude.{codes}
 use Rattle.std.proofs.Math.Seq.{take-append_seam, drop-append_seam}
-use Rattle.std.proofs.lemmas.List.{append-nil, take-replicate, length-replicate, length-take-le, take-take, take-append-drop, take_at, drop_at, drop_all}
-use borrow.Rule.Slice.PartMut.{put_mid}
+use Rattle.std.proofs.lemmas.List.{length-replicate, length-take-le}
 use Rattle.std.specs.Char.{is_ascii_digit, digit_value}
 use Rattle.std.specs.Str.Parse.{digits_value}
 use Rattle.std.proofs.lemmas.Simd.{pick_l_whole}
@@ -22,32 +21,6 @@ stamp_value stamp long = rw (sym (pick_l_whole 0 stamp 17 long)) (omega arith)
 zeros_first : (n : ℕ) (digits : List ℕ) → digits_value 10 (replicate n (code "0") ++ digits) ≡ digits_value 10 digits
 zeros_first zero digits = refl
 zeros_first (suc n) digits = zeros_first n digits
-
--- zeros whose end a stamp is laid over, by its first eight bytes and its last eight
-pub padded_by : (stamp first second : List ℕ) → 8 ≤ length stamp → length stamp < 17 → first ≡ take 8 stamp → second ≡ drop (length stamp - 8) stamp
-    → put_mid 9 (17 - 9) (put_mid (17 - length stamp) (17 - length stamp + 8 - (17 - length stamp)) (replicate 17 48) first) second ≡ padded stamp
-padded_by stamp first second enough few one two =
-    let z = 17 - length stamp in
-    let n = length stamp - 8 in
-    let zeros = replicate z (code "0") in
-    let begins : take z (replicate 17 48) ≡ zeros = take-replicate z 17 48 (omega arith) in
-    let all : List ℕ = replicate 17 48 in
-    let left : List ℕ = drop (z + 8 - z) (drop z all) in
-    let left_long : length left ≤ 17 - z - 8 = omega (arith, length-drop (z + 8 - z) (drop z all), length-drop z all) in
-    let front : List ℕ = zeros ++ take n stamp in
-    let front_long : length front ≡ 9 = length-append zeros (take n stamp) ∙ omega (arith, length-replicate z (code "0"), length-take-le n stamp (omega arith)) in
-    let over : List ℕ = drop n (take 8 stamp) ++ left in
-    let over_long : length over ≤ 8 = omega (arith, length-append (drop n (take 8 stamp)) left, length-drop n (take 8 stamp), length-take-le 8 stamp enough, left_long) in
-    let cut : take 8 stamp ≡ take n stamp ++ drop n (take 8 stamp) =
-    sym (take-append-drop n (take 8 stamp)) ∙ ap (λ (l : List ℕ). l ++ drop n (take 8 stamp)) (take-take n 8 stamp (omega arith))
-    in
-    let laid : put_mid z (z + 8 - z) (replicate 17 48) first ≡ front ++ over =
-    (λ i. begins i ++ (one i ++ left)) ∙ ap (λ (l : List ℕ). zeros ++ (l ++ left)) cut ∙ simp append_assoc
-    in
-    let kept : take 9 (front ++ over) ≡ front = take_at front over 9 front_long in
-    let gone : drop 8 (drop 9 (front ++ over)) ≡ [] = ap (drop 8) (drop_at front over 9 front_long) ∙ drop_all 8 over over_long in
-    ap (λ (l : List ℕ). put_mid 9 8 l second) laid ∙ (λ i. kept i ++ (two i ++ gone i)) ∙ ap (λ (l : List ℕ). front ++ l) (append-nil (drop n stamp))
-    ∙ append_assoc zeros (take n stamp) (drop n stamp) ∙ ap (λ (l : List ℕ). zeros ++ l) (take-append-drop n stamp)
 
 -- a stamp with zeros in front, as long as the longest, has the same microseconds, and the zeros before the same seconds
 record IsPadded (stamp longest : List ℕ) : Type 0 where

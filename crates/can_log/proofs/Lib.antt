@@ -13,6 +13,7 @@ pub mod LaneDigits
 pub mod LaneRuns
 pub mod DigitMasks
 pub mod LaneNumbers
+pub mod ShortStamps
 pub mod SpelledBytes
 pub mod HexTable
 -- a line, field by field

@@ -16,6 +16,65 @@ pub(crate) const LONGEST_STAMP: usize = 17;
 /// How many bytes such a stamp has in its parentheses, with a space behind them.
 pub(crate) const LONGEST_FRONT: usize = 20;
 
+/// How many bytes a stamp has with one digit of seconds, the fewest.
+const SHORTEST_STAMP: usize = 8;
+
+/// The digit of nothing.
+const ZERO: u8 = b'0';
+
+/// No lane: what is picked there is 0.
+const NONE: u8 = 0x80;
+
+/// The zeros in front of the digits of a stamp, by how many digits of seconds there are behind the first.
+static ZEROS: [[u8; LANES]; 9] = [
+    [
+        ZERO, ZERO, ZERO, ZERO, ZERO, ZERO, ZERO, ZERO, ZERO, 0, 0, 0, 0, 0, 0, 0,
+    ],
+    [
+        ZERO, ZERO, ZERO, ZERO, ZERO, ZERO, ZERO, ZERO, 0, 0, 0, 0, 0, 0, 0, 0,
+    ],
+    [
+        ZERO, ZERO, ZERO, ZERO, ZERO, ZERO, ZERO, 0, 0, 0, 0, 0, 0, 0, 0, 0,
+    ],
+    [
+        ZERO, ZERO, ZERO, ZERO, ZERO, ZERO, 0, 0, 0, 0, 0, 0, 0, 0, 0, 0,
+    ],
+    [
+        ZERO, ZERO, ZERO, ZERO, ZERO, 0, 0, 0, 0, 0, 0, 0, 0, 0, 0, 0,
+    ],
+    [ZERO, ZERO, ZERO, ZERO, 0, 0, 0, 0, 0, 0, 0, 0, 0, 0, 0, 0],
+    [ZERO, ZERO, ZERO, 0, 0, 0, 0, 0, 0, 0, 0, 0, 0, 0, 0, 0],
+    [ZERO, ZERO, 0, 0, 0, 0, 0, 0, 0, 0, 0, 0, 0, 0, 0, 0],
+    [ZERO, 0, 0, 0, 0, 0, 0, 0, 0, 0, 0, 0, 0, 0, 0, 0],
+];
+
+/// The lanes of the ends of the stamp where its digits are found, by the same number.
+static PLACES: [[u8; LANES]; 9] = [
+    [
+        NONE, NONE, NONE, NONE, NONE, NONE, NONE, NONE, NONE, 0, 10, 11, 12, 13, 14, 15,
+    ],
+    [
+        NONE, NONE, NONE, NONE, NONE, NONE, NONE, NONE, 0, 1, 10, 11, 12, 13, 14, 15,
+    ],
+    [
+        NONE, NONE, NONE, NONE, NONE, NONE, NONE, 0, 1, 2, 10, 11, 12, 13, 14, 15,
+    ],
+    [
+        NONE, NONE, NONE, NONE, NONE, NONE, 0, 1, 2, 3, 10, 11, 12, 13, 14, 15,
+    ],
+    [
+        NONE, NONE, NONE, NONE, NONE, 0, 1, 2, 3, 4, 10, 11, 12, 13, 14, 15,
+    ],
+    [
+        NONE, NONE, NONE, NONE, 0, 1, 2, 3, 4, 5, 10, 11, 12, 13, 14, 15,
+    ],
+    [
+        NONE, NONE, NONE, 0, 1, 2, 3, 4, 5, 6, 10, 11, 12, 13, 14, 15,
+    ],
+    [NONE, NONE, 0, 1, 2, 3, 4, 5, 6, 7, 10, 11, 12, 13, 14, 15],
+    [NONE, 0, 1, 2, 3, 4, 5, 6, 7, 8, 10, 11, 12, 13, 14, 15],
+];
+
 /// Whether these bytes are a stamp with ten digits of seconds in its parentheses, and a space. They are compared, in two vectors
 /// that overlap, with those of a stamp of zeros: by XOR a digit differs from `0` by no more than 9, and each other byte by
 /// nothing.
@@ -61,22 +120,22 @@ pub(crate) fn time_of_short(stamp: &[u8]) -> u64
     requires short { length stamp.now < LONGEST_STAMP }
     ensures { result ≡ time_spelled stamp.now }
 {
-    time_of(&padded(stamp))
+    decimal_number(short_digits_of(stamp))
 }
 
-/// The stamp with zeros in front, as many as make it the longest. It is copied by its first eight bytes and its last eight, which
-/// overlap: so the length of each copy is known when it is compiled.
+/// The digits of a stamp with zeros in front, as many as make it the longest. It is read by its first eight bytes and its last
+/// eight, which overlap: so how many bytes are read is known when it is compiled, and they are put in their places in a register.
 #[inline(always)]
-fn padded(stamp: &[u8]) -> [u8; LONGEST_STAMP]
-    requires enough { 8 ≤ length stamp.now }
+fn short_digits_of(stamp: &[u8]) -> u8x16
+    requires enough { SHORTEST_STAMP ≤ length stamp.now }
     requires short { length stamp.now < LONGEST_STAMP }
-    ensures { result ≡ padded stamp.now }
+    ensures { result ≡ seconds_of (padded stamp.now) ++ micros_of (padded stamp.now) }
 {
-    let zeros = LONGEST_STAMP - stamp.len();
-    let mut longest = [b'0'; LONGEST_STAMP];
-    longest[zeros..zeros + 8].copy_from_slice(&stamp[..8]);
-    longest[LONGEST_STAMP - 8..].copy_from_slice(&stamp[stamp.len() - 8..]);
-    longest
+    let seconds = stamp.len() - SHORTEST_STAMP;
+    let first = u8x8::from_slice(stamp);
+    let last = u8x8::from_slice(&stamp[seconds..]);
+    let ends: u8x16 = first.shuffle(last, [0, 1, 2, 3, 4, 5, 6, 7, 8, 9, 10, 11, 12, 13, 14, 15]);
+    u8x16::from_array(ZEROS[seconds]) | ends.swizzle_dyn(u8x16::from_array(PLACES[seconds]))
 }
 
 /// The digits of the stamp, without its point.
