@@ -58,6 +58,16 @@ pub frame-single : (direction : Dir) (message : List ℕ) (number : ℕ) → len
 unfolding canonical_frame
 frame-single direction message number short = (let one = le-leb (length message) 7 short in rw one refl)
 
+-- and it is the only one of its message
+pub canonical_frames-short : (limit : ℕ) (direction : Dir) (message : List ℕ) → 1 ≤ length message → length message ≤ 7 → length message ≤ limit
+    → canonical_frames limit direction message ≡ (direction, filled (single_control (length message)) message) ∷ []
+canonical_frames-short limit direction message some short fits =
+    let one : nat_le (length message) 7 ≡ true = le-leb (length message) 7 short in
+    let count : frame_count (length message) ≡ 1 = rw one refl in
+    frames_of limit direction message some fits
+    ∙ ap (λ n. map (canonical_frame direction message) (range_with_len 0 n)) count
+    ∙ ap (λ f. f ∷ []) (frame-single direction message 0 short)
+
 pub frame-first : (direction : Dir) (message : List ℕ) → 7 < length message
     → canonical_frame direction message 0 ≡ (direction, filled (first_control (length message)) message)
 unfolding canonical_frame

@@ -1,8 +1,7 @@
 -- Each canonical frame has 8 bytes; and the one frame of a short message.
-use Rattle.std.proofs.Common.{◌≡◌, ◌-◌, ◌<◌, ◌^◌, ◌==◌, ◌&&◌, [], ◌∷◌, ◌++◌, ◌∙◌}
-use Rattle.std.proofs.Common.{ℕ, zero, suc, List, length, map, drop, nat_le, true, false, refl, sym, subst, ap, arith, inl, inr}
-use Rattle.std.specs.List.{range_with_len}
-use Rattle.std.proofs.lemmas.Bool.{le-leb, lt-leb, leb-true, leb-false, cases_Bool, and_parts}
+use Rattle.std.proofs.Common.{◌≡◌, ◌-◌, ◌<◌, ◌^◌, ◌==◌, ◌&&◌, [], ◌∷◌, ◌++◌}
+use Rattle.std.proofs.Common.{ℕ, zero, suc, List, length, drop, nat_le, false, sym, subst, arith, inl, inr}
+use Rattle.std.proofs.lemmas.Bool.{lt-leb, leb-true, leb-false, cases_Bool, and_parts}
 use Rattle.direction.specs.Dir.{other_direction}
 use Rattle.can_log.specs.Frame.{AreBytes}
 use Rattle.direction.specs.declared.Dir.{Dir}
@@ -11,7 +10,7 @@ use Rattle.isotp_pdu.proofs.Promises.{layout_is_read}
 use Rattle.isotp_segment.specs.CanonicalFrames.{filled, single_control, first_control, consecutive_control, continue_control, place_of, frame_count, canonical_frame, canonical_frames}
 use Rattle.isotp_segment.specs.Laws.{IsFullFrame, CanonicalFramesAreFull, ShortMessageIsOneFrame}
 use Rattle.isotp_segment.proofs.Bytes.{byte_at, filled_by_place, length-filled}
-use Rattle.isotp_segment.proofs.Frames.{frames_of, frame-single}
+use Rattle.isotp_segment.proofs.Frames.{frame-single, canonical_frames-short}
 use Rattle.isotp_segment.proofs.Layouts.{classic, layout-single}
 use Rattle.isotp_segment.proofs.Lists.{AllByRecursion-drop, AllByRecursion-map-range}
 
@@ -63,12 +62,8 @@ canonical_frames_are_full limit d m bits each = elim (cases_Bool (nat_le 1 (leng
 
 pub short_message_is_one_frame : ShortMessageIsOneFrame
 short_message_is_one_frame limit d m some short fits =
-    let one : nat_le (length m) 7 ≡ true = le-leb (length m) 7 short in
-    let count : frame_count (length m) ≡ 1 = rw one refl in
     record {
       bytes = filled (single_control (length m)) m;
-      alone = frames_of limit d m some fits
-          ∙ ap (λ n. map (canonical_frame d m) (range_with_len 0 n)) count
-          ∙ ap (λ f. f ∷ []) (frame-single d m 0 short);
+      alone = canonical_frames-short limit d m some short fits;
       holds = λ id. (layout_is_read (classic id (filled (single_control (length m)) m)) (single m)).1 (layout-single id m some short);
     }

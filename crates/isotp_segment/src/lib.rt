@@ -17,6 +17,7 @@
 
 mod frame;
 pub mod laws;
+mod single;
 
 ghost use Rattle.std.specs.Prelude.{◌≡◌, ◌≤◌, ℕ, List, length};
 ghost use Rattle.direction.specs.declared.Dir.{Dir};
@@ -25,8 +26,9 @@ ghost use Rattle.isotp_segment.specs.CanonicalFrames as Spec;
 ghost use Rattle.isotp_segment.specs.CanonicalFrames.{canonical_frames};
 
 use direction::Dir;
-use frame::{CONSECUTIVE_ROOM, SINGLE_LIMIT, canonical_frame, full_frame, room_in_first};
+use frame::{CONSECUTIVE_ROOM, canonical_frame, full_frame, room_in_first};
 use isotp_receive::MESSAGE_LIMIT;
+pub use single::{SINGLE_LIMIT, single_frame};
 use std::iter::FusedIterator;
 use std::marker::Model;
 

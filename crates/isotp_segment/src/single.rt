@@ -1,0 +1,88 @@
+//! The frame of a message that one frame holds, by lanes: its bytes are put in their places all at once.
+
+ghost use Rattle.std.specs.Prelude.{◌≡◌, ◌≤◌, [], ◌∷◌, length};
+ghost use Rattle.direction.specs.declared.Dir.{Dir};
+ghost use Rattle.isotp_receive.specs.declared.TheConstants.{MESSAGE_LIMIT};
+ghost use Rattle.isotp_segment.specs.CanonicalFrames.{filled, single_control, canonical_frames};
+ghost use Rattle.isotp_segment.specs.declared.single.TheConstants.{SINGLE_LIMIT};
+ghost use Rattle.isotp_segment.specs.proving.Ends.{ends_of};
+
+use crate::frame::PADDING;
+use std::simd::prelude::*;
+
+/// The longest message that a single frame holds.
+pub const SINGLE_LIMIT: usize = 7;
+
+/// The frame by the length of its message, with zeros where the bytes of the message go.
+static BLANKS: [[u8; 8]; 8] = [
+    [
+        0, PADDING, PADDING, PADDING, PADDING, PADDING, PADDING, PADDING,
+    ],
+    [1, 0, PADDING, PADDING, PADDING, PADDING, PADDING, PADDING],
+    [2, 0, 0, PADDING, PADDING, PADDING, PADDING, PADDING],
+    [3, 0, 0, 0, PADDING, PADDING, PADDING, PADDING],
+    [4, 0, 0, 0, 0, PADDING, PADDING, PADDING],
+    [5, 0, 0, 0, 0, 0, PADDING, PADDING],
+    [6, 0, 0, 0, 0, 0, 0, PADDING],
+    [7, 0, 0, 0, 0, 0, 0, 0],
+];
+
+/// The lanes of the ends of the message where these bytes are found, by the length of the message.
+static PLACES: [[u8; 8]; 8] = [
+    [NONE, NONE, NONE, NONE, NONE, NONE, NONE, NONE],
+    [NONE, 0, NONE, NONE, NONE, NONE, NONE, NONE],
+    [NONE, 0, 2, NONE, NONE, NONE, NONE, NONE],
+    [NONE, 0, 1, 2, NONE, NONE, NONE, NONE],
+    [NONE, 0, 1, 2, 3, NONE, NONE, NONE],
+    [NONE, 0, 1, 2, 3, 7, NONE, NONE],
+    [NONE, 0, 1, 2, 3, 6, 7, NONE],
+    [NONE, 0, 1, 2, 3, 5, 6, 7],
+];
+
+/// No lane: what is picked there is 0.
+const NONE: u8 = 0x80;
+
+/// Eight lanes, and eight of another vector behind them: where lanes are picked of sixteen, a place may be none.
+const WIDENED: [usize; 16] = [0, 1, 2, 3, 4, 5, 6, 7, 8, 9, 10, 11, 12, 13, 14, 15];
+
+/// The one frame of a message of 1 to [`SINGLE_LIMIT`] bytes, whoever sends it (ISO 15765-2, section 9.6.2).
+#[inline(always)]
+pub fn single_frame(message: &[u8]) -> [u8; 8]
+    requires some { 1 ≤ length message.now }
+    requires single { length message.now ≤ SINGLE_LIMIT }
+    ensures value { result ≡ filled (single_control (length message.now)) message.now }
+    ensures frames { (direction : Dir) → canonical_frames MESSAGE_LIMIT direction message.now ≡ (direction, result) ∷ [] }
+{
+    let len = message.len();
+    let zeros = u8x8::splat(0);
+    let ends: u8x16 = ends(message).shuffle(zeros, WIDENED);
+    let places: u8x16 = u8x8::from_array(PLACES[len]).shuffle(zeros, WIDENED);
+    let bytes: u8x8 = ends.swizzle_dyn(places).swizzle([0, 1, 2, 3, 4, 5, 6, 7]);
+    (u8x8::from_array(BLANKS[len]) | bytes).to_array()
+}
+
+/// The first four bytes of the message and its last four, which may overlap. Of fewer than four bytes, the first, the one in
+/// the middle and the last. So how many bytes are read at once is known when it is compiled.
+#[inline(always)]
+fn ends(message: &[u8]) -> u8x8
+    requires some { 1 ≤ length message.now }
+    requires single { length message.now ≤ SINGLE_LIMIT }
+    ensures { result ≡ ends_of message.now }
+{
+    let len = message.len();
+    if len >= 4 {
+        let first = u8x4::from_slice(message);
+        let last = u8x4::from_slice(&message[len - 4..]);
+        return first.shuffle(last, [0, 1, 2, 3, 4, 5, 6, 7]);
+    }
+    u8x8::from_array([
+        message[0],
+        message[len / 2],
+        message[len - 1],
+        0,
+        0,
+        0,
+        0,
+        0,
+    ])
+}
