@@ -19,7 +19,7 @@ use can_log::{
     BASE_LINE, Id, LONGEST_LINE, LineClock, base_line, change_line, extended_line, line_length,
 };
 use direction::Dir;
-use isotp_segment::Segments;
+use isotp_segment::{SINGLE_LIMIT, Segments, single_frame};
 use std::alloc::AllocError;
 use trace_io::TextSink;
 use trace_log::Config;
@@ -60,7 +60,7 @@ impl<'a, S: TextSink> MessageSink for CanonicalSink<'a, S> {
     }
 }
 
-/// Says the lines of a message.
+/// Says the lines of a message. Most messages have one frame, which is made and said by itself.
 fn say_message<S: TextSink>(
     out: &mut S,
     config: &Config,
@@ -72,7 +72,11 @@ fn say_message<S: TextSink>(
     ensures place { place.new ≡ place_after config.now place.old (canonical_frames MESSAGE_LIMIT dir message.now) }
 {
     if has_frames(message) {
-        say_frames(out, config, place, dir, Segments::new(dir, message));
+        if message.len() <= SINGLE_LIMIT {
+            say_frame(out, config, place, dir, &single_frame(message));
+        } else {
+            say_frames(out, config, place, dir, Segments::new(dir, message));
+        }
     }
 }
 
