@@ -18,7 +18,7 @@ use Rattle.trace_text.specs.Json.{Value, string, object, Members, nothing, membe
 use Rattle.trace_text.specs.Json as json
 use Rattle.trace_text.specs.Laws.{IsOfBytes, EqualListsHaveEqualTexts}
 use Rattle.trace_text.specs.ListText.{answer_members, outcome_text, outcome_members, item_text, item_members, item_object, number_text, list_text, list_text_from}
-use Rattle.trace_text.specs.proving.Spelling.{later_then, members_then, value_then, front_of_item}
+use Rattle.trace_text.specs.proving.Spelling.{later_then, members_then, value_then}
 use Rattle.trace_text.specs.Words.{bytes_text, direction_text, service_text, code_text}
 use Rattle.trace_text.proofs.JsonTexts.{value_is}
 use Rattle.trace_text.proofs.TextWords.{IsWord, first_of, strip, cut, name_word, bytes_word, bytes_same, service_word, code_word}
@@ -241,12 +241,17 @@ item_spelled Json (stray d bytes) rest = members_spelled 0 (item_members (stray 
 abbrev styled : Notation → Numbering → ItemStyle
 styled notation numbering = record { numbering = numbering; notation = notation }
 
+-- the front of an object, up to what the item is
+abbrev front_of_object : Numbering → ℕ → List ℕ
+front_of_object Shown number = codes "{\"item\":" ++ decimal number ++ codes ","
+front_of_object Hidden number = codes "{"
+
 abbrev front_of : Notation → Numbering → ℕ → List ℕ
 front_of Text numbering number = number_text numbering number
-front_of Json numbering number = front_of_item numbering number
+front_of Json numbering number = front_of_object numbering number
 
 object_then : (numbering : Numbering) (number : ℕ) (item : ItemValue) (rest : List ℕ)
-    → value_then (object (item_object numbering number item)) (codes "\n" ++ rest) ≡ front_of_item numbering number ++ members_then (item_members item) (behind rest)
+    → value_then (object (item_object numbering number item)) (codes "\n" ++ rest) ≡ front_of_object numbering number ++ members_then (item_members item) (behind rest)
 object_then Hidden number item rest = refl
 object_then Shown number (exchange r a) rest = sym (two_and (codes "{\"item\":") (decimal number) (codes ",") _)
 object_then Shown number (stray d bytes) rest = sym (two_and (codes "{\"item\":") (decimal number) (codes ",") _)

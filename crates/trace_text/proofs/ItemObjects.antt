@@ -1,65 +1,123 @@
--- The objects of items, in the parts that are said.
-use Rattle.std.proofs.Common.{◌≡◌, ℕ, true, false, List, [], ◌++◌, refl, sym, ap, ◌∙◌, append_assoc, codes, Option, None}
+-- The objects of items, in the pieces that are said.
+use Rattle.std.proofs.Common.{◌≡◌, ℕ, Bool, true, false, List, ◌++◌, [], refl, sym, ap, ◌∙◌, append_assoc, codes, Option, Some, None}
+use Rattle.std.specs.Prelude.{if◌then◌else◌}
 use Rattle.std.specs.Fmt.{decimal}
 use Rattle.uds_exchange.specs.Meaning.{ItemValue, exchange, stray}
 use Rattle.uds_message.specs.Message.{sid, is_negative_response, response_code, is_suppressing}
+use Rattle.direction.specs.declared.Dir.{Dir}
 use Rattle.trace_text.specs.declared.item_lines.Numbering.{Numbering}
 use Rattle.trace_text.specs.declared.item_lines.Numbering.TheVariants.{Shown, Hidden}
-use Rattle.trace_text.specs.Json.{object, Members, value_text, members_text}
-use Rattle.trace_text.specs.Words.{bytes_text, service_text, code_text}
-use Rattle.trace_text.specs.ListText.{answer_members, outcome_members, exchange_members, item_members, item_object}
-use Rattle.trace_text.specs.proving.Spelling.{later_then, members_then, front_of_item}
-use Rattle.trace_text.proofs.JsonTexts.{members_are}
+use Rattle.trace_text.specs.Json.{Members, nothing, member, object, object_line, value_text}
+use Rattle.trace_text.specs.Json as json
+use Rattle.trace_text.specs.Words.{bytes_text, direction_text, service_text, code_text}
+use Rattle.trace_text.specs.ListText.{outcome_members, item_members, item_object}
+use Rattle.trace_text.specs.proving.Spelling.{later_then, members_then}
+use Rattle.trace_text.specs.proving.OpenItems.{front_of_item, open_answer, open_item, open_object, open_outcome}
+use Rattle.trace_text.proofs.JsonTexts.{members_are, line_is}
 
--- to the end of the object: no answer, and none was asked for
+-- pieces put together from the front, and from the back
+three_and : (a b c rest : List ℕ) → (a ++ b ++ c) ++ rest ≡ a ++ (b ++ (c ++ rest))
+three_and a b c rest = simp append_assoc
+
+four_and : (a b c d rest : List ℕ) → (a ++ b ++ c ++ d) ++ rest ≡ a ++ (b ++ (c ++ (d ++ rest)))
+four_and a b c d rest = simp append_assoc
+
+five_and : (a b c d e rest : List ℕ) → (a ++ b ++ c ++ d ++ e) ++ rest ≡ a ++ (b ++ (c ++ (d ++ (e ++ rest))))
+five_and a b c d e rest = simp append_assoc
+
+-- what ends an object of an item, and what is behind it
+abbrev end_then : List ℕ → List ℕ
+end_then behind = codes "\"}" ++ behind
+
+-- members behind a text, to the end of the object
+abbrev closed : Members → List ℕ → List ℕ
+closed members behind = codes "\"" ++ later_then members (codes "}" ++ behind)
+
+-- an answer, by whether it is negative
+answer_by : (negative : Bool) (code bytes behind : List ℕ)
+    → (if negative then codes "\",\"outcome\":\"negative\",\"code\":\"" ++ code ++ codes "\",\"answer\":\"" ++ bytes else codes "\",\"outcome\":\"positive\",\"answer\":\"" ++ bytes)
+    ++ end_then behind
+    ≡ closed (if negative then member (codes "outcome") (json.string (codes "negative")) (member (codes "code") (json.string code) (member (codes "answer") (json.string bytes) nothing))
+    else member (codes "outcome") (json.string (codes "positive")) (member (codes "answer") (json.string bytes) nothing)) behind
+answer_by true code bytes behind = four_and (codes "\",\"outcome\":\"negative\",\"code\":\"") code (codes "\",\"answer\":\"") bytes (end_then behind)
+answer_by false code bytes behind = append_assoc (codes "\",\"outcome\":\"positive\",\"answer\":\"") bytes (end_then behind)
+
+-- no answer, by whether none was asked for
+none_by : (asked : Bool) (behind : List ℕ)
+    → (if asked then codes "\",\"outcome\":\"silent" else codes "\",\"outcome\":\"unanswered") ++ end_then behind
+    ≡ closed (member (codes "outcome") (json.string (if asked then codes "silent" else codes "unanswered")) nothing) behind
+none_by true behind = refl
+none_by false behind = refl
+
+outcome_is : (request : List ℕ) (reply : Option (List ℕ)) (behind : List ℕ)
+    → open_outcome request reply ++ end_then behind ≡ closed (outcome_members request reply) behind
+outcome_is request (Some reply) behind = answer_by (is_negative_response reply) (code_text (response_code reply)) (bytes_text reply) behind
+outcome_is request None behind = none_by (is_suppressing request) behind
+
+-- an item, with its key
+item_is : (item : ItemValue) (behind : List ℕ) → codes "\"kind\":\"" ++ (open_item item ++ end_then behind) ≡ members_then (item_members item) (codes "}" ++ behind)
+item_is (exchange request reply) behind =
+    let front : List ℕ → List ℕ = λ l.
+    codes "\"kind\":\"exchange\",\"service\":\"" ++ (service_text (sid request) ++ (codes "\",\"request\":\"" ++ (bytes_text request ++ l))) in
+    ap (λ l. codes "\"kind\":\"" ++ l)
+    (five_and (codes "exchange\",\"service\":\"") (service_text (sid request)) (codes "\",\"request\":\"") (bytes_text request) (open_outcome request reply) (end_then behind))
+    ∙ ap front (outcome_is request reply behind)
+item_is (stray d bytes) behind =
+    ap (λ l. codes "\"kind\":\"" ++ l)
+    (four_and (codes "stray\",\"direction\":\"") (direction_text d) (codes "\",\"message\":\"") (bytes_text bytes) (end_then behind))
+
+-- an item that has members is one with a comma in front of them
+is_later : (item : ItemValue) (behind : List ℕ) → codes "," ++ members_then (item_members item) behind ≡ later_then (item_members item) behind
+is_later (exchange request reply) behind = refl
+is_later (stray d bytes) behind = refl
+
+-- the object with its end, and what is behind it
+closed_object : (numbering : Numbering) (number : ℕ) (item : ItemValue) (behind : List ℕ)
+    → open_object numbering number item ++ end_then behind ≡ codes "{" ++ members_then (item_object numbering number item) (codes "}" ++ behind)
+closed_object Hidden number item behind = ap (λ l. codes "{" ++ l) (item_is item behind)
+closed_object Shown number item behind =
+    ap (λ l. codes "{\"item\":" ++ l) (three_and (decimal number) (codes ",\"kind\":\"") (open_item item) (end_then behind))
+    ∙ ap (λ l. codes "{\"item\":" ++ (decimal number ++ l)) (ap (λ l. codes "," ++ l) (item_is item behind) ∙ is_later item (codes "}" ++ behind))
+
+pub object_is : (numbering : Numbering) (number : ℕ) (item : ItemValue)
+    → open_object numbering number item ++ codes "\"}" ≡ value_text (object (item_object numbering number item))
+object_is numbering number item =
+    closed_object numbering number item [] ∙ ap (λ l. codes "{" ++ l) (sym (members_are (item_object numbering number item) (codes "}")))
+
+-- the line of the object
+pub object_line_is : (numbering : Numbering) (number : ℕ) (item : ItemValue)
+    → open_object numbering number item ++ codes "\"}\n" ≡ object_line (item_object numbering number item)
+object_line_is numbering number item = closed_object numbering number item (codes "\n") ∙ sym (line_is (item_object numbering number item))
+
+-- what came of a request, by what is known there
 pub silent_is : (request : List ℕ) (answer : Option (List ℕ)) → answer ≡ None → is_suppressing request ≡ true
-    → codes ",\"outcome\":\"silent\"}" ≡ later_then (outcome_members request answer) (codes "}")
+    → codes "\",\"outcome\":\"silent" ≡ open_outcome request answer
 silent_is request answer none so = rw (none, so) refl
 
--- no answer
 pub unanswered_is : (request : List ℕ) (answer : Option (List ℕ)) → answer ≡ None → is_suppressing request ≡ false
-    → codes ",\"outcome\":\"unanswered\"}" ≡ later_then (outcome_members request answer) (codes "}")
+    → codes "\",\"outcome\":\"unanswered" ≡ open_outcome request answer
 unanswered_is request answer none so = rw (none, so) refl
 
 -- a negative response
 pub negative_is : (reply : List ℕ) (code : ℕ) → is_negative_response reply ≡ true → code ≡ response_code reply
-    → codes ",\"outcome\":\"negative\",\"code\":\"" ++ (code_text code ++ (codes "\",\"answer\":\"" ++ (bytes_text reply ++ (codes "\"}" ++ []))))
-    ≡ later_then (answer_members reply) (codes "}")
-negative_is reply code so code_is = rw (so, code_is) refl
+    → codes "\",\"outcome\":\"negative\",\"code\":\"" ++ code_text code ++ codes "\",\"answer\":\"" ++ bytes_text reply ≡ open_answer reply
+negative_is reply code so code_is = rw (code_is, so) refl
 
 -- another answer
 pub positive_is : (reply : List ℕ) → is_negative_response reply ≡ false
-    → codes ",\"outcome\":\"positive\",\"answer\":\"" ++ (bytes_text reply ++ (codes "\"}" ++ [])) ≡ later_then (answer_members reply) (codes "}")
+    → codes "\",\"outcome\":\"positive\",\"answer\":\"" ++ bytes_text reply ≡ open_answer reply
 positive_is reply so = rw so refl
 
-in_one : (a b c d e f : List ℕ) → (a ++ (b ++ (c ++ (d ++ (e ++ []))))) ++ f ≡ a ++ (b ++ (c ++ (d ++ (e ++ f))))
-in_one a b c d e f = simp append_assoc
+-- an exchange, and a message that belongs to none
+pub exchange_is : (item : ItemValue) (request : List ℕ) (reply : Option (List ℕ)) (service : ℕ) → item ≡ exchange request reply → service ≡ sid request
+    → codes "exchange\",\"service\":\"" ++ service_text service ++ codes "\",\"request\":\"" ++ bytes_text request ++ open_outcome request reply ≡ open_item item
+exchange_is item request reply service is service_is = rw (is, service_is) refl
 
--- the front of an exchange, up to what came of it, and that
-pub exchange_is : (request : List ℕ) (reply : Option (List ℕ)) (service : ℕ) → service ≡ sid request
-    → (codes "\"kind\":\"exchange\",\"service\":\"" ++ (service_text service ++ (codes "\",\"request\":\"" ++ (bytes_text request ++ (codes "\"" ++ [])))))
-    ++ later_then (outcome_members request reply) (codes "}") ≡ members_then (exchange_members request reply) (codes "}")
-exchange_is request reply service service_is =
-    rw service_is
-    (in_one (codes "\"kind\":\"exchange\",\"service\":\"") (service_text (sid request)) (codes "\",\"request\":\"") (bytes_text request) (codes "\"")
-    (later_then (outcome_members request reply) (codes "}")))
+pub stray_is : (item : ItemValue) (d : Dir) (bytes : List ℕ) → item ≡ stray d bytes
+    → codes "stray\",\"direction\":\"" ++ direction_text d ++ codes "\",\"message\":\"" ++ bytes_text bytes ≡ open_item item
+stray_is item d bytes is = rw is refl
 
-members_behind : (members : Members) → members_then members (codes "}") ≡ members_text members ++ codes "}"
-members_behind members = sym (members_are members (codes "}"))
-
-numbered : (number rest : List ℕ) → (codes "{\"item\":" ++ number ++ codes ",") ++ rest ≡ codes "{\"item\":" ++ (number ++ (codes "," ++ rest))
-numbered number rest = ap (λ l. codes "{\"item\":" ++ l) (append_assoc number (codes ",") rest)
-
--- an item that has members is one with a comma in front of them
-is_later : (item : ItemValue) → codes "," ++ members_then (item_members item) (codes "}") ≡ later_then (item_members item) (codes "}")
-is_later (exchange request reply) = refl
-is_later (stray d bytes) = refl
-
--- the object is the front and what the item is
-pub object_is : (numbering : Numbering) (number : ℕ) (item : ItemValue)
-    → front_of_item numbering number ++ members_then (item_members item) (codes "}") ≡ value_text (object (item_object numbering number item))
-object_is Hidden number item = ap (λ l. codes "{" ++ l) (members_behind (item_members item))
-object_is Shown number item =
-    numbered (decimal number) (members_then (item_members item) (codes "}"))
-    ∙ (ap (λ l. codes "{\"item\":" ++ (decimal number ++ l)) (is_later item)
-    ∙ ap (λ l. codes "{" ++ l) (members_behind (item_object Shown number item)))
+-- the front of an item that has a number
+pub shown_front : (numbering : Numbering) (number : ℕ) → numbering ≡ Shown
+    → codes "{\"item\":" ++ decimal number ++ codes ",\"kind\":\"" ≡ front_of_item numbering number
+shown_front numbering number is = rw is refl

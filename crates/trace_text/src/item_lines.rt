@@ -3,7 +3,7 @@ ghost use Rattle.std.specs.Prelude.{◌++◌, codes, option_map};
 ghost use Rattle.uds_exchange.specs.ItemSeen.{lent_value};
 ghost use Rattle.trace_text.specs.ListText.{answer_text, item_line, worded_line, item_text, list_text, number_text, outcome_line};
 
-use crate::item_objects::say_item_object;
+use crate::item_objects::say_object_line;
 use crate::notation::Notation;
 use crate::say::{say_bytes, say_code, say_direction, say_number, say_service, say_text};
 use trace_io::TextSink;
@@ -43,10 +43,7 @@ pub fn say_item<S: TextSink>(number: u64, style: ItemStyle, item: LentItem<'_>, 
 {
     match style.notation {
         Notation::Text => say_worded(number, style.numbering, item, out),
-        Notation::Json => {
-            say_item_object(number, style.numbering, item, out);
-            say_text(out, "\n");
-        }
+        Notation::Json => say_object_line(number, style.numbering, item, out),
     }
 }
 

@@ -1,14 +1,12 @@
 //! The items of a meaning as objects of JSON.
-ghost use Rattle.std.specs.Prelude.{codes, option_map};
+ghost use Rattle.std.specs.Prelude.{option_map};
 ghost use Rattle.uds_exchange.specs.ItemSeen.{lent_value};
-ghost use Rattle.trace_text.specs.Json.{object, value_text};
-ghost use Rattle.trace_text.specs.ListText.{answer_members, exchange_members, item_members, item_object, outcome_members};
-ghost use Rattle.trace_text.specs.proving.Spelling.{later_then, members_then, front_of_item};
+ghost use Rattle.trace_text.specs.Json.{object, object_line, value_text};
+ghost use Rattle.trace_text.specs.ListText.{item_object};
+ghost use Rattle.trace_text.specs.proving.OpenItems.{front_of_item, open_answer, open_item, open_object, open_outcome};
 
 use crate::item_lines::Numbering;
-use crate::names::direction_name;
-use crate::parts::Part;
-use crate::say::say_parts;
+use crate::say::{say_bytes, say_code, say_direction, say_number, say_service, say_text};
 use trace_io::TextSink;
 use uds_exchange::LentItem;
 use uds_message::{is_negative_response, is_suppressing, response_code, sid};
@@ -22,100 +20,88 @@ pub fn say_item_object<S: TextSink>(
 )
     ensures { S.says out.old (value_text (object (item_object numbering number (lent_value item.entry)))) out.new }
 {
-    say_front(number, numbering, out);
-    say_members(item, out);
+    say_open_object(number, numbering, item, out);
+    say_text(out, "\"}");
 }
 
-/// Says the front of the object: its brace, and the number where it is shown.
+/// Says the line of the object.
+pub(crate) fn say_object_line<S: TextSink>(
+    number: u64,
+    numbering: Numbering,
+    item: LentItem<'_>,
+    out: &mut S,
+)
+    ensures { S.says out.old (object_line (item_object numbering number (lent_value item.entry))) out.new }
+{
+    say_open_object(number, numbering, item, out);
+    say_text(out, "\"}\n");
+}
+
+/// Says the object up to the quote and the brace that end it, whatever the item is.
+fn say_open_object<S: TextSink>(number: u64, numbering: Numbering, item: LentItem<'_>, out: &mut S)
+    ensures { S.says out.old (open_object numbering number (lent_value item.entry)) out.new }
+{
+    say_front(number, numbering, out);
+    say_open_item(item, out);
+}
+
+/// Says the front of the object, with the number where it is shown, up to the word of its kind.
 fn say_front<S: TextSink>(number: u64, numbering: Numbering, out: &mut S)
     ensures { S.says out.old (front_of_item numbering number) out.new }
 {
     match numbering {
-        Numbering::Shown => say_parts(
-            out,
-            &[
-                Part::Text("{\"item\":"),
-                Part::Number(number),
-                Part::Text(","),
-            ],
-        ),
-        Numbering::Hidden => say_parts(out, &[Part::Text("{")]),
+        Numbering::Shown => {
+            say_text(out, "{\"item\":");
+            say_number(out, number);
+            say_text(out, ",\"kind\":\"");
+        }
+        Numbering::Hidden => say_text(out, "{\"kind\":\""),
     }
 }
 
-/// Says what an item is, to the end of its object.
-fn say_members<S: TextSink>(item: LentItem<'_>, out: &mut S)
-    ensures { S.says out.old (members_then (item_members (lent_value item.entry)) (codes "}")) out.new }
+/// Says what an item is, from the word of its kind on.
+fn say_open_item<S: TextSink>(item: LentItem<'_>, out: &mut S)
+    ensures { S.says out.old (open_item (lent_value item.entry)) out.new }
 {
     match item {
-        LentItem::Exchange { request, answer } => say_exchange(request, answer, out),
-        LentItem::Stray { dir, bytes } => say_parts(
-            out,
-            &[
-                Part::Text("\"kind\":\"stray\",\"direction\":\""),
-                Part::Text(direction_name(dir)),
-                Part::Text("\",\"message\":\""),
-                Part::Bytes(bytes),
-                Part::Text("\"}"),
-            ],
-        ),
+        LentItem::Exchange { request, answer } => {
+            say_text(out, "exchange\",\"service\":\"");
+            say_service(out, sid(request));
+            say_text(out, "\",\"request\":\"");
+            say_bytes(out, request);
+            say_outcome(request, answer, out);
+        }
+        LentItem::Stray { dir, bytes } => {
+            say_text(out, "stray\",\"direction\":\"");
+            say_direction(out, dir);
+            say_text(out, "\",\"message\":\"");
+            say_bytes(out, bytes);
+        }
     }
 }
 
-/// Says what an exchange is, to the end of its object.
-fn say_exchange<S: TextSink>(request: &[u8], answer: Option<&[u8]>, out: &mut S)
-    ensures { S.says out.old (members_then (exchange_members request.now (option_map (λ reply. reply.now) answer.entry)) (codes "}")) out.new }
-{
-    say_parts(
-        out,
-        &[
-            Part::Text("\"kind\":\"exchange\",\"service\":\""),
-            Part::Service(sid(request)),
-            Part::Text("\",\"request\":\""),
-            Part::Bytes(request),
-            Part::Text("\""),
-        ],
-    );
-    say_outcome(request, answer, out);
-}
-
-/// Says what came of a request, to the end of the object.
+/// Says what came of a request, from the quote behind it on.
 fn say_outcome<S: TextSink>(request: &[u8], answer: Option<&[u8]>, out: &mut S)
-    ensures { S.says out.old (later_then (outcome_members request.now (option_map (λ reply. reply.now) answer.entry)) (codes "}")) out.new }
+    ensures { S.says out.old (open_outcome request.now (option_map (λ reply. reply.now) answer.entry)) out.new }
 {
     match answer {
-        None if is_suppressing(request) => say_parts(
-            out,
-            &[Part::Text(",\"outcome\":\"silent\"}")],
-        ),
-        None => say_parts(out, &[Part::Text(",\"outcome\":\"unanswered\"}")]),
+        None if is_suppressing(request) => say_text(out, "\",\"outcome\":\"silent"),
+        None => say_text(out, "\",\"outcome\":\"unanswered"),
         Some(reply) => say_answer(reply, out),
     }
 }
 
-/// Says the answer to a request, to the end of the object.
+/// Says the answer to a request, from the quote behind the request on.
 fn say_answer<S: TextSink>(reply: &[u8], out: &mut S)
-    ensures { S.says out.old (later_then (answer_members reply.now) (codes "}")) out.new }
+    ensures { S.says out.old (open_answer reply.now) out.new }
 {
     if is_negative_response(reply) {
-        say_parts(
-            out,
-            &[
-                Part::Text(",\"outcome\":\"negative\",\"code\":\""),
-                Part::Code(response_code(reply)),
-                Part::Text("\",\"answer\":\""),
-                Part::Bytes(reply),
-                Part::Text("\"}"),
-            ],
-        );
+        say_text(out, "\",\"outcome\":\"negative\",\"code\":\"");
+        say_code(out, response_code(reply));
+        say_text(out, "\",\"answer\":\"");
+        say_bytes(out, reply);
     } else {
-        say_parts(
-            out,
-            &[
-                Part::Text(",\"outcome\":\"positive\",\"answer\":\""),
-                Part::Bytes(reply),
-                Part::Text("\"}"),
-            ],
-        );
+        say_text(out, "\",\"outcome\":\"positive\",\"answer\":\"");
+        say_bytes(out, reply);
     }
 }

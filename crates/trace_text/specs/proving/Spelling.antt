@@ -1,8 +1,6 @@
 -- Devices of proof: an object of JSON with the text behind it, put together from the back, as the parts of a line are.
 use Rattle.std.specs.Prelude.{ℕ, true, false, List, ◌++◌, codes}
 use Rattle.std.specs.Fmt.{decimal}
-use Rattle.trace_text.specs.declared.item_lines.Numbering.{Numbering}
-use Rattle.trace_text.specs.declared.item_lines.Numbering.TheVariants.{Shown, Hidden}
 use Rattle.trace_text.specs.Json.{Value, null, truth, number, string, object, Members, nothing, member}
 
 -- a text between quotes, and what is behind it
@@ -27,8 +25,3 @@ abbrev mutual
   pub later_then : Members → List ℕ → List ℕ
   later_then nothing behind = behind
   later_then (member key value later) behind = codes "," ++ quotes_then key (codes ":" ++ value_then value (later_then later behind))
-
--- the front of an item's object, up to what it is
-abbrev pub front_of_item : Numbering → ℕ → List ℕ
-front_of_item Shown n = codes "{\"item\":" ++ decimal n ++ codes ","
-front_of_item Hidden n = codes "{"

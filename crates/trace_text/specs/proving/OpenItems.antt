@@ -1,0 +1,35 @@
+-- Devices of proof: the object of an item up to the quote and the brace that end it, whatever the item is, as it is said.
+use Rattle.std.specs.Prelude.{ℕ, List, ◌++◌, codes, Option, Some, None, if◌then◌else◌}
+use Rattle.std.specs.Fmt.{decimal}
+use Rattle.uds_exchange.specs.Meaning.{ItemValue, exchange, stray}
+use Rattle.uds_message.specs.Message.{sid, is_negative_response, response_code, is_suppressing}
+use Rattle.trace_text.specs.declared.item_lines.Numbering.{Numbering}
+use Rattle.trace_text.specs.declared.item_lines.Numbering.TheVariants.{Shown, Hidden}
+use Rattle.trace_text.specs.Words.{bytes_text, direction_text, service_text, code_text}
+
+-- the front of the object, up to the word of its kind
+abbrev pub front_of_item : Numbering → ℕ → List ℕ
+front_of_item Shown n = codes "{\"item\":" ++ decimal n ++ codes ",\"kind\":\""
+front_of_item Hidden n = codes "{\"kind\":\""
+
+-- the answer to a request, from the quote behind the request on
+abbrev pub open_answer : List ℕ → List ℕ
+open_answer reply =
+    if is_negative_response reply
+    then codes "\",\"outcome\":\"negative\",\"code\":\"" ++ code_text (response_code reply) ++ codes "\",\"answer\":\"" ++ bytes_text reply
+    else codes "\",\"outcome\":\"positive\",\"answer\":\"" ++ bytes_text reply
+
+-- what came of a request
+abbrev pub open_outcome : List ℕ → Option (List ℕ) → List ℕ
+open_outcome request (Some reply) = open_answer reply
+open_outcome request None = if is_suppressing request then codes "\",\"outcome\":\"silent" else codes "\",\"outcome\":\"unanswered"
+
+-- what an item is, from the word of its kind on
+abbrev pub open_item : ItemValue → List ℕ
+open_item (exchange request reply) =
+    codes "exchange\",\"service\":\"" ++ service_text (sid request) ++ codes "\",\"request\":\"" ++ bytes_text request ++ open_outcome request reply
+open_item (stray d bytes) = codes "stray\",\"direction\":\"" ++ direction_text d ++ codes "\",\"message\":\"" ++ bytes_text bytes
+
+-- and its front before that
+abbrev pub open_object : Numbering → ℕ → ItemValue → List ℕ
+open_object numbering number item = front_of_item numbering number ++ open_item item
