@@ -1,15 +1,16 @@
--- The lines that explain a log, in the parts that are said.
+-- The lines that explain a log, in the pieces that are said.
 use Rattle.std.proofs.Common.{◌≡◌, ℕ, List, [], ◌∷◌, ◌++◌, refl, sym, ap, ◌∙◌, append_assoc, append-nil, codes}
 use Rattle.std.specs.Fmt.{decimal}
 use Rattle.std.specs.List.{flat_map}
 use Rattle.direction.specs.declared.Dir.{Dir}
+use Rattle.isotp_pdu.specs.declared.PduFault.{PduFault}
 use Rattle.isotp_receive.specs.declared.event.Ended.{Ended}
 use Rattle.can_log.specs.Digits.{hexadecimal}
 use Rattle.isotp_receive.specs.declared.event.Reason.{Reason}
 use Rattle.isotp_receive.specs.declared.event.Reason.TheVariants as reason
 use Rattle.trace_text.specs.declared.remark.Remark.TheVariants as remark
 use Rattle.trace_log.specs.declared.summary.Count.{Count}
-use Rattle.trace_text.specs.ExplainText.{cause_text, count_text, counts_text, reception_text, reason_line, remark_line}
+use Rattle.trace_text.specs.ExplainText.{cause_text, layout_fault_text, count_text, counts_text, reception_text, reason_line, remark_line}
 use Rattle.trace_log.specs.Summing.{seen_counts}
 use Rattle.trace_text.specs.Words.{direction_text}
 use Rattle.trace_text.specs.Parts.{counts_between}
@@ -18,45 +19,44 @@ use Rattle.trace_text.specs.Parts.{counts_between}
 seven : (a b c d e f g : List ℕ) → a ++ (b ++ (c ++ (d ++ (e ++ (f ++ g))))) ≡ a ++ b ++ c ++ d ++ e ++ f ++ g
 seven a b c d e f g = simp append_assoc
 
--- the parts of the line of a reception that ended
-abbrev pub ended_parts : ℕ → List ℕ → ℕ → ℕ → List ℕ → List ℕ
-ended_parts line side begun len cause =
-    codes "line " ++ (decimal line ++ (codes ": " ++ (side ++ (codes " reception from line " ++ (decimal begun ++ (codes " of "
-    ++ (decimal len ++ (codes " bytes ended: " ++ (cause ++ (codes "\n" ++ []))))))))))
-
-pub ended_is : (line : ℕ) (ended : Ended) (side cause : List ℕ) (len : ℕ)
-    → side ≡ direction_text ended.dir → cause ≡ cause_text ended.cause → len ≡ ended.len
-    → ended_parts line side ended.begun_line len cause ≡ remark_line (remark.Ended line ended)
-ended_is line ended side cause len side_is cause_is len_is =
+-- the line of a reception that ended
+pub ended_is : (line : ℕ) (ended : Ended)
+    → codes "line " ++ (decimal line ++ (codes ": " ++ (direction_text ended.dir ++ (codes " reception from line " ++ (decimal ended.begun_line ++ (codes " of "
+    ++ (decimal ended.len ++ (codes " bytes ended: " ++ (cause_text ended.cause ++ codes "\n"))))))))) ≡ remark_line (remark.Ended line ended)
+ended_is line ended =
     let reception = reception_text ended.dir ended.begun_line ended.len in
     let why = cause_text ended.cause in
     let inner = seven (direction_text ended.dir) (codes " reception from line ") (decimal ended.begun_line) (codes " of ") (decimal ended.len)
     (codes " bytes ") (codes "ended: " ++ (why ++ codes "\n")) in
     let whole = seven (codes "line ") (decimal line) (codes ": ") reception (codes "ended: ") why (codes "\n") in
-    rw (side_is, cause_is, len_is) (ap (λ x. codes "line " ++ (decimal line ++ (codes ": " ++ x))) inner ∙ whole)
+    ap (λ x. codes "line " ++ (decimal line ++ (codes ": " ++ x))) inner ∙ whole
 
--- the parts of the reason that a consecutive frame has another sequence number
+-- that of one that stands at the end
+pub unfinished_is : (d : Dir) (line len : ℕ)
+    → codes "end: " ++ (direction_text d ++ (codes " reception from line " ++ (decimal line ++ (codes " of " ++ (decimal len ++ codes " bytes unfinished\n")))))
+    ≡ remark_line (remark.Unfinished d line len)
+unfinished_is d line len =
+    ap (λ x. codes "end: " ++ x) (seven (direction_text d) (codes " reception from line ") (decimal line) (codes " of ") (decimal len) (codes " bytes ") (codes "unfinished\n"))
+
+-- that of a dropped frame, up to its front and the reason
+pub dropped_is : (line : ℕ) (d : Dir) (why : Reason)
+    → codes "line " ++ (decimal line ++ (codes ": " ++ (direction_text d ++ (codes " frame dropped: " ++ reason_line why)))) ≡ remark_line (remark.Dropped line d why)
+dropped_is line d why = simp append_assoc
+
+-- the reason: that the frame has no layout
+pub layout_is : (fault : PduFault) → codes " frame dropped: " ++ (layout_fault_text fault ++ codes "\n") ≡ codes " frame dropped: " ++ reason_line (reason.Pdu fault)
+layout_is fault = refl
+
+-- that a consecutive frame has another sequence number
 pub sequence_is : (expected found : ℕ)
-    → codes "sequence number " ++ (hexadecimal 1 expected ++ (codes " expected, " ++ (hexadecimal 1 found ++ (codes " found\n" ++ []))))
-    ≡ reason_line (reason.NextSequence expected found)
-sequence_is expected found = simp (append_assoc, append-nil)
+    → codes " frame dropped: sequence number " ++ (hexadecimal 1 expected ++ (codes " expected, " ++ (hexadecimal 1 found ++ codes " found\n")))
+    ≡ codes " frame dropped: " ++ reason_line (reason.NextSequence expected found)
+sequence_is expected found = simp append_assoc
 
 -- and that a first frame announces too much
-pub announced_is : (announced number : ℕ) → number ≡ announced → decimal number ++ (codes " bytes announced\n" ++ []) ≡ reason_line (reason.TooLong announced)
-announced_is announced number same = rw same (simp (append_assoc, append-nil))
-
--- the front of a dropped frame's line, up to the reason
-abbrev pub dropped_front : ℕ → List ℕ → List ℕ
-dropped_front line side = codes "line " ++ (decimal line ++ (codes ": " ++ (side ++ (codes " frame dropped: " ++ []))))
-
-five_and : (a b c d e rest : List ℕ) → (a ++ (b ++ (c ++ (d ++ (e ++ []))))) ++ rest ≡ a ++ b ++ c ++ d ++ e ++ rest
-five_and a b c d e rest = simp (append_assoc, append-nil)
-
--- the line is this and then the reason
-pub dropped_is : (line : ℕ) (d : Dir) (why : Reason) (side : List ℕ) → side ≡ direction_text d
-    → dropped_front line side ++ reason_line why ≡ remark_line (remark.Dropped line d why)
-dropped_is line d why side side_is =
-    rw side_is (five_and (codes "line ") (decimal line) (codes ": ") (direction_text d) (codes " frame dropped: ") (reason_line why))
+pub announced_is : (announced : ℕ)
+    → codes " frame dropped: " ++ (decimal announced ++ codes " bytes announced\n") ≡ codes " frame dropped: " ++ reason_line (reason.TooLong announced)
+announced_is announced = simp append_assoc
 
 -- the counts behind the first one
 later_counts : (counts : List Count) → counts_between (codes " ") (codes " ") counts ≡ flat_map (λ more. codes " " ++ count_text more) (seen_counts counts)

@@ -1,13 +1,15 @@
 //! What a line that explains a log tells.
+ghost use Rattle.std.specs.Prelude.{◌++◌, codes};
 ghost use Rattle.trace_text.specs.ExplainText.{counts_text, reason_line, remark_line, remark_text, summary_line};
 ghost use Rattle.trace_log.specs.Summing.{seen_counts};
 ghost use Rattle.trace_text.specs.declared.remark.Remark.TheVariants as remark;
 
-use crate::names::{cause_name, direction_name, layout_fault_name};
 use crate::notation::Notation;
-use crate::parts::Part;
 use crate::remark_objects::say_remark_object;
-use crate::say::{say_counts, say_parts, say_text};
+use crate::say::{
+    say_cause, say_counts, say_digit, say_direction, say_layout_fault, say_length, say_number,
+    say_text,
+};
 use direction::Dir;
 use isotp_receive::{Ended, Reason};
 use trace_io::TextSink;
@@ -26,7 +28,8 @@ pub enum Remark {
     Counts(Summary),
 }
 
-/// Says the line of a remark.
+/// Says the line of a remark. It stands where it is called, since it is known there what kind of remark it is.
+#[inline(always)]
 pub fn say_remark<S: TextSink>(notation: Notation, told: Remark, out: &mut S)
     ensures { S.says out.old (remark_text notation told) out.new }
 {
@@ -37,6 +40,7 @@ pub fn say_remark<S: TextSink>(notation: Notation, told: Remark, out: &mut S)
 }
 
 /// Says it in words.
+#[inline(always)]
 fn say_remark_line<S: TextSink>(told: Remark, out: &mut S)
     ensures { S.says out.old (remark_line told) out.new }
 {
@@ -49,96 +53,80 @@ fn say_remark_line<S: TextSink>(told: Remark, out: &mut S)
 }
 
 /// Says the line of a reception that a frame ended.
+#[inline(never)]
 fn say_ended_line<S: TextSink>(line: u64, ended: Ended, out: &mut S)
     ensures { S.says out.old (remark_line (remark.Ended line ended)) out.new }
 {
-    say_parts(
-        out,
-        &[
-            Part::Text("line "),
-            Part::Number(line),
-            Part::Text(": "),
-            Part::Text(direction_name(ended.dir)),
-            Part::Text(" reception from line "),
-            Part::Number(ended.begun_line),
-            Part::Text(" of "),
-            Part::Number(u64::from(ended.len)),
-            Part::Text(" bytes ended: "),
-            Part::Text(cause_name(ended.cause)),
-            Part::Text("\n"),
-        ],
-    );
+    say_text(out, "line ");
+    say_number(out, line);
+    say_text(out, ": ");
+    say_direction(out, ended.dir);
+    say_text(out, " reception from line ");
+    say_number(out, ended.begun_line);
+    say_text(out, " of ");
+    say_length(out, ended.len);
+    say_text(out, " bytes ended: ");
+    say_cause(out, ended.cause);
+    say_text(out, "\n");
 }
 
 /// Says the line of a dropped frame.
+#[inline(never)]
 fn say_dropped_line<S: TextSink>(line: u64, dir: Dir, reason: Reason, out: &mut S)
     ensures { S.says out.old (remark_line (remark.Dropped line dir reason)) out.new }
 {
-    say_parts(
-        out,
-        &[
-            Part::Text("line "),
-            Part::Number(line),
-            Part::Text(": "),
-            Part::Text(direction_name(dir)),
-            Part::Text(" frame dropped: "),
-        ],
-    );
+    say_text(out, "line ");
+    say_number(out, line);
+    say_text(out, ": ");
+    say_direction(out, dir);
     say_reason(reason, out);
 }
 
-/// Says why a frame was dropped, to the end of its line.
+/// Says that a frame was dropped and why, to the end of its line.
 fn say_reason<S: TextSink>(reason: Reason, out: &mut S)
-    ensures { S.says out.old (reason_line reason) out.new }
+    ensures { S.says out.old (codes " frame dropped: " ++ reason_line reason) out.new }
 {
     match reason {
-        Reason::Pdu(fault) => say_parts(
-            out,
-            &[Part::Text(layout_fault_name(fault)), Part::Text("\n")],
-        ),
-        Reason::FlowUnexpected => say_parts(out, &[Part::Text("flow control unexpected\n")]),
-        Reason::NextUnexpected => say_parts(out, &[Part::Text("consecutive frame unexpected\n")]),
-        Reason::NextLate => say_parts(out, &[Part::Text("consecutive frame late\n")]),
-        Reason::NextSequence { expected, found } => say_parts(
-            out,
-            &[
-                Part::Text("sequence number "),
-                Part::Digit(expected),
-                Part::Text(" expected, "),
-                Part::Digit(found),
-                Part::Text(" found\n"),
-            ],
-        ),
-        Reason::NextLength => say_parts(out, &[Part::Text("consecutive frame length\n")]),
-        Reason::TooLong { announced } => say_parts(
-            out,
-            &[
-                Part::Number(u64::from(announced)),
-                Part::Text(" bytes announced\n"),
-            ],
-        ),
+        Reason::Pdu(fault) => {
+            say_text(out, " frame dropped: ");
+            say_layout_fault(out, fault);
+            say_text(out, "\n");
+        }
+        Reason::FlowUnexpected => say_text(out, " frame dropped: flow control unexpected\n"),
+        Reason::NextUnexpected => say_text(out, " frame dropped: consecutive frame unexpected\n"),
+        Reason::NextLate => say_text(out, " frame dropped: consecutive frame late\n"),
+        Reason::NextSequence { expected, found } => {
+            say_text(out, " frame dropped: sequence number ");
+            say_digit(out, expected);
+            say_text(out, " expected, ");
+            say_digit(out, found);
+            say_text(out, " found\n");
+        }
+        Reason::NextLength => say_text(out, " frame dropped: consecutive frame length\n"),
+        Reason::TooLong { announced } => {
+            say_text(out, " frame dropped: ");
+            say_length(out, announced);
+            say_text(out, " bytes announced\n");
+        }
     }
 }
 
 /// Says the line of a reception that stands at the end.
+#[inline(never)]
 fn say_unfinished_line<S: TextSink>(dir: Dir, line: u64, len: u32, out: &mut S)
     ensures { S.says out.old (remark_line (remark.Unfinished dir line len)) out.new }
 {
-    say_parts(
-        out,
-        &[
-            Part::Text("end: "),
-            Part::Text(direction_name(dir)),
-            Part::Text(" reception from line "),
-            Part::Number(line),
-            Part::Text(" of "),
-            Part::Number(u64::from(len)),
-            Part::Text(" bytes unfinished\n"),
-        ],
-    );
+    say_text(out, "end: ");
+    say_direction(out, dir);
+    say_text(out, " reception from line ");
+    say_number(out, line);
+    say_text(out, " of ");
+    say_length(out, len);
+    say_text(out, " bytes unfinished\n");
 }
 
 /// Says the line of the counts.
+#[inline(never)]
 fn say_summary_line<S: TextSink>(summary: &Summary, out: &mut S)
     ensures { S.says out.old (summary_line summary.now) out.new }
 {

@@ -40,15 +40,10 @@ pub fn say_counts<S: TextSink>(
     ensures { S.says out.old (counts_between before.now between.now counts.now) out.new }
 {
     'counts: for count in counts {
-        say_parts(
-            out,
-            &[
-                Part::Text(before),
-                Part::Text(count.0),
-                Part::Text(between),
-                Part::Number(count.1),
-            ],
-        );
+        say_text(out, before);
+        say_text(out, count.0);
+        say_text(out, between);
+        say_number(out, count.1);
     }
 }
 

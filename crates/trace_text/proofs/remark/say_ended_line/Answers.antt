@@ -4,5 +4,14 @@ use Rattle.trace_text.proofs.remark.say_ended_line.Goals as goal
 
 pub returns : goal.returns
 returns g c =
-    subst (λ text. g.S.TextSink.says c.args.out.now text c.say_parts.new.out)
-    (ended_is c.args.line c.args.ended _ _ _ c.direction_name.ensures c.cause_name.ensures c.from.ensures) c.say_parts.ensures
+    subst (λ text. g.S.TextSink.says c.args.out.now text c.say_text-6.new.out) (ended_is c.args.line c.args.ended)
+    (g.met.S.TextSink.onward _ _ _ _ _ c.say_text.ensures
+    (g.met.S.TextSink.onward _ _ _ _ _ c.say_number.ensures
+    (g.met.S.TextSink.onward _ _ _ _ _ c.say_text-2.ensures
+    (g.met.S.TextSink.onward _ _ _ _ _ c.say_direction.ensures
+    (g.met.S.TextSink.onward _ _ _ _ _ c.say_text-3.ensures
+    (g.met.S.TextSink.onward _ _ _ _ _ c.say_number-2.ensures
+    (g.met.S.TextSink.onward _ _ _ _ _ c.say_text-4.ensures
+    (g.met.S.TextSink.onward _ _ _ _ _ c.say_length.ensures
+    (g.met.S.TextSink.onward _ _ _ _ _ c.say_text-5.ensures
+    (g.met.S.TextSink.onward _ _ _ _ _ c.say_cause.ensures c.say_text-6.ensures))))))))))

@@ -1,7 +1,13 @@
-use Rattle.std.proofs.Common.{subst, append_assoc, append-nil}
+use Rattle.std.proofs.Common.{subst}
+use Rattle.trace_text.proofs.RemarkLines.{unfinished_is}
 use Rattle.trace_text.proofs.remark.say_unfinished_line.Goals as goal
 
 pub returns : goal.returns
 returns g c =
-    subst (λ text. g.S.TextSink.says c.args.out.now text c.say_parts.new.out) (rw (c.direction_name.ensures, c.from.ensures) (simp (append_assoc, append-nil)))
-    c.say_parts.ensures
+    subst (λ text. g.S.TextSink.says c.args.out.now text c.say_text-4.new.out) (unfinished_is c.args.dir c.args.line c.args.len)
+    (g.met.S.TextSink.onward _ _ _ _ _ c.say_text.ensures
+    (g.met.S.TextSink.onward _ _ _ _ _ c.say_direction.ensures
+    (g.met.S.TextSink.onward _ _ _ _ _ c.say_text-2.ensures
+    (g.met.S.TextSink.onward _ _ _ _ _ c.say_number.ensures
+    (g.met.S.TextSink.onward _ _ _ _ _ c.say_text-3.ensures
+    (g.met.S.TextSink.onward _ _ _ _ _ c.say_length.ensures c.say_text-4.ensures))))))

@@ -1,18 +1,52 @@
-use Rattle.std.proofs.Common.{subst}
-use Rattle.trace_text.proofs.RemarkObjects.{layout_reason, sequence_reason, announced_reason}
+use Rattle.std.proofs.Common.{◌++◌, ◌∙◌, ap, codes, sym, subst}
+use Rattle.trace_text.proofs.RemarkObjects.{sequence_reason}
+use Rattle.trace_text.specs.ExplainText.{reason_members}
+use Rattle.trace_text.specs.proving.Spelling.{later_then}
 use Rattle.trace_text.proofs.remark_objects.say_reason_members.Goals as goal
 
 pub returns-in-Pdu : goal.returns-in-Pdu
 returns-in-Pdu g c =
-    subst (λ text. g.S.TextSink.says c.args.out.now text c.say_parts.new.out)
-    (layout_reason c.args.reason c.in-Pdu.fault _ c.in-Pdu.is c.layout_fault_name.ensures) c.say_parts.ensures
+    subst (λ text. g.S.TextSink.says c.args.out.now text c.say_text-in-Pdu.new.out)
+    (ap (λ reason. codes "\"" ++ later_then (reason_members reason) (codes "}\n")) (sym c.in-Pdu.is))
+    (g.met.S.TextSink.onward _ _ _ _ _ c.say_text.ensures
+    (g.met.S.TextSink.onward _ _ _ _ _ c.say_layout_fault.ensures c.say_text-in-Pdu.ensures))
+
+pub returns-in-FlowUnexpected : goal.returns-in-FlowUnexpected
+returns-in-FlowUnexpected g c =
+    subst (λ text. g.S.TextSink.says c.args.out.now text c.say_text-in-FlowUnexpected.new.out)
+    (ap (λ reason. codes "\"" ++ later_then (reason_members reason) (codes "}\n")) (sym c.in-FlowUnexpected.is))
+    c.say_text-in-FlowUnexpected.ensures
+
+pub returns-in-NextUnexpected : goal.returns-in-NextUnexpected
+returns-in-NextUnexpected g c =
+    subst (λ text. g.S.TextSink.says c.args.out.now text c.say_text-in-NextUnexpected.new.out)
+    (ap (λ reason. codes "\"" ++ later_then (reason_members reason) (codes "}\n")) (sym c.in-NextUnexpected.is))
+    c.say_text-in-NextUnexpected.ensures
+
+pub returns-in-NextLate : goal.returns-in-NextLate
+returns-in-NextLate g c =
+    subst (λ text. g.S.TextSink.says c.args.out.now text c.say_text-in-NextLate.new.out)
+    (ap (λ reason. codes "\"" ++ later_then (reason_members reason) (codes "}\n")) (sym c.in-NextLate.is))
+    c.say_text-in-NextLate.ensures
 
 pub returns-in-NextSequence : goal.returns-in-NextSequence
 returns-in-NextSequence g c =
-    subst (λ text. g.S.TextSink.says c.args.out.now text c.say_parts-in-NextSequence.new.out)
-    (sequence_reason c.args.reason c.in-NextSequence.expected c.in-NextSequence.found _ _ c.in-NextSequence.is c.from.ensures c.from-in-NextSequence.ensures) c.say_parts-in-NextSequence.ensures
+    subst (λ text. g.S.TextSink.says c.args.out.now text c.say_text-in-NextSequence-3.new.out)
+    (sequence_reason c.in-NextSequence.expected c.in-NextSequence.found _ _ c.from.ensures c.from-in-NextSequence.ensures ∙ ap (λ reason. codes "\"" ++ later_then (reason_members reason) (codes "}\n")) (sym c.in-NextSequence.is))
+    (g.met.S.TextSink.onward _ _ _ _ _ c.say_text-in-NextSequence.ensures
+    (g.met.S.TextSink.onward _ _ _ _ _ c.say_number.ensures
+    (g.met.S.TextSink.onward _ _ _ _ _ c.say_text-in-NextSequence-2.ensures
+    (g.met.S.TextSink.onward _ _ _ _ _ c.say_number-in-NextSequence.ensures c.say_text-in-NextSequence-3.ensures))))
+
+pub returns-in-NextLength : goal.returns-in-NextLength
+returns-in-NextLength g c =
+    subst (λ text. g.S.TextSink.says c.args.out.now text c.say_text-in-NextLength.new.out)
+    (ap (λ reason. codes "\"" ++ later_then (reason_members reason) (codes "}\n")) (sym c.in-NextLength.is))
+    c.say_text-in-NextLength.ensures
 
 pub returns-in-TooLong : goal.returns-in-TooLong
 returns-in-TooLong g c =
-    subst (λ text. g.S.TextSink.says c.args.out.now text c.say_parts-in-TooLong.new.out)
-    (announced_reason c.args.reason c.in-TooLong.announced _ c.in-TooLong.is c.from-in-TooLong.ensures) c.say_parts-in-TooLong.ensures
+    subst (λ text. g.S.TextSink.says c.args.out.now text c.say_text-in-TooLong-2.new.out)
+    (ap (λ reason. codes "\"" ++ later_then (reason_members reason) (codes "}\n")) (sym c.in-TooLong.is))
+    (g.met.S.TextSink.onward _ _ _ _ _ c.say_text-in-TooLong.ensures
+    (g.met.S.TextSink.onward _ _ _ _ _ c.say_length.ensures c.say_text-in-TooLong-2.ensures))
