@@ -1,5 +1,6 @@
 pub mod OneMore
 pub mod NumberedNames
+pub mod Pairs
 pub mod ItemLines
 pub mod JsonTexts
 pub mod ItemObjects

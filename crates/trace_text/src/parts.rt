@@ -1,9 +1,13 @@
 //! The parts of a line of text.
-ghost use Rattle.std.specs.Prelude.{◌≡◌, ◌<◌, ◌++◌, ◌%◌, codes};
+ghost use Rattle.std.specs.Prelude.{◌≡◌, ◌<◌, [], ◌∷◌, ◌++◌, ◌%◌, codes};
 ghost use Rattle.can_log.specs.Digits.{decimal, digit, hexadecimal};
 
 /// The hexadecimal digits.
 const DIGITS: [u8; 16] = *b"0123456789ABCDEF";
+
+/// The decimal digits of the numbers below 100, two of each.
+const PAIRS: [u8; 200] =
+    *b"00010203040506070809101112131415161718192021222324252627282930313233343536373839404142434445464748495051525354555657585960616263646566676869707172737475767778798081828384858687888990919293949596979899";
 
 /// A part of a line.
 #[derive(Clone, Copy)]
@@ -54,22 +58,28 @@ pub(crate) fn last_digit(number: u8) -> [u8; 1]
     [hexadecimal_digit(number % 16)]
 }
 
-/// The last six decimal digits of a number.
+/// The last six decimal digits of a number, with two zeros behind them: eight bytes are one word, which is laid without
+/// being put together in memory.
 #[tactic(auto, unfolding(can_log::specs::Digits::digits))]
-pub(crate) fn six_decimals(number: u64) -> [u8; 6]
-    ensures { result ≡ decimal 6 number }
+pub(crate) fn six_decimals(number: u64) -> [u8; 8]
+    ensures { result ≡ decimal 6 number ++ 0 ∷ 0 ∷ [] }
 {
     let last = (number % 1_000_000) as u32;
-    let thousands = last / 1_000;
-    let ones = last % 1_000;
-    [
-        decimal_digit(thousands / 100),
-        decimal_digit(thousands / 10),
-        decimal_digit(thousands),
-        decimal_digit(ones / 100),
-        decimal_digit(ones / 10),
-        decimal_digit(ones),
-    ]
+    let rest = last % 10_000;
+    let [a, b] = two_decimals(last / 10_000);
+    let [c, d] = two_decimals(rest / 100);
+    let [e, f] = two_decimals(rest % 100);
+    u64::from_le_bytes([a, b, c, d, e, f, 0, 0]).to_le_bytes()
+}
+
+/// The two decimal digits of a number below 100.
+#[inline(always)]
+fn two_decimals(number: u32) -> [u8; 2]
+    requires { number < 100 }
+    ensures { result ≡ decimal 2 number }
+{
+    let at = 2 * number as usize;
+    [PAIRS[at], PAIRS[at + 1]]
 }
 
 /// The last three decimal digits of a number.

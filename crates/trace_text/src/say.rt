@@ -91,7 +91,7 @@ pub fn say_digit<S: TextSink>(out: &mut S, number: u8)
 pub fn say_six_decimals<S: TextSink>(out: &mut S, number: u64)
     ensures { S.says out.old (digits.decimal 6 number) out.new }
 {
-    out.put(&six_decimals(number));
+    out.put(&six_decimals(number)[..6]);
 }
 
 /// Says the last three decimal digits of a number.
