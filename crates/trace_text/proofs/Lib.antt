@@ -1,6 +1,7 @@
 pub mod OneMore
 pub mod NumberedNames
 pub mod Pairs
+pub mod Decimals
 pub mod ItemLines
 pub mod JsonTexts
 pub mod ItemObjects

@@ -72,9 +72,21 @@ pub(crate) fn six_decimals(number: u64) -> [u8; 8]
     u64::from_le_bytes([a, b, c, d, e, f, 0, 0]).to_le_bytes()
 }
 
+/// The four decimal digits of a number below 10,000, which are one word as well.
+#[tactic(auto, unfolding(can_log::specs::Digits::digits))]
+#[inline(always)]
+pub(crate) fn four_decimals(number: u32) -> [u8; 4]
+    requires { number < 10000 }
+    ensures { result ≡ decimal 4 number }
+{
+    let [a, b] = two_decimals(number / 100);
+    let [c, d] = two_decimals(number % 100);
+    u32::from_le_bytes([a, b, c, d]).to_le_bytes()
+}
+
 /// The two decimal digits of a number below 100.
 #[inline(always)]
-fn two_decimals(number: u32) -> [u8; 2]
+pub(crate) fn two_decimals(number: u32) -> [u8; 2]
     requires { number < 100 }
     ensures { result ≡ decimal 2 number }
 {

@@ -9,8 +9,8 @@ ghost use Rattle.trace_text.specs.Words.{bytes_text, code_text, direction_text, 
 
 use crate::names::{cause_name, direction_name, layout_fault_name};
 use crate::parts::{
-    Part, hexadecimal_digits, last_digit, numbered_code, numbered_service, six_decimals,
-    three_decimals,
+    Part, four_decimals, hexadecimal_digits, last_digit, numbered_code, numbered_service,
+    six_decimals, three_decimals, two_decimals,
 };
 use can_log::digits_of_bytes;
 use direction::Dir;
@@ -60,7 +60,47 @@ pub fn say_text<S: TextSink>(out: &mut S, text: &str)
 pub fn say_number<S: TextSink>(out: &mut S, number: u64)
     ensures { S.says out.old (decimal number) out.new }
 {
-    out.put(Buffer::new().format(number).as_bytes());
+    if number < 10_000 {
+        say_short_number(out, number as u32);
+    } else if number < 100_000_000 {
+        say_short_number(out, number as u32 / 10_000);
+        out.put(&four_decimals(number as u32 % 10_000));
+    } else {
+        say_long_number(out, number);
+    }
+}
+
+/// Says a number of at most four digits.
+#[inline(always)]
+fn say_short_number<S: TextSink>(out: &mut S, number: u32)
+    requires { number < 10000 }
+    ensures { S.says out.old (decimal number) out.new }
+{
+    if number < 10 {
+        out.put(&[b'0' + number as u8]);
+    } else if number < 100 {
+        out.put(&two_decimals(number));
+    } else if number < 1_000 {
+        out.put(&four_decimals(number)[1..]);
+    } else {
+        out.put(&four_decimals(number));
+    }
+}
+
+/// Says a number of more than eight digits, as seconds since 1970 have. One of more than twelve is rare.
+#[inline(never)]
+fn say_long_number<S: TextSink>(out: &mut S, number: u64)
+    requires { 100000000 ≤ number }
+    ensures { S.says out.old (decimal number) out.new }
+{
+    if number < 1_000_000_000_000 {
+        let behind = (number % 100_000_000) as u32;
+        say_short_number(out, (number / 100_000_000) as u32);
+        out.put(&four_decimals(behind / 10_000));
+        out.put(&four_decimals(behind % 10_000));
+    } else {
+        out.put(Buffer::new().format(number).as_bytes());
+    }
 }
 
 /// Says the number of what is at a place, counted from 1.
