@@ -4,6 +4,7 @@ ghost use Rattle.can_log.specs.declared.frame.Stamped.{Stamped as StampedValue};
 ghost use Rattle.isotp_receive.specs.declared.TheConstants.{MESSAGE_LIMIT};
 ghost use Rattle.isotp_pdu.specs.Reading.{layout_of};
 ghost use Rattle.isotp_receive.specs.Capacities.{CapacitiesGrow};
+ghost use Rattle.isotp_receive.specs.EventSeen.{seen_event};
 ghost use Rattle.isotp_receive.specs.StandingReception.{receptions_after};
 ghost use Rattle.isotp_receive.specs.Trace.{Entry};
 ghost use Rattle.isotp_receive.specs.Verdict.{verdict};
@@ -15,7 +16,7 @@ use crate::driver::Telling;
 use crate::machine::Machine;
 use can_log::{Frame, Stamped, Wanted};
 use direction::Dir;
-use isotp_receive::Pair;
+use isotp_receive::{Event, Pair, Verdict};
 use trace_io::Target;
 use trace_log::{Config, Fault, LineTaker, Summary};
 
@@ -51,12 +52,86 @@ fn receive<M: Machine, W: Target>(
         → WroteTold W.Target (M.script first) start earlier taker.new.page.failed taker.new.page.block target.new }
 {
     match pair.accept(line, micros, dir, frame) {
-        Ok(event) => {
-            counts.count(dir, event);
-            taker.take(target, line, micros, dir, event)
-        }
+        Ok(event) => hand_on(counts, taker, target, line, micros, dir, event),
         Err(_refused) => Err(Fault::Memory),
     }
+}
+
+/// Counts what a frame did, and hands it on. Most frames complete a message or are stored for one. They go ways of their own: there
+/// the verdict is known when it is compiled, so that no reason is put in memory and read again.
+#[inline(always)]
+fn hand_on<M: Machine, W: Target>(
+    counts: &mut Summary,
+    taker: &mut Telling<M, W>,
+    target: &mut W,
+    line: u64,
+    micros: u64,
+    dir: Dir,
+    event: Event<'_>,
+) -> Result<(), Fault>
+    ensures fault { IfErr result IsOfTaker }
+    ensures counts { counts.new ≡ counted_more dir (seen_event event.entry) counts.old }
+    ensures ok { OnOk result ((start : W) (first : M) (T : List Entry) (e : Entry) → e.line ≡ line → e.micros ≡ micros → e.dir ≡ dir → length T < 2 ^ 62
+        → seen_event event.entry ≡ verdict MESSAGE_LIMIT T e
+        → Tells (M.stands first) W.Target (M.script first) start T taker.old.machine taker.old.pending taker.old.page.failed taker.old.page.block target.old
+        → Tells (M.stands first) W.Target (M.script first) start (T ++ e ∷ []) taker.new.machine taker.new.pending taker.new.page.failed taker.new.page.block target.new) }
+    ensures err { IfErr result (λ fault. (start : W) (first : M) (T : List Entry) (e : Entry) → e.line ≡ line → e.micros ≡ micros → e.dir ≡ dir → length T < 2 ^ 62
+        → seen_event event.entry ≡ verdict MESSAGE_LIMIT T e
+        → Tells (M.stands first) W.Target (M.script first) start T taker.old.machine taker.old.pending taker.old.page.failed taker.old.page.block target.old
+        → StopsTelling W.Target (M.script first) (M.needs first) start T e fault taker.new.page.failed taker.new.page.block target.new) }
+    ensures kept { (start : W) (first : M) (T earlier : List Entry) (e : Entry) → e.line ≡ line → e.micros ≡ micros → e.dir ≡ dir → length T < 2 ^ 62
+        → seen_event event.entry ≡ verdict MESSAGE_LIMIT T e
+        → Tells (M.stands first) W.Target (M.script first) start T taker.old.machine taker.old.pending taker.old.page.failed taker.old.page.block target.old
+        → WroteTold W.Target (M.script first) start earlier taker.old.page.failed taker.old.page.block target.old
+        → WroteTold W.Target (M.script first) start earlier taker.new.page.failed taker.new.page.block target.new }
+{
+    let ended = event.ended;
+    match event.verdict {
+        Verdict::Message(message) => {
+            let verdict = Verdict::Message(message);
+            let event = Event { verdict, ended };
+            hand_on_seen(counts, taker, target, line, micros, dir, event)
+        }
+        Verdict::Stored => {
+            let verdict = Verdict::Stored;
+            let event = Event { verdict, ended };
+            hand_on_seen(counts, taker, target, line, micros, dir, event)
+        }
+        Verdict::Began | Verdict::Flow | Verdict::Dropped(_) => {
+            hand_on_seen(counts, taker, target, line, micros, dir, event)
+        }
+    }
+}
+
+/// The same on one of the ways.
+#[inline(always)]
+fn hand_on_seen<M: Machine, W: Target>(
+    counts: &mut Summary,
+    taker: &mut Telling<M, W>,
+    target: &mut W,
+    line: u64,
+    micros: u64,
+    dir: Dir,
+    event: Event<'_>,
+) -> Result<(), Fault>
+    ensures fault { IfErr result IsOfTaker }
+    ensures counts { counts.new ≡ counted_more dir (seen_event event.entry) counts.old }
+    ensures ok { OnOk result ((start : W) (first : M) (T : List Entry) (e : Entry) → e.line ≡ line → e.micros ≡ micros → e.dir ≡ dir → length T < 2 ^ 62
+        → seen_event event.entry ≡ verdict MESSAGE_LIMIT T e
+        → Tells (M.stands first) W.Target (M.script first) start T taker.old.machine taker.old.pending taker.old.page.failed taker.old.page.block target.old
+        → Tells (M.stands first) W.Target (M.script first) start (T ++ e ∷ []) taker.new.machine taker.new.pending taker.new.page.failed taker.new.page.block target.new) }
+    ensures err { IfErr result (λ fault. (start : W) (first : M) (T : List Entry) (e : Entry) → e.line ≡ line → e.micros ≡ micros → e.dir ≡ dir → length T < 2 ^ 62
+        → seen_event event.entry ≡ verdict MESSAGE_LIMIT T e
+        → Tells (M.stands first) W.Target (M.script first) start T taker.old.machine taker.old.pending taker.old.page.failed taker.old.page.block target.old
+        → StopsTelling W.Target (M.script first) (M.needs first) start T e fault taker.new.page.failed taker.new.page.block target.new) }
+    ensures kept { (start : W) (first : M) (T earlier : List Entry) (e : Entry) → e.line ≡ line → e.micros ≡ micros → e.dir ≡ dir → length T < 2 ^ 62
+        → seen_event event.entry ≡ verdict MESSAGE_LIMIT T e
+        → Tells (M.stands first) W.Target (M.script first) start T taker.old.machine taker.old.pending taker.old.page.failed taker.old.page.block target.old
+        → WroteTold W.Target (M.script first) start earlier taker.old.page.failed taker.old.page.block target.old
+        → WroteTold W.Target (M.script first) start earlier taker.new.page.failed taker.new.page.block target.new }
+{
+    counts.count(dir, event);
+    taker.take(target, line, micros, dir, event)
 }
 
 /// The receptions of a log, and what was counted in it.
