@@ -21,6 +21,7 @@ use Rattle.trace_text.specs.ListText.{answer_members, outcome_text, outcome_memb
 use Rattle.trace_text.specs.proving.Spelling.{later_then, members_then, value_then}
 use Rattle.trace_text.specs.Words.{bytes_text, direction_text, service_text, code_text}
 use Rattle.trace_text.proofs.JsonTexts.{value_is}
+use Rattle.trace_text.proofs.JoinedTexts.{three_parts, four_parts, six_parts}
 use Rattle.trace_text.proofs.TextWords.{IsWord, first_of, strip, cut, name_word, bytes_word, bytes_same, service_word, code_word}
 
 -- ---- the words of members, and how each notation spells them
@@ -204,19 +205,10 @@ members_spelled n (member key value later) rest worded =
     rw worded.1.1.0 (ap (λ l. codes "\",\"" ++ l)
     (ap (λ l. key ++ (codes "\":\"" ++ (word_of value ++ l))) (members_spelled (n + 1) later rest worded.1.1.1) ∙ sym (append_assoc key (codes "\":\"") _)))
 
-two_and : (a b c d : List ℕ) → (a ++ b ++ c) ++ d ≡ a ++ (b ++ (c ++ d))
-two_and a b c d = simp append_assoc
-
-three_and : (a b c d e : List ℕ) → (a ++ b ++ c ++ d) ++ e ≡ a ++ (b ++ (c ++ (d ++ e)))
-three_and a b c d e = simp append_assoc
-
-five_and : (a b c d e f g : List ℕ) → (a ++ b ++ c ++ d ++ e ++ f) ++ g ≡ a ++ (b ++ (c ++ (d ++ (e ++ (f ++ g)))))
-five_and a b c d e f g = simp append_assoc
-
 outcome_spelled : (b c : Bool) (r : List ℕ) (a : Option (List ℕ)) (rest : List ℕ) → is_negative_response (unwrap_or a []) ≡ b → is_suppressing r ≡ c
     → codes " -> " ++ (outcome_text r a ++ (codes "\n" ++ rest)) ≡ spelled Text 3 (outcome_members r a) rest
 outcome_spelled true c r (Some a) rest so how =
-    rw so (ap (λ l. codes " -> " ++ l) (three_and (codes "negative ") (code_text (response_code a)) (codes " ") (bytes_text a) (codes "\n" ++ rest)))
+    rw so (ap (λ l. codes " -> " ++ l) (four_parts (codes "negative ") (code_text (response_code a)) (codes " ") (bytes_text a) (codes "\n" ++ rest)))
 outcome_spelled false c r (Some a) rest so how = rw so refl
 outcome_spelled b true r None rest so how = rw how refl
 outcome_spelled b false r None rest so how = rw how refl
@@ -232,9 +224,9 @@ lead Json = codes "\","
 
 item_spelled : (notation : Notation) (item : ItemValue) (rest : List ℕ) → lead notation ++ item_then notation item rest ≡ spelled notation 0 (item_members item) rest
 item_spelled Text (exchange r a) rest =
-    ap (λ l. codes " " ++ l) (five_and (codes "exchange ") (service_text (sid r)) (codes " ") (bytes_text r) (codes " -> ") (outcome_text r a) (codes "\n" ++ rest))
+    ap (λ l. codes " " ++ l) (six_parts (codes "exchange ") (service_text (sid r)) (codes " ") (bytes_text r) (codes " -> ") (outcome_text r a) (codes "\n" ++ rest))
     ∙ ap (λ l. codes " exchange " ++ (service_text (sid r) ++ (codes " " ++ (bytes_text r ++ l)))) (outcome_spelled _ _ r a rest refl refl)
-item_spelled Text (stray d bytes) rest = ap (λ l. codes " " ++ l) (three_and (codes "stray ") (direction_text d) (codes " ") (bytes_text bytes) (codes "\n" ++ rest))
+item_spelled Text (stray d bytes) rest = ap (λ l. codes " " ++ l) (four_parts (codes "stray ") (direction_text d) (codes " ") (bytes_text bytes) (codes "\n" ++ rest))
 item_spelled Json (exchange r a) rest = members_spelled 0 (item_members (exchange r a)) rest (item_worded (exchange r a))
 item_spelled Json (stray d bytes) rest = members_spelled 0 (item_members (stray d bytes)) rest (item_worded (stray d bytes))
 
@@ -253,13 +245,13 @@ front_of Json numbering number = front_of_object numbering number
 object_then : (numbering : Numbering) (number : ℕ) (item : ItemValue) (rest : List ℕ)
     → value_then (object (item_object numbering number item)) (codes "\n" ++ rest) ≡ front_of_object numbering number ++ members_then (item_members item) (behind rest)
 object_then Hidden number item rest = refl
-object_then Shown number (exchange r a) rest = sym (two_and (codes "{\"item\":") (decimal number) (codes ",") _)
-object_then Shown number (stray d bytes) rest = sym (two_and (codes "{\"item\":") (decimal number) (codes ",") _)
+object_then Shown number (exchange r a) rest = sym (three_parts (codes "{\"item\":") (decimal number) (codes ",") _)
+object_then Shown number (stray d bytes) rest = sym (three_parts (codes "{\"item\":") (decimal number) (codes ",") _)
 
 line_then : (notation : Notation) (numbering : Numbering) (number : ℕ) (item : ItemValue) (later : List ItemValue)
     → list_text_from (styled notation numbering) number (item ∷ later)
     ≡ front_of notation numbering number ++ item_then notation item (list_text_from (styled notation numbering) (number + 1) later)
-line_then Text numbering number item later = two_and (number_text numbering number) (item_text item) (codes "\n") _
+line_then Text numbering number item later = three_parts (number_text numbering number) (item_text item) (codes "\n") _
 line_then Json numbering number item later =
     let rest = list_text_from (styled Json numbering) (number + 1) later in
     append_assoc (value_text (object (item_object numbering number item))) (codes "\n") rest

@@ -14,16 +14,7 @@ use Rattle.trace_text.specs.ListText.{outcome_members, item_members, item_object
 use Rattle.trace_text.specs.proving.Spelling.{later_then, members_then}
 use Rattle.trace_text.specs.proving.OpenItems.{front_of_item, open_answer, open_item, open_object, open_outcome}
 use Rattle.trace_text.proofs.JsonTexts.{members_are, line_is}
-
--- pieces put together from the front, and from the back
-three_and : (a b c rest : List ℕ) → (a ++ b ++ c) ++ rest ≡ a ++ (b ++ (c ++ rest))
-three_and a b c rest = simp append_assoc
-
-four_and : (a b c d rest : List ℕ) → (a ++ b ++ c ++ d) ++ rest ≡ a ++ (b ++ (c ++ (d ++ rest)))
-four_and a b c d rest = simp append_assoc
-
-five_and : (a b c d e rest : List ℕ) → (a ++ b ++ c ++ d ++ e) ++ rest ≡ a ++ (b ++ (c ++ (d ++ (e ++ rest))))
-five_and a b c d e rest = simp append_assoc
+use Rattle.trace_text.proofs.JoinedTexts.{three_parts, four_parts, five_parts}
 
 -- what ends an object of an item, and what is behind it
 abbrev end_then : List ℕ → List ℕ
@@ -39,7 +30,7 @@ answer_by : (negative : Bool) (code bytes behind : List ℕ)
     ++ end_then behind
     ≡ closed (if negative then member (codes "outcome") (json.string (codes "negative")) (member (codes "code") (json.string code) (member (codes "answer") (json.string bytes) nothing))
     else member (codes "outcome") (json.string (codes "positive")) (member (codes "answer") (json.string bytes) nothing)) behind
-answer_by true code bytes behind = four_and (codes "\",\"outcome\":\"negative\",\"code\":\"") code (codes "\",\"answer\":\"") bytes (end_then behind)
+answer_by true code bytes behind = four_parts (codes "\",\"outcome\":\"negative\",\"code\":\"") code (codes "\",\"answer\":\"") bytes (end_then behind)
 answer_by false code bytes behind = append_assoc (codes "\",\"outcome\":\"positive\",\"answer\":\"") bytes (end_then behind)
 
 -- no answer, by whether none was asked for
@@ -60,11 +51,11 @@ item_is (exchange request reply) behind =
     let front : List ℕ → List ℕ = λ l.
     codes "\"kind\":\"exchange\",\"service\":\"" ++ (service_text (sid request) ++ (codes "\",\"request\":\"" ++ (bytes_text request ++ l))) in
     ap (λ l. codes "\"kind\":\"" ++ l)
-    (five_and (codes "exchange\",\"service\":\"") (service_text (sid request)) (codes "\",\"request\":\"") (bytes_text request) (open_outcome request reply) (end_then behind))
+    (five_parts (codes "exchange\",\"service\":\"") (service_text (sid request)) (codes "\",\"request\":\"") (bytes_text request) (open_outcome request reply) (end_then behind))
     ∙ ap front (outcome_is request reply behind)
 item_is (stray d bytes) behind =
     ap (λ l. codes "\"kind\":\"" ++ l)
-    (four_and (codes "stray\",\"direction\":\"") (direction_text d) (codes "\",\"message\":\"") (bytes_text bytes) (end_then behind))
+    (four_parts (codes "stray\",\"direction\":\"") (direction_text d) (codes "\",\"message\":\"") (bytes_text bytes) (end_then behind))
 
 -- an item that has members is one with a comma in front of them
 is_later : (item : ItemValue) (behind : List ℕ) → codes "," ++ members_then (item_members item) behind ≡ later_then (item_members item) behind
@@ -76,7 +67,7 @@ closed_object : (numbering : Numbering) (number : ℕ) (item : ItemValue) (behin
     → open_object numbering number item ++ end_then behind ≡ codes "{" ++ members_then (item_object numbering number item) (codes "}" ++ behind)
 closed_object Hidden number item behind = ap (λ l. codes "{" ++ l) (item_is item behind)
 closed_object Shown number item behind =
-    ap (λ l. codes "{\"item\":" ++ l) (three_and (decimal number) (codes ",\"kind\":\"") (open_item item) (end_then behind))
+    ap (λ l. codes "{\"item\":" ++ l) (three_parts (decimal number) (codes ",\"kind\":\"") (open_item item) (end_then behind))
     ∙ ap (λ l. codes "{\"item\":" ++ (decimal number ++ l)) (ap (λ l. codes "," ++ l) (item_is item behind) ∙ is_later item (codes "}" ++ behind))
 
 pub object_is : (numbering : Numbering) (number : ℕ) (item : ItemValue)

@@ -1,4 +1,5 @@
 pub mod OneMore
+pub mod JoinedTexts
 pub mod NumberedNames
 pub mod Pairs
 pub mod Decimals
