@@ -198,6 +198,7 @@ impl Machine for Holder {
         false
     }
 
+    #[inline(always)]
     fn event<S: TextSink>(
         &mut self,
         line: u64,

@@ -95,6 +95,7 @@ impl<'a> Machine for Reporter<'a> {
         false
     }
 
+    #[inline(always)]
     fn event<S: TextSink>(
         &mut self,
         line: u64,
