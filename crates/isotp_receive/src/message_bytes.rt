@@ -6,6 +6,7 @@ ghost use Rattle.isotp_receive.specs.Capacities.{GrowsWithin};
 use crate::MESSAGE_LIMIT;
 use std::alloc::{AllocError, Global};
 use std::marker::Model;
+use std::mem::replace;
 
 /// How many bytes a full consecutive frame of 8 bytes carries.
 const FULL: usize = 7;
@@ -134,7 +135,10 @@ fn fill(buffer: &mut Vec<u8>, room: usize)
     ensures items { buffer.new.items ≡ buffer.old.items ++ replicate (room - vec_len buffer.old) 0 }
     ensures capacity { vec_capacity buffer.new ≡ vec_capacity buffer.old }
 {
-    for _ in buffer.len()..room {
-        buffer.push_reserved(0);
+    // Where only its address is known, a byte that is stored may be one of the buffer's own length: so they would go one by one.
+    let mut filled = replace(buffer, Vec::new(*buffer.allocator()));
+    for _ in filled.len()..room {
+        filled.push_reserved(0);
     }
+    *buffer = filled;
 }

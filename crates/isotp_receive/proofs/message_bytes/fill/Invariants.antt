@@ -3,7 +3,7 @@ use Rattle.isotp_receive.proofs.message_bytes.fill.Given as goal
 
 abbrev pub invariant-loop : goal.invariant-loop
 invariant-loop l = record {
-  items : l.buffer.items ≡ l.initial.buffer.items ++ replicate (l.counter - vec_len l.initial.buffer) 0;
-  length : vec_len l.buffer ≡ l.counter;
-  capacity : vec_capacity l.buffer ≡ vec_capacity l.initial.buffer;
+  items : l.filled.items ≡ l.initial.filled.items ++ replicate (l.counter - vec_len l.initial.filled) 0;
+  length : vec_len l.filled ≡ l.counter;
+  capacity : vec_capacity l.filled ≡ vec_capacity l.initial.filled;
 }
