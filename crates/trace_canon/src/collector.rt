@@ -1,5 +1,5 @@
-//! What a log means, with its counts: a machine that says nothing, and collects the items. `list` and `compare` stand
-//! on it.
+//! What a log means, with its counts: a machine that says nothing, and collects the items in a store. `list` and `compare`
+//! stand on it.
 //!
 //! It lets go of all that it holds once the canonical log is certainly longer than the limit, and takes no more: what
 //! refuses the log earlier may still come, and is told first.
@@ -7,7 +7,7 @@ ghost use Rattle.std.specs.Prelude.{◌≡◌, ◌≢◌, ◌-◌, ℕ, List, []
 ghost use Rattle.isotp_receive.specs.declared.TheConstants.{MESSAGE_LIMIT};
 ghost use Rattle.trace_canon.specs.SessionScript.{Collects, has_place};
 ghost use Rattle.trace_log.specs.Answers.{ReadsWhile};
-ghost use Rattle.trace_canon.specs.Sessions.{GivesMeaning, GivesSession};
+ghost use Rattle.trace_canon.specs.Sessions.{GivesCollected, GivesMeaning};
 ghost use Rattle.trace_log.specs.Devices.{ReadFrom};
 ghost use Rattle.trace_canon.specs.Keeping.{NeedsMemoryToCollect};
 ghost use Rattle.trace_log.specs.Refusal.{IsNotRefusedWithin};
@@ -21,7 +21,7 @@ use std::alloc::{AllocError, Global};
 use trace_io::{Source, TextSink};
 use trace_log::{Config, Fault, Summary};
 use trace_run::{Machine, Nowhere, Stop, run};
-use uds_exchange::{Meaning, Pairing, Step};
+use uds_exchange::{ItemStore, Meaning, PairingIn, Step};
 
 /// What an accepted log means, and what was counted in it.
 #[derive(Debug, Drop)]
@@ -55,23 +55,42 @@ pub fn meaning_of<R: Source>(
     ensures read { ReadFrom R.Source Fault.Read config.now.max_bytes result reader.old reader.new }
     ensures never_write { IfErr result (λ fault. fault ≢ Fault.Write) }
 {
-    match session_of(alloc, config, reader) {
-        Ok(session) => {
-            let Session { meaning, .. } = session;
-            Ok(meaning)
+    match collect(alloc, config, reader) {
+        Ok(collected) => {
+            let Collected { items, .. } = collected;
+            Ok(items)
         }
         Err(fault) => Err(fault),
     }
 }
 
-/// The same, with what was counted in the log.
-pub(crate) fn session_of<R: Source>(
+/// The session whose items are collected.
+pub(crate) fn session_of(collected: Collected<Meaning>) -> Session
+    ensures { result ≡ record { meaning = collected.items; summary = collected.summary } }
+{
+    let Collected { items, summary } = collected;
+    Session {
+        meaning: items,
+        summary,
+    }
+}
+
+/// What an accepted log means, in a store of items, and what was counted in it.
+#[derive(Debug, Drop)]
+pub struct Collected<I> {
+    pub items: I,
+    pub summary: Summary,
+}
+
+/// Reads a log, and gives its session with the items in a store. A store whose messages lie end to end
+/// ([`PackedMeaning`](uds_exchange::PackedMeaning)) is for whoever looks at them where they lie.
+pub fn collect<I: ItemStore + Drop, R: Source>(
     alloc: Global,
     config: &Config,
     reader: &mut R,
-) -> Result<Session, Fault>
+) -> Result<Collected<I>, Fault>
     requires reader { AreLowCounts (R.reads reader.old) (length (R.given reader.old)) (R.failures reader.old) }
-    ensures answer { (log : List ℕ) → Agrees (R.given reader.old) (R.given reader.new) (R.is_over reader.new) log → GivesSession MESSAGE_LIMIT config.now log result }
+    ensures answer { (log : List ℕ) → Agrees (R.given reader.old) (R.given reader.new) (R.is_over reader.new) log → GivesCollected I.items MESSAGE_LIMIT config.now log result }
     ensures near { (log : List ℕ) → Agrees (R.given reader.old) (R.given reader.new) (R.is_over reader.new) log
         → ReadsWhile (IsNotRefusedWithin MESSAGE_LIMIT config.now log) (length (R.given reader.new) - length (R.given reader.old)) (R.failures reader.old) (R.failures reader.new) }
     ensures memory { (log : List ℕ) → Agrees (R.given reader.old) (R.given reader.new) (R.is_over reader.new) log
@@ -79,9 +98,9 @@ pub(crate) fn session_of<R: Source>(
     ensures read { ReadFrom R.Source Fault.Read config.now.max_bytes result reader.old reader.new }
     ensures never_write { IfErr result (λ fault. fault ≢ Fault.Write) }
 {
-    let machine = Collector {
+    let machine = Collector::<I> {
         alloc,
-        pairing: Pairing::new(alloc),
+        pairing: PairingIn::new(alloc),
         length: 0,
         config: *config,
     };
@@ -90,16 +109,16 @@ pub(crate) fn session_of<R: Source>(
 
 /// Pairs the messages, and answers with all items at the end.
 #[derive(Drop)]
-pub(crate) struct Collector {
+pub(crate) struct Collector<I: ItemStore> {
     alloc: Global,
     /// What the messages so far mean, or nothing where its canonical log is too long.
-    pub pairing: Pairing,
+    pub pairing: PairingIn<I>,
     /// How long that canonical log is, or a number above the limit.
     pub length: u64,
     pub config: Config,
 }
 
-impl Collector {
+impl<I: ItemStore + Drop> Collector<I> {
     ghost use Rattle.std.specs.Prelude.{◌≡◌, ◌+◌, ℕ, List, [], ◌∷◌, ◌++◌, OnOk};
     ghost use Rattle.direction.specs.Dir.{Message};
     ghost use Rattle.uds_exchange.specs.Meaning.{meaning, flattened};
@@ -118,7 +137,7 @@ impl Collector {
         }
         let length = self.length.saturating_add(self.added(dir, message));
         if length > limit {
-            self.pairing = Pairing::new(self.alloc);
+            self.pairing = PairingIn::new(self.alloc);
             self.length = length;
             return Ok(());
         }
@@ -154,19 +173,19 @@ fn has_place(step: Step) -> bool
     }
 }
 
-impl Machine for Collector {
+impl<I: ItemStore + Drop> Machine for Collector<I> {
     ghost use Rattle.isotp_receive.specs.declared.TheConstants.{MESSAGE_LIMIT};
     ghost use Rattle.isotp_receive.specs.Verdict.{messages};
     ghost use Rattle.trace_canon.specs.Keeping.{CompletesMessage};
-    ghost use Rattle.trace_canon.specs.SessionScript.{Collects, answers_session, silent_script};
+    ghost use Rattle.trace_canon.specs.SessionScript.{Collects, answers_collected, silent_script};
 
-    type Answer = Session;
+    type Answer = Collected<I>;
 
     ghost stands = { λ start T now. Collects start.config (messages MESSAGE_LIMIT T) now.pairing now.length now.config };
 
     ghost script = { λ start. silent_script };
 
-    ghost answers = { λ start. answers_session start.config };
+    ghost answers = { λ start. answers_collected I.items start.config };
 
     ghost needs = { λ start. CompletesMessage MESSAGE_LIMIT };
 
@@ -198,7 +217,7 @@ impl Machine for Collector {
         _pair: &Pair,
         summary: &Summary,
         _out: &mut S,
-    ) -> Result<Session, Stop> {
+    ) -> Result<Collected<I>, Stop> {
         let Collector {
             pairing,
             length,
@@ -208,8 +227,8 @@ impl Machine for Collector {
         if length > config.max_bytes() {
             return Err(Stop::OutputLimit);
         }
-        Ok(Session {
-            meaning: pairing.finish(),
+        Ok(Collected {
+            items: pairing.finish(),
             summary: *summary,
         })
     }

@@ -7,7 +7,7 @@ use crate::item_objects::say_object_line;
 use crate::notation::Notation;
 use crate::say::{say_bytes, say_code, say_direction, say_number, say_service, say_text};
 use trace_io::TextSink;
-use uds_exchange::{LentItem, Meaning};
+use uds_exchange::{ItemStore, LentItem, Meaning};
 use uds_message::{is_negative_response, is_suppressing, response_code, sid};
 
 /// Whether the lines of items have numbers.
@@ -30,9 +30,16 @@ pub struct ItemStyle {
 pub fn say_items<S: TextSink>(meaning: &Meaning, style: ItemStyle, out: &mut S)
     ensures { S.says out.old (list_text style meaning.now) out.new }
 {
-    'items: for i in 0..meaning.len() {
-        if let Some(item) = meaning.item(i) {
-            say_item(i as u64 + 1, style, item.lent(), out);
+    say_stored_items(meaning, style, out);
+}
+
+/// Says the line of each item of a store, in order.
+pub fn say_stored_items<I: ItemStore, S: TextSink>(items: &I, style: ItemStyle, out: &mut S)
+    ensures { S.says out.old (list_text style (I.items items.now)) out.new }
+{
+    'items: for i in 0..items.count() {
+        if let Some(item) = items.lent(i) {
+            say_item(i as u64 + 1, style, item, out);
         }
     }
 }

@@ -1,5 +1,5 @@
 -- Lists that are equal up to a place, and where one of them ends.
-use Rattle.std.proofs.Common.{◌≡◌, ◌≢◌, ℕ, ◌+◌, ◌<◌, ◌≤◌, zero, suc, min, List, [], ◌∷◌, length, take, Some, refl, sym, ◌∙◌, arith}
+use Rattle.std.proofs.Common.{◌≡◌, ◌≢◌, ℕ, ◌+◌, ◌<◌, ◌≤◌, zero, suc, min, List, [], ◌∷◌, length, take, get_or, Some, refl, sym, ◌∙◌, arith}
 use Rattle.std.specs.Prelude.{slice_get}
 use Rattle.std.proofs.lemmas.Option.{slice_get_past, slice_get_within, slice_get-get_or, get_or_from_slice_get, none-some}
 use Rattle.std.proofs.lemmas.List.{take_more_same}
@@ -10,6 +10,13 @@ module _ {X : Type 0} where
   take-more xs ys i x h e f =
       take_more_same xs ys i x (slice_get_within xs i x e) (slice_get_within ys i x f) h
       (get_or_from_slice_get xs i x x e ∙ sym (get_or_from_slice_get ys i x x f))
+
+  -- the same of what stands there, whatever it is; `d` stands for what is read behind the end
+  pub take-more-same : (xs ys : List X) (i : ℕ) (d : X) → i < length xs → take i xs ≡ take i ys → slice_get xs i ≡ slice_get ys i
+      → take (i + 1) xs ≡ take (i + 1) ys
+  take-more-same xs ys i d below h same =
+      let e = slice_get-get_or xs i d below in
+      take-more xs ys i (get_or xs i d) h e (sym same ∙ e)
 
   -- a list that has an item where the other has ended
   pub ended-differs : (xs ys : List X) (i : ℕ) → length xs ≤ i → i < length ys → slice_get xs i ≢ slice_get ys i

@@ -1,8 +1,7 @@
 -- What the code keeps of a meaning, and what it makes of one more message.
-use Rattle.std.proofs.Common.{◌≡◌, ◌≢◌, ℕ, ◌<◌, not, ◌&&◌, List, [], ◌∷◌, ◌++◌, length, get_or, Option, Some, None, refl, sym, ◌∙◌, ap, arith, inl, inr, option_map, length-append}
-use Rattle.std.specs.Prelude.{◌⊎◌, slice_get, slice_set}
+use Rattle.std.proofs.Common.{◌≡◌, ◌≢◌, ℕ, ◌<◌, not, ◌&&◌, List, [], ◌∷◌, ◌++◌, length, get_or, Option, Some, None, refl, sym, ◌∙◌, ap, arith, inl, inr, option_map}
+use Rattle.std.specs.Prelude.{slice_get, slice_set}
 use Rattle.std.proofs.lemmas.Option.{slice_get_read, slice_get_within, slice_get-map, same_Some, none-some}
-use Rattle.std.proofs.lemmas.List.{map-append, length-map}
 use Rattle.std.proofs.lemmas.Bool.{cases_Bool}
 use Rattle.direction.specs.Dir.{Message}
 use Rattle.uds_message.specs.Message.{sid, is_final_for, is_pending_for}
@@ -22,16 +21,6 @@ item-at xs i x e h = slice_get-map item_value xs i ∙ ap (option_map item_value
 pub value-at : (xs : List Item) (i : ℕ) (x : Item) (y : ItemValue) → x ≡ get_or xs i x → i < length xs → slice_get (item_values xs) i ≡ Some y
     → item_value x ≡ y
 value-at xs i x y e h g = same_Some _ _ (sym (item-at xs i x e h) ∙ g)
-
-pub item_values-push : (xs ys : List Item) (y : Item) → ys ≡ xs ++ y ∷ [] → item_values ys ≡ item_values xs ++ item_value y ∷ []
-item_values-push xs ys y h = ap item_values h ∙ map-append item_value xs (y ∷ [])
-
-pub length-item_values : (xs : List Item) → length (item_values xs) ≡ length xs
-length-item_values xs = length-map xs item_value
-
--- the message belongs to no exchange, whether a request is open or not
-abbrev pub IsStray : Step → Type 0
-IsStray s = (s ≡ step.Hold) ⊎ (s ≡ step.Pass)
 
 -- the items after this step with a message
 pub after : Step → List ItemValue → Option (ℕ × List ℕ) → Message → List ItemValue
@@ -67,9 +56,6 @@ not-request s (Some w) x h =
       ]
     ]
 
-not-longer : (its : List ItemValue) (i : ItemValue) → its ++ i ∷ [] ≢ its
-not-longer its i same = omega (arith, length-append its (i ∷ []), ap length same)
-
 -- an answer needs a request that waits
 answer-waits : (w : Option (ℕ × List ℕ)) (x : Message) → step.Answer ≡ step_of (sid_of w) x → (v : ℕ × List ℕ) × (w ≡ Some v)
 answer-waits (Some v) x h = (v, refl)
@@ -87,10 +73,6 @@ module _ (its now : List ItemValue) (is : its ≡ now) (open_sid : Option ℕ) (
       ∙ ap (λ o. after (step_of o x) its (waiting its) x) kept.first_byte
       ∙ ap (λ r. after r its (waiting its) x) (sym h)
 
-  pub joins-request : (s : ℕ) → step.Request s ≡ step_of open_sid x → its ++ exchange x.1 None ∷ [] ≡ join now x
-  unfolding after
-  joins-request s h = sym (joins (step.Request s) h)
-
   -- a request's first byte is what the code keeps of it
   pub request-sid : (s : ℕ) → step.Request s ≡ step_of open_sid x → s ≡ sid x.1
   request-sid s h =
@@ -98,11 +80,6 @@ module _ (its now : List ItemValue) (is : its ≡ now) (open_sid : Option ℕ) (
         | inl e ↦ (let same : step.Request s ≡ step.Request (sid x.1) = rw e at h in cc)
         | inr e ↦ absurd (not-request s open_sid x (rw e at h))
       ]
-
-  pub joins-stray : (r : Step) → r ≡ step_of open_sid x → IsStray r → its ++ stray_of x ∷ [] ≡ join now x
-  unfolding after
-  joins-stray r h (inl hold) = sym (joins step.Hold (sym hold ∙ h))
-  joins-stray r h (inr pass) = sym (joins step.Pass (sym pass ∙ h))
 
   pub answered-at : step.Answer ≡ step_of open_sid x → (w : ℕ × List ℕ) × (waiting its ≡ Some w)
   answered-at h = answer-waits (waiting its) x (h ∙ ap (λ o. step_of o x) (sym kept.first_byte))
@@ -126,10 +103,7 @@ module _ (its now : List ItemValue) (is : its ≡ now) (open_sid : Option ℕ) (
       ap (λ i. slice_set its i (exchange w.0.1 (Some x.1))) (sym (kept.place w.0 w.1))
       ∙ sym (joins step.Answer h ∙ ap (λ o. after step.Answer its o x) w.1)
 
-  -- a message with one of these steps changes the items
-  pub changes-stray : (r : Step) → r ≡ step_of open_sid x → IsStray r → join now x ≢ now
-  changes-stray r h stray same = not-longer its (stray_of x) (joins-stray r h stray ∙ same ∙ sym is)
-
+  -- an answer changes the items
   pub changes-answer : step.Answer ≡ step_of open_sid x → join now x ≢ now
   unfolding after
   changes-answer h same =

@@ -25,4 +25,5 @@ pub mod ItemNumbers
 pub mod OpenRequestOfMore
 pub mod Deciding
 pub mod PuttingItems
+pub mod EndToEnd
 pub mod Promises

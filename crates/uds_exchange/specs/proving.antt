@@ -2,3 +2,4 @@
 pub mod Pairing
 pub mod Steps
 pub mod Deciding
+pub mod Packing

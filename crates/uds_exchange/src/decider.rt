@@ -12,7 +12,7 @@ ghost use Rattle.uds_exchange.specs.proving.Deciding.{answered_items, items_by, 
 use crate::held::Held;
 use crate::item::LentItem;
 use crate::item_sink::ItemSink;
-use crate::pairing::copy;
+use crate::meaning::copy;
 use crate::sink::MessageSink;
 use crate::step::{Step, step_of};
 use direction::Dir;

@@ -14,23 +14,29 @@
 #![tactic(auto)]
 
 mod decider;
+mod difference;
 mod held;
 mod item;
 mod item_sink;
+mod item_store;
 pub mod laws;
 mod meaning;
 mod numbers;
 mod orderer;
+mod packed;
 mod pairing;
 mod sink;
 mod step;
 
 pub use decider::Decider;
+pub use difference::first_difference;
 pub use item::{Item, LentItem};
 pub use item_sink::ItemSink;
+pub use item_store::ItemStore;
 pub use meaning::Meaning;
 pub use numbers::Numbers;
 pub use orderer::{OrderFault, Orderer};
-pub use pairing::Pairing;
+pub use packed::PackedMeaning;
+pub use pairing::{Pairing, PairingIn};
 pub use sink::MessageSink;
 pub use step::{Step, step_of};

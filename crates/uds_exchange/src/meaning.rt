@@ -1,10 +1,15 @@
 //! What a list of messages means.
 
-ghost use Rattle.std.specs.Prelude.{◌≡◌, ◌↔◌, ◌<◌, ◌^◌, IsTrue, [], length, option_map, slice_get};
+ghost use Rattle.std.specs.Prelude.{◌≡◌, ◌↔◌, ◌<◌, ◌^◌, IsTrue, [], List, ℕ, Some, None, IfOk, length, option_map, slice_get, slice_set};
 ghost use Rattle.uds_exchange.specs.ItemSeen.{item_value, item_values};
 ghost use Rattle.uds_exchange.specs.Difference.{IsFirstDifference};
+ghost use Rattle.uds_exchange.specs.Meaning.{exchange};
 
-use crate::item::Item;
+use crate::difference::first_difference;
+use crate::item::{Item, LentItem};
+use crate::item_store::ItemStore;
+use direction::Dir;
+use std::alloc::{AllocError, Global};
 use std::marker::Model;
 
 /// The meaning of a list of messages, seen as a list of items.
@@ -24,13 +29,6 @@ impl Model for Meaning {
 }
 
 impl Meaning {
-    /// The meaning that these items are.
-    pub(crate) fn of(items: Vec<Item>) -> Meaning
-        ensures { result ≡ item_values items.items }
-    {
-        Meaning { items }
-    }
-
     /// How many items there are.
     pub fn len(&self) -> usize
         ensures value { result ≡ length self.now }
@@ -58,22 +56,78 @@ impl Meaning {
     pub fn first_difference(&self, other: &Meaning) -> Option<usize>
         ensures { IsFirstDifference self.now other.now result }
     {
-        let shorter = self.items.len().min(other.items.len());
-        for i in 0..shorter {
-            if !is_same_item(&self.items[i], &other.items[i]) {
-                return Some(i);
-            }
-        }
-        if self.items.len() == other.items.len() {
-            None
-        } else {
-            Some(shorter)
-        }
+        first_difference(self, other)
     }
 }
 
-fn is_same_item(a: &Item, b: &Item) -> bool
-    ensures { IsTrue result ↔ (item_value a.now ≡ item_value b.now) }
+impl ItemStore for Meaning {
+    ghost items = { λ m. m };
+
+    fn empty(alloc: Global) -> Meaning {
+        Meaning {
+            items: Vec::new(alloc),
+        }
+    }
+
+    fn count(&self) -> usize {
+        self.len()
+    }
+
+    #[inline(always)]
+    fn lent(&self, i: usize) -> Option<LentItem<'_>> {
+        match self.item(i) {
+            Some(item) => Some(item.lent()),
+            None => None,
+        }
+    }
+
+    fn push_request(&mut self, request: &[u8]) -> Result<(), AllocError> {
+        let request = copy(*self.items.allocator(), request)?;
+        self.items.push(Item::Exchange {
+            request,
+            answer: None,
+        })?;
+        Ok(())
+    }
+
+    fn push_stray(&mut self, dir: Dir, bytes: &[u8]) -> Result<(), AllocError> {
+        let bytes = copy(*self.items.allocator(), bytes)?;
+        self.items.push(Item::Stray { dir, bytes })?;
+        Ok(())
+    }
+
+    fn answer(&mut self, at: usize, answer: &[u8]) -> Result<(), AllocError> {
+        let answer = copy(*self.items.allocator(), answer)?;
+        set_answer(&mut self.items, at, answer);
+        Ok(())
+    }
+}
+
+/// The bytes, copied into new memory of their length.
+pub(crate) fn copy(alloc: Global, bytes: &[u8]) -> Result<Vec<u8>, AllocError>
+    ensures { IfOk result (λ v. v.items ≡ bytes.now) }
 {
-    *a == *b
+    let mut v = Vec::with_capacity(alloc, bytes.len())?;
+    v.extend_from_slice(bytes)?;
+    Ok(v)
+}
+
+/// Gives the exchange at this place its answer. It has none before.
+fn set_answer(items: &mut Vec<Item>, at: usize, bytes: Vec<u8>)
+    requires { at < length items.old.items }
+    ensures { (request : List ℕ) → slice_get (item_values items.old.items) at ≡ Some (exchange request None)
+        → item_values items.new.items
+        ≡ slice_set (item_values items.old.items) at (exchange request (Some bytes.items)) }
+{
+    answer_with(&mut items[at], bytes);
+}
+
+/// Gives an exchange its answer; a stray stays as it is.
+fn answer_with(item: &mut Item, bytes: Vec<u8>)
+    ensures { (request : List ℕ) → item_value item.old ≡ exchange request None
+        → item_value item.new ≡ exchange request (Some bytes.items) }
+{
+    if let Item::Exchange { answer, .. } = item {
+        *answer = Some(bytes);
+    }
 }

@@ -4,7 +4,7 @@ use Rattle.std.proofs.lemmas.List.{map-set}
 use Rattle.uds_exchange.specs.Meaning.{exchange}
 use Rattle.uds_exchange.specs.ItemSeen.{item_value, item_values}
 use Rattle.uds_exchange.proofs.Kept.{value-at}
-use Rattle.uds_exchange.proofs.pairing.set_answer.Goals as goal
+use Rattle.uds_exchange.proofs.meaning.set_answer.Goals as goal
 
 pub returns : goal.returns
 returns c = λ request h.
