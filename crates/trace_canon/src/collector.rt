@@ -122,6 +122,7 @@ impl<I: ItemStore + Drop> Collector<I> {
     ghost use Rattle.std.specs.Prelude.{◌≡◌, ◌+◌, ℕ, List, [], ◌∷◌, ◌++◌, OnOk};
     ghost use Rattle.direction.specs.Dir.{Message};
     ghost use Rattle.uds_exchange.specs.Meaning.{meaning, flattened};
+    ghost use Rattle.uds_exchange.specs.Numbering.{step_after};
     ghost use Rattle.trace_log.specs.Settings.{Settings};
     ghost use Rattle.trace_canon.specs.SessionScript.{Collects};
     ghost use Rattle.trace_canon.specs.proving.Measuring.{HaveLengths};
@@ -135,13 +136,14 @@ impl<I: ItemStore + Drop> Collector<I> {
         if self.length > limit {
             return Ok(());
         }
-        let length = self.length.saturating_add(self.added(dir, message));
+        let step = self.pairing.step(dir, message);
+        let length = self.length.saturating_add(self.added(step, dir, message));
         if length > limit {
             self.pairing = PairingIn::new(self.alloc);
             self.length = length;
             return Ok(());
         }
-        match self.pairing.take(dir, message) {
+        match self.pairing.take_step(step, dir, message) {
             Ok(()) => {
                 self.length = length;
                 Ok(())
@@ -150,12 +152,12 @@ impl<I: ItemStore + Drop> Collector<I> {
         }
     }
 
-    /// By how many bytes one more message makes the canonical log longer.
-    fn added(&self, dir: Dir, message: &[u8]) -> u64
-        ensures { (M : List Message) (size : ℕ) → self.now.pairing ≡ meaning M → HaveLengths self.now.config (flattened (meaning M)) size
+    /// By how many bytes one more message, of which this becomes, makes the canonical log longer.
+    fn added(&self, step: Step, dir: Dir, message: &[u8]) -> u64
+        ensures { (M : List Message) (size : ℕ) → self.now.pairing ≡ meaning M → step ≡ step_after M (dir, message.now) → HaveLengths self.now.config (flattened (meaning M)) size
             → HaveLengths self.now.config (flattened (meaning (M ++ (dir, message.now) ∷ []))) (size + result) }
     {
-        if has_place(self.pairing.step(dir, message)) {
+        if has_place(step) {
             message_length(&self.config, dir, message)
         } else {
             0

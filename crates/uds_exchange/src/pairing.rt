@@ -93,6 +93,7 @@ impl<S: ItemStore> PairingIn<S> {
     ghost use Rattle.direction.specs.Dir.{Message};
     ghost use Rattle.uds_exchange.specs.Meaning.{meaning};
     ghost use Rattle.uds_exchange.specs.Numbering.{step_after};
+    ghost use Rattle.uds_exchange.specs.proving.Pairing.{step_in};
     ghost use Rattle.uds_exchange.specs.proving.Pairing as Spec;
 
     /// A pairing that has taken no message. It takes no memory.
@@ -108,7 +109,8 @@ impl<S: ItemStore> PairingIn<S> {
 
     /// What becomes of one more message.
     pub fn step(&self, dir: Dir, message: &[u8]) -> Step
-        ensures { (M : List Message) → self.now ≡ meaning M → result ≡ step_after M (dir, message.now) }
+        ensures after { (M : List Message) → self.now ≡ meaning M → result ≡ step_after M (dir, message.now) }
+        ensures value { result ≡ step_in self.now (dir, message.now) }
     {
         step_of(self.open_sid, dir, message)
     }
@@ -122,7 +124,19 @@ impl<S: ItemStore> PairingIn<S> {
         ensures changes { OnErr result ((M : List Message) → self.old ≡ meaning M
             → meaning (M ++ (dir, message.now) ∷ []) ≢ meaning M) }
     {
-        self.join(dir, message)
+        self.take_step(step_of(self.open_sid, dir, message), dir, message)
+    }
+
+    /// The same of a message of which it is known what becomes of it.
+    pub fn take_step(&mut self, step: Step, dir: Dir, message: &[u8]) -> Result<(), AllocError>
+        requires { step ≡ step_in self.old (dir, message.now) }
+        ensures ok { OnOk result ((M : List Message) → self.old ≡ meaning M
+            → self.new ≡ meaning (M ++ (dir, message.now) ∷ [])) }
+        ensures err { OnErr result (self.new ≡ self.old) }
+        ensures changes { OnErr result ((M : List Message) → self.old ≡ meaning M
+            → meaning (M ++ (dir, message.now) ∷ []) ≢ meaning M) }
+    {
+        self.join(step, dir, message)
     }
 
     /// The store, with the meaning of the messages that were taken. It takes no memory.
@@ -134,12 +148,14 @@ impl<S: ItemStore> PairingIn<S> {
     }
 
     /// Takes one more message, by the items and the open request alone.
-    fn join(&mut self, dir: Dir, message: &[u8]) -> Result<(), AllocError>
+    #[inline(always)]
+    fn join(&mut self, step: Step, dir: Dir, message: &[u8]) -> Result<(), AllocError>
+        requires { step ≡ step_in self.old (dir, message.now) }
         ensures ok { OnOk result (self.new ≡ Spec.join self.old (dir, message.now)) }
         ensures err { OnErr result (self.new ≡ self.old) }
         ensures changes { OnErr result (Spec.join self.old (dir, message.now) ≢ self.old) }
     {
-        match step_of(self.open_sid, dir, message) {
+        match step {
             Step::Request(sid) => {
                 let last = self.store.count();
                 self.store.push_request(message)?;

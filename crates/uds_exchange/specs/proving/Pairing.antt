@@ -3,7 +3,9 @@ use Rattle.std.specs.Prelude.{◌≡◌, ℕ, suc, List, [], ◌∷◌, ◌++◌
 use Rattle.direction.specs.Dir.{Message}
 use Rattle.uds_message.specs.Message.{sid}
 use Rattle.uds_exchange.specs.Meaning.{ItemValue, exchange, stray, stray_of, is_tester_request, is_answer_to, is_pending_reply_to}
+use Rattle.uds_exchange.specs.OneMessage.{step_of}
 use Rattle.uds_exchange.specs.Order.{has_exchange}
+use Rattle.uds_exchange.specs.declared.step.Step.{Step}
 
 -- a place and a request, with one more item before it
 abbrev pub one_later : Option (ℕ × List ℕ) → Option (ℕ × List ℕ)
@@ -20,6 +22,10 @@ waiting (exchange request None ∷ later) = if has_exchange later then one_later
 -- the first byte of its request
 abbrev pub waiting_sid : List ItemValue → Option ℕ
 waiting_sid items = option_map (λ place. sid place.1) (waiting items)
+
+-- what becomes of one more message
+abbrev pub step_in : List ItemValue → Message → Step
+step_in items message = step_of (waiting_sid items) message
 
 -- what the code keeps beside the items: the first byte of the open request, and the place of its exchange
 pub record IsWaitingAt (items : List ItemValue) (open_sid : Option ℕ) (last : ℕ) : Type 0 where

@@ -21,7 +21,7 @@ returns-then-length-limit g c = λ settings M stood.
     let all = keeps_all settings M _ _ _ stood (omega (arith, most, c.max_bytes-limit.ensures.value, c.if-self-limit.false)) in
     let size = stood.size + c.added.result in
     let have = subst (λ (s : Settings). HaveLengths s (flattened (meaning (M ++ message ∷ []))) size) stood.same
-    (c.added.ensures M stood.size all.0 (subst (λ (s : Settings). HaveLengths s (flattened (meaning M)) stood.size) (sym stood.same) stood.measured)) in
+    (c.added.ensures M stood.size all.0 (c.step-step.ensures.after M all.0) (subst (λ (s : Settings). HaveLengths s (flattened (meaning M)) stood.size) (sym stood.same) stood.measured)) in
     collects_no_more settings M message c.new.result c.saturating_add-length.result size have c.new.ensures
     (omega (arith, most, c.max_bytes-limit.ensures.value, c.if-length-limit.true))
     (omega (arith, most, c.max_bytes-limit.ensures.value, c.if-length-limit.true, all.1, c.saturating_add-length.ensures)) c.args.self.now.config stood.same
@@ -33,7 +33,7 @@ returns-in-Ok g c = λ settings M stood.
     let all = keeps_all settings M _ _ _ stood (omega (arith, most, c.max_bytes-limit.ensures.value, c.if-self-limit.false)) in
     let size = stood.size + c.added.result in
     let have = subst (λ (s : Settings). HaveLengths s (flattened (meaning (M ++ message ∷ []))) size) stood.same
-    (c.added.ensures M stood.size all.0 (subst (λ (s : Settings). HaveLengths s (flattened (meaning M)) stood.size) (sym stood.same) stood.measured)) in
+    (c.added.ensures M stood.size all.0 (c.step-step.ensures.after M all.0) (subst (λ (s : Settings). HaveLengths s (flattened (meaning M)) stood.size) (sym stood.same) stood.measured)) in
     let known : c.saturating_add-length.result ≡ size = omega (arith, most, c.max_bytes-limit.ensures.value, c.max_bytes-limit.ensures.settings.most, c.if-length-limit.false, all.1, c.saturating_add-length.ensures) in
-    collects_more settings M message c.take.new.self c.saturating_add-length.result size have (c.in-Ok.ensures.ok M all.0) known
+    collects_more settings M message c.take_step.new.self c.saturating_add-length.result size have (c.in-Ok.ensures.ok M all.0) known
     (omega (arith, known, most, c.max_bytes-limit.ensures.value, c.if-length-limit.false)) c.args.self.now.config stood.same

@@ -1,8 +1,9 @@
-use Rattle.std.proofs.Common.{◌≡◌, ◌++◌, ◌∷◌, [], sym, ◌∙◌, ap, subst, arith, Some, None, ℕ, List}
+use Rattle.std.proofs.Common.{◌++◌, ◌∷◌, [], sym, ◌∙◌, ap, subst, Some, None, ℕ, List}
 use Rattle.std.specs.Prelude.{slice_set}
 use Rattle.direction.specs.Dir.{Message}
 use Rattle.uds_exchange.specs.Meaning.{ItemValue, exchange}
-use Rattle.uds_exchange.specs.proving.Pairing.{IsWaitingAt}
+use Rattle.uds_exchange.specs.OneMessage.{step_of}
+use Rattle.uds_exchange.specs.proving.Pairing.{IsWaitingAt, waiting_sid}
 use Rattle.uds_exchange.proofs.Kept.{kept-request, kept-stray, kept-answer}
 use Rattle.uds_exchange.proofs.Kept.{request-sid, joins-answer, changes-answer, answered-at, answered-below, answered-exchange}
 use Rattle.uds_exchange.proofs.Variants.{on_err}
@@ -11,14 +12,14 @@ use Rattle.uds_exchange.proofs.pairing.PairingIn.join.Goals as goal
 pub answer-requires : goal.answer-requires
 answer-requires g c =
     answered-below (g.S.ItemStore.items c.self.inside.store) c.args.self.now c.self.view_is c.self.inside.open_sid c.self.inside.last
-    c.self.invariant (c.args.dir, c.args.message.now) c.in-Answer.ensures
+    c.self.invariant (c.args.dir, c.args.message.now) (sym c.in-Answer.is ∙ c.requires ∙ ap (λ o. step_of o (c.args.dir, c.args.message.now)) (ap waiting_sid (sym c.self.view_is) ∙ c.self.invariant.first_byte))
 
 pub invariant_of-self-in-Request : goal.invariant_of-self-in-Request
 invariant_of-self-in-Request g c =
     let its = g.S.ItemStore.items c.self.inside.store in
     let request = c.args.message.now in
     let kept = request-sid its c.args.self.now c.self.view_is c.self.inside.open_sid c.self.inside.last c.self.invariant
-    (c.args.dir, request) c.in-Request.sid c.in-Request.ensures in
+    (c.args.dir, request) c.in-Request.sid (sym c.in-Request.is ∙ c.requires ∙ ap (λ o. step_of o (c.args.dir, c.args.message.now)) (ap waiting_sid (sym c.self.view_is) ∙ c.self.invariant.first_byte)) in
     let last = c.count-last.result in
     subst (λ (l : List ItemValue). IsWaitingAt l (Some c.in-Request.sid) last) (sym c.in_ok-push_request-in-Request.ensures.ok)
     (subst (λ (s : ℕ). IsWaitingAt (its ++ exchange request None ∷ []) (Some s) last) (sym kept)
@@ -29,8 +30,8 @@ invariant_of-self-in-Answer g c =
     let its = g.S.ItemStore.items c.self.inside.store in
     let last = c.self.inside.last in
     let x : Message = (c.args.dir, c.args.message.now) in
-    let w = answered-at its c.args.self.now c.self.view_is c.self.inside.open_sid last c.self.invariant x c.in-Answer.ensures in
-    let there = answered-exchange its c.args.self.now c.self.view_is c.self.inside.open_sid last c.self.invariant x c.in-Answer.ensures in
+    let w = answered-at its c.args.self.now c.self.view_is c.self.inside.open_sid last c.self.invariant x (sym c.in-Answer.is ∙ c.requires ∙ ap (λ o. step_of o (c.args.dir, c.args.message.now)) (ap waiting_sid (sym c.self.view_is) ∙ c.self.invariant.first_byte)) in
+    let there = answered-exchange its c.args.self.now c.self.view_is c.self.inside.open_sid last c.self.invariant x (sym c.in-Answer.is ∙ c.requires ∙ ap (λ o. step_of o (c.args.dir, c.args.message.now)) (ap waiting_sid (sym c.self.view_is) ∙ c.self.invariant.first_byte)) in
     let place = c.self.invariant.place w.0 w.1 in
     let set = c.in_ok-answer-in-Answer.ensures.ok w.0.1 there ∙ ap (λ i. slice_set its i (exchange w.0.1 (Some c.args.message.now))) (sym place) in
     subst (λ (l : List ItemValue). IsWaitingAt l None last) (sym set) (kept-answer its w.0 last c.args.message.now w.1)
@@ -40,10 +41,10 @@ returns-in_ok-answer-in-Answer-clause-ok g c =
     let its = g.S.ItemStore.items c.self.inside.store in
     let last = c.self.inside.last in
     let x : Message = (c.args.dir, c.args.message.now) in
-    let w = answered-at its c.args.self.now c.self.view_is c.self.inside.open_sid last c.self.invariant x c.in-Answer.ensures in
-    let there = answered-exchange its c.args.self.now c.self.view_is c.self.inside.open_sid last c.self.invariant x c.in-Answer.ensures in
+    let w = answered-at its c.args.self.now c.self.view_is c.self.inside.open_sid last c.self.invariant x (sym c.in-Answer.is ∙ c.requires ∙ ap (λ o. step_of o (c.args.dir, c.args.message.now)) (ap waiting_sid (sym c.self.view_is) ∙ c.self.invariant.first_byte)) in
+    let there = answered-exchange its c.args.self.now c.self.view_is c.self.inside.open_sid last c.self.invariant x (sym c.in-Answer.is ∙ c.requires ∙ ap (λ o. step_of o (c.args.dir, c.args.message.now)) (ap waiting_sid (sym c.self.view_is) ∙ c.self.invariant.first_byte)) in
     c.in_ok-answer-in-Answer.ensures.ok w.0.1 there
-    ∙ joins-answer its c.args.self.now c.self.view_is c.self.inside.open_sid last c.self.invariant x c.in-Answer.ensures
+    ∙ joins-answer its c.args.self.now c.self.view_is c.self.inside.open_sid last c.self.invariant x (sym c.in-Answer.is ∙ c.requires ∙ ap (λ o. step_of o (c.args.dir, c.args.message.now)) (ap waiting_sid (sym c.self.view_is) ∙ c.self.invariant.first_byte))
 
 pub invariant_of-self-in-Hold : goal.invariant_of-self-in-Hold
 invariant_of-self-in-Hold g c =
@@ -55,4 +56,4 @@ pub returns-in_err-answer-in-Answer-clause-changes : goal.returns-in_err-answer-
 returns-in_err-answer-in-Answer-clause-changes g c =
     on_err c.from_residual-in_err-answer-in-Answer.result _
     (changes-answer (g.S.ItemStore.items c.self.inside.store) c.args.self.now c.self.view_is c.self.inside.open_sid c.self.inside.last c.self.invariant
-    (c.args.dir, c.args.message.now) c.in-Answer.ensures)
+    (c.args.dir, c.args.message.now) (sym c.in-Answer.is ∙ c.requires ∙ ap (λ o. step_of o (c.args.dir, c.args.message.now)) (ap waiting_sid (sym c.self.view_is) ∙ c.self.invariant.first_byte)))

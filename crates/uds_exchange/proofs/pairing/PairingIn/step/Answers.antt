@@ -5,8 +5,8 @@ use Rattle.uds_exchange.specs.proving.Pairing.{waiting_sid}
 use Rattle.uds_exchange.proofs.NextStep.{stands-is}
 use Rattle.uds_exchange.proofs.pairing.PairingIn.step.Goals as goal
 
-pub returns : goal.returns
-returns g c = λ M stood.
+pub returns-clause-after : goal.returns-clause-after
+returns-clause-after g c = λ M stood.
     let waits = ap (λ (o : OrdererValue). o.open_sid) (stands-is M) in
     c.step_of.ensures
     ∙ ap (λ o. step_of o (c.args.dir, c.args.message.now)) (sym c.self.invariant.first_byte ∙ ap waiting_sid (c.self.view_is ∙ stood) ∙ sym waits)

@@ -3,7 +3,7 @@ use Rattle.direction.specs.Dir.{Message}
 use Rattle.uds_exchange.specs.proving.Pairing.{join}
 use Rattle.uds_exchange.proofs.OneMore.{meaning-append}
 use Rattle.uds_exchange.proofs.Variants.{on_ok_along, on_err_along}
-use Rattle.uds_exchange.proofs.pairing.PairingIn.take.Goals as goal
+use Rattle.uds_exchange.proofs.pairing.PairingIn.take_step.Goals as goal
 
 pub returns-clause-ok : goal.returns-clause-ok
 returns-clause-ok g c =
