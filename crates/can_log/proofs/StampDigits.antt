@@ -1,14 +1,20 @@
 -- The time of a canonical line: as sixteen digits of which two give way to marks, and counted up by one.
 use Prim.Native.Char.{code}
 use Prim.Native.Nat.{zero, suc}
-use Rattle.std.proofs.Common.{◌≡◌, ◌≢◌, ℕ, ◌+◌, ◌*◌, ◌/◌, ◌%◌, ◌^◌, ◌<◌, List, [], ◌∷◌, ◌++◌, length, length-append, get_or, set, append_assoc, refl, ap, sym, subst, ◌∙◌, arith}
+use Rattle.std.proofs.Common.{◌≡◌, ◌≢◌, ℕ, ◌+◌, ◌*◌, ◌/◌, ◌%◌, ◌^◌, ◌<◌, List, [], ◌∷◌, ◌++◌, length, length-append, take, get_or, set, append_assoc, refl, ap, sym, ◌∙◌, arith}
 use Rattle.std.specs.Prelude.{codes}
 use Rattle.std.proofs.Math.Nat.{pow-suc, pow-zero}
 use Rattle.std.proofs.Math.Seq.{get_or-append_seam, set-append_seam}
 use Rattle.std.proofs.lemmas.Bool.Decides.{nat_tests}
-use Rattle.can_log.specs.Canonical.{canonical_front}
+use Rattle.std.specs.List.{AllByRecursion}
+use Rattle.std.proofs.lemmas.List.{take_all}
+use Rattle.std.proofs.lemmas.Simd.{put_chunk_whole}
+use lib.Lanes.{zip2, put_chunk}
+use lib.ListN.{replicate}
+use Rattle.can_log.specs.Canonical.{canonical_front, canonical_stamp}
 use Rattle.can_log.specs.Digits.{digit, digits, decimal}
-use Rattle.can_log.proofs.Digits.{length-digits}
+use Rattle.can_log.proofs.Digits.{length-digits, each_digit}
+use Rattle.can_log.proofs.EachElement.{AllByRecursion-append}
 
 -- a zero stands in front of fewer digits
 zero_first : (width number : ℕ) → number < 10 ^ width → digits 10 (suc width) number ≡ code "0" ∷ digits 10 width number
@@ -49,7 +55,8 @@ time_digits n small =
 
 -- two marks in place of zeros make it the time
 pub time_marked : (n : ℕ) (digits : List ℕ) → n < 10 ^ 13 → digits ≡ decimal 16 (n / 1000 * 100000 + n % 1000 * 10)
-    → set (set digits 0 (code "(")) 11 (code ".") ≡ codes "(" ++ decimal 10 (n / 1000) ++ codes "." ++ decimal 3 (n % 1000) ++ codes "0"
+    → set (set digits 0 (code "(")) 11 (code ".") ≡ canonical_stamp n
+unfolding canonical_stamp
 time_marked n digits small is =
     let seconds = decimal 10 (n / 1000) in
     let back = decimal 3 (n % 1000) ++ code "0" ∷ [] in
@@ -59,10 +66,9 @@ time_marked n digits small is =
     ap (λ (d : List ℕ). set (set d 0 (code "(")) 11 (code ".")) (is ∙ time_digits n small) ∙ (marked ∙ simp append_assoc)
 
 -- the bytes before the identifier are the time, and what is the same in each line
-pub front_marked : (n : ℕ) (time marked : List ℕ) → time ≡ codes "(" ++ decimal 10 (n / 1000) ++ codes "." ++ decimal 3 (n % 1000) ++ codes "0" → marked ≡ time
-    → marked ++ codes "00) can0 " ≡ canonical_front n
-unfolding canonical_front
-front_marked n time marked is copied = rw (copied, is) (simp append_assoc)
+pub front_marked : (n : ℕ) (stamp marked : List ℕ) → stamp ≡ canonical_stamp n → marked ≡ stamp → marked ++ codes "00) can0 " ≡ canonical_front n
+unfolding canonical_front canonical_stamp
+front_marked n stamp marked is copied = rw (copied, is) (simp append_assoc)
 
 -- ---- counted up
 
@@ -76,9 +82,16 @@ length-until_last n =
     let millis = length-digits 10 2 (n % 1000 / 10) in
     simp length-append (omega arith)
 
+length-stamp : (n : ℕ) → length (canonical_stamp n) ≡ 16
+unfolding canonical_stamp
+length-stamp n =
+    let seconds = length-digits 10 10 (n / 1000) in
+    let millis = length-digits 10 3 (n % 1000) in
+    simp length-append (omega arith)
+
 -- that digit between what stands before and after it
-last_digit : (n : ℕ) → canonical_front n ≡ until_last n ++ digit (n % 10) ∷ codes "000) can0 "
-unfolding canonical_front digits
+last_digit : (n : ℕ) → canonical_stamp n ≡ until_last n ++ digit (n % 10) ∷ codes "0"
+unfolding canonical_stamp digits
 last_digit n =
     let last : n % 1000 % 10 ≡ n % 10 = omega arith in
     rw last (simp append_assoc)
@@ -101,20 +114,50 @@ no_nine n other = grind (arith, nat_tests)
 digit_below_nine : (n : ℕ) → n % 10 < 9 → digit (n % 10) < code "9"
 digit_below_nine n below = grind (arith, nat_tests)
 
--- the bytes before the identifier one millisecond later
-pub front_counted : (n : ℕ) (front : List ℕ) → front ≡ canonical_front n → get_or front 14 0 ≢ code "9"
-    → (get_or front 14 0 < code "9") × (set front 14 (get_or front 14 0 + 1) ≡ canonical_front (n + 1))
-front_counted n front is other =
+abbrev IsByte : ℕ → Type 0
+IsByte b = b < 256
+
+digit_is_byte : (d : ℕ) → d < 10 → IsByte (digit d)
+digit_is_byte d small = grind (arith, nat_tests)
+
+are_bytes : (n : ℕ) → AllByRecursion IsByte (until_last n)
+are_bytes n =
+    let digits = each_digit IsByte 10 (omega arith) digit_is_byte in
+    let seconds = AllByRecursion-append IsByte (codes "(") (decimal 10 (n / 1000)) (omega arith, tt) (digits 10 (n / 1000)) in
+    let point = AllByRecursion-append IsByte (codes "(" ++ decimal 10 (n / 1000)) (codes ".") seconds (omega arith, tt) in
+    AllByRecursion-append IsByte (codes "(" ++ decimal 10 (n / 1000) ++ codes ".") (decimal 2 (n % 1000 / 10)) point (digits 2 (n % 1000 / 10))
+
+-- bytes to which zeros are added, lane by lane, stay as they are
+zeros_added : (f : ℕ → ℕ → ℕ) → ((a b : ℕ) → f a b ≡ (a + b) % 256) → (xs ys zs : List ℕ) → AllByRecursion IsByte xs
+    → zip2 f (xs ++ ys) (replicate (length xs) 0 ++ zs) ≡ xs ++ zip2 f ys zs
+zeros_added f sum [] ys zs bytes = refl
+zeros_added f sum (x ∷ xs) ys zs bytes =
+    let byte = bytes.0 in
+    let same : f x 0 ≡ x = sum x 0 ∙ omega arith in
+    (λ i. same i ∷ zeros_added f sum xs ys zs bytes.1 i)
+
+-- the stamp one millisecond later: one is added to the last digit of the milliseconds, and zero to the other bytes, and all
+-- sixteen are put in their place
+pub stamp_counted : (f : ℕ → ℕ → ℕ) → ((a b : ℕ) → f a b ≡ (a + b) % 256) → (n : ℕ) (stamp : List ℕ) → stamp ≡ canonical_stamp n → get_or stamp 14 0 ≢ code "9"
+    → put_chunk 0 stamp (zip2 f (take 16 stamp) (replicate 14 0 ++ 1 ∷ 0 ∷ [])) ≡ canonical_stamp (n + 1)
+stamp_counted f sum n stamp is other =
     let before = until_last n in
-    let behind = codes "000) can0 " in
+    let behind = codes "0" in
     let last = digit (n % 10) in
     let long = sym (length-until_last n) in
-    let text : front ≡ before ++ last ∷ behind = is ∙ last_digit n in
-    let there : get_or front 14 0 ≡ last =
+    let text : stamp ≡ before ++ last ∷ behind = is ∙ last_digit n in
+    let there : get_or stamp 14 0 ≡ last =
     ap (λ f. get_or f 14 0) text ∙ ap (λ k. get_or (before ++ last ∷ behind) k 0) long ∙ get_or-append_seam before last behind 0 in
     let below = no_nine n (λ nine. other (there ∙ nine)) in
-    let counted : set front 14 (get_or front 14 0 + 1) ≡ before ++ (last + 1) ∷ behind =
-    (λ i. set (text i) 14 (there i + 1)) ∙ ap (λ k. set (before ++ last ∷ behind) k (last + 1)) long ∙ set-append_seam before last behind (last + 1) in
-    let later : canonical_front (n + 1) ≡ before ++ (last + 1) ∷ behind =
+    let small = digit_below_nine n below in
+    let one_more : f last 1 ≡ last + 1 = sum last 1 ∙ omega (arith, small) in
+    let zero_stays : f (code "0") 0 ≡ code "0" = sum (code "0") 0 in
+    let lanes = zip2 f (take 16 stamp) (replicate 14 0 ++ 1 ∷ 0 ∷ []) in
+    let whole : take 16 stamp ≡ stamp = take_all 16 stamp (omega (arith, ap length is, length-stamp n)) in
+    let added : lanes ≡ before ++ (f last 1 ∷ f (code "0") 0 ∷ []) =
+    ap (λ bytes. zip2 f bytes (replicate 14 0 ++ 1 ∷ 0 ∷ [])) whole ∙ (λ i. zip2 f (text i) (replicate (long i) 0 ++ 1 ∷ 0 ∷ [])) ∙ zeros_added f sum before (last ∷ behind) (1 ∷ 0 ∷ []) (are_bytes n) in
+    let later : canonical_stamp (n + 1) ≡ before ++ (last + 1) ∷ behind =
     last_digit (n + 1) ∙ (λ i. until_last_stays n below i ++ digit_counted n below i ∷ behind) in
-    (subst (λ d. d < code "9") (sym there) (digit_below_nine n below), counted ∙ sym later)
+    let counted : lanes ≡ canonical_stamp (n + 1) = added ∙ (λ i. before ++ (one_more i ∷ zero_stays i ∷ [])) ∙ sym later in
+    let as_long : length stamp ≡ length lanes = ap length is ∙ length-stamp n ∙ sym (ap length counted ∙ length-stamp (n + 1)) in
+    put_chunk_whole stamp lanes as_long ∙ counted

@@ -5,7 +5,7 @@ ghost use Rattle.can_log.specs.Laws.{FrontHasCompletion, CompletableHasNoLineFee
 ghost use Rattle.can_log.specs.Laws.{RefusedPlaceIsOne, RefusedLogHasNoMeanings};
 ghost use Rattle.can_log.specs.Laws.{LogIsLegalOrRefused, LogMeansAtMostOne, LogTellsOne};
 ghost use Rattle.can_log.specs.Laws.{StartStands, ScanReadsOn, FinishReadsEnd, ScanningReadsTheLog};
-ghost use Rattle.can_log.specs.CanonicalLaws.{CanonicalLineMeans, CanonicalTextIsOneLine, CanonicalLineLength};
+ghost use Rattle.can_log.specs.CanonicalLaws.{CanonicalLineMeans, CanonicalTextIsOneLine, CanonicalLineLength, CanonicalLineInParts, CanonicalNameLength};
 ghost use Rattle.can_log.specs.LogLaws.{LogLinesOfParts, LineFeedEndsLine, LogLinesGoOn};
 ghost use Rattle.can_log.specs.LogLaws.{LinesHaveNoLineFeed, LinesMeanAsMany, LinesMeanOneMore, LinesMeanInParts};
 ghost use Rattle.can_log.specs.LogLaws.{LinesAreLog, LineIsLog, LogsJoin};
@@ -115,6 +115,16 @@ pub fn canonical_text_is_one_line()
 /// A canonical line has 46 bytes, or 51 where its identifier is an extended one.
 pub fn canonical_line_length()
     ensures { CanonicalLineLength }
+{}
+
+/// A canonical line is what changes with its time, what its identifier gives, and what its data gives, one after another.
+pub fn canonical_line_in_parts()
+    ensures { CanonicalLineInParts }
+{}
+
+/// The part that its identifier gives has 13 bytes, or 18 where it is an extended one.
+pub fn canonical_name_length()
+    ensures { CanonicalNameLength }
 {}
 
 /// The lines of a log are those that line feeds end, and what follows the last of these.

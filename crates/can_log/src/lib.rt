@@ -31,8 +31,8 @@ mod stamp;
 mod wanted;
 
 pub use canonical::{
-    BASE_LINE, LONGEST_LINE, append_line, base_line, change_line, extended_line, identifier_text,
-    line_bytes, line_length,
+    BASE_LINE, BASE_NAME, EXTENDED_NAME, LINE_END, LONGEST_LINE, append_line, base_line, base_name,
+    change_line, extended_line, extended_name, identifier_text, line_bytes, line_end, line_length,
 };
 pub use digit_lanes::digits_of_bytes;
 pub use frame::{Frame, Id, Kind, Stamped};

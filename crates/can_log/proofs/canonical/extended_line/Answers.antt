@@ -3,4 +3,4 @@ use Rattle.can_log.proofs.CanonicalLines.{line_of_parts}
 use Rattle.can_log.proofs.canonical.extended_line.Goals as goal
 
 pub returns : goal.returns
-returns c = line_of_parts c.args.clock.now (Ext c.args.number) c.args.data.now _ _ c.hexadecimal_digits.ensures c.line_of_digits.ensures
+returns c = line_of_parts c.args.clock.now (Ext c.args.number) c.args.data.now _ _ c.extended_name.ensures c.named_line.ensures
