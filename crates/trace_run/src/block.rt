@@ -1,11 +1,11 @@
 //! Text gathered in a fixed buffer, so that it is written in few pieces.
-ghost use Rattle.std.specs.Prelude.{◌≡◌, ◌+◌, ◌^◌, ◌<◌, ◌≤◌, [], ◌++◌, length, true, false, MatchResult};
+ghost use Rattle.std.specs.Prelude.{◌≡◌, ◌+◌, ◌^◌, ◌<◌, ◌≤◌, [], ◌++◌, length, take, true, false, MatchResult};
 ghost use Rattle.trace_io.specs.Stream.{Took};
 ghost use Rattle.trace_run.specs.proving.Gathering.{HasGathered};
 
 use can_log::LONGEST_LINE;
 use std::marker::Model;
-use std::simd::{u8x4, u8x8};
+use std::simd::{u8x4, u8x8, u8x16};
 use trace_io::{DeviceFault, Target, write_all};
 
 /// The most bytes that are gathered for one write: 64 canonical lines of the longest kind.
@@ -78,6 +78,27 @@ impl Block {
         true
     }
 
+    /// Appends three texts, one after another, where there is room for them all. Answers whether there was. They are copied
+    /// as they are long: where that is known when it is compiled, this needs no call.
+    #[inline(always)]
+    pub(crate) fn take_three(&mut self, first: &[u8], second: &[u8], third: &[u8]) -> bool
+        ensures took { result ≡ true → self.new ≡ self.old ++ (first.now ++ second.now ++ third.now) }
+        ensures full { result ≡ false → self.new ≡ self.old }
+    {
+        let room = BLOCK - self.len;
+        let two = first.len() + second.len();
+        if two > room || third.len() > room - two {
+            return false;
+        }
+        let first_at = self.len;
+        let third_at = first_at + two;
+        lay(&mut self.bytes, first_at, first);
+        lay(&mut self.bytes, first_at + first.len(), second);
+        lay(&mut self.bytes, third_at, third);
+        self.len = third_at + third.len();
+        true
+    }
+
     /// Appends bytes that there is room for.
     #[inline(always)]
     fn append(&mut self, bytes: &[u8])
@@ -133,5 +154,19 @@ fn copy(from: &[u8], to: &mut [u8])
         back.copy_to_slice(&mut to[count - 4..]);
     } else {
         to.copy_from_slice(from);
+    }
+}
+
+/// Lays a text over the bytes from `at` on. Sixteen bytes are laid by one store, whatever memory they are in.
+#[inline(always)]
+fn lay(bytes: &mut [u8], at: usize, text: &[u8])
+    requires { at + length text.now ≤ length bytes.old }
+    ensures laid { take (at + length text.now) bytes.new ≡ take at bytes.old ++ text.now }
+    ensures length { length bytes.new ≡ length bytes.old }
+{
+    if text.len() == 16 {
+        u8x16::from_slice(text).copy_to_slice(&mut bytes[at..]);
+    } else {
+        bytes[at..at + text.len()].copy_from_slice(text);
     }
 }

@@ -1,5 +1,5 @@
 //! The page that text is gathered on, between a machine and the target.
-ghost use Rattle.std.specs.Prelude.{◌≡◌, ◌<◌, [], length, true, false};
+ghost use Rattle.std.specs.Prelude.{◌≡◌, ◌<◌, [], ◌++◌, length, true, false};
 ghost use Rattle.trace_run.specs.proving.Carrying.{Speaks, Settles, SaysNoMore};
 
 use crate::block::{Block, gather};
@@ -53,6 +53,11 @@ impl<'a, W: Target> TextSink for Drain<'a, W> {
     fn put(&mut self, text: &[u8]) {
         put_text(self.target, self.page, text);
     }
+
+    #[inline(always)]
+    fn put_three(&mut self, first: &[u8], second: &[u8], third: &[u8]) {
+        put_three(self.target, self.page, first, second, third);
+    }
 }
 
 /// Puts a text on the page. Most texts find room there: so much stands where a text is said, and what else there is to do
@@ -81,6 +86,40 @@ fn put_anew<W: Target>(target: &mut W, page: &mut Page, text: &[u8])
     if let Err(_fault) = gather(target, &mut page.block, text) {
         page.failed = true;
     }
+}
+
+/// Puts three texts on the page, one after another. Each is laid where it is to lie, so that no bytes are read soon after
+/// they were written in pieces of another length: such a read waits for the writes.
+#[inline(always)]
+fn put_three<W: Target>(target: &mut W, page: &mut Page, first: &[u8], second: &[u8], third: &[u8])
+    ensures { Speaks W.Target page.old.failed page.old.block target.old (first.now ++ second.now ++ third.now)
+        page.new.failed page.new.block target.new }
+{
+    if !page.block.take_three(first, second, third) {
+        put_three_anew(target, page, first, second, third);
+    }
+}
+
+/// Puts three texts on a page that has no room for them all: what is on the page is written first, so that the writes end
+/// where they would if the three were one text. Texts that no page has room for are put one by one.
+#[inline(never)]
+fn put_three_anew<W: Target>(
+    target: &mut W,
+    page: &mut Page,
+    first: &[u8],
+    second: &[u8],
+    third: &[u8],
+)
+    ensures { Speaks W.Target page.old.failed page.old.block target.old (first.now ++ second.now ++ third.now)
+        page.new.failed page.new.block target.new }
+{
+    let _ = settle(target, page);
+    if page.block.take_three(first, second, third) {
+        return;
+    }
+    put_text(target, page, first);
+    put_text(target, page, second);
+    put_text(target, page, third);
 }
 
 /// Writes what is on the page. Answers whether all that was said is written.
