@@ -1,17 +1,10 @@
 -- Frames said as canonical lines, one after another, as far as there is room.
 use Rattle.std.proofs.Common.{◌≡◌, ℕ, ◌<◌, ◌≤◌, List, [], ◌∷◌, ◌++◌, length, refl, ap, sym, subst, ◌∙◌, append-nil, append_assoc}
-use Rattle.can_log.proofs.Promises.{canonical_line_length}
 use Rattle.direction.specs.declared.Dir.{Dir}
-use Rattle.trace_log.specs.Settings.{Settings, id_of}
+use Rattle.trace_log.specs.Settings.{Settings}
 use Rattle.trace_canon.specs.proving.Saying.{SaysFront}
 use Rattle.trace_canon.specs.proving.Writing.{Place, behind, filled_up, line_at, text_from, place_after}
 use Rattle.trace_canon.proofs.CanonicalWriting.{text_step, place_step, text_stop, place_stop, text_full, place_full}
-
--- the lines of a sender's frames are all of one length
-pub same_line_length : (settings : Settings) (n m : ℕ) (sender : Dir) (earlier bytes : List ℕ) → length earlier ≡ 8 → length bytes ≡ 8
-    → length (line_at settings m (sender, bytes)) ≡ length (line_at settings n (sender, earlier))
-same_line_length settings n m sender earlier bytes eight many =
-    canonical_line_length m (id_of settings sender) bytes many ∙ sym (canonical_line_length n (id_of settings sender) earlier eight)
 
 module _ {S : Type 0} (says : S → List ℕ → S → Type 0) (nothing : (s : S) → says s [] s)
     (onward : (s m t : S) (a b : List ℕ) → says s a m → says m b t → says s (a ++ b) t) (settings : Settings) where

@@ -1,6 +1,6 @@
 //! Canonical lines, said as soon as the place of their messages is known.
 ghost use Rattle.std.specs.Prelude.{◌≡◌, ◌≤◌, ℕ, List, [], ◌∷◌, ◌++◌, length, true, false, OnOk, OnErr};
-ghost use Rattle.can_log.specs.Canonical.{canonical_line};
+ghost use Rattle.can_log.specs.Canonical.{canonical_line, canonical_name};
 ghost use Rattle.can_log.specs.declared.frame.Id.TheVariants.{Std, Ext};
 ghost use Rattle.direction.specs.Dir.{Message};
 ghost use Rattle.direction.specs.declared.Dir.{Dir as DirValue};
@@ -16,7 +16,8 @@ ghost use Rattle.trace_canon.specs.proving.Writing.{filled_up, text_from, place_
 use crate::length::has_frames;
 use crate::place::Place;
 use can_log::{
-    BASE_LINE, Id, LONGEST_LINE, LineClock, base_line, change_line, extended_line, line_length,
+    BASE_LINE, BASE_NAME, EXTENDED_NAME, Id, LineClock, base_line, base_name, extended_line,
+    extended_name, line_end, line_length,
 };
 use direction::Dir;
 use isotp_segment::{SINGLE_LIMIT, Segments, single_frame};
@@ -25,8 +26,8 @@ use trace_io::TextSink;
 use trace_log::Config;
 use uds_exchange::{MessageSink, OrderFault, Orderer};
 
-/// Eight bytes that stand for data that is still to come.
-const BLANK: [u8; 8] = [0; 8];
+/// How many bytes a canonical line has beside what its identifier gives.
+const NAMELESS: usize = BASE_LINE - BASE_NAME;
 
 /// No fault: a text sink takes all that is said.
 #[derive(Clone, Copy, Debug)]
@@ -154,59 +155,57 @@ fn say_full_frames<'a, S: TextSink>(
 {
     match config.id_of(sender) {
         Id::Std(number) => {
-            let line = blank_base_line(number);
-            say_stretch(out, config, place, sender, line, frames)
+            let name = lasting_base_name(number);
+            say_stretch(out, config, place, sender, name, frames)
         }
         Id::Ext(number) => {
-            let line = blank_extended_line(number);
-            say_stretch(out, config, place, sender, line, frames)
+            let name = lasting_extended_name(number);
+            say_stretch(out, config, place, sender, name, frames)
         }
     }
 }
 
-/// A line of a base identifier whose time and data are still to come. It is made by a call, so that its parts lie
-/// together in memory.
+/// What a base identifier gives of each of its lines. It is made by a call, so that its parts lie together in memory.
 #[inline(never)]
-fn blank_base_line(number: u16) -> [u8; BASE_LINE]
-    ensures { result ≡ canonical_line 0 (Std number) BLANK }
+fn lasting_base_name(number: u16) -> [u8; BASE_NAME]
+    ensures { result ≡ canonical_name (Std number) }
 {
-    base_line(&LineClock::at(0), number, &BLANK)
+    base_name(number)
 }
 
 /// The same of an extended identifier.
 #[inline(never)]
-fn blank_extended_line(number: u32) -> [u8; LONGEST_LINE]
-    ensures { result ≡ canonical_line 0 (Ext number) BLANK }
+fn lasting_extended_name(number: u32) -> [u8; EXTENDED_NAME]
+    ensures { result ≡ canonical_name (Ext number) }
 {
-    extended_line(&LineClock::at(0), number, &BLANK)
+    extended_name(number)
 }
 
-/// The same by a line of the sender, in which time and data are changed from frame to frame. The frames are moved in
-/// and out, so that none of their parts has to lie in memory meanwhile.
+/// The same by the name of the sender, beside which time and data alone differ from frame to frame. The three are said as they
+/// lie, and each by one store, so that no load waits for several. The frames are moved in and out, so that none of their
+/// parts has to lie in memory meanwhile.
 #[inline(always)]
-fn say_stretch<'a, S: TextSink, const LENGTH: usize>(
+fn say_stretch<'a, S: TextSink, const NAME: usize>(
     out: &mut S,
     config: &Config,
     place: &mut Place,
     sender: Dir,
-    blank: [u8; LENGTH],
+    name: [u8; NAME],
     frames: Segments<'a>,
 ) -> Segments<'a>
-    requires line { blank ≡ canonical_line 0 (id_of config.now sender) BLANK }
-    requires long { BASE_LINE ≤ LENGTH }
+    requires name { name ≡ canonical_name (id_of config.now sender) }
+    requires short { NAME ≤ EXTENDED_NAME }
     ensures says { SaysFront S.says config.now place.old out.old frames.entry place.new out.new result }
     ensures fewer { length result ≤ length frames.entry }
     ensures misses_none { IsFullNext sender result → place.new.room ≡ 0 }
 {
-    let mut line = blank;
     let mut rest = frames;
     'stretch: while let Some(frame) = rest.next_full(sender) {
-        if !place.admits(LENGTH) {
+        if !place.admits(NAMELESS + NAME) {
             return rest;
         }
-        change_line(&mut line, place.clock(), &frame);
-        out.put(&line);
-        place.pass(LENGTH);
+        out.put_three(place.clock().stamp(), &name, &line_end(&frame));
+        place.pass(NAMELESS + NAME);
     }
     rest
 }

@@ -1,17 +1,16 @@
-use Rattle.std.proofs.Common.{arith, ◌≡◌, ◌∷◌, ℕ, ◌≤◌, List, length, true, false, refl, ap, sym, subst, ◌∙◌}
-use Rattle.can_log.specs.Canonical.{canonical_line}
+use Rattle.std.proofs.Common.{arith, ◌≡◌, ◌∷◌, ◌++◌, ℕ, ◌≤◌, List, length, true, false, refl, ap, sym, subst, ◌∙◌}
+use Rattle.can_log.proofs.Promises.{canonical_line_length, canonical_line_in_parts, canonical_name_length}
+use Rattle.can_log.specs.Canonical.{canonical_stamp}
 use Rattle.direction.specs.declared.Dir.{Dir}
 use Rattle.isotp_segment.specs.CanonicalFrames.{IsFullNext}
 use Rattle.trace_log.specs.Settings.{id_of}
-use Rattle.trace_canon.specs.declared.canonical_sink.TheConstants.{BLANK}
 use Rattle.trace_canon.specs.proving.Saying.{SaysFront}
 use Rattle.trace_canon.specs.proving.Writing.{behind, line_at}
-use Rattle.trace_canon.proofs.SaidFrames.{same_line_length, none_said, more_said, line_said, line_stops}
+use Rattle.trace_canon.proofs.SaidFrames.{none_said, more_said, line_said, line_stops}
 use Rattle.trace_canon.proofs.canonical_sink.say_stretch.Goals as goal
 
 pub stretch-init : goal.stretch-init
 stretch-init g c = record {
-  line = (0, BLANK, refl, c.requires.line);
   says = none_said g.S.TextSink.says g.met.S.TextSink.nothing g.met.S.TextSink.onward c.args.config.now c.args.place.now c.args.out.now c.args.frames;
   fewer = omega arith;
 }
@@ -20,8 +19,9 @@ pub returns-then-not-admits-clause-says : goal.returns-then-not-admits-clause-sa
 returns-then-not-admits-clause-says g c =
     let settings = c.args.config.now in
     let frame : Dir × List ℕ = (c.args.sender, c.in-Some.frame) in
-    let long = same_line_length settings 0 c.stretch.place.lines c.args.sender BLANK c.in-Some.frame refl (omega arith) in
-    let blank = ap length c.requires.line in
+    let long = canonical_line_length c.stretch.place.lines (id_of settings c.args.sender) c.in-Some.frame (omega arith) in
+    let named = canonical_name_length (id_of settings c.args.sender) in
+    let name = ap length c.requires.name in
     let none = c.admits.ensures.none c.if-not-admits.true in
     let beyond = none.0 in
     let stops = line_stops g.S.TextSink.says g.met.S.TextSink.nothing g.met.S.TextSink.onward settings c.stretch.place c.stretch.out frame c.next_full.new.self (omega arith) in
@@ -39,24 +39,28 @@ pub stretch-preserved : goal.stretch-preserved
 stretch-preserved g c =
     let settings = c.args.config.now in
     let frame : Dir × List ℕ = (c.args.sender, c.in-Some.frame) in
-    let was = c.stretch.invariant.line in
+    let identifier = id_of settings c.args.sender in
+    let line = line_at settings c.stretch.place.lines frame in
     let admitted = c.admits.ensures.some c.if-not-admits.false in
     let here : c.clock.result.now ≡ c.stretch.place.lines = c.clock.ensures ∙ ap (λ p. p.lines) admitted.1 in
-    let line : c.change_line.new.line ≡ line_at settings c.stretch.place.lines frame =
-    c.change_line.ensures was.0 (id_of settings c.args.sender) was.1 was.2 was.3 ∙ ap (λ n. canonical_line n (id_of settings c.args.sender) c.in-Some.frame) here in
-    let room : length c.change_line.new.line ≤ c.stretch.place.room = (let within = admitted.0 in omega arith) in
-    let one = line_said g.S.TextSink.says g.met.S.TextSink.nothing g.met.S.TextSink.onward settings c.stretch.place c.stretch.out c.put.new.self frame
-    c.next_full.new.self c.change_line.new.line line room c.put.ensures in
-    let passed : c.pass.new.self ≡ behind c.stretch.place c.change_line.new.line =
-    c.pass.ensures c.change_line.new.line (omega arith) ∙ ap (λ p. behind p c.change_line.new.line) admitted.1 in
+    let stamped = c.stamp.ensures ∙ ap canonical_stamp here in
+    let is : c.stamp.result.now ++ c.args.name ++ c.line_end.result ≡ line =
+    (λ i. stamped i ++ c.requires.name i ++ c.line_end.ensures i) ∙ canonical_line_in_parts c.stretch.place.lines identifier c.in-Some.frame in
+    let said = subst (λ text. g.S.TextSink.says c.stretch.out text c.put_three.new.self) is c.put_three.ensures in
+    let long = canonical_line_length c.stretch.place.lines identifier c.in-Some.frame (omega arith) in
+    let named = canonical_name_length identifier in
+    let name = ap length c.requires.name in
+    let room : length line ≤ c.stretch.place.room = (let within = admitted.0 in omega arith) in
+    let one = line_said g.S.TextSink.says g.met.S.TextSink.nothing g.met.S.TextSink.onward settings c.stretch.place c.stretch.out c.put_three.new.self frame
+    c.next_full.new.self line (λ i. line) room said in
+    let passed : c.pass.new.self ≡ behind c.stretch.place line = c.pass.ensures line (omega arith) ∙ ap (λ p. behind p line) admitted.1 in
     let so_far = c.stretch.invariant.fewer in
     let step = ap length c.in-Some.ensures.some in
     record {
-      line = (c.stretch.place.lines, c.in-Some.frame, omega arith, line);
       says = more_said g.S.TextSink.says g.met.S.TextSink.nothing g.met.S.TextSink.onward settings c.args.place.now c.stretch.place c.stretch.place c.pass.new.self
-          c.args.out.now c.stretch.out c.put.new.self c.args.frames c.stretch.rest (frame ∷ c.next_full.new.self) c.next_full.new.self c.stretch.invariant.says
+          c.args.out.now c.stretch.out c.put_three.new.self c.args.frames c.stretch.rest (frame ∷ c.next_full.new.self) c.next_full.new.self c.stretch.invariant.says
           c.in-Some.ensures.some refl
-          (subst (λ p. SaysFront g.S.TextSink.says settings c.stretch.place c.stretch.out (frame ∷ c.next_full.new.self) p c.put.new.self c.next_full.new.self) (sym passed) one);
+          (subst (λ p. SaysFront g.S.TextSink.says settings c.stretch.place c.stretch.out (frame ∷ c.next_full.new.self) p c.put_three.new.self c.next_full.new.self) (sym passed) one);
       fewer = omega arith;
     }
 

@@ -1,12 +1,9 @@
-use Rattle.std.proofs.Common.{◌≡◌, ◌≤◌, ℕ, List, length}
-use Rattle.can_log.specs.Canonical.{canonical_line}
-use Rattle.trace_log.specs.Settings.{id_of}
+use Rattle.std.proofs.Common.{◌≤◌, length}
 use Rattle.trace_canon.specs.proving.Saying.{SaysFront}
 use Rattle.trace_canon.proofs.canonical_sink.say_stretch.Given as goal
 
 abbrev pub invariant-stretch : goal.invariant-stretch
 invariant-stretch g l = record {
-  line : (n : ℕ) × (earlier : List ℕ) × (length earlier ≡ 8) × (l.line ≡ canonical_line n (id_of l.config l.sender) earlier);
   says : SaysFront g.S.TextSink.says l.config l.fn.place l.fn.out l.fn.frames l.place l.out l.rest;
   fewer : length l.rest ≤ length l.fn.frames;
 }
