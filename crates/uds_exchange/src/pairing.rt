@@ -93,7 +93,7 @@ impl<S: ItemStore> PairingIn<S> {
     ghost use Rattle.direction.specs.Dir.{Message};
     ghost use Rattle.uds_exchange.specs.Meaning.{meaning};
     ghost use Rattle.uds_exchange.specs.Numbering.{step_after};
-    ghost use Rattle.uds_exchange.specs.proving.Pairing.{step_in};
+    ghost use Rattle.uds_exchange.specs.proving.Pairing.{step_by_items};
     ghost use Rattle.uds_exchange.specs.proving.Pairing as Spec;
 
     /// A pairing that has taken no message. It takes no memory.
@@ -110,7 +110,7 @@ impl<S: ItemStore> PairingIn<S> {
     /// What becomes of one more message.
     pub fn step(&self, dir: Dir, message: &[u8]) -> Step
         ensures after { (M : List Message) → self.now ≡ meaning M → result ≡ step_after M (dir, message.now) }
-        ensures value { result ≡ step_in self.now (dir, message.now) }
+        ensures value { result ≡ step_by_items self.now (dir, message.now) }
     {
         step_of(self.open_sid, dir, message)
     }
@@ -129,7 +129,7 @@ impl<S: ItemStore> PairingIn<S> {
 
     /// The same of a message of which it is known what becomes of it.
     pub fn take_step(&mut self, step: Step, dir: Dir, message: &[u8]) -> Result<(), AllocError>
-        requires { step ≡ step_in self.old (dir, message.now) }
+        requires { step ≡ step_by_items self.old (dir, message.now) }
         ensures ok { OnOk result ((M : List Message) → self.old ≡ meaning M
             → self.new ≡ meaning (M ++ (dir, message.now) ∷ [])) }
         ensures err { OnErr result (self.new ≡ self.old) }
@@ -150,7 +150,7 @@ impl<S: ItemStore> PairingIn<S> {
     /// Takes one more message, by the items and the open request alone.
     #[inline(always)]
     fn join(&mut self, step: Step, dir: Dir, message: &[u8]) -> Result<(), AllocError>
-        requires { step ≡ step_in self.old (dir, message.now) }
+        requires { step ≡ step_by_items self.old (dir, message.now) }
         ensures ok { OnOk result (self.new ≡ Spec.join self.old (dir, message.now)) }
         ensures err { OnErr result (self.new ≡ self.old) }
         ensures changes { OnErr result (Spec.join self.old (dir, message.now) ≢ self.old) }

@@ -24,8 +24,8 @@ abbrev pub waiting_sid : List ItemValue → Option ℕ
 waiting_sid items = option_map (λ place. sid place.1) (waiting items)
 
 -- what becomes of one more message
-abbrev pub step_in : List ItemValue → Message → Step
-step_in items message = step_of (waiting_sid items) message
+abbrev pub step_by_items : List ItemValue → Message → Step
+step_by_items items message = step_of (waiting_sid items) message
 
 -- what the code keeps beside the items: the first byte of the open request, and the place of its exchange
 pub record IsWaitingAt (items : List ItemValue) (open_sid : Option ℕ) (last : ℕ) : Type 0 where
