@@ -84,7 +84,7 @@ MEASURED = 24_000_000
 RECEPTION_BYTES = 2 * oracle.MESSAGE_LIMIT
 WATCHED_BYTES = 2**21
 HELD = Fraction(17, 22)
-MEANT = Fraction(96, 22)
+MEANT = Fraction(49, 22)
 
 FOUND = Fraction(100, 44)
 
@@ -92,7 +92,7 @@ FOUND = Fraction(100, 44)
 ROWS = Fraction(240, 22)
 
 # Those of what a log means for each byte of its canonical log.
-MEANT_CANONICAL = Fraction(96, 46)
+MEANT_CANONICAL = Fraction(49, 46)
 
 # What explain says of two of the longest messages that lack their last frames, before it counts.
 UNFINISHED = b"""\
@@ -320,7 +320,7 @@ def holds_at_most(cases, words, name, log, most, wanted):
 
 
 def memory(cases):
-    """Held strays take 17 bytes for 22 bytes of a log; what a log means takes 96; receptions take what they announce, once as
+    """Held strays take 17 bytes for 22 bytes of a log; what a log means takes 49; receptions take what they announce, once as
     much has come. Nothing else is held: no piece, unfinished line or text that is written takes memory as a log goes on."""
     meaning = [job for job in commands.over_one_log(cases.program) if commands.holds_meaning(job)]
     for job, begun, line, most in [

@@ -12,6 +12,7 @@ import resource
 import select
 import shutil
 import signal
+import socket
 import subprocess
 import sys
 import tempfile
@@ -423,6 +424,25 @@ def each_fails(cases, refuser, name, words, kind, told, error=errno.EIO):
     cases.report(name, wrong)
 
 
+def whole_lines(cases):
+    """A page that is full is written in whole lines, as many as it has room for: so many bytes as 64 lines of the longest kind. A
+    socket of packets keeps the writes apart."""
+    of_base = canonical_of_unit(bytes(range(256)) * 20)
+    of_extended = of_base.replace(b" 7E0#", b" 18DA10F1#").replace(b" 7E8#", b" 18DAF110#")
+    for words, log, length in [([], of_base, 46), (["--tester", "18DA10F1", "--unit", "18DAF110"], of_extended, 51)]:
+        near, far = socket.socketpair(socket.AF_UNIX, socket.SOCK_SEQPACKET)
+        with near, far:
+            found = subprocess.run([cases.program, "normalise", *words], input=log, stdout=far, check=False)
+            far.close()
+            written = list(iter(lambda: near.recv(1 << 16), b""))
+        most = 64 * 51 // length * length
+        rest = len(log) % most
+        wanted = [most] * (len(log) // most) + ([rest] if rest else [])
+        wrong = [] if found.returncode == DONE and b"".join(written) == log else [f"status {found.returncode}"]
+        wrong += [] if [len(text) for text in written] == wanted else [f"writes of {[len(text) for text in written]} bytes, not of {wanted}"]
+        cases.report(f"the writes of lines of {length} bytes", wrong)
+
+
 def memory(cases):
     """A log of 100 MB through a pipe takes no more memory than a short one."""
     log, _ = long_log(1_000_000)
@@ -444,7 +464,7 @@ def main():
     cases = Cases(os.path.abspath(sys.argv[1]))
     # What a shell starts in the background ignores interrupts, and so would each program that is started here.
     signal.signal(signal.SIGINT, signal.default_int_handler)
-    for test in [logs, default_limit, the_longest_message, examples, places, watched, devices, prompt, messages_one_by_one, watched_one_by_one, device_calls, memory]:
+    for test in [logs, default_limit, the_longest_message, examples, places, watched, devices, prompt, messages_one_by_one, watched_one_by_one, device_calls, whole_lines, memory]:
         test(cases)
     cases.end()
 

@@ -44,7 +44,7 @@ pairing_take     3      4     3
 orderer_take     0      2     0
 normalise        2      2     2
 meaning_of       5      4     5
-list             5      4     5
+list             5      3     5
 explain          2      0     2
 find             2      2     0
 compare         10      8    13
@@ -57,20 +57,20 @@ hold_two        10      8    13
 # beside its canonical log.
 JOB_GROWTHS = """
                                                        normalise  list  watch  explain  messages  find  report  compare  pages
-both-directions                                                3     8      5        3         3     2       3      8+5    8+5
-candump-any                                                    0     5      2        0         0     2       0      5+5    5+5
-candump-fd                                                     1     8      4        1         1     2       1      8+5    9+5
-candump-marks                                                  2     7      4        2         2     2       2      7+5    7+5
+both-directions                                                3     6      5        3         3     2       3      6+5    8+5
+candump-any                                                    0     3      2        0         0     2       0      3+5    5+5
+candump-fd                                                     1     7      4        1         1     2       1      7+5    9+5
+candump-marks                                                  2     6      4        2         2     2       2      6+5    7+5
 extended-identifiers                                           0     2      1        0         0     2       0      2+5    2+5
-extended-identifiers --tester 18DA10F1 --unit 18DAF110           2     7      4        2         2     -       2      7+7    7+7
+extended-identifiers --tester 18DA10F1 --unit 18DAF110           2     6      4        2         2     -       2      6+6    7+7
 first                                                          0     2      1        0         0     0       0      2+5    2+5
-lost-frame                                                     2     6      4        2         2     2       2      6+5    7+5
-pending                                                        4     8      6        2         2     2       2      8+5   12+5
+lost-frame                                                     2     5      4        2         2     2       2      5+5    7+5
+pending                                                        4     6      6        2         2     2       2      6+5   12+5
 refused                                                        0     2      1        0         0     0       0      2+0    2+0
-single-frames                                                  0     6      2        0         0     2       0      6+5    8+5
+single-frames                                                  0     3      2        0         0     2       0      3+5    8+5
 vin-fd-crlf                                                    0     3      1        0         0     2       0      3+5    3+5
 vin                                                            2     5      3        2         2     2       2      5+5    5+5
-stray                                                          2     4      3        0         0     2       0      4+5    4+5
+stray                                                          2     3      3        0         0     2       0      3+5    4+5
 both                                                           2     5      3        2         2     0       2      5+5    5+5
 long                                                           0     -      -        0         0     0       0        -      -
 """

@@ -18,7 +18,7 @@ pub const BASE_LINE: usize = 46;
 /// How many bytes the line of an extended identifier has, which is the longest: its number has five digits more.
 pub const LONGEST_LINE: usize = 51;
 
-/// How many bytes of it stand between its stamp and its data: [`base_name`] makes them.
+/// How many bytes the line of a base identifier has between its stamp and its data: [`base_name`] makes them.
 pub const BASE_NAME: usize = 13;
 
 /// The same of an extended identifier, for [`extended_name`].

@@ -70,7 +70,7 @@ impl LineClock {
 
     /// The bytes that tell the time: the first sixteen of the line.
     #[inline(always)]
-    pub fn stamp(&self) -> &[u8; STAMP]
+    pub fn stamp(&self) -> &[u8; 16]
         ensures { result.now ≡ canonical_stamp self.now }
     {
         &self.stamp

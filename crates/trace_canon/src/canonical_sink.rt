@@ -182,8 +182,8 @@ fn lasting_extended_name(number: u32) -> [u8; EXTENDED_NAME]
 }
 
 /// The same by the name of the sender, beside which time and data alone differ from frame to frame. The three are said as they
-/// lie, and each by one store, so that no load waits for several. The frames are moved in and out, so that none of their
-/// parts has to lie in memory meanwhile.
+/// lie: none is put together first, so that no load waits for several stores. The frames are moved in and out, so that none of
+/// their parts has to lie in memory meanwhile.
 #[inline(always)]
 fn say_stretch<'a, S: TextSink, const NAME: usize>(
     out: &mut S,

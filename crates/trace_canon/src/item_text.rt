@@ -24,7 +24,7 @@ pub trait ItemText {
         ensures { S.says out.old (text self.now items.now) out.new };
 }
 
-/// A text of items that lie in a store: one is said of a meaning, too, whoever says it of that alone.
+/// A text of items that lie in a store. Each [`ItemText`] is one, of a [`Meaning`].
 pub trait StoredItemText<I: ItemStore> {
     ghost use Rattle.std.specs.Prelude.{List, ℕ};
     ghost use Rattle.uds_exchange.specs.Meaning.{ItemValue};

@@ -78,8 +78,8 @@ impl Block {
         true
     }
 
-    /// Appends three texts, one after another, where there is room for them all. Answers whether there was. They are copied
-    /// as they are long: where that is known when it is compiled, this needs no call.
+    /// Appends three texts, one after another, where there is room for them all. Answers whether there was. Where their lengths
+    /// are known when it is compiled, each is copied without a call.
     #[inline(always)]
     pub(crate) fn take_three(&mut self, first: &[u8], second: &[u8], third: &[u8]) -> bool
         ensures took { result ≡ true → self.new ≡ self.old ++ (first.now ++ second.now ++ third.now) }

@@ -13,7 +13,8 @@ use Rattle.uds_exchange.specs.Meaning.{ItemValue, exchange, stray, stray_of, is_
 use Rattle.uds_exchange.specs.Order.{has_exchange, open_request_in, open_request, held_in, held, rejection_of}
 use Rattle.uds_exchange.specs.Orderer.{OrdererValue, stands_after}
 use Rattle.uds_exchange.specs.proving.Deciding.{step_in, items_by, keep_for, keep, Refuses}
-use Rattle.uds_exchange.specs.proving.Pairing.{one_later, waiting, join_by, join}
+use Rattle.uds_exchange.specs.WaitingExchange.{one_later, waiting}
+use Rattle.uds_exchange.specs.proving.Pairing.{join_by, join}
 use Rattle.uds_exchange.specs.proving.Steps.{advance_for}
 use Rattle.uds_exchange.specs.declared.step.Step.{Step}
 use Rattle.uds_exchange.specs.declared.step.Step.TheVariants as step

@@ -9,7 +9,8 @@ use Rattle.direction.specs.Dir.{Message}
 use Rattle.direction.specs.declared.Dir.{Dir}
 use Rattle.direction.specs.declared.Dir.TheVariants.{Tester, Unit}
 use Rattle.uds_exchange.specs.Meaning.{ItemValue, exchange, stray, is_tester_request, is_answer_to, is_pending_reply_to, meaning, flattened}
-use Rattle.uds_exchange.specs.proving.Pairing.{one_later, waiting, join_by, join}
+use Rattle.uds_exchange.specs.WaitingExchange.{one_later, waiting}
+use Rattle.uds_exchange.specs.proving.Pairing.{join_by, join}
 use Rattle.uds_exchange.specs.Order.{has_exchange, held_in, held, early}
 use Rattle.uds_exchange.proofs.Waiting.{has-more, has-last, has-set, waiting-at, one_later-some}
 use Rattle.uds_exchange.proofs.Replies.{from-tester, from-unit}

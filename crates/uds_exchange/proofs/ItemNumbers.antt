@@ -6,7 +6,8 @@ use Rattle.direction.specs.Dir.{Message}
 use Rattle.uds_exchange.specs.Meaning.{ItemValue, exchange, stray, stray_of, is_tester_request, is_answer_to, is_pending_reply_to, meaning, flattened}
 use Rattle.uds_exchange.specs.Order.{has_exchange, held, held_in, early, open_request, open_request_in}
 use Rattle.uds_exchange.specs.Orderer.{OrdererValue, stands_after}
-use Rattle.uds_exchange.specs.proving.Pairing.{waiting, waiting_sid, join_by, join}
+use Rattle.uds_exchange.specs.WaitingExchange.{waiting, waiting_sid}
+use Rattle.uds_exchange.specs.proving.Pairing.{join_by, join}
 use Rattle.uds_exchange.specs.OneMessage.{step_of}
 use Rattle.uds_exchange.specs.proving.Steps.{advance_for}
 use Rattle.uds_exchange.specs.Numbering.{step_after, number_by, number_after, items_with, CountsItems, advanced, number_in}

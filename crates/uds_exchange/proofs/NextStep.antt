@@ -6,7 +6,8 @@ use Rattle.uds_message.specs.Message.{sid}
 use Rattle.uds_exchange.specs.Meaning.{ItemValue, is_tester_request, is_answer_to, is_pending_reply_to, meaning, flattened}
 use Rattle.uds_exchange.specs.Order.{held_in, held, early}
 use Rattle.uds_exchange.specs.Orderer.{OrdererValue, stands_after, IsDue, PutsDue, IsHeld, StopsDue}
-use Rattle.uds_exchange.specs.proving.Pairing.{waiting, waiting_sid, join_by, join}
+use Rattle.uds_exchange.specs.WaitingExchange.{waiting, waiting_sid}
+use Rattle.uds_exchange.specs.proving.Pairing.{join_by, join}
 use Rattle.uds_exchange.specs.OneMessage.{step_of}
 use Rattle.uds_exchange.specs.proving.Steps.{due_for, due, advance_for, advance, Stops}
 use Rattle.uds_exchange.specs.Sink.{AfterOk, AfterErr, Puts}

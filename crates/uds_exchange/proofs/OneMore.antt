@@ -7,7 +7,8 @@ use Rattle.direction.specs.Dir.{Message}
 use Rattle.uds_exchange.specs.Meaning.{is_tester_request, is_answer_to, is_pending_reply_to, before_requests, Part, part, parts, answer, strays_in}
 use Rattle.uds_exchange.specs.Meaning.{ItemValue, exchange, stray, stray_of, items_of, meaning}
 use Rattle.uds_exchange.specs.Order.{has_exchange}
-use Rattle.uds_exchange.specs.proving.Pairing.{one_later, waiting, join_by, join}
+use Rattle.uds_exchange.specs.WaitingExchange.{one_later, waiting}
+use Rattle.uds_exchange.specs.proving.Pairing.{join_by, join}
 
 -- the parts, and what comes before them, with one more message
 abbrev pub grown : List Part → Message → List Part

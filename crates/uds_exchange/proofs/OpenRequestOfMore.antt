@@ -6,7 +6,8 @@ use Rattle.direction.specs.declared.Dir.TheVariants as dir
 use Rattle.uds_message.specs.Message.{is_request}
 use Rattle.uds_exchange.specs.Laws.{open_with, OpenRequestGoesOn, removed_with, RemovedGoOn}
 use Rattle.uds_exchange.specs.Meaning.{ItemValue, exchange, is_tester_request, is_answer_to, is_pending_reply_to, meaning, removed_messages}
-use Rattle.uds_exchange.specs.proving.Pairing.{waiting, join_by, join}
+use Rattle.uds_exchange.specs.WaitingExchange.{waiting}
+use Rattle.uds_exchange.specs.proving.Pairing.{join_by, join}
 use Rattle.uds_exchange.specs.Roles.{as_request, those_removed}
 use Rattle.uds_exchange.proofs.MustWait.{open-request-waits}
 use Rattle.uds_exchange.proofs.OneMore.{meaning-append}

@@ -8,7 +8,8 @@ use Rattle.direction.specs.Dir.{Message}
 use Rattle.direction.specs.declared.Dir.TheVariants.{Tester}
 use Rattle.uds_exchange.specs.Meaning.{ItemValue, is_tester_request, is_answer_to, is_pending_reply_to, meaning}
 use Rattle.uds_exchange.specs.Roles.{IsOpenBehind}
-use Rattle.uds_exchange.specs.proving.Pairing.{waiting, join_by, join}
+use Rattle.uds_exchange.specs.WaitingExchange.{waiting}
+use Rattle.uds_exchange.specs.proving.Pairing.{join_by, join}
 use Rattle.uds_exchange.proofs.Bools.{any-append}
 use Rattle.uds_exchange.proofs.Waiting.{waiting-stray, waiting-request, waiting-answered}
 use Rattle.uds_exchange.proofs.OneMore.{meaning-append}

@@ -12,7 +12,8 @@ use Rattle.uds_exchange.specs.Meaning.{is_tester_request, is_answer_to, is_pendi
 use Rattle.uds_exchange.specs.Meaning.{ItemValue, exchange, stray, stray_of, items_of, meaning, flattened}
 use Rattle.uds_exchange.specs.Roles.{behind_last_request, placed}
 use Rattle.uds_exchange.specs.Order.{has_exchange}
-use Rattle.uds_exchange.specs.proving.Pairing.{waiting, join_by}
+use Rattle.uds_exchange.specs.WaitingExchange.{waiting}
+use Rattle.uds_exchange.specs.proving.Pairing.{join_by}
 use Rattle.uds_exchange.proofs.Waiting.{one_later-some}
 use Rattle.uds_exchange.proofs.OneMore.{meaning-append}
 use Rattle.uds_exchange.proofs.Parts.{Quiet, quiet-before_requests, quiet-strays_in, Good, good-parts}

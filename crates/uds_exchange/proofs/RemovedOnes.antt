@@ -8,7 +8,7 @@ use Rattle.uds_exchange.specs.Meaning.{is_tester_request, is_answer_to, is_pendi
 use Rattle.uds_exchange.specs.Meaning.{removed, removed_of, removed_messages, ItemValue, exchange, stray_of, items_of, meaning}
 use Rattle.uds_exchange.specs.Roles.{those_removed}
 use Rattle.uds_exchange.specs.Order.{has_exchange}
-use Rattle.uds_exchange.specs.proving.Pairing.{waiting}
+use Rattle.uds_exchange.specs.WaitingExchange.{waiting}
 use Rattle.uds_exchange.proofs.Waiting.{request_of, same-request}
 use Rattle.uds_exchange.proofs.OneMore.{grown, grows, no-strays, waiting-cons, has-behind, has-items, one-part}
 use Rattle.uds_exchange.proofs.RolesFound.{role_by, role_behind}

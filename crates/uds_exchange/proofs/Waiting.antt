@@ -7,7 +7,7 @@ use Rattle.direction.specs.declared.Dir.{Dir}
 use Rattle.uds_message.specs.Message.{sid}
 use Rattle.uds_exchange.specs.Meaning.{ItemValue, exchange, stray}
 use Rattle.uds_exchange.specs.Order.{has_exchange}
-use Rattle.uds_exchange.specs.proving.Pairing.{one_later, waiting}
+use Rattle.uds_exchange.specs.WaitingExchange.{one_later, waiting}
 
 pub has-more : (its : List ItemValue) (p : ItemValue) → has_exchange (p ∷ []) ≡ false → has_exchange (its ++ p ∷ []) ≡ has_exchange its
 has-more [] p h = h

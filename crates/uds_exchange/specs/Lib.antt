@@ -10,5 +10,6 @@ pub mod ItemSink
 pub mod Decider
 pub mod Laws
 pub mod OneMessage
+pub mod WaitingExchange
 pub mod Numbering
 pub mod proving

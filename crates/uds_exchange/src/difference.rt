@@ -1,6 +1,6 @@
 //! Where two meanings differ first.
 
-ghost use Rattle.std.specs.Prelude.{◌≡◌, ◌↔◌, IsTrue, option_map, slice_get};
+ghost use Rattle.std.specs.Prelude.{◌≡◌, ◌↔◌, IsTrue, option_map};
 ghost use Rattle.uds_exchange.specs.Difference.{IsFirstDifference};
 ghost use Rattle.uds_exchange.specs.ItemSeen.{lent_value};
 

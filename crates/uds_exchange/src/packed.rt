@@ -1,10 +1,10 @@
 //! The items of a meaning, with their bytes end to end in one buffer.
 
-ghost use Rattle.std.specs.Prelude.{◌≡◌, ◌+◌, ◌<◌, ◌≤◌, ◌++◌, List, ℕ, IfOk, OnOk, OnErr, Some, None, length, option_map, vec_len, vec_capacity};
+ghost use Rattle.std.specs.Prelude.{◌≡◌, ◌+◌, ◌<◌, ◌≤◌, ◌++◌, List, ℕ, IfOk, OnOk, OnErr, Some, None, length, option_map};
 ghost use Rattle.uds_exchange.specs.ItemSeen.{lent_value};
 ghost use Rattle.uds_exchange.specs.proving.Packing.{bytes_at, item_at, IsInside, IsInsideIfAny, IsWithin};
 ghost use Rattle.uds_exchange.specs.declared.packed.Span.{Span as SpanValue};
-ghost use Rattle.uds_exchange.specs.declared.packed.Place.TheVariants.{Exchange};
+ghost use Rattle.uds_exchange.specs.declared.packed.PackedItem.TheVariants.{Exchange};
 
 use crate::item::LentItem;
 use crate::item_store::ItemStore;
@@ -16,13 +16,13 @@ use std::marker::Model;
 /// end, so that memory is not asked for with each message: [`Meaning`](crate::Meaning) is for whoever takes items apart.
 #[derive(Debug, Drop)]
 pub struct PackedMeaning {
-    places: Vec<Place>,
+    items: Vec<PackedItem>,
     bytes: Vec<u8>,
 }
 
 /// An item, by where its bytes lie.
 #[derive(Clone, Copy, Debug)]
-enum Place {
+enum PackedItem {
     Exchange { request: Span, answer: Option<Span> },
     Stray { dir: Dir, bytes: Span },
 }
@@ -41,9 +41,9 @@ impl Model for PackedMeaning {
 
     ghost Value = { List ItemValue };
 
-    ghost view = { λ m. items_at m.bytes.items m.places.items };
+    ghost view = { λ m. items_at m.bytes.items m.items.items };
 
-    ghost invariant = { λ m. AreWithin (length m.bytes.items) m.places.items };
+    ghost invariant = { λ m. AreWithin (length m.bytes.items) m.items.items };
 }
 
 impl ItemStore for PackedMeaning {
@@ -51,27 +51,27 @@ impl ItemStore for PackedMeaning {
 
     fn empty(alloc: Global) -> PackedMeaning {
         PackedMeaning {
-            places: Vec::new(alloc),
+            items: Vec::new(alloc),
             bytes: Vec::new(alloc),
         }
     }
 
     fn count(&self) -> usize {
-        self.places.len()
+        self.items.len()
     }
 
     #[inline(always)]
     fn lent(&self, i: usize) -> Option<LentItem<'_>> {
-        match self.places.get(i) {
-            Some(place) => Some(item_at(self.bytes.as_slice(), *place)),
+        match self.items.get(i) {
+            Some(item) => Some(lent_at(self.bytes.as_slice(), *item)),
             None => None,
         }
     }
 
     fn push_request(&mut self, request: &[u8]) -> Result<(), AllocError> {
-        self.places.reserve(1)?;
+        self.items.reserve(1)?;
         let request = append(&mut self.bytes, request)?;
-        self.places.push_reserved(Place::Exchange {
+        self.items.push_reserved(PackedItem::Exchange {
             request,
             answer: None,
         });
@@ -79,15 +79,15 @@ impl ItemStore for PackedMeaning {
     }
 
     fn push_stray(&mut self, dir: Dir, bytes: &[u8]) -> Result<(), AllocError> {
-        self.places.reserve(1)?;
+        self.items.reserve(1)?;
         let bytes = append(&mut self.bytes, bytes)?;
-        self.places.push_reserved(Place::Stray { dir, bytes });
+        self.items.push_reserved(PackedItem::Stray { dir, bytes });
         Ok(())
     }
 
     fn answer(&mut self, at: usize, answer: &[u8]) -> Result<(), AllocError> {
         let answer = append(&mut self.bytes, answer)?;
-        answer_with(&mut self.places[at], answer);
+        answer_with(&mut self.items[at], answer);
         Ok(())
     }
 }
@@ -106,27 +106,27 @@ fn append(bytes: &mut Vec<u8>, message: &[u8]) -> Result<Span, AllocError>
 }
 
 /// Gives an exchange its answer; a stray stays as it is.
-fn answer_with(place: &mut Place, answer: Span)
-    ensures answered { (request : SpanValue) → place.old ≡ Exchange request None → place.new ≡ Exchange request (Some answer) }
-    ensures inside { (room : ℕ) → IsInside room answer → IsWithin room place.old → IsWithin room place.new }
+fn answer_with(item: &mut PackedItem, answer: Span)
+    ensures answered { (request : SpanValue) → item.old ≡ Exchange request None → item.new ≡ Exchange request (Some answer) }
+    ensures inside { (room : ℕ) → IsInside room answer → IsWithin room item.old → IsWithin room item.new }
 {
-    if let Place::Exchange { answer: kept, .. } = place {
+    if let PackedItem::Exchange { answer: kept, .. } = item {
         *kept = Some(answer);
     }
 }
 
-/// The item of a place, lent from the bytes among which it lies.
+/// The item, lent from the bytes among which its own lie.
 #[inline(always)]
-fn item_at(bytes: &[u8], place: Place) -> LentItem<'_>
-    requires { IsWithin (length bytes.now) place }
-    ensures { lent_value result ≡ item_at bytes.now place }
+fn lent_at(bytes: &[u8], item: PackedItem) -> LentItem<'_>
+    requires { IsWithin (length bytes.now) item }
+    ensures { lent_value result ≡ item_at bytes.now item }
 {
-    match place {
-        Place::Exchange { request, answer } => LentItem::Exchange {
+    match item {
+        PackedItem::Exchange { request, answer } => LentItem::Exchange {
             request: bytes_at(bytes, request),
             answer: answer_at(bytes, answer),
         },
-        Place::Stray { dir, bytes: span } => LentItem::Stray {
+        PackedItem::Stray { dir, bytes: span } => LentItem::Stray {
             dir,
             bytes: bytes_at(bytes, span),
         },

@@ -1,6 +1,6 @@
 //! Requests with their answers, as the messages come.
 
-ghost use Rattle.std.specs.Prelude.{◌≡◌, ◌≢◌, ◌++◌, ◌∷◌, [], List, OnOk, OnErr, IfOk};
+ghost use Rattle.std.specs.Prelude.{◌≡◌, ◌≢◌, ◌++◌, ◌∷◌, [], List, OnOk, OnErr};
 ghost use Rattle.direction.specs.Dir.{Message};
 ghost use Rattle.uds_exchange.specs.Meaning.{meaning};
 ghost use Rattle.uds_exchange.specs.Numbering.{step_after};
@@ -93,7 +93,7 @@ impl<S: ItemStore> PairingIn<S> {
     ghost use Rattle.direction.specs.Dir.{Message};
     ghost use Rattle.uds_exchange.specs.Meaning.{meaning};
     ghost use Rattle.uds_exchange.specs.Numbering.{step_after};
-    ghost use Rattle.uds_exchange.specs.proving.Pairing.{step_by_items};
+    ghost use Rattle.uds_exchange.specs.WaitingExchange.{step_by_items};
     ghost use Rattle.uds_exchange.specs.proving.Pairing as Spec;
 
     /// A pairing that has taken no message. It takes no memory.

@@ -46,13 +46,13 @@ pub pages_pair : (style left_name right_name : List ℕ) (strict : Bool) (limit 
 pages_pair style left_name right_name strict limit settings one other (Ok held) holds = (style, held, holds, refl, refl)
 pages_pair style left_name right_name strict limit settings one other (Err why) holds = (style, holds, refl)
 
--- a fault of the answer is one of what the answer leaves out
 -- what is answered of two logs whose items lie in stores
 pub compares_seen : (limit : ℕ) (settings : Settings) (one other : List ℕ) (answer : Result (ComparedIn (List ItemValue)) CompareFault)
     → ComparesIn (λ items. items) limit settings one other answer → Compares limit settings one other (answer_seen answer)
 compares_seen limit settings one other (Ok compared) is = is
 compares_seen limit settings one other (Err fault) is = is
 
+-- a fault of the answer is one of what the answer leaves out
 pub fault_seen : (answer : Result (ComparedIn (List ItemValue)) CompareFault) (why : CompareFault) → answer_of (answer_seen answer) ≡ Err why → answer ≡ Err why
 fault_seen (Ok compared) why is = cc
 fault_seen (Err fault) why is = cc

@@ -3,29 +3,7 @@ use Rattle.std.specs.Prelude.{◌≡◌, ℕ, suc, List, [], ◌∷◌, ◌++◌
 use Rattle.direction.specs.Dir.{Message}
 use Rattle.uds_message.specs.Message.{sid}
 use Rattle.uds_exchange.specs.Meaning.{ItemValue, exchange, stray, stray_of, is_tester_request, is_answer_to, is_pending_reply_to}
-use Rattle.uds_exchange.specs.OneMessage.{step_of}
-use Rattle.uds_exchange.specs.Order.{has_exchange}
-use Rattle.uds_exchange.specs.declared.step.Step.{Step}
-
--- a place and a request, with one more item before it
-abbrev pub one_later : Option (ℕ × List ℕ) → Option (ℕ × List ℕ)
-one_later None = None
-one_later (Some place) = Some (suc place.0, place.1)
-
--- the place and the request of the last exchange, where it has no answer yet
-abbrev pub waiting : List ItemValue → Option (ℕ × List ℕ)
-waiting [] = None
-waiting (stray d bytes ∷ later) = one_later (waiting later)
-waiting (exchange request (Some reply) ∷ later) = one_later (waiting later)
-waiting (exchange request None ∷ later) = if has_exchange later then one_later (waiting later) else Some (0, request)
-
--- the first byte of its request
-abbrev pub waiting_sid : List ItemValue → Option ℕ
-waiting_sid items = option_map (λ place. sid place.1) (waiting items)
-
--- what becomes of one more message
-abbrev pub step_by_items : List ItemValue → Message → Step
-step_by_items items message = step_of (waiting_sid items) message
+use Rattle.uds_exchange.specs.WaitingExchange.{waiting, waiting_sid}
 
 -- what the code keeps beside the items: the first byte of the open request, and the place of its exchange
 pub record IsWaitingAt (items : List ItemValue) (open_sid : Option ℕ) (last : ℕ) : Type 0 where

@@ -1,5 +1,5 @@
 use Rattle.std.proofs.Common.{◌∙◌, ◌++◌, ◌∷◌, [], ap, None}
-use Rattle.uds_exchange.specs.declared.packed.Place.TheVariants as place
+use Rattle.uds_exchange.specs.declared.packed.PackedItem.TheVariants as place
 use Rattle.uds_exchange.specs.Meaning.{exchange}
 use Rattle.uds_exchange.proofs.EndToEnd.{behind, bytes_at-behind, fits-behind, pushed-within, pushed-items}
 use Rattle.uds_exchange.proofs.packed.PackedMeaningItemStore.push_request.Goals as goal
@@ -8,7 +8,7 @@ pub invariant_of-self-2 : goal.invariant_of-self-2
 invariant_of-self-2 c =
     let bytes = c.self.inside.bytes.items in
     let more = c.args.request.now in
-    let places = c.self.inside.places.items in
+    let places = c.self.inside.items.items in
     let all = c.push_reserved.ensures.items ∙ ap (λ l. l ++ place.Exchange c.in_ok-request.request None ∷ []) c.reserve.ensures.items
     ∙ ap (λ s. places ++ place.Exchange s None ∷ []) c.in_ok-request.ensures.place in
     pushed-within bytes more c.append.new.bytes.items c.in_ok-request.ensures.ok places c.self.invariant
@@ -18,7 +18,7 @@ pub returns-clause-ok : goal.returns-clause-ok
 returns-clause-ok c =
     let bytes = c.self.inside.bytes.items in
     let more = c.args.request.now in
-    let places = c.self.inside.places.items in
+    let places = c.self.inside.items.items in
     let all = c.push_reserved.ensures.items ∙ ap (λ l. l ++ place.Exchange c.in_ok-request.request None ∷ []) c.reserve.ensures.items
     ∙ ap (λ s. places ++ place.Exchange s None ∷ []) c.in_ok-request.ensures.place in
     pushed-items bytes more c.append.new.bytes.items c.in_ok-request.ensures.ok places c.self.invariant

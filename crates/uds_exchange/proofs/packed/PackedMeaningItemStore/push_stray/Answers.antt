@@ -1,5 +1,5 @@
 use Rattle.std.proofs.Common.{◌∙◌, ◌++◌, ◌∷◌, [], ap}
-use Rattle.uds_exchange.specs.declared.packed.Place.TheVariants as place
+use Rattle.uds_exchange.specs.declared.packed.PackedItem.TheVariants as place
 use Rattle.uds_exchange.specs.Meaning.{stray}
 use Rattle.uds_exchange.proofs.EndToEnd.{behind, bytes_at-behind, fits-behind, pushed-within, pushed-items}
 use Rattle.uds_exchange.proofs.packed.PackedMeaningItemStore.push_stray.Goals as goal
@@ -8,7 +8,7 @@ pub invariant_of-self-2 : goal.invariant_of-self-2
 invariant_of-self-2 c =
     let bytes = c.self.inside.bytes.items in
     let more = c.args.bytes.now in
-    let places = c.self.inside.places.items in
+    let places = c.self.inside.items.items in
     let all = c.push_reserved.ensures.items ∙ ap (λ l. l ++ place.Stray c.args.dir c.in_ok-bytes.bytes ∷ []) c.reserve.ensures.items
     ∙ ap (λ s. places ++ place.Stray c.args.dir s ∷ []) c.in_ok-bytes.ensures.place in
     pushed-within bytes more c.append.new.bytes.items c.in_ok-bytes.ensures.ok places c.self.invariant
@@ -18,7 +18,7 @@ pub returns-clause-ok : goal.returns-clause-ok
 returns-clause-ok c =
     let bytes = c.self.inside.bytes.items in
     let more = c.args.bytes.now in
-    let places = c.self.inside.places.items in
+    let places = c.self.inside.items.items in
     let dir = c.args.dir in
     let all = c.push_reserved.ensures.items ∙ ap (λ l. l ++ place.Stray dir c.in_ok-bytes.bytes ∷ []) c.reserve.ensures.items
     ∙ ap (λ s. places ++ place.Stray dir s ∷ []) c.in_ok-bytes.ensures.place in

@@ -3,7 +3,8 @@ use Rattle.std.specs.Prelude.{slice_set}
 use Rattle.direction.specs.Dir.{Message}
 use Rattle.uds_exchange.specs.Meaning.{ItemValue, exchange}
 use Rattle.uds_exchange.specs.OneMessage.{step_of}
-use Rattle.uds_exchange.specs.proving.Pairing.{IsWaitingAt, waiting_sid}
+use Rattle.uds_exchange.specs.WaitingExchange.{waiting_sid}
+use Rattle.uds_exchange.specs.proving.Pairing.{IsWaitingAt}
 use Rattle.uds_exchange.proofs.Kept.{kept-request, kept-stray, kept-answer}
 use Rattle.uds_exchange.proofs.Kept.{request-sid, joins-answer, changes-answer, answered-at, answered-below, answered-exchange}
 use Rattle.uds_exchange.proofs.Variants.{on_err}

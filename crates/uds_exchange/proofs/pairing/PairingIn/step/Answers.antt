@@ -1,7 +1,7 @@
 use Rattle.std.proofs.Common.{ap, sym, ◌∙◌}
 use Rattle.uds_exchange.specs.OneMessage.{step_of}
 use Rattle.uds_exchange.specs.Orderer.{OrdererValue}
-use Rattle.uds_exchange.specs.proving.Pairing.{waiting_sid}
+use Rattle.uds_exchange.specs.WaitingExchange.{waiting_sid}
 use Rattle.uds_exchange.proofs.NextStep.{stands-is}
 use Rattle.uds_exchange.proofs.pairing.PairingIn.step.Goals as goal
 
