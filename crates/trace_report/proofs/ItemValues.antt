@@ -11,7 +11,8 @@ use Rattle.uds_exchange.specs.OneMessage.{step_if_open, step_of}
 use Rattle.uds_exchange.specs.Order.{has_exchange}
 use Rattle.uds_exchange.specs.declared.step.Step.{Step}
 use Rattle.uds_exchange.specs.declared.step.Step.TheVariants as becomes
-use Rattle.uds_exchange.specs.proving.Pairing.{join, join_by, one_later, waiting, waiting_sid}
+use Rattle.uds_exchange.specs.WaitingExchange.{one_later, waiting, waiting_sid}
+use Rattle.uds_exchange.specs.proving.Pairing.{join, join_by}
 use Rattle.uds_message.specs.Message.{is_keep_alive, is_negative_response, sid}
 use Rattle.trace_report.specs.Events.{role_of_step}
 use Rattle.trace_report.specs.Items.{RowMessage, answer_in, item_value, items_in}
