@@ -9,7 +9,7 @@ loop-preserved c =
     let one_more : n + 1 ≡ c.loop.counter + 1 - vec_len old = omega (arith, c.len-counter.ensures, c.loop.auto.counter) in
     record {
       items = c.push_reserved.ensures.items ∙ ap (λ l. l ++ 0 ∷ []) c.loop.invariant.items ∙ append_assoc old.items (replicate n 0) (0 ∷ [])
-      ∙ ap (λ l. old.items ++ l) (replicate-append-replicate n 1 0 ∙ ap (λ k. replicate k 0) one_more);
+          ∙ ap (λ l. old.items ++ l) (replicate-append-replicate n 1 0 ∙ ap (λ k. replicate k 0) one_more);
       length = search rules;
       capacity = search rules;
     }
