@@ -93,7 +93,9 @@ impl Machine for Explainer {
     fn refused<S: TextSink>(self, _summary: &Summary, _why: Fault, _out: &mut S) {}
 }
 
-/// Says the lines of a frame, which is in this line and was sent by this side.
+/// Says the lines of a frame, which is in this line and was sent by this side. Laid in line, where it is known of most frames
+/// that they have none: a call would put what the frame did in memory by bytes, and load it by words.
+#[inline(always)]
 fn say_event<S: TextSink>(notation: Notation, line: u64, dir: Dir, event: Event<'_>, out: &mut S)
     ensures { S.says out.old (event_text notation line dir (seen_event event.entry)) out.new }
 {
@@ -102,6 +104,7 @@ fn say_event<S: TextSink>(notation: Notation, line: u64, dir: Dir, event: Event<
 }
 
 /// Says the line of the reception that a frame ended, if it ended one.
+#[inline(always)]
 fn say_ended<S: TextSink>(notation: Notation, line: u64, ended: Option<Ended>, out: &mut S)
     ensures { S.says out.old (ended_text notation line ended) out.new }
 {
@@ -111,6 +114,7 @@ fn say_ended<S: TextSink>(notation: Notation, line: u64, ended: Option<Ended>, o
 }
 
 /// Says the line of a frame, if it was dropped.
+#[inline(always)]
 fn say_dropped<S: TextSink>(
     notation: Notation,
     line: u64,
