@@ -139,6 +139,8 @@ impl<'a, S: TextSink> ItemSink for LineSink<'a, S> {
     ghost takes = { λ s item t. (t.out.ghost_name ≡ s.out.ghost_name) × (t.number.ghost_name ≡ s.number.ghost_name) × (t.style ≡ s.style)
         × (t.number.now ≡ one_more s.number.now) × S.says s.out.now (item_line s.style s.number.now item) t.out.now };
 
+    // In line: a call would put the item in memory by words, and load it by wider ones.
+    #[inline(always)]
     fn put(&mut self, item: LentItem<'_>) {
         say_item(*self.number, self.style, item, self.out);
         *self.number = self.number.saturating_add(1);
