@@ -32,7 +32,9 @@ impl Numbers {
     }
 
     /// Takes one more message. Answers the number of its item, from 1, and what becomes of the message. A reply that is left
-    /// out has the number of the exchange that it puts off.
+    /// out has the number of the exchange that it puts off. Laid in line: a call would answer by bytes in memory, which are then
+    /// loaded by words.
+    #[inline(always)]
     pub fn take(&mut self, dir: Dir, message: &[u8]) -> (u64, Step)
         ensures counts { (M : List Message) → length M < 2 ^ 62 → CountsItems M self.old → CountsItems (M ++ (dir, message.now) ∷ []) self.new }
         ensures number { (M : List Message) → length M < 2 ^ 62 → CountsItems M self.old → result.0 ≡ number_after M (dir, message.now) }
