@@ -1,12 +1,12 @@
 -- Bytes said by eights: a blank and two digits for each.
-use Rattle.std.proofs.Common.{◌≡◌, ◌+◌, ◌-◌, ◌*◌, ℕ, List, [], ◌∷◌, ◌++◌, length, take, drop, get_or, map, refl, ap, sym, ◌∙◌, arith, append_assoc}
+use Rattle.std.proofs.Common.{◌≡◌, ◌*◌, ℕ, List, [], ◌∷◌, ◌++◌, length, take, drop, get_or, map, refl, ap, sym, ◌∙◌, arith}
 use Rattle.std.specs.Prelude.{replicate}
 use Rattle.std.specs.List.{flat_map}
 use Rattle.std.proofs.Math.Seq.{take-append_seam}
 use Rattle.std.proofs.lemmas.Grind.{flat_map-append}
-use Rattle.std.proofs.lemmas.List.{take-append-drop, length-take-le, take_rest}
+use Rattle.std.proofs.lemmas.List.{take-append-drop}
 use Rattle.can_log.specs.Digits.{digits, hexadecimal}
-use Rattle.trace_report.specs.Words.{byte_behind, bytes_apart, bytes_behind, letter_text, letters}
+use Rattle.trace_report.specs.Words.{byte_behind, bytes_behind, letter_text, letters}
 
 -- the digits of eight bytes with blanks between, taken from among them and sixteen blanks behind them
 pub spaced_digits : (a b c d e f g h : ℕ) (written : List ℕ) → written ≡ flat_map (hexadecimal 2) (a ∷ b ∷ c ∷ d ∷ e ∷ f ∷ g ∷ h ∷ [])
@@ -30,35 +30,11 @@ front_behind bytes all n front long =
     let all_of : 3 * n ≡ length (bytes_behind bytes) = omega (arith, long, long_behind bytes) in
     rw (all_of, text) (take-append_seam (bytes_behind bytes) (bytes_behind (drop n all)))
 
--- without its first blank, a text of bytes has a blank between each two
-pub apart : (bytes : List ℕ) → drop 1 (bytes_behind bytes) ≡ bytes_apart bytes
-unfolding digits
-apart [] = refl
-apart (b ∷ rest) = refl
-
 -- the text of what is left begins with that of its first eight bytes
 pub eight_more : (rest eight behind text : List ℕ) → eight ≡ take 8 rest → behind ≡ drop 8 rest → text ≡ bytes_behind eight
     → bytes_behind rest ≡ text ++ bytes_behind behind
 eight_more rest eight behind text one two is =
     rw (is, one, two) (ap bytes_behind (sym (take-append-drop 8 rest)) ∙ flat_map-append byte_behind (take 8 rest) (drop 8 rest))
-
--- and without its first blank
-pub apart_more : (rest eight behind text : List ℕ) → eight ≡ take 8 rest → behind ≡ drop 8 rest → text ≡ bytes_behind eight
-    → bytes_apart rest ≡ drop 1 text ++ bytes_behind behind
-unfolding digits
-apart_more [] eight behind text one two is = rw (is, one, two) refl
-apart_more (b ∷ rest) eight behind text one two is =
-    rw (is, one, two)
-    (ap (λ (t : List ℕ). hexadecimal 2 b ++ t) (ap bytes_behind (sym (take-append-drop 7 rest)) ∙ flat_map-append byte_behind (take 7 rest) (drop 7 rest))
-    ∙ sym (append_assoc (hexadecimal 2 b) (bytes_behind (take 7 rest)) (bytes_behind (drop 7 rest))))
-
--- where there are eight
-pub whole_apart : (rest eight behind text : List ℕ) → eight ≡ take 8 rest → length behind + 8 ≡ length rest → text ≡ bytes_behind eight
-    → take 23 (drop 1 text) ≡ drop 1 text
-whole_apart rest eight behind text one long is =
-    let eight_long : length eight ≡ 8 = ap length one ∙ length-take-le 8 rest (omega (arith, long)) in
-    let all : 23 ≡ length text - 1 = omega (arith, eight_long, ap length is, long_behind eight) in
-    ap (λ n. take n (drop 1 text)) all ∙ take_rest text 1
 
 -- the letters of what is left begin with those of its first eight bytes
 pub eight_letters_more : (rest eight behind text : List ℕ) → eight ≡ take 8 rest → behind ≡ drop 8 rest → text ≡ letters eight

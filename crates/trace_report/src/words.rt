@@ -1,5 +1,5 @@
 //! The words of a report: times, and the bytes of messages.
-ghost use Rattle.std.specs.Prelude.{◌≡◌, ◌<◌, length, take};
+ghost use Rattle.std.specs.Prelude.{◌≡◌, ◌<◌, ◌≤◌, length, take};
 ghost use Rattle.std.specs.Fmt.{decimal};
 ghost use Rattle.trace_canon.specs.MessageLines.{stamp_text};
 ghost use Rattle.trace_report.specs.Words.{brief_cut, brief_data, bytes_apart, bytes_behind, cut_data, data_text, folded_data, grey_letters, letter_text, letters, letters_text, milliseconds_between, milliseconds_text, seconds_between, short_data, sign_text};
@@ -8,7 +8,7 @@ ghost use Rattle.trace_report.specs.Words as Spec;
 use can_log::digits_of_bytes;
 use std::simd::prelude::*;
 use trace_io::TextSink;
-use trace_text::say::{say_number, say_six_decimals, say_text, say_three_decimals};
+use trace_text::say::{say_byte, say_number, say_six_decimals, say_text, say_three_decimals};
 
 /// Up to so many bytes, all of a message are shown.
 pub(crate) const MOST_SHOWN: usize = 64;
@@ -67,22 +67,9 @@ pub(crate) fn say_milliseconds_between<S: TextSink>(start: u64, end: u64, out: &
 fn say_bytes_apart<S: TextSink>(bytes: &[u8], out: &mut S)
     ensures { S.says out.old (bytes_apart bytes.now) out.new }
 {
-    match bytes.split_first_chunk::<8>() {
-        Some((eight, rest)) => {
-            out.put(&eight_behind(eight)[1..]);
-            say_bytes_behind(rest, out);
-        }
-        None => say_few_apart(bytes, out),
-    }
-}
-
-/// Says them of fewer than eight bytes.
-fn say_few_apart<S: TextSink>(bytes: &[u8], out: &mut S)
-    requires { length bytes.now < 8 }
-    ensures { S.says out.old (bytes_apart bytes.now) out.new }
-{
-    if bytes.len() > 0 {
-        out.put(&eight_behind(&padded(bytes))[1..3 * bytes.len()]);
+    if let Some((first, rest)) = bytes.split_first() {
+        say_byte(out, *first);
+        say_bytes_behind(rest, out);
     }
 }
 
@@ -98,26 +85,35 @@ pub(crate) fn say_bytes_behind<S: TextSink>(bytes: &[u8], out: &mut S)
     say_few_behind(rest, out);
 }
 
-/// Says them of fewer than eight bytes.
+/// Says them of fewer than eight bytes: they stand in front of eight, whose digits are made at once.
 fn say_few_behind<S: TextSink>(bytes: &[u8], out: &mut S)
     requires { length bytes.now < 8 }
     ensures { S.says out.old (bytes_behind bytes.now) out.new }
 {
-    out.put(&eight_behind(&padded(bytes))[..3 * bytes.len()]);
+    match *bytes {
+        [] => {}
+        [a] => say_front_behind(&[a, 0, 0, 0, 0, 0, 0, 0], 1, out),
+        [a, b] => say_front_behind(&[a, b, 0, 0, 0, 0, 0, 0], 2, out),
+        [a, b, c] => say_front_behind(&[a, b, c, 0, 0, 0, 0, 0], 3, out),
+        [a, b, c, d] => say_front_behind(&[a, b, c, d, 0, 0, 0, 0], 4, out),
+        [a, b, c, d, e] => say_front_behind(&[a, b, c, d, e, 0, 0, 0], 5, out),
+        [a, b, c, d, e, f] => say_front_behind(&[a, b, c, d, e, f, 0, 0], 6, out),
+        [a, b, c, d, e, f, g] => say_front_behind(&[a, b, c, d, e, f, g, 0], 7, out),
+        _ => {}
+    }
 }
 
-/// Fewer than eight bytes, with others behind them that are not said.
+/// Says them of so many of eight bytes.
 #[inline(always)]
-fn padded(bytes: &[u8]) -> [u8; 8]
-    requires { length bytes.now < 8 }
-    ensures { take (length bytes.now) result ≡ bytes.now }
+fn say_front_behind<S: TextSink>(eight: &[u8; 8], count: usize, out: &mut S)
+    requires { count ≤ 8 }
+    ensures { S.says out.old (bytes_behind (take count eight.now)) out.new }
 {
-    let mut eight = [0; 8];
-    eight[..bytes.len()].copy_from_slice(bytes);
-    eight
+    out.put(&eight_behind(eight)[..3 * count]);
 }
 
-/// A blank and two digits for each of eight bytes.
+/// A blank and two digits for each of eight bytes, stored by two vectors: where each byte is stored by itself, every wider load
+/// of them waits.
 #[inline(always)]
 fn eight_behind(bytes: &[u8; 8]) -> [u8; 24]
     ensures { result ≡ bytes_behind bytes.now }
@@ -129,11 +125,10 @@ fn eight_behind(bytes: &[u8; 8]) -> [u8; 24]
         [16, 0, 1, 16, 2, 3, 16, 4, 5, 16, 6, 7, 16, 8, 9, 16],
     );
     let back: u8x8 = digits.shuffle(blanks, [10, 11, 16, 12, 13, 16, 14, 15]);
-    let [a, b, c, d, e, f, g, h, i, j, k, l, m, n, o, p] = front.to_array();
-    let [q, r, s, t, u, v, w, x] = back.to_array();
-    [
-        a, b, c, d, e, f, g, h, i, j, k, l, m, n, o, p, q, r, s, t, u, v, w, x,
-    ]
+    let mut text = [0; 24];
+    front.copy_to_slice(&mut text[..16]);
+    back.copy_to_slice(&mut text[16..]);
+    text
 }
 
 /// Whether a byte is a digit or a letter of ASCII.
