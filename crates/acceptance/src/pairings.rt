@@ -200,7 +200,7 @@ pub(crate) fn items_text(alloc: Global, meaning: &Meaning) -> Result<String, All
     Ok(text)
 }
 
-fn push_item(alloc: Global, text: &mut String, item: &Item) -> Result<(), AllocError> {
+fn push_item(alloc: Global, text: &mut String, item: Item<'_>) -> Result<(), AllocError> {
     match item {
         Item::Exchange { request, answer } => {
             text.push_str("exchange ")?;
@@ -215,7 +215,7 @@ fn push_item(alloc: Global, text: &mut String, item: &Item) -> Result<(), AllocE
         }
         Item::Stray { dir, bytes } => {
             text.push_str("stray ")?;
-            push_message(alloc, text, *dir, bytes)
+            push_message(alloc, text, dir, bytes)
         }
     }
 }
@@ -430,7 +430,7 @@ fn in_order(alloc: Global, meaning: &Meaning) -> Result<String, AllocError> {
     Ok(text)
 }
 
-fn push_in_order(alloc: Global, text: &mut String, item: &Item) -> Result<(), AllocError> {
+fn push_in_order(alloc: Global, text: &mut String, item: Item<'_>) -> Result<(), AllocError> {
     match item {
         Item::Exchange { request, answer } => {
             push_message(alloc, text, Tester, request)?;
@@ -439,6 +439,6 @@ fn push_in_order(alloc: Global, text: &mut String, item: &Item) -> Result<(), Al
             }
             Ok(())
         }
-        Item::Stray { dir, bytes } => push_message(alloc, text, *dir, bytes),
+        Item::Stray { dir, bytes } => push_message(alloc, text, dir, bytes),
     }
 }

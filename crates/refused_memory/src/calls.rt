@@ -501,7 +501,7 @@ fn assert_means(meaning: &Meaning, session: Session) -> Result<(), Fail> {
                     sink.put(Dir::Unit, answer)?;
                 }
             }
-            Item::Stray { dir, bytes } => sink.put(*dir, bytes)?,
+            Item::Stray { dir, bytes } => sink.put(dir, bytes)?,
         }
     }
     sink.end()

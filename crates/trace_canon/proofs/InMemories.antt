@@ -4,11 +4,11 @@ use Rattle.std.specs.Io.KnownBytes.{IsAtEnd}
 use Rattle.std.specs.Prelude.{MatchResult, IfErr}
 use Rattle.isotp_receive.specs.Trace.{Entry}
 use Rattle.uds_exchange.specs.Meaning.{ItemValue}
-use Rattle.trace_canon.specs.declared.comparing.ComparedIn.{ComparedIn}
+use Rattle.trace_canon.specs.declared.comparing.Compared.{Compared}
 use Rattle.trace_canon.specs.declared.comparing.Comparison.{Comparison}
 use Rattle.trace_log.specs.declared.fault.CompareFault.{CompareFault}
 use Rattle.trace_log.specs.declared.fault.CompareFault.TheVariants.{Left, Right}
-use Rattle.trace_canon.specs.Compared.{ComparesIn, compared_in, fault_in}
+use Rattle.trace_canon.specs.Compared.{Compares, fault_in}
 use Rattle.trace_io.specs.Counted.{BytesInMemory}
 use Rattle.trace_io.specs.Stream.{Agrees, Gave, Took}
 use Rattle.trace_io.proofs.Promises.{agrees_with_told}
@@ -159,17 +159,16 @@ meaning_in_memory limit settings log (Err fault) failed written refused is =
     (is, record { no_read = λ read. reads_well failed (ap Err read); no_write = written; memory = λ why. refused (ap Err why) })
 
 -- what is answered of two logs in memory: how they compare, or the fault
-abbrev pub comparison_in : {I : Type 0} → Result (ComparedIn I) CompareFault → Result Comparison CompareFault
+abbrev pub comparison_in : Result Compared CompareFault → Result Comparison CompareFault
 comparison_in (Ok compared) = Ok compared.comparison
 comparison_in (Err fault) = Err fault
 
-pub comparison_in_memory : {I : Type 0} → (items_in : I → List ItemValue) (limit : ℕ) (settings : Settings) (one other : List ℕ) (answer : Result (ComparedIn I) CompareFault)
+pub comparison_in_memory : (limit : ℕ) (settings : Settings) (one other : List ℕ) (answer : Result Compared CompareFault)
     → FailedIf (Left Read) answer 0 0 → FailedIf (Right Read) answer 0 0 → IfErr answer (λ fault. fault_in fault ≢ Write)
     → (answer ≡ Err (Left Memory) → NeedsMemoryToCollect limit settings one) → (answer ≡ Err (Right Memory) → NeedsMemoryToCollect limit settings other)
-    → ComparesIn items_in limit settings one other answer → ComparesInMemory limit settings one other (comparison_in answer)
-comparison_in_memory items_in limit settings one other (Ok compared) left right written left_refused right_refused is =
-    (compared_in items_in compared, is, refl)
-comparison_in_memory items_in limit settings one other (Err (Left fault)) left right written left_refused right_refused is =
+    → Compares limit settings one other answer → ComparesInMemory limit settings one other (comparison_in answer)
+comparison_in_memory limit settings one other (Ok compared) left right written left_refused right_refused is = (compared, is, refl)
+comparison_in_memory limit settings one other (Err (Left fault)) left right written left_refused right_refused is =
     (is, record { no_read = λ read. reads_well left (ap (λ f. Err (Left f)) read); no_write = written; memory = λ why. left_refused (ap (λ f. Err (Left f)) why) })
-comparison_in_memory items_in limit settings one other (Err (Right fault)) left right written left_refused right_refused is =
+comparison_in_memory limit settings one other (Err (Right fault)) left right written left_refused right_refused is =
     (is, record { no_read = λ read. reads_well right (ap (λ f. Err (Right f)) read); no_write = written; memory = λ why. right_refused (ap (λ f. Err (Right f)) why) })

@@ -17,20 +17,20 @@ use Rattle.uds_exchange.specs.Meaning.{ItemValue}
 pub silent_tells_nothing : TellsNothing silent_script
 silent_tells_nothing = record { of_frames = λ T e. refl; at_the_end = λ T summary. refl; of_refusals = λ T summary why. refl }
 
-pub session_is_the_same : {I : Type 0} → (items_in : I → List ItemValue) → SessionIsTheSame items_in
-session_is_the_same items_in settings log given (Ok collected) old new (all, meanings, read, answer, wrote) = record {
+pub session_is_the_same : SessionIsTheSame
+session_is_the_same settings log given (Ok session) old new (all, meanings, read, answer, wrote) = record {
   accepted = record { text = canonical_log_of_lines MESSAGE_LIMIT settings meanings; summary = summary_of MESSAGE_LIMIT settings log meanings };
   outcome = (meanings, read, record { spelled = refl; fits = leb-true _ _ answer.2; counted = refl });
   means = record { meanings = meanings; means = read.means; found = answer.0 };
   counted = sym answer.1;
 }
-session_is_the_same items_in settings log given (Err OutputLimit) old new (all, meanings, read, answer, wrote) = (meanings, read, leb-false _ _ answer)
-session_is_the_same items_in settings log given (Err (BadLine line column)) old new (why, wrote) = why
-session_is_the_same items_in settings log given (Err (Oversize line announced)) old new (why, wrote) = why
-session_is_the_same items_in settings log given (Err LogLimit) old new (why, wrote) = why
-session_is_the_same items_in settings log given (Err Read) old new wrote = tt
-session_is_the_same items_in settings log given (Err Write) old new wrote = tt
-session_is_the_same items_in settings log given (Err Memory) old new wrote = tt
+session_is_the_same settings log given (Err OutputLimit) old new (all, meanings, read, answer, wrote) = (meanings, read, leb-false _ _ answer)
+session_is_the_same settings log given (Err (BadLine line column)) old new (why, wrote) = why
+session_is_the_same settings log given (Err (Oversize line announced)) old new (why, wrote) = why
+session_is_the_same settings log given (Err LogLimit) old new (why, wrote) = why
+session_is_the_same settings log given (Err Read) old new wrote = tt
+session_is_the_same settings log given (Err Write) old new wrote = tt
+session_is_the_same settings log given (Err Memory) old new wrote = tt
 
 -- the meaning of a session that is accepted
 pub meaning_given : (settings : Settings) (log : List ℕ) (items : List ItemValue) (summary : Summary) → IsAcceptedWith MESSAGE_LIMIT settings log items summary

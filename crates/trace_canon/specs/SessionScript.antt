@@ -7,11 +7,11 @@ use Rattle.direction.specs.Dir.{Message}
 use Rattle.uds_exchange.specs.Meaning.{ItemValue, meaning, flattened}
 use Rattle.uds_exchange.specs.declared.step.Step.{Step}
 use Rattle.uds_exchange.specs.declared.step.Step.TheVariants as step
-use Rattle.trace_canon.specs.Sessions.{GivesCollected}
+use Rattle.trace_canon.specs.Sessions.{GivesSession}
 use Rattle.trace_log.specs.CanonicalLog.{canonical_log}
 use Rattle.trace_log.specs.Settings.{Settings}
 use Rattle.trace_run.specs.Told.{Script, Answering, AnswersTold}
-use Rattle.trace_canon.specs.declared.collector.Collected.{Collected}
+use Rattle.trace_canon.specs.declared.collector.Session.{Session}
 use Rattle.trace_log.specs.declared.fault.Fault.{Fault}
 use Rattle.trace_run.specs.declared.machine.Stop.TheVariants.{OutputLimit}
 use Rattle.trace_canon.specs.proving.Measuring.{HaveLengths}
@@ -46,14 +46,13 @@ pub record Collects (settings : Settings) (M : List Message) (items : List ItemV
 abbrev pub silent_script : Script
 silent_script = record { strict = true; word = λ T e. []; last = λ T summary. []; refused = λ T summary why. [] }
 
--- it answers the meaning, in a store whose items are these, and the counts, where its canonical log is within the limit
-abbrev pub answers_collected : {I : Type 0} → (I → List ItemValue) → Settings → Answering (Collected I)
-answers_collected items_in settings T summary (Ok collected) =
-    (items_in collected.items ≡ items_of T) × (collected.summary ≡ summary) × (fits_within settings (items_of T) ≡ true)
-answers_collected items_in settings T summary (Err OutputLimit) = fits_within settings (items_of T) ≡ false
+-- it answers the meaning and the counts, where its canonical log is within the limit
+abbrev pub answers_session : Settings → Answering Session
+answers_session settings T summary (Ok session) = (session.meaning ≡ items_of T) × (session.summary ≡ summary) × (fits_within settings (items_of T) ≡ true)
+answers_session settings T summary (Err OutputLimit) = fits_within settings (items_of T) ≡ false
 
 -- so what is answered gives the session, and nothing is written
-abbrev pub SessionIsTheSame : {I : Type 0} → (I → List ItemValue) → Type 0
-SessionIsTheSame {I = I} items_in = (settings : Settings) (log : List ℕ) (given : ℕ) (result : Result (Collected I) Fault) (old new : List ℕ)
-    → AnswersTold silent_script (answers_collected items_in settings) MESSAGE_LIMIT settings log given result old new
-    → GivesCollected items_in MESSAGE_LIMIT settings log result
+abbrev pub SessionIsTheSame : Type 0
+SessionIsTheSame = (settings : Settings) (log : List ℕ) (given : ℕ) (result : Result Session Fault) (old new : List ℕ)
+    → AnswersTold silent_script (answers_session settings) MESSAGE_LIMIT settings log given result old new
+    → GivesSession MESSAGE_LIMIT settings log result

@@ -1,6 +1,5 @@
 -- What is answered of a log by a call that writes nothing.
 use Rattle.std.specs.Prelude.{◌≡◌, ℕ, List, Result, Ok, Err}
-use Rattle.trace_canon.specs.declared.collector.Collected.{Collected}
 use Rattle.trace_canon.specs.declared.collector.Session.{Session}
 use Rattle.trace_log.specs.declared.fault.Fault.{Fault}
 use Rattle.uds_exchange.specs.Meaning.{ItemValue}
@@ -21,11 +20,6 @@ pub record IsAcceptedWith (limit : ℕ) (settings : Settings) (log : List ℕ) (
 abbrev pub GivesSession : ℕ → Settings → List ℕ → Result Session Fault → Type 0
 GivesSession limit settings log (Ok session) = IsAcceptedWith limit settings log session.meaning session.summary
 GivesSession limit settings log (Err fault) = TellsOutcome limit settings log fault
-
--- the same where the meaning lies in a store, whose items are these
-abbrev pub GivesCollected : {I : Type 0} → (I → List ItemValue) → ℕ → Settings → List ℕ → Result (Collected I) Fault → Type 0
-GivesCollected items_in limit settings log (Ok collected) = IsAcceptedWith limit settings log (items_in collected.items) collected.summary
-GivesCollected items_in limit settings log (Err fault) = TellsOutcome limit settings log fault
 
 -- the same of the meaning alone
 abbrev pub GivesMeaning : ℕ → Settings → List ℕ → Result (List ItemValue) Fault → Type 0

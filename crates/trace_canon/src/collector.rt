@@ -1,4 +1,4 @@
-//! What a log means, with its counts: a machine that says nothing, and collects the items in a store. `list` and `compare`
+//! What a log means, with its counts: a machine that says nothing, and collects the items. `list` and `compare`
 //! stand on it.
 //!
 //! It lets go of all that it holds once the canonical log is certainly longer than the limit, and takes no more: what
@@ -7,7 +7,7 @@ ghost use Rattle.std.specs.Prelude.{◌≡◌, ◌≢◌, ◌-◌, ℕ, List, []
 ghost use Rattle.isotp_receive.specs.declared.TheConstants.{MESSAGE_LIMIT};
 ghost use Rattle.trace_canon.specs.SessionScript.{Collects, has_place};
 ghost use Rattle.trace_log.specs.Answers.{ReadsWhile};
-ghost use Rattle.trace_canon.specs.Sessions.{GivesCollected, GivesMeaning};
+ghost use Rattle.trace_canon.specs.Sessions.{GivesMeaning, GivesSession};
 ghost use Rattle.trace_log.specs.Devices.{ReadFrom};
 ghost use Rattle.trace_canon.specs.Keeping.{NeedsMemoryToCollect};
 ghost use Rattle.trace_log.specs.Refusal.{IsNotRefusedWithin};
@@ -21,7 +21,7 @@ use std::alloc::{AllocError, Global};
 use trace_io::{Source, TextSink};
 use trace_log::{Config, Fault, Summary};
 use trace_run::{Machine, Nowhere, Stop, run};
-use uds_exchange::{ItemStore, Meaning, PairingIn, Step};
+use uds_exchange::{Meaning, Pairing, Step};
 
 /// What an accepted log means, and what was counted in it.
 #[derive(Debug, Drop)]
@@ -55,42 +55,23 @@ pub fn meaning_of<R: Source>(
     ensures read { ReadFrom R.Source Fault.Read config.now.max_bytes result reader.old reader.new }
     ensures never_write { IfErr result (λ fault. fault ≢ Fault.Write) }
 {
-    match collect(alloc, config, reader) {
-        Ok(collected) => {
-            let Collected { items, .. } = collected;
-            Ok(items)
+    match session_of(alloc, config, reader) {
+        Ok(session) => {
+            let Session { meaning, .. } = session;
+            Ok(meaning)
         }
         Err(fault) => Err(fault),
     }
 }
 
-/// The session whose items are collected.
-pub(crate) fn session_of(collected: Collected<Meaning>) -> Session
-    ensures { result ≡ record { meaning = collected.items; summary = collected.summary } }
-{
-    let Collected { items, summary } = collected;
-    Session {
-        meaning: items,
-        summary,
-    }
-}
-
-/// What an accepted log means, in a store of items, and what was counted in it.
-#[derive(Debug, Drop)]
-pub struct Collected<I> {
-    pub items: I,
-    pub summary: Summary,
-}
-
-/// Reads a log, and gives its session with the items in a store. A store whose messages lie end to end
-/// ([`PackedMeaning`](uds_exchange::PackedMeaning)) is for whoever looks at them where they lie.
-pub fn collect<I: ItemStore + Drop, R: Source>(
+/// The same, with what was counted in the log.
+pub(crate) fn session_of<R: Source>(
     alloc: Global,
     config: &Config,
     reader: &mut R,
-) -> Result<Collected<I>, Fault>
+) -> Result<Session, Fault>
     requires reader { AreLowCounts (R.reads reader.old) (length (R.given reader.old)) (R.failures reader.old) }
-    ensures answer { (log : List ℕ) → Agrees (R.given reader.old) (R.given reader.new) (R.is_over reader.new) log → GivesCollected I.items MESSAGE_LIMIT config.now log result }
+    ensures answer { (log : List ℕ) → Agrees (R.given reader.old) (R.given reader.new) (R.is_over reader.new) log → GivesSession MESSAGE_LIMIT config.now log result }
     ensures near { (log : List ℕ) → Agrees (R.given reader.old) (R.given reader.new) (R.is_over reader.new) log
         → ReadsWhile (IsNotRefusedWithin MESSAGE_LIMIT config.now log) (length (R.given reader.new) - length (R.given reader.old)) (R.failures reader.old) (R.failures reader.new) }
     ensures memory { (log : List ℕ) → Agrees (R.given reader.old) (R.given reader.new) (R.is_over reader.new) log
@@ -98,9 +79,9 @@ pub fn collect<I: ItemStore + Drop, R: Source>(
     ensures read { ReadFrom R.Source Fault.Read config.now.max_bytes result reader.old reader.new }
     ensures never_write { IfErr result (λ fault. fault ≢ Fault.Write) }
 {
-    let machine = Collector::<I> {
+    let machine = Collector {
         alloc,
-        pairing: PairingIn::new(alloc),
+        pairing: Pairing::new(alloc),
         length: 0,
         config: *config,
     };
@@ -109,16 +90,16 @@ pub fn collect<I: ItemStore + Drop, R: Source>(
 
 /// Pairs the messages, and answers with all items at the end.
 #[derive(Drop)]
-pub(crate) struct Collector<I: ItemStore> {
+pub(crate) struct Collector {
     alloc: Global,
     /// What the messages so far mean, or nothing where its canonical log is too long.
-    pub pairing: PairingIn<I>,
+    pub pairing: Pairing,
     /// How long that canonical log is, or a number above the limit.
     pub length: u64,
     pub config: Config,
 }
 
-impl<I: ItemStore + Drop> Collector<I> {
+impl Collector {
     ghost use Rattle.std.specs.Prelude.{◌≡◌, ◌+◌, ℕ, List, [], ◌∷◌, ◌++◌, OnOk};
     ghost use Rattle.direction.specs.Dir.{Message};
     ghost use Rattle.uds_exchange.specs.Meaning.{meaning, flattened};
@@ -139,7 +120,7 @@ impl<I: ItemStore + Drop> Collector<I> {
         let step = self.pairing.step(dir, message);
         let length = self.length.saturating_add(self.added(step, dir, message));
         if length > limit {
-            self.pairing = PairingIn::new(self.alloc);
+            self.pairing = Pairing::new(self.alloc);
             self.length = length;
             return Ok(());
         }
@@ -175,19 +156,19 @@ fn has_place(step: Step) -> bool
     }
 }
 
-impl<I: ItemStore + Drop> Machine for Collector<I> {
+impl Machine for Collector {
     ghost use Rattle.isotp_receive.specs.declared.TheConstants.{MESSAGE_LIMIT};
     ghost use Rattle.isotp_receive.specs.Verdict.{messages};
     ghost use Rattle.trace_canon.specs.Keeping.{CompletesMessage};
-    ghost use Rattle.trace_canon.specs.SessionScript.{Collects, answers_collected, silent_script};
+    ghost use Rattle.trace_canon.specs.SessionScript.{Collects, answers_session, silent_script};
 
-    type Answer = Collected<I>;
+    type Answer = Session;
 
     ghost stands = { λ start T now. Collects start.config (messages MESSAGE_LIMIT T) now.pairing now.length now.config };
 
     ghost script = { λ start. silent_script };
 
-    ghost answers = { λ start. answers_collected I.items start.config };
+    ghost answers = { λ start. answers_session start.config };
 
     ghost needs = { λ start. CompletesMessage MESSAGE_LIMIT };
 
@@ -219,7 +200,7 @@ impl<I: ItemStore + Drop> Machine for Collector<I> {
         _pair: &Pair,
         summary: &Summary,
         _out: &mut S,
-    ) -> Result<Collected<I>, Stop> {
+    ) -> Result<Session, Stop> {
         let Collector {
             pairing,
             length,
@@ -229,8 +210,8 @@ impl<I: ItemStore + Drop> Machine for Collector<I> {
         if length > config.max_bytes() {
             return Err(Stop::OutputLimit);
         }
-        Ok(Collected {
-            items: pairing.finish(),
+        Ok(Session {
+            meaning: pairing.finish(),
             summary: *summary,
         })
     }

@@ -5,13 +5,13 @@ ghost use Rattle.isotp_receive.specs.declared.TheConstants.{MESSAGE_LIMIT};
 ghost use Rattle.trace_canon.specs.InMemory.{ComparesInMemory, IsCanonicalLogWith, IsExplanationWith, IsListWith, IsPlacingWith, IsRefused, IsText, IsUnread, MeansInMemory, NeedsMemoryForCanonicalLog, NeedsMemoryForExplanation, NeedsMemoryForList, NeedsMemoryForPlacing};
 
 use crate::collector::meaning_of;
-use crate::comparing::{Comparison, compare_in};
+use crate::comparing::{Comparison, compare};
 use crate::counted;
 use std::alloc::Global;
 use trace_io::Bytes;
 use trace_log::{CompareFault, Config, Fault};
 use trace_text::{ItemStyle, Notation};
-use uds_exchange::{Meaning, PackedMeaning};
+use uds_exchange::Meaning;
 
 /// The canonical log of a log, as [`normalise`](crate::normalise) writes it.
 pub fn canonical_log(alloc: Global, config: &Config, log: &[u8]) -> Result<Vec<u8>, Fault>
@@ -72,12 +72,7 @@ pub fn comparison(
 ) -> Result<Comparison, CompareFault>
     ensures { ComparesInMemory MESSAGE_LIMIT config.now left.now right.now result }
 {
-    match compare_in::<PackedMeaning, Bytes<'_>, Bytes<'_>>(
-        alloc,
-        config,
-        &mut Bytes::new(left),
-        &mut Bytes::new(right),
-    ) {
+    match compare(alloc, config, &mut Bytes::new(left), &mut Bytes::new(right)) {
         Ok(compared) => Ok(compared.comparison),
         Err(fault) => Err(fault),
     }

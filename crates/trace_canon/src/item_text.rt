@@ -4,12 +4,12 @@ ghost use Rattle.isotp_receive.specs.declared.TheConstants.{MESSAGE_LIMIT};
 ghost use Rattle.trace_canon.specs.Listed.{RanOverItems};
 ghost use Rattle.trace_io.specs.Counted.{IsLowCount, AreLowCounts};
 
-use crate::collector::collect;
+use crate::collector::session_of;
 use std::alloc::Global;
 use trace_io::{Source, Target, TextSink};
 use trace_log::{Config, Fault, Summary};
 use trace_run::{Printable, print};
-use uds_exchange::{ItemStore, Meaning};
+use uds_exchange::Meaning;
 
 /// A text of items.
 pub trait ItemText {
@@ -22,27 +22,6 @@ pub trait ItemText {
     /// Says it.
     fn say<S: TextSink>(&self, items: &Meaning, out: &mut S)
         ensures { S.says out.old (text self.now items.now) out.new };
-}
-
-/// A text of items that lie in a store. Each [`ItemText`] is one, of a [`Meaning`].
-pub trait StoredItemText<I: ItemStore> {
-    ghost use Rattle.std.specs.Prelude.{List, ℕ};
-    ghost use Rattle.uds_exchange.specs.Meaning.{ItemValue};
-
-    /// What it is of some items.
-    ghost text: { Self → List ItemValue → List ℕ };
-
-    /// Says it.
-    fn say_stored<S: TextSink>(&self, items: &I, out: &mut S)
-        ensures { S.says out.old (text self.now (I.items items.now)) out.new };
-}
-
-impl<T: ItemText> StoredItemText<Meaning> for T {
-    ghost text = { λ t. T.text t };
-
-    fn say_stored<S: TextSink>(&self, items: &Meaning, out: &mut S) {
-        self.say(items, out);
-    }
 }
 
 /// Reads a log, and then writes this text of the items of its meaning. Where the log is refused nothing is written.
@@ -59,26 +38,11 @@ pub fn write_items<T: ItemText, R: Source, W: Target>(
     requires writer { IsLowCount (W.failures writer.old) }
     ensures ran { RanOverItems R.Source W.Target (T.text text.now) MESSAGE_LIMIT config.now reader.old writer.old result reader.new writer.new }
 {
-    write_stored_items::<Meaning, T, R, W>(alloc, config, text, reader, writer)
-}
-
-/// The same of a text that is said of items in a store: they are kept in that while the log is read.
-pub fn write_stored_items<I: ItemStore + Drop, T: StoredItemText<I>, R: Source, W: Target>(
-    alloc: Global,
-    config: &Config,
-    text: &T,
-    reader: &mut R,
-    writer: &mut W,
-) -> Result<Summary, Fault>
-    requires reader { AreLowCounts (R.reads reader.old) (length (R.given reader.old)) (R.failures reader.old) }
-    requires writer { IsLowCount (W.failures writer.old) }
-    ensures ran { RanOverItems R.Source W.Target (T.text text.now) MESSAGE_LIMIT config.now reader.old writer.old result reader.new writer.new }
-{
-    match collect::<I, R>(alloc, config, reader) {
-        Ok(collected) => {
-            let items = &collected.items;
+    match session_of(alloc, config, reader) {
+        Ok(session) => {
+            let items = &session.meaning;
             match print(&OfItems { text, items }, writer) {
-                Ok(()) => Ok(collected.summary),
+                Ok(()) => Ok(session.summary),
                 Err(_failed) => Err(Fault::Write),
             }
         }
@@ -88,15 +52,15 @@ pub fn write_stored_items<I: ItemStore + Drop, T: StoredItemText<I>, R: Source, 
 
 /// A text of these items.
 #[derive(Drop)]
-struct OfItems<'a, T, I> {
+struct OfItems<'a, T> {
     text: &'a T,
-    items: &'a I,
+    items: &'a Meaning,
 }
 
-impl<'a, T: StoredItemText<I>, I: ItemStore> Printable for OfItems<'a, T, I> {
-    ghost text = { λ of. T.text of.text.now (I.items of.items.now) };
+impl<'a, T: ItemText> Printable for OfItems<'a, T> {
+    ghost text = { λ of. T.text of.text.now of.items.now };
 
     fn say<S: TextSink>(&self, out: &mut S) {
-        self.text.say_stored(self.items, out);
+        self.text.say(self.items, out);
     }
 }

@@ -57,12 +57,12 @@ mod place;
 mod placer;
 mod watcher;
 
-pub use collector::{Collected, Session, collect, meaning_of};
-pub use comparing::{Compared, ComparedIn, Comparison, compare, compare_in};
-pub use comparison_lines::{ComparisonStyle, write_comparison, write_comparison_in};
+pub use collector::{Session, meaning_of};
+pub use comparing::{Compared, Comparison, compare};
+pub use comparison_lines::{ComparisonStyle, write_comparison};
 pub use explainer::explain;
 pub use finding::find;
-pub use item_text::{ItemText, StoredItemText, write_items, write_stored_items};
+pub use item_text::{ItemText, write_items};
 pub use lister::list;
 pub use normaliser::normalise;
 pub use placer::messages;

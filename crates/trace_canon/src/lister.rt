@@ -5,12 +5,12 @@ ghost use Rattle.trace_text.specs.ListText.{list_text};
 ghost use Rattle.trace_canon.specs.Listed.{RanOverItems};
 ghost use Rattle.trace_io.specs.Counted.{IsLowCount, AreLowCounts};
 
-use crate::item_text::{ItemText, StoredItemText, write_stored_items};
+use crate::item_text::{ItemText, write_items};
 use std::alloc::Global;
 use trace_io::{Source, Target, TextSink};
 use trace_log::{Config, Fault, Summary};
-use trace_text::{ItemStyle, say_items, say_stored_items};
-use uds_exchange::{Meaning, PackedMeaning};
+use trace_text::{ItemStyle, say_items};
+use uds_exchange::Meaning;
 
 /// Reads a log, and then writes a line for each item of its meaning, in this style.
 ///
@@ -26,7 +26,7 @@ pub fn list<R: Source, W: Target>(
     requires writer { IsLowCount (W.failures writer.old) }
     ensures ran { RanOverItems R.Source W.Target (list_text style) MESSAGE_LIMIT config.now reader.old writer.old result reader.new writer.new }
 {
-    write_stored_items::<PackedMeaning, ItemStyle, R, W>(alloc, config, &style, reader, writer)
+    write_items(alloc, config, &style, reader, writer)
 }
 
 impl ItemText for ItemStyle {
@@ -36,16 +36,5 @@ impl ItemText for ItemStyle {
 
     fn say<S: TextSink>(&self, items: &Meaning, out: &mut S) {
         say_items(items, *self, out);
-    }
-}
-
-/// The same of items whose messages lie end to end.
-impl StoredItemText<PackedMeaning> for ItemStyle {
-    ghost use Rattle.trace_text.specs.ListText.{list_text};
-
-    ghost text = { λ style. list_text style };
-
-    fn say_stored<S: TextSink>(&self, items: &PackedMeaning, out: &mut S) {
-        say_stored_items(items, *self, out);
     }
 }

@@ -1,13 +1,13 @@
 //! The text of a meaning, said item by item.
 ghost use Rattle.std.specs.Prelude.{◌++◌, codes, option_map};
-ghost use Rattle.uds_exchange.specs.ItemSeen.{lent_value};
+ghost use Rattle.uds_exchange.specs.ItemSeen.{item_value};
 ghost use Rattle.trace_text.specs.ListText.{answer_text, item_line, worded_line, item_text, list_text, number_text, outcome_line};
 
 use crate::item_objects::say_object_line;
 use crate::notation::Notation;
 use crate::say::{say_bytes, say_code, say_direction, say_number, say_service, say_text};
 use trace_io::TextSink;
-use uds_exchange::{ItemStore, LentItem, Meaning};
+use uds_exchange::{Item, Meaning};
 use uds_message::{is_negative_response, is_suppressing, response_code, sid};
 
 /// Whether the lines of items have numbers.
@@ -30,23 +30,16 @@ pub struct ItemStyle {
 pub fn say_items<S: TextSink>(meaning: &Meaning, style: ItemStyle, out: &mut S)
     ensures { S.says out.old (list_text style meaning.now) out.new }
 {
-    say_stored_items(meaning, style, out);
-}
-
-/// Says the line of each item of a store, in order.
-pub fn say_stored_items<I: ItemStore, S: TextSink>(items: &I, style: ItemStyle, out: &mut S)
-    ensures { S.says out.old (list_text style (I.items items.now)) out.new }
-{
-    'items: for i in 0..items.count() {
-        if let Some(item) = items.lent(i) {
+    'items: for i in 0..meaning.len() {
+        if let Some(item) = meaning.item(i) {
             say_item(i as u64 + 1, style, item, out);
         }
     }
 }
 
 /// Says the line of an item, which has this number.
-pub fn say_item<S: TextSink>(number: u64, style: ItemStyle, item: LentItem<'_>, out: &mut S)
-    ensures { S.says out.old (item_line style number (lent_value item.entry)) out.new }
+pub fn say_item<S: TextSink>(number: u64, style: ItemStyle, item: Item<'_>, out: &mut S)
+    ensures { S.says out.old (item_line style number (item_value item.entry)) out.new }
 {
     match style.notation {
         Notation::Text => say_worded(number, style.numbering, item, out),
@@ -55,8 +48,8 @@ pub fn say_item<S: TextSink>(number: u64, style: ItemStyle, item: LentItem<'_>, 
 }
 
 /// Says the line of an item in words.
-pub fn say_worded<S: TextSink>(number: u64, numbering: Numbering, item: LentItem<'_>, out: &mut S)
-    ensures { S.says out.old (worded_line numbering number (lent_value item.entry)) out.new }
+pub fn say_worded<S: TextSink>(number: u64, numbering: Numbering, item: Item<'_>, out: &mut S)
+    ensures { S.says out.old (worded_line numbering number (item_value item.entry)) out.new }
 {
     say_item_number(number, numbering, out);
     say_unnumbered(item, out);
@@ -76,11 +69,11 @@ fn say_item_number<S: TextSink>(number: u64, numbering: Numbering, out: &mut S)
 }
 
 /// Says what an item is, to the end of its line.
-fn say_unnumbered<S: TextSink>(item: LentItem<'_>, out: &mut S)
-    ensures { S.says out.old (item_text (lent_value item.entry) ++ codes "\n") out.new }
+fn say_unnumbered<S: TextSink>(item: Item<'_>, out: &mut S)
+    ensures { S.says out.old (item_text (item_value item.entry) ++ codes "\n") out.new }
 {
     match item {
-        LentItem::Exchange { request, answer } => {
+        Item::Exchange { request, answer } => {
             say_text(out, "exchange ");
             say_service(out, sid(request));
             say_text(out, " ");
@@ -88,7 +81,7 @@ fn say_unnumbered<S: TextSink>(item: LentItem<'_>, out: &mut S)
             say_text(out, " -> ");
             say_outcome(request, answer, out);
         }
-        LentItem::Stray { dir, bytes } => {
+        Item::Stray { dir, bytes } => {
             say_text(out, "stray ");
             say_direction(out, dir);
             say_text(out, " ");

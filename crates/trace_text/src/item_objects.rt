@@ -1,6 +1,6 @@
 //! The items of a meaning as objects of JSON.
 ghost use Rattle.std.specs.Prelude.{option_map};
-ghost use Rattle.uds_exchange.specs.ItemSeen.{lent_value};
+ghost use Rattle.uds_exchange.specs.ItemSeen.{item_value};
 ghost use Rattle.trace_text.specs.Json.{object, object_line, value_text};
 ghost use Rattle.trace_text.specs.ListText.{item_object};
 ghost use Rattle.trace_text.specs.proving.OpenItems.{front_of_item, open_answer, open_item, open_object, open_outcome};
@@ -8,17 +8,17 @@ ghost use Rattle.trace_text.specs.proving.OpenItems.{front_of_item, open_answer,
 use crate::item_lines::Numbering;
 use crate::say::{say_bytes, say_code, say_direction, say_number, say_service, say_text};
 use trace_io::TextSink;
-use uds_exchange::LentItem;
+use uds_exchange::Item;
 use uds_message::{is_negative_response, is_suppressing, response_code, sid};
 
 /// Says an item, which has this number, as an object of JSON, without the end of its line.
 pub fn say_item_object<S: TextSink>(
     number: u64,
     numbering: Numbering,
-    item: LentItem<'_>,
+    item: Item<'_>,
     out: &mut S,
 )
-    ensures { S.says out.old (value_text (object (item_object numbering number (lent_value item.entry)))) out.new }
+    ensures { S.says out.old (value_text (object (item_object numbering number (item_value item.entry)))) out.new }
 {
     say_open_object(number, numbering, item, out);
     say_text(out, "\"}");
@@ -28,18 +28,18 @@ pub fn say_item_object<S: TextSink>(
 pub(crate) fn say_object_line<S: TextSink>(
     number: u64,
     numbering: Numbering,
-    item: LentItem<'_>,
+    item: Item<'_>,
     out: &mut S,
 )
-    ensures { S.says out.old (object_line (item_object numbering number (lent_value item.entry))) out.new }
+    ensures { S.says out.old (object_line (item_object numbering number (item_value item.entry))) out.new }
 {
     say_open_object(number, numbering, item, out);
     say_text(out, "\"}\n");
 }
 
 /// Says the object up to the quote and the brace that end it, whatever the item is.
-fn say_open_object<S: TextSink>(number: u64, numbering: Numbering, item: LentItem<'_>, out: &mut S)
-    ensures { S.says out.old (open_object numbering number (lent_value item.entry)) out.new }
+fn say_open_object<S: TextSink>(number: u64, numbering: Numbering, item: Item<'_>, out: &mut S)
+    ensures { S.says out.old (open_object numbering number (item_value item.entry)) out.new }
 {
     say_front(number, numbering, out);
     say_open_item(item, out);
@@ -60,18 +60,18 @@ fn say_front<S: TextSink>(number: u64, numbering: Numbering, out: &mut S)
 }
 
 /// Says what an item is, from the word of its kind on.
-fn say_open_item<S: TextSink>(item: LentItem<'_>, out: &mut S)
-    ensures { S.says out.old (open_item (lent_value item.entry)) out.new }
+fn say_open_item<S: TextSink>(item: Item<'_>, out: &mut S)
+    ensures { S.says out.old (open_item (item_value item.entry)) out.new }
 {
     match item {
-        LentItem::Exchange { request, answer } => {
+        Item::Exchange { request, answer } => {
             say_text(out, "exchange\",\"service\":\"");
             say_service(out, sid(request));
             say_text(out, "\",\"request\":\"");
             say_bytes(out, request);
             say_outcome(request, answer, out);
         }
-        LentItem::Stray { dir, bytes } => {
+        Item::Stray { dir, bytes } => {
             say_text(out, "stray\",\"direction\":\"");
             say_direction(out, dir);
             say_text(out, "\",\"message\":\"");

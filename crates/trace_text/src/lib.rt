@@ -16,7 +16,7 @@ mod remark;
 mod remark_objects;
 pub mod say;
 
-pub use item_lines::{ItemStyle, Numbering, say_item, say_items, say_stored_items, say_worded};
+pub use item_lines::{ItemStyle, Numbering, say_item, say_items, say_worded};
 pub use item_objects::say_item_object;
 pub use notation::Notation;
 pub use parts::Part;

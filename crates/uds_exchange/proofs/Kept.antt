@@ -5,23 +5,13 @@ use Rattle.std.proofs.lemmas.Option.{slice_get_read, slice_get_within, slice_get
 use Rattle.std.proofs.lemmas.Bool.{cases_Bool}
 use Rattle.direction.specs.Dir.{Message}
 use Rattle.uds_message.specs.Message.{sid, is_final_for, is_pending_for}
-use Rattle.uds_exchange.specs.declared.item.Item.{Item}
 use Rattle.uds_exchange.specs.declared.step.Step.{Step}
 use Rattle.uds_exchange.specs.declared.step.Step.TheVariants as step
 use Rattle.uds_exchange.specs.Meaning.{ItemValue, exchange, stray_of, is_from_tester, is_tester_request, is_answer_to, is_pending_reply_to}
-use Rattle.uds_exchange.specs.ItemSeen.{item_value, item_values}
 use Rattle.uds_exchange.specs.WaitingExchange.{waiting, waiting_sid}
 use Rattle.uds_exchange.specs.proving.Pairing.{IsWaitingAt, join_by, join}
 use Rattle.uds_exchange.specs.OneMessage.{step_if_open, step_of}
 use Rattle.uds_exchange.proofs.Waiting.{sid_of, waiting-stray, waiting-request, waiting-at, waiting-answered}
-
-pub item-at : (xs : List Item) (i : ℕ) (x : Item) → x ≡ get_or xs i x → i < length xs
-    → slice_get (item_values xs) i ≡ Some (item_value x)
-item-at xs i x e h = slice_get-map item_value xs i ∙ ap (option_map item_value) (slice_get_read xs (length xs) i x refl h e)
-
-pub value-at : (xs : List Item) (i : ℕ) (x : Item) (y : ItemValue) → x ≡ get_or xs i x → i < length xs → slice_get (item_values xs) i ≡ Some y
-    → item_value x ≡ y
-value-at xs i x y e h g = same_Some _ _ (sym (item-at xs i x e h) ∙ g)
 
 -- the items after this step with a message
 pub after : Step → List ItemValue → Option (ℕ × List ℕ) → Message → List ItemValue

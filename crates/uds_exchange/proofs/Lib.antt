@@ -1,7 +1,6 @@
 pub mod Bools
 pub mod Variants
 pub mod Differences
-pub mod Extents
 pub mod Replies
 pub mod Waiting
 pub mod OneMore
@@ -25,5 +24,7 @@ pub mod ItemNumbers
 pub mod OpenRequestOfMore
 pub mod Deciding
 pub mod PuttingItems
-pub mod EndToEnd
+pub mod InBlocks
+pub mod KeptItems
+pub mod HeldMessages
 pub mod Promises

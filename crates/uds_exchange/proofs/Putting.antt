@@ -1,5 +1,5 @@
 -- Messages put one after another, and what is left to put.
-use Rattle.std.proofs.Common.{◌≡◌, List, [], ◌∷◌, ◌++◌, refl, ◌∙◌, ap, subst, append_assoc}
+use Rattle.std.proofs.Common.{◌≡◌, List, [], ◌∷◌, ◌++◌, refl, sym, ◌∙◌, ap, subst, append_assoc}
 use Rattle.direction.specs.Dir.{Message}
 use Rattle.uds_exchange.specs.Sink.{AfterOk, AfterErr, Puts, Fails}
 
@@ -36,6 +36,9 @@ module _ {S E : Type 0} (after_ok : AfterOk S) (after_err : AfterErr S E) where
   pub onto-along : (s : S) (xs ys : List Message) (s0 : S) (all : List Message) → xs ≡ ys → Onto after_ok after_err s xs s0 all
       → Onto after_ok after_err s ys s0 all
   onto-along s xs ys s0 all e o = subst (λ l. Onto after_ok after_err s l s0 all) e o
+
+  pub onto-end : (s : S) (xs : List Message) (s0 : S) (all : List Message) → xs ≡ [] → Onto after_ok after_err s xs s0 all → Puts after_ok s0 all s
+  onto-end s xs s0 all e o = o.puts s (subst (λ l. Puts after_ok s l s) (sym e) refl)
 
   pub fails-first : (s t : S) (x : Message) (xs : List Message) (e : E) → after_err s x.0 x.1 e t → Fails after_ok after_err s (x ∷ xs) e t
   fails-first s t x xs e h = ([], x, xs, s, refl, refl, h)

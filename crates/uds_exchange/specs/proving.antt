@@ -2,4 +2,6 @@
 pub mod Pairing
 pub mod Steps
 pub mod Deciding
-pub mod Packing
+pub mod Blocks
+pub mod KeptItems
+pub mod HeldMessages

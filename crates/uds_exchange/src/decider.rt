@@ -1,6 +1,6 @@
 //! The items of a meaning, each as soon as it is decided.
 
-ghost use Rattle.std.specs.Prelude.{◌≡◌, ◌++◌, ◌∷◌, [], List, OnOk, OnErr, map, option_map};
+ghost use Rattle.std.specs.Prelude.{◌≡◌, ◌++◌, ◌∷◌, [], List, OnOk, OnErr, IfOk, map, option_map};
 ghost use Rattle.direction.specs.Dir.{Message};
 ghost use Rattle.uds_message.specs.Message.{sid as sid_of};
 ghost use Rattle.uds_exchange.specs.Meaning.{stray_of};
@@ -10,9 +10,8 @@ ghost use Rattle.uds_exchange.specs.ItemSink.{PutsItems};
 ghost use Rattle.uds_exchange.specs.proving.Deciding.{answered_items, items_by, keep, Refuses};
 
 use crate::held::Held;
-use crate::item::LentItem;
+use crate::item::Item;
 use crate::item_sink::ItemSink;
-use crate::meaning::copy;
 use crate::sink::MessageSink;
 use crate::step::{Step, step_of};
 use direction::Dir;
@@ -115,7 +114,7 @@ impl Decider {
             Step::Removed => Ok(()),
             Step::Hold => self.held.push(dir, message),
             Step::Pass => {
-                sink.put(LentItem::Stray {
+                sink.put(Item::Stray {
                     dir,
                     bytes: message,
                 });
@@ -140,7 +139,7 @@ fn put_answered<S: ItemSink>(request: &Option<Vec<u8>>, answer: &[u8], held: &He
     ensures { PutsItems S.takes sink.old (answered_items (option_map (λ bytes. bytes.items) request.now) answer.now held.now) sink.new }
 {
     if let Some(request) = request {
-        sink.put(LentItem::Exchange {
+        sink.put(Item::Exchange {
             request: request.as_slice(),
             answer: Some(answer),
         });
@@ -153,7 +152,7 @@ fn put_unanswered<S: ItemSink>(request: &Option<Vec<u8>>, held: &Held, sink: &mu
     ensures { PutsItems S.takes sink.old (unanswered_items (option_map (λ bytes. bytes.items) request.now) held.now) sink.new }
 {
     if let Some(request) = request {
-        sink.put(LentItem::Exchange {
+        sink.put(Item::Exchange {
             request: request.as_slice(),
             answer: None,
         });
@@ -193,10 +192,19 @@ impl<'a, S: ItemSink> MessageSink for StraySink<'a, S> {
     ghost after_err = { λ s d m e t. ⊥ };
 
     fn put(&mut self, dir: Dir, message: &[u8]) -> Result<(), NoFault> {
-        self.sink.put(LentItem::Stray {
+        self.sink.put(Item::Stray {
             dir,
             bytes: message,
         });
         Ok(())
     }
+}
+
+/// The bytes, copied into new memory of their length.
+fn copy(alloc: Global, bytes: &[u8]) -> Result<Vec<u8>, AllocError>
+    ensures { IfOk result (λ v. v.items ≡ bytes.now) }
+{
+    let mut v = Vec::with_capacity(alloc, bytes.len())?;
+    v.extend_from_slice(bytes)?;
+    Ok(v)
 }

@@ -2,23 +2,23 @@
 
 ghost use Rattle.std.specs.Prelude.{◌≡◌, ◌↔◌, IsTrue, option_map};
 ghost use Rattle.uds_exchange.specs.Difference.{IsFirstDifference};
-ghost use Rattle.uds_exchange.specs.ItemSeen.{lent_value};
+ghost use Rattle.uds_exchange.specs.ItemSeen.{item_value};
 
-use crate::item::LentItem;
-use crate::item_store::ItemStore;
+use crate::item::Item;
+use crate::meaning::Meaning;
 
-/// The first place, counted from 0, at which the items of two stores differ: they are not equal, or only one of the two has an
+/// The first place, counted from 0, at which the items of two meanings differ: they are not equal, or only one of the two has an
 /// item there.
-pub fn first_difference<A: ItemStore, B: ItemStore>(one: &A, other: &B) -> Option<usize>
-    ensures { IsFirstDifference (A.items one.now) (B.items other.now) result }
+pub(crate) fn first_difference(one: &Meaning, other: &Meaning) -> Option<usize>
+    ensures { IsFirstDifference one.now other.now result }
 {
-    let shorter = one.count().min(other.count());
+    let shorter = one.len().min(other.len());
     for i in 0..shorter {
-        if !is_same_option(one.lent(i), other.lent(i)) {
+        if !is_same_option(one.item(i), other.item(i)) {
             return Some(i);
         }
     }
-    if one.count() == other.count() {
+    if one.len() == other.len() {
         None
     } else {
         Some(shorter)
@@ -27,8 +27,8 @@ pub fn first_difference<A: ItemStore, B: ItemStore>(one: &A, other: &B) -> Optio
 
 /// Whether there are two equal items, or none.
 #[inline(always)]
-fn is_same_option(one: Option<LentItem<'_>>, other: Option<LentItem<'_>>) -> bool
-    ensures { IsTrue result ↔ (option_map lent_value one.entry ≡ option_map lent_value other.entry) }
+fn is_same_option(one: Option<Item<'_>>, other: Option<Item<'_>>) -> bool
+    ensures { IsTrue result ↔ (option_map item_value one.entry ≡ option_map item_value other.entry) }
 {
     match (one, other) {
         (Some(one), Some(other)) => is_same_item(one, other),
@@ -39,26 +39,26 @@ fn is_same_option(one: Option<LentItem<'_>>, other: Option<LentItem<'_>>) -> boo
 
 /// Whether two items are equal.
 #[inline(always)]
-fn is_same_item(one: LentItem<'_>, other: LentItem<'_>) -> bool
-    ensures { IsTrue result ↔ (lent_value one.entry ≡ lent_value other.entry) }
+fn is_same_item(one: Item<'_>, other: Item<'_>) -> bool
+    ensures { IsTrue result ↔ (item_value one.entry ≡ item_value other.entry) }
 {
     match (one, other) {
         (
-            LentItem::Exchange { request, answer },
-            LentItem::Exchange {
+            Item::Exchange { request, answer },
+            Item::Exchange {
                 request: other_request,
                 answer: other_answer,
             },
         ) => request == other_request && is_same_answer(answer, other_answer),
         (
-            LentItem::Stray { dir, bytes },
-            LentItem::Stray {
+            Item::Stray { dir, bytes },
+            Item::Stray {
                 dir: other_dir,
                 bytes: other_bytes,
             },
         ) => dir == other_dir && bytes == other_bytes,
-        (LentItem::Exchange { .. }, LentItem::Stray { .. })
-        | (LentItem::Stray { .. }, LentItem::Exchange { .. }) => false,
+        (Item::Exchange { .. }, Item::Stray { .. }) | (Item::Stray { .. }, Item::Exchange { .. }) =>
+            false,
     }
 }
 

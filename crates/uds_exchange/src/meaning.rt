@@ -1,31 +1,45 @@
 //! What a list of messages means.
 
-ghost use Rattle.std.specs.Prelude.{◌≡◌, ◌↔◌, ◌<◌, ◌^◌, IsTrue, [], List, ℕ, Some, None, IfOk, length, option_map, slice_get, slice_set};
-ghost use Rattle.uds_exchange.specs.ItemSeen.{item_value, item_values};
+ghost use Rattle.std.specs.Prelude.{◌≡◌, ◌↔◌, ◌<◌, ◌^◌, ◌++◌, ◌∷◌, IsTrue, [], List, ℕ, Some, None, OnOk, OnErr, length, option_map, slice_get, slice_set};
+ghost use Rattle.uds_exchange.specs.ItemSeen.{item_value};
 ghost use Rattle.uds_exchange.specs.Difference.{IsFirstDifference};
-ghost use Rattle.uds_exchange.specs.Meaning.{exchange};
+ghost use Rattle.uds_exchange.specs.Meaning.{exchange, stray};
+ghost use Rattle.uds_exchange.specs.proving.KeptItems.{item_at, IsKeptIn, IsInsideIfAny};
+ghost use Rattle.uds_exchange.specs.proving.Blocks.{bytes_at, IsInside};
+ghost use Rattle.uds_exchange.specs.declared.messages.Span.{Span as SpanValue};
+ghost use Rattle.uds_exchange.specs.declared.meaning.KeptItem.TheVariants.{Exchange};
 
 use crate::difference::first_difference;
-use crate::item::{Item, LentItem};
-use crate::item_store::ItemStore;
+use crate::item::Item;
+use crate::messages::{Messages, Span};
 use direction::Dir;
 use std::alloc::{AllocError, Global};
 use std::marker::Model;
 
-/// The meaning of a list of messages, seen as a list of items.
+/// The meaning of a list of messages, seen as a list of items. It keeps their bytes, and lends them.
 #[derive(Debug, Drop)]
 pub struct Meaning {
-    items: Vec<Item>,
+    items: Vec<KeptItem>,
+    messages: Messages,
+}
+
+/// An item, by where its messages lie.
+#[derive(Clone, Copy, Debug)]
+enum KeptItem {
+    Exchange { request: Span, answer: Option<Span> },
+    Stray { dir: Dir, bytes: Span },
 }
 
 impl Model for Meaning {
     ghost use Rattle.std.specs.Prelude.{List};
     ghost use Rattle.uds_exchange.specs.Meaning.{ItemValue};
-    ghost use Rattle.uds_exchange.specs.ItemSeen.{item_values};
+    ghost use Rattle.uds_exchange.specs.proving.KeptItems.{items_at, AreKeptIn};
 
     ghost Value = { List ItemValue };
 
-    ghost view = { λ m. item_values m.items.items };
+    ghost view = { λ m. items_at m.messages m.items.items };
+
+    ghost invariant = { λ m. AreKeptIn m.messages m.items.items };
 }
 
 impl Meaning {
@@ -45,10 +59,14 @@ impl Meaning {
     }
 
     /// The item at place `i`, counted from 0.
-    pub fn item(&self, i: usize) -> Option<&Item>
-        ensures { option_map (λ item. item_value item.now) result ≡ slice_get self.now i }
+    #[inline(always)]
+    pub fn item(&self, i: usize) -> Option<Item<'_>>
+        ensures { option_map item_value result ≡ slice_get self.now i }
     {
-        self.items.get(i)
+        match self.items.get(i) {
+            Some(item) => Some(item_at(&self.messages, *item)),
+            None => None,
+        }
     }
 
     /// The first place, counted from 0, at which the two meanings differ: the items are not equal, or only one of the
@@ -58,76 +76,91 @@ impl Meaning {
     {
         first_difference(self, other)
     }
-}
 
-impl ItemStore for Meaning {
-    ghost items = { λ m. m };
-
-    fn empty(alloc: Global) -> Meaning {
+    /// No item. It takes no memory.
+    pub(crate) fn new(alloc: Global) -> Meaning
+        ensures { result ≡ [] }
+    {
         Meaning {
             items: Vec::new(alloc),
+            messages: Messages::new(alloc),
         }
     }
 
-    fn count(&self) -> usize {
-        self.len()
-    }
-
-    #[inline(always)]
-    fn lent(&self, i: usize) -> Option<LentItem<'_>> {
-        match self.item(i) {
-            Some(item) => Some(item.lent()),
-            None => None,
-        }
-    }
-
-    fn push_request(&mut self, request: &[u8]) -> Result<(), AllocError> {
-        let request = copy(*self.items.allocator(), request)?;
-        self.items.push(Item::Exchange {
+    /// Keeps the exchange of a request that has no answer yet.
+    pub(crate) fn push_request(&mut self, request: &[u8]) -> Result<(), AllocError>
+        ensures ok { OnOk result (self.new ≡ self.old ++ exchange request.now None ∷ []) }
+        ensures err { OnErr result (self.new ≡ self.old) }
+    {
+        self.items.reserve(1)?;
+        let request = self.messages.append(request)?;
+        self.items.push_reserved(KeptItem::Exchange {
             request,
             answer: None,
-        })?;
+        });
         Ok(())
     }
 
-    fn push_stray(&mut self, dir: Dir, bytes: &[u8]) -> Result<(), AllocError> {
-        let bytes = copy(*self.items.allocator(), bytes)?;
-        self.items.push(Item::Stray { dir, bytes })?;
+    /// Keeps a message that belongs to no exchange.
+    pub(crate) fn push_stray(&mut self, dir: Dir, bytes: &[u8]) -> Result<(), AllocError>
+        ensures ok { OnOk result (self.new ≡ self.old ++ stray dir bytes.now ∷ []) }
+        ensures err { OnErr result (self.new ≡ self.old) }
+    {
+        self.items.reserve(1)?;
+        let bytes = self.messages.append(bytes)?;
+        self.items.push_reserved(KeptItem::Stray { dir, bytes });
         Ok(())
     }
 
-    fn answer(&mut self, at: usize, answer: &[u8]) -> Result<(), AllocError> {
-        let answer = copy(*self.items.allocator(), answer)?;
-        set_answer(&mut self.items, at, answer);
+    /// Gives the exchange at this place its answer. It has none before.
+    pub(crate) fn answer(&mut self, at: usize, answer: &[u8]) -> Result<(), AllocError>
+        requires { at < length self.old }
+        ensures ok { OnOk result ((request : List ℕ) → slice_get self.old at ≡ Some (exchange request None)
+            → self.new ≡ slice_set self.old at (exchange request (Some answer.now))) }
+        ensures err { OnErr result (self.new ≡ self.old) }
+    {
+        let answer = self.messages.append(answer)?;
+        answer_with(&mut self.items[at], answer);
         Ok(())
     }
-}
-
-/// The bytes, copied into new memory of their length.
-pub(crate) fn copy(alloc: Global, bytes: &[u8]) -> Result<Vec<u8>, AllocError>
-    ensures { IfOk result (λ v. v.items ≡ bytes.now) }
-{
-    let mut v = Vec::with_capacity(alloc, bytes.len())?;
-    v.extend_from_slice(bytes)?;
-    Ok(v)
-}
-
-/// Gives the exchange at this place its answer. It has none before.
-fn set_answer(items: &mut Vec<Item>, at: usize, bytes: Vec<u8>)
-    requires { at < length items.old.items }
-    ensures { (request : List ℕ) → slice_get (item_values items.old.items) at ≡ Some (exchange request None)
-        → item_values items.new.items
-        ≡ slice_set (item_values items.old.items) at (exchange request (Some bytes.items)) }
-{
-    answer_with(&mut items[at], bytes);
 }
 
 /// Gives an exchange its answer; a stray stays as it is.
-fn answer_with(item: &mut Item, bytes: Vec<u8>)
-    ensures { (request : List ℕ) → item_value item.old ≡ exchange request None
-        → item_value item.new ≡ exchange request (Some bytes.items) }
+fn answer_with(item: &mut KeptItem, answer: Span)
+    ensures answered { (request : SpanValue) → item.old ≡ Exchange request None → item.new ≡ Exchange request (Some answer) }
+    ensures inside { (blocks : List (List ℕ)) → IsInside blocks answer → IsKeptIn blocks item.old → IsKeptIn blocks item.new }
 {
-    if let Item::Exchange { answer, .. } = item {
-        *answer = Some(bytes);
+    if let KeptItem::Exchange { answer: kept, .. } = item {
+        *kept = Some(answer);
+    }
+}
+
+/// The item, lent from the messages.
+#[inline(always)]
+fn item_at(messages: &Messages, item: KeptItem) -> Item<'_>
+    requires { IsKeptIn messages.now item }
+    ensures { item_value result ≡ item_at messages.now item }
+{
+    match item {
+        KeptItem::Exchange { request, answer } => Item::Exchange {
+            request: messages.message(request),
+            answer: answer_at(messages, answer),
+        },
+        KeptItem::Stray { dir, bytes } => Item::Stray {
+            dir,
+            bytes: messages.message(bytes),
+        },
+    }
+}
+
+/// The bytes of an answer, if there is one.
+#[inline(always)]
+fn answer_at(messages: &Messages, span: Option<Span>) -> Option<&[u8]>
+    requires { IsInsideIfAny messages.now span }
+    ensures { option_map (λ answer. answer.now) result ≡ option_map (bytes_at messages.now) span }
+{
+    match span {
+        Some(span) => Some(messages.message(span)),
+        None => None,
     }
 }

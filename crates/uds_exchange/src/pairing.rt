@@ -4,9 +4,9 @@ ghost use Rattle.std.specs.Prelude.{◌≡◌, ◌≢◌, ◌++◌, ◌∷◌, [
 ghost use Rattle.direction.specs.Dir.{Message};
 ghost use Rattle.uds_exchange.specs.Meaning.{meaning};
 ghost use Rattle.uds_exchange.specs.Numbering.{step_after};
+ghost use Rattle.uds_exchange.specs.WaitingExchange.{step_by_items};
 ghost use Rattle.uds_exchange.specs.proving.Pairing as Spec;
 
-use crate::item_store::ItemStore;
 use crate::meaning::Meaning;
 use crate::step::{Step, step_of};
 use direction::Dir;
@@ -16,16 +16,23 @@ use std::marker::Model;
 /// What the messages so far mean. It stands after a list of messages: contracts see it as the meaning of that list.
 #[derive(Debug, Drop)]
 pub struct Pairing {
-    pairing: PairingIn<Meaning>,
+    meaning: Meaning,
+    /// The first byte of the last request, where that waits for its answer.
+    open_sid: Option<u8>,
+    /// Where a request waits, the place of its exchange.
+    last: usize,
 }
 
 impl Model for Pairing {
     ghost use Rattle.std.specs.Prelude.{List};
     ghost use Rattle.uds_exchange.specs.Meaning.{ItemValue};
+    ghost use Rattle.uds_exchange.specs.proving.Pairing.{IsWaitingAt};
 
     ghost Value = { List ItemValue };
 
-    ghost view = { λ p. p.pairing };
+    ghost view = { λ p. p.meaning };
+
+    ghost invariant = { λ p. IsWaitingAt p.meaning p.open_sid p.last };
 }
 
 impl Pairing {
@@ -34,74 +41,7 @@ impl Pairing {
         ensures { result ≡ meaning [] }
     {
         Pairing {
-            pairing: PairingIn::new(alloc),
-        }
-    }
-
-    /// What becomes of one more message.
-    pub fn step(&self, dir: Dir, message: &[u8]) -> Step
-        ensures { (M : List Message) → self.now ≡ meaning M → result ≡ step_after M (dir, message.now) }
-    {
-        self.pairing.step(dir, message)
-    }
-
-    /// Takes one more message. A reply that is left out is not copied. After an `Err` nothing has changed, and the call may be
-    /// made again.
-    pub fn take(&mut self, dir: Dir, message: &[u8]) -> Result<(), AllocError>
-        ensures ok { OnOk result ((M : List Message) → self.old ≡ meaning M
-            → self.new ≡ meaning (M ++ (dir, message.now) ∷ [])) }
-        ensures err { OnErr result (self.new ≡ self.old) }
-        ensures changes { OnErr result ((M : List Message) → self.old ≡ meaning M
-            → meaning (M ++ (dir, message.now) ∷ []) ≢ meaning M) }
-    {
-        self.pairing.take(dir, message)
-    }
-
-    /// The meaning of the messages that were taken. It takes no memory.
-    pub fn finish(self) -> Meaning
-        ensures { result ≡ self }
-    {
-        self.pairing.finish()
-    }
-}
-
-/// What the messages so far mean, in a store of items. It stands after a list of messages: contracts see it as the meaning of
-/// that list.
-#[derive(Debug, Drop)]
-pub struct PairingIn<S: ItemStore> {
-    store: S,
-    /// The first byte of the last request, where that waits for its answer.
-    open_sid: Option<u8>,
-    /// Where a request waits, the place of its exchange.
-    last: usize,
-}
-
-impl<S: ItemStore> Model for PairingIn<S> {
-    ghost use Rattle.std.specs.Prelude.{List};
-    ghost use Rattle.uds_exchange.specs.Meaning.{ItemValue};
-    ghost use Rattle.uds_exchange.specs.proving.Pairing.{IsWaitingAt};
-
-    ghost Value = { List ItemValue };
-
-    ghost view = { λ p. S.items p.store };
-
-    ghost invariant = { λ p. IsWaitingAt (S.items p.store) p.open_sid p.last };
-}
-
-impl<S: ItemStore> PairingIn<S> {
-    ghost use Rattle.std.specs.Prelude.{◌≡◌, ◌≢◌, ◌++◌, ◌∷◌, [], List, OnOk, OnErr};
-    ghost use Rattle.direction.specs.Dir.{Message};
-    ghost use Rattle.uds_exchange.specs.Meaning.{meaning};
-    ghost use Rattle.uds_exchange.specs.Numbering.{step_after};
-    ghost use Rattle.uds_exchange.specs.WaitingExchange.{step_by_items};
-    ghost use Rattle.uds_exchange.specs.proving.Pairing as Spec;
-
-    /// A pairing that has taken no message. It takes no memory.
-    pub fn new(alloc: Global) -> PairingIn<S>
-        ensures { result ≡ meaning [] }
-    {
-        PairingIn {
-            store: S::empty(alloc),
+            meaning: Meaning::new(alloc),
             open_sid: None,
             last: 0,
         }
@@ -139,12 +79,12 @@ impl<S: ItemStore> PairingIn<S> {
         self.join(step, dir, message)
     }
 
-    /// The store, with the meaning of the messages that were taken. It takes no memory.
-    pub fn finish(self) -> S
-        ensures { S.items result ≡ self }
+    /// The meaning of the messages that were taken. It takes no memory.
+    pub fn finish(self) -> Meaning
+        ensures { result ≡ self }
     {
-        let PairingIn { store, .. } = self;
-        store
+        let Pairing { meaning, .. } = self;
+        meaning
     }
 
     /// Takes one more message, by the items and the open request alone.
@@ -157,20 +97,20 @@ impl<S: ItemStore> PairingIn<S> {
     {
         match step {
             Step::Request(sid) => {
-                let last = self.store.count();
-                self.store.push_request(message)?;
+                let last = self.meaning.len();
+                self.meaning.push_request(message)?;
                 self.open_sid = Some(sid);
                 self.last = last;
                 Ok(())
             }
             Step::Answer => {
-                self.store.answer(self.last, message)?;
+                self.meaning.answer(self.last, message)?;
                 self.open_sid = None;
                 Ok(())
             }
             Step::Removed => Ok(()),
             Step::Hold | Step::Pass => {
-                self.store.push_stray(dir, message)?;
+                self.meaning.push_stray(dir, message)?;
                 Ok(())
             }
         }

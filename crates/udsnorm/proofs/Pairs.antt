@@ -1,13 +1,12 @@
 -- What a run over two logs comes to, by what the engine answered and what became of its text.
 use Rattle.std.proofs.Common.{◌≡◌, ◌≢◌, ◌≤◌, ◌<◌, ◌+◌, ◌⊎◌, ◌↔◌, inl, inr, ℕ, Bool, true, false, true≢false, List, [], Result, Ok, Err, append-nil, arith, ap, refl, sym, subst, ◌∙◌}
 use Rattle.std.specs.Prelude.{◌&&◌, not, is_ok, IfErr, if◌then◌else◌}
-use Rattle.trace_canon.specs.Compared.{Compares, ComparesIn, fault_in}
+use Rattle.trace_canon.specs.Compared.{Compares, fault_in}
 use Rattle.trace_canon.specs.ComparisonText.{comparison_text}
 use Rattle.trace_log.specs.Failing.{FailedIf}
 use Rattle.trace_run.specs.Printed.{Prints}
 use Rattle.trace_log.specs.Settings.{Settings}
 use Rattle.trace_canon.specs.declared.comparing.Compared.{Compared}
-use Rattle.trace_canon.specs.declared.comparing.ComparedIn.{ComparedIn}
 use Rattle.trace_canon.specs.declared.comparing.Comparison.{Comparison}
 use Rattle.trace_canon.specs.declared.comparing.Comparison.TheVariants.{Same, Different}
 use Rattle.trace_canon.specs.declared.comparison_lines.ComparisonStyle.{ComparisonStyle}
@@ -25,8 +24,7 @@ use Rattle.udsnorm.specs.Ending.{has_unclean, status_of_comparison, status_of_ru
 use Rattle.udsnorm.specs.Status.{status_of}
 use Rattle.udsnorm.specs.Telling.{WroteText}
 use Rattle.udsnorm.specs.proving.Flushed.{FlushedIf}
-use Rattle.uds_exchange.specs.Meaning.{ItemValue}
-use Rattle.udsnorm.specs.proving.Pairs.{answer_held, answer_of, answer_seen, text_of_answer}
+use Rattle.udsnorm.specs.proving.Pairs.{answer_held, answer_of, text_of_answer}
 use Rattle.udsnorm.specs.declared.pair_jobs.PairAnswer.{PairAnswer}
 use Rattle.udsnorm.specs.declared.pair_jobs.PairJob.{PairJob}
 use Rattle.udsnorm.specs.declared.pair_jobs.PairJob.TheVariants as pair_job
@@ -46,16 +44,10 @@ pub pages_pair : (style left_name right_name : List ℕ) (strict : Bool) (limit 
 pages_pair style left_name right_name strict limit settings one other (Ok held) holds = (style, held, holds, refl, refl)
 pages_pair style left_name right_name strict limit settings one other (Err why) holds = (style, holds, refl)
 
--- what is answered of two logs whose items lie in stores
-pub compares_seen : (limit : ℕ) (settings : Settings) (one other : List ℕ) (answer : Result (ComparedIn (List ItemValue)) CompareFault)
-    → ComparesIn (λ items. items) limit settings one other answer → Compares limit settings one other (answer_seen answer)
-compares_seen limit settings one other (Ok compared) is = is
-compares_seen limit settings one other (Err fault) is = is
-
 -- a fault of the answer is one of what the answer leaves out
-pub fault_seen : (answer : Result (ComparedIn (List ItemValue)) CompareFault) (why : CompareFault) → answer_of (answer_seen answer) ≡ Err why → answer ≡ Err why
-fault_seen (Ok compared) why is = cc
-fault_seen (Err fault) why is = cc
+pub fault_compared : (answer : Result Compared CompareFault) (why : CompareFault) → answer_of answer ≡ Err why → answer ≡ Err why
+fault_compared (Ok compared) why is = cc
+fault_compared (Err other) why is = cc
 
 pub fault_held : (answer : Result Held CompareFault) (why : CompareFault) → answer_held answer ≡ Err why → answer ≡ Err why
 fault_held (Ok held) why is = cc

@@ -11,14 +11,12 @@ use crate::pair_jobs::PairJob;
 use crate::values::{comparison_style, notation, style, text_of};
 use clap::ArgMatches;
 use std::alloc::Global;
-use trace_canon::{
-    ItemText, StoredItemText, explain, find, messages, normalise, watch, write_stored_items,
-};
+use trace_canon::{ItemText, explain, find, messages, normalise, watch, write_items};
 use trace_io::{Source, Target, TextSink};
 use trace_log::{Config, Fault, Summary};
 use trace_report::{report, report_style};
 use trace_text::{ItemStyle, Notation};
-use uds_exchange::{Meaning, PackedMeaning};
+use uds_exchange::Meaning;
 
 /// What the program does with one log.
 #[derive(Clone, Copy, PartialEq, Eq)]
@@ -54,19 +52,6 @@ impl ItemText for ItemsJob {
     fn say<S: TextSink>(&self, items: &Meaning, out: &mut S) {
         match *self {
             ItemsJob::List(style) => style.say(items, out),
-        }
-    }
-}
-
-/// The same of items whose messages lie end to end.
-impl StoredItemText<PackedMeaning> for ItemsJob {
-    ghost use Rattle.udsnorm.specs.Commands.{text_of_items};
-
-    ghost text = { λ job. text_of_items job };
-
-    fn say_stored<S: TextSink>(&self, items: &PackedMeaning, out: &mut S) {
-        match *self {
-            ItemsJob::List(style) => style.say_stored(items, out),
         }
     }
 }
@@ -375,9 +360,7 @@ fn call_engine<R: Source, W: Target>(
 {
     match job {
         Job::Normalise => normalise(alloc, config, input, out),
-        Job::Items(text) => {
-            write_stored_items::<PackedMeaning, ItemsJob, R, W>(alloc, config, &text, input, out)
-        }
+        Job::Items(text) => write_items(alloc, config, &text, input, out),
         Job::Watch(style) => watch(alloc, config, style, input, out),
         Job::Explain(notation) => explain(alloc, config, notation, input, out),
         Job::Messages(notation) => messages(alloc, config, notation, input, out),

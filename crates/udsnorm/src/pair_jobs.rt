@@ -11,16 +11,15 @@ ghost use Rattle.trace_report.specs.PairPage.{pair_page, pair_title};
 ghost use Rattle.udsnorm.specs.Commands.{PairEngineAnswers, PairEngineNeeds, PairEngineReads, has_text, left_file, pair_of, right_file};
 ghost use Rattle.udsnorm.specs.Ending.{has_unclean};
 ghost use Rattle.udsnorm.specs.Telling.{WroteText};
-ghost use Rattle.udsnorm.specs.proving.Pairs.{answer_held, answer_of, answer_seen, compared_seen, text_of_answer};
+ghost use Rattle.udsnorm.specs.proving.Pairs.{answer_held, answer_of, text_of_answer};
 
 use crate::commands::{LEFT, LOG, OTHER, RIGHT};
 use crate::tell::is_refusal;
 use std::alloc::Global;
-use trace_canon::{ComparedIn, Comparison, ComparisonStyle, compare_in, write_comparison_in};
+use trace_canon::{Compared, Comparison, ComparisonStyle, compare, write_comparison};
 use trace_io::{Source, Target};
 use trace_log::{CompareFault, Config, Fault, Summary};
 use trace_report::{Held, PairTitle, hold_two, report_style, write_pair_page};
-use uds_exchange::PackedMeaning;
 
 /// What the program does with two logs.
 #[derive(Clone, Copy, PartialEq, Eq)]
@@ -148,7 +147,7 @@ pub(crate) fn do_pair_job<A: Source, B: Source, W: Target>(
 {
     match job {
         PairJob::Compare(style) => {
-            let answer = compare_in::<PackedMeaning, A, B>(alloc, config, left, right);
+            let answer = compare(alloc, config, left, right);
             PairDone {
                 answer: answer_of(&answer),
                 wrote: write_answer(&answer, strict, style, out),
@@ -165,10 +164,8 @@ pub(crate) fn do_pair_job<A: Source, B: Source, W: Target>(
 }
 
 /// An answer about two logs, without what they mean.
-fn answer_of(
-    answer: &Result<ComparedIn<PackedMeaning>, CompareFault>,
-) -> Result<PairAnswer, CompareFault>
-    ensures { result ≡ answer_of (answer_seen answer.now) }
+fn answer_of(answer: &Result<Compared, CompareFault>) -> Result<PairAnswer, CompareFault>
+    ensures { result ≡ answer_of answer.now }
 {
     match answer {
         Ok(compared) => Ok(pair_of(compared)),
@@ -177,8 +174,8 @@ fn answer_of(
 }
 
 /// What two accepted logs are to each other, and what was counted in each.
-fn pair_of(compared: &ComparedIn<PackedMeaning>) -> PairAnswer
-    ensures { result ≡ pair_of (compared_seen compared.now) }
+fn pair_of(compared: &Compared) -> PairAnswer
+    ensures { result ≡ pair_of compared.now }
 {
     PairAnswer {
         comparison: compared.comparison,
@@ -189,19 +186,19 @@ fn pair_of(compared: &ComparedIn<PackedMeaning>) -> PairAnswer
 
 /// Writes how two logs compare, where each is clean that has to be. Answers whether that did not fail.
 fn write_answer<W: Target>(
-    answer: &Result<ComparedIn<PackedMeaning>, CompareFault>,
+    answer: &Result<Compared, CompareFault>,
     strict: bool,
     style: ComparisonStyle,
     out: &mut W,
 ) -> bool
     requires { IsLowCount (W.failures out.old) }
-    ensures text { WroteText W.Target (text_of_answer strict style (answer_seen answer.now)) result out.old out.new }
-    ensures left_alone { has_text (PairJob.Compare style) strict (answer_of (answer_seen answer.now)) ≡ false → (result ≡ true) × (out.new ≡ out.old) }
+    ensures text { WroteText W.Target (text_of_answer strict style answer.now) result out.old out.new }
+    ensures left_alone { has_text (PairJob.Compare style) strict (answer_of answer.now) ≡ false → (result ≡ true) × (out.new ≡ out.old) }
     ensures flushes { W.flushes out.new ≡ W.flushes out.old }
 {
     match answer {
         Ok(compared) if !has_unclean(strict, &pair_of(compared)) => {
-            write_comparison_in(compared, style, out).is_ok()
+            write_comparison(compared, style, out).is_ok()
         }
         _ => true,
     }

@@ -1,7 +1,6 @@
--- Devices of proof: what an orderer does with one more message, and messages that lie end to end.
-use Rattle.std.specs.Prelude.{ℕ, ◌+◌, List, [], ◌∷◌, ◌++◌, Some, None, take, drop, ◌≡◌, true, false}
+-- Devices of proof: what an orderer does with one more message.
+use Rattle.std.specs.Prelude.{ℕ, List, [], ◌∷◌, ◌++◌, Some, None, ◌≡◌, true, false}
 use Rattle.direction.specs.Dir.{Message}
-use Rattle.uds_exchange.specs.declared.held.Extent.{Extent}
 use Rattle.uds_exchange.specs.declared.step.Step.{Step}
 use Rattle.uds_exchange.specs.declared.step.Step.TheVariants as step
 use Rattle.uds_exchange.specs.declared.orderer.OrderFault.{OrderFault}
@@ -41,13 +40,3 @@ Stops after_ok after_err message old before new after fault.Memory =
 Stops after_ok after_err message old before new after (fault.Sink why) =
     (old.has_failed ≡ false) × (new.has_failed ≡ true) × Fails after_ok after_err before (due old message) why after
 Stops after_ok after_err message old before new after fault.Failed = (old.has_failed ≡ true) × (new ≡ old) × (after ≡ before)
-
--- how many bytes the messages have
-abbrev pub total_length : List Extent → ℕ
-total_length [] = 0
-total_length (extent ∷ extents) = extent.len + total_length extents
-
--- the messages, cut from the bytes in which they lie end to end
-abbrev pub cut_from : List Extent → List ℕ → List Message
-cut_from [] bytes = []
-cut_from (extent ∷ extents) bytes = (extent.dir, take extent.len bytes) ∷ cut_from extents (drop extent.len bytes)

@@ -1,23 +1,11 @@
 -- Devices of proof: an answer of `compare`, what is told of it, and its text.
 use Rattle.std.specs.Prelude.{ℕ, Bool, List, [], Result, Ok, Err}
-use Rattle.trace_canon.specs.Compared.{compared_in}
 use Rattle.trace_canon.specs.declared.comparing.Compared.{Compared}
-use Rattle.trace_canon.specs.declared.comparing.ComparedIn.{ComparedIn}
 use Rattle.trace_canon.specs.declared.comparison_lines.ComparisonStyle.{ComparisonStyle}
 use Rattle.trace_log.specs.declared.fault.CompareFault.{CompareFault}
 use Rattle.trace_report.specs.declared.held_session.Held.{Held}
 use Rattle.udsnorm.specs.Commands.{pair_held, pair_of, text_of_compared}
 use Rattle.udsnorm.specs.declared.pair_jobs.PairAnswer.{PairAnswer}
-use Rattle.uds_exchange.specs.Meaning.{ItemValue}
-
--- two logs that are compared, without where their items lie
-abbrev pub compared_seen : ComparedIn (List ItemValue) → Compared
-compared_seen compared = compared_in (λ items. items) compared
-
--- the answer about them
-abbrev pub answer_seen : Result (ComparedIn (List ItemValue)) CompareFault → Result Compared CompareFault
-answer_seen (Ok compared) = Ok (compared_seen compared)
-answer_seen (Err fault) = Err fault
 
 -- an answer, without what the logs mean
 abbrev pub answer_of : Result Compared CompareFault → Result PairAnswer CompareFault

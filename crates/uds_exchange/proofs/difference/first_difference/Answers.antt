@@ -5,19 +5,19 @@ use Rattle.uds_exchange.proofs.Differences.{take-more-same, shorter-differs}
 use Rattle.uds_exchange.proofs.difference.first_difference.Goals as goal
 
 pub loop-i-preserved : goal.loop-i-preserved
-loop-i-preserved g c =
-    let xs = g.A.ItemStore.items c.args.one.now in
-    let ys = g.B.ItemStore.items c.args.other.now in
+loop-i-preserved c =
+    let xs = c.args.one.now in
+    let ys = c.args.other.now in
     let below : c.loop-i.i < length xs = omega arith in
     take-more-same xs ys c.loop-i.i (stray Tester []) below c.loop-i.invariant
-    (sym c.lent.ensures ∙ c.if-not-is_same_option.ensures.0 refl ∙ c.lent-in-loop-i.ensures)
+    (sym c.item.ensures ∙ c.if-not-is_same_option.ensures.0 refl ∙ c.item-in-loop-i.ensures)
 
-pub returns-else-count : goal.returns-else-count
-returns-else-count g c =
-    let xs = g.A.ItemStore.items c.args.one.now in
-    let ys = g.B.ItemStore.items c.args.other.now in
+pub returns-else-len : goal.returns-else-len
+returns-else-len c =
+    let xs = c.args.one.now in
+    let ys = c.args.other.now in
     let n = c.min-shorter.result in
     let whole : c.loop-i.i ≡ n = omega arith in
-    let unequal : length xs ≢ length ys = λ h. c.if-count.false (omega (arith, h)) in
+    let unequal : length xs ≢ length ys = λ h. c.if-len.false (omega (arith, h)) in
     let shorter : n ≡ min (length xs) (length ys) = omega arith in
     (rw whole at c.loop-i.invariant, shorter-differs xs ys n shorter unequal)

@@ -11,7 +11,7 @@ returns-in-Normalise g c =
     record { ran = rw c.in-Normalise.is (record { answer = ran.answer; eager = ran.eager; memory = ran.memory; near = ran.near; read = ran.read; wrote = ran.wrote }) }
 
 pub returns-in-Items : goal.returns-in-Items
-returns-in-Items g c = record { ran = rw c.in-Items.is c.write_stored_items.ensures.ran }
+returns-in-Items g c = record { ran = rw c.in-Items.is c.write_items.ensures.ran }
 
 pub returns-in-Watch : goal.returns-in-Watch
 returns-in-Watch g c = record { ran = rw c.in-Watch.is c.watch.ensures.ran }

@@ -3,37 +3,36 @@ use Rattle.isotp_receive.specs.declared.TheConstants.{MESSAGE_LIMIT}
 use Rattle.trace_log.specs.declared.fault.CompareFault.{CompareFault}
 use Rattle.trace_report.specs.PairPage.{pair_page, pair_title}
 use Rattle.udsnorm.specs.Commands.{ComparesPair, PagesPair}
-use Rattle.udsnorm.specs.proving.Pairs.{answer_seen, text_of_answer}
+use Rattle.udsnorm.specs.proving.Pairs.{text_of_answer}
 use Rattle.udsnorm.specs.declared.pair_jobs.PairAnswer.{PairAnswer}
-use Rattle.udsnorm.proofs.Pairs.{compared_pair, compares_seen, fault_held, fault_seen, pages_pair}
+use Rattle.udsnorm.proofs.Pairs.{compared_pair, fault_compared, fault_held, pages_pair}
 use Rattle.udsnorm.proofs.pair_jobs.do_pair_job.Goals as goal
 
 pub returns-in-Compare-clause-engine : goal.returns-in-Compare-clause-engine
 returns-in-Compare-clause-engine g c =
     let style = c.in-Compare.style in
     let settings = c.args.config.now in
-    let text = text_of_answer c.args.strict style (answer_seen c.compare_in-answer.result) in
+    let text = text_of_answer c.args.strict style c.compare-answer.result in
     rw c.in-Compare.is (
       text,
       λ one other agrees_one agrees_other. subst (λ (told : Result PairAnswer CompareFault). ComparesPair style c.args.strict MESSAGE_LIMIT settings one other told text) (sym c.answer_of.ensures)
-          (compared_pair style c.args.strict MESSAGE_LIMIT settings one other (answer_seen c.compare_in-answer.result)
-          (compares_seen MESSAGE_LIMIT settings one other c.compare_in-answer.result (c.compare_in-answer.ensures.answer one other agrees_one agrees_other))),
+          (compared_pair style c.args.strict MESSAGE_LIMIT settings one other c.compare-answer.result (c.compare-answer.ensures.answer one other agrees_one agrees_other)),
       c.write_answer.ensures.text,
     )
 
 pub returns-in-Compare-clause-left_memory : goal.returns-in-Compare-clause-left_memory
 returns-in-Compare-clause-left_memory g c = λ log agrees is.
-    rw c.in-Compare.is (c.compare_in-answer.ensures.left_memory log agrees (fault_seen c.compare_in-answer.result _ (sym c.answer_of.ensures ∙ is)))
+    rw c.in-Compare.is (c.compare-answer.ensures.left_memory log agrees (fault_compared c.compare-answer.result _ (sym c.answer_of.ensures ∙ is)))
 
 pub returns-in-Compare-clause-right_memory : goal.returns-in-Compare-clause-right_memory
 returns-in-Compare-clause-right_memory g c = λ log agrees is.
-    rw c.in-Compare.is (c.compare_in-answer.ensures.right_memory log agrees (fault_seen c.compare_in-answer.result _ (sym c.answer_of.ensures ∙ is)))
+    rw c.in-Compare.is (c.compare-answer.ensures.right_memory log agrees (fault_compared c.compare-answer.result _ (sym c.answer_of.ensures ∙ is)))
 
 pub returns-in-Compare-clause-left_near : goal.returns-in-Compare-clause-left_near
-returns-in-Compare-clause-left_near g c = λ log agrees. rw c.in-Compare.is (c.compare_in-answer.ensures.left_near log agrees)
+returns-in-Compare-clause-left_near g c = λ log agrees. rw c.in-Compare.is (c.compare-answer.ensures.left_near log agrees)
 
 pub returns-in-Compare-clause-right_near : goal.returns-in-Compare-clause-right_near
-returns-in-Compare-clause-right_near g c = λ log agrees. rw c.in-Compare.is (c.compare_in-answer.ensures.right_near log agrees)
+returns-in-Compare-clause-right_near g c = λ log agrees. rw c.in-Compare.is (c.compare-answer.ensures.right_near log agrees)
 
 pub returns-in-Report-clause-engine : goal.returns-in-Report-clause-engine
 returns-in-Report-clause-engine g c =

@@ -8,14 +8,14 @@ use Rattle.trace_canon.proofs.Lengths.{each_is_byte}
 use Rattle.trace_canon.proofs.collector.Collector.take.Goals as goal
 
 pub returns-then-self-limit : goal.returns-then-self-limit
-returns-then-self-limit g c = λ settings M stood.
+returns-then-self-limit c = λ settings M stood.
     let message : Message = (c.args.dir, c.args.message.now) in
     let most = ap (λ (s : Settings). s.max_bytes) stood.same in
     collects_still settings M _ _ _ stood message (each_is_byte c.args.message.now (λ i. omega (arith, c.type_inv.message i)))
     (omega (arith, most, c.max_bytes-limit.ensures.value, c.if-self-limit.true))
 
 pub returns-then-length-limit : goal.returns-then-length-limit
-returns-then-length-limit g c = λ settings M stood.
+returns-then-length-limit c = λ settings M stood.
     let message : Message = (c.args.dir, c.args.message.now) in
     let most = ap (λ (s : Settings). s.max_bytes) stood.same in
     let all = keeps_all settings M _ _ _ stood (omega (arith, most, c.max_bytes-limit.ensures.value, c.if-self-limit.false)) in
@@ -27,7 +27,7 @@ returns-then-length-limit g c = λ settings M stood.
     (omega (arith, most, c.max_bytes-limit.ensures.value, c.if-length-limit.true, all.1, c.saturating_add-length.ensures)) c.args.self.now.config stood.same
 
 pub returns-in-Ok : goal.returns-in-Ok
-returns-in-Ok g c = λ settings M stood.
+returns-in-Ok c = λ settings M stood.
     let message : Message = (c.args.dir, c.args.message.now) in
     let most = ap (λ (s : Settings). s.max_bytes) stood.same in
     let all = keeps_all settings M _ _ _ stood (omega (arith, most, c.max_bytes-limit.ensures.value, c.if-self-limit.false)) in

@@ -1,0 +1,18 @@
+use Rattle.isotp_receive.specs.declared.TheConstants.{MESSAGE_LIMIT}
+use Rattle.trace_canon.specs.SessionScript.{answers_session, silent_script}
+use Rattle.trace_canon.proofs.Collecting.{collects_none}
+use Rattle.trace_run.proofs.Promises.{never_write}
+use Rattle.trace_canon.proofs.SessionScripts.{session_is_the_same, silent_tells_nothing}
+use Rattle.trace_log.proofs.Promises.{given_agrees}
+use Rattle.trace_canon.proofs.collector.session_of.Goals as goal
+
+pub run-requires-clause-machine : goal.run-requires-clause-machine
+run-requires-clause-machine g c = rw (c.new.ensures) (collects_none c.args.config.now)
+
+pub returns-clause-answer : goal.returns-clause-answer
+returns-clause-answer g c = λ log agrees. session_is_the_same c.args.config.now log _ c.run.result _ _ (c.run.ensures.ran.answer log agrees)
+
+pub returns-clause-never_write : goal.returns-clause-never_write
+returns-clause-never_write g c =
+    let gave = c.run.ensures.ran.read.gave in
+    never_write silent_script silent_tells_nothing (answers_session c.args.config.now) MESSAGE_LIMIT c.args.config.now gave.bytes _ _ _ c.run.result (c.run.ensures.ran.answer gave.bytes (given_agrees gave))

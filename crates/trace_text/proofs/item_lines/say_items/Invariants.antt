@@ -1,0 +1,6 @@
+use Rattle.std.proofs.Common.{take}
+use Rattle.trace_text.specs.ListText.{list_text}
+use Rattle.trace_text.proofs.item_lines.say_items.Given as goal
+
+abbrev pub invariant-items : goal.invariant-items
+invariant-items g l = g.S.TextSink.says l.initial.out (list_text l.style (take l.i l.meaning)) l.out

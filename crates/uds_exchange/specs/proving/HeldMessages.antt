@@ -1,0 +1,27 @@
+-- Devices of proof: messages that are held, by where their bytes lie.
+use Rattle.std.specs.Prelude.{◌≡◌, ℕ, List, [], ◌∷◌, length, map, sum_by}
+use Rattle.direction.specs.Dir.{Message}
+use Rattle.uds_exchange.specs.declared.held.HeldMessage.{HeldMessage}
+use Rattle.uds_exchange.specs.proving.Blocks.{bytes_at, IsInside}
+
+-- a message
+abbrev pub message_at : List (List ℕ) → HeldMessage → Message
+message_at blocks held = (held.dir, bytes_at blocks held.bytes)
+
+-- the messages
+abbrev pub messages_at : List (List ℕ) → List HeldMessage → List Message
+messages_at blocks held = map (message_at blocks) held
+
+-- each lies in a block
+abbrev pub AreHeldIn : List (List ℕ) → List HeldMessage → Type 0
+AreHeldIn blocks [] = Unit {0}
+AreHeldIn blocks (first ∷ later) = IsInside blocks first.bytes × AreHeldIn blocks later
+
+-- how many bytes a message has
+abbrev pub message_length : Message → ℕ
+message_length message = length message.1
+
+-- that, and the sum of their lengths
+pub record IsHeld (blocks : List (List ℕ)) (held : List HeldMessage) (total : ℕ) : Type 0 where
+  pub inside : AreHeldIn blocks held
+  pub sum : total ≡ sum_by message_length (messages_at blocks held)
