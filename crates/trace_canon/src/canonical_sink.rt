@@ -134,8 +134,8 @@ fn say_line<S: TextSink>(out: &mut S, clock: &LineClock, id: Id, frame: &[u8; 8]
     ensures { S.says out.old (canonical_line clock.now id frame.now) out.new }
 {
     match id {
-        Id::Std(number) => out.put(&base_line(clock, number, frame)),
-        Id::Ext(number) => out.put(&extended_line(clock, number, frame)),
+        Id::Std(number) => out.put_whole(&base_line(clock, number, frame)),
+        Id::Ext(number) => out.put_whole(&extended_line(clock, number, frame)),
     }
 }
 

@@ -65,6 +65,13 @@ impl Block {
         &self.bytes[..self.len]
     }
 
+    /// How many bytes more it has room for.
+    fn room(&self) -> usize
+        ensures { result + length self.now ≡ BLOCK }
+    {
+        BLOCK - self.len
+    }
+
     /// Appends the bytes where there is room for them. Answers whether there was.
     #[inline(always)]
     pub(crate) fn take(&mut self, bytes: &[u8]) -> bool
@@ -111,8 +118,8 @@ impl Block {
     }
 }
 
-/// Writes the block, which has no room for the text, and begins it anew with the text. A text that no block has room for
-/// is written at once.
+/// Fills the block, which has no room for the text, with the front of it, writes it, and begins it anew with what is left. A
+/// text that no block has room for is written at once, behind what the block holds.
 pub(crate) fn gather<W: Target>(
     writer: &mut W,
     block: &mut Block,
@@ -126,12 +133,16 @@ pub(crate) fn gather<W: Target>(
     ensures took { Took (W.taken writer.old) (W.taken writer.new) (W.contents writer.old) (W.contents writer.new) }
     ensures taken { HasGathered result (W.taken writer.old) (block.old ++ text.now) (W.taken writer.new) block.new }
 {
-    write_all(writer, block.as_slice())?;
-    block.clear();
     if text.len() > BLOCK {
+        write_all(writer, block.as_slice())?;
+        block.clear();
         return write_all(writer, text);
     }
-    block.append(text);
+    let (front, rest) = text.split_at(text.len().min(block.room()));
+    block.append(front);
+    write_all(writer, block.as_slice())?;
+    block.clear();
+    block.append(rest);
     Ok(())
 }
 

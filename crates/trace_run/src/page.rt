@@ -55,6 +55,11 @@ impl<'a, W: Target> TextSink for Drain<'a, W> {
     }
 
     #[inline(always)]
+    fn put_whole(&mut self, text: &[u8]) {
+        put_whole(self.target, self.page, text);
+    }
+
+    #[inline(always)]
     fn put_three(&mut self, first: &[u8], second: &[u8], third: &[u8]) {
         put_three(self.target, self.page, first, second, third);
     }
@@ -71,7 +76,8 @@ fn put_text<W: Target>(target: &mut W, page: &mut Page, text: &[u8])
     }
 }
 
-/// Puts a text on a page that has no room for it: what is on the page is written first.
+/// Puts a text on a page that has no room for it: the page is filled with the front of it and written, so that no write is
+/// shorter than a page.
 #[inline(never)]
 fn put_anew<W: Target>(target: &mut W, page: &mut Page, text: &[u8])
     requires { 0 < length text.now }
@@ -86,6 +92,25 @@ fn put_anew<W: Target>(target: &mut W, page: &mut Page, text: &[u8])
     if let Err(_fault) = gather(target, &mut page.block, text) {
         page.failed = true;
     }
+}
+
+/// Puts a text on the page that no write is to end within.
+#[inline(always)]
+fn put_whole<W: Target>(target: &mut W, page: &mut Page, text: &[u8])
+    ensures { Speaks W.Target page.old.failed page.old.block target.old text.now page.new.failed page.new.block target.new }
+{
+    if !page.block.take(text) {
+        put_whole_anew(target, page, text);
+    }
+}
+
+/// Puts such a text on a page that has no room for it: what is on the page is written first.
+#[inline(never)]
+fn put_whole_anew<W: Target>(target: &mut W, page: &mut Page, text: &[u8])
+    ensures { Speaks W.Target page.old.failed page.old.block target.old text.now page.new.failed page.new.block target.new }
+{
+    let _ = settle(target, page);
+    put_text(target, page, text);
 }
 
 /// Puts three texts on the page, one after another. Each is laid where it is to lie, so that no bytes are read soon after

@@ -18,6 +18,7 @@ use Rattle.trace_text.specs.Json.{Value, string, object, Members, nothing, membe
 use Rattle.trace_text.specs.Json as json
 use Rattle.trace_text.specs.Laws.{IsOfBytes, EqualListsHaveEqualTexts}
 use Rattle.trace_text.specs.ListText.{answer_members, outcome_text, outcome_members, item_text, item_members, item_object, number_text, list_text, list_text_from}
+use Rattle.trace_text.specs.proving.OpenItems.{front_of_object}
 use Rattle.trace_text.specs.proving.Spelling.{later_then, members_then, value_then}
 use Rattle.trace_text.specs.Words.{bytes_text, direction_text, service_text, code_text}
 use Rattle.trace_text.proofs.JsonTexts.{value_is}
@@ -233,11 +234,7 @@ item_spelled Json (stray d bytes) rest = members_spelled 0 (item_members (stray 
 abbrev styled : Notation → Numbering → ItemStyle
 styled notation numbering = record { numbering = numbering; notation = notation }
 
--- the front of an object, up to what the item is
-abbrev front_of_object : Numbering → ℕ → List ℕ
-front_of_object Shown number = codes "{\"item\":" ++ decimal number ++ codes ","
-front_of_object Hidden number = codes "{"
-
+-- what stands before the words of an item
 abbrev front_of : Notation → Numbering → ℕ → List ℕ
 front_of Text numbering number = number_text numbering number
 front_of Json numbering number = front_of_object numbering number

@@ -14,7 +14,7 @@ use Rattle.trace_text.specs.ListText.{outcome_members, item_members, item_object
 use Rattle.trace_text.specs.proving.Spelling.{later_then, members_then}
 use Rattle.trace_text.specs.proving.OpenItems.{front_of_item, open_answer, open_item, open_object, open_outcome}
 use Rattle.trace_text.proofs.JsonTexts.{members_are, line_is}
-use Rattle.trace_text.proofs.JoinedTexts.{three_parts, four_parts, five_parts}
+use Rattle.trace_text.proofs.JoinedTexts.{four_parts, five_parts}
 
 -- what ends an object of an item, and what is behind it
 abbrev end_then : List ℕ → List ℕ
@@ -67,7 +67,7 @@ closed_object : (numbering : Numbering) (number : ℕ) (item : ItemValue) (behin
     → open_object numbering number item ++ end_then behind ≡ codes "{" ++ members_then (item_object numbering number item) (codes "}" ++ behind)
 closed_object Hidden number item behind = ap (λ l. codes "{" ++ l) (item_is item behind)
 closed_object Shown number item behind =
-    ap (λ l. codes "{\"item\":" ++ l) (three_parts (decimal number) (codes ",\"kind\":\"") (open_item item) (end_then behind))
+    ap (λ l. codes "{\"item\":" ++ l) (four_parts (decimal number) (codes ",") (codes "\"kind\":\"") (open_item item) (end_then behind))
     ∙ ap (λ l. codes "{\"item\":" ++ (decimal number ++ l)) (ap (λ l. codes "," ++ l) (item_is item behind) ∙ is_later item (codes "}" ++ behind))
 
 pub object_is : (numbering : Numbering) (number : ℕ) (item : ItemValue)
@@ -111,4 +111,8 @@ stray_is item d bytes is = rw is refl
 -- the front of an item that has a number
 pub shown_front : (numbering : Numbering) (number : ℕ) → numbering ≡ Shown
     → codes "{\"item\":" ++ decimal number ++ codes ",\"kind\":\"" ≡ front_of_item numbering number
-shown_front numbering number is = rw is refl
+shown_front numbering number is = rw is (sym (append_assoc (codes "{\"item\":" ++ decimal number) (codes ",") (codes "\"kind\":\"")))
+
+-- and of one that has none
+pub hidden_front : (numbering : Numbering) (number : ℕ) → numbering ≡ Hidden → codes "{\"kind\":\"" ≡ front_of_item numbering number
+hidden_front numbering number is = rw is refl

@@ -12,12 +12,7 @@ use uds_exchange::Item;
 use uds_message::{is_negative_response, is_suppressing, response_code, sid};
 
 /// Says an item, which has this number, as an object of JSON, without the end of its line.
-pub fn say_item_object<S: TextSink>(
-    number: u64,
-    numbering: Numbering,
-    item: Item<'_>,
-    out: &mut S,
-)
+pub fn say_item_object<S: TextSink>(number: u64, numbering: Numbering, item: Item<'_>, out: &mut S)
     ensures { S.says out.old (value_text (object (item_object numbering number (item_value item.entry)))) out.new }
 {
     say_open_object(number, numbering, item, out);

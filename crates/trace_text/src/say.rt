@@ -1,5 +1,5 @@
 //! The parts of a line of text, said one after another.
-ghost use Rattle.std.specs.Prelude.{◌+◌, ◌<◌, ◌≤◌, length, take};
+ghost use Rattle.std.specs.Prelude.{◌+◌, ◌<◌, ◌≤◌, ◌++◌, length, take};
 ghost use Rattle.std.specs.Fmt.{decimal};
 ghost use Rattle.trace_text.specs.Parts.{counts_between, part_text, parts_text};
 ghost use Rattle.can_log.specs.Digits.{hexadecimal};
@@ -55,7 +55,7 @@ pub fn say_text<S: TextSink>(out: &mut S, text: &str)
     out.put(text.as_bytes());
 }
 
-/// Says a number in decimal. It stands apart, as what else is long to say, so that [`say_parts`] is a small loop.
+/// Says a number in decimal, whole. It stands apart, as what else is long to say, so that [`say_parts`] is a small loop.
 #[inline(never)]
 pub fn say_number<S: TextSink>(out: &mut S, number: u64)
     ensures { S.says out.old (decimal number) out.new }
@@ -63,8 +63,8 @@ pub fn say_number<S: TextSink>(out: &mut S, number: u64)
     if number < 10_000 {
         say_short_number(out, number as u32);
     } else if number < 100_000_000 {
-        say_short_number(out, number as u32 / 10_000);
-        out.put(&four_decimals(number as u32 % 10_000));
+        let last = four_decimals(number as u32 % 10_000);
+        say_number_before(out, number as u32 / 10_000, &last, &[]);
     } else {
         say_long_number(out, number);
     }
@@ -77,13 +77,30 @@ fn say_short_number<S: TextSink>(out: &mut S, number: u32)
     ensures { S.says out.old (decimal number) out.new }
 {
     if number < 10 {
-        out.put(&[b'0' + number as u8]);
+        out.put_whole(&[b'0' + number as u8]);
     } else if number < 100 {
-        out.put(&two_decimals(number));
+        out.put_whole(&two_decimals(number));
     } else if number < 1_000 {
-        out.put(&four_decimals(number)[1..]);
+        out.put_whole(&four_decimals(number)[1..]);
     } else {
-        out.put(&four_decimals(number));
+        out.put_whole(&four_decimals(number));
+    }
+}
+
+/// Says such a number and two texts behind it, the later digits of a longer one, as one whole.
+#[inline(always)]
+fn say_number_before<S: TextSink>(out: &mut S, number: u32, second: &[u8], third: &[u8])
+    requires { number < 10000 }
+    ensures { S.says out.old (decimal number ++ second.now ++ third.now) out.new }
+{
+    if number < 10 {
+        out.put_three(&[b'0' + number as u8], second, third);
+    } else if number < 100 {
+        out.put_three(&two_decimals(number), second, third);
+    } else if number < 1_000 {
+        out.put_three(&four_decimals(number)[1..], second, third);
+    } else {
+        out.put_three(&four_decimals(number), second, third);
     }
 }
 
@@ -95,11 +112,11 @@ fn say_long_number<S: TextSink>(out: &mut S, number: u64)
 {
     if number < 1_000_000_000_000 {
         let behind = (number % 100_000_000) as u32;
-        say_short_number(out, (number / 100_000_000) as u32);
-        out.put(&four_decimals(behind / 10_000));
-        out.put(&four_decimals(behind % 10_000));
+        let middle = four_decimals(behind / 10_000);
+        let last = four_decimals(behind % 10_000);
+        say_number_before(out, (number / 100_000_000) as u32, &middle, &last);
     } else {
-        out.put(Buffer::new().format(number).as_bytes());
+        out.put_whole(Buffer::new().format(number).as_bytes());
     }
 }
 
@@ -109,14 +126,14 @@ pub fn say_place<S: TextSink>(out: &mut S, place: usize)
     ensures { S.says out.old (decimal (place + 1)) out.new }
 {
     // One more than the largest place is no `usize`.
-    out.put(Buffer::new().format(place as u128 + 1).as_bytes());
+    out.put_whole(Buffer::new().format(place as u128 + 1).as_bytes());
 }
 
 /// Says the two digits of a byte.
 pub fn say_byte<S: TextSink>(out: &mut S, byte: u8)
     ensures { S.says out.old (hexadecimal 2 byte) out.new }
 {
-    out.put(&hexadecimal_digits(byte));
+    out.put_whole(&hexadecimal_digits(byte));
 }
 
 /// Says a number below 16 as one hexadecimal digit.
@@ -131,14 +148,14 @@ pub fn say_digit<S: TextSink>(out: &mut S, number: u8)
 pub fn say_six_decimals<S: TextSink>(out: &mut S, number: u64)
     ensures { S.says out.old (digits.decimal 6 number) out.new }
 {
-    out.put(&six_decimals(number)[..6]);
+    out.put_whole(&six_decimals(number)[..6]);
 }
 
 /// Says the last three decimal digits of a number.
 pub fn say_three_decimals<S: TextSink>(out: &mut S, number: u64)
     ensures { S.says out.old (digits.decimal 3 number) out.new }
 {
-    out.put(&three_decimals(number));
+    out.put_whole(&three_decimals(number));
 }
 
 /// Says a length in decimal.
@@ -202,7 +219,7 @@ fn say_part<S: TextSink>(out: &mut S, part: Part<'_>)
         Part::Place(place) => say_place(out, place),
         Part::Digit(number) => say_digit(out, number),
         Part::Decimals(number) => say_six_decimals(out, number),
-        Part::Spelled(bytes) => out.put(bytes),
+        Part::Spelled(bytes) => out.put_whole(bytes),
         Part::Bytes(bytes) => say_bytes(out, bytes),
         Part::Service(sid) => say_service(out, sid),
         Part::Code(code) => say_code(out, code),

@@ -7,10 +7,14 @@ use Rattle.trace_text.specs.declared.item_lines.Numbering.{Numbering}
 use Rattle.trace_text.specs.declared.item_lines.Numbering.TheVariants.{Shown, Hidden}
 use Rattle.trace_text.specs.Words.{bytes_text, direction_text, service_text, code_text}
 
--- the front of the object, up to the word of its kind
+-- the front of the object, up to what the item is
+abbrev pub front_of_object : Numbering → ℕ → List ℕ
+front_of_object Shown n = codes "{\"item\":" ++ decimal n ++ codes ","
+front_of_object Hidden n = codes "{"
+
+-- and up to the word of its kind
 abbrev pub front_of_item : Numbering → ℕ → List ℕ
-front_of_item Shown n = codes "{\"item\":" ++ decimal n ++ codes ",\"kind\":\""
-front_of_item Hidden n = codes "{\"kind\":\""
+front_of_item numbering n = front_of_object numbering n ++ codes "\"kind\":\""
 
 -- the answer to a request, from the quote behind the request on
 abbrev pub open_answer : List ℕ → List ℕ

@@ -1,4 +1,5 @@
-use Rattle.std.proofs.Common.{◌≡◌, ◌+◌, ◌++◌, ap, subst, ◌∙◌}
+use Rattle.std.proofs.Common.{◌≡◌, ◌+◌, ◌++◌, ap, ap₂, subst, ◌∙◌, append_assoc}
+use Rattle.std.proofs.lemmas.List.{take-append-drop}
 use Rattle.std.specs.Prelude.{MatchResult}
 use Rattle.trace_io.proofs.Promises.{took_more}
 use Rattle.trace_io.specs.Written.{HasFront}
@@ -30,3 +31,16 @@ returns-in_err-write_all-clause-taken g c =
     let new = g.W.Target.taken c.write_all.new.target in
     rw (handed_on c.from_residual.result _ c.from_residual.ensures.1)
     (front_longer old _ c.args.text.now new (subst (λ t. HasFront old t new) c.as_slice.ensures.value c.in_err-write_all.ensures.taken))
+
+pub returns-in_err-write_all-2-clause-taken : goal.returns-in_err-write_all-2-clause-taken
+returns-in_err-write_all-2-clause-taken g c =
+    let old = g.W.Target.taken c.args.writer.now in
+    let new = g.W.Target.taken c.write_all-2.new.target in
+    let held = c.args.block.now in
+    let front = c.split_at.result.0.now in
+    let rest = c.split_at.result.1.now in
+    let whole = ap₂ (λ x y. x ++ y) c.split_at.ensures.front c.split_at.ensures.back ∙ take-append-drop c.min.result c.args.text.now in
+    rw (handed_on c.from_residual-in_err-write_all-2.result _ c.from_residual-in_err-write_all-2.ensures.1)
+    (subst (λ t. HasFront old t new) (append_assoc held front rest ∙ ap (λ t. held ++ t) whole)
+    (front_longer old (held ++ front) rest new
+    (subst (λ t. HasFront old t new) (c.as_slice-2.ensures.value ∙ c.append.ensures) c.in_err-write_all-2.ensures.taken)))
