@@ -10,6 +10,8 @@ import itertools
 import math
 import os
 import re
+import resource
+import subprocess
 import sys
 import tempfile
 import time
@@ -19,7 +21,7 @@ import commands
 import oracle
 from cases import DIFFERENT, DONE, REFUSAL, Cases
 from counts import counts_line
-from runs import PROGRAM_BYTES, Ended, differences, peak
+from runs import PROGRAM_BYTES, Ended, differences, end, give, peak, start
 from told import place
 
 # The lengths that a frame may have, and those that a first frame may have.
@@ -93,6 +95,15 @@ ROWS = Fraction(240, 22)
 
 # Those of what a log means for each byte of its canonical log.
 MEANT_CANONICAL = Fraction(49, 46)
+
+# The most mebibytes of address space that a program needs whose log means so many requests of one length, in frames of one length,
+# and one that compares such a log with itself, if they are told. That is what the requests have, in memory of their own, and a
+# tenth. A buffer of them all that grew to twice its bytes would need twice as much.
+ADDRESS_SPACES = [
+    (33, oracle.MESSAGE_LIMIT, 64, 41, 77),
+    (8300, 4095, 8, 40, None),
+    (1_090_000, 7, 8, 110, None),
+]
 
 # What explain says of two of the longest messages that lack their last frames, before it counts.
 UNFINISHED = b"""\
@@ -380,6 +391,28 @@ def memory_of_logs(cases):
     memory_of_two(cases)
 
 
+def address_space(cases):
+    """What a log means needs little more address space than its messages have bytes, whether they are few and long or many and
+    short."""
+    for count, size, length, listed, compared in ADDRESS_SPACES:
+        request = b"\x2C".ljust(size, bytes(1))
+        log = single_frame("7E0", request) if size <= 7 else segmented("7E0", request, length)
+        name = f"{count} requests of {size} bytes"
+        running = start(cases.program, ["list"], stdout=subprocess.DEVNULL, preexec_fn=lambda: limit_address_space(listed))
+        give(running, log, count)
+        cases.case(f"list of {name} in {listed} MiB", end(running), DONE, output=None)
+        if compared:
+            with tempfile.NamedTemporaryFile() as file:
+                file.writelines(itertools.repeat(log, count))
+                file.flush()
+                found = cases.run(["compare", file.name, file.name], preexec_fn=lambda: limit_address_space(compared))
+                cases.case(f"compare of {name} in {compared} MiB", found, DONE, b"same\n")
+
+
+def limit_address_space(mebibytes):
+    resource.setrlimit(resource.RLIMIT_AS, (mebibytes * 2**20,) * 2)
+
+
 def many_pairs(size):
     """The shortest log of so many bytes whose answers are each of another pair: 44 bytes for one."""
     sides = ((tester, unit) for tester in range(0x800) for unit in range(0x800) if tester != unit)
@@ -451,7 +484,7 @@ def main():
     cases = Cases(os.path.abspath(sys.argv[1]))
     for test in [
         canonical_growth, longest_texts, page_growth, pair_page_growth, drops, places, longest_lines, one_line_of_error, memory, memory_of_logs,
-        work,
+        address_space, work,
     ]:
         test(cases)
     cases.end()

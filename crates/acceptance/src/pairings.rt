@@ -8,7 +8,7 @@ use direction::Dir::{self, Tester, Unit};
 use std::alloc::{AllocError, Global};
 use std::process::Abort;
 use std::test::Fail;
-use uds_exchange::{Item, Meaning, MessageSink, OrderFault, Orderer, Pairing};
+use uds_exchange::{Decider, Item, ItemSink, Meaning, MessageSink, OrderFault, Orderer, Pairing};
 
 /// Lists of messages, and the items that they mean.
 const MEANINGS: &str = "\
@@ -218,6 +218,97 @@ fn push_item(alloc: Global, text: &mut String, item: Item<'_>) -> Result<(), All
             push_message(alloc, text, dir, bytes)
         }
     }
+}
+
+/// Lists of messages, and how what has taken them is shown.
+const SHOWN: &str = "\
+no message
+pairing Pairing { alloc: Global, items: [], open_sid: None, last: 0 }
+meaning Meaning { items: [] }
+orderer Orderer { has_failed: false, open_sid: None, held: Held { extents: [], bytes: [] } }
+decider Decider { alloc: Global, request: None, held: Held { extents: [], bytes: [] } }
+
+messages behind an open request
+message Unit#7F
+message Tester#22F190
+message Tester#3E80
+message Unit#5902FF
+message Unit#
+pairing Pairing { alloc: Global, items: [Stray { dir: Unit, bytes: [127] }, Exchange { request: [34, 241, 144], answer: None }, \
+Stray { dir: Tester, bytes: [62, 128] }, Stray { dir: Unit, bytes: [89, 2, 255] }, Stray { dir: Unit, bytes: [] }], \
+open_sid: Some(34), last: 1 }
+meaning Meaning { items: [Stray { dir: Unit, bytes: [127] }, Exchange { request: [34, 241, 144], answer: None }, \
+Stray { dir: Tester, bytes: [62, 128] }, Stray { dir: Unit, bytes: [89, 2, 255] }, Stray { dir: Unit, bytes: [] }] }
+orderer Orderer { has_failed: false, open_sid: Some(34), held: Held { extents: [Extent { dir: Tester, len: 2 }, \
+Extent { dir: Unit, len: 3 }, Extent { dir: Unit, len: 0 }], bytes: [62, 128, 89, 2, 255] } }
+decider Decider { alloc: Global, request: Some([34, 241, 144]), held: Held { extents: [Extent { dir: Tester, len: 2 }, \
+Extent { dir: Unit, len: 3 }, Extent { dir: Unit, len: 0 }], bytes: [62, 128, 89, 2, 255] } }
+
+an answer
+message Tester#22F190
+message Tester#3E80
+message Unit#62F19041
+pairing Pairing { alloc: Global, items: [Exchange { request: [34, 241, 144], answer: Some([98, 241, 144, 65]) }, \
+Stray { dir: Tester, bytes: [62, 128] }], open_sid: None, last: 0 }
+meaning Meaning { items: [Exchange { request: [34, 241, 144], answer: Some([98, 241, 144, 65]) }, \
+Stray { dir: Tester, bytes: [62, 128] }] }
+orderer Orderer { has_failed: false, open_sid: None, held: Held { extents: [], bytes: [] } }
+decider Decider { alloc: Global, request: None, held: Held { extents: [], bytes: [] } }
+";
+
+#[test]
+fn what_has_taken_messages_is_shown_by_them(rt: HostRuntime) -> Result<(), Fail> {
+    let alloc = rt.alloc();
+    for row in rows_of(SHOWN) {
+        let mut pairing = Pairing::new(alloc);
+        let mut orderer = Orderer::new(alloc);
+        let mut decider = Decider::new(alloc);
+        for line in lines_of(row) {
+            if let Some(message) = line.strip_prefix("message ") {
+                let (dir, bytes) = message_spelled(alloc, message)?;
+                pairing.take(dir, &bytes)?;
+                orderer.take(dir, &bytes, &mut Recorder::new(alloc, 10))?;
+                decider.take(dir, &bytes, &mut Unheard)?;
+            }
+        }
+        assert_text(
+            &rt,
+            row,
+            &shown(alloc, &pairing)?,
+            line_marked(row, "pairing"),
+        );
+        assert_text(
+            &rt,
+            row,
+            &shown(alloc, &pairing.finish())?,
+            line_marked(row, "meaning"),
+        );
+        assert_text(
+            &rt,
+            row,
+            &shown(alloc, &orderer)?,
+            line_marked(row, "orderer"),
+        );
+        assert_text(
+            &rt,
+            row,
+            &shown(alloc, &decider)?,
+            line_marked(row, "decider"),
+        );
+    }
+    Ok(())
+}
+
+/// Takes items, and keeps nothing.
+#[derive(Drop)]
+struct Unheard;
+
+impl ItemSink for Unheard {
+    ghost use Rattle.std.specs.Prelude.{⊤};
+
+    ghost takes = { λ old item new. ⊤ };
+
+    fn put(&mut self, _item: Item<'_>) {}
 }
 
 /// Two lists, and the place at which their meanings first differ.

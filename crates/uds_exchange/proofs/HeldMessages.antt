@@ -5,16 +5,16 @@ use Rattle.std.proofs.lemmas.List.Sums.{sum_by-cons}
 use Rattle.direction.specs.Dir.{Message}
 use Rattle.uds_exchange.specs.declared.held.HeldMessage.{HeldMessage}
 use Rattle.uds_exchange.specs.proving.Blocks.{bytes_at, IsInside, Holds, GoesOn}
-use Rattle.uds_exchange.specs.proving.HeldMessages.{message_at, messages_at, message_length, AreHeldIn, IsHeld}
+use Rattle.uds_exchange.specs.proving.HeldMessages.{span_of, message_at, messages_at, message_length, AreHeldIn, IsHeld}
 use Rattle.uds_exchange.proofs.InBlocks.{inside-on, bytes_at-on}
 
-pub held-at : (blocks : List (List ℕ)) (held : List HeldMessage) (i : ℕ) (d : HeldMessage) → AreHeldIn blocks held → i < length held → IsInside blocks (get_or held i d).bytes
+pub held-at : (blocks : List (List ℕ)) (held : List HeldMessage) (i : ℕ) (d : HeldMessage) → AreHeldIn blocks held → i < length held → IsInside blocks (span_of (get_or held i d))
 held-at blocks [] i d all below = absurd (omega arith)
 held-at blocks (first ∷ later) zero d all below = all.0
 held-at blocks (first ∷ later) (suc i) d all below = held-at blocks later i d all.1 (omega arith)
 
 -- the next message to put
-pub next-held : (blocks : List (List ℕ)) (held : List HeldMessage) (i : ℕ) (d : HeldMessage) (m : List ℕ) → i < length held → m ≡ bytes_at blocks (get_or held i d).bytes
+pub next-held : (blocks : List (List ℕ)) (held : List HeldMessage) (i : ℕ) (d : HeldMessage) (m : List ℕ) → i < length held → m ≡ bytes_at blocks (span_of (get_or held i d))
     → messages_at blocks (drop i held) ≡ ((get_or held i d).dir, m) ∷ messages_at blocks (drop (i + 1) held)
 next-held blocks held i d m below is = ap (messages_at blocks) (drop_more held i d below) ∙ rw is refl
 
@@ -25,13 +25,13 @@ sum-push (y ∷ l) x = omega (arith, sum_by-cons message_length y (l ++ x ∷ []
 module _ (old new : List (List ℕ)) (on : GoesOn old new) where
   messages-on : (held : List HeldMessage) → AreHeldIn old held → messages_at new held ≡ messages_at old held
   messages-on [] all = refl
-  messages-on (first ∷ later) all = rw (bytes_at-on old new on first.bytes all.0, messages-on later all.1) refl
+  messages-on (first ∷ later) all = rw (bytes_at-on old new on (span_of first) all.0, messages-on later all.1) refl
 
-  held-push : (held : List HeldMessage) (one : HeldMessage) → AreHeldIn old held → IsInside new one.bytes → AreHeldIn new (held ++ one ∷ [])
+  held-push : (held : List HeldMessage) (one : HeldMessage) → AreHeldIn old held → IsInside new (span_of one) → AreHeldIn new (held ++ one ∷ [])
   held-push [] one all inside = (inside, tt)
-  held-push (first ∷ later) one all inside = (inside-on old new on first.bytes all.0, held-push later one all.1 inside)
+  held-push (first ∷ later) one all inside = (inside-on old new on (span_of first) all.0, held-push later one all.1 inside)
 
-  module _ (held grown : List HeldMessage) (all : AreHeldIn old held) (one : HeldMessage) (is : grown ≡ held ++ one ∷ []) (m : List ℕ) (laid : Holds new one.bytes m) where
+  module _ (held grown : List HeldMessage) (all : AreHeldIn old held) (one : HeldMessage) (is : grown ≡ held ++ one ∷ []) (m : List ℕ) (laid : Holds new (span_of one) m) where
     pub pushed : messages_at new grown ≡ messages_at old held ++ (one.dir, m) ∷ []
     pushed =
         ap (messages_at new) is

@@ -2,16 +2,17 @@
 
 ghost use Rattle.std.specs.Prelude.{◌≡◌, ◌++◌, ◌∷◌, [], OnOk, OnErr, IfErr, length, sum_by};
 ghost use Rattle.uds_exchange.specs.Sink.{Puts, Fails};
-ghost use Rattle.uds_exchange.specs.proving.HeldMessages.{AreHeldIn, messages_at};
+ghost use Rattle.uds_exchange.specs.proving.HeldMessages.{AreHeldIn, messages_at, span_of};
 
 use crate::messages::{Messages, Span};
 use crate::sink::MessageSink;
 use direction::Dir;
 use std::alloc::{AllocError, Global};
+use std::fmt::{self, Debug, Formatter, Write};
 use std::marker::Model;
 
 /// A list of messages.
-#[derive(Debug, Drop)]
+#[derive(Drop)]
 pub(crate) struct Held {
     held: Vec<HeldMessage>,
     messages: Messages,
@@ -19,11 +20,13 @@ pub(crate) struct Held {
     total: usize,
 }
 
-/// The side of a message, and where its bytes lie.
-#[derive(Clone, Copy, Debug)]
+/// The side of a message, and where its bytes lie, in sixteen bytes of memory.
+#[derive(Clone, Copy)]
 struct HeldMessage {
+    len: usize,
+    block: u32,
+    start: u16,
     dir: Dir,
-    bytes: Span,
 }
 
 impl Model for Held {
@@ -36,6 +39,19 @@ impl Model for Held {
     ghost view = { λ h. messages_at h.messages h.held.items };
 
     ghost invariant = { λ h. IsHeld h.messages h.held.items h.total };
+}
+
+impl HeldMessage {
+    /// Where its bytes lie.
+    fn span(self) -> Span
+        ensures { result ≡ span_of self }
+    {
+        Span {
+            len: self.len,
+            block: self.block,
+            start: self.start,
+        }
+    }
 }
 
 impl Held {
@@ -66,8 +82,13 @@ impl Held {
             return Err(AllocError);
         };
         self.held.reserve(1)?;
-        let bytes = self.messages.append(message)?;
-        self.held.push_reserved(HeldMessage { dir, bytes });
+        let span = self.messages.append(message)?;
+        self.held.push_reserved(HeldMessage {
+            len: span.len,
+            block: span.block,
+            start: span.start,
+            dir,
+        });
         self.total = total;
         Ok(())
     }
@@ -101,7 +122,63 @@ fn put_each<S: MessageSink>(
     ensures err { IfErr result (λ e. Fails S.after_ok S.after_err sink.old (messages_at messages.now held.now) e sink.new) }
 {
     for one in held {
-        sink.put(one.dir, messages.message(one.bytes))?;
+        sink.put(one.dir, messages.message(one.span()))?;
     }
     Ok(())
+}
+
+/// As if its messages lay end to end.
+impl Debug for Held {
+    fn fmt<W: Write>(&self, f: &mut Formatter<W>) -> fmt::Result {
+        f.debug_struct("Held")
+            .field("extents", &Extents { of: self })
+            .field("bytes", &Bytes { of: self })
+            .finish()
+    }
+}
+
+/// The side and the length of each message.
+#[derive(Drop)]
+struct Extents<'a> {
+    of: &'a Held,
+}
+
+impl<'a> Debug for Extents<'a> {
+    fn fmt<W: Write>(&self, f: &mut Formatter<W>) -> fmt::Result {
+        let held = self.of;
+        let each = held.held.as_slice();
+        let mut list = f.debug_list();
+        for one in each {
+            list.entry(&Extent {
+                dir: one.dir,
+                len: one.len,
+            });
+        }
+        list.finish()
+    }
+}
+
+/// The side and the length of a message.
+#[derive(Clone, Copy, Debug)]
+struct Extent {
+    dir: Dir,
+    len: usize,
+}
+
+/// The bytes of all messages.
+#[derive(Drop)]
+struct Bytes<'a> {
+    of: &'a Held,
+}
+
+impl<'a> Debug for Bytes<'a> {
+    fn fmt<W: Write>(&self, f: &mut Formatter<W>) -> fmt::Result {
+        let held = self.of;
+        let each = held.held.as_slice();
+        let mut list = f.debug_list();
+        for one in each {
+            list.slice(held.messages.message(one.span()));
+        }
+        list.finish()
+    }
 }

@@ -14,7 +14,6 @@
 #![tactic(auto)]
 
 mod decider;
-mod difference;
 mod held;
 mod item;
 mod item_sink;

@@ -9,22 +9,22 @@ ghost use Rattle.uds_exchange.specs.proving.Blocks.{bytes_at, IsInside};
 ghost use Rattle.uds_exchange.specs.declared.messages.Span.{Span as SpanValue};
 ghost use Rattle.uds_exchange.specs.declared.meaning.KeptItem.TheVariants.{Exchange};
 
-use crate::difference::first_difference;
 use crate::item::Item;
 use crate::messages::{Messages, Span};
 use direction::Dir;
 use std::alloc::{AllocError, Global};
+use std::fmt::{self, Debug, Formatter, Write};
 use std::marker::Model;
 
 /// The meaning of a list of messages, seen as a list of items. It keeps their bytes, and lends them.
-#[derive(Debug, Drop)]
+#[derive(Drop)]
 pub struct Meaning {
     items: Vec<KeptItem>,
     messages: Messages,
 }
 
 /// An item, by where its messages lie.
-#[derive(Clone, Copy, Debug)]
+#[derive(Clone, Copy)]
 enum KeptItem {
     Exchange { request: Span, answer: Option<Span> },
     Stray { dir: Dir, bytes: Span },
@@ -74,7 +74,17 @@ impl Meaning {
     pub fn first_difference(&self, other: &Meaning) -> Option<usize>
         ensures { IsFirstDifference self.now other.now result }
     {
-        first_difference(self, other)
+        let shorter = self.len().min(other.len());
+        for i in 0..shorter {
+            if !is_same(self.item(i), other.item(i)) {
+                return Some(i);
+            }
+        }
+        if self.len() == other.len() {
+            None
+        } else {
+            Some(shorter)
+        }
     }
 
     /// No item. It takes no memory.
@@ -85,6 +95,11 @@ impl Meaning {
             items: Vec::new(alloc),
             messages: Messages::new(alloc),
         }
+    }
+
+    /// The allocator of its memory.
+    pub(crate) fn allocator(&self) -> &Global {
+        self.items.allocator()
     }
 
     /// Keeps the exchange of a request that has no answer yet.
@@ -125,6 +140,13 @@ impl Meaning {
     }
 }
 
+/// Whether there are two equal items, or none.
+fn is_same(one: Option<Item<'_>>, other: Option<Item<'_>>) -> bool
+    ensures { IsTrue result ↔ (option_map item_value one.entry ≡ option_map item_value other.entry) }
+{
+    one == other
+}
+
 /// Gives an exchange its answer; a stray stays as it is.
 fn answer_with(item: &mut KeptItem, answer: Span)
     ensures answered { (request : SpanValue) → item.old ≡ Exchange request None → item.new ≡ Exchange request (Some answer) }
@@ -162,5 +184,32 @@ fn answer_at(messages: &Messages, span: Option<Span>) -> Option<&[u8]>
     match span {
         Some(span) => Some(messages.message(span)),
         None => None,
+    }
+}
+
+/// As the list of what it lends.
+impl Debug for Meaning {
+    fn fmt<W: Write>(&self, f: &mut Formatter<W>) -> fmt::Result {
+        f.debug_struct("Meaning")
+            .field("items", &Items { of: self })
+            .finish()
+    }
+}
+
+/// The items of a meaning, to be shown.
+#[derive(Drop)]
+pub(crate) struct Items<'a> {
+    pub(crate) of: &'a Meaning,
+}
+
+impl<'a> Debug for Items<'a> {
+    fn fmt<W: Write>(&self, f: &mut Formatter<W>) -> fmt::Result {
+        let mut list = f.debug_list();
+        for i in 0..self.of.len() {
+            if let Some(item) = self.of.item(i) {
+                list.entry(&item);
+            }
+        }
+        list.finish()
     }
 }

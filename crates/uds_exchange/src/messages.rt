@@ -1,19 +1,27 @@
 //! Messages that are kept, in blocks of memory that are never moved.
 
 ghost use Rattle.std.specs.Prelude.{◌≡◌, ◌<◌, ◌≤◌, ◌+◌, ◌++◌, ◌∷◌, [], ℕ, IsTrue, IfOk, OnOk, OnErr, length};
-ghost use Rattle.uds_exchange.specs.proving.Blocks.{bytes_at, block_bytes, GoesOn, IsInside, Holds, MayGoOn};
+ghost use Rattle.uds_exchange.specs.proving.Blocks.{bytes_at, block_bytes, AreEmpty, GoesOn, IsInside, Holds, MayGoOn};
 
 use std::alloc::{AllocError, Global};
 use std::marker::Model;
 
-/// So many bytes a block has, but one for a long message.
-const BLOCK: usize = 65_536;
+/// So many bytes the first block has.
+const FIRST_BLOCK: usize = 1_024;
 
-/// A message of more bytes may have a block of its length, so that at most a sixteenth of another one is left empty.
-const LONG: usize = 4_096;
+/// How often a block has twice the bytes of the one before it: up to 65,536. So few messages take little memory, and many few
+/// blocks.
+const DOUBLINGS: usize = 6;
+
+/// A message that takes more than such a part of a new block has one of its own length: so at most that part of another block is
+/// left empty.
+const PARTS: usize = 16;
+
+/// The last place in a block at which a message may begin.
+const LAST_START: usize = 65_535;
 
 /// Messages, each whole in a block, where it stays when more are kept: so what is kept takes its own length, and is copied once.
-#[derive(Debug, Drop)]
+#[derive(Drop)]
 pub(crate) struct Messages {
     blocks: Vec<Vec<u8>>,
     /// The number of the block that is being filled, counted from 0.
@@ -21,11 +29,11 @@ pub(crate) struct Messages {
 }
 
 /// Where the bytes of a message lie.
-#[derive(Clone, Copy, Debug)]
+#[derive(Clone, Copy)]
 pub(crate) struct Span {
-    block: u32,
-    start: u32,
-    len: usize,
+    pub(crate) len: usize,
+    pub(crate) block: u32,
+    pub(crate) start: u16,
 }
 
 impl Model for Messages {
@@ -68,7 +76,9 @@ impl Messages {
     }
 
     /// Drops all messages, and keeps the memory of the first block.
-    pub(crate) fn clear(&mut self) {
+    pub(crate) fn clear(&mut self)
+        ensures { AreEmpty self.new }
+    {
         self.blocks.truncate(1);
         if let Some(block) = self.blocks.first_mut() {
             block.clear();
@@ -98,11 +108,7 @@ fn lay(blocks: &mut Vec<Vec<u8>>, filling: &mut u32, message: &[u8]) -> Result<S
     if has_room(blocks.as_slice(), *filling, message.len()) {
         lay_behind(blocks, *filling, message)
     } else {
-        let span = lay_anew(blocks, message)?;
-        if span.len <= LONG {
-            *filling = span.block;
-        }
-        Ok(span)
+        lay_anew(blocks, filling, message)
     }
 }
 
@@ -112,7 +118,7 @@ fn has_room(blocks: &[Vec<u8>], number: u32, len: usize) -> bool
     ensures { IsTrue result → MayGoOn (block_bytes blocks.now) number }
 {
     match blocks.get(number as usize) {
-        Some(block) => block.len() <= BLOCK && len <= block.capacity() - block.len(),
+        Some(block) => block.len() <= LAST_START && len <= block.capacity() - block.len(),
         None => false,
     }
 }
@@ -126,19 +132,44 @@ fn lay_behind(blocks: &mut Vec<Vec<u8>>, number: u32, message: &[u8]) -> Result<
     ensures err { OnErr result (block_bytes blocks.new.items ≡ block_bytes blocks.old.items) }
 {
     let block = &mut blocks[number as usize];
-    let start = block.len() as u32;
+    let start = block.len() as u16;
     block.extend_from_slice(message)?;
     let len = message.len();
     Ok(Span {
+        len,
         block: number,
         start,
-        len,
     })
 }
 
-/// Lays a message into a new block.
+/// Lays a message into a new block. That is filled from then on, unless it has the message's own length.
 #[inline(never)]
-fn lay_anew(blocks: &mut Vec<Vec<u8>>, message: &[u8]) -> Result<Span, AllocError>
+fn lay_anew(
+    blocks: &mut Vec<Vec<u8>>,
+    filling: &mut u32,
+    message: &[u8],
+) -> Result<Span, AllocError>
+    ensures kept { OnOk result (GoesOn (block_bytes blocks.old.items) (block_bytes blocks.new.items)) }
+    ensures laid { IfOk result (λ span. Holds (block_bytes blocks.new.items) span message.now) }
+    ensures err { OnErr result (block_bytes blocks.new.items ≡ block_bytes blocks.old.items) }
+{
+    let room = room_of(blocks.len());
+    if message.len() > room / PARTS {
+        push_block(blocks, message.len(), message)
+    } else {
+        let span = push_block(blocks, room, message)?;
+        *filling = span.block;
+        Ok(span)
+    }
+}
+
+/// How many bytes the block of this number has, if it has not the length of one message.
+fn room_of(number: usize) -> usize {
+    FIRST_BLOCK << number.min(DOUBLINGS)
+}
+
+/// Lays a message into a new block of so many bytes.
+fn push_block(blocks: &mut Vec<Vec<u8>>, room: usize, message: &[u8]) -> Result<Span, AllocError>
     ensures kept { OnOk result (GoesOn (block_bytes blocks.old.items) (block_bytes blocks.new.items)) }
     ensures laid { IfOk result (λ span. Holds (block_bytes blocks.new.items) span message.now) }
     ensures err { OnErr result (block_bytes blocks.new.items ≡ block_bytes blocks.old.items) }
@@ -146,20 +177,12 @@ fn lay_anew(blocks: &mut Vec<Vec<u8>>, message: &[u8]) -> Result<Span, AllocErro
     let Ok(number) = u32::try_from(blocks.len()) else {
         return Err(AllocError);
     };
-    let len = message.len();
-    let mut block = Vec::with_capacity(*blocks.allocator(), room_of(len))?;
+    let mut block = Vec::with_capacity(*blocks.allocator(), room)?;
     block.extend_from_slice(message)?;
     blocks.push(block)?;
     Ok(Span {
+        len: message.len(),
         block: number,
         start: 0,
-        len,
     })
-}
-
-/// How many bytes a block has that begins with a message of so many.
-fn room_of(len: usize) -> usize
-    ensures { len ≤ result }
-{
-    if len > LONG { len } else { BLOCK }
 }

@@ -7,14 +7,15 @@ ghost use Rattle.uds_exchange.specs.Numbering.{step_after};
 ghost use Rattle.uds_exchange.specs.WaitingExchange.{step_by_items};
 ghost use Rattle.uds_exchange.specs.proving.Pairing as Spec;
 
-use crate::meaning::Meaning;
+use crate::meaning::{Items, Meaning};
 use crate::step::{Step, step_of};
 use direction::Dir;
 use std::alloc::{AllocError, Global};
+use std::fmt::{self, Debug, Formatter, Write};
 use std::marker::Model;
 
 /// What the messages so far mean. It stands after a list of messages: contracts see it as the meaning of that list.
-#[derive(Debug, Drop)]
+#[derive(Drop)]
 pub struct Pairing {
     meaning: Meaning,
     /// The first byte of the last request, where that waits for its answer.
@@ -114,5 +115,17 @@ impl Pairing {
                 Ok(())
             }
         }
+    }
+}
+
+/// As if it kept the items itself.
+impl Debug for Pairing {
+    fn fmt<W: Write>(&self, f: &mut Formatter<W>) -> fmt::Result {
+        f.debug_struct("Pairing")
+            .field("alloc", self.meaning.allocator())
+            .field("items", &Items { of: &self.meaning })
+            .field("open_sid", &self.open_sid)
+            .field("last", &self.last)
+            .finish()
     }
 }

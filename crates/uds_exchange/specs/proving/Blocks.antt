@@ -33,4 +33,9 @@ pub record GoesOn (old new : List (List ℕ)) : Type 0 where
 -- more bytes may be put behind those of the block of this number
 pub record MayGoOn (blocks : List (List ℕ)) (number : ℕ) : Type 0 where
   pub block : number < length blocks
-  pub start : length (block_at blocks number) ≤ 65536
+  pub start : length (block_at blocks number) ≤ 65535
+
+-- no block has a byte
+pub record AreEmpty (blocks : List (List ℕ)) : Type 0 where
+  pub few : length blocks ≤ 1
+  pub bytes : (number : ℕ) → block_at blocks number ≡ []

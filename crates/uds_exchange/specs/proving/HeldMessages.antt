@@ -2,11 +2,16 @@
 use Rattle.std.specs.Prelude.{◌≡◌, ℕ, List, [], ◌∷◌, length, map, sum_by}
 use Rattle.direction.specs.Dir.{Message}
 use Rattle.uds_exchange.specs.declared.held.HeldMessage.{HeldMessage}
+use Rattle.uds_exchange.specs.declared.messages.Span.{Span}
 use Rattle.uds_exchange.specs.proving.Blocks.{bytes_at, IsInside}
+
+-- where its bytes lie
+abbrev pub span_of : HeldMessage → Span
+span_of held = record { len = held.len; block = held.block; start = held.start }
 
 -- a message
 abbrev pub message_at : List (List ℕ) → HeldMessage → Message
-message_at blocks held = (held.dir, bytes_at blocks held.bytes)
+message_at blocks held = (held.dir, bytes_at blocks (span_of held))
 
 -- the messages
 abbrev pub messages_at : List (List ℕ) → List HeldMessage → List Message
@@ -15,7 +20,7 @@ messages_at blocks held = map (message_at blocks) held
 -- each lies in a block
 abbrev pub AreHeldIn : List (List ℕ) → List HeldMessage → Type 0
 AreHeldIn blocks [] = Unit {0}
-AreHeldIn blocks (first ∷ later) = IsInside blocks first.bytes × AreHeldIn blocks later
+AreHeldIn blocks (first ∷ later) = IsInside blocks (span_of first) × AreHeldIn blocks later
 
 -- how many bytes a message has
 abbrev pub message_length : Message → ℕ

@@ -2,19 +2,19 @@ use Rattle.std.proofs.Common.{◌≡◌, ◌≢◌, ◌<◌, [], min, length, sy
 use Rattle.direction.specs.declared.Dir.TheVariants.{Tester}
 use Rattle.uds_exchange.specs.Meaning.{stray}
 use Rattle.uds_exchange.proofs.Differences.{take-more-same, shorter-differs}
-use Rattle.uds_exchange.proofs.difference.first_difference.Goals as goal
+use Rattle.uds_exchange.proofs.meaning.Meaning.first_difference.Goals as goal
 
 pub loop-i-preserved : goal.loop-i-preserved
 loop-i-preserved c =
-    let xs = c.args.one.now in
+    let xs = c.args.self.now in
     let ys = c.args.other.now in
     let below : c.loop-i.i < length xs = omega arith in
     take-more-same xs ys c.loop-i.i (stray Tester []) below c.loop-i.invariant
-    (sym c.item.ensures ∙ c.if-not-is_same_option.ensures.0 refl ∙ c.item-in-loop-i.ensures)
+    (sym c.item.ensures ∙ c.if-not-is_same.ensures.0 refl ∙ c.item-in-loop-i.ensures)
 
 pub returns-else-len : goal.returns-else-len
 returns-else-len c =
-    let xs = c.args.one.now in
+    let xs = c.args.self.now in
     let ys = c.args.other.now in
     let n = c.min-shorter.result in
     let whole : c.loop-i.i ≡ n = omega arith in
