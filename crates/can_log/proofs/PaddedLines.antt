@@ -10,7 +10,7 @@ use borrow.Rule.Slice.PartMut.{put_mid}
 use Rattle.can_log.specs.declared.plain.Fields.{Fields}
 use Rattle.can_log.specs.Line.{LineMeans, parts_in, stamped_of}
 use Rattle.can_log.specs.Refused.{NoLineFeed, HasCompletion}
-use Rattle.can_log.specs.proving.Plain.{HavePlainWidths, plain_text, spelling_of}
+use Rattle.can_log.specs.proving.Plain.{ArePlainFields, plain_text, spelling_of}
 use Rattle.can_log.specs.proving.Padded.{line_feeds}
 use Rattle.can_log.proofs.LineFeeds.{clean_append, line_clean, same_line}
 use Rattle.can_log.proofs.PlainLines.{plain_means}
@@ -39,12 +39,12 @@ put_both line bytes first second room one two =
 
 -- what the line means whose fields are found there
 pub padded_means : (line rest : List ℕ) (room : ℕ) (fields : Fields) → NoLineFeed line → 1 ≤ room
-    → line ++ line_feeds room ≡ plain_text fields ++ (codes "\n" ++ rest) → HavePlainWidths fields
+    → line ++ line_feeds room ≡ plain_text fields ++ (codes "\n" ++ rest) → ArePlainFields fields
     → LineMeans line (Some (stamped_of (parts_in (spelling_of fields))))
-padded_means line rest room fields clean some found widths =
+padded_means line rest room fields clean some found legal =
     let front = plain_text fields in
     let what = Some (stamped_of (parts_in (spelling_of fields))) in
-    let told : LineMeans front what = plain_means fields widths in
+    let told : LineMeans front what = plain_means fields legal in
     let left : room ≡ suc (room - 1) = omega arith in
     let is = sym (ap (λ (m : ℕ). line ++ line_feeds m) left) ∙ found in
     let same = (same_line line (line_feeds (room - 1)) front rest clean (line_clean front what told) is).0 in
@@ -55,14 +55,14 @@ pub padded_completes : (line bytes completion before copied : List ℕ) (found :
     → NoLineFeed completion → length completion ≤ 16 → length line + length bytes + length completion ≤ 178
     → before ≡ (line ++ bytes) ++ line_feeds (195 - (length line + length bytes)) → copied ≡ completion
     → IfSome found (λ x. put_mid (length line + length bytes) (length line + length bytes + length completion - (length line + length bytes)) before copied
-    ≡ plain_text x.0 ++ (codes "\n" ++ x.1.now)) → IfSome found (λ x. HavePlainWidths x.0) → is_found ≡ is_some found → IsTrue is_found
+    ≡ plain_text x.0 ++ (codes "\n" ++ x.1.now)) → IfSome found (λ x. ArePlainFields x.0) → is_found ≡ is_some found → IsTrue is_found
     → HasCompletion (line ++ bytes)
-padded_completes line bytes completion before copied None is_found clean clean2 few short is put at widths tells seen = absurd cc
-padded_completes line bytes completion before copied (Some x) is_found clean clean2 few short is put at widths tells seen =
+padded_completes line bytes completion before copied None is_found clean clean2 few short is put at legal tells seen = absurd cc
+padded_completes line bytes completion before copied (Some x) is_found clean clean2 few short is put at legal tells seen =
     let front = line ++ bytes in
     let n = length line + length bytes in
     let room = 195 - n - length completion in
     let lies = put_behind front completion before copied n (195 - n) (length-append line bytes) is put in
     let whole = clean_append front completion clean clean2 in
-    let means = padded_means (front ++ completion) x.1.now room x.0 whole (omega arith) (sym lies ∙ at) widths in
+    let means = padded_means (front ++ completion) x.1.now room x.0 whole (omega arith) (sym lies ∙ at) legal in
     (completion, Some (stamped_of (parts_in (spelling_of x.0))), few, means)

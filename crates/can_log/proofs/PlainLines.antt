@@ -12,7 +12,7 @@ use Rattle.can_log.specs.declared.frame.Kind.{Kind}
 use Rattle.can_log.specs.Frame.{IsFrame, IsIdentifier}
 use Rattle.can_log.proofs.SpelledBytes.{bytes_len}
 use Rattle.can_log.specs.Line.{spell_body, spell_line, parts_in, stamped_of, LineMeans, IsLineText, identifier_of, frame_kind_of, data_of, bytes_spelled, IsRunOf, IsIdentifierText, IsDataText, IsBody, IsLineSpelling}
-use Rattle.can_log.specs.proving.Plain.{HavePlainWidths, IsStamp, AreDecimals, AreFlags, seconds_of, micros_of, most_digits, flags_spelled, digits_of, body_text, body_with, ending_text, end_text, plain_text, spelling_of, IsPlainReturn}
+use Rattle.can_log.specs.proving.Plain.{ArePlainFields, IsStamp, AreDecimals, AreFlags, seconds_of, micros_of, most_digits, flags_spelled, digits_of, body_text, body_with, ending_text, end_text, plain_text, spelling_of, IsPlainReturn}
 use Rattle.can_log.proofs.EachElement.{AllByRecursion-front, AllByRecursion-back, AllByRecursion-append}
 use Rattle.can_log.proofs.Spelling.{id_to}
 
@@ -84,28 +84,28 @@ text_is_spelled fields stamp =
     ∙ simp append_assoc
 
 -- the fields of plain form are those of a line
-plain_is_line : (fields : Fields) → HavePlainWidths fields → IsLineSpelling (spelling_of fields)
-plain_is_line fields widths =
+plain_is_line : (fields : Fields) → ArePlainFields fields → IsLineSpelling (spelling_of fields)
+plain_is_line fields legal =
     let stamp = fields.stamp.now in
-    let digits = widths.stamp.decimals in
+    let digits = legal.stamp.decimals in
     let decimal : ℕ → Type 0 = λ b. is_ascii_digit b ≡ true in
     record {
-      seconds = record { each = AllByRecursion-front decimal (seconds_of stamp) (micros_of stamp) digits; enough = omega (arith, widths.stamp.shortest, length-take (length stamp - 7) stamp); few = omega (arith, widths.stamp.longest, length-take (length stamp - 7) stamp) };
-      micros = record { each = AllByRecursion-back decimal (seconds_of stamp) (micros_of stamp) digits; enough = omega (arith, widths.stamp.shortest, length-drop (length stamp - 6) stamp); few = omega (arith, widths.stamp.shortest, length-drop (length stamp - 6) stamp) };
+      seconds = record { each = AllByRecursion-front decimal (seconds_of stamp) (micros_of stamp) digits; enough = omega (arith, legal.stamp.shortest, length-take (length stamp - 7) stamp); few = omega (arith, legal.stamp.longest, length-take (length stamp - 7) stamp) };
+      micros = record { each = AllByRecursion-back decimal (seconds_of stamp) (micros_of stamp) digits; enough = omega (arith, legal.stamp.shortest, length-drop (length stamp - 6) stamp); few = omega (arith, legal.stamp.shortest, length-drop (length stamp - 6) stamp) };
       gap = record { each = (refl, tt); enough = omega arith; few = omega arith };
-      interface = widths.interface;
+      interface = legal.interface;
       second_gap = record { each = (refl, tt); enough = omega arith; few = omega arith };
-      identifier = widths.identifier;
-      body = body_is fields.body.flags (digits_of fields.body) widths.body.flags widths.body.digits;
-      mark = widths.ending.mark;
+      identifier = legal.identifier;
+      body = body_is fields.body.flags (digits_of fields.body) legal.body.flags legal.body.digits;
+      mark = legal.ending.mark;
     }
 
 -- what a line of plain form records
-pub plain_means : (fields : Fields) → HavePlainWidths fields → LineMeans (plain_text fields) (Some (stamped_of (parts_in (spelling_of fields))))
-plain_means fields widths =
+pub plain_means : (fields : Fields) → ArePlainFields fields → LineMeans (plain_text fields) (Some (stamped_of (parts_in (spelling_of fields))))
+plain_means fields legal =
     let text = spell_line (spelling_of fields) in
-    let returned = text_returned text fields.ending.carriage_return.now widths.ending.returned in
-    (spelling_of fields, plain_is_line fields widths, subst (IsLineText text) (sym (text_is_spelled fields widths.stamp)) returned, refl)
+    let returned = text_returned text fields.ending.carriage_return.now legal.ending.returned in
+    (spelling_of fields, plain_is_line fields legal, subst (IsLineText text) (sym (text_is_spelled fields legal.stamp)) returned, refl)
 
 -- ---- the frame
 

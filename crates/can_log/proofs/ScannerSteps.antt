@@ -12,7 +12,7 @@ use Rattle.can_log.specs.declared.scanner.Judgement.TheVariants as judgement
 use Rattle.can_log.specs.declared.plain.Fields.{Fields}
 use Rattle.can_log.specs.declared.frame.Id.{Id}
 use Rattle.can_log.specs.Line.{LineMeans, IsNoLine, identifier_of, stamped_of, parts_in}
-use Rattle.can_log.specs.proving.Plain.{HavePlainWidths, spelling_of, plain_text}
+use Rattle.can_log.specs.proving.Plain.{ArePlainFields, spelling_of, plain_text}
 use Rattle.can_log.specs.proving.Taking.{TakesPlain}
 use Rattle.can_log.specs.Refused.{NoLineFeed, HasCompletion, IsRefusedPlace, IsUnfinishedAt}
 use Rattle.can_log.specs.Scanning.{Place, Standing, Scans, ScansFrom, ScansForeign, Finishes, FinishesFrom}
@@ -48,17 +48,17 @@ scan_means lines taken line line2 refused piece front after used what e none par
 
 -- the same, of a line of plain form
 pub plain_taken : (lines taken : ℕ) (line : List ℕ) (refused : Option Place) (piece rest : List ℕ) (fields : Fields)
-    → refused ≡ None → line ≡ [] → piece ≡ plain_text fields ++ (codes "\n" ++ rest) → HavePlainWidths fields
+    → refused ≡ None → line ≡ [] → piece ≡ plain_text fields ++ (codes "\n" ++ rest) → ArePlainFields fields
     → TakesPlain (stand lines line taken refused) piece fields (length piece - length rest) (stand (lines + 1) line (taken + (length piece - length rest)) refused)
-plain_taken lines taken line refused piece rest fields e none parts widths =
+plain_taken lines taken line refused piece rest fields e none parts legal =
     let front = plain_text fields in
     let what = Some (stamped_of (parts_in (spelling_of fields))) in
-    let told : LineMeans front what = plain_means fields widths in
+    let told : LineMeans front what = plain_means fields legal in
     let means : LineMeans (line ++ front) what = subst (λ (z : List ℕ). LineMeans (z ++ front) what) (sym none) told in
     let whole = ap (λ (z : List ℕ). length z) parts ∙ length-append front (codes "\n" ++ rest) in
     let used : length piece - length rest ≡ length front + 1 = omega (arith, whole) in
     record {
-      widths = widths;
+      legal = legal;
       counted = refl;
       scans = scan_means lines taken line line refused piece front rest (length piece - length rest) what e none parts used (line_clean front what told) means;
     }

@@ -5,7 +5,7 @@ ghost use Rattle.std.specs.Char.{is_ascii_hexdigit};
 ghost use Rattle.std.specs.Prelude.{◌≡◌, ◌≤◌, ◌+◌, ◌*◌, ◌++◌, IfSome, None, codes, length, take};
 ghost use Rattle.can_log.specs.Line.{parts_in, identifier_of, stamped_of, frame_kind_of, IsRunOf, IsIdentifierText, IsDataText};
 ghost use Rattle.can_log.specs.proving.FieldReader.{is_in};
-ghost use Rattle.can_log.specs.proving.Plain.{HavePlainWidths, IsStamp, time_spelled, IsPlainBody, AreFlags, digits_of, body_with, flags_spelled, most_digits, body_text, end_text, plain_text, spelling_of, IsPlainEnding, ending_text, mark_text, IsPlainMark, IsPlainReturn, IsFrontOf, Tells};
+ghost use Rattle.can_log.specs.proving.Plain.{ArePlainFields, IsStamp, time_spelled, IsPlainBody, AreFlags, digits_of, body_with, flags_spelled, most_digits, body_text, end_text, plain_text, spelling_of, IsPlainEnding, ending_text, mark_text, IsPlainMark, IsPlainReturn, IsFrontOf, Tells};
 ghost use Rattle.can_log.specs.declared.field.Class.TheVariants.{Visible};
 
 use crate::frame::{Id, Kind, Stamped};
@@ -40,6 +40,7 @@ pub(crate) struct Fields<'a> {
     /// The identifier, decoded where its digits are counted: there it is known how many they are.
     id: Id,
     body: PlainBody<'a>,
+    /// A mark and a carriage return, where the line has them.
     ending: PlainEnding<'a>,
 }
 
@@ -94,7 +95,7 @@ struct PlainEnding<'a> {
 #[inline(always)]
 pub(crate) fn plain_line<const IS_LONG: bool>(piece: &[u8]) -> Option<(Fields<'_>, &[u8])>
     ensures line { IfSome result (λ x. piece.now ≡ plain_text x.0 ++ (codes "\n" ++ x.1.now)) }
-    ensures widths { IfSome result (λ x. HavePlainWidths x.0) }
+    ensures legal { IfSome result (λ x. ArePlainFields x.0) }
 {
     if piece.len() < ROOM_OF_CLASSIC {
         return None;
@@ -127,7 +128,7 @@ pub(crate) fn plain_line<const IS_LONG: bool>(piece: &[u8]) -> Option<(Fields<'_
 #[inline(always)]
 pub(crate) fn any_plain_line(piece: &[u8]) -> Option<(Fields<'_>, &[u8])>
     ensures line { IfSome result (λ x. piece.now ≡ plain_text x.0 ++ (codes "\n" ++ x.1.now)) }
-    ensures widths { IfSome result (λ x. HavePlainWidths x.0) }
+    ensures legal { IfSome result (λ x. ArePlainFields x.0) }
 {
     match plain_line::<true>(piece) {
         Some(found) => Some(found),
@@ -138,7 +139,7 @@ pub(crate) fn any_plain_line(piece: &[u8]) -> Option<(Fields<'_>, &[u8])>
 /// The digits of the data of a line with these fields.
 #[inline(always)]
 pub(crate) fn plain_digits(fields: Fields<'_>) -> &[u8]
-    requires widths { HavePlainWidths fields }
+    requires legal { ArePlainFields fields }
     ensures digits { result.now ≡ digits_of fields.entry.body }
     ensures text { IsDataText 128 result.now }
 {
@@ -149,7 +150,7 @@ pub(crate) fn plain_digits(fields: Fields<'_>) -> &[u8]
 /// The identifier of a line with these fields.
 #[inline(always)]
 pub(crate) fn plain_identifier(fields: Fields<'_>) -> Id
-    requires { HavePlainWidths fields }
+    requires { ArePlainFields fields }
     ensures { result ≡ identifier_of fields.entry.identifier.now }
 {
     fields.id
@@ -159,7 +160,7 @@ pub(crate) fn plain_identifier(fields: Fields<'_>) -> Id
 /// data, and so with nothing cleared and nothing copied.
 #[inline(always)]
 pub(crate) fn put_plain_stamped(fields: Fields<'_>, id: Id, stamped: &mut Stamped)
-    requires widths { HavePlainWidths fields }
+    requires legal { ArePlainFields fields }
     requires identifier { id ≡ identifier_of fields.identifier.now }
     requires size { length (digits_of fields.body) ≡ 2 * length stamped.old.frame.bytes }
     ensures { stamped.new ≡ stamped_of (parts_in (spelling_of fields.entry)) }
@@ -173,7 +174,7 @@ pub(crate) fn put_plain_stamped(fields: Fields<'_>, id: Id, stamped: &mut Stampe
 /// The time of a line with these fields, in microseconds.
 #[inline(always)]
 pub(crate) fn plain_time(fields: Fields<'_>) -> u64
-    requires { HavePlainWidths fields }
+    requires { ArePlainFields fields }
     ensures { result ≡ time_spelled fields.entry.stamp.now }
 {
     if fields.stamp.len() == LONGEST_STAMP {

@@ -9,7 +9,7 @@ ghost use Rattle.can_log.specs.Scanning.{Scans, ScansForeign, Finishes};
 ghost use Rattle.can_log.specs.WholeLog.{at_start};
 ghost use Rattle.can_log.specs.declared.scanner.Scan.TheVariants.{Bad, Line};
 ghost use Rattle.can_log.specs.declared.frame.Stamped.{Stamped as StampedValue};
-ghost use Rattle.can_log.specs.proving.Plain.{HavePlainWidths, spelling_of};
+ghost use Rattle.can_log.specs.proving.Plain.{ArePlainFields, spelling_of};
 ghost use Rattle.can_log.specs.proving.Padded.{line_feeds};
 ghost use Rattle.can_log.specs.proving.Taking.{TakesPlain};
 
@@ -426,7 +426,7 @@ impl Default for Scanner {
 /// many bytes of data, it is changed where it lies: nothing is cleared, and nothing copied.
 #[inline(always)]
 fn answer_plain(answer: &mut Scan, used: usize, line: u64, fields: Fields<'_>, id: Id)
-    requires widths { HavePlainWidths fields }
+    requires legal { ArePlainFields fields }
     requires identifier { id ≡ identifier_of fields.identifier.now }
     ensures { answer.new ≡ Line used line (Some (stamped_of (parts_in (spelling_of fields.entry)))) }
 {

@@ -7,11 +7,13 @@ ghost use Rattle.isotp_segment.specs.CanonicalFrames.{filled, single_control, ca
 ghost use Rattle.isotp_segment.specs.declared.single.TheConstants.{SINGLE_LIMIT};
 ghost use Rattle.isotp_segment.specs.proving.Ends.{ends_of};
 
-use crate::frame::PADDING;
 use std::simd::prelude::*;
 
-/// The longest message that a single frame holds.
+/// The longest message that a canonical single frame holds. In CAN FD a single frame may hold a longer one.
 pub const SINGLE_LIMIT: usize = 7;
+
+/// What a frame has after the bytes of the message.
+pub(crate) const PADDING: u8 = 0xCC;
 
 /// The frame by the length of its message, with zeros where the bytes of the message go.
 static BLANKS: [[u8; 8]; 8] = [
@@ -45,7 +47,8 @@ const NONE: u8 = 0x80;
 /// Eight lanes, and eight of another vector behind them: where lanes are picked of sixteen, a place may be none.
 const WIDENED: [usize; 16] = [0, 1, 2, 3, 4, 5, 6, 7, 8, 9, 10, 11, 12, 13, 14, 15];
 
-/// The one frame of a message of 1 to [`SINGLE_LIMIT`] bytes, whoever sends it (ISO 15765-2, section 9.6.2).
+/// The one canonical frame of a message of 1 to [`SINGLE_LIMIT`] bytes, whoever sends it: a single frame of 8 bytes, padded
+/// (ISO 15765-2, section 9.6.2).
 #[inline(always)]
 pub fn single_frame(message: &[u8]) -> [u8; 8]
     requires some { 1 ≤ length message.now }

@@ -131,7 +131,7 @@ plain_text fields =
     ++ (fields.identifier.now ++ (codes "#" ++ end_text fields.body fields.ending))))))
 
 -- the fields are legal, and the identifier is the one spelled
-pub record HavePlainWidths (fields : Fields) : Type 0 where
+pub record ArePlainFields (fields : Fields) : Type 0 where
   pub stamp : IsStamp fields.stamp.now
   pub interface : IsRunOf (is_in Visible) 1 15 fields.interface.now
   pub identifier : IsIdentifierText fields.identifier.now

@@ -8,5 +8,5 @@ pub change-requires-clause-frame : goal.change-requires-clause-frame
 change-requires-clause-frame c =
     let body = c.args.fields.body in
     let spelled : bytes_spelled c.plain_digits.result.now ≡ bytes_spelled (digits_of body) = rw c.plain_digits.ensures.digits refl in
-    plain_frame body.flags c.args.fields.identifier.now (digits_of body) _ _ _ c.requires.widths.identifier c.requires.widths.body.digits
+    plain_frame body.flags c.args.fields.identifier.now (digits_of body) _ _ _ c.requires.legal.identifier c.requires.legal.body.digits
     c.requires.identifier c.plain_kind.ensures spelled

@@ -7,7 +7,7 @@ use Rattle.can_log.proofs.scanner.answer_plain.Goals as goal
 pub answer_anew-requires-clause-frame : goal.answer_anew-requires-clause-frame
 answer_anew-requires-clause-frame c =
     let body = c.args.fields.body in
-    plain_frame body.flags c.args.fields.identifier.now (digits_of body) _ _ _ c.requires.widths.identifier c.requires.widths.body.digits
+    plain_frame body.flags c.args.fields.identifier.now (digits_of body) _ _ _ c.requires.legal.identifier c.requires.legal.body.digits
     c.requires.identifier c.plain_kind.ensures (ap bytes_spelled c.plain_digits-2.ensures.digits)
 
 pub returns : goal.returns

@@ -26,7 +26,7 @@ returns c =
     let lies : c.put_line.new.padded ≡ (line ++ front) ++ line_feeds room =
     rw (← c.as_slice-2.ensures.value) c.put_line.ensures
     in
-    let means = padded_means (line ++ front) found.field-0-1.now room found.fields whole (omega arith) (sym lies ∙ found.ensures.line) found.ensures.widths in
+    let means = padded_means (line ++ front) found.field-0-1.now room found.fields whole (omega arith) (sym lies ∙ found.ensures.line) found.ensures.legal in
     let what = Some (stamped_of (parts_in (spelling_of found.fields))) in
     let told = subst (λ (s : Standing). LineMeans (s.line ++ front) what) c.self.view_is means in
     let none : c.args.self.now.refused ≡ None =

@@ -10,4 +10,4 @@ returns-clause-taken g c =
     let none : line ≡ [] = nil_of line c.is_empty.result c.is_empty.ensures c.if-not-is_empty.false in
     let unrefused = none_of c.self.inside.refused c.is_some.result c.is_some.ensures c.if-is_some.false in
     rw (← c.self.view_is) (plain_taken c.self.inside.lines c.self.inside.taken line _ c.args.piece.now found.rest.now found.fields
-    (none_seen _ c.self.inside.refused unrefused) none found.ensures.line found.ensures.widths)
+    (none_seen _ c.self.inside.refused unrefused) none found.ensures.line found.ensures.legal)
