@@ -26,7 +26,6 @@ import unittest
 import warnings
 import zlib
 from pathlib import Path
-from types import SimpleNamespace
 
 import format_samples as samples
 from cases import DEVICE, DIFFERENT, DONE, REFUSAL, WORDS
@@ -58,6 +57,21 @@ def package(words, **options):
     return run(sys.executable, ["-B", "-m", "udsnorm", *map(str, words)], **{"env": environment(), **options})
 
 
+def converted(path):
+    """The status of `convert`, the most kilobytes that it took, and what it tells."""
+    found = run(sys.executable, ["-B", "-c", CONVERTED, path], env=environment())
+    return (*map(int, found.output.split()), found.error)
+
+
+# What the process had before it was Python's is another one's.
+CONVERTED = """
+import re, sys
+from udsnorm.__main__ import main
+status = main(["convert", sys.argv[1], "/dev/null"])
+print(status, re.search(r"VmHWM:\\s+(\\d+)", open("/proc/self/status").read())[1])
+"""
+
+
 class Read:
     """What is read of a file: its lines, the fault if there is one, and the tally."""
 
@@ -68,7 +82,7 @@ class Read:
             with formats.Log(path) as log:
                 held, self.fault = [], None
                 try:
-                    held.extend(log.blocks())
+                    held.extend(log.blocks(reads=True))
                 except formats.Fault as fault:
                     self.fault = str(fault)
         self.lines = b"".join(held).decode("ascii").splitlines(keepends=True)
@@ -144,6 +158,68 @@ class Formats(unittest.TestCase):
         found = Read("lost.txt", (samples.screen_text() + notice).encode())
         self.assertEqual((found.fault, found.tally.left_out["frames that candump lost"]), (None, 3))
 
+    def test_equal_stamps_say_nothing(self):
+        """Adapters that stamp in milliseconds, and bursts, repeat the stamps of `-t z`. Those of `-t d` fall."""
+        rng = random.Random(5)
+        for share in (0.0, 0.25, 0.5, 0.9):
+            steps = [0 if rng.random() < share else rng.choice((1000, 2000, 15000)) for _ in range(400)]
+            shown = "".join(f" {samples.few_digits(at)} can0  7E0   [2]  01 3E\n" for at in samples.sums(steps))
+            found = Read("zero.txt", shown.encode())
+            with self.subTest(share=share):
+                self.assertEqual(found.lines, [samples.line(at, "can0", 0x7E0, b"\x01\x3e") for at in samples.sums(steps)])
+                self.assertEqual(found.tally.noted, {"stamps since the first frame": 400})
+            steps = [step or 0 for step in steps]
+            shown = "".join(f" {samples.few_digits(step)} can0  7E0   [2]  01 3E\n" for step in steps)
+            found = Read("differences.txt", shown.encode())
+            with self.subTest(share=share, kind="differences"):
+                self.assertEqual(found.lines, [samples.line(at, "can0", 0x7E0, b"\x01\x3e") for at in samples.sums(steps)])
+                self.assertEqual(found.tally.noted, {"stamps since the frame before": 400})
+
+    def test_days_that_there_are_not(self):
+        for day in ("0000-01-01 00:00:00", "2023-02-29 00:00:00", "2023-13-01 00:00:00", "2023-01-01 24:00:00"):
+            for shown in (f" ({day}.000000)  can0  7E0   [2]  01 3E\n", f"({day}.000000) can0 7E0#013E\n"):
+                self.assertTrue(Read("days", shown.encode()).fault.startswith("line 1: no line"), day)
+
+    def test_logs_of_candump(self):
+        """Lines as they stand; stamps with days and in nanoseconds; notices of lost frames."""
+        log = (
+            b"\n(1700000000.000000) can0 7E0#0322F190 R\r\n\r\n(2023-11-14 22:13:20.000012) can0 7E8##300\n"
+            b"DROPCOUNT: dropped 2 CAN frames on 'can0' socket (total drops 2)\n(1700000000.000012500) can0 7E8#R8_F\n"
+            b"(2023-11-14 22:13:20.000013499) can0 20000004#0000000000000000\n(123456789012.000000) can0 7E8#\n(0000000001.000000) can0 7E8#"
+        )
+        want = (
+            b"\n(1700000000.000000) can0 7E0#0322F190 R\r\n\r\n(1700000000.000012) can0 7E8##300\n"
+            b"(1700000000.000013) can0 7E8#R8_F\n(1700000000.000013) can0 20000004#0000000000000000\n(0000000001.000000) can0 7E8#"
+        )
+        found = Read("run.log", log)
+        self.assertEqual(("".join(found.lines).encode(), found.fault, found.tally.written), (want.replace(b"\r", b""), None, 5))
+        self.assertEqual(found.tally.left_out, {"frames that candump lost": 2, "stamps that no line can say": 1})
+        self.assertEqual(found.tally.noted, {"last lines without a line feed": 1})
+        long = VIN.read_bytes() * 2000
+        found = Read("long.log", long + log)
+        self.assertEqual((found.tally.written, found.tally.left_out["frames that candump lost"]), (5 * 2000 + 5, 2))
+
+    def test_names_that_no_line_can_say(self):
+        """Different names stay different, and from those that other interfaces have; it is said which got which."""
+        channels = ["a b", "can0", "c\td", "a b", "can2", "\xe9", "0"]
+        want = ["can1", "can0", "can3", "can1", "can2", "can4", "can0"]
+        rows = "".join(f"{at}.0,0x7e0,0,0,0,1,/g==,{channel}\n" for at, channel in enumerate(channels))
+        content = (samples.PYTHON_CAN.split("\n")[0] + ",channel\n" + rows).encode("latin-1")
+        found = Read("names.csv", content)
+        self.assertEqual([line.split()[1] for line in found.lines], want)
+        told = r"frames 7; noted: interfaces of a name that no line can say 3; named: a b as can1, c\x09d as can3, \xe9 as can4"
+        self.assertEqual(str(found.tally), told)
+        messages = [samples.message(0.0, 1, b"", 0, channel) for channel in channels]
+        tally = formats.Tally()
+        self.assertEqual([line.split()[1] for line in formats.lines_of(formats.frames_of_messages(iter(messages), tally), tally)], want)
+        # Of a stream it isn't known before which names come.
+        found = package(["convert", "-"], log=content)
+        self.assertEqual([line.split()[1].decode() for line in found.output.splitlines()], ["can0", "can1", "can0", "can2", "can3"])
+        self.assertIn(b"left out: frames of interfaces that no name is left for 2", found.error)
+        rows = "".join(f"{at}.0,0x7e0,0,0,0,1,/g==,{at} x\n" for at in range(300))
+        found = Read("many.csv", (samples.PYTHON_CAN.split("\n")[0] + ",channel\n" + rows).encode())
+        self.assertEqual((len(found.lines), len({line.split()[1] for line in found.lines}), len(str(found.tally)) < 300), (100, 100, True))
+
     def test_what_no_line_can_say(self):
         frames = [
             formats.Frame(-1, "can0", 1, False, b""), formats.Frame(10**16, "can0", 1, False, b""),
@@ -158,7 +234,7 @@ class Formats(unittest.TestCase):
             "stamps that no line can say": 2, "identifiers that no line can say": 2,
             "classic frames of more than eight bytes": 1, "frames of a length that there is not": 1,
         })
-        for name, want in {"can0": "can0", "1": "can1", "PCAN_USBBUS1": "PCAN_USBBUS1", "a b": "can0", "": "can0", "x" * 16: "can0", "a\n": "can0"}.items():
+        for name, want in {"can0": "can0", "1": "can1", "PCAN_USBBUS1": "PCAN_USBBUS1", "": "can0", "a b": "a b"}.items():
             self.assertEqual(formats.interface_of(name), want)
 
 
@@ -177,6 +253,8 @@ class Faults(unittest.TestCase):
                     if found.fault is None and is_text:
                         rest_of_line = sample.content.find(b"\n", end - 1) + 1
                         self.assertEqual(found.lines, Read(sample.name, sample.content[:rest_of_line]).lines)
+                        is_told = found.tally.noted["last lines without a line feed"]
+                        self.assertEqual(bool(is_told), sample.content[end - 1 : end] != b"\n")
                     elif found.fault is None:
                         self.assertIn(end, sample.ends)
 
@@ -200,15 +278,32 @@ class Faults(unittest.TestCase):
 
     def test_unexplained(self):
         for name, content, fault in (
-            ("a.asc", samples.ASC + "what is this\n", "line 27: no line of an ASC file"),
-            ("a.asc", samples.ASC + "   3.0 1  7E0  Rx   d 8 8\n   4.0 1  7E0  Rx   q 8 8\n", "line 28: no event of an ASC file"),
+            ("a.asc", samples.ASC + "what is this\n", "line 32: no line of an ASC file"),
+            ("a.asc", samples.ASC + "   3.0 1  7E0  Rx   d 8 08\n   4.0 1  7E0  Rx   q 8 8\n", "line 33: no event of an ASC file"),
             ("a.trc", samples.TRC_11 + "     6)      1346.8  Xx         0321  4  RTR\n", "line 9: no line of a TRC file"),
             ("a.trc", ";$FILEVERSION=3.7\n", "line 1: a TRC file of a version that this does not read: 3.7"),
-            ("a.csv", samples.SAVVYCAN + "x,y,z\n", "line 7: no row of these columns"),
+            ("a.csv", samples.SAVVYCAN + "x,y,z\n", "line 9: no row of these columns"),
             ("a.csv", "time;id\n", "line 1: neither SavvyCAN's columns nor python-can's"),
             ("a.txt", samples.screen_text() + "what is this\n", "line 10: no line that candump writes for the screen"),
             ("a.txt", "what is this\n", "line 1: no log of a form that this reads"),
             ("a.blf", "", "byte 0: the file ends in its head"),
+            ("a.asc", samples.ASC + "   3.0 1  7E0  Rx   d 4 03 ZZ F1 90\n", "line 32: no event of an ASC file"),
+            ("a.asc", samples.ASC + "   3.0 1  7E0  Rx   d 4 03 2 F1 90\n", "line 32: no event of an ASC file"),
+            ("a.asc", samples.ASC + "   3.0 CANFD 1 Rx 7E0  0 0 4 4 03 ZZ F1 90 130 130 1000 0 0 0 0 0\n", "line 32: no event of an ASC file"),
+            ("a.asc", samples.ASC_DECIMAL + "   3.0 1  2016  Rx   d 4 3 ZZ 241 144\n", "line 9: no event of an ASC file"),
+            ("a.asc", samples.ASC_DECIMAL + "   3.0 1  2016  Rx   d 4 3 999 241 144\n", "line 9: no event of an ASC file"),
+            ("a.trc", samples.TRC_11 + "     6)      1346.8  Rx         0321  4  03 ZZ F1 90\n", "line 9: no line of a TRC file"),
+            ("a.trc", samples.TRC_11 + "     6)      1346.8  Rx         0321  4  RTR 03\n", "line 9: no line of a TRC file"),
+            ("a.csv", samples.SAVVYCAN + "1,000007E0,false,Tx,0,4,03,ZZ,F1,90,00,00,00,00,\n", "line 9: no row of these columns"),
+            ("a.csv", samples.SAVVYCAN + "1,000007E0,false,Tx,0,4,3,22,F1,90,00,00,00,00,\n", "line 9: no row of these columns"),
+            ("a.csv", samples.SAVVYCAN + "1,000007E0,maybe,Tx,0,4,03,22,F1,90,00,00,00,00,\n", "line 9: no row of these columns"),
+            ("a.csv", samples.PYTHON_CAN + "1.0,0x7_0,0,0,0,1,/g==\n", "line 7: no row of these columns"),
+            ("a.csv", samples.PYTHON_CAN.replace(",data", ",data,channel", 1).replace("=\n", "=,1\n") + "1.0,0x7e0,0,0,0,1,/g==", "line 7: the file ends in the middle of a line"),
+            ("a.txt", samples.screen_text() + "  can1  7E0   [4]  03 ZZ F1 90\n", "line 10: no line that candump writes for the screen"),
+            ("a.log", VIN.read_text() + "what is this\n", "line 6: no line of a candump log"),
+            ("a.log", VIN.read_text() + "(1.000000) can0 7E0#03ZZ\n", "line 6: no line of a candump log"),
+            ("a.log", VIN.read_text() + "(12.00.000000) can0 7E0#03\n", "line 6: no line of a candump log"),
+            ("a.log", VIN.read_text() + "DROPCOUNT: dropped 2 CAN fr", "line 6: the file ends in the middle of a line"),
         ):
             with self.subTest(fault):
                 self.assertEqual(Read(name, content.encode("latin-1")).fault, fault)
@@ -264,6 +359,34 @@ class Faults(unittest.TestCase):
                 self.assertEqual(found.status, REFUSAL, lines)
                 self.assertTrue(lines[0].startswith(f"{folder}/a\\x0a{name}: ") and fault in lines[0], lines)
 
+    def test_kinds_without_end(self):
+        """What a file may make up any number of takes no more memory, and no longer line."""
+        kinds = b"".join(struct.pack("<4sHHII", b"LOBJ", 16, 1, 16, 200 + kind) for kind in range(400000))
+        faces = b"".join(samples.interface("<", 1, (2, b"face %d" % number)) for number in range(100000))
+        links = b"".join(samples.interface("<", 300 + kind) + samples.packet_block("<", kind, 0, bytes(16)) for kind in range(4000))
+        for name, content, status, told in (
+            ("a.blf", samples.blf_file(samples.blf_container(kinds)), DONE, b"objects of type 209 1, objects of other types 399990"),
+            ("a.pcapng", samples.section("<") + faces, REFUSAL, b"more than 4096 interfaces"),
+            ("b.pcapng", samples.section("<") + links, DONE, b"packets of link type 309 1, packets of other link types 3990"),
+        ):
+            with self.subTest(name=name), tempfile.TemporaryDirectory() as folder:
+                path = Path(folder, name)
+                path.write_bytes(content)
+                ended, peak, error = converted(path)
+                self.assertEqual(ended, status)
+                self.assertIn(told, error)
+                self.assertLess(len(error), 1000)
+                self.assertLess(peak, 40000)
+
+    def test_last_lines_without_a_line_feed(self):
+        """A cut that leaves a line which is legal by itself is told all the same."""
+        found = Read("cut.log", VIN.read_bytes()[:-3])
+        self.assertEqual((found.fault, found.tally.noted), (None, {"last lines without a line feed": 1}))
+        for sample in SAMPLES:
+            if not sample.name.endswith((".blf", ".pcap", ".pcapng")):
+                found = Read(sample.name, sample.content[:-1])
+                self.assertEqual(found.tally.noted["last lines without a line feed"], found.fault is None, sample.name)
+
     def test_constant_memory(self):
         """A long file is read in no more memory than a short one, by some megabytes."""
         objects = b"".join(samples.filled(samples.blf_object(1, at * 10**6, samples.blf_classic(1, 0x7E8, bytes(8)))) for at in range(2000))
@@ -272,8 +395,7 @@ class Faults(unittest.TestCase):
             with tempfile.TemporaryDirectory() as folder:
                 path = Path(folder, "run.blf")
                 path.write_bytes(samples.blf_file(*[samples.blf_container(objects)] * times))
-                ask = f"import resource, sys; from udsnorm.__main__ import main; main(['convert', {str(path)!r}, '/dev/null']); print(resource.getrusage(resource.RUSAGE_SELF).ru_maxrss)"
-                peaks.append(int(run(sys.executable, ["-B", "-c", ask], env=environment()).output))
+                peaks.append(converted(path)[1])
         self.assertLess(peaks[1], peaks[0] + 4000)
 
 
@@ -416,12 +538,7 @@ class Package(unittest.TestCase):
 
     def test_messages_of_python_can(self):
         """By objects of the same attributes, with a frame of each kind."""
-        plain = {"is_error_frame": False, "is_remote_frame": False, "is_fd": False, "bitrate_switch": False, "error_state_indicator": False}
-
-        def message(seconds, identifier, data, dlc, channel=0, **more):
-            fields = {**plain, "timestamp": seconds, "arbitration_id": identifier, "is_extended_id": identifier > 0x7FF, **more}
-            return SimpleNamespace(**fields, data=data, dlc=dlc, channel=channel)
-
+        message = samples.message
         recorded = [
             message(1700000000.012, 0x7E0, bytearray(b"\x03\x22\xf1\x90"), 4),
             message(1700000000.0123, 0x7E8, LONG, 24, "vcan1", is_fd=True, bitrate_switch=True),
