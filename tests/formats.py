@@ -19,9 +19,11 @@ import random
 import re
 import resource
 import shutil
+import signal
 import struct
 import sys
 import tempfile
+import time
 import unittest
 import warnings
 import zlib
@@ -30,7 +32,7 @@ from pathlib import Path
 import format_samples as samples
 from cases import DEVICE, DIFFERENT, DONE, REFUSAL, WORDS
 from format_samples import SAMPLES
-from runs import run
+from runs import end, run, start
 
 TOP = Path(__file__).resolve().parent.parent
 EXAMPLES = TOP / "examples"
@@ -433,9 +435,63 @@ class Tool(unittest.TestCase):
         self.same(["list", "--json", "--tester", "7E0", "run.blf"], ["list", "--json", "--tester", "7E0", "run.log"])
 
     def test_what_the_program_does_itself(self):
-        for words in ([], ["--version"], ["--help"], ["list", VIN], ["list", "none.log"], ["list", self.folder], ["compare", "x"]):
+        for words in ([], ["--version"], ["list", "--help"], ["list", VIN], ["list", "none.log"], ["list", self.folder], ["compare", "x"]):
             self.same(words, words)
         self.assertEqual(package(["list"], log=VIN.read_bytes()).output, run(given.program, ["list", VIN]).output)
+
+    def test_help(self):
+        """The program's own, and behind it what the package has beside."""
+        found, want = package(["--help"]), run(given.program, ["--help"])
+        self.assertEqual((found.status, found.error, found.output.startswith(want.output)), (DONE, b"", True))
+        self.assertIn(b"python3 -m udsnorm convert FILE [LOG]", found.output[len(want.output) :])
+
+    def test_options_with_values(self):
+        """It is known of which options the next word is a value."""
+        program = importlib.import_module("udsnorm._program")
+        commands = re.findall(r"^  (\w+)  ", run(given.program, ["--help"]).output.decode(), re.M)
+        texts = [run(given.program, [command, "--help"]).output.decode() for command in commands]
+        self.assertEqual({name for text in texts for name in re.findall(r"(--[\w-]+)[ =]<", text)}, set(program.VALUED))
+        for command, text in zip(commands, texts):
+            self.assertEqual(program.limit_of(given.program, [command]), 1 << (40 if "1099511627776" in text else 30), command)
+        self.assertEqual(program.limit_of(given.program, ["list", "--limit=5", "--limit", "7"]), 7)
+
+    def test_words_that_are_no_logs(self):
+        """A file or folder that is named as the command, or an option or its value, is no log of the run."""
+        for name in ("report", "7E0", "7E8", "--strict", "--limit", "--unit=7E8", "100000"):
+            self.put(name, b"x")
+        for name in ("list", "compare", "normalise"):
+            (self.folder / name).mkdir()
+        self.put("run.blf", blf_of(VIN.read_bytes()))
+        self.put("run.log", VIN.read_bytes())
+        for words in (
+            ["list", "run"], ["list", "--tester", "7E0", "--unit", "7E8", "run"], ["list", "run", "--limit", "100000"],
+            ["list", "--strict", "--unit=7E8", "--", "run"], ["compare", "run", "run"], ["normalise", "--json", "run"],
+            ["--strict", "run"], ["list", "--tester"], ["list", "--limit", "run"],
+        ):
+            self.same([word.replace("run", "run.blf") for word in words], [word.replace("run", "run.log") for word in words])
+        self.assertEqual(package(["report", "run.blf"], cwd=self.folder).status, DONE)
+        self.put("logs/list", blf_of(VIN.read_bytes()))
+        self.put("logs/--strict", blf_of(VIN.read_bytes()))
+        for words in (["list", "list"], ["list", "--", "--strict"], ["list", "--strict", "--", "list"]):
+            self.assertEqual(package(words, cwd=self.folder / "logs").output, run(given.program, ["list", VIN]).output)
+
+    def test_devices_that_fail(self):
+        """One line and status 4: no room for what is converted, no folder for it, streams that are closed."""
+        content = blf_of(VIN.read_bytes() * 1000)
+        self.put("run.blf", content)
+        for size in (0, 5000):
+            limit = {"preexec_fn": lambda size=size: resource.setrlimit(resource.RLIMIT_FSIZE, (size, size))}
+            for words in (["list", "run.blf"], ["convert", "run.blf", "run.log"]):
+                found = package(words, cwd=self.folder, **limit)
+                self.assertEqual((found.status, found.output, found.error.count(b"\n")), (DEVICE, b"", 1), found.error)
+        for stream in (0, 1, 2):
+            for words in (["convert", "-"], ["convert", "none"], ["list", "run.blf"], ["list"]):
+                found = package(words, cwd=self.folder, preexec_fn=lambda stream=stream: os.close(stream))
+                self.assertNotIn(b"Traceback", found.error)
+                self.assertIn(found.status, (DONE, REFUSAL, DEVICE), (stream, words, found))
+        with open("/dev/full", "wb") as full:
+            self.assertEqual(package(["convert", "none.blf"], cwd=self.folder, stderr=full).status, DEVICE)
+            self.assertEqual(package(["convert", "--help"], stdout=full).status, DEVICE)
 
     def test_two_logs(self):
         self.put("a.log", VIN.read_bytes())
@@ -450,6 +506,13 @@ class Tool(unittest.TestCase):
         inner = str(whole).lstrip("/")
         self.put(inner, blf_of((EXAMPLES / "lost-frame.log").read_bytes()))
         self.assertEqual(package(["compare", whole, inner], cwd=self.folder).status, DIFFERENT)
+        # A file that is named as the folder of the other one.
+        first = whole.parts[1]
+        self.put(first + ".blf", whole.read_bytes()).rename(self.folder / f"{first}.x")
+        shutil.rmtree(self.folder / first)
+        (self.folder / f"{first}.x").rename(self.folder / first)
+        for words in ([whole, first], [first, whole]):
+            self.assertEqual(package(["compare", *words], cwd=self.folder), (DONE, b"same\n", b""))
 
     def test_names_on_pages(self):
         """The page shows the names that were given: the last part, or the paths where both have one name."""
@@ -496,6 +559,78 @@ class Tool(unittest.TestCase):
         self.assertEqual(package(["convert", "none.blf"], cwd=self.folder), (DEVICE, b"", b"none.blf: No such file or directory\n"))
         with open("/dev/full", "wb") as full:
             self.assertEqual(package(["convert", "run.blf"], cwd=self.folder, stdout=full).status, DEVICE)
+
+    def test_streams(self):
+        """Standard input and pipes that are named are converted where they have to be, and else go to the program as they come."""
+        log, blf = VIN.read_bytes(), blf_of(VIN.read_bytes())
+        self.put("run.log", log)
+        path = self.put("run.blf", blf)
+        want = run(given.program, ["list", VIN]).output
+        for content in (blf, gzip.compress(log), log, samples.screen_text().encode()):
+            found = package(["list", "--limit", "100000"], log=content)
+            self.assertEqual((found.status, b"line" in found.error), (DONE, False))
+            self.assertEqual(found.output, want if content[:1] != b" " else run(given.program, ["list"], "".join(samples.screen_lines([0] * 9)).encode()).output)
+        with open(path, "rb") as file:
+            self.assertEqual(package(["list"], stdin=file).output, want)
+        with open(path, "rb") as file:
+            self.assertEqual(package(["list", "/dev/stdin"], stdin=file).output, want)
+        self.assertEqual(package(["list", "/dev/stdin"], log=blf).output, want)
+        self.assertEqual(package(["list", "/dev/stdin"], log=log).output, want)
+        ask = f"{sys.executable} -B -m udsnorm"
+        for words in ("<(cat run.blf) run.log", "<(cat run.log) run.blf", "<(cat run.log) <(cat run.blf)", "<(cat run.log) <(cat run.log)"):
+            found = run("bash", ["-c", f"{ask} compare {words}"], env=environment(), cwd=self.folder)
+            self.assertEqual(found, (DONE, b"same\n", b""), words)
+        cut = package(["list"], log=blf[:-4])
+        self.assertEqual((cut.status, cut.output), (REFUSAL, b""))
+        self.assertRegex(cut.error.decode(), r"^-: byte \d+: the file ends in the middle of an object\nline \d column 1: not a log line\n")
+        self.assertEqual(package(["list", "--limit", "50"], log=blf).error.splitlines()[0], b"log longer than the limit")
+
+    def test_a_session_that_runs(self):
+        """What comes from a pipe goes on as it comes."""
+        lines = VIN.read_bytes().splitlines(keepends=True)
+        running = start(sys.executable, ["-B", "-m", "udsnorm", "watch"], env=environment())
+        for line in lines:
+            running.stdin.write(line)
+            running.stdin.flush()
+            time.sleep(0.02)
+        self.assertIn(b"exchange", running.stdout.readline())
+        self.assertEqual(end(running).status, DONE)
+
+    def test_ends_at_the_limit(self):
+        """What is converted takes no more room than the log may have."""
+        line = samples.line(0, "can0", 0x7E0, b"\x01\x3e").encode()
+        self.put("run.log.gz", gzip.compress(line * 2000000))
+        limit = {"preexec_fn": lambda: resource.setrlimit(resource.RLIMIT_FSIZE, (400000, 400000))}
+        found = package(["list", "--limit", "200000", "run.log.gz"], cwd=self.folder, **limit)
+        self.assertEqual(found, (REFUSAL, b"", b"log longer than the limit\n"))
+
+    def test_signals(self):
+        """Whatever tells the process to end, the folder goes."""
+        self.put("run.blf", blf_of(VIN.read_bytes()))
+        program = self.put("bin/udsnorm", b'#!/bin/sh\ncase "$*" in *--help) exit ;; esac\nexec sleep 60\n')
+        program.chmod(0o755)
+        rooms = self.folder / "rooms"
+        rooms.mkdir()
+        more = {**environment(), "PATH": f"{program.parent}:{os.environ['PATH']}", "TMPDIR": str(rooms)}
+        for number in (signal.SIGHUP, signal.SIGTERM, signal.SIGINT):
+            running = start(sys.executable, ["-B", "-m", "udsnorm", "list", "run.blf"], env=more, cwd=self.folder)
+            while not list(rooms.glob("*/run.blf")):
+                time.sleep(0.01)
+            time.sleep(0.1)
+            running.send_signal(number)
+            self.assertEqual((end(running).status, list(rooms.iterdir())), (128 + number, []))
+
+    def test_names_that_are_not_utf_8(self):
+        name = os.fsdecode(b"\xe9 run.blf")
+        self.put(name, blf_of(VIN.read_bytes()))
+        self.put(os.fsdecode(b"\xe9.log"), VIN.read_bytes())
+        self.put("run.log", VIN.read_bytes())
+        for words in (["compare", name, "run.log"], ["compare", os.fsdecode(b"\xe9.log"), name]):
+            self.assertEqual(package(words, cwd=self.folder), (DONE, b"same\n", b""))
+        self.assertIn(b"%E9 run.blf", package(["report", name], cwd=self.folder).output)
+        self.assertEqual(package(["convert", name], cwd=self.folder).output, VIN.read_bytes())
+        missing = package(["convert", os.fsdecode(b"\xe9")], cwd=self.folder)
+        self.assertEqual((missing.status, missing.error), (DEVICE, b"\\xe9: No such file or directory\n"))
 
     def test_no_program(self):
         self.put("run.blf", blf_of(VIN.read_bytes()))

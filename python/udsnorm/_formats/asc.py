@@ -108,7 +108,10 @@ class _Reader:
             if not (has_length or line.is_whole):
                 raise ValueError
             return Frame(micros, interface, identifier, is_extended, b"", None, hexadecimal(words[4]) if has_length else 0)
-        length, data = self._number(words[4]), self._data(words[5:])
+        length = self._number(words[4])
+        data = self._data(words[5 : 5 + length])
+        if len(data) == length and self._data(words[5 + length : 6 + length]):
+            data = self._data(words[5:])
         # A length code of more than eight means eight bytes, if there are no more.
         length = min(length, 8) if len(data) <= 8 else length
         behind = words[5 + len(data) :]

@@ -3,9 +3,10 @@
 from __future__ import annotations
 
 import functools
+import itertools
 import re
 from collections import Counter
-from typing import Callable, Dict, Iterable, Iterator, NamedTuple, Optional, Set, Union
+from typing import Callable, Dict, Iterable, Iterator, List, NamedTuple, Optional, Set, Union
 
 #: How many bytes a frame can have, by its length code.
 LENGTHS = (0, 1, 2, 3, 4, 5, 6, 7, 8, 12, 16, 20, 24, 32, 48, 64)
@@ -177,19 +178,16 @@ def lines_of(
 
     `all_interfaces` gives those of all frames, if it can; it is asked where one has a name that no line can say. Without
     it the frames from there on are held."""
-    rest = iter(frames)
+    frames = iter(frames)
+    held: List[Frame] = []
 
     def of_rest() -> Iterable[str]:
-        nonlocal rest
-        held = list(rest)
-        rest = iter(held)
+        held.extend(frames)
         return (frame.interface for frame in held)
 
     names = _Names(tally, all_interfaces or of_rest)
-    while True:
-        frame = next(rest, None)
-        if frame is None:
-            return
+    # What is held comes once the others have.
+    for frame in itertools.chain(frames, held):
         micros, interface, identifier, is_extended, data, flags, requested = frame
         name, largest = names[interface], 0x1FFFFFFF if is_extended else 0x7FF
         if not (
