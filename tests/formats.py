@@ -194,7 +194,7 @@ class Formats(unittest.TestCase):
             b"(1700000000.000013) can0 7E8#R8_F\n(1700000000.000013) can0 20000004#0000000000000000\n(0000000001.000000) can0 7E8#"
         )
         found = Read("run.log", log)
-        self.assertEqual(("".join(found.lines).encode(), found.fault, found.tally.written), (want.replace(b"\r", b""), None, 5))
+        self.assertEqual(("".join(found.lines).encode(), found.fault, found.tally.written), (want, None, 5))
         self.assertEqual(found.tally.left_out, {"frames that candump lost": 2, "stamps that no line can say": 1})
         self.assertEqual(found.tally.noted, {"last lines without a line feed": 1})
         long = VIN.read_bytes() * 2000
@@ -304,6 +304,7 @@ class Faults(unittest.TestCase):
             ("a.txt", samples.screen_text() + "  can1  7E0   [4]  03 ZZ F1 90\n", "line 10: no line that candump writes for the screen"),
             ("a.log", VIN.read_text() + "what is this\n", "line 6: no line of a candump log"),
             ("a.log", VIN.read_text() + "(1.000000) can0 7E0#03ZZ\n", "line 6: no line of a candump log"),
+            ("a.log", VIN.read_text() + "  \n", "line 6: no line of a candump log"),
             ("a.log", VIN.read_text() + "(12.00.000000) can0 7E0#03\n", "line 6: no line of a candump log"),
             ("a.log", VIN.read_text() + "DROPCOUNT: dropped 2 CAN fr", "line 6: the file ends in the middle of a line"),
         ):

@@ -91,8 +91,8 @@ def _spelled(line: bytes, tally: Tally) -> bytes:
     ValueError."""
     text = line.rstrip(b"\n")
     feed, lost = line[len(text) :], LOST.match(text.decode("ascii", "replace"))
-    if not text.strip():
-        return feed
+    if text in (b"", b"\r"):
+        return line
     if lost and feed:
         tally.left_out["frames that candump lost"] += int(lost[1])
         return b""
