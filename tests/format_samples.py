@@ -6,6 +6,7 @@ import base64
 import struct
 import zlib
 from collections import namedtuple
+from types import SimpleNamespace
 
 # The file's name and bytes; the lines; what is left out, and what is noted, by kind; the places at which it may end and be
 # whole besides its line feeds (a text has no others).
@@ -35,6 +36,8 @@ Begin Triggerblock Fri M\xe4r 14 10:13:20.000 pm 2023
    0.0160005 12  7E8             Tx   d 8 10 14 62 F1 90 57 42 41
    1.000000 1  18DA10F1x       Rx   d 2 01 3e  Length = 0 BitCount = 64 ID = 416944369x
    1.100000 2  Statistic: D 0 R 0 XD 0 XR 0 E 0 O 0 B 0.00%
+   1.150000 1  J1939TP FEE3p 6   0   0 - Rx   d 23 A0 0F A6 60 3B D1 40 1F DE 80 25 DF C0 2B E1 00 4B FF FF 3C 0F 00 4B FF FF FF FF FF FF FF FF FF FF FF FF  Length = 0 BitCount = 0 ID = 418119424x
+   1.160000 1  FEE3p 6   0   0 - Rx   d 8 A0 0F A6 60 3B D1 40 1F
    1.200000 1  ErrorFrame	ECC: 10100010
    1.300000 1  321             Rx   r
    1.400000 1  321             Rx   r 8  Length = 0 BitCount = 64 ID = 801
@@ -47,10 +50,13 @@ Begin Triggerblock Fri M\xe4r 14 10:13:20.000 pm 2023
    2.400000 CANFD   1 Tx  ErrorFrame	Not Acknowledge error, dominant error flag    fffe   c7 31ca Arb.    556     44      0
    2.500000 CANXL   1 Rx        7E0 5 0 0
    2.600000 1  7E8             Rx   d 8 02 50
+   2.650000 1  7E8             Rx   d 40 {LONG_FRAME}
+   2.660000 1  7E8             Rx   d 4 02 50 03 00 32
+   2.670000 1  7E8             Rx   d f 10 14 62 F1 90 57 42 41  Length = 240015 BitCount = 124 ID = 2024
    2.700000 SV: 2 0 1 ::Var = 1
    2.800000 1  7E8             Rx   d 8 FE FE FE FE FE FE FE FE
 End TriggerBlock
-"""
+""".replace("{LONG_FRAME}", bytes(range(64)).hex(" ").upper())
 ASC_LINES = [
     line(16000, "can1", 0x7E0, bytes.fromhex("0322F190")),
     line(16001, "can12", 0x7E8, FIRST_BYTES),
@@ -63,6 +69,7 @@ ASC_LINES = [
     line(2200000, "can1", 0x7E0, b"\x02\x10\x03"),
     line(2300000, "can1", 0x7E0, remote=8),
     line(2600000, "can1", 0x7E8, b"\x02\x50"),
+    line(2670000, "can1", 0x7E8, FIRST_BYTES),
     line(2800000, "can1", 0x7E8, b"\xfe" * 8),
 ]
 ASC_DECIMAL = """date Tue Nov 14 10:13:20 pm 2023
@@ -266,6 +273,8 @@ SAVVYCAN = """Time Stamp,ID,Extended,Dir,Bus,LEN,D1,D2,D3,D4,D5,D6,D7,D8
 166076000,000007E8,false,Rx,0,8,10,14,62,F1,90,57,42,41,
 166077000,18DA10F1,true,Rx,1,2,01,3E,00,00,00,00,00,00,
 166078000,000007E8,false,Rx,0,12,00,01,02,03,04,05,06,07,08,09,0A,0B,
+166078100,000007E8,false,Rx,0,8,00,01,02,03,04,05,06,07,08,09,0A,0B,
+166078200,000007E8,false,Rx,0,2,00,01,02,00,00,00,00,00,
 166079000,00000800,false,Rx,0,1,FE,00,00,00,00,00,00,00,
 """
 SAVVYCAN_LINES = [
@@ -290,6 +299,13 @@ PYTHON_CAN_LINES = [
     line(1700000000012500, "can0", 0x7E8, LONG, 0),
     line(1700000001000000, "can0", 0x321, remote=8),
 ]
+
+
+def message(seconds, identifier, data, dlc, channel=0, **more):
+    """A message of python-can: an object of the same attributes."""
+    plain = {"is_error_frame": False, "is_remote_frame": False, "is_fd": False, "bitrate_switch": False, "error_state_indicator": False}
+    fields = {**plain, "timestamp": seconds, "arbitration_id": identifier, "is_extended_id": identifier > 0x7FF, **more}
+    return SimpleNamespace(**fields, data=data, dlc=dlc, channel=channel)
 
 
 # ---- captures
@@ -496,7 +512,12 @@ def screen_samples():
 
 def text_samples():
     other = {"other events": 1, "error frames": 1}
-    asc_left_out = {"other events": 3, "error frames": 2, "transmit requests": 1, "CAN XL frames": 1}
+    more = "frames with more bytes than their length says"
+    asc_left_out = {
+        "other events": 5, "error frames": 2, "transmit requests": 1, "CAN XL frames": 1, more: 1,
+        "classic frames of more than eight bytes": 1,
+    }
+    maybe = "frames of up to eight bytes that may be of CAN FD"
     short = {"frames with fewer bytes than their length says": 1}
     return [
         Sample("absolute.asc", ASC.encode("latin-1"), ASC_LINES, asc_left_out, short),
@@ -513,8 +534,8 @@ def text_samples():
             line(1323201, "can0", 0x321, remote=8),
         ], other),
         Sample("of_2_1.trc", TRC_21.encode(), TRC_21_LINES, {"error frames": 1, "other events": 3}, short),
-        Sample("savvycan.csv", SAVVYCAN.encode(), SAVVYCAN_LINES, {"identifiers that no line can say": 1}),
-        Sample("python_can.csv", PYTHON_CAN.encode(), PYTHON_CAN_LINES, {"error frames": 1}),
+        Sample("savvycan.csv", SAVVYCAN.encode(), SAVVYCAN_LINES, {"identifiers that no line can say": 1, more: 2}, {maybe: 4}),
+        Sample("python_can.csv", PYTHON_CAN.encode(), PYTHON_CAN_LINES, {"error frames": 1}, {maybe: 2}),
     ]
 
 

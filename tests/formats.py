@@ -19,19 +19,20 @@ import random
 import re
 import resource
 import shutil
+import signal
 import struct
 import sys
 import tempfile
+import time
 import unittest
 import warnings
 import zlib
 from pathlib import Path
-from types import SimpleNamespace
 
 import format_samples as samples
 from cases import DEVICE, DIFFERENT, DONE, REFUSAL, WORDS
 from format_samples import SAMPLES
-from runs import run
+from runs import end, run, start
 
 TOP = Path(__file__).resolve().parent.parent
 EXAMPLES = TOP / "examples"
@@ -58,6 +59,21 @@ def package(words, **options):
     return run(sys.executable, ["-B", "-m", "udsnorm", *map(str, words)], **{"env": environment(), **options})
 
 
+def converted(path):
+    """The status of `convert`, the most kilobytes that it took, and what it tells."""
+    found = run(sys.executable, ["-B", "-c", CONVERTED, path], env=environment())
+    return (*map(int, found.output.split()), found.error)
+
+
+# What the process had before it was Python's is another one's.
+CONVERTED = """
+import re, sys
+from udsnorm.__main__ import main
+status = main(["convert", sys.argv[1], "/dev/null"])
+print(status, re.search(r"VmHWM:\\s+(\\d+)", open("/proc/self/status").read())[1])
+"""
+
+
 class Read:
     """What is read of a file: its lines, the fault if there is one, and the tally."""
 
@@ -68,7 +84,7 @@ class Read:
             with formats.Log(path) as log:
                 held, self.fault = [], None
                 try:
-                    held.extend(log.blocks())
+                    held.extend(log.blocks(reads=True))
                 except formats.Fault as fault:
                     self.fault = str(fault)
         self.lines = b"".join(held).decode("ascii").splitlines(keepends=True)
@@ -144,6 +160,68 @@ class Formats(unittest.TestCase):
         found = Read("lost.txt", (samples.screen_text() + notice).encode())
         self.assertEqual((found.fault, found.tally.left_out["frames that candump lost"]), (None, 3))
 
+    def test_equal_stamps_say_nothing(self):
+        """Adapters that stamp in milliseconds, and bursts, repeat the stamps of `-t z`. Those of `-t d` fall."""
+        rng = random.Random(5)
+        for share in (0.0, 0.25, 0.5, 0.9):
+            steps = [0 if rng.random() < share else rng.choice((1000, 2000, 15000)) for _ in range(400)]
+            shown = "".join(f" {samples.few_digits(at)} can0  7E0   [2]  01 3E\n" for at in samples.sums(steps))
+            found = Read("zero.txt", shown.encode())
+            with self.subTest(share=share):
+                self.assertEqual(found.lines, [samples.line(at, "can0", 0x7E0, b"\x01\x3e") for at in samples.sums(steps)])
+                self.assertEqual(found.tally.noted, {"stamps since the first frame": 400})
+            steps = [step or 0 for step in steps]
+            shown = "".join(f" {samples.few_digits(step)} can0  7E0   [2]  01 3E\n" for step in steps)
+            found = Read("differences.txt", shown.encode())
+            with self.subTest(share=share, kind="differences"):
+                self.assertEqual(found.lines, [samples.line(at, "can0", 0x7E0, b"\x01\x3e") for at in samples.sums(steps)])
+                self.assertEqual(found.tally.noted, {"stamps since the frame before": 400})
+
+    def test_days_that_there_are_not(self):
+        for day in ("0000-01-01 00:00:00", "2023-02-29 00:00:00", "2023-13-01 00:00:00", "2023-01-01 24:00:00"):
+            for shown in (f" ({day}.000000)  can0  7E0   [2]  01 3E\n", f"({day}.000000) can0 7E0#013E\n"):
+                self.assertTrue(Read("days", shown.encode()).fault.startswith("line 1: no line"), day)
+
+    def test_logs_of_candump(self):
+        """Lines as they stand; stamps with days and in nanoseconds; notices of lost frames."""
+        log = (
+            b"\n(1700000000.000000) can0 7E0#0322F190 R\r\n\r\n(2023-11-14 22:13:20.000012) can0 7E8##300\n"
+            b"DROPCOUNT: dropped 2 CAN frames on 'can0' socket (total drops 2)\n(1700000000.000012500) can0 7E8#R8_F\n"
+            b"(2023-11-14 22:13:20.000013499) can0 20000004#0000000000000000\n(123456789012.000000) can0 7E8#\n(0000000001.000000) can0 7E8#"
+        )
+        want = (
+            b"\n(1700000000.000000) can0 7E0#0322F190 R\r\n\r\n(1700000000.000012) can0 7E8##300\n"
+            b"(1700000000.000013) can0 7E8#R8_F\n(1700000000.000013) can0 20000004#0000000000000000\n(0000000001.000000) can0 7E8#"
+        )
+        found = Read("run.log", log)
+        self.assertEqual(("".join(found.lines).encode(), found.fault, found.tally.written), (want, None, 5))
+        self.assertEqual(found.tally.left_out, {"frames that candump lost": 2, "stamps that no line can say": 1})
+        self.assertEqual(found.tally.noted, {"last lines without a line feed": 1})
+        long = VIN.read_bytes() * 2000
+        found = Read("long.log", long + log)
+        self.assertEqual((found.tally.written, found.tally.left_out["frames that candump lost"]), (5 * 2000 + 5, 2))
+
+    def test_names_that_no_line_can_say(self):
+        """Different names stay different, and from those that other interfaces have; it is said which got which."""
+        channels = ["a b", "can0", "c\td", "a b", "can2", "\xe9", "0"]
+        want = ["can1", "can0", "can3", "can1", "can2", "can4", "can0"]
+        rows = "".join(f"{at}.0,0x7e0,0,0,0,1,/g==,{channel}\n" for at, channel in enumerate(channels))
+        content = (samples.PYTHON_CAN.split("\n")[0] + ",channel\n" + rows).encode("latin-1")
+        found = Read("names.csv", content)
+        self.assertEqual([line.split()[1] for line in found.lines], want)
+        told = r"frames 7; noted: interfaces of a name that no line can say 3; named: a b as can1, c\x09d as can3, \xe9 as can4"
+        self.assertEqual(str(found.tally), told)
+        messages = [samples.message(0.0, 1, b"", 0, channel) for channel in channels]
+        tally = formats.Tally()
+        self.assertEqual([line.split()[1] for line in formats.lines_of(formats.frames_of_messages(iter(messages), tally), tally)], want)
+        # Of a stream it isn't known before which names come.
+        found = package(["convert", "-"], log=content)
+        self.assertEqual([line.split()[1].decode() for line in found.output.splitlines()], ["can0", "can1", "can0", "can2", "can3"])
+        self.assertIn(b"left out: frames of interfaces that no name is left for 2", found.error)
+        rows = "".join(f"{at}.0,0x7e0,0,0,0,1,/g==,{at} x\n" for at in range(300))
+        found = Read("many.csv", (samples.PYTHON_CAN.split("\n")[0] + ",channel\n" + rows).encode())
+        self.assertEqual((len(found.lines), len({line.split()[1] for line in found.lines}), len(str(found.tally)) < 300), (100, 100, True))
+
     def test_what_no_line_can_say(self):
         frames = [
             formats.Frame(-1, "can0", 1, False, b""), formats.Frame(10**16, "can0", 1, False, b""),
@@ -158,7 +236,7 @@ class Formats(unittest.TestCase):
             "stamps that no line can say": 2, "identifiers that no line can say": 2,
             "classic frames of more than eight bytes": 1, "frames of a length that there is not": 1,
         })
-        for name, want in {"can0": "can0", "1": "can1", "PCAN_USBBUS1": "PCAN_USBBUS1", "a b": "can0", "": "can0", "x" * 16: "can0", "a\n": "can0"}.items():
+        for name, want in {"can0": "can0", "1": "can1", "PCAN_USBBUS1": "PCAN_USBBUS1", "": "can0", "a b": "a b"}.items():
             self.assertEqual(formats.interface_of(name), want)
 
 
@@ -177,6 +255,8 @@ class Faults(unittest.TestCase):
                     if found.fault is None and is_text:
                         rest_of_line = sample.content.find(b"\n", end - 1) + 1
                         self.assertEqual(found.lines, Read(sample.name, sample.content[:rest_of_line]).lines)
+                        is_told = found.tally.noted["last lines without a line feed"]
+                        self.assertEqual(bool(is_told), sample.content[end - 1 : end] != b"\n")
                     elif found.fault is None:
                         self.assertIn(end, sample.ends)
 
@@ -200,15 +280,33 @@ class Faults(unittest.TestCase):
 
     def test_unexplained(self):
         for name, content, fault in (
-            ("a.asc", samples.ASC + "what is this\n", "line 27: no line of an ASC file"),
-            ("a.asc", samples.ASC + "   3.0 1  7E0  Rx   d 8 8\n   4.0 1  7E0  Rx   q 8 8\n", "line 28: no event of an ASC file"),
+            ("a.asc", samples.ASC + "what is this\n", "line 32: no line of an ASC file"),
+            ("a.asc", samples.ASC + "   3.0 1  7E0  Rx   d 8 08\n   4.0 1  7E0  Rx   q 8 8\n", "line 33: no event of an ASC file"),
             ("a.trc", samples.TRC_11 + "     6)      1346.8  Xx         0321  4  RTR\n", "line 9: no line of a TRC file"),
             ("a.trc", ";$FILEVERSION=3.7\n", "line 1: a TRC file of a version that this does not read: 3.7"),
-            ("a.csv", samples.SAVVYCAN + "x,y,z\n", "line 7: no row of these columns"),
+            ("a.csv", samples.SAVVYCAN + "x,y,z\n", "line 9: no row of these columns"),
             ("a.csv", "time;id\n", "line 1: neither SavvyCAN's columns nor python-can's"),
             ("a.txt", samples.screen_text() + "what is this\n", "line 10: no line that candump writes for the screen"),
             ("a.txt", "what is this\n", "line 1: no log of a form that this reads"),
             ("a.blf", "", "byte 0: the file ends in its head"),
+            ("a.asc", samples.ASC + "   3.0 1  7E0  Rx   d 4 03 ZZ F1 90\n", "line 32: no event of an ASC file"),
+            ("a.asc", samples.ASC + "   3.0 1  7E0  Rx   d 4 03 2 F1 90\n", "line 32: no event of an ASC file"),
+            ("a.asc", samples.ASC + "   3.0 CANFD 1 Rx 7E0  0 0 4 4 03 ZZ F1 90 130 130 1000 0 0 0 0 0\n", "line 32: no event of an ASC file"),
+            ("a.asc", samples.ASC_DECIMAL + "   3.0 1  2016  Rx   d 4 3 ZZ 241 144\n", "line 9: no event of an ASC file"),
+            ("a.asc", samples.ASC_DECIMAL + "   3.0 1  2016  Rx   d 4 3 999 241 144\n", "line 9: no event of an ASC file"),
+            ("a.trc", samples.TRC_11 + "     6)      1346.8  Rx         0321  4  03 ZZ F1 90\n", "line 9: no line of a TRC file"),
+            ("a.trc", samples.TRC_11 + "     6)      1346.8  Rx         0321  4  RTR 03\n", "line 9: no line of a TRC file"),
+            ("a.csv", samples.SAVVYCAN + "1,000007E0,false,Tx,0,4,03,ZZ,F1,90,00,00,00,00,\n", "line 9: no row of these columns"),
+            ("a.csv", samples.SAVVYCAN + "1,000007E0,false,Tx,0,4,3,22,F1,90,00,00,00,00,\n", "line 9: no row of these columns"),
+            ("a.csv", samples.SAVVYCAN + "1,000007E0,maybe,Tx,0,4,03,22,F1,90,00,00,00,00,\n", "line 9: no row of these columns"),
+            ("a.csv", samples.PYTHON_CAN + "1.0,0x7_0,0,0,0,1,/g==\n", "line 7: no row of these columns"),
+            ("a.csv", samples.PYTHON_CAN.replace(",data", ",data,channel", 1).replace("=\n", "=,1\n") + "1.0,0x7e0,0,0,0,1,/g==", "line 7: the file ends in the middle of a line"),
+            ("a.txt", samples.screen_text() + "  can1  7E0   [4]  03 ZZ F1 90\n", "line 10: no line that candump writes for the screen"),
+            ("a.log", VIN.read_text() + "what is this\n", "line 6: no line of a candump log"),
+            ("a.log", VIN.read_text() + "(1.000000) can0 7E0#03ZZ\n", "line 6: no line of a candump log"),
+            ("a.log", VIN.read_text() + "  \n", "line 6: no line of a candump log"),
+            ("a.log", VIN.read_text() + "(12.00.000000) can0 7E0#03\n", "line 6: no line of a candump log"),
+            ("a.log", VIN.read_text() + "DROPCOUNT: dropped 2 CAN fr", "line 6: the file ends in the middle of a line"),
         ):
             with self.subTest(fault):
                 self.assertEqual(Read(name, content.encode("latin-1")).fault, fault)
@@ -264,6 +362,34 @@ class Faults(unittest.TestCase):
                 self.assertEqual(found.status, REFUSAL, lines)
                 self.assertTrue(lines[0].startswith(f"{folder}/a\\x0a{name}: ") and fault in lines[0], lines)
 
+    def test_kinds_without_end(self):
+        """What a file may make up any number of takes no more memory, and no longer line."""
+        kinds = b"".join(struct.pack("<4sHHII", b"LOBJ", 16, 1, 16, 200 + kind) for kind in range(400000))
+        faces = b"".join(samples.interface("<", 1, (2, b"face %d" % number)) for number in range(100000))
+        links = b"".join(samples.interface("<", 300 + kind) + samples.packet_block("<", kind, 0, bytes(16)) for kind in range(4000))
+        for name, content, status, told in (
+            ("a.blf", samples.blf_file(samples.blf_container(kinds)), DONE, b"objects of type 209 1, objects of other types 399990"),
+            ("a.pcapng", samples.section("<") + faces, REFUSAL, b"more than 4096 interfaces"),
+            ("b.pcapng", samples.section("<") + links, DONE, b"packets of link type 309 1, packets of other link types 3990"),
+        ):
+            with self.subTest(name=name), tempfile.TemporaryDirectory() as folder:
+                path = Path(folder, name)
+                path.write_bytes(content)
+                ended, peak, error = converted(path)
+                self.assertEqual(ended, status)
+                self.assertIn(told, error)
+                self.assertLess(len(error), 1000)
+                self.assertLess(peak, 40000)
+
+    def test_last_lines_without_a_line_feed(self):
+        """A cut that leaves a line which is legal by itself is told all the same."""
+        found = Read("cut.log", VIN.read_bytes()[:-3])
+        self.assertEqual((found.fault, found.tally.noted), (None, {"last lines without a line feed": 1}))
+        for sample in SAMPLES:
+            if not sample.name.endswith((".blf", ".pcap", ".pcapng")):
+                found = Read(sample.name, sample.content[:-1])
+                self.assertEqual(found.tally.noted["last lines without a line feed"], found.fault is None, sample.name)
+
     def test_constant_memory(self):
         """A long file is read in no more memory than a short one, by some megabytes."""
         objects = b"".join(samples.filled(samples.blf_object(1, at * 10**6, samples.blf_classic(1, 0x7E8, bytes(8)))) for at in range(2000))
@@ -272,8 +398,7 @@ class Faults(unittest.TestCase):
             with tempfile.TemporaryDirectory() as folder:
                 path = Path(folder, "run.blf")
                 path.write_bytes(samples.blf_file(*[samples.blf_container(objects)] * times))
-                ask = f"import resource, sys; from udsnorm.__main__ import main; main(['convert', {str(path)!r}, '/dev/null']); print(resource.getrusage(resource.RUSAGE_SELF).ru_maxrss)"
-                peaks.append(int(run(sys.executable, ["-B", "-c", ask], env=environment()).output))
+                peaks.append(converted(path)[1])
         self.assertLess(peaks[1], peaks[0] + 4000)
 
 
@@ -311,9 +436,63 @@ class Tool(unittest.TestCase):
         self.same(["list", "--json", "--tester", "7E0", "run.blf"], ["list", "--json", "--tester", "7E0", "run.log"])
 
     def test_what_the_program_does_itself(self):
-        for words in ([], ["--version"], ["--help"], ["list", VIN], ["list", "none.log"], ["list", self.folder], ["compare", "x"]):
+        for words in ([], ["--version"], ["list", "--help"], ["list", VIN], ["list", "none.log"], ["list", self.folder], ["compare", "x"]):
             self.same(words, words)
         self.assertEqual(package(["list"], log=VIN.read_bytes()).output, run(given.program, ["list", VIN]).output)
+
+    def test_help(self):
+        """The program's own, and behind it what the package has beside."""
+        found, want = package(["--help"]), run(given.program, ["--help"])
+        self.assertEqual((found.status, found.error, found.output.startswith(want.output)), (DONE, b"", True))
+        self.assertIn(b"python3 -m udsnorm convert FILE [LOG]", found.output[len(want.output) :])
+
+    def test_options_with_values(self):
+        """It is known of which options the next word is a value."""
+        program = importlib.import_module("udsnorm._program")
+        commands = re.findall(r"^  (\w+)  ", run(given.program, ["--help"]).output.decode(), re.M)
+        texts = [run(given.program, [command, "--help"]).output.decode() for command in commands]
+        self.assertEqual({name for text in texts for name in re.findall(r"(--[\w-]+)[ =]<", text)}, set(program.VALUED))
+        for command, text in zip(commands, texts):
+            self.assertEqual(program.limit_of(given.program, [command]), 1 << (40 if "1099511627776" in text else 30), command)
+        self.assertEqual(program.limit_of(given.program, ["list", "--limit=5", "--limit", "7"]), 7)
+
+    def test_words_that_are_no_logs(self):
+        """A file or folder that is named as the command, or an option or its value, is no log of the run."""
+        for name in ("report", "7E0", "7E8", "--strict", "--limit", "--unit=7E8", "100000"):
+            self.put(name, b"x")
+        for name in ("list", "compare", "normalise"):
+            (self.folder / name).mkdir()
+        self.put("run.blf", blf_of(VIN.read_bytes()))
+        self.put("run.log", VIN.read_bytes())
+        for words in (
+            ["list", "run"], ["list", "--tester", "7E0", "--unit", "7E8", "run"], ["list", "run", "--limit", "100000"],
+            ["list", "--strict", "--unit=7E8", "--", "run"], ["compare", "run", "run"], ["normalise", "--json", "run"],
+            ["--strict", "run"], ["list", "--tester"], ["list", "--limit", "run"],
+        ):
+            self.same([word.replace("run", "run.blf") for word in words], [word.replace("run", "run.log") for word in words])
+        self.assertEqual(package(["report", "run.blf"], cwd=self.folder).status, DONE)
+        self.put("logs/list", blf_of(VIN.read_bytes()))
+        self.put("logs/--strict", blf_of(VIN.read_bytes()))
+        for words in (["list", "list"], ["list", "--", "--strict"], ["list", "--strict", "--", "list"]):
+            self.assertEqual(package(words, cwd=self.folder / "logs").output, run(given.program, ["list", VIN]).output)
+
+    def test_devices_that_fail(self):
+        """One line and status 4: no room for what is converted, no folder for it, streams that are closed."""
+        content = blf_of(VIN.read_bytes() * 1000)
+        self.put("run.blf", content)
+        for size in (0, 5000):
+            limit = {"preexec_fn": lambda size=size: resource.setrlimit(resource.RLIMIT_FSIZE, (size, size))}
+            for words in (["list", "run.blf"], ["convert", "run.blf", "run.log"]):
+                found = package(words, cwd=self.folder, **limit)
+                self.assertEqual((found.status, found.output, found.error.count(b"\n")), (DEVICE, b"", 1), found.error)
+        for stream in (0, 1, 2):
+            for words in (["convert", "-"], ["convert", "none"], ["list", "run.blf"], ["list"]):
+                found = package(words, cwd=self.folder, preexec_fn=lambda stream=stream: os.close(stream))
+                self.assertNotIn(b"Traceback", found.error)
+                self.assertIn(found.status, (DONE, REFUSAL, DEVICE), (stream, words, found))
+        with open("/dev/full", "wb") as full:
+            self.assertEqual(package(["convert", "none.blf"], cwd=self.folder, stderr=full).status, DEVICE)
+            self.assertEqual(package(["convert", "--help"], stdout=full).status, DEVICE)
 
     def test_two_logs(self):
         self.put("a.log", VIN.read_bytes())
@@ -328,6 +507,13 @@ class Tool(unittest.TestCase):
         inner = str(whole).lstrip("/")
         self.put(inner, blf_of((EXAMPLES / "lost-frame.log").read_bytes()))
         self.assertEqual(package(["compare", whole, inner], cwd=self.folder).status, DIFFERENT)
+        # A file that is named as the folder of the other one.
+        first = whole.parts[1]
+        self.put(first + ".blf", whole.read_bytes()).rename(self.folder / f"{first}.x")
+        shutil.rmtree(self.folder / first)
+        (self.folder / f"{first}.x").rename(self.folder / first)
+        for words in ([whole, first], [first, whole]):
+            self.assertEqual(package(["compare", *words], cwd=self.folder), (DONE, b"same\n", b""))
 
     def test_names_on_pages(self):
         """The page shows the names that were given: the last part, or the paths where both have one name."""
@@ -375,6 +561,78 @@ class Tool(unittest.TestCase):
         with open("/dev/full", "wb") as full:
             self.assertEqual(package(["convert", "run.blf"], cwd=self.folder, stdout=full).status, DEVICE)
 
+    def test_streams(self):
+        """Standard input and pipes that are named are converted where they have to be, and else go to the program as they come."""
+        log, blf = VIN.read_bytes(), blf_of(VIN.read_bytes())
+        self.put("run.log", log)
+        path = self.put("run.blf", blf)
+        want = run(given.program, ["list", VIN]).output
+        for content in (blf, gzip.compress(log), log, samples.screen_text().encode()):
+            found = package(["list", "--limit", "100000"], log=content)
+            self.assertEqual((found.status, b"line" in found.error), (DONE, False))
+            self.assertEqual(found.output, want if content[:1] != b" " else run(given.program, ["list"], "".join(samples.screen_lines([0] * 9)).encode()).output)
+        with open(path, "rb") as file:
+            self.assertEqual(package(["list"], stdin=file).output, want)
+        with open(path, "rb") as file:
+            self.assertEqual(package(["list", "/dev/stdin"], stdin=file).output, want)
+        self.assertEqual(package(["list", "/dev/stdin"], log=blf).output, want)
+        self.assertEqual(package(["list", "/dev/stdin"], log=log).output, want)
+        ask = f"{sys.executable} -B -m udsnorm"
+        for words in ("<(cat run.blf) run.log", "<(cat run.log) run.blf", "<(cat run.log) <(cat run.blf)", "<(cat run.log) <(cat run.log)"):
+            found = run("bash", ["-c", f"{ask} compare {words}"], env=environment(), cwd=self.folder)
+            self.assertEqual(found, (DONE, b"same\n", b""), words)
+        cut = package(["list"], log=blf[:-4])
+        self.assertEqual((cut.status, cut.output), (REFUSAL, b""))
+        self.assertRegex(cut.error.decode(), r"^-: byte \d+: the file ends in the middle of an object\nline \d column 1: not a log line\n")
+        self.assertEqual(package(["list", "--limit", "50"], log=blf).error.splitlines()[0], b"log longer than the limit")
+
+    def test_a_session_that_runs(self):
+        """What comes from a pipe goes on as it comes."""
+        lines = VIN.read_bytes().splitlines(keepends=True)
+        running = start(sys.executable, ["-B", "-m", "udsnorm", "watch"], env=environment())
+        for line in lines:
+            running.stdin.write(line)
+            running.stdin.flush()
+            time.sleep(0.02)
+        self.assertIn(b"exchange", running.stdout.readline())
+        self.assertEqual(end(running).status, DONE)
+
+    def test_ends_at_the_limit(self):
+        """What is converted takes no more room than the log may have."""
+        line = samples.line(0, "can0", 0x7E0, b"\x01\x3e").encode()
+        self.put("run.log.gz", gzip.compress(line * 2000000))
+        limit = {"preexec_fn": lambda: resource.setrlimit(resource.RLIMIT_FSIZE, (400000, 400000))}
+        found = package(["list", "--limit", "200000", "run.log.gz"], cwd=self.folder, **limit)
+        self.assertEqual(found, (REFUSAL, b"", b"log longer than the limit\n"))
+
+    def test_signals(self):
+        """Whatever tells the process to end, the folder goes."""
+        self.put("run.blf", blf_of(VIN.read_bytes()))
+        program = self.put("bin/udsnorm", b'#!/bin/sh\ncase "$*" in *--help) exit ;; esac\nexec sleep 60\n')
+        program.chmod(0o755)
+        rooms = self.folder / "rooms"
+        rooms.mkdir()
+        more = {**environment(), "PATH": f"{program.parent}:{os.environ['PATH']}", "TMPDIR": str(rooms)}
+        for number in (signal.SIGHUP, signal.SIGTERM, signal.SIGINT):
+            running = start(sys.executable, ["-B", "-m", "udsnorm", "list", "run.blf"], env=more, cwd=self.folder)
+            while not list(rooms.glob("*/run.blf")):
+                time.sleep(0.01)
+            time.sleep(0.1)
+            running.send_signal(number)
+            self.assertEqual((end(running).status, list(rooms.iterdir())), (128 + number, []))
+
+    def test_names_that_are_not_utf_8(self):
+        name = os.fsdecode(b"\xe9 run.blf")
+        self.put(name, blf_of(VIN.read_bytes()))
+        self.put(os.fsdecode(b"\xe9.log"), VIN.read_bytes())
+        self.put("run.log", VIN.read_bytes())
+        for words in (["compare", name, "run.log"], ["compare", os.fsdecode(b"\xe9.log"), name]):
+            self.assertEqual(package(words, cwd=self.folder), (DONE, b"same\n", b""))
+        self.assertIn(b"%E9 run.blf", package(["report", name], cwd=self.folder).output)
+        self.assertEqual(package(["convert", name], cwd=self.folder).output, VIN.read_bytes())
+        missing = package(["convert", os.fsdecode(b"\xe9")], cwd=self.folder)
+        self.assertEqual((missing.status, missing.error), (DEVICE, b"\\xe9: No such file or directory\n"))
+
     def test_no_program(self):
         self.put("run.blf", blf_of(VIN.read_bytes()))
         found = package(["list", "run.blf"], cwd=self.folder, env={**environment(), "PATH": "/nowhere"})
@@ -416,12 +674,7 @@ class Package(unittest.TestCase):
 
     def test_messages_of_python_can(self):
         """By objects of the same attributes, with a frame of each kind."""
-        plain = {"is_error_frame": False, "is_remote_frame": False, "is_fd": False, "bitrate_switch": False, "error_state_indicator": False}
-
-        def message(seconds, identifier, data, dlc, channel=0, **more):
-            fields = {**plain, "timestamp": seconds, "arbitration_id": identifier, "is_extended_id": identifier > 0x7FF, **more}
-            return SimpleNamespace(**fields, data=data, dlc=dlc, channel=channel)
-
+        message = samples.message
         recorded = [
             message(1700000000.012, 0x7E0, bytearray(b"\x03\x22\xf1\x90"), 4),
             message(1700000000.0123, 0x7E8, LONG, 24, "vcan1", is_fd=True, bitrate_switch=True),

@@ -13,14 +13,21 @@ from __future__ import annotations
 
 import os
 import signal
+import subprocess
 import sys
 import tempfile
-from typing import BinaryIO, List
+from types import FrameType
+from typing import BinaryIO, List, Optional
 
 from . import _program
 from ._formats import Fault, Log, Missing
 
 _DONE, _WRONG_WORDS, _REFUSED, _NOT_READ, _NO_MEMORY, _INTERRUPTED = 0, 2, 3, 4, 5, 130
+
+_STANDARD_OUTPUT = 1
+
+# By these a process is told to end. What ignores one of them, as below nohup, goes on to.
+_ENDING = (signal.SIGTERM, signal.SIGHUP)
 
 
 def main(words: List[str]) -> int:
@@ -28,10 +35,13 @@ def main(words: List[str]) -> int:
     try:
         return _convert(words[1:]) if words[:1] == ["convert"] else _run(words)
     except Missing as missing:
-        print(f"udsnorm: {missing}", file=sys.stderr)
+        _program.tell("udsnorm", str(missing))
         return _WRONG_WORDS
+    except OSError as error:
+        _program.tell(error.filename if isinstance(error.filename, str) else "udsnorm", error.strerror or str(error))
+        return _NOT_READ
     except MemoryError:
-        print("out of memory", file=sys.stderr)
+        _program.tell_line("out of memory")
         return _NO_MEMORY
     except KeyboardInterrupt:
         return _INTERRUPTED
@@ -41,49 +51,59 @@ def _run(words: List[str]) -> int:
     """Runs the program: in the place of this process, where nothing is to be converted."""
     program = _program.found()
     if program is None:
-        print("udsnorm: the program udsnorm is neither beside the package, as in the wheel, nor on the PATH", file=sys.stderr)
+        _program.tell("udsnorm", "the program udsnorm is neither beside the package, as in the wheel, nor on the PATH")
         return _WRONG_WORDS
-    if not any(map(_program.is_other, words)):
+    if words in (["-h"], ["--help"]):
+        status = subprocess.run([program, *words], check=False).returncode
+        return status or _say(f"\n{__doc__}")
+    logs = {at: _program.source_of(words[at]) for at in _program.logs_in(words)}
+    others = {at for at, source in logs.items() if source is not None and _program.is_other(source)}
+    is_given = _program.reads_standard_input(words) and _program.is_other(_program.STANDARD_INPUT)
+    if not (others or is_given or any(source and not _program.is_text(words[at]) for at, source in logs.items())):
         # Python ignores this signal, and the program would, too.
         signal.signal(signal.SIGPIPE, signal.SIG_DFL)
         os.execv(program, ["udsnorm", *words])
-    # So that the folder goes where the process is told to end.
-    signal.signal(signal.SIGTERM, lambda *_: sys.exit(128 + signal.SIGTERM))
+    for number in _ENDING:
+        if signal.getsignal(number) == signal.SIG_DFL:
+            signal.signal(number, _end)
     with tempfile.TemporaryDirectory(prefix="udsnorm-") as root:
-        folder = _program.Folder(root)
-        return folder.run(program, [folder.word_for(word) for word in words])
+        folder = _program.Folder(root, _program.limit_of(program, words))
+        given = [folder.word_for(word, logs[at], at in others) if at in logs else word for at, word in enumerate(words)]
+        return folder.run(program, given, is_given=is_given)
+
+
+def _end(number: int, _: Optional[FrameType]) -> None:
+    """Ends the process so that the folder goes."""
+    for other in _ENDING:
+        signal.signal(other, signal.SIG_IGN)
+    sys.exit(128 + number)
 
 
 def _convert(words: List[str]) -> int:
     """Writes the candump log of a file."""
     if words in (["-h"], ["--help"]):
-        print(__doc__, end="")
-        return _DONE
+        return _say(f"{__doc__}")
     if len(words) not in (1, 2) or (words[0].startswith("-") and words[0] != "-"):
-        print("usage: python3 -m udsnorm convert FILE [LOG]", file=sys.stderr)
+        _program.tell("usage", "python3 -m udsnorm convert FILE [LOG]")
         return _WRONG_WORDS
     try:
-        with Log(sys.stdin.fileno() if words[0] == "-" else words[0]) as log:
+        with Log(_program.STANDARD_INPUT if words[0] == "-" else words[0]) as log:
             if len(words) == 1:
-                return _write(log, sys.stdout.buffer)
+                with open(_STANDARD_OUTPUT, "wb", closefd=False) as out:
+                    return _write(log, out)
             if words[0] != "-" and os.path.exists(words[1]) and os.path.samefile(words[0], words[1]):
                 _program.tell(words[1], "this is the file that is read")
                 return _WRONG_WORDS
             with open(words[1], "wb") as out:
                 return _write(log, out)
     except BrokenPipeError:
-        # Nothing more is written, also not as the process ends.
-        os.dup2(os.open(os.devnull, os.O_WRONLY), sys.stdout.fileno())
-        return _NOT_READ
-    except OSError as error:
-        _program.tell(error.filename or words[0], error.strerror or str(error))
         return _NOT_READ
 
 
 def _write(log: Log, out: BinaryIO) -> int:
     status = _DONE
     try:
-        for block in log.blocks():
+        for block in log.blocks(reads=True):
             out.write(block)
     except Fault as fault:
         _program.tell(log.path, str(fault))
@@ -92,6 +112,13 @@ def _write(log: Log, out: BinaryIO) -> int:
     if str(log.tally):
         _program.tell(log.path, str(log.tally))
     return status
+
+
+def _say(text: str) -> int:
+    """Writes a text on standard output."""
+    with open(_STANDARD_OUTPUT, "wb", closefd=False) as out:
+        out.write(text.encode("ascii"))
+    return _DONE
 
 
 if __name__ == "__main__":

@@ -2,14 +2,32 @@
 
 from __future__ import annotations
 
+import contextlib
+import ctypes
 import os
+import re
 import shutil
+import socket
+import stat
 import subprocess
 import sys
 from pathlib import Path
-from typing import BinaryIO, Dict, Optional, Sequence, Union
+from typing import IO, BinaryIO, Dict, List, Optional, Sequence, Union
 
-from ._formats import Fault, Log, shown
+from ._formats import HEAD, Fault, Log, is_for_the_program, shown
+
+#: The options of the program that take a value.
+VALUED = ("--tester", "--unit", "--limit")
+# The options that make it tell of itself, and read nothing.
+_TOLD = ("-h", "--help", "-V", "--version")
+
+STANDARD_INPUT = 0
+_LARGEST_LIMIT = 1 << 40
+# What Python has in a word for a byte that is no sign of UTF-8.
+_SURROGATE = re.compile("[\udc80-\udcff]")
+
+#: What a log is read from: the path of a file, or the number of a stream.
+Source = Union[int, str]
 
 
 def found() -> Optional[str]:
@@ -22,55 +40,123 @@ def found() -> Optional[str]:
 
 
 def tell(name: str, text: str) -> None:
-    """A line on standard error."""
-    print(f"{shown(name)}: {text}", file=sys.stderr, flush=True)
+    """A line on standard error of a file or another thing of this name."""
+    tell_line(f"{shown(name)}: {text}")
 
 
-def is_other(word: str) -> bool:
-    """The word names a file that has to be converted."""
-    if not os.path.isfile(word):
-        return False
+def tell_line(line: str) -> None:
+    """A line on standard error, if there is one that takes it."""
+    if sys.stderr:
+        with contextlib.suppress(OSError):
+            print(line, file=sys.stderr, flush=True)
+
+
+def logs_in(words: Sequence[str]) -> List[int]:
+    """The places of the words that name logs: those behind the command that are no option, and no value of one."""
+    places: List[int] = []
+    is_value = is_behind = False
+    for at, word in enumerate(words[1:], 1):
+        if is_behind or not (is_value or (word.startswith("-") and word != "-")):
+            places.append(at)
+        is_behind = is_behind or (word == "--" and not is_value)
+        is_value = word in VALUED and not (is_value or is_behind)
+    return places if words and not words[0].startswith("-") else []
+
+
+def reads_standard_input(words: Sequence[str]) -> bool:
+    """The program reads it with these words, if they are right."""
+    return not (logs_in(words) or set(words) & set(_TOLD) or words[:1] == ["compare"])
+
+
+def source_of(word: str) -> Optional[Source]:
+    """What the log of this name is read from, if it may have to be converted. A pipe stays open, so that it goes on where the
+    program opens it, too."""
     try:
-        with Log(word) as log:
-            return not log.is_as_it_stands
+        mode = os.stat(word).st_mode
+        if stat.S_ISFIFO(mode):
+            number = os.open(word, os.O_RDONLY)
+            os.set_inheritable(number, True)
+            return number
     except OSError:
         # The program tells why it can't be read.
+        return None
+    return word if stat.S_ISREG(mode) else None
+
+
+def is_other(source: Source) -> bool:
+    """A log has to be converted."""
+    try:
+        if isinstance(source, int):
+            return not is_for_the_program(_first_bytes(source))
+        with Log(source) as log:
+            return not log.is_as_it_stands
+    except OSError:
         return False
+
+
+def _first_bytes(number: int) -> bytes:
+    """The first bytes of a stream, which stay there. None of what can't be looked at so."""
+    mode = os.fstat(number).st_mode
+    if stat.S_ISREG(mode):
+        return os.pread(number, HEAD, os.lseek(number, 0, os.SEEK_CUR))
+    if stat.S_ISSOCK(mode):
+        with socket.socket(fileno=os.dup(number)) as peer:
+            return peer.recv(HEAD, socket.MSG_PEEK)
+    if not stat.S_ISFIFO(mode):
+        return b""
+    # Linux copies what is in a pipe to another one.
+    end, begin = os.pipe()
+    try:
+        size = ctypes.CDLL(None).tee(number, begin, HEAD, 0)
+        return os.read(end, size) if size > 0 else b""
+    finally:
+        os.close(end)
+        os.close(begin)
+
+
+def limit_of(program: str, words: Sequence[str]) -> int:
+    """The most bytes of a log in a run with these words: those that they say, else those that the command's help does."""
+    given = re.findall(r"(?:^|\0)--limit[=\0](\d{1,13})(?=\0|$)", "\0".join(words))
+    told = subprocess.run([program, *words[:1], "--help"], stdout=subprocess.PIPE, stderr=subprocess.DEVNULL, check=False).stdout
+    usual = re.search(rb"--limit <BYTES>[^\[]*\[default: (\d+)\]", told)
+    return int(given[-1]) if given else int(usual[1]) if usual else _LARGEST_LIMIT
 
 
 class Folder:
     """A folder of logs for one run of the program. Each lies there under the path that it was named by, so that pages and
-    labels show that."""
+    labels show that, and ends just behind the limit, so that the program refuses it there."""
 
-    def __init__(self, root: str) -> None:
-        self._root = Path(root)
+    def __init__(self, root: str, limit: int = _LARGEST_LIMIT) -> None:
+        self._root, self._limit = Path(root), limit
         self._sources: Dict[Path, str] = {}
 
     def place_of(self, name: str, source: str) -> Path:
         """Where the log of this name lies: an absolute path, or one with `..`, from the root of the file system on. Logs of
         two sources lie in two places."""
-        inside = Path(name)
+        inside = Path(_SURROGATE.sub(lambda found: f"%{ord(found[0]) - 0xDC00:02X}", name))
         if inside.is_absolute() or ".." in inside.parts:
-            inside = Path(os.path.abspath(name).lstrip("/"))
-        while self._sources.setdefault(inside, source) != source:
+            inside = Path(os.path.abspath(inside).lstrip("/"))
+        while self._sources.get(inside, source) != source or any(
+            other in inside.parents or inside in other.parents for other in self._sources
+        ):
             inside = "other" / inside
+        self._sources[inside] = source
         place = self._root / inside
         place.parent.mkdir(parents=True, exist_ok=True)
         return place
 
-    def word_for(self, word: str) -> str:
+    def word_for(self, word: str, source: Optional[Source], is_other: bool) -> str:
         """The word that means here what this one means where the run was asked for."""
-        if not is_other(word):
-            if os.path.isfile(word) and not os.path.isabs(word):
-                place = self.place_of(word, os.path.abspath(word))
-                if not place.is_symlink():
-                    place.symlink_to(os.path.abspath(word))
-                return str(place.relative_to(self._root))
-            return os.path.abspath(word) if os.path.exists(word) else word
-        place = self.place_of(word, os.path.abspath(word))
-        if not place.exists():
-            with Log(word) as log:
-                _convert(log, place)
+        whole = os.path.abspath(word)
+        if not is_other and (not isinstance(source, str) or (os.path.isabs(word) and is_text(word))):
+            return whole if os.path.exists(word) else word
+        place = self.place_of(word, whole)
+        if not os.path.lexists(place):
+            if is_other and source is not None:
+                with Log(source) as log, open(place, "wb") as out:
+                    _convert(log, out, self._limit)
+            else:
+                place.symlink_to(whole)
         return str(place.relative_to(self._root))
 
     def put(self, name: str, log: bytes) -> str:
@@ -79,21 +165,41 @@ class Folder:
         place.write_bytes(log)
         return str(place.relative_to(self._root))
 
-    def run(self, program: str, words: Sequence[str], output: Union[None, int, BinaryIO] = None) -> int:
-        """The status of the program over logs that lie here. A stream that a word names stays open."""
-        status = subprocess.run([program, *words], cwd=self._root, stdout=output, close_fds=False, check=False).returncode
+    def run(
+        self, program: str, words: Sequence[str], output: Union[None, int, BinaryIO] = None, is_given: bool = False
+    ) -> int:
+        """The status of the program over logs that lie here, or over standard input, which is converted meanwhile. A stream
+        that a word names stays open."""
+        given = subprocess.PIPE if is_given else None
+        with subprocess.Popen([program, *words], cwd=self._root, stdin=given, stdout=output, close_fds=False) as running:
+            try:
+                if running.stdin:
+                    with Log(STANDARD_INPUT) as log, contextlib.suppress(BrokenPipeError), running.stdin:
+                        _convert(log, running.stdin, self._limit)
+                status = running.wait()
+            except BaseException:
+                running.kill()
+                raise
         return 128 - status if status < 0 else status
 
 
-def _convert(log: Log, place: Path) -> None:
-    """Writes the candump log. Where it can't be read to the end, a line that is no log line makes the program refuse it
-    there."""
-    with open(place, "wb") as out:
-        try:
-            for block in log.blocks():
-                out.write(block)
-        except Fault as fault:
-            out.write(f"{fault}\n".encode("ascii", "replace"))
-            tell(log.path, str(fault))
+def is_text(word: str) -> bool:
+    """The word is UTF-8, as the program asks for."""
+    return not _SURROGATE.search(word)
+
+
+def _convert(log: Log, out: IO[bytes], limit: int) -> None:
+    """Writes the candump log, until it is longer than the limit. Where it can't be read to the end, a line that is no log
+    line makes the program refuse it there."""
+    size = 0
+    try:
+        for block in log.blocks():
+            out.write(block)
+            size += len(block)
+            if size > limit:
+                break
+    except Fault as fault:
+        out.write(f"{fault}\n".encode("ascii", "replace"))
+        tell(log.path, str(fault))
     if str(log.tally):
         tell(log.path, str(log.tally))

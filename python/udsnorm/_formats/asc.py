@@ -6,7 +6,7 @@ import re
 from typing import BinaryIO, Iterator, List, Optional
 
 from .frames import BIT_RATE_SWITCH, ERROR_STATE, Fault, Frame, Tally, interface_of
-from .texts import Line, data_of, fraction, length_of, lines
+from .texts import Line, data_of, fraction, hexadecimal, length_of, lines
 
 _BASE = re.compile(r"\s*base\s+(hex|dec)(?:\s+timestamps\s+(absolute|relative))?", re.A | re.I)
 _EVENT = re.compile(r"\s*(\d{1,12})\.(\d{1,9})\s+(\S.*)", re.A)
@@ -14,7 +14,12 @@ _EVENT = re.compile(r"\s*(\d{1,12})\.(\d{1,9})\s+(\S.*)", re.A)
 _HEADS = ("date ", "internal events", "no internal events", "//", "begin triggerblock", "end triggerblock", "previous log file")
 _IDENTIFIER = re.compile(r"([0-9A-Fa-f]{1,10})(x?)")
 _FLAGS = re.compile(r"[0-9A-Fa-f]{1,8}")
+_NUMBER = re.compile(r"\d{1,12}", re.A)
 _DIRECTIONS = ("Rx", "Tx", "TxRq")
+# What stands for the identifier in other events of a channel, as of J1939: its messages of many frames, its groups.
+_OTHERS = re.compile(r"ErrorFrame|OverloadFrame|Statistic:|J1939\w*|[0-9A-Fa-f]{1,6}p", re.A)
+# What may stand behind the data of a classic frame.
+_BEHIND = ("Length", "BitCount", "ID", "TE", "WU", "XX", "NERR")
 
 # The flags of a line CANFD: a remote frame, a frame of CAN FD.
 _REMOTE, _FD = 0x10, 0x1000
@@ -30,7 +35,7 @@ def frames(file: BinaryIO, tally: Tally) -> Iterator[Frame]:
     """The frames of a file. Relative stamps are from event to event, and are summed before they are rounded."""
     reader = _Reader(tally)
     is_empty, is_open = True, False
-    for line in lines(file):
+    for line in lines(file, tally):
         is_empty = False
         event = _EVENT.match(line.text)
         if event:
@@ -85,7 +90,7 @@ class _Reader:
     def _classic_frame(self, line: Line, micros: int, words: List[str]) -> Optional[Frame]:
         """`1 7E0 Rx d 8 02 10 03`, `1 18DA10F1x Tx r 8`, or another event of the channel."""
         channel, what = words[0], words[1]
-        if what in ("ErrorFrame", "OverloadFrame", "Statistic:") or what.endswith("p"):
+        if _OTHERS.fullmatch(what):
             if not line.is_whole:
                 raise ValueError
             self._leave_out("error frames" if what == "ErrorFrame" else "other events")
@@ -102,10 +107,21 @@ class _Reader:
             has_length = len(words) > 4 and len(words[4]) == 1
             if not (has_length or line.is_whole):
                 raise ValueError
-            return Frame(micros, interface, identifier, is_extended, b"", None, int(words[4], 16) if has_length else 0)
-        length = min(int(words[4], self.base), 8)
-        data = self._data(line, words[5:], length)
-        return Frame(micros, interface, identifier, is_extended, data)
+            return Frame(micros, interface, identifier, is_extended, b"", None, hexadecimal(words[4]) if has_length else 0)
+        length = self._number(words[4])
+        data = self._data(words[5 : 5 + length])
+        if len(data) == length and self._data(words[5 + length : 6 + length]):
+            data = self._data(words[5:])
+        # A length code of more than eight means eight bytes, if there are no more.
+        length = min(length, 8) if len(data) <= 8 else length
+        behind = words[5 + len(data) :]
+        if len(data) < length and not (line.is_whole and (not behind or behind[0] in _BEHIND)):
+            raise ValueError
+        # The last number of a decimal line may be cut, too.
+        if self.base == 10 and not (behind or line.is_whole):
+            raise ValueError
+        fitting = self._tally.fitting(data, length)
+        return None if fitting is None else Frame(micros, interface, identifier, is_extended, fitting)
 
     def _fd_frame(self, line: Line, micros: int, words: List[str]) -> Optional[Frame]:
         """`CANFD 1 Rx 7E0 Name 1 0 c 24 ..`, behind the data duration, length and flags. The name may be missing."""
@@ -117,11 +133,14 @@ class _Reader:
             return None
         identifier, is_extended = self._identifier(what)
         at = 4 if words[4] in ("0", "1") and words[5] in ("0", "1") else 5
-        switch, state, code, length = words[at], words[at + 1], int(words[at + 2], 16), length_of(words[at + 3])
+        switch, state, code, length = words[at], words[at + 1], hexadecimal(words[at + 2]), length_of(words[at + 3])
         if switch not in ("0", "1") or state not in ("0", "1"):
             raise ValueError
-        data = self._data(line, words[at + 4 :], length)
+        data = self._data(words[at + 4 : at + 4 + length])
         behind = words[at + 4 + len(data) :]
+        # How long the frame took, in two units, stands behind the data: else what is missing is garbage.
+        if len(data) < length and not all(map(_NUMBER.fullmatch, behind[:2])):
+            raise ValueError
         if len(behind) < 4 and not line.is_whole:
             raise ValueError
         flags = int(behind[2], 16) if len(behind) > 2 and _FLAGS.fullmatch(behind[2]) else _FD
@@ -130,6 +149,7 @@ class _Reader:
         of_fd = (BIT_RATE_SWITCH if switch == "1" else 0) | (ERROR_STATE if state == "1" else 0)
         # Some tools write no flags, but what a classic frame has not.
         is_fd = flags & _FD or of_fd or length > 8
+        self._tally.fitting(data, length)
         return Frame(micros, interface_of(channel), identifier, is_extended, data, of_fd if is_fd else None)
 
     def _identifier(self, word: str) -> "tuple[int, bool]":
@@ -138,16 +158,16 @@ class _Reader:
             raise ValueError
         return int(found[1], self.base), bool(found[2])
 
-    def _data(self, line: Line, words: List[str], length: int) -> bytes:
-        """The data of a whole frame, or what a whole line has of them."""
-        if length < 0:
-            raise ValueError
+    def _number(self, word: str) -> int:
+        return hexadecimal(word) if self.base == 16 else length_of(word)
+
+    def _data(self, words: List[str]) -> bytes:
+        """The bytes that the words begin with."""
         if self.base == 16:
-            data = data_of(words, length)
-        else:
-            data = bytes(int(word) for word in words[:length] if word.isdigit())
-        # The last number of a decimal line may be cut, too.
-        is_cut = len(data) < length or (self.base == 10 and len(words) <= length)
-        if is_cut and not line.is_whole:
-            raise ValueError
-        return self._tally.shortened(data, length)
+            return data_of(words)
+        found = bytearray()
+        for word in words:
+            if not _NUMBER.fullmatch(word) or int(word) > 255:
+                break
+            found.append(int(word))
+        return bytes(found)

@@ -9,7 +9,7 @@ from __future__ import annotations
 import calendar
 import struct
 import zlib
-from typing import BinaryIO, Dict, Iterator, Optional
+from typing import BinaryIO, Iterator, Optional
 
 from .frames import BIT_RATE_SWITCH, ERROR_STATE, LENGTHS, Fault, Frame, Tally, interface_of
 
@@ -141,7 +141,6 @@ class _Objects:
 
     def __init__(self, start: int, tally: Tally) -> None:
         self._start, self._tally = start, tally
-        self._names: Dict[int, str] = {}
 
     def frames(self, pieces: _Packed) -> Iterator[Frame]:
         """The frames, from the bytes of all objects in a row."""
@@ -158,7 +157,10 @@ class _Objects:
                 if form is None:
                     if size < _OBJECT.size:
                         raise Fault(f"byte {pieces.at}", "before it an object has a size that there is not")
-                    self._tally.left_out["error frames" if kind in _ERRORS else f"objects of type {kind}"] += 1
+                    if kind in _ERRORS:
+                        self._tally.left_out["error frames"] += 1
+                    else:
+                        self._tally.leave_out_of_many(f"objects of type {kind}", "objects of other types")
                 elif not (_TIME.size <= head_size and head_size + form.size <= size <= _LONGEST_FRAME):
                     raise Fault(f"byte {pieces.at}", "before it an object has a size that there is not")
                 elif at + size > len(held):
@@ -202,12 +204,11 @@ class _Objects:
         if direction & _DIRECTION == _REQUEST:
             self._tally.left_out["transmit requests"] += 1
             return None
-        interface = self._names.get(channel) or self._names.setdefault(channel, interface_of(channel))
-        number, is_extended = identifier & ~_EXTENDED, identifier >= _EXTENDED
+        interface, number, is_extended = interface_of(channel), identifier & ~_EXTENDED, identifier >= _EXTENDED
         if is_remote:
             return Frame(micros, interface, number, is_extended, b"", None, code)
         length = LENGTHS[code & 15] if flags is not None else min(code, 8)
         data = held[begin : min(end, begin + length)]
         if len(data) < length:
-            self._tally.shortened(data, length)
+            self._tally.fitting(data, length)
         return Frame(micros, interface, number, is_extended, data, flags)

@@ -5,7 +5,7 @@ from __future__ import annotations
 import struct
 from typing import BinaryIO, Iterator, List, NamedTuple, Optional
 
-from .frames import BIT_RATE_SWITCH, ERROR_STATE, Fault, Frame, Tally, interface_of, is_name, nearest
+from .frames import BIT_RATE_SWITCH, ERROR_STATE, Fault, Frame, Tally, interface_of, nearest
 
 # The first bytes of a pcap file, with the order of its numbers and how many of its units a second has.
 _PCAP = {
@@ -26,6 +26,8 @@ _NAME, _RESOLUTION, _OFFSET = 2, 9, 14
 
 #: No packet of a frame is longer; libpcap has the same bound.
 _LONGEST = 1 << 18
+#: No section has more interfaces.
+_MOST_INTERFACES = 1 << 12
 _PIECE = 1 << 16
 
 # An identifier with its flags, and the flags of CAN FD; a frame of CAN XL has a flag where others have a length.
@@ -109,7 +111,7 @@ class _Reader:
         if face.link in (_SOCKETCAN, _EXPORTED):
             return True
         named = f" ({_LINKS[face.link]})" if face.link in _LINKS else ""
-        self._tally.left_out[f"packets of link type {face.link}{named}"] += 1
+        self._tally.leave_out_of_many(f"packets of link type {face.link}{named}", "packets of other link types")
         return False
 
     def pcapng(self) -> Iterator[Frame]:
@@ -157,6 +159,8 @@ class _Reader:
 
     def _block(self, kind: int, held: bytes, faces: List[_Interface]) -> Iterator[Frame]:
         if kind == _INTERFACE:
+            if len(faces) == _MOST_INTERFACES:
+                raise Fault(f"byte {self._at}", f"more than {_MOST_INTERFACES} interfaces")
             faces.append(self._interface(held, len(faces)))
             return
         if kind == _SIMPLE_PACKET:
@@ -195,9 +199,6 @@ class _Reader:
                 begin = self._numbers("q", value)[0]
             elif code == _END:
                 break
-        if name and not is_name(name):
-            self._tally.noted["interfaces of a name that no line can say"] += 1
-            name = ""
         return _Interface(link, interface_of(name or number), units, begin)
 
     def _frames(self, face: _Interface, time: int, packet: bytes, has_time: bool = True) -> Iterator[Frame]:
@@ -240,5 +241,6 @@ class _Reader:
             return Frame(micros, name, identifier, is_extended, b"", None, length)
         # Older kernels say by the room for its data alone that a frame is one of CAN FD.
         is_fd = is_fd or bool(flags & _FD) or length > 8 or len(held) == _LONGEST_FD
-        data = self._tally.shortened(held[_DATA : _DATA + length], length)
+        data = held[_DATA : _DATA + length]
+        self._tally.fitting(data, length)
         return Frame(micros, name, identifier, is_extended, data, flags & (BIT_RATE_SWITCH | ERROR_STATE) if is_fd else None)

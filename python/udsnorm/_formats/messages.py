@@ -45,7 +45,8 @@ def frames_of_file(path: Optional[str], reader: str, tally: Tally) -> Iterator[F
 def _imported(module: str) -> Any:
     try:
         return importlib.import_module(module)
-    except ImportError:
+    except Exception:
+        # Also one that is installed may be broken.
         debian = f"apt install {_DEBIAN[module]}" if module in _DEBIAN else "Debian has no package"
         raise Missing(f"this file needs {_PIP[module]}: pip install {_PIP[module]}; {debian}") from None
 
@@ -57,15 +58,19 @@ def frames(messages: Iterable[Any], tally: Tally, is_told_by_length: bool = Fals
             tally.left_out["error frames"] += 1
             continue
         micros = _micros(message.timestamp)
-        interface, identifier, is_extended = interface_of(message.channel), message.arbitration_id, message.is_extended_id
+        channel = message.channel if isinstance(message.channel, int) else str(message.channel or "")
+        interface, identifier, is_extended = interface_of(channel), message.arbitration_id, message.is_extended_id
         if message.is_remote_frame:
             yield Frame(micros, interface, identifier, is_extended, b"", None, message.dlc)
             continue
-        data = bytes(message.data or b"")
-        is_fd = message.is_fd or (is_told_by_length and len(data) > 8)
-        flags = (BIT_RATE_SWITCH if message.bitrate_switch else 0) | (ERROR_STATE if message.error_state_indicator else 0)
-        length = message.dlc if is_fd else min(message.dlc, 8)
-        yield Frame(micros, interface, identifier, is_extended, tally.shortened(data, length), flags if is_fd else None)
+        data, flags = bytes(message.data or b""), None
+        if is_told_by_length:
+            flags = tally.flags_by_length(len(data))
+        elif message.is_fd:
+            flags = (BIT_RATE_SWITCH if message.bitrate_switch else 0) | (ERROR_STATE if message.error_state_indicator else 0)
+        fitting = tally.fitting(data, message.dlc if flags is not None or len(data) > 8 else min(message.dlc, 8))
+        if fitting is not None:
+            yield Frame(micros, interface, identifier, is_extended, fitting, flags)
 
 
 def _micros(seconds: float) -> int:

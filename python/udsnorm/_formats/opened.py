@@ -4,23 +4,14 @@ from __future__ import annotations
 
 import io
 import os
-import re
 from typing import Any, Callable, Dict, Iterator, List, Optional, Tuple, Union
 
-from . import asc, blf, captures, csv, messages, packed, screen, trc
+from . import asc, blf, candump, captures, csv, messages, packed, screen, trc
 from .frames import Fault, Frame, Tally, lines_of
-from .texts import LONGEST
 
 #: How many first bytes of a file decide.
 HEAD = 1 << 16
 _LINES = 2000
-
-# A line of a log, and how one begins.
-_LOG_LINE = re.compile(
-    rb"\(\d{1,10}\.\d{6}\) {1,16}[!-~]{1,15} {1,16}(?:[0-9A-Fa-f]{8}|[0-7][0-9A-Fa-f]{2})"
-    rb"#(?:(?:[0-9A-Fa-f]{2}){0,8}(?:_[9A-Fa-f])?|R[0-8]?(?:_[9A-Fa-f])?|#[0-9A-Fa-f](?:[0-9A-Fa-f]{2}){0,64})(?: {1,16}[RT])?\r?"
-)
-_LOG_LINE_BEGINS = re.compile(rb"\s*\([\d. :-]+\) +\S+ +[0-9A-Fa-f]+#")
 
 _Frames = Callable[[io.BufferedReader, Tally], Iterator[Frame]]
 _BY_SUFFIX: Dict[str, _Frames] = {
@@ -30,6 +21,24 @@ _BY_SUFFIX: Dict[str, _Frames] = {
 _TEXTS: List[Tuple[Callable[[str], bool], _Frames]] = [
     (trc.looks_so, trc.frames), (csv.looks_so, csv.frames), (asc.looks_so, asc.frames), (screen.looks_so, screen.frames)
 ]
+
+
+def is_for_the_program(head: bytes) -> bool:
+    """A stream that begins so is read by the program: it is a candump log, or nothing that is known, and not packed."""
+    is_known = packed.unpacker_of(head, "") or messages.reader_of(head, "") or _reader_of(head, "")
+    return not is_known and (candump.is_plain(head) or not candump.looks_so(head))
+
+
+def _reader_of(head: bytes, suffix: str) -> Optional[_Frames]:
+    """What reads a file of another format than those of candump's logs and of python-can alone."""
+    if head.startswith(blf.MAGIC):
+        return blf.frames
+    if captures.looks_so(head):
+        return captures.frames
+    if candump.looks_so(head):
+        return None
+    text = head.decode("ascii", "replace").lstrip("\ufffd")
+    return next((frames for looks_so, frames in _TEXTS if looks_so(text)), _BY_SUFFIX.get(suffix))
 
 
 class _Joined(io.RawIOBase):
@@ -53,9 +62,10 @@ class Log:
     """A log that is opened, by its path, or as a stream by its number: its lines, and a tally of what they leave out."""
 
     def __init__(self, opened: "Union[int, str, os.PathLike[str]]") -> None:
-        self._is_stream, self.tally = isinstance(opened, int), Tally()
-        self.path = "-" if isinstance(opened, int) else os.fspath(opened)
-        self._raw = io.BufferedReader(io.FileIO(opened, "rb", closefd=not self._is_stream), HEAD)
+        self.path, self.tally = "-" if isinstance(opened, int) else os.fspath(opened), Tally()
+        self._raw = io.BufferedReader(io.FileIO(opened, "rb", closefd=not isinstance(opened, int)), HEAD)
+        # What can't be opened once more.
+        self._is_stream = isinstance(opened, int) or not self._raw.seekable()
         try:
             self._look()
         except BaseException:
@@ -70,8 +80,8 @@ class Log:
 
     @property
     def is_as_it_stands(self) -> bool:
-        """It is a candump log, or nothing that is known, and not packed."""
-        return self._frames is None and not self._is_packed
+        """It is a candump log that the program reads, or nothing that is known, and not packed."""
+        return self._is_plain and not self._is_packed
 
     def _look(self) -> None:
         """Finds out what the file is."""
@@ -85,42 +95,41 @@ class Log:
             suffix, head = os.path.splitext(stem)[1], _head_of(unpacking)
             joined = _Joined(head, unpacking)
         self._file = io.BufferedReader(joined, HEAD)
-        self._frames, self._is_known = self._reader_of(head, suffix), True
-        if self._frames is None:
-            self._is_known = not head.strip() or bool(_LOG_LINE_BEGINS.match(head))
-
-    def _reader_of(self, head: bytes, suffix: str) -> Optional[_Frames]:
-        """What reads a file of another format."""
-        if head.startswith(blf.MAGIC):
-            return blf.frames
-        if captures.looks_so(head):
-            return captures.frames
-        by_can = messages.reader_of(head, suffix)
+        self._frames, is_log = _reader_of(head, suffix), candump.looks_so(head)
+        by_can = messages.reader_of(head, "" if self._frames or is_log else suffix)
         if by_can:
             path, reader = None if self._is_packed or self._is_stream else self.path, by_can
-            return lambda _, tally: messages.frames_of_file(path, reader, tally)
-        if _LOG_LINE_BEGINS.match(head):
-            return None
-        text = head.decode("ascii", "replace").lstrip("\ufffd")
-        return next((frames for looks_so, frames in _TEXTS if looks_so(text)), _BY_SUFFIX.get(suffix))
+            self._frames = lambda _, tally: messages.frames_of_file(path, reader, tally)
+        self._is_known = is_log or not head.strip()
+        self._is_plain = self._frames is None and (candump.is_plain(head) or not is_log)
 
     def read(self, limit: int) -> bytes:
         """The bytes as they stand: of a longer file no more than show that it is longer than the limit."""
-        if not self._raw.seekable():
-            return self._file.read()
-        self._raw.seek(0)
-        is_longer = os.fstat(self._raw.fileno()).st_size > limit
-        return self._raw.read(limit + 1) if is_longer else self._raw.read()
+        if self._raw.seekable():
+            self._raw.seek(0)
+            is_longer = os.fstat(self._raw.fileno()).st_size > limit
+            return self._raw.read(limit + 1) if is_longer else self._raw.read()
+        held = bytearray()
+        while len(held) <= limit:
+            piece = self._file.read(HEAD)
+            if not piece:
+                break
+            held += piece
+        return bytes(held)
 
-    def blocks(self) -> Iterator[bytes]:
-        """The text of the candump log, in blocks of whole lines. Behind what could be read a `Fault` may be raised."""
+    def blocks(self, reads: bool = False) -> Iterator[bytes]:
+        """The text of the candump log, in blocks of whole lines. Behind what could be read a `Fault` may be raised.
+
+        A log that the program reads, packed or not, is read here only where it is asked for."""
         if self._frames is None:
-            yield from self._copied()
+            if not self._is_known:
+                raise Fault("line 1", "no log of a form that this reads")
+            yield from candump.read(self._file, self.tally) if reads or not self._is_plain else candump.copied(self._file)
             return
         fault: Optional[Fault] = None
         held: List[str] = []
         try:
-            for line in lines_of(self._frames(self._file, self.tally), self.tally):
+            for line in lines_of(self._frames(self._file, self.tally), self.tally, self._all_interfaces):
                 held.append(line)
                 if len(held) == _LINES:
                     yield "".join(held).encode("ascii")
@@ -131,24 +140,16 @@ class Log:
         if fault:
             raise fault
 
-    def _copied(self) -> Iterator[bytes]:
-        """The lines as they stand. Only of the last one it is looked whether it is whole."""
-        if not self._is_known:
-            raise Fault("line 1", "no log of a form that this reads")
-        number, rest = 1, b""
-        while True:
-            piece = self._file.read1(HEAD)
-            whole, feed, rest = (rest + piece).rpartition(b"\n")
-            if feed:
-                yield whole + feed
-                number += whole.count(b"\n") + 1
-            if not piece:
-                break
-            if len(rest) > LONGEST:
-                raise Fault(f"line {number}", f"it has more than {LONGEST} bytes")
-        if rest.strip() and not _LOG_LINE.fullmatch(rest):
-            raise Fault(f"line {number}", "the file ends in the middle of a line")
-        yield rest
+    def _all_interfaces(self) -> Iterator[str]:
+        """The interfaces of all frames, by another look at the file. A stream has no second one."""
+        if self._is_stream:
+            return
+        with Log(self.path) as again:
+            try:
+                if again._frames:
+                    yield from (frame.interface for frame in again._frames(again._file, again.tally))
+            except Fault:
+                pass
 
 
 def _head_of(file: "io.BufferedReader | io.RawIOBase") -> bytes:

@@ -7,6 +7,7 @@ which. The first lines decide.
 from __future__ import annotations
 
 import calendar
+import datetime
 import io
 import re
 from typing import Iterator, Optional
@@ -21,13 +22,14 @@ _LINE = re.compile(
     re.A,
 )
 _SECONDS = re.compile(r"(\d{1,12})\.(\d{6}|\d{9})", re.A)
-_DAY = re.compile(r"(\d{4})-(\d\d)-(\d\d) (\d\d):(\d\d):(\d\d)\.(\d{6}|\d{9})", re.A)
+_DAY = re.compile(r"(\d{4}-\d\d-\d\d \d\d:\d\d:\d\d)\.(\d{6}|\d{9})", re.A)
 # The data by hexadecimal digits, or by binary ones of `-i`; with `-S` from the last byte on, by grave accents. Behind
 # them may stand what they are in ASCII.
 _BYTES = re.compile(r"\s+(?P<data>[0-9A-F]{2}(?:[ `][0-9A-F]{2})*)(?![^\s])")
 _BITS = re.compile(r"\s+(?P<data>[01]{8}(?:[ `][01]{8})*)(?![^\s])")
 _BEHIND = re.compile(r"\s*|\s+['`].*['`]|\s+ERRORFRAME.*")
-_LOST = re.compile(r"DROPCOUNT: dropped (\d{1,9}) CAN frame")
+#: A notice of `-d`.
+LOST = re.compile(r"DROPCOUNT: dropped (\d{1,9}) CAN frame")
 
 _ERROR = 1 << 29
 # Stamps of less are no time of day.
@@ -37,7 +39,7 @@ _MILLISECOND = 1000
 
 def looks_so(head: str) -> bool:
     """The first line that is not empty, and no notice of lost frames, is a frame."""
-    first = next((line for line in _COLOURS.sub("", head).split("\n") if line.strip() and not _LOST.match(line)), "")
+    first = next((line for line in _COLOURS.sub("", head).split("\n") if line.strip() and not LOST.match(line)), "")
     return bool(_LINE.match(first))
 
 
@@ -45,16 +47,16 @@ def frames(file: io.BufferedReader, tally: Tally) -> Iterator[Frame]:
     """The frames of a file. Stamps since the frame before are summed."""
     has_differences, sum_of_all = _has_differences(file.peek().decode("ascii", "replace")), 0
     behind_error = False
-    for line in lines(file):
+    for line in lines(file, tally):
         text = _COLOURS.sub("", line.text).rstrip()
-        lost, found = _LOST.match(text), _LINE.fullmatch(text)
+        lost, found = LOST.match(text), _LINE.fullmatch(text)
         if behind_error and text.startswith("\t"):
             # The words of an error frame.
             continue
         if lost and line.is_whole:
             tally.left_out["frames that candump lost"] += int(lost[1])
             continue
-        stamp = _micros(found["stamp"]) if found else None
+        stamp = micros_of(found["stamp"]) if found else None
         if not found or (found["stamp"] and stamp is None):
             raise line.unexplained("no line that candump writes for the screen")
         frame = _frame(line, found, stamp or 0, tally)
@@ -94,28 +96,32 @@ def _frame(line: Line, found: "re.Match[str]", micros: int, tally: Tally) -> Opt
         raise line.unexplained("no line that candump writes for the screen")
     data = data[::-1] if shown and "`" in shown["data"] else data
     flags = (BIT_RATE_SWITCH if found["switch"] == "B" else 0) | (ERROR_STATE if found["state"] == "E" else 0)
-    return Frame(micros, interface, identifier, is_extended, tally.shortened(data, length), flags if is_fd else None)
+    tally.fitting(data, length)
+    return Frame(micros, interface, identifier, is_extended, data, flags if is_fd else None)
 
 
-def _micros(stamp: Optional[str]) -> Optional[int]:
+def micros_of(stamp: Optional[str]) -> Optional[int]:
     """The microseconds of a stamp: seconds, or a day and a time, which is taken as UTC."""
-    seconds = _SECONDS.fullmatch(stamp or "")
+    seconds, day = _SECONDS.fullmatch(stamp or ""), _DAY.fullmatch(stamp or "")
     if seconds:
         return (int(seconds[1]) * 10**9 + fraction(seconds[2], 9) + 500) // 1000
-    day = _DAY.fullmatch(stamp or "")
-    if day and 1 <= int(day[2]) <= 12:
-        whole = calendar.timegm((int(day[1]), int(day[2]), int(day[3]), int(day[4]), int(day[5]), int(day[6])))
-        return (whole * 10**9 + fraction(day[7], 9) + 500) // 1000
+    if day:
+        try:
+            whole = calendar.timegm(datetime.datetime.fromisoformat(day[1]).timetuple())
+        except ValueError:
+            return None
+        return (whole * 10**9 + fraction(day[2], 9) + 500) // 1000
     return None
 
 
 def _has_differences(head: str) -> bool:
     """The stamps of the first lines are since the frame before: they fall at least to the half here and there, or every
-    fourth one is no later than the one before, which no time that goes on does."""
-    found = [_micros(line["stamp"]) for line in map(_LINE.match, _COLOURS.sub("", head).split("\n")) if line]
+    fourth one that is another falls, which no time that goes on does. Equal ones say nothing: many frames may have come
+    in the time that a stamp counts."""
+    found = [micros_of(line["stamp"]) for line in map(_LINE.match, _COLOURS.sub("", head).split("\n")) if line]
     stamps = [stamp for stamp in found if stamp is not None]
-    pairs = list(zip(stamps, stamps[1:]))
+    pairs = [(earlier, later) for earlier, later in zip(stamps, stamps[1:]) if later != earlier]
     if not pairs or stamps[0] >= _TIME_OF_DAY:
         return False
     halved = sum(2 * later < earlier for earlier, later in pairs if earlier >= _MILLISECOND)
-    return 50 * halved > len(pairs) or 4 * sum(later <= earlier for earlier, later in pairs) > len(pairs)
+    return 50 * halved > len(pairs) or 4 * sum(later < earlier for earlier, later in pairs) > len(pairs)

@@ -3,14 +3,15 @@
 from __future__ import annotations
 
 import re
-from typing import BinaryIO, Iterable, Iterator, NamedTuple
+from typing import BinaryIO, Iterator, List, NamedTuple
 
-from .frames import Fault
+from .frames import Fault, Tally
 
 #: The most bytes of a line.
 LONGEST = 1 << 16
 _BYTE = re.compile(r"[0-9A-Fa-f]{2}")
 _LENGTH = re.compile(r"[0-9]{1,5}")
+_HEXADECIMAL = re.compile(r"(?:0[xX])?[0-9A-Fa-f]{1,10}")
 _BYTE_ORDER_MARK = b"\xef\xbb\xbf"
 
 
@@ -26,8 +27,9 @@ class Line(NamedTuple):
         return Fault(f"line {self.number}", why if self.is_whole else "the file ends in the middle of a line")
 
 
-def lines(file: BinaryIO) -> Iterator[Line]:
-    """The lines of a file, but empty ones that are whole. Signs that are no ASCII, as Latin-1 has them in names, mean nothing here."""
+def lines(file: BinaryIO, tally: Tally) -> Iterator[Line]:
+    """The lines of a file, but empty ones that are whole. Bytes that are no ASCII, as Latin-1 has them in names, mean nothing
+    here. A last line that is explained may all the same be cut: it is noted."""
     number = 0
     while True:
         line = file.readline(LONGEST)
@@ -39,9 +41,16 @@ def lines(file: BinaryIO) -> Iterator[Line]:
             raise Fault(f"line {number}", f"it has more than {LONGEST} bytes")
         if number == 1 and line.startswith(_BYTE_ORDER_MARK):
             line = line[len(_BYTE_ORDER_MARK) :]
-        text = line.decode("ascii", "replace").rstrip()
+        text = line.decode("ascii", "surrogateescape").rstrip()
         if text or not is_whole:
             yield Line(number, text, is_whole)
+        if not is_whole:
+            note_no_feed(tally)
+
+
+def note_no_feed(tally: Tally) -> None:
+    """Notes that the last line of a file is not ended."""
+    tally.noted["last lines without a line feed"] += 1
 
 
 def fraction(digits: str, places: int) -> int:
@@ -56,11 +65,19 @@ def length_of(word: str) -> int:
     return int(word)
 
 
-def data_of(words: Iterable[str], length: int) -> bytes:
-    """The bytes of the first words, each of two hexadecimal digits: up to so many, or up to a word of another form."""
-    found = bytearray()
-    for word in words:
-        if len(found) == length or not _BYTE.fullmatch(word):
-            break
-        found.append(int(word, 16))
-    return bytes(found)
+def hexadecimal(word: str) -> int:
+    """A number in hexadecimal digits; else a ValueError."""
+    if not _HEXADECIMAL.fullmatch(word):
+        raise ValueError
+    return int(word, 16)
+
+
+def data_of(words: List[str]) -> bytes:
+    """The bytes of the first words, each of two hexadecimal digits, up to a word of another form."""
+    if set(map(len, words)) <= {2}:
+        try:
+            return bytes.fromhex(" ".join(words))
+        except ValueError:
+            pass
+    count = next((at for at, word in enumerate(words) if not _BYTE.fullmatch(word)), len(words))
+    return bytes.fromhex("".join(words[:count]))

@@ -5,7 +5,7 @@ from __future__ import annotations
 import re
 from typing import BinaryIO, Dict, Iterator, List, Optional
 
-from .frames import BIT_RATE_SWITCH, ERROR_STATE, LENGTHS, Fault, Frame, Tally, interface_of
+from .frames import BIT_RATE_SWITCH, ERROR_STATE, LENGTHS, Fault, Frame, Tally, interface_of, shown
 from .texts import Line, data_of, fraction, length_of, lines
 
 # The columns of each version: number, offset, type, bus, identifier, direction, reserved, length or its code, data.
@@ -37,7 +37,7 @@ def looks_so(head: str) -> bool:
 def frames(file: BinaryIO, tally: Tally) -> Iterator[Frame]:
     """The frames of a file, at their offsets from its start."""
     version, columns, is_empty = "1.0", _COLUMNS["1.0"].split(","), True
-    for line in lines(file):
+    for line in lines(file, tally):
         is_empty = False
         if not line.text.lstrip().startswith(";"):
             frame = _frame(line, columns, tally)
@@ -50,7 +50,7 @@ def frames(file: BinaryIO, tally: Tally) -> Iterator[Frame]:
         if head and head[1] == "FILEVERSION":
             version = head[2]
             if version not in _COLUMNS:
-                raise line.unexplained(f"a TRC file of a version that this does not read: {version[:20]}")
+                raise line.unexplained(f"a TRC file of a version that this does not read: {shown(version[:20])}")
             columns = _COLUMNS[version].split(",")
         elif head:
             columns = head[2].split(",")
@@ -83,8 +83,9 @@ def _frame(line: Line, columns: List[str], tally: Tally) -> Optional[Frame]:
         is_remote = kind == "RR" or rest[:1] == ["RTR"]
         # A classic frame has at most eight bytes, whatever its length code.
         length = min(length, 8) if flags is None and "L" in row else length
-        data = b"" if is_remote else data_of(rest, length)
-        if len(data) < length and not (line.is_whole or is_remote):
+        data = b"" if is_remote else data_of(rest)
+        is_read = rest in ([], ["RTR"]) if is_remote else len(data) == len(rest)
+        if not is_read or (len(data) < length and not (line.is_whole or is_remote)):
             raise ValueError
     except (ValueError, KeyError, IndexError):
         raise line.unexplained("no line of a TRC file") from None
@@ -93,4 +94,5 @@ def _frame(line: Line, columns: List[str], tally: Tally) -> Optional[Frame]:
     interface = interface_of(row.get("B"))
     if is_remote:
         return Frame(micros, interface, int(row["I"], 16), is_extended, b"", None, length)
-    return Frame(micros, interface, int(row["I"], 16), is_extended, tally.shortened(data, length), flags)
+    fitting = tally.fitting(data, length)
+    return None if fitting is None else Frame(micros, interface, int(row["I"], 16), is_extended, fitting, flags)
