@@ -36,7 +36,12 @@ Classifier: Topic :: Software Development :: Testing
 Classifier: Topic :: System :: Logging
 Classifier: Typing :: Typed
 Requires-Python: >=3.9
-"""
+Description-Content-Type: text/plain
+
+{(HERE / "README").read_text()}"""
+# The pages that README names, where the wheel has them and where they come to lie below the prefix.
+PAGES = [TOP / "docs" / f"{name}.md" for name in ("library", "python", "recipes", "formats")]
+PAGES_AT = f"udsnorm-{VERSION}.data/data/share/doc/udsnorm"
 WHEEL = f"Wheel-Version: 1.0\nGenerator: udsnorm wheel_builder\nRoot-Is-Purelib: false\nTag: {TAG}\n"
 
 
@@ -61,6 +66,8 @@ def files():
         yield f"udsnorm/{path.relative_to(package)}", path.read_bytes()
     yield f"udsnorm/{soname()}", (library_folder() / soname()).read_bytes()
     yield "udsnorm/udsnorm", program().read_bytes()
+    for path in PAGES:
+        yield f"{PAGES_AT}/{path.name}", path.read_bytes()
     yield f"{INFORMATION}/METADATA", METADATA.encode()
     yield f"{INFORMATION}/WHEEL", WHEEL.encode()
     yield f"{INFORMATION}/LICENSE", (TOP / "LICENSE").read_bytes()

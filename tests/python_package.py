@@ -10,6 +10,7 @@ package and typed code that uses it are checked. What is missing is named. The s
 import argparse
 import array
 import ast
+import copy
 import ctypes
 import importlib
 import os
@@ -23,6 +24,7 @@ import tempfile
 import threading
 import time
 import unittest
+import unittest.mock
 from pathlib import Path
 
 import differential
@@ -149,6 +151,78 @@ class BesideTheProgram(unittest.TestCase):
             limit = differential.limit_for(rng, log)
             self.same(log, {"limit": limit}, ["--limit", str(limit)])
             self.same_difference(log, differential.mutated(rng, log), {"limit": limit}, ["--limit", str(limit)])
+
+
+class Places(unittest.TestCase):
+    """Where items stand in their logs."""
+
+    def test_places_of_messages(self):
+        """Those of an item are those of its messages, from the first one to the last one."""
+        logs = [(path.read_bytes(), {}) for path in sorted(EXAMPLES.glob("*.log"))]
+        logs += [(row.log(), sides_of(row)[0]) for name in ("sessions", "lost_frames", "places") for row in tables.table(name)]
+        for log, settings in logs:
+            with self.subTest(log=log[:200]):
+                try:
+                    items = udsnorm.items(log, **settings)
+                except udsnorm.Refused:
+                    continue
+                messages = udsnorm.messages(log, **settings)
+                for number, item in enumerate(items, 1):
+                    own = {one.role: one for one in messages if one.item == number and one.role != "pending"}
+                    is_stray = isinstance(item, udsnorm.Stray)
+                    first = own["stray" if is_stray else "request"]
+                    last = own.get("answer", first)
+                    self.assertEqual(spanned(item), (first.first_line, last.last_line, first.begin, last.end))
+                    if not is_stray:
+                        places = [udsnorm.Place(*spanned(one)) if one else None for one in (first, own.get("answer"))]
+                        self.assertEqual([item.request_place, item.answer_place], places)
+
+    def test_sample(self):
+        exchange, stray, *_ = udsnorm.items(EXAMPLES / "pending.log")
+        lines = (EXAMPLES / "pending.log").read_text().splitlines()
+        stamps = [int(lines[at - 1][1:18].replace(".", "")) for at in (exchange.first_line, exchange.last_line, stray.first_line)]
+        self.assertEqual(stamps, [exchange.begin, exchange.end, stray.begin])
+        self.assertEqual((exchange.first_line, stray.first_line), (1, 3))
+        self.assertEqual(exchange.answer_place.begin, exchange.end)
+        self.assertEqual(udsnorm.compare(EXAMPLES / "pending.log", b"").left.end, exchange.end)
+
+    def test_equal_wherever_they_stand(self):
+        """Lines and times are no part of what is equal, has a hash, is shown or unpacked, and they are handed on."""
+        log = (EXAMPLES / "pending.log").read_bytes()
+        later = udsnorm.items(b"\n" + log.replace(b"(17", b"(18"))
+        for one, other in zip(udsnorm.items(log), later):
+            self.assertEqual((one, hash(one), repr(one), tuple(one)), (other, hash(other), repr(other), tuple(other)))
+            self.assertEqual([other.first_line - one.first_line, other.begin - one.begin], [1, 10**14])
+            for handed_on in (pickle.loads(pickle.dumps(one)), copy.copy(one), copy.deepcopy(one)):
+                self.assertEqual((handed_on, spanned(handed_on)), (one, spanned(one)))
+        made = udsnorm.Exchange("TesterPresent", b"\x3e\x00", "unanswered", None, None)
+        self.assertEqual((spanned(made), made.request_place, made.answer_place), ((0, 0, 0, 0), (0, 0, 0, 0), None))
+        self.assertEqual(spanned(udsnorm.Stray("unit", b"")), (0, 0, 0, 0))
+
+
+def spanned(found):
+    return found.first_line, found.last_line, found.begin, found.end
+
+
+class Assertions(unittest.TestCase):
+    """`udsnorm.testing`, and its pages."""
+
+    def test_page_that_cannot_be_written(self):
+        """The difference is told all the same, and why there is no page."""
+        other = EXAMPLES / "lost-frame.log"
+        path = f"{Path(given.program).parent}:{os.environ['PATH']}"
+        with tempfile.TemporaryDirectory() as folder, unittest.mock.patch.dict(os.environ, PATH=path):
+            for page in (folder, f"{folder}/none/page.html", f"{VIN}/page.html", f"{folder}/{'a' * 300}"):
+                try:
+                    Path(page).write_bytes(b"")
+                except OSError as error:
+                    why = error.strerror
+                with self.subTest(page=page), self.assertRaises(AssertionError) as caught:
+                    testing.assert_same_session(VIN, other, page=page)
+                lines = str(caught.exception).splitlines()
+                self.assertEqual((lines[0], lines[-1]), ("the sessions differ at item 1", f"no page: {page}: {why}"))
+                self.assertIn("+exchange ReadDataByIdentifier 22F190 -> unanswered", lines)
+                self.assertIsNone(caught.exception.__cause__ or caught.exception.__context__)
 
 
 class Arguments(unittest.TestCase):
@@ -291,6 +365,21 @@ class Shipped(unittest.TestCase):
             shown = run(python, ["-m", "pip", "show", "--verbose", "udsnorm"]).output.decode()
             for line in ("Author: Yozhdyrga maintainers", "License: MIT", "  Topic :: Software Development :: Testing"):
                 self.assertIn(line, shown.splitlines())
+            self.pages_lie_where_they_are_shown(python, environment)
+
+    def pages_lie_where_they_are_shown(self, python, environment):
+        """`pip show --files` names the pages, which lie there as they are in docs/, and so does what describes the package."""
+        files = run(python, ["-m", "pip", "show", "--files", "udsnorm"]).output.decode()
+        location = Path(re.search(r"^Location: (.*)$", files, re.M)[1])
+        ask = "import importlib.metadata as m; print(m.metadata('udsnorm').get_payload())"
+        described = run(python, ["-I", "-c", ask]).output.decode()
+        names = re.findall(r"^(\w+\.md) ", described, re.M)
+        self.assertEqual(sorted(names), sorted(re.findall(r"^  \S*share/doc/udsnorm/(\S+)$", files, re.M)))
+        self.assertIn("python.md", names)
+        for name in names:
+            shown = re.search(rf"^  (\S*/{name})$", files, re.M)[1]
+            self.assertEqual((location / shown).resolve(), (environment / "share" / "doc" / "udsnorm" / name).resolve())
+            self.assertEqual((location / shown).read_bytes(), (TOP / "docs" / name).read_bytes())
 
     def test_types(self):
         if not shutil.which("mypy"):
@@ -315,6 +404,8 @@ first: Optional[udsnorm.Difference] = udsnorm.compare(bytearray(), memoryview(b"
 dropped: int = udsnorm.explain("a.log").counts.dropped
 seconds: List[float] = [(message.end - message.begin) / 1e6 for message in udsnorm.messages("a.log")]
 answering: List[int] = [pair.unit for pair in udsnorm.find(memoryview(b""))]
+lasted: List[int] = [item.end - item.begin for item in udsnorm.items("a.log")]
+places: List[Optional[udsnorm.Place]] = [item.answer_place for item in udsnorm.items(b"") if isinstance(item, udsnorm.Exchange)]
 one_by_one: Iterator[udsnorm.Item] = udsnorm.iter_items("a.blf", tester="7E0", unit=0x7E8)
 recorded: bytes = udsnorm.from_messages([])
 assert_same_session("a.asc", b"", tester="18DA10F1", unit="18DAF110", page="page.html")
@@ -337,8 +428,9 @@ def main():
     words.add_argument("--logs", type=int, default=200)
     words.add_argument("--seed", type=int, default=1)
     words.parse_args(namespace=given)
-    global udsnorm
+    global udsnorm, testing
     udsnorm = imported(given.library.resolve())
+    testing = importlib.import_module("udsnorm.testing")
     ended = unittest.main(argv=[sys.argv[0]], exit=False, verbosity=1).result
     for test, reason in ended.skipped:
         print(f"skipped {test.id().rpartition('.')[2]}: {reason}", flush=True)

@@ -20,11 +20,12 @@ import os
 import re
 import sys
 import warnings
+from itertools import islice
 from typing import TYPE_CHECKING, Any, Iterable, Iterator, List, NamedTuple, Optional, Union
 
 from . import _formats, _library
 from ._library import Answer, Settings
-from ._lines import Counts, Direction, Exchange, Item, Message, Outcome, Pair, Role, Stray
+from ._lines import Counts, Direction, Exchange, Item, Message, Outcome, Pair, Place, Role, Stray
 from ._lines import items_of, messages_of, pairs_of
 
 # What a type checker sees of bytes and of every other object with the buffer protocol.
@@ -35,8 +36,8 @@ else:
 
 __all__ = [
     "Counts", "Difference", "Direction", "EXTENDED", "Exchange", "Explanation", "Identifier", "Item", "LIMIT", "LeftOut",
-    "Log", "Message", "Outcome", "Pair", "Refused", "Role", "Stray", "TESTER", "UNIT", "compare", "explain", "find",
-    "from_messages", "items", "iter_items", "iter_messages", "messages", "normalise",
+    "Log", "Message", "Outcome", "Pair", "Place", "Refused", "Role", "Stray", "TESTER", "UNIT", "compare", "explain",
+    "find", "from_messages", "items", "iter_items", "iter_messages", "messages", "normalise",
 ]
 __version__ = _library.VERSION
 
@@ -113,7 +114,7 @@ def normalise(log: Log, *, tester: Identifier = TESTER, unit: Identifier = UNIT,
 
 
 def items(log: Log, *, tester: Identifier = TESTER, unit: Identifier = UNIT, limit: int = LIMIT) -> List[Item]:
-    """The exchanges and the stray messages of a log, in the order of its meaning.
+    """The exchanges and the stray messages of a log, in the order of its meaning, with their lines and times.
 
     Settings and errors are those of `normalise`."""
     return list(iter_items(log, tester=tester, unit=unit, limit=limit))
@@ -123,7 +124,8 @@ def iter_items(
     log: Log, *, tester: Identifier = TESTER, unit: Identifier = UNIT, limit: int = LIMIT
 ) -> Iterator[Item]:
     """The items of `items` one after the other, so that no list of them is held. Errors are raised by the call."""
-    return items_of(_text("list", log, _settings(tester, unit, limit), _library.NO_NUMBERS)[1])
+    settings = _settings(tester, unit, limit)
+    return _items_in(_contents(log, settings.limit), log, settings)
 
 
 def messages(log: Log, *, tester: Identifier = TESTER, unit: Identifier = UNIT, limit: int = LIMIT) -> List[Message]:
@@ -235,16 +237,26 @@ def _first_difference(left: Log, right: Log, settings: Settings) -> "tuple[int, 
 
 def _text(name: str, log: Log, settings: Settings, *style: int) -> "tuple[Answer, bytes]":
     """The answer of a call and its text."""
-    answer, text = _library.text(name, settings, _contents(log, settings.limit), *style)
+    return _text_in(name, _contents(log, settings.limit), log, settings, *style)
+
+
+def _text_in(name: str, held: bytes, log: Log, settings: Settings, *style: int) -> "tuple[Answer, bytes]":
+    """The same of these bytes, which the log has."""
+    answer, text = _library.text(name, settings, held, *style)
     if answer.status != _library.DONE:
         raise _fault(answer, log)
     return answer, text
 
 
+def _items_in(held: bytes, log: Log, settings: Settings) -> Iterator[Item]:
+    """The items of these bytes, which the log has."""
+    text = _text_in("list", held, log, settings, _library.NO_NUMBERS)[1]
+    return items_of(text, _text_in("messages", held, log, settings, _library.TEXT)[1])
+
+
 def _item_at(log: bytes, settings: Settings, number: int) -> Optional[Item]:
     """The item of a log with this number, from 1, if there are so many."""
-    found = items(log, tester=settings.tester, unit=settings.unit, limit=settings.limit)
-    return found[number - 1] if number <= len(found) else None
+    return next(islice(_items_in(log, log, settings), number - 1, None), None)
 
 
 def _fault(answer: Answer, log: Log = b"") -> Exception:

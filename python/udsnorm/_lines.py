@@ -2,35 +2,98 @@
 
 from __future__ import annotations
 
-from typing import Iterator, List, Literal, NamedTuple, Optional, Union, cast
+import re
+from typing import Dict, Iterator, List, Literal, NamedTuple, Optional, Tuple, Union, cast
 
 Direction = Literal["tester", "unit"]
 Outcome = Literal["positive", "negative", "silent", "unanswered"]
 Role = Literal["request", "answer", "stray", "pending"]
 
 
-class Exchange(NamedTuple):
-    """A request of the tester, and what came of it.
+class Place(NamedTuple):
+    """Where a message stands in a log: the lines of its first and its last frame, from 1, and their times in
+    microseconds. All are 0 of a message of no log."""
 
-    `service` and `code` are names, as docs/formats.md lists them. `answer` is None where there is none: the outcome is
-    then "silent", where the request asked for no answer, or "unanswered". `code` is there for "negative" alone.
-    """
+    first_line: int
+    last_line: int
+    begin: int
+    end: int
 
+
+# A place as the line of a message has it. Few of them are asked for, so no sooner are they read.
+_NOWHERE = b"0 to 0 at 0 to 0"
+
+
+class _Placed:
+    """What stands in a log, from its first message, which may be all of it, to its last one."""
+
+    _first, _last = _NOWHERE, _NOWHERE
+
+    @property
+    def first_line(self) -> int:
+        """The line of its first frame, from 1."""
+        return _place(self._first).first_line
+
+    @property
+    def last_line(self) -> int:
+        """The line of its last frame."""
+        return _place(self._last).last_line
+
+    @property
+    def begin(self) -> int:
+        """The time of its first frame, in microseconds."""
+        return _place(self._first).begin
+
+    @property
+    def end(self) -> int:
+        """The time of its last frame."""
+        return _place(self._last).end
+
+
+class _ExchangeFields(NamedTuple):
     service: str
     request: bytes
     outcome: Outcome
     code: Optional[str]
     answer: Optional[bytes]
 
+
+class Exchange(_ExchangeFields, _Placed):
+    """A request of the tester, and what came of it.
+
+    `service` and `code` are names, as docs/formats.md lists them. `answer` is None where there is none: the outcome is
+    then "silent", where the request asked for no answer, or "unanswered". `code` is there for "negative" alone.
+
+    `first_line`, `last_line`, `begin` and `end` are those of a `Message`: from the first frame of the request to the last
+    one of the answer, if there is one. `request_place` and `answer_place` have them of each message. All these stand
+    beside the fields: exchanges are equal, and have one hash, where the fields are, wherever they stand in their logs.
+    """
+
+    @property
+    def request_place(self) -> Place:
+        """Where the request stands."""
+        return _place(self._first)
+
+    @property
+    def answer_place(self) -> Optional[Place]:
+        """Where the answer stands, if there is one."""
+        return None if self.answer is None else _place(self._last)
+
     def __repr__(self) -> str:
         return _shown(self)
 
 
-class Stray(NamedTuple):
-    """A message outside of any exchange, and the side that sent it."""
-
+class _StrayFields(NamedTuple):
     direction: Direction
     message: bytes
+
+
+class Stray(_StrayFields, _Placed):
+    """A message outside of any exchange, and the side that sent it.
+
+    `first_line`, `last_line`, `begin` and `end` are those of a `Message`. They stand beside the fields, as those of an
+    `Exchange`.
+    """
 
     def __repr__(self) -> str:
         return _shown(self)
@@ -98,18 +161,48 @@ def _rows(text: bytes) -> Iterator[List[str]]:
         begin = end + 1
 
 
-def items_of(text: bytes) -> Iterator[Item]:
-    """The items of a list without numbers."""
-    return map(_item, _rows(text))
+def items_of(text: bytes, messages: bytes) -> Iterator[Item]:
+    """The items of a list without numbers, at the places that the lines of the messages of the same log tell."""
+    places = _Places(messages)
+    return (_item(fields, b"%d" % number, places) for number, fields in enumerate(_rows(text), 1))
 
 
-def _item(fields: List[str]) -> Item:
+def _item(fields: List[str], number: bytes, places: "_Places") -> Item:
     if fields[0] == "stray":
-        return Stray(cast(Direction, fields[1]), bytes.fromhex(fields[2]))
+        stray = Stray(cast(Direction, fields[1]), bytes.fromhex(fields[2]))
+        stray._first = stray._last = places.of(number, b"stray")
+        return stray
     service, request, outcome = fields[1], bytes.fromhex(fields[2]), cast(Outcome, fields[4])
     code = fields[5] if outcome == "negative" else None
     answer = bytes.fromhex(fields[-1]) if outcome in ("positive", "negative") else None
-    return Exchange(service, request, outcome, code, answer)
+    exchange = Exchange(service, request, outcome, code, answer)
+    exchange._first = exchange._last = places.of(number, b"request")
+    if answer is not None:
+        exchange._last = places.of(number, b"answer")
+    return exchange
+
+
+class _Places:
+    """The places of messages by the numbers of their items and by what they are there. Of the lines that tell them no
+    more are read than are asked for."""
+
+    _LINE = re.compile(rb"^(\d+) (request|answer|stray) \w+ lines (\S+ to \S+ at \S+ to \S+) ", re.M)
+
+    def __init__(self, text: bytes) -> None:
+        self._lines = self._LINE.finditer(text)
+        self._kept: Dict[Tuple[bytes, bytes], bytes] = {}
+
+    def of(self, number: bytes, role: bytes) -> bytes:
+        """The place of this message, which is then kept no longer."""
+        while (number, role) not in self._kept:
+            line = next(self._lines)
+            self._kept[line[1], line[2]] = line[3]
+        return self._kept.pop((number, role))
+
+
+def _place(text: bytes) -> Place:
+    first, last, begin, end = text.split(b" ")[::2]
+    return Place(int(first), int(last), _microseconds(begin.decode()), _microseconds(end.decode()))
 
 
 def messages_of(text: bytes) -> Iterator[Message]:

@@ -26,7 +26,7 @@ def assert_same_session(
     page: "Union[None, str, os.PathLike[str]]" = None,
 ) -> None:
     """Two logs have the same meaning. Else an AssertionError tells the unified difference of their items, and where `page`
-    is a path, the program udsnorm writes the page of both there.
+    is a path, the program udsnorm writes the page of both there; or the error also tells why there is no page.
 
     Settings and other errors are those of `udsnorm.normalise`."""
     __tracebackhide__ = True
@@ -66,15 +66,18 @@ def _difference(number: int, logs: _Logs, settings: _library.Settings) -> Iterat
 
 
 def _write_page(page: str, logs: _Logs, settings: _library.Settings) -> str:
-    """Writes the page of both logs, and says where."""
+    """Writes the page of both logs, and says where, or why there is none: no fault of a page hides the difference."""
     program = _program.found()
     if program is None:
         return "no page: the program udsnorm is neither beside the package nor on the PATH"
     sides = [word for side in ("tester", "unit") for word in (f"--{side}", _digits(getattr(settings, side)))]
-    with tempfile.TemporaryDirectory(prefix="udsnorm-") as root, open(page, "wb") as out:
-        folder = _program.Folder(root)
-        words = [folder.put(name, log) for name, log in logs]
-        status = folder.run(program, ["report", *sides, "--limit", str(settings.limit), *words], out)
+    try:
+        with tempfile.TemporaryDirectory(prefix="udsnorm-") as root, open(page, "wb") as out:
+            folder = _program.Folder(root)
+            words = [folder.put(name, log) for name, log in logs]
+            status = folder.run(program, ["report", *sides, "--limit", str(settings.limit), *words], out)
+    except OSError as error:
+        return f"no page: {_formats.shown(error.filename or page)}: {error.strerror or error}"
     told = "both logs on a page" if status in (0, 1) else f"no whole page, status {status}"
     return f"{told}: {_formats.shown(page)}"
 
