@@ -1,5 +1,5 @@
-//! What a log means, with its counts: a machine that says nothing, and collects the items. `list` and `compare`
-//! stand on it.
+//! What a log means, with its counts: a machine that says nothing, and collects the items. `list` and `compare` stand
+//! on it.
 //!
 //! It lets go of all that it holds once the canonical log is certainly longer than the limit, and takes no more: what
 //! refuses the log earlier may still come, and is told first.

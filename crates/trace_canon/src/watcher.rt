@@ -18,7 +18,7 @@ use trace_io::{Source, Target, TextSink};
 use trace_log::{Config, Fault, Summary};
 use trace_run::{Machine, Stop, run_lenient};
 use trace_text::{ItemStyle, say_item};
-use uds_exchange::{Decider, ItemSink, Item};
+use uds_exchange::{Decider, Item, ItemSink};
 
 /// Reads a log and writes the lines of [`list`](crate::list), each as soon as its item is decided: an exchange when its
 /// answer comes or the next request does, and the strays after it then too. What is not decided is written at the end.
@@ -139,8 +139,6 @@ impl<'a, S: TextSink> ItemSink for LineSink<'a, S> {
     ghost takes = { λ s item t. (t.out.ghost_name ≡ s.out.ghost_name) × (t.number.ghost_name ≡ s.number.ghost_name) × (t.style ≡ s.style)
         × (t.number.now ≡ one_more s.number.now) × S.says s.out.now (item_line s.style s.number.now item) t.out.now };
 
-    // In line: a call would put the item in memory by words, and load it by wider ones.
-    #[inline(always)]
     fn put(&mut self, item: Item<'_>) {
         say_item(*self.number, self.style, item, self.out);
         *self.number = self.number.saturating_add(1);
