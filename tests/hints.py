@@ -7,6 +7,7 @@
 Prints a line for each case and ends with `N passed, M failed`; its status is 1 where a case failed.
 """
 
+import bz2
 import gzip
 import lzma
 import os
@@ -286,19 +287,36 @@ def looks(cases, folder):
     """What a log looks like that is refused in its first line."""
     lines = VIN.read_bytes()
     body = b" can0 7E0#0322F190\n"
-    date = "looks like a log whose stamps have a date; date +%s.%6N makes seconds of one"
-    decimals = "looks like a log whose stamps have more than six decimals; leave out those behind the sixth"
-    screen = "looks like candump's form for the screen; candump -L and candump -l record a log"
+    reads_it = "python3 -m udsnorm reads it"
+    date = f"looks like a log whose stamps have a date; {reads_it}"
+    decimals = "looks like a log whose stamps have more than six decimals; python3 -m udsnorm rounds them"
+    screen = f"looks like candump's form for the screen; {reads_it}, and candump -l records a log"
     mark = "begins with a byte order mark, which an editor has put in front; save it without"
-    asc, csv = "looks like a Vector ASC file; asc2log converts it", "looks like a CSV file; python-can converts one"
+    letters = "looks like a text in UTF-16; iconv -f UTF-16 -t ASCII makes a log of one"
+    asc = f"looks like a Vector ASC file; {reads_it}"
+    csv = "looks like a CSV file; python3 -m udsnorm reads those of SavvyCAN and python-can"
+    pcap, pcapng = (f"looks like a {form} capture; {reads_it}" for form in ["pcap", "pcapng"])
+    measured, trace = f"looks like an MF4 file; {reads_it}", f"looks like a PCAN TRC file; {reads_it}"
     for name, log, hint in [
         ("a.gz", gzip.compress(lines), "looks compressed with gzip; zcat unpacks it"),
         ("a.xz", lzma.compress(lines), "looks compressed with xz; xzcat unpacks it"),
         ("a.zst", bytes.fromhex("28B52FFD0458C90100"), ZSTANDARD),
         ("short.zst", bytes.fromhex("28B52FFE0458C90100"), None),
+        ("a.bz2", bz2.compress(lines), "looks compressed with bzip2; bzcat unpacks it"),
+        ("a.zip", bytes.fromhex("504B0304140000000800"), "looks like a zip archive; unzip -p unpacks it"),
+        ("session.blf", b"LOGG" + bytes.fromhex("90000000020F0100"), f"looks like a Vector BLF file; {reads_it}"),
+        ("session.mf4", b"MDF     4.10    ", measured),
+        ("broken.mf4", b"UnFinMF 4.10    ", measured),
+        ("session.trc", b";$FILEVERSION=2.1\r\n", trace),
+        ("first.trc", b";##########\n;   Start time: 14.11.2023\n", trace),
+        ("micros.pcap", bytes.fromhex("D4C3B2A1020004000000000000000000"), pcap),
+        ("big.pcap", bytes.fromhex("A1B2C3D4000200040000000000000000"), pcap),
+        ("nanos.pcap", bytes.fromhex("4D3CB2A1020004000000000000000000"), pcap),
+        ("bignanos.pcap", bytes.fromhex("A1B23C4D000200040000000000000000"), pcap),
+        ("session.pcapng", bytes.fromhex("0A0D0D0A1C0000004D3C2B1A01000000"), pcapng),
         ("mark.log", b"\xef\xbb\xbf" + lines, mark),
-        ("little.log", b"\xff\xfe" + lines.decode().encode("utf-16-le"), mark),
-        ("big.log", b"\xfe\xff" + lines.decode().encode("utf-16-be"), mark),
+        ("little.log", b"\xff\xfe" + lines.decode().encode("utf-16-le"), letters),
+        ("big.log", b"\xfe\xff" + lines.decode().encode("utf-16-be"), letters),
         ("screen.log", b"  can0  7E0   [4]  03 22 F1 90\n", screen),
         ("stamped.log", b" (1700000000.000000)  can0  7E0   [4]  03 22 F1 90\n", screen),
         ("indented.log", b" " + b"can0  7E0   [4]  03 22 F1 90\n", None),

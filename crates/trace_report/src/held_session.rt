@@ -8,6 +8,7 @@ use crate::row::{MessagePlace, MessageRole, Row};
 use direction::Dir;
 use isotp_receive::{Ended, Reason};
 use std::alloc::{AllocError, Global};
+use std::fmt;
 use std::marker::Model;
 use trace_canon::begun::FramePlace;
 use trace_log::Summary;
@@ -22,7 +23,7 @@ pub(crate) struct HeldMessage {
 }
 
 /// A row, with the bytes of its message. The variants are those of a row that is lent.
-#[derive(Debug, Drop)]
+#[derive(Drop)]
 pub(crate) enum HeldRow {
     Message(HeldMessage),
     NoAnswer {
@@ -83,6 +84,13 @@ impl HeldRow {
                 len: *len,
             },
         }
+    }
+}
+
+/// It is printed as the row that it lends.
+impl fmt::Debug for HeldRow {
+    fn fmt<W: fmt::Write>(&self, f: &mut fmt::Formatter<W>) -> fmt::Result {
+        fmt::Debug::fmt(&self.lent(), f)
     }
 }
 

@@ -252,19 +252,29 @@ fn look_words(look: Look) -> &'static str
         Look::Gzip => " looks compressed with gzip; zcat unpacks it\n",
         Look::Zstandard => " looks compressed with zstd; zstdcat unpacks it\n",
         Look::Xz => " looks compressed with xz; xzcat unpacks it\n",
+        Look::Bzip2 => " looks compressed with bzip2; bzcat unpacks it\n",
+        Look::Zip => " looks like a zip archive; unzip -p unpacks it\n",
         Look::ByteOrderMark => {
             " begins with a byte order mark, which an editor has put in front; save it without\n"
         }
+        Look::Utf16 => {
+            " looks like a text in UTF-16; iconv -f UTF-16 -t ASCII makes a log of one\n"
+        }
         Look::Screen => {
-            " looks like candump's form for the screen; candump -L and candump -l record a log\n"
+            " looks like candump's form for the screen; python3 -m udsnorm reads it, and candump -l records a log\n"
         }
-        Look::Asc => " looks like a Vector ASC file; asc2log converts it\n",
-        Look::Date => {
-            " looks like a log whose stamps have a date; date +%s.%6N makes seconds of one\n"
+        Look::Asc => " looks like a Vector ASC file; python3 -m udsnorm reads it\n",
+        Look::Blf => " looks like a Vector BLF file; python3 -m udsnorm reads it\n",
+        Look::Mf4 => " looks like an MF4 file; python3 -m udsnorm reads it\n",
+        Look::Trc => " looks like a PCAN TRC file; python3 -m udsnorm reads it\n",
+        Look::Pcap => " looks like a pcap capture; python3 -m udsnorm reads it\n",
+        Look::Pcapng => " looks like a pcapng capture; python3 -m udsnorm reads it\n",
+        Look::Date => " looks like a log whose stamps have a date; python3 -m udsnorm reads it\n",
+        Look::Csv => {
+            " looks like a CSV file; python3 -m udsnorm reads those of SavvyCAN and python-can\n"
         }
-        Look::Csv => " looks like a CSV file; python-can converts one\n",
         Look::Nanoseconds => {
-            " looks like a log whose stamps have more than six decimals; leave out those behind the sixth\n"
+            " looks like a log whose stamps have more than six decimals; python3 -m udsnorm rounds them\n"
         }
     }
 }
