@@ -1,11 +1,11 @@
 -- Messages that lie in blocks, which only go on.
-use Rattle.std.proofs.Common.{◌≡◌, ◌≢◌, ℕ, ◌+◌, ◌<◌, ◌≤◌, suc, zero, List, [], ◌∷◌, ◌++◌, length, take, drop, map, get_or, Some, option_map, refl, sym, subst, ◌∙◌, ap, inl, inr, arith, append-nil, length-append, length-drop, length-set, get_or-set_same, get_or-set_other}
-use Rattle.std.specs.Prelude.{slice_get, slice_set, Vec}
+use Rattle.std.proofs.Common.{◌≡◌, ℕ, ◌+◌, ◌<◌, suc, zero, List, [], ◌∷◌, ◌++◌, length, drop, get_or, refl, sym, subst, ◌∙◌, ap, inl, inr, arith, append-nil, length-append, length-drop, length-set, get_or-set_same, get_or-set_other}
+use Rattle.std.specs.Prelude.{slice_set, Vec}
 use Rattle.std.specs.declared.alloc.Global.{Global}
 use Rattle.std.proofs.lemmas.Bool.{cases_eq}
-use Rattle.std.proofs.lemmas.List.{take-append-le, drop-append-le, take_all, map-append, map-set, get_or-map, set-get_or, length-map}
+use Rattle.std.proofs.lemmas.List.{take-append-le, drop-append-le, take_all, map-set, get_or-map, set-get_or, length-map}
 use Rattle.uds_exchange.specs.declared.messages.Span.{Span}
-use Rattle.uds_exchange.specs.proving.Blocks.{block_bytes, block_at, bytes_at, IsInside, Holds, GoesOn}
+use Rattle.uds_exchange.specs.proving.Blocks.{block_bytes, block_at, bytes_at, IsInside, Holds, GoesOn, IsSpan, Lays}
 
 -- one block goes on, or there is one more
 set-goes-on : (old : List (List ℕ)) (k : ℕ) (more : List ℕ) → k < length old → GoesOn old (slice_set old k (block_at old k ++ more))
@@ -41,49 +41,54 @@ holds-behind blocks span front message below is start len = record {
   bytes = rw (is, start, len) (rw (drop-length front message) (take_all (length message) message (omega arith)));
 }
 
--- a message behind what is in a block
-module _ (blocks : List (Vec ℕ Global)) (k : ℕ) (below : k < length (block_bytes blocks)) (block new : Vec ℕ Global) (there : block ≡ get_or blocks k block) where
-  within : k < length blocks
-  within = omega (arith, below, length-map blocks (λ (b : Vec ℕ Global). b.items))
+-- a message behind what is in the first block
+pub lays-in-first : (first : List ℕ) (later : List (List ℕ)) (number : ℕ) (span : Span) (message new : List ℕ) → number ≡ 0 → new ≡ first ++ message
+    → IsSpan span number (length first) (length message) → Lays (first ∷ later) span message (new ∷ later)
+lays-in-first first later number span message new zeroth is at = record {
+  goes_on = rw is (set-goes-on (first ∷ later) 0 message (omega arith));
+  holds = holds-behind (new ∷ later) span first message (omega (arith, at.block, zeroth)) (rw (at.block, zeroth, is) refl) at.start at.len;
+}
 
-  set-bytes : block_bytes (slice_set blocks k new) ≡ slice_set (block_bytes blocks) k new.items
-  set-bytes = map-set (λ (b : Vec ℕ Global). b.items) blocks k new
+-- a message behind what is in a later one
+module _ (first : Vec ℕ Global) (later : List (Vec ℕ Global)) (k : ℕ) (below : k < length later) (block new : Vec ℕ Global) (there : block ≡ get_or later k block) where
+  set-bytes : block_bytes (slice_set later k new) ≡ slice_set (block_bytes later) k new.items
+  set-bytes = map-set (λ (b : Vec ℕ Global). b.items) later k new
 
-  here : block.items ≡ block_at (block_bytes blocks) k
-  here = ap (λ (b : Vec ℕ Global). b.items) there ∙ sym (get_or-map (λ (b : Vec ℕ Global). b.items) blocks k block [] within)
+  here : block.items ≡ block_at (block_bytes later) k
+  here = ap (λ (b : Vec ℕ Global). b.items) there ∙ sym (get_or-map (λ (b : Vec ℕ Global). b.items) later k block [] below)
 
-  pub same-bytes : new.items ≡ block.items → block_bytes (slice_set blocks k new) ≡ block_bytes blocks
-  same-bytes same = set-bytes ∙ ap (slice_set (block_bytes blocks) k) (same ∙ here) ∙ set-get_or (block_bytes blocks) k []
+  pub same-bytes : new.items ≡ block.items → block_bytes (first ∷ slice_set later k new) ≡ block_bytes (first ∷ later)
+  same-bytes same = ap (λ l. first.items ∷ l) (set-bytes ∙ ap (slice_set (block_bytes later) k) (same ∙ here) ∙ set-get_or (block_bytes later) k [])
 
-  module _ (message : List ℕ) (grown : new.items ≡ block.items ++ message) where
-    grown-bytes : block_bytes (slice_set blocks k new) ≡ slice_set (block_bytes blocks) k (block_at (block_bytes blocks) k ++ message)
-    grown-bytes = set-bytes ∙ ap (slice_set (block_bytes blocks) k) (grown ∙ ap (λ b. b ++ message) here)
-
-    pub behind-goes-on : GoesOn (block_bytes blocks) (block_bytes (slice_set blocks k new))
-    behind-goes-on = rw grown-bytes (set-goes-on (block_bytes blocks) k message below)
-
-    pub behind-holds : (span : Span) → span.block ≡ k → span.start ≡ length block.items → span.len ≡ length message
-        → Holds (block_bytes (slice_set blocks k new)) span message
-    behind-holds span at start len =
-        holds-behind (block_bytes (slice_set blocks k new)) span block.items message
-        (omega (arith, at, within, length-set blocks k new, length-map (slice_set blocks k new) (λ (b : Vec ℕ Global). b.items)))
-        (rw (at, set-bytes, grown) (get_or-set_same (block_bytes blocks) k (block.items ++ message) [] below))
-        start len
+  pub lays-in-later : (number : ℕ) (span : Span) (message : List ℕ) → number ≡ suc k → new.items ≡ block.items ++ message
+      → IsSpan span number (length block.items) (length message)
+      → Lays (block_bytes (first ∷ later)) span message (block_bytes (first ∷ slice_set later k new))
+  lays-in-later number span message later-on grown at =
+      let all = first.items ∷ block_bytes later in
+      let many = length-map later (λ (b : Vec ℕ Global). b.items) in
+      let whole : block_bytes (first ∷ slice_set later k new) ≡ slice_set all (suc k) (block_at all (suc k) ++ message) =
+      ap (λ l. first.items ∷ l) (set-bytes ∙ ap (slice_set (block_bytes later) k) (grown ∙ ap (λ b. b ++ message) here)) in
+      record {
+        goes_on = rw whole (set-goes-on all (suc k) message (omega (arith, below, many)));
+        holds = holds-behind (block_bytes (first ∷ slice_set later k new)) span block.items message
+            (omega (arith, at.block, later-on, below, length-map (slice_set later k new) (λ (b : Vec ℕ Global). b.items), length-set later k new))
+            (rw (at.block, later-on, set-bytes) (get_or-set_same (block_bytes later) k new.items [] (omega (arith, below, many)) ∙ grown))
+            at.start at.len;
+      }
 
 -- a message in a block of its own
-pub anew-goes-on : (old new : List (Vec ℕ Global)) (block : Vec ℕ Global) → new ≡ old ++ block ∷ [] → GoesOn (block_bytes old) (block_bytes new)
-anew-goes-on old new block is =
-    rw (is, map-append (λ (b : Vec ℕ Global). b.items) old (block ∷ [])) (push-goes-on (block_bytes old) block.items)
-
-pub anew-holds : (old new : List (Vec ℕ Global)) (block : Vec ℕ Global) (message : List ℕ) → new ≡ old ++ block ∷ [] → block.items ≡ message
-    → (span : Span) → span.block ≡ length old → span.start ≡ 0 → span.len ≡ length message → Holds (block_bytes new) span message
-anew-holds old new block message is same span at start len =
-    let whole : block_bytes new ≡ block_bytes old ++ block.items ∷ [] = ap block_bytes is ∙ map-append (λ (b : Vec ℕ Global). b.items) old (block ∷ []) in
+pub lays-anew : (first : List ℕ) (old new : List (Vec ℕ Global)) (span : Span) (message : List ℕ) → block_bytes new ≡ block_bytes old ++ message ∷ []
+    → IsSpan span (length old + 1) 0 (length message) → Lays (first ∷ block_bytes old) span message (first ∷ block_bytes new)
+lays-anew first old new span message is at =
     let many : length (block_bytes old) ≡ length old = length-map old (λ (b : Vec ℕ Global). b.items) in
-    holds-behind (block_bytes new) span [] message
-    (omega (arith, ap length whole, length-append (block_bytes old) (block.items ∷ []), many, at))
-    (rw (whole, at, ← many) (at-length (block_bytes old) block.items ∙ same))
-    start len
+    let place : span.block ≡ suc (length (block_bytes old)) = omega (arith, at.block, many) in
+    record {
+      goes_on = rw is (push-goes-on (first ∷ block_bytes old) message);
+      holds = holds-behind (first ∷ block_bytes new) span [] message
+          (omega (arith, place, ap length is, length-append (block_bytes old) (message ∷ [])))
+          (rw (place, is) (at-length (block_bytes old) message))
+          at.start at.len;
+    }
 
 -- what lies in a block stays where it is
 module _ (old new : List (List ℕ)) (on : GoesOn old new) where

@@ -1,5 +1,5 @@
 -- Items by where their messages lie, in blocks that go on.
-use Rattle.std.proofs.Common.{◌≡◌, ℕ, ◌<◌, suc, zero, List, [], ◌∷◌, ◌++◌, length, get_or, Option, Some, None, option_map, refl, sym, subst, ◌∙◌, ap, arith}
+use Rattle.std.proofs.Common.{◌≡◌, ℕ, ◌<◌, suc, zero, List, [], ◌∷◌, ◌++◌, length, get_or, Some, None, option_map, refl, sym, subst, ◌∙◌, ap, arith}
 use Rattle.std.specs.Prelude.{slice_get, slice_set}
 use Rattle.std.proofs.lemmas.List.{map-append, map-set, length-map}
 use Rattle.std.proofs.lemmas.Option.{slice_get_read, slice_get-map, same_Some}
@@ -7,7 +7,7 @@ use Rattle.uds_exchange.specs.declared.meaning.KeptItem.{KeptItem}
 use Rattle.uds_exchange.specs.declared.meaning.KeptItem.TheVariants as kept
 use Rattle.uds_exchange.specs.declared.messages.Span.{Span}
 use Rattle.uds_exchange.specs.Meaning.{ItemValue, exchange}
-use Rattle.uds_exchange.specs.proving.Blocks.{bytes_at, IsInside, Holds, GoesOn}
+use Rattle.uds_exchange.specs.proving.Blocks.{bytes_at, Holds, GoesOn}
 use Rattle.uds_exchange.specs.proving.KeptItems.{item_at, items_at, IsKeptIn, AreKeptIn}
 use Rattle.uds_exchange.proofs.InBlocks.{inside-on, bytes_at-on}
 

@@ -1,21 +1,20 @@
 //! Messages that are kept, in blocks of memory that are never moved.
 
 ghost use Rattle.std.specs.Prelude.{◌≡◌, ◌<◌, ◌≤◌, ◌+◌, ◌++◌, ◌∷◌, [], ℕ, IsTrue, IfOk, OnOk, OnErr, length};
-ghost use Rattle.uds_exchange.specs.proving.Blocks.{bytes_at, block_bytes, AreEmpty, GoesOn, IsInside, Holds, MayGoOn};
+ghost use Rattle.uds_exchange.specs.proving.Blocks.{block_at, bytes_at, block_bytes, IsInside, IsSpan, Lays, MayGoOn};
 
 use std::alloc::{AllocError, Global};
 use std::marker::Model;
 
-/// So many bytes the first block has.
+/// So many bytes the first block has, or one message.
 const FIRST_BLOCK: usize = 1_024;
 
 /// How often a block has twice the bytes of the one before it: up to 65,536. So few messages take little memory, and many few
 /// blocks.
-const DOUBLINGS: usize = 6;
+const DOUBLINGS: u32 = 6;
 
-/// A message that takes more than such a part of a new block has one of its own length: so at most that part of another block is
-/// left empty.
-const PARTS: usize = 16;
+/// A longer message has a block of its own length, so that at most a sixteenth of a large block is left empty.
+const LONG: usize = 4_096;
 
 /// The last place in a block at which a message may begin.
 const LAST_START: usize = 65_535;
@@ -23,8 +22,10 @@ const LAST_START: usize = 65_535;
 /// Messages, each whole in a block, where it stays when more are kept: so what is kept takes its own length, and is copied once.
 #[derive(Drop)]
 pub(crate) struct Messages {
-    blocks: Vec<Vec<u8>>,
-    /// The number of the block that is being filled, counted from 0.
+    /// It is no element of a list, so that few messages ask for memory once.
+    first: Vec<u8>,
+    later: Vec<Vec<u8>>,
+    /// The number of the block that is being filled. That of the first is 0.
     filling: u32,
 }
 
@@ -37,21 +38,22 @@ pub(crate) struct Span {
 }
 
 impl Model for Messages {
-    ghost use Rattle.std.specs.Prelude.{List, ℕ};
+    ghost use Rattle.std.specs.Prelude.{List, ℕ, ◌∷◌};
     ghost use Rattle.uds_exchange.specs.proving.Blocks.{block_bytes};
 
     ghost Value = { List (List ℕ) };
 
-    ghost view = { λ m. block_bytes m.blocks.items };
+    ghost view = { λ m. block_bytes (m.first ∷ m.later.items) };
 }
 
 impl Messages {
     /// No message. It takes no memory.
     pub(crate) fn new(alloc: Global) -> Messages
-        ensures { result ≡ [] }
+        ensures { result ≡ [] ∷ [] }
     {
         Messages {
-            blocks: Vec::new(alloc),
+            first: Vec::new(alloc),
+            later: Vec::new(alloc),
             filling: 0,
         }
     }
@@ -62,76 +64,123 @@ impl Messages {
         requires { IsInside self.now span }
         ensures { result.now ≡ bytes_at self.now span }
     {
-        bytes_at(self.blocks.as_slice(), span)
+        bytes_at(&self.first, self.later.as_slice(), span)
     }
 
     /// Keeps one message more, and answers where it lies. After an `Err` nothing has changed.
     #[inline(always)]
     pub(crate) fn append(&mut self, message: &[u8]) -> Result<Span, AllocError>
-        ensures kept { OnOk result (GoesOn self.old self.new) }
-        ensures laid { IfOk result (λ span. Holds self.new span message.now) }
+        ensures laid { IfOk result (λ span. Lays self.old span message.now self.new) }
         ensures err { OnErr result (self.new ≡ self.old) }
     {
-        lay(&mut self.blocks, &mut self.filling, message)
+        lay(&mut self.first, &mut self.later, &mut self.filling, message)
     }
 
     /// Drops all messages, and keeps the memory of the first block.
     pub(crate) fn clear(&mut self)
-        ensures { AreEmpty self.new }
+        ensures { self.new ≡ [] ∷ [] }
     {
-        self.blocks.truncate(1);
-        if let Some(block) = self.blocks.first_mut() {
-            block.clear();
-        }
+        self.first.clear();
+        self.later.clear();
         self.filling = 0;
     }
 }
 
 /// The bytes of a message.
 #[inline(always)]
-fn bytes_at(blocks: &[Vec<u8>], span: Span) -> &[u8]
-    requires { IsInside (block_bytes blocks.now) span }
-    ensures { result.now ≡ bytes_at (block_bytes blocks.now) span }
+fn bytes_at<'a>(first: &'a Vec<u8>, later: &'a [Vec<u8>], span: Span) -> &'a [u8]
+    requires { IsInside (block_bytes (first.now ∷ later.now)) span }
+    ensures { result.now ≡ bytes_at (block_bytes (first.now ∷ later.now)) span }
 {
     let start = span.start as usize;
-    &blocks[span.block as usize].as_slice()[start..start + span.len]
+    &block_at(first, later, span.block)[start..start + span.len]
+}
+
+/// The bytes of a block.
+#[inline(always)]
+fn block_at<'a>(first: &'a Vec<u8>, later: &'a [Vec<u8>], number: u32) -> &'a [u8]
+    requires { number < length (block_bytes (first.now ∷ later.now)) }
+    ensures { result.now ≡ block_at (block_bytes (first.now ∷ later.now)) number }
+{
+    if number == 0 {
+        first.as_slice()
+    } else {
+        later[number as usize - 1].as_slice()
+    }
 }
 
 /// Lays a message into the block that is being filled, or where it has no room into a new one, and answers where. After an `Err`
 /// the bytes are as before.
 #[inline(always)]
-fn lay(blocks: &mut Vec<Vec<u8>>, filling: &mut u32, message: &[u8]) -> Result<Span, AllocError>
-    ensures kept { OnOk result (GoesOn (block_bytes blocks.old.items) (block_bytes blocks.new.items)) }
-    ensures laid { IfOk result (λ span. Holds (block_bytes blocks.new.items) span message.now) }
-    ensures err { OnErr result (block_bytes blocks.new.items ≡ block_bytes blocks.old.items) }
+fn lay(
+    first: &mut Vec<u8>,
+    later: &mut Vec<Vec<u8>>,
+    filling: &mut u32,
+    message: &[u8],
+) -> Result<Span, AllocError>
+    ensures laid { IfOk result (λ span. Lays (block_bytes (first.old ∷ later.old.items)) span message.now (block_bytes (first.new ∷ later.new.items))) }
+    ensures err { OnErr result (block_bytes (first.new ∷ later.new.items) ≡ block_bytes (first.old ∷ later.old.items)) }
 {
-    if has_room(blocks.as_slice(), *filling, message.len()) {
-        lay_behind(blocks, *filling, message)
+    if has_room(first, later.as_slice(), *filling, message.len()) {
+        lay_behind(first, later, *filling, message)
     } else {
-        lay_anew(blocks, filling, message)
+        lay_anew(first, later, filling, message)
     }
 }
 
 /// Whether the block has room for so many bytes more, so that it need not grow.
 #[inline(always)]
-fn has_room(blocks: &[Vec<u8>], number: u32, len: usize) -> bool
-    ensures { IsTrue result → MayGoOn (block_bytes blocks.now) number }
+fn has_room(first: &Vec<u8>, later: &[Vec<u8>], number: u32, len: usize) -> bool
+    ensures { IsTrue result → MayGoOn (block_bytes (first.now ∷ later.now)) number }
 {
-    match blocks.get(number as usize) {
-        Some(block) => block.len() <= LAST_START && len <= block.capacity() - block.len(),
-        None => false,
+    if number == 0 {
+        fits(first, len)
+    } else {
+        match later.get(number as usize - 1) {
+            Some(block) => fits(block, len),
+            None => false,
+        }
     }
+}
+
+/// Whether so many bytes fit behind those of a block.
+#[inline(always)]
+fn fits(block: &Vec<u8>, len: usize) -> bool
+    ensures { IsTrue result → length block.now.items ≤ 65535 }
+{
+    block.len() <= LAST_START && len <= block.capacity() - block.len()
 }
 
 /// Lays a message behind what is in the block.
 #[inline(always)]
-fn lay_behind(blocks: &mut Vec<Vec<u8>>, number: u32, message: &[u8]) -> Result<Span, AllocError>
-    requires { MayGoOn (block_bytes blocks.old.items) number }
-    ensures kept { OnOk result (GoesOn (block_bytes blocks.old.items) (block_bytes blocks.new.items)) }
-    ensures laid { IfOk result (λ span. Holds (block_bytes blocks.new.items) span message.now) }
-    ensures err { OnErr result (block_bytes blocks.new.items ≡ block_bytes blocks.old.items) }
+fn lay_behind(
+    first: &mut Vec<u8>,
+    later: &mut Vec<Vec<u8>>,
+    number: u32,
+    message: &[u8],
+) -> Result<Span, AllocError>
+    requires { MayGoOn (block_bytes (first.old ∷ later.old.items)) number }
+    ensures laid { IfOk result (λ span. Lays (block_bytes (first.old ∷ later.old.items)) span message.now (block_bytes (first.new ∷ later.new.items))) }
+    ensures err { OnErr result (block_bytes (first.new ∷ later.new.items) ≡ block_bytes (first.old ∷ later.old.items)) }
 {
-    let block = &mut blocks[number as usize];
+    if number == 0 {
+        let span = put(first, number, message)?;
+        Ok(span)
+    } else {
+        let block = &mut later[number as usize - 1];
+        let span = put(block, number, message)?;
+        Ok(span)
+    }
+}
+
+/// Puts a message behind what is in a block of this number.
+#[inline(always)]
+fn put(block: &mut Vec<u8>, number: u32, message: &[u8]) -> Result<Span, AllocError>
+    requires { length block.old.items ≤ 65535 }
+    ensures bytes { OnOk result (block.new.items ≡ block.old.items ++ message.now) }
+    ensures span { IfOk result (λ span. IsSpan span number (length block.old.items) (length message.now)) }
+    ensures err { OnErr result (block.new.items ≡ block.old.items) }
+{
     let start = block.len() as u16;
     block.extend_from_slice(message)?;
     let len = message.len();
@@ -142,47 +191,81 @@ fn lay_behind(blocks: &mut Vec<Vec<u8>>, number: u32, message: &[u8]) -> Result<
     })
 }
 
-/// Lays a message into a new block. That is filled from then on, unless it has the message's own length.
+/// Lays a message into a new block, which is filled from then on, unless it has the length of a long message.
 #[inline(never)]
 fn lay_anew(
-    blocks: &mut Vec<Vec<u8>>,
+    first: &mut Vec<u8>,
+    later: &mut Vec<Vec<u8>>,
     filling: &mut u32,
     message: &[u8],
 ) -> Result<Span, AllocError>
-    ensures kept { OnOk result (GoesOn (block_bytes blocks.old.items) (block_bytes blocks.new.items)) }
-    ensures laid { IfOk result (λ span. Holds (block_bytes blocks.new.items) span message.now) }
-    ensures err { OnErr result (block_bytes blocks.new.items ≡ block_bytes blocks.old.items) }
+    ensures laid { IfOk result (λ span. Lays (block_bytes (first.old ∷ later.old.items)) span message.now (block_bytes (first.new ∷ later.new.items))) }
+    ensures err { OnErr result (block_bytes (first.new ∷ later.new.items) ≡ block_bytes (first.old ∷ later.old.items)) }
 {
-    let room = room_of(blocks.len());
-    if message.len() > room / PARTS {
-        push_block(blocks, message.len(), message)
+    if first.is_empty() {
+        let span = begin(first, message)?;
+        Ok(span)
     } else {
-        let span = push_block(blocks, room, message)?;
-        *filling = span.block;
+        let span = push(later, message)?;
+        *filling = if span.len > LONG {
+            *filling
+        } else {
+            span.block
+        };
         Ok(span)
     }
 }
 
-/// How many bytes the block of this number has, if it has not the length of one message.
-fn room_of(number: usize) -> usize {
-    FIRST_BLOCK << number.min(DOUBLINGS)
-}
-
-/// Lays a message into a new block of so many bytes.
-fn push_block(blocks: &mut Vec<Vec<u8>>, room: usize, message: &[u8]) -> Result<Span, AllocError>
-    ensures kept { OnOk result (GoesOn (block_bytes blocks.old.items) (block_bytes blocks.new.items)) }
-    ensures laid { IfOk result (λ span. Holds (block_bytes blocks.new.items) span message.now) }
-    ensures err { OnErr result (block_bytes blocks.new.items ≡ block_bytes blocks.old.items) }
+/// Lays a message into the first block, in new memory.
+fn begin(first: &mut Vec<u8>, message: &[u8]) -> Result<Span, AllocError>
+    requires { first.old.items ≡ [] }
+    ensures bytes { OnOk result (first.new.items ≡ first.old.items ++ message.now) }
+    ensures span { IfOk result (λ span. IsSpan span 0 (length first.old.items) (length message.now)) }
+    ensures err { OnErr result (first.new.items ≡ first.old.items) }
 {
-    let Ok(number) = u32::try_from(blocks.len()) else {
-        return Err(AllocError);
-    };
-    let mut block = Vec::with_capacity(*blocks.allocator(), room)?;
-    block.extend_from_slice(message)?;
-    blocks.push(block)?;
+    let len = message.len();
+    *first = block_with(*first.allocator(), room_of(0, len), message)?;
     Ok(Span {
-        len: message.len(),
-        block: number,
+        len,
+        block: 0,
         start: 0,
     })
+}
+
+/// Lays a message into one more block.
+fn push(later: &mut Vec<Vec<u8>>, message: &[u8]) -> Result<Span, AllocError>
+    ensures bytes { OnOk result (block_bytes later.new.items ≡ block_bytes later.old.items ++ message.now ∷ []) }
+    ensures span { IfOk result (λ span. IsSpan span (length later.old.items + 1) 0 (length message.now)) }
+    ensures err { OnErr result (block_bytes later.new.items ≡ block_bytes later.old.items) }
+{
+    let Ok(block) = u32::try_from(later.len() + 1) else {
+        return Err(AllocError);
+    };
+    let len = message.len();
+    let room = room_of(block, len);
+    let bytes = block_with(*later.allocator(), room, message)?;
+    later.push(bytes)?;
+    Ok(Span {
+        len,
+        block,
+        start: 0,
+    })
+}
+
+/// How many bytes the block of this number has that begins with a message of so many.
+fn room_of(number: u32, len: usize) -> usize {
+    if len > LONG {
+        len
+    } else {
+        len.max(FIRST_BLOCK << number.min(DOUBLINGS))
+    }
+}
+
+/// A block of so many bytes, with a message in it.
+fn block_with(alloc: Global, room: usize, message: &[u8]) -> Result<Vec<u8>, AllocError>
+    ensures { IfOk result (λ block. block.items ≡ message.now) }
+{
+    let mut block = Vec::with_capacity(alloc, room)?;
+    block.extend_from_slice(message)?;
+    Ok(block)
 }

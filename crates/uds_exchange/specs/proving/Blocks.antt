@@ -1,5 +1,5 @@
 -- Devices of proof: messages that lie in blocks.
-use Rattle.std.specs.Prelude.{◌≡◌, ℕ, ◌+◌, ◌<◌, ◌≤◌, List, [], ◌∷◌, ◌++◌, map, take, drop, length, slice_index_or, Vec}
+use Rattle.std.specs.Prelude.{◌≡◌, ℕ, ◌+◌, ◌<◌, ◌≤◌, List, [], ◌++◌, map, take, drop, length, slice_index_or, Vec}
 use Rattle.std.specs.declared.alloc.Global.{Global}
 use Rattle.uds_exchange.specs.declared.messages.Span.{Span}
 
@@ -35,7 +35,13 @@ pub record MayGoOn (blocks : List (List ℕ)) (number : ℕ) : Type 0 where
   pub block : number < length blocks
   pub start : length (block_at blocks number) ≤ 65535
 
--- no block has a byte
-pub record AreEmpty (blocks : List (List ℕ)) : Type 0 where
-  pub few : length blocks ≤ 1
-  pub bytes : (number : ℕ) → block_at blocks number ≡ []
+-- a message of so many bytes lies in the block of this number, behind so many
+pub record IsSpan (span : Span) (number before size : ℕ) : Type 0 where
+  pub block : span.block ≡ number
+  pub start : span.start ≡ before
+  pub len : span.len ≡ size
+
+-- this message was laid there, and what lay in the blocks stays
+pub record Lays (old : List (List ℕ)) (span : Span) (message : List ℕ) (new : List (List ℕ)) : Type 0 where
+  pub goes_on : GoesOn old new
+  pub holds : Holds new span message

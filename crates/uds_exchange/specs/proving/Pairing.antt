@@ -1,9 +1,8 @@
 -- Devices of proof: a meaning that grows by one message, and what the code keeps of it.
-use Rattle.std.specs.Prelude.{◌≡◌, ℕ, suc, List, [], ◌∷◌, ◌++◌, Option, Some, None, option_map, if◌then◌else◌, slice_set}
+use Rattle.std.specs.Prelude.{◌≡◌, ℕ, List, [], ◌∷◌, ◌++◌, Option, Some, None, if◌then◌else◌, slice_set}
 use Rattle.direction.specs.Dir.{Message}
-use Rattle.uds_message.specs.Message.{sid}
-use Rattle.uds_exchange.specs.Meaning.{ItemValue, exchange, stray, stray_of, is_tester_request, is_answer_to, is_pending_reply_to}
-use Rattle.uds_exchange.specs.WaitingExchange.{waiting, waiting_sid}
+use Rattle.uds_exchange.specs.Meaning.{ItemValue, exchange, stray_of, is_tester_request, is_answer_to, is_pending_reply_to}
+pub use Rattle.uds_exchange.specs.WaitingExchange.{one_later, waiting, waiting_sid}
 
 -- what the code keeps beside the items: the first byte of the open request, and the place of its exchange
 pub record IsWaitingAt (items : List ItemValue) (open_sid : Option ℕ) (last : ℕ) : Type 0 where

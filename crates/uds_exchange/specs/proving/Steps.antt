@@ -1,5 +1,5 @@
 -- Devices of proof: what an orderer does with one more message.
-use Rattle.std.specs.Prelude.{ℕ, List, [], ◌∷◌, ◌++◌, Some, None, ◌≡◌, true, false}
+use Rattle.std.specs.Prelude.{List, [], ◌∷◌, ◌++◌, Some, None, ◌≡◌, true, false}
 use Rattle.direction.specs.Dir.{Message}
 use Rattle.uds_exchange.specs.declared.step.Step.{Step}
 use Rattle.uds_exchange.specs.declared.step.Step.TheVariants as step
