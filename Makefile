@@ -36,7 +36,8 @@ build:
 		exit 1; \
 	fi
 
-# Proves the library for C, and builds it, static and shared, into out/lib.
+# Proves the library for C, and builds it, static and shared, into out/lib. One that needs a newer glibc than the README names
+# is refused.
 lib:
 	@mkdir -p $(LIBRARY)
 	@echo 'udsnorm: proving and building the library; what rt says goes to $(LIBRARY_LOG)' >&2; \

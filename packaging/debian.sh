@@ -5,11 +5,6 @@ debian_version=$version-0upstream1
 architecture=$(dpkg --print-architecture)
 maintainer="Yozhdyrga maintainers <maintainers@users.noreply.yozhdyrga.example>"
 
-# The newest version of the C library that a file asks for.
-libc_of() {
-    grep -aoE 'GLIBC_[0-9]+\.[0-9]+' "$1" | cut -d _ -f 2 | sort -Vu | tail -n 1
-}
-
 # put_papers NAME STAGE: the licence, and the lists of changes.
 put_papers() {
     papers=$2/usr/share/doc/$1

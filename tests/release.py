@@ -23,6 +23,7 @@ from runs import run
 
 TOP = Path(__file__).resolve().parent.parent
 VERSION = (TOP / "VERSION").read_text().rstrip("\n")
+GLIBC = re.search(r"glibc (\d\.\d+) or newer", (TOP / "README.md").read_text())[1]
 LOG = TOP / "examples" / "vin.log"
 CANONICAL = TOP / "examples" / "vin.canonical"
 SHIPPED = {
@@ -105,6 +106,19 @@ def version_is_one(cases):
     cases.report("the list of changes begins with it", [] if newest and newest[1] == VERSION else [newest[1] if newest else "no version"])
 
 
+def newer_glibc_is_refused(cases, folder):
+    """A library that asks for a call of a glibc newer than the README names (arc4random is of 2.36) is not built: on an older
+    system it can't be linked at all."""
+    source, archive = folder / "newer.c", folder / "libnewer.a"
+    source.write_text("unsigned arc4random(void);\nunsigned udsnorm_newer(void) { return arc4random(); }\n")
+    output("cc", "-c", "-fPIC", source, "-o", folder / "newer.o")
+    output("ar", "rc", archive, folder / "newer.o")
+    words = [TOP / "scripts" / "build-library", archive, folder / "newer"]
+    built = subprocess.run(words, stdout=subprocess.PIPE, stderr=subprocess.STDOUT, text=True, timeout=60)
+    wrong = [] if built.returncode == 1 and re.search(rf"asks for glibc 2\.36, and {GLIBC} |arc4random", built.stdout) else [built.stdout]
+    cases.report("a library that asks for a newer glibc is refused", wrong + sorted(files_below(folder / "newer")))
+
+
 def made(kind, built, folder):
     """A release of this kind, made of what was built in a folder of its own."""
     return Path(output(TOP / "packaging" / kind, *built, folder).rstrip("\n"))
@@ -177,6 +191,9 @@ def package(cases, folder):
     fields = output("dpkg-deb", "--field", file, "Package", "Version", "Depends")
     want = rf"Package: udsnorm\nVersion: {re.escape(VERSION)}-0upstream1\nDepends: libc6 \(>= \d+\.\d+\)\n"
     cases.report("the fields of the package", [] if re.fullmatch(want, fields) else [fields])
+    asked = re.search(r"libc6 \(>= (\d+)\.(\d+)\)", fields)
+    wrong = [fields] if not asked or tuple(map(int, asked.groups())) > tuple(map(int, GLIBC.split("."))) else []
+    cases.report("the program asks for no glibc newer than the README names", wrong)
     root = folder / "extracted"
     output("dpkg-deb", "--extract", file, root)
     cases.report("the files of the package", difference(files_below(root), PACKAGED))
@@ -271,6 +288,7 @@ def main():
         folder = Path(directory)
         library = Path(sys.argv[2]).resolve() if len(sys.argv) == 3 else None
         if library:
+            newer_glibc_is_refused(cases, folder)
             tarball(cases, library, folder)
         else:
             print("skipped the tarball: no library is given", flush=True)

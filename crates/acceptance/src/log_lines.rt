@@ -2,7 +2,7 @@
 //! program.
 
 use crate::rows::{assert_marked, digits_of, lines_of, log_marked, name_of, rows_of};
-use can_log::{Id, LineClock, Scan, Scanner, Stamped, append_line, line_bytes};
+use can_log::{Id, LineClock, Scan, Scanner, Stamped, append_line, change_line, line_bytes};
 use std::alloc::{AllocError, Global};
 use std::process::Abort;
 use std::test::Fail;
@@ -542,4 +542,19 @@ fn times_are_counted_up_from_line_to_line(rt: HostRuntime) {
         append_line(&mut text, &clock, Id::Std(0x7E0), &[0; 8]);
         assert_eq!(rt; text.as_slice(), line.as_slice());
     }
+}
+
+// The identifier stays, of either format; each digit of the time and of the data is another one.
+#[test]
+fn lines_are_made_of_others_with_their_identifier(rt: HostRuntime) {
+    let clock = LineClock::at(9_876_543_210_765);
+    let data = [0x01, 0x23, 0x45, 0x67, 0x89, 0xAB, 0xCD, 0xEF];
+    let mut line = *b"(0000000000.000000) can0 7E8#FFFFFFFFFFFFFFFF\n";
+    change_line(&mut line, &clock, &data);
+    let expected = *b"(9876543210.765000) can0 7E8#0123456789ABCDEF\n";
+    assert_eq!(rt; line, expected);
+    let mut line = *b"(1111111111.111000) can0 18DAF110#76543210FEDCBA98\n";
+    change_line(&mut line, &clock, &data);
+    let expected = *b"(9876543210.765000) can0 18DAF110#0123456789ABCDEF\n";
+    assert_eq!(rt; line, expected);
 }

@@ -1,12 +1,12 @@
 //! The canonical frames of a message, where no log shows them. No expected value comes from the program.
 
 use crate::rows::{
-    assert_marked, assert_text, digits_of, line_marked, message_spelled, number_of, push_message,
-    rows_of,
+    assert_marked, assert_text, bytes_of, digits_of, line_marked, lines_of, message_spelled,
+    number_of, push_message, rows_of,
 };
 use direction::Dir::Unit;
 use isotp_receive::MESSAGE_LIMIT;
-use isotp_segment::{Segments, frame_count};
+use isotp_segment::{SINGLE_LIMIT, Segments, frame_count, single_frame};
 use std::alloc::Global;
 use std::process::Abort;
 use std::test::Fail;
@@ -40,6 +40,30 @@ fn each_message_has_its_frames_and_then_none(rt: HostRuntime) -> Result<(), Fail
         }
         assert!(rt; frames.next().is_none() && frames.next().is_none());
         assert_text(&rt, row, text.trim_end(), expected);
+    }
+    Ok(())
+}
+
+/// For each length that one frame holds a message, and the frame: the length in the low half of its first byte, the message, and
+/// `CC` up to the eighth byte.
+const SINGLE_FRAMES: &str = "\
+3E 013ECCCCCCCCCCCC
+3E80 023E80CCCCCCCCCC
+22F190 0322F190CCCCCCCC
+19020AFF 0419020AFFCCCCCC
+2EF1900102 052EF1900102CCCC
+2711A1B2C3D4 062711A1B2C3D4CC
+31010203040506 0731010203040506";
+
+#[test]
+fn each_short_message_has_its_single_frame(rt: HostRuntime) -> Result<(), Fail> {
+    let alloc = rt.alloc();
+    for row in lines_of(SINGLE_FRAMES) {
+        let (message, expected) = row.split_once(' ').ok_or("no frame")?;
+        let message = bytes_of(alloc, message)?;
+        assert!(rt; !message.is_empty() && message.len() <= SINGLE_LIMIT);
+        let found = digits_of(alloc, &single_frame(&message))?;
+        assert_text(&rt, row, &found, expected);
     }
     Ok(())
 }
