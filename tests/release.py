@@ -50,7 +50,7 @@ NUMBER = (TOP / "library" / "SONAME").read_text().strip()
 PYTHON = "usr/lib/python3/dist-packages"
 MODULES = {
     "py.typed", "__init__.py", "__main__.py", "_library.py", "_lines.py", "_program.py", "testing.py",
-    "_formats/__init__.py", "_formats/asc.py", "_formats/blf.py", "_formats/captures.py", "_formats/csv.py", "_formats/frames.py",
+    "_formats/__init__.py", "_formats/asc.py", "_formats/blf.py", "_formats/candump.py", "_formats/captures.py", "_formats/csv.py", "_formats/frames.py",
     "_formats/messages.py", "_formats/opened.py", "_formats/packed.py", "_formats/screen.py", "_formats/texts.py", "_formats/trc.py",
 }
 OF_THE_LIBRARY = {

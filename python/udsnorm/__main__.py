@@ -58,8 +58,9 @@ def _run(words: List[str]) -> int:
         return status or _say(f"\n{__doc__}")
     logs = {at: _program.source_of(words[at]) for at in _program.logs_in(words)}
     others = {at for at, source in logs.items() if source is not None and _program.is_other(source)}
+    unnamed = {at for at, source in logs.items() if source is not None and not _program.is_text(words[at])}
     is_given = _program.reads_standard_input(words) and _program.is_other(_program.STANDARD_INPUT)
-    if not (others or is_given or any(source and not _program.is_text(words[at]) for at, source in logs.items())):
+    if not (others or unnamed or is_given):
         # Python ignores this signal, and the program would, too.
         signal.signal(signal.SIGPIPE, signal.SIG_DFL)
         os.execv(program, ["udsnorm", *words])
