@@ -8,6 +8,7 @@ Prints a line for each case and ends with `N passed, M failed`; its status is 1 
 
 import errno
 import os
+import re
 import resource
 import select
 import shutil
@@ -17,6 +18,7 @@ import subprocess
 import sys
 import tempfile
 import tty
+from itertools import accumulate
 from pathlib import Path
 
 import commands
@@ -24,7 +26,7 @@ import oracle
 from cases import DEVICE, DIFFERENT, DONE, REFUSAL, WORDS, Cases
 from counts import counts_line
 from refuser import READ, WRITE, Refuser
-from runs import Ended, end, give, peak_kilobytes, run, start
+from runs import Ended, end, files, give, peak_kilobytes, run, start
 from tables import EXAMPLES
 from told import LONG_CANONICAL, LONG_LOG, READ_FAILED, WRITE_FAILED, oversize, place
 
@@ -59,6 +61,15 @@ WATCHED = [
     (6, b"1 exchange ReadDataByIdentifier 22F190 -> positive 62F1904142434445\n2 stray tester 3E80\n"),
     (7, b"3 stray unit 50\n"),
 ]
+
+# So many bytes of text are gathered for a write at most. A number that is told, and a canonical line, stand whole in one: these
+# are the longest.
+PAGE = 64 * 51
+LONGEST_NUMBER = 20
+LONGEST_LINE = 51
+
+# A decimal number of a text in which each byte that is spelled has a letter.
+NUMBER = re.compile(rb"(?<![#0-9A-Z])[0-9]+(?![0-9A-Z])")
 
 # What a job tells of the front of a log, while more of it may come.
 PROMPT = [
@@ -424,23 +435,73 @@ def each_fails(cases, refuser, name, words, kind, told, error=errno.EIO):
     cases.report(name, wrong)
 
 
+def writes_of(cases, words, log=b""):
+    """How the program ends over a log, and each of its writes: a socket of packets keeps them apart."""
+    near, far = socket.socketpair(socket.AF_UNIX, socket.SOCK_SEQPACKET)
+    with near, tempfile.TemporaryFile() as file:
+        file.write(log)
+        file.seek(0)
+        with far:
+            program = start(cases.program, words, stdin=file, stdout=far)
+        written = list(iter(lambda: near.recv(1 << 20), b""))
+        return end(program).status, written
+
+
 def whole_lines(cases):
-    """A page that is full is written in whole lines, as many as it has room for: so many bytes as 64 lines of the longest kind. A
-    socket of packets keeps the writes apart."""
+    """A page that is full is written in whole lines, as many as it has room for: so many bytes as 64 lines of the longest kind."""
     of_base = canonical_of_unit(bytes(range(256)) * 20)
     of_extended = of_base.replace(b" 7E0#", b" 18DA10F1#").replace(b" 7E8#", b" 18DAF110#")
     for words, log, length in [([], of_base, 46), (["--tester", "18DA10F1", "--unit", "18DAF110"], of_extended, 51)]:
-        near, far = socket.socketpair(socket.AF_UNIX, socket.SOCK_SEQPACKET)
-        with near, far:
-            found = subprocess.run([cases.program, "normalise", *words], input=log, stdout=far, check=False)
-            far.close()
-            written = list(iter(lambda: near.recv(1 << 16), b""))
-        most = 64 * 51 // length * length
+        status, written = writes_of(cases, ["normalise", *words], log)
+        most = PAGE // length * length
         rest = len(log) % most
         wanted = [most] * (len(log) // most) + ([rest] if rest else [])
-        wrong = [] if found.returncode == DONE and b"".join(written) == log else [f"status {found.returncode}"]
+        wrong = [] if status == DONE and b"".join(written) == log else [f"status {status}"]
         wrong += [] if [len(text) for text in written] == wanted else [f"writes of {[len(text) for text in written]} bytes, not of {wanted}"]
         cases.report(f"the writes of lines of {length} bytes", wrong)
+
+
+def full_writes(cases):
+    """A page that is full is written up to its last byte, or up to a number, of which no write has a part; so there are no more
+    writes than the text needs. Less is written only of what is due: before more is read, and at the end. A text that no page has
+    room for, as the style of a report, is written at once, behind what is due."""
+    asked = b"".join(b"(1700000000.%06d) can0 7E0#042EF1A%XA%X\n" % (n, n // 16 % 16, n % 16) for n in range(500))
+    dropped = b"".join(b"(1.%06d) can0 7E8#2A\n" % n for n in range(1_000))
+    names = [b"%X%c%X" % (first, middle, last) for middle in b"ABCDEF" for first in range(8) for last in range(16)]
+    paired = b"".join(b"(1.000000) can0 %s#042EF1ABAC\n(1.000000) can0 %s#036EF1AB\n" % pair for pair in zip(names[::2], names[1::2]))
+    logs = {"explain": dropped, "find": paired}
+    for option in [[], ["--json"]]:
+        for job in commands.over_one_log(cases.program, *option):
+            log = logs.get(job, asked)
+            # All is said at the end, or what a piece of the log decides before the next one is read.
+            due = 1 if commands.holds_meaning(job) or job == "find" else 1 + -(-len(log) // 4096)
+            whole = LONGEST_LINE if job == "normalise" else LONGEST_NUMBER
+            assert_full(cases, [job, *option], DONE, due, whole, log=log)
+    answers = [canonical_of_unit(bytes([0xAA + n]) * 5_000) for n in range(2)]
+    with files(*answers) as both:
+        for words in [["compare", "--show"], ["compare", "--show", "--json"]]:
+            assert_full(cases, words, DIFFERENT, 1, names=both)
+    with files(asked, asked[asked.index(b"\n") + 1 :]) as both:
+        assert_full(cases, ["report"], DIFFERENT, 1, names=both)
+
+
+def assert_full(cases, words, status, due, whole=LONGEST_NUMBER, log=b"", names=()):
+    """Over these logs no more writes than are due are shorter than a page, but for a whole text; and none ends within a number."""
+    found, written = writes_of(cases, [*words, *names], log)
+    text, lengths = b"".join(written), [len(text) for text in written]
+    # Messages and identifiers of these logs are of bytes with a letter, and so no number stands beside one; nor has a page any
+    # number of the log before its session.
+    begin = max(text.find(b"<main"), 0)
+    inside = {place for number in NUMBER.finditer(text, begin) for place in range(number.start() + 1, number.end())}
+    at_once = [length for length in lengths if length > PAGE]
+    short = [length for length in lengths if length <= PAGE - whole]
+    cut = [text[place - 20 : place + 20] for place in accumulate(lengths) if place in inside]
+    wrong = [] if found == status else [f"status {found}"]
+    wrong += [] if max(lengths, default=0) >= PAGE - whole else ["no page is full"]
+    wrong += [] if len(at_once) == (words == ["report"]) else [f"writes of {at_once} bytes"]
+    wrong += [] if len(short) <= due + len(at_once) else [f"{len(short)} short writes of {len(lengths)}, {due} due: {short}"]
+    wrong += [] if not cut else [f"a number is cut in {cut}"]
+    cases.report(f"the writes of {' '.join(words)}, of {len(names) or 1} logs", wrong)
 
 
 def memory(cases):
@@ -464,7 +525,7 @@ def main():
     cases = Cases(os.path.abspath(sys.argv[1]))
     # What a shell starts in the background ignores interrupts, and so would each program that is started here.
     signal.signal(signal.SIGINT, signal.default_int_handler)
-    for test in [logs, default_limit, the_longest_message, examples, places, watched, devices, prompt, messages_one_by_one, watched_one_by_one, device_calls, whole_lines, memory]:
+    for test in [logs, default_limit, the_longest_message, examples, places, watched, devices, prompt, messages_one_by_one, watched_one_by_one, device_calls, whole_lines, full_writes, memory]:
         test(cases)
     cases.end()
 

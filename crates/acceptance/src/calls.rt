@@ -15,7 +15,7 @@ use trace_text::{ItemStyle, Notation, Numbering};
 use uds_exchange::Meaning;
 
 /// Lines in words, with their numbers.
-const NUMBERED: ItemStyle = ItemStyle {
+pub(crate) const NUMBERED: ItemStyle = ItemStyle {
     numbering: Numbering::Shown,
     notation: Notation::Text,
 };
@@ -44,7 +44,7 @@ pub(crate) const CANONICAL: &str = "\
 (0000000000.004000) can0 7E8#2246313233343536
 ";
 
-const LISTED: &str =
+pub(crate) const LISTED: &str =
     "1 exchange ReadDataByIdentifier 22F190 -> positive 62F1905742413341354335304546313233343536\n";
 
 const PLACED: &str = "\

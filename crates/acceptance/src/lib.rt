@@ -4,6 +4,8 @@
 //! what was meant is shown here, layer by layer, by worked values: `log_lines`, `device_calls`, `frame_layouts`,
 //! `frame_verdicts`, `message_frames`, `message_kinds`, `pairings`, `credited_answers`.
 //!
+//! `said_texts` has each part of a line, and each name and number that commands share.
+//!
 //! `message_frames` also tries the lengths at which a message has a frame more, and `sizes` those at which a buffer may grow.
 //!
 //! `calls` takes a session through each call of the engine, over devices that only a test has, and `pages` through each call that
@@ -34,5 +36,7 @@ mod pages;
 mod pairings;
 #[cfg(test)]
 mod rows;
+#[cfg(test)]
+mod said_texts;
 #[cfg(test)]
 mod sizes;

@@ -1,4 +1,4 @@
-use Rattle.std.proofs.Common.{Some, sym, arith, ap, subst, take_all, ◌∙◌}
+use Rattle.std.proofs.Common.{sym, arith, ap, subst, take_all}
 use Rattle.trace_text.specs.ListText.{list_text}
 use Rattle.trace_text.proofs.ItemLines.{more_lines, is_there}
 use Rattle.trace_text.proofs.item_lines.say_items.Goals as goal
