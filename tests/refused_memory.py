@@ -8,6 +8,7 @@ it only answers: whichever growth is refused, it ends with status 5 and has writ
 two logs it says which one it was reading.
 Each call of the libraries that takes memory, over three sessions, by the tests of the crate `refused_memory`: a call that
 is refused memory says so and has written a front of its text, and the same call made again gives what it gives otherwise.
+The calls that keep messages have one session more, of large messages.
 
 Two tables have the number of growths of jobs and calls, so that one that slips in is seen: a count that is not the table's
 fails. How many words have is up to the parser, and is counted where a file is missing, which is told before a job begins.
@@ -38,18 +39,19 @@ MOST_GROWTHS = 1000
 
 # How many growths each call of the libraries has over each session of the crate.
 CALL_GROWTHS = """
-               vin  stray  both
-pair_accept      2      0     2
-pairing_take     3      4     3
-orderer_take     0      2     0
-normalise        2      2     2
-meaning_of       5      4     5
-list             5      3     5
-explain          2      0     2
-find             2      2     0
-compare         10      8    13
-report           2      0     2
-hold_two        10      8    13
+               vin  stray  both  large
+pair_accept      2      0     2      -
+pairing_take     2      2     2      6
+orderer_take     0      2     0      4
+decider_take     1      3     1      6
+normalise        2      2     2      -
+meaning_of       4      2     4      -
+list             4      2     4      -
+explain          2      0     2      -
+find             2      2     0      -
+compare          8      4    11      -
+report           2      0     2      -
+hold_two        10      8    13      -
 """
 
 # How many growths each job has over each log, apart from those of its words: of a job over two logs those over the left one, and
@@ -57,21 +59,21 @@ hold_two        10      8    13
 # beside its canonical log.
 JOB_GROWTHS = """
                                                        normalise  list  watch  explain  messages  find  report  compare  pages
-both-directions                                                3     6      5        3         3     2       3      6+5    8+5
-candump-any                                                    0     3      2        0         0     2       0      3+5    5+5
-candump-fd                                                     1     7      4        1         1     2       1      7+5    9+5
-candump-marks                                                  2     6      4        2         2     2       2      6+5    7+5
-extended-identifiers                                           0     2      1        0         0     2       0      2+5    2+5
-extended-identifiers --tester 18DA10F1 --unit 18DAF110           2     6      4        2         2     -       2      6+6    7+7
-first                                                          0     2      1        0         0     0       0      2+5    2+5
-lost-frame                                                     2     5      4        2         2     2       2      5+5    7+5
-pending                                                        4     6      6        2         2     2       2      6+5   12+5
+both-directions                                                3     5      5        3         3     2       3      5+4    8+5
+candump-any                                                    0     2      2        0         0     2       0      2+4    5+5
+candump-fd                                                     1     3      4        1         1     2       1      3+4    9+5
+candump-marks                                                  2     4      4        2         2     2       2      4+4    7+5
+extended-identifiers                                           0     2      1        0         0     2       0      2+4    2+5
+extended-identifiers --tester 18DA10F1 --unit 18DAF110           2     4      4        2         2     -       2      4+4    7+7
+first                                                          0     2      1        0         0     0       0      2+4    2+5
+lost-frame                                                     2     4      4        2         2     2       2      4+4    7+5
+pending                                                        4     4      6        2         2     2       2      4+4   12+5
 refused                                                        0     2      1        0         0     0       0      2+0    2+0
-single-frames                                                  0     3      2        0         0     2       0      3+5    8+5
-vin-fd-crlf                                                    0     3      1        0         0     2       0      3+5    3+5
-vin                                                            2     5      3        2         2     2       2      5+5    5+5
-stray                                                          2     3      3        0         0     2       0      3+5    4+5
-both                                                           2     5      3        2         2     0       2      5+5    5+5
+single-frames                                                  0     2      2        0         0     2       0      2+4    8+5
+vin-fd-crlf                                                    0     2      1        0         0     2       0      2+4    3+5
+vin                                                            2     4      3        2         2     2       2      4+4    5+5
+stray                                                          2     2      3        0         0     2       0      2+4    4+5
+both                                                           2     4      3        2         2     0       2      4+4    5+5
 long                                                           0     -      -        0         0     0       0        -      -
 """
 

@@ -1,6 +1,6 @@
 //! The calls, each over every session.
 
-use crate::sessions::{Message, SESSIONS, Session};
+use crate::sessions::{Message, OF_MESSAGES, SESSIONS, Session};
 use can_log::{Frame, Id};
 use direction::Dir;
 use isotp_receive::{Pair, Verdict};
@@ -12,7 +12,7 @@ use trace_io::{Reading, Writing};
 use trace_log::{CompareFault, Config, Fault};
 use trace_report::PairTitle;
 use trace_text::{ItemStyle, Notation, Numbering};
-use uds_exchange::{Item, Meaning, MessageSink, OrderFault, Orderer, Pairing};
+use uds_exchange::{Decider, Item, ItemSink, Meaning, MessageSink, OrderFault, Orderer, Pairing};
 
 /// How often a call was made until it answered: again, where it was refused memory.
 #[derive(Clone, Copy)]
@@ -77,7 +77,7 @@ fn received(alloc: Global, session: Session) -> Result<Made, Fail> {
 
 #[test]
 fn pairing_take(rt: HostRuntime) -> Result<(), Fail> {
-    for session in SESSIONS {
+    for session in OF_MESSAGES {
         tell(paired(rt.alloc(), session)?, session)?;
     }
     Ok(())
@@ -99,7 +99,7 @@ fn paired(alloc: Global, session: Session) -> Result<Made, Fail> {
 
 #[test]
 fn orderer_take(rt: HostRuntime) -> Result<(), Fail> {
-    for session in SESSIONS {
+    for session in OF_MESSAGES {
         tell(ordered(rt.alloc(), session)?, session)?;
     }
     Ok(())
@@ -122,6 +122,60 @@ fn ordered(alloc: Global, session: Session) -> Result<Made, Fail> {
     orderer.finish(&mut sink)?;
     sink.end()?;
     Ok(made)
+}
+
+#[test]
+fn decider_take(rt: HostRuntime) -> Result<(), Fail> {
+    for session in OF_MESSAGES {
+        tell(decided(rt.alloc(), session)?, session)?;
+    }
+    Ok(())
+}
+
+/// Decides the items of the session. A message that was refused memory is taken again.
+fn decided(alloc: Global, session: Session) -> Result<Made, Fail> {
+    let mut decider = Decider::new(alloc);
+    let mut sink = AsItems {
+        messages: InOrder::new(session.ordered),
+        are_next: true,
+    };
+    let mut made = Made::Once;
+    for (dir, message) in session.messages {
+        if decider.take(*dir, message, &mut sink).is_err() {
+            made = Made::Again;
+            decider.take(*dir, message, &mut sink)?;
+        }
+    }
+    decider.finish(&mut sink);
+    sink.end()?;
+    Ok(made)
+}
+
+/// What is still to be put, by items. Whether each was the next one is kept, since a sink of items can't refuse one.
+#[derive(Drop)]
+struct AsItems {
+    messages: InOrder,
+    are_next: bool,
+}
+
+impl AsItems {
+    fn end(&self) -> Result<(), Fail> {
+        if self.are_next {
+            self.messages.end()
+        } else {
+            Err("another item than the next")?
+        }
+    }
+}
+
+impl ItemSink for AsItems {
+    ghost use Rattle.std.specs.Prelude.{⊤};
+
+    ghost takes = { λ old item new. ⊤ };
+
+    fn put(&mut self, item: Item<'_>) {
+        self.are_next = self.are_next && put_item(&mut self.messages, item).is_ok();
+    }
 }
 
 #[test]
@@ -494,15 +548,21 @@ impl MessageSink for InOrder {
 fn assert_means(meaning: &Meaning, session: Session) -> Result<(), Fail> {
     let mut sink = InOrder::new(session.ordered);
     for i in 0..meaning.len() {
-        match meaning.item(i).ok_or("an item is missing")? {
-            Item::Exchange { request, answer } => {
-                sink.put(Dir::Tester, request)?;
-                if let Some(answer) = answer {
-                    sink.put(Dir::Unit, answer)?;
-                }
-            }
-            Item::Stray { dir, bytes } => sink.put(dir, bytes)?,
-        }
+        put_item(&mut sink, meaning.item(i).ok_or("an item is missing")?)?;
     }
     sink.end()
+}
+
+/// Puts the messages of an item.
+fn put_item(sink: &mut InOrder, item: Item<'_>) -> Result<(), &'static str> {
+    match item {
+        Item::Exchange { request, answer } => {
+            sink.put(Dir::Tester, request)?;
+            if let Some(answer) = answer {
+                sink.put(Dir::Unit, answer)?;
+            }
+            Ok(())
+        }
+        Item::Stray { dir, bytes } => sink.put(dir, bytes),
+    }
 }

@@ -25,6 +25,9 @@ pub(crate) struct Session {
 
 pub(crate) const SESSIONS: [Session; 3] = [VIN, STRAY, BOTH];
 
+/// Those of which the messages alone are told, too.
+pub(crate) const OF_MESSAGES: [Session; 4] = [VIN, STRAY, BOTH, LARGE];
+
 /// A request in a single frame, and its response of 20 bytes in three.
 const VIN: Session = Session {
     name: "vin",
@@ -149,3 +152,30 @@ const FIRST_FRAME: &[u8] =
 const LAST_FRAME: &[u8] =
     b"\x21\x3E\x3F\x40\x41\x42\x43\x44\x45\x46\x47\x48\x49\x4A\x4B\x4C\x4D\x4E\x4F\x50\x51\x52\x53\x54\
     \x55\x56\x57\x58\x59\x5A\x5B\x5C\x5D\x5E\x5F\x60\x61\x62\x63\xAA\xAA\xAA\xAA\xAA\xAA\xAA\xAA\xAA";
+
+/// Messages that don't fit beside one another, and a stray that is longer than what several may share.
+const LARGE: Session = Session {
+    name: "large",
+    log: b"",
+    frames: &[],
+    messages: &[
+        (Tester, &[0x22; 900]),
+        (Unit, &[0x59; 700]),
+        (Unit, &[0x59; 5000]),
+        (Unit, &[0x62; 900]),
+        (Tester, &[0x2C; 3000]),
+        (Unit, &[0x6C; 900]),
+    ],
+    ordered: &[
+        (Tester, &[0x22; 900]),
+        (Unit, &[0x62; 900]),
+        (Unit, &[0x59; 700]),
+        (Unit, &[0x59; 5000]),
+        (Tester, &[0x2C; 3000]),
+        (Unit, &[0x6C; 900]),
+    ],
+    canonical: b"",
+    listed: b"",
+    explained: b"",
+    found: b"",
+};
