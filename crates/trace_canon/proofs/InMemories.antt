@@ -6,6 +6,7 @@ use Rattle.isotp_receive.specs.Trace.{Entry}
 use Rattle.uds_exchange.specs.Meaning.{ItemValue}
 use Rattle.trace_canon.specs.declared.comparing.Compared.{Compared}
 use Rattle.trace_canon.specs.declared.comparing.Comparison.{Comparison}
+use Rattle.trace_canon.specs.declared.counted.CountedComparison.{CountedComparison}
 use Rattle.trace_log.specs.declared.fault.CompareFault.{CompareFault}
 use Rattle.trace_log.specs.declared.fault.CompareFault.TheVariants.{Left, Right}
 use Rattle.trace_canon.specs.Compared.{Compares, fault_in}
@@ -18,7 +19,7 @@ use Rattle.trace_log.specs.declared.summary.Summary.{Summary}
 use Rattle.trace_log.specs.Answers.{Answers, TellsOutcome}
 use Rattle.trace_canon.specs.Sessions.{GivesMeaning}
 use Rattle.trace_log.specs.Failing.{FailedIf}
-use Rattle.trace_canon.specs.InMemory.{IsOfMemory, HasBytes, IsRefused, IsUnread, IsCanonicalLogWith, IsToldWith, NeedsMemoryForCanonicalLog, NeedsMemoryForPlacing, MeansInMemory, ComparesInMemory, fault_in_memory}
+use Rattle.trace_canon.specs.InMemory.{IsOfMemory, HasBytes, IsRefused, IsUnread, IsCanonicalLogWith, IsToldWith, NeedsMemoryForCanonicalLog, NeedsMemoryForPlacing, MeansInMemory, ComparesInMemory, ComparesWithCounts, counts_of, fault_in_memory}
 use Rattle.trace_log.specs.CanonicalLog.{canonical_log_of_lines}
 use Rattle.trace_log.specs.Outcome.{Accepted, IsOutcome}
 use Rattle.trace_canon.specs.Keeping.{HasTextOf, NeedsMemoryToCollect, NeedsMemoryToOrder}
@@ -135,17 +136,17 @@ told_some word limit settings log given old new (inl (wrote, inr ends)) = record
 told_some word limit settings log given old new (inr refuses) = absurd (omega (arith, refuses.some))
 
 -- a text that is told as the log comes, by a script that is not strict
-pub told_in_memory : (word : List Entry → Entry → List ℕ) (last : List Entry → Summary → List ℕ) (NeedsMemory : ℕ → Settings → List ℕ → Type 0) (limit : ℕ) (settings : Settings) (log : List ℕ) (given : ℕ)
+pub told_in_memory : (word : List Entry → Entry → List ℕ) (last : List Entry → Summary → List ℕ) (stop : List Entry → Summary → Fault → List ℕ) (NeedsMemory : ℕ → Settings → List ℕ → Type 0) (limit : ℕ) (settings : Settings) (log : List ℕ) (given : ℕ)
     (answer : Result Summary Fault) (old taken held : List ℕ) → old ≡ [] → taken ≡ held → FailedIf Read answer 0 0 → (answer ≡ Err Memory → NeedsMemory limit settings log)
-    → (FailsToTell (lenient word last tells_nothing) limit settings log given old taken → NeedsMemory limit settings log)
-    → AnswersTold (lenient word last tells_nothing) answers_counts limit settings log given answer old taken
-    → MatchResult answer (λ summary. IsToldWith (lenient word last tells_nothing) limit settings log held summary) (λ fault. IsUnread NeedsMemory limit settings log (fault_in_memory fault))
-told_in_memory word last NeedsMemory limit settings log given (Ok summary) old taken held old_is held_is failed refused unwritten (whole, meanings, read, counted, wrote) =
-    (meanings, read, cc counted, sym held_is ∙ wrote ∙ ap (λ xs. xs ++ whole_of_lines (lenient word last tells_nothing) limit settings log meanings) old_is)
-told_in_memory word last NeedsMemory limit settings log given (Err fault) old taken held old_is held_is failed refused unwritten is =
-    known (IsUnreadFor false limit settings log) (NeedsMemory limit settings log) fault tt (unread_for word last tells_nothing limit settings log given fault old taken is)
+    → (FailsToTell (lenient word last stop) limit settings log given old taken → NeedsMemory limit settings log)
+    → AnswersTold (lenient word last stop) answers_counts limit settings log given answer old taken
+    → MatchResult answer (λ summary. IsToldWith (lenient word last stop) limit settings log held summary) (λ fault. IsUnread NeedsMemory limit settings log (fault_in_memory fault))
+told_in_memory word last stop NeedsMemory limit settings log given (Ok summary) old taken held old_is held_is failed refused unwritten (whole, meanings, read, counted, wrote) =
+    (meanings, read, cc counted, sym held_is ∙ wrote ∙ ap (λ xs. xs ++ whole_of_lines (lenient word last stop) limit settings log meanings) old_is)
+told_in_memory word last stop NeedsMemory limit settings log given (Err fault) old taken held old_is held_is failed refused unwritten is =
+    known (IsUnreadFor false limit settings log) (NeedsMemory limit settings log) fault tt (unread_for word last stop limit settings log given fault old taken is)
     (λ read. reads_well failed (ap Err read)) (λ why. refused (ap Err why))
-    (λ why. unwritten (subst (λ (f : Fault). AnswersTold (lenient word last tells_nothing) answers_counts limit settings log given (Err f) old taken) why is))
+    (λ why. unwritten (subst (λ (f : Fault). AnswersTold (lenient word last stop) answers_counts limit settings log given (Err f) old taken) why is))
 
 -- the lines of messages
 pub placed_in_memory : (notation : Notation) (limit : ℕ) (settings : Settings) (log : List ℕ) (given : ℕ) (old new : List ℕ)
@@ -158,17 +159,27 @@ meaning_in_memory limit settings log (Ok items) failed written refused is = is
 meaning_in_memory limit settings log (Err fault) failed written refused is =
     (is, record { no_read = λ read. reads_well failed (ap Err read); no_write = written; memory = λ why. refused (ap Err why) })
 
--- what is answered of two logs in memory: how they compare, or the fault
-abbrev pub comparison_in : Result Compared CompareFault → Result Comparison CompareFault
-comparison_in (Ok compared) = Ok compared.comparison
-comparison_in (Err fault) = Err fault
+-- what is answered of two logs in memory: how they compare, and their counts, or the fault
+abbrev pub counted_in : Result Compared CompareFault → Result CountedComparison CompareFault
+counted_in (Ok compared) = Ok (counts_of compared)
+counted_in (Err fault) = Err fault
 
 pub comparison_in_memory : (limit : ℕ) (settings : Settings) (one other : List ℕ) (answer : Result Compared CompareFault)
     → FailedIf (Left Read) answer 0 0 → FailedIf (Right Read) answer 0 0 → IfErr answer (λ fault. fault_in fault ≢ Write)
     → (answer ≡ Err (Left Memory) → NeedsMemoryToCollect limit settings one) → (answer ≡ Err (Right Memory) → NeedsMemoryToCollect limit settings other)
-    → Compares limit settings one other answer → ComparesInMemory limit settings one other (comparison_in answer)
+    → Compares limit settings one other answer → ComparesWithCounts limit settings one other (counted_in answer)
 comparison_in_memory limit settings one other (Ok compared) left right written left_refused right_refused is = (compared, is, refl)
 comparison_in_memory limit settings one other (Err (Left fault)) left right written left_refused right_refused is =
     (is, record { no_read = λ read. reads_well left (ap (λ f. Err (Left f)) read); no_write = written; memory = λ why. left_refused (ap (λ f. Err (Left f)) why) })
 comparison_in_memory limit settings one other (Err (Right fault)) left right written left_refused right_refused is =
     (is, record { no_read = λ read. reads_well right (ap (λ f. Err (Right f)) read); no_write = written; memory = λ why. right_refused (ap (λ f. Err (Right f)) why) })
+
+-- the same without the counts
+abbrev pub comparison_in : Result CountedComparison CompareFault → Result Comparison CompareFault
+comparison_in (Ok counted) = Ok counted.comparison
+comparison_in (Err fault) = Err fault
+
+pub comparison_alone : (limit : ℕ) (settings : Settings) (one other : List ℕ) (answer : Result CountedComparison CompareFault)
+    → ComparesWithCounts limit settings one other answer → ComparesInMemory limit settings one other (comparison_in answer)
+comparison_alone limit settings one other (Ok counted) (compared, is, counts) = (compared, is, ap (λ c. c.comparison) (sym counts))
+comparison_alone limit settings one other (Err fault) is = is

@@ -4,6 +4,7 @@ use Rattle.can_log.specs.declared.frame.Stamped.{Stamped}
 use Rattle.uds_exchange.specs.Meaning.{ItemValue}
 use Rattle.trace_canon.specs.declared.comparing.Compared.{Compared}
 use Rattle.trace_canon.specs.declared.comparing.Comparison.{Comparison}
+use Rattle.trace_canon.specs.declared.counted.CountedComparison.{CountedComparison}
 use Rattle.trace_log.specs.declared.fault.CompareFault.{CompareFault}
 use Rattle.trace_log.specs.declared.fault.CompareFault.TheVariants.{Left, Right}
 use Rattle.trace_log.specs.declared.fault.Fault.{Fault}
@@ -109,6 +110,16 @@ MeansInMemory limit settings log (Err fault) = IsRefused NeedsMemoryToCollect li
 abbrev pub NeedsMemoryOnSide : ℕ → Settings → List ℕ → List ℕ → CompareFault → Type 0
 NeedsMemoryOnSide limit settings one other (Left fault) = NeedsMemoryToCollect limit settings one
 NeedsMemoryOnSide limit settings one other (Right fault) = NeedsMemoryToCollect limit settings other
+
+-- what two logs are to each other, and the counts of each, without what they mean
+abbrev pub counts_of : Compared → CountedComparison
+counts_of compared = record { comparison = compared.comparison; left = compared.left.summary; right = compared.right.summary }
+
+-- how the meanings of the two logs compare, with the counts of each; or why one has none
+abbrev pub ComparesWithCounts : ℕ → Settings → List ℕ → List ℕ → Result CountedComparison CompareFault → Type 0
+ComparesWithCounts limit settings one other (Ok counted) = (compared : Compared) × Compares limit settings one other (Ok compared) × (counted ≡ counts_of compared)
+ComparesWithCounts limit settings one other (Err fault) =
+    Compares limit settings one other (Err fault) × IsOfMemory (NeedsMemoryOnSide limit settings one other fault) (fault_in fault)
 
 -- how the meanings of the two logs compare, or why one has none
 abbrev pub ComparesInMemory : ℕ → Settings → List ℕ → List ℕ → Result Comparison CompareFault → Type 0

@@ -1,8 +1,10 @@
 //! The texts that logs in memory are answered with, and the counts of the log beside each. No device is asked.
 ghost use Rattle.std.specs.Prelude.{◌≡◌, Ok, Err, MatchResult};
 ghost use Rattle.isotp_receive.specs.declared.TheConstants.{MESSAGE_LIMIT};
-ghost use Rattle.trace_canon.specs.InMemory.{IsCanonicalLogWith, IsExplanationWith, IsFindingWith, IsListWith, IsPlacingWith, IsRefused, IsUnread, NeedsMemoryForCanonicalLog, NeedsMemoryForExplanation, NeedsMemoryForFinding, NeedsMemoryForList, NeedsMemoryForPlacing, fault_in_memory};
+ghost use Rattle.trace_canon.specs.InMemory.{ComparesWithCounts, IsCanonicalLogWith, IsExplanationWith, IsFindingWith, IsListWith, IsPlacingWith, IsRefused, IsUnread, NeedsMemoryForCanonicalLog, NeedsMemoryForExplanation, NeedsMemoryForFinding, NeedsMemoryForList, NeedsMemoryForPlacing, fault_in_memory};
+ghost use Rattle.trace_canon.specs.InMemory as Spec;
 
+use crate::comparing::{Compared, Comparison, compare};
 use crate::explainer::explain;
 use crate::finding::find;
 use crate::lister::list;
@@ -10,7 +12,7 @@ use crate::normaliser::normalise;
 use crate::placer::messages;
 use std::alloc::Global;
 use trace_io::{Bytes, Writing};
-use trace_log::{Config, Fault, Summary};
+use trace_log::{CompareFault, Config, Fault, Summary};
 use trace_text::{ItemStyle, Notation};
 
 /// A text about a log, and the counts of the log.
@@ -18,6 +20,14 @@ use trace_text::{ItemStyle, Notation};
 pub struct CountedText {
     pub text: Vec<u8>,
     pub summary: Summary,
+}
+
+/// What two logs are to each other, and the counts of each.
+#[derive(Clone, Copy, Debug, PartialEq, Eq)]
+pub struct CountedComparison {
+    pub comparison: Comparison,
+    pub left: Summary,
+    pub right: Summary,
 }
 
 /// The canonical log of a log, as [`normalise`](crate::normalise) writes it.
@@ -85,8 +95,34 @@ pub fn pair_lines(
     counted(answer, writer.into_inner())
 }
 
-/// The text that was gathered with its counts, where all is well.
-fn counted(answer: Result<Summary, Fault>, text: Vec<u8>) -> Result<CountedText, Fault>
+/// What two logs are to each other, as [`compare`](crate::compare) answers it.
+pub fn comparison(
+    alloc: Global,
+    config: &Config,
+    left: &[u8],
+    right: &[u8],
+) -> Result<CountedComparison, CompareFault>
+    ensures { ComparesWithCounts MESSAGE_LIMIT config.now left.now right.now result }
+{
+    match compare(alloc, config, &mut Bytes::new(left), &mut Bytes::new(right)) {
+        Ok(compared) => Ok(counts_of(&compared)),
+        Err(fault) => Err(fault),
+    }
+}
+
+/// What two logs are to each other, without what they mean.
+fn counts_of(compared: &Compared) -> CountedComparison
+    ensures { result ≡ Spec.counts_of compared.now }
+{
+    CountedComparison {
+        comparison: compared.comparison,
+        left: compared.left.summary,
+        right: compared.right.summary,
+    }
+}
+
+/// The text that was gathered with its counts, where all is well: where a write failed, memory was refused.
+pub fn counted(answer: Result<Summary, Fault>, text: Vec<u8>) -> Result<CountedText, Fault>
     ensures { MatchResult answer (λ summary. result ≡ Ok (record { text = text; summary = summary })) (λ fault. result ≡ Err (fault_in_memory fault)) }
 {
     match answer {

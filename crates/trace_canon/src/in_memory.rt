@@ -5,7 +5,7 @@ ghost use Rattle.isotp_receive.specs.declared.TheConstants.{MESSAGE_LIMIT};
 ghost use Rattle.trace_canon.specs.InMemory.{ComparesInMemory, IsCanonicalLogWith, IsExplanationWith, IsListWith, IsPlacingWith, IsRefused, IsText, IsUnread, MeansInMemory, NeedsMemoryForCanonicalLog, NeedsMemoryForExplanation, NeedsMemoryForList, NeedsMemoryForPlacing};
 
 use crate::collector::meaning_of;
-use crate::comparing::{Comparison, compare};
+use crate::comparing::Comparison;
 use crate::counted;
 use std::alloc::Global;
 use trace_io::Bytes;
@@ -72,8 +72,8 @@ pub fn comparison(
 ) -> Result<Comparison, CompareFault>
     ensures { ComparesInMemory MESSAGE_LIMIT config.now left.now right.now result }
 {
-    match compare(alloc, config, &mut Bytes::new(left), &mut Bytes::new(right)) {
-        Ok(compared) => Ok(compared.comparison),
+    match counted::comparison(alloc, config, left, right) {
+        Ok(counted) => Ok(counted.comparison),
         Err(fault) => Err(fault),
     }
 }

@@ -22,3 +22,4 @@ mod LineOrder
 mod RowTargets
 mod Identifiers
 pub mod Harmless
+mod PagesInMemory

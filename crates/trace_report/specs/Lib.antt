@@ -20,5 +20,6 @@ pub mod Difference
 pub mod Session
 pub mod Held
 pub mod PairPage
+pub mod InMemory
 pub mod Laws
 pub mod proving

@@ -26,6 +26,8 @@
 //! pair (`pairs`) is the difference that the page tells (`pair_verdict`) and shows by the rows around it
 //! (`difference`), with a mark at the byte (`marks`). The items before and behind it are rows of a table (`item_rows`,
 //! `pair_items`).
+//!
+//! [`in_memory`] answers of logs in memory with their page and the counts.
 #![tactic(auto)]
 
 mod blocks;
@@ -42,6 +44,7 @@ mod front;
 mod held_session;
 mod help;
 mod holder;
+pub mod in_memory;
 mod item_rows;
 mod items;
 pub mod laws;

@@ -1,25 +1,15 @@
 use Rattle.std.proofs.Common.{subst}
 use Rattle.isotp_receive.specs.declared.TheConstants.{MESSAGE_LIMIT}
 use Rattle.trace_canon.specs.InMemory.{ComparesInMemory}
-use Rattle.trace_canon.proofs.InMemories.{agrees_in_memory, comparison_in, comparison_in_memory}
+use Rattle.trace_canon.proofs.InMemories.{comparison_alone, comparison_in}
 use Rattle.trace_canon.proofs.in_memory.comparison.Goals as goal
 
 pub returns-in-Ok : goal.returns-in-Ok
 returns-in-Ok c =
-    let ran = c.compare.ensures in
-    let left = agrees_in_memory c.args.left.now c.new.result c.compare.new.left c.new.ensures ran.left_read.gave ran.left_read.ended in
-    let right = agrees_in_memory c.args.right.now c.new-2.result c.compare.new.right c.new-2.ensures ran.right_read.gave ran.right_read.ended in
     subst (λ answer. ComparesInMemory MESSAGE_LIMIT c.args.config.now c.args.left.now c.args.right.now (comparison_in answer)) c.in-Ok.is
-    (comparison_in_memory MESSAGE_LIMIT c.args.config.now c.args.left.now c.args.right.now c.compare.result ran.left_read.failed ran.right_read.failed ran.never_write
-    (ran.left_memory c.args.left.now left) (ran.right_memory c.args.right.now right)
-    (ran.answer c.args.left.now c.args.right.now left right))
+    (comparison_alone MESSAGE_LIMIT c.args.config.now c.args.left.now c.args.right.now c.comparison.result c.comparison.ensures)
 
 pub returns-in-Err : goal.returns-in-Err
 returns-in-Err c =
-    let ran = c.compare.ensures in
-    let left = agrees_in_memory c.args.left.now c.new.result c.compare.new.left c.new.ensures ran.left_read.gave ran.left_read.ended in
-    let right = agrees_in_memory c.args.right.now c.new-2.result c.compare.new.right c.new-2.ensures ran.right_read.gave ran.right_read.ended in
     subst (λ answer. ComparesInMemory MESSAGE_LIMIT c.args.config.now c.args.left.now c.args.right.now (comparison_in answer)) c.in-Err.is
-    (comparison_in_memory MESSAGE_LIMIT c.args.config.now c.args.left.now c.args.right.now c.compare.result ran.left_read.failed ran.right_read.failed ran.never_write
-    (ran.left_memory c.args.left.now left) (ran.right_memory c.args.right.now right)
-    (ran.answer c.args.left.now c.args.right.now left right))
+    (comparison_alone MESSAGE_LIMIT c.args.config.now c.args.left.now c.args.right.now c.comparison.result c.comparison.ensures)
