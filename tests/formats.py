@@ -666,7 +666,7 @@ class Package(unittest.TestCase):
             self.assertRegex(str(found), rf"^right: {re.escape(str(cut))}: byte \d+: the file ends")
             sample = Path(folder, "sample.asc")
             sample.write_bytes(samples.ASC.encode("latin-1"))
-            with self.assertWarnsRegex(udsnorm.LeftOut, "left out: other events 3") as warned:
+            with self.assertWarnsRegex(udsnorm.LeftOut, "left out: other events 5") as warned:
                 udsnorm.items(sample)
             self.assertEqual(warned.filename, __file__)
             with self.assertRaisesRegex(udsnorm.Refused, "log longer than the limit$"):

@@ -3,10 +3,11 @@
     python3 -m udsnorm COMMAND ...           a command of the program; python3 -m udsnorm --help tells them
     python3 -m udsnorm convert FILE [LOG]    the candump log of a file, on standard output where no LOG is named
 
-A file may be a candump log, also packed (.gz, .xz, .bz2), what candump writes for the screen, ASC, BLF, TRC, CSV of
-SavvyCAN or of python-can, pcap or pcapng; with python-can, MF4 or a database of its own. Frames that are left out are
-counted on standard error. The status is that of the program: 3 also where a file ends in the middle or can't be
-explained, 2 also where a library is missing.
+A file may be a candump log, also packed (.gz, .xz, .bz2) or with days or nanoseconds, what candump writes for the
+screen, ASC, BLF, TRC, CSV of SavvyCAN or of python-can, pcap or pcapng; with python-can, MF4 or a database of its own.
+So may standard input. Frames that are left out are counted on standard error. The status is that of the program: 3 also
+where a file ends in the middle or can't be explained, 4 where there is no room for what is converted, 2 also where a
+library is missing.
 """
 
 from __future__ import annotations
