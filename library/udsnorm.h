@@ -27,7 +27,7 @@ extern "C" {
 #define UDSNORM_VERSION ((UDSNORM_VERSION_MAJOR << 16) | (UDSNORM_VERSION_MINOR << 8) | UDSNORM_VERSION_PATCH)
 
 /* The identifiers and the limit that the program has where none are given: tester 7E0, unit 7E8, 2^30 bytes. (For
- * `messages`, which keeps less, the program has the largest limit, 2^40.) */
+ * `messages` and `report` the program has the largest limit, 2^40.) */
 #define UDSNORM_TESTER UINT32_C(0x7E0)
 #define UDSNORM_UNIT UINT32_C(0x7E8)
 #define UDSNORM_LIMIT (UINT64_C(1) << 30)
@@ -65,10 +65,12 @@ struct udsnorm_answer {
     uint64_t line;      /* UDSNORM_BAD_LINE, UDSNORM_OVERSIZE: the line of the log, from 1 */
     uint64_t announced; /* UDSNORM_OVERSIZE: bytes */
     uint64_t length;    /* UDSNORM_DONE, UDSNORM_ROOM: the bytes of the text */
-    uint64_t item;      /* of udsnorm_compare, UDSNORM_DONE: the first item that differs, from 1; 0: none does */
-    uint32_t side;      /* of udsnorm_compare, any fault of a log: 1 the left one, 2 the right one */
-    uint32_t reserved;  /* 0 */
-    /* UDSNORM_DONE, UDSNORM_ROOM, but of udsnorm_compare: the counts of the log. */
+    uint64_t item;      /* of two logs, UDSNORM_DONE, UDSNORM_ROOM: the first item that differs, from 1; 0: none does */
+    uint32_t side;      /* of two logs, any fault of a log: 1 the left one, 2 the right one */
+    uint32_t clean;     /* UDSNORM_DONE, UDSNORM_ROOM, but of udsnorm_find: 1 where the log is clean, or both are, which
+                           the program asks with --strict: it has a frame of the tester and one of the unit, nothing
+                           was dropped, ended or unfinished, and its last byte is a line feed. Else 0. */
+    /* UDSNORM_DONE, UDSNORM_ROOM, but of two logs: the counts of the log. */
     uint64_t lines;      /* its lines, blank and foreign ones included */
     uint64_t frames;     /* the frames with the identifier of the tester or the unit */
     uint64_t messages;   /* the messages that were received whole */
@@ -78,7 +80,7 @@ struct udsnorm_answer {
     uint64_t pending;    /* the responses that only announce a later one, which the canonical log leaves out */
 };
 
-/* All calls but udsnorm_version take these, but that udsnorm_find has no tester and no unit:
+/* All calls that take a log take these, but that udsnorm_find has no tester and no unit:
  *
  *   tester, unit   the identifiers of the frames that the tester and the unit send, as canid_t has them: 0 to 7FF, or
  *                  UDSNORM_EXTENDED with 0 to 1FFFFFFF. They have to be different.
@@ -88,16 +90,17 @@ struct udsnorm_answer {
  *                  stay the caller's. With a length of 0 any pointer is allowed, also a null pointer.
  *   answer         where the answer goes. It is not null, and nothing else uses it during the call.
  *
- * and all but udsnorm_compare:
+ * and all but udsnorm_compare, which has no text:
  *
  *   out, room      memory of the caller for the text: that many bytes may be written at `out`, and nothing else uses
- *                  them during the call. They lie apart from the log and the answer. With a room of 0 any pointer is
- *                  allowed.
+ *                  them during the call. They lie apart from the logs, their names and the answer. With a room of 0
+ *                  any pointer is allowed.
  *
  * They return the status. With UDSNORM_DONE the text is the first answer->length bytes of `out`, with no 0 behind it,
  * and the bytes behind it are as they were. With every other status all of `out` is as it was. Where the room was too
  * small, the status is UDSNORM_ROOM, and answer->length says how much is wanted. A room of 4 * length + 512 bytes is
- * enough for each text, and one of 8 * length + 512 for objects of JSON, of logs with up to 10^11 lines.
+ * enough for each text, and one of 8 * length + 512 for objects of JSON, of logs with up to 10^11 lines. A page is
+ * longer: ask with a room of 0 for its length, or again with that where there was too little room.
  *
  * A length is at most PTRDIFF_MAX. No call is made from a signal handler, or from the forked child of a process with
  * threads. 64 KiB of stack are enough for a call. Memory comes from malloc and realloc and goes back to free, which
@@ -134,6 +137,30 @@ uint32_t udsnorm_find(uint64_t limit, uint32_t style, const uint8_t *log, size_t
  * the same bytes. Every status but UDSNORM_ROOM and UDSNORM_STYLE. */
 uint32_t udsnorm_compare(uint32_t tester, uint32_t unit, uint64_t limit, const uint8_t *left, size_t left_length,
                          const uint8_t *right, size_t right_length, struct udsnorm_answer *answer);
+
+/* The page of a log: a file of HTML that shows the session and says whether the recording is clean. `name` is what the
+ * page calls the log, of `name_length` bytes; a byte that is no printable ASCII is shown by its number. The style is the
+ * program's. Of a log that is refused there is no page, where the program writes one of the lines before.
+ * Every status but UDSNORM_OVERSIZE, UDSNORM_OUTPUT_LIMIT and UDSNORM_STYLE. */
+uint32_t udsnorm_report(uint32_t tester, uint32_t unit, uint64_t limit, const char *name, size_t name_length,
+                        const uint8_t *log, size_t length, uint8_t *out, size_t room, struct udsnorm_answer *answer);
+
+/* The page of two logs: whether they are the same session, and where they differ first. answer->item is the number of
+ * the first item that differs, and 0 where none does: so it is what udsnorm_compare answers, if that accepts both. The
+ * right log is read only where the left one can be read. All of them may lie in the same bytes. UDSNORM_MEMORY with a
+ * side of 0: memory for the page was refused. Every status but UDSNORM_OVERSIZE, UDSNORM_OUTPUT_LIMIT and
+ * UDSNORM_STYLE. */
+uint32_t udsnorm_report_pair(uint32_t tester, uint32_t unit, uint64_t limit, const char *left_name,
+                             size_t left_name_length, const uint8_t *left, size_t left_length, const char *right_name,
+                             size_t right_name_length, const uint8_t *right, size_t right_length, uint8_t *out,
+                             size_t room, struct udsnorm_answer *answer);
+
+/* What a status means, in a few words. `text` ends with a 0; it comes by value, so nobody owns it. Of a number that is no
+ * status it is "no such status". */
+struct udsnorm_words {
+    char text[48];
+};
+struct udsnorm_words udsnorm_status_text(uint32_t status);
 
 /* The version of the library, as UDSNORM_VERSION is made. */
 uint32_t udsnorm_version(void);

@@ -12,15 +12,18 @@ TOP = Path(__file__).resolve().parent.parent
 CRATE = TOP / "crates" / "udsnorm_c" / "src"
 HEADER = TOP / "library" / "udsnorm.h"
 
-# How C writes the type of a parameter. A slice is a pointer and a length; the allocator takes no bytes.
+# How C writes the type of a parameter. A slice is a pointer and a length, of signs where it is the name of a log; the allocator
+# takes no bytes.
 IN_C = {
     "Global": [],
     "u32": ["uint32_t"],
     "u64": ["uint64_t"],
     "&[u8]": ["const uint8_t *", "size_t"],
+    "name": ["const char *", "size_t"],
     "&mut [u8]": ["uint8_t *", "size_t"],
     "&mut UdsnormAnswer": ["struct udsnorm_answer *"],
 }
+RESULTS_IN_C = {"u32": "uint32_t", "UdsnormWords": "struct udsnorm_words"}
 SIZES = {"u32": 4, "u64": 8}
 
 # The names that the header gives to the styles of the crate, and to constants of it.
@@ -55,11 +58,16 @@ def fields():
 
 
 def calls():
-    """The calls of the crate: their names, and the types of their parameters as C writes them."""
+    """The calls of the crate: their names, and the types of their results and of their parameters as C writes them."""
     source = (CRATE / "lib.rt").read_text()
-    for name, parameters in re.findall(r'#\[unsafe\(no_mangle\)\]\npub extern "C" fn (\w+)\(([^)]*)\) -> u32\b', source):
-        types = [part.split(":", 1)[1].strip() for part in parameters.split(",") if ":" in part]
-        yield name, [c for of in types for c in IN_C[of]]
+    for name, parameters, result in re.findall(r'#\[unsafe\(no_mangle\)\]\npub extern "C" fn (\w+)\(([^)]*)\) -> (\w+)\b', source):
+        typed = [[word.strip() for word in part.split(":", 1)] for part in parameters.split(",") if ":" in part]
+        yield name, RESULTS_IN_C[result], [c for word, of in typed for c in IN_C["name" if word.endswith("name") else of]]
+
+
+def words_length():
+    """How many bytes the words of a status have in the crate."""
+    return int(re.search(r"const WORDS: usize = (\d+);", (CRATE / "answer.rt").read_text())[1])
 
 
 def version():
@@ -69,7 +77,7 @@ def version():
 
 def declared():
     """The calls that the header declares."""
-    return set(re.findall(r"^uint32_t (udsnorm_\w+)\(", HEADER.read_text(), re.M))
+    return set(re.findall(r"^(?:uint32_t|struct \w+) (udsnorm_\w+)\(", HEADER.read_text(), re.M))
 
 
 def beside():
@@ -86,15 +94,16 @@ def beside():
         place += SIZES[of]
     lines.append(f"SAME(size_of_the_answer, sizeof(struct udsnorm_answer), {place});")
     lines.append(f"SAME(version, UDSNORM_VERSION, {version()});")
-    for name, types in calls():
-        pointer = f"uint32_t (*const at_{name})({', '.join(types) or 'void'})"
+    lines.append(f"SAME(size_of_the_words, sizeof(struct udsnorm_words), {words_length()});")
+    for name, result, types in calls():
+        pointer = f"{result} (*const at_{name})({', '.join(types) or 'void'})"
         lines += [f"extern {pointer};", f"{pointer} = {name};"]
     return "\n".join(lines) + "\n"
 
 
 def differences():
     """What no compiler sees: calls of one side alone, values of the header that the crate has not, and the version."""
-    ours = {name for name, _ in calls()}
+    ours = {name for name, *_ in calls()}
     wrong = [f"{name} stands on one side" for name in sorted(ours ^ declared())]
     for kind, known in (("status", statuses()), ("style", styles())):
         names = re.findall(r"^    UDSNORM_(\w+) = \d+,? ", re.search(rf"enum udsnorm_{kind} \{{(.*?)\}};", HEADER.read_text(), re.S)[1], re.M)

@@ -6,7 +6,9 @@
 - the header says of statuses, styles, answer, calls and version what the crate has, for each compiler (header.py);
 - no symbol but its calls leaves the shared library, and it has its name; the static one shows no other either;
 - the examples are compiled, and do what they say;
-- over the sample logs and those of tests/rows, each call answers what the program writes and tells;
+- over the sample logs and those of tests/rows, each call answers what the program writes and tells, and whether a log is
+  clean as the program does with --strict;
+- a page shows the names that it is given, and each status has a text;
 - rooms of every size, logs and texts at the edges of pages, 16 threads, growths of memory refused in turn, the
   sanitizers: by library_calls.c, compiled by each of gcc, g++, clang and clang++ as strictly as they can;
 - random logs, 2,000 where no number is given: each goes through one of the calls, and through the program.
@@ -30,7 +32,7 @@ import differential
 import header
 import tables
 import told
-from cases import DIFFERENT, DONE, REFUSAL, Cases
+from cases import DIFFERENT, DONE, REFUSAL, UNCLEAN, Cases
 from counts import counts_in
 from runs import differences, files, run
 
@@ -64,6 +66,7 @@ JOBS = {
     "explain objects": ["explain", "--json"],
     "find": ["find"],
     "find objects": ["find", "--json"],
+    "report": ["report"],
 }
 STYLES = {"unnumbered": 1, "objects": 2, "unnumbered objects": 3, "message objects": 2, "explain objects": 2, "find objects": 2}
 TABLES = [
@@ -77,6 +80,11 @@ OF_LIMITS = [
     "placed_under_limits",
 ]
 STATUSES = header.statuses()
+# The calls whose text has no style to choose.
+OF_ONE_STYLE = ("normalise", "report")
+NO_STATUSES = (max(STATUSES.values()) + 1, 255, 1 << 31, (1 << 32) - 1)
+# What a page of the program calls the log that comes by standard input.
+NAME = b"standard input"
 LIMIT = 1 << 30
 
 # A log with the identifiers of its sides, as canid_t has them, and a limit.
@@ -87,6 +95,12 @@ class Answer(ctypes.Structure):
     """The answer of a call, by the crate's source."""
 
     _fields_ = [(name, {"u32": ctypes.c_uint32, "u64": ctypes.c_uint64}[of]) for name, of in header.fields()]
+
+
+class Words(ctypes.Structure):
+    """What a status means: a text with a 0 behind it."""
+
+    _fields_ = [("text", ctypes.c_char * header.words_length())]
 
 
 # The counts that an answer has, which are its last fields.
@@ -141,7 +155,7 @@ def headers(cases, folder, compilers):
 
 
 def symbols(cases, library):
-    names = sorted(name for name, _ in header.calls())
+    names = sorted(name for name, *_ in header.calls())
     shared, static = library / "libudsnorm.so", library / "libudsnorm.a"
     missing = [tool for tool in ("nm", "readelf", "objcopy") if not shutil.which(tool)]
     if missing:
@@ -241,25 +255,38 @@ class Loaded:
     def text(self, job, session, room=None):
         """What a call answers, and the text, for which there is this room, or else enough."""
         call = JOBS[job][0]
-        style = [] if call == "normalise" else [ctypes.c_uint32(STYLES.get(job, 0))]
-        room, answer = (8 if "objects" in job else 4) * len(session.log) + 512 if room is None else room, Answer()
-        out = ctypes.create_string_buffer(max(room, 1))
         sides = [ctypes.c_uint32(session.tester), ctypes.c_uint32(session.unit)] if call != "find" else []
-        status = self.library[f"udsnorm_{call}"](
-            *sides, ctypes.c_uint64(session.limit), *style,
-            session.log, ctypes.c_size_t(len(session.log)), out, ctypes.c_size_t(room), ctypes.byref(answer),
-        )
+        style = [] if call in OF_ONE_STYLE else [ctypes.c_uint32(STYLES.get(job, 0))]
+        given = [*sides, ctypes.c_uint64(session.limit), *style, *(bytes_of(NAME) if call == "report" else []), *bytes_of(session.log)]
+        if room is None and call == "report":
+            room = self.put(call, given, 0)[0].length
+        return self.put(call, given, (8 if "objects" in job else 4) * len(session.log) + 512 if room is None else room)
+
+    def put(self, call, given, room):
+        """What the call of this name answers to these arguments, and the text, for which there is this room."""
+        answer, out = Answer(), ctypes.create_string_buffer(max(room, 1))
+        status = self.library[f"udsnorm_{call}"](*given, out, ctypes.c_size_t(room), ctypes.byref(answer))
         if status != answer.status:
             raise ValueError("the result is not the status")
         return answer, ctypes.string_at(out, min(answer.length, room))
+
+    def page(self, session, other, names, room=None):
+        """The same of the page of two logs with these names."""
+        sides = [ctypes.c_uint32(session.tester), ctypes.c_uint32(session.unit), ctypes.c_uint64(session.limit)]
+        given = [*sides, *bytes_of(names[0]), *bytes_of(session.log), *bytes_of(names[1]), *bytes_of(other)]
+        return self.put("report_pair", given, self.put("report_pair", given, 0)[0].length if room is None else room)
 
     def compare(self, session, other):
         answer = Answer()
         self.library.udsnorm_compare(
             ctypes.c_uint32(session.tester), ctypes.c_uint32(session.unit), ctypes.c_uint64(session.limit),
-            session.log, ctypes.c_size_t(len(session.log)), other, ctypes.c_size_t(len(other)), ctypes.byref(answer),
+            *bytes_of(session.log), *bytes_of(other), ctypes.byref(answer),
         )
         return answer
+
+
+def bytes_of(data):
+    return data, ctypes.c_size_t(len(data))
 
 
 def beside_the_program(loaded, program, job, session):
@@ -272,6 +299,12 @@ def beside_the_program(loaded, program, job, session):
     if job == "explain" and found.status == DONE:
         counts = counts_in(found.output)
         wrong += differences("the counts", {name: getattr(answer, name) for name in COUNTS}, {name: counts[name] for name in COUNTS})
+    has_sides = job not in ("find", "find objects")
+    if found.status == DONE:
+        status = run(program, [*JOBS[job], "--strict", *words_of(session)], session.log).status if has_sides else UNCLEAN
+        wrong += differences(f"clean of {job}", answer.clean, 1 if status == DONE else 0)
+    else:
+        wrong += differences(f"clean of {job}", answer.clean, 0)
     return wrong
 
 
@@ -279,12 +312,33 @@ def compared(loaded, program, session, other):
     """The same of a comparison with another log."""
     with files(session.log, other) as names:
         found = run(program, ["compare", *words_of(session), *names])
+        strict = run(program, ["compare", "--strict", *words_of(session), *names])
     answer = loaded.compare(session, other)
+    line = f"different at item {answer.item}\n".encode() if answer.item else b"same\n"
+    return beside(answer, found, strict, "compare") + differences("compare", b"" if answer.status else line, found.output)
+
+
+def paged(loaded, program, session, other):
+    """The same of the page of both."""
+    with files(session.log, other) as names:
+        found = run(program, ["report", *words_of(session), *names])
+        strict = run(program, ["report", "--strict", *words_of(session), *names])
+        answer, text = loaded.page(session, other, [name.name.encode() for name in names])
+    return beside(answer, found, strict, "report of two") + differences("the page of two", text, b"" if answer.status else found.output)
+
+
+def beside(answer, found, strict, job):
+    """What is wrong with the answer about two logs beside how the program ends over them, and how with `--strict`."""
     if answer.status:
         side = {1: b"left: ", 2: b"right: "}[answer.side]
-        return differences("compare", (REFUSAL, side + reason(answer)), (found.status, found.error))
-    want = f"different at item {answer.item}\n".encode() if answer.item else b"same\n"
-    return differences("compare", (DIFFERENT if answer.item else DONE, want), (found.status, found.output))
+        wrong = differences(job, (REFUSAL, side + reason(answer)), (found.status, found.error))
+        return wrong + differences(f"clean of {job}", answer.clean, 0)
+    wrong = differences(job, (DIFFERENT if answer.item else DONE, 0), (found.status, answer.side))
+    return wrong + differences(f"clean of {job}", answer.clean, 0 if strict.status == UNCLEAN else 1)
+
+
+# What the library calls an answer about two logs.
+OF_TWO = {"compare": compared, "report of two": paged}
 
 
 def rows(cases, loaded, program, chosen):
@@ -293,7 +347,33 @@ def rows(cases, loaded, program, chosen):
         cases.report(session.name, wrong)
     for row in tables.table("comparisons"):
         session = Session(row.name, row.side("left"), 0x7E0, 0x7E8, int((row.texts("limit") or [LIMIT])[0]))
-        cases.report(f"comparisons: {row.name}", compared(loaded, program, session, row.side("right")))
+        for call in OF_TWO.values():
+            cases.report(f"comparisons: {row.name}, {call.__name__}", call(loaded, program, session, row.side("right")))
+    vin, lost = (Session(name, (EXAMPLES / name).read_bytes(), 0x7E0, 0x7E8, LIMIT) for name in ("vin.log", "lost-frame.log"))
+    for session, other in ((vin, vin.log), (vin, lost.log), (lost, vin.log), (lost, b""), (vin, b"x"), (lost._replace(log=b"x"), b"y")):
+        for call in OF_TWO.values():
+            cases.report(f"{session.name} beside {other[:20]!r}, {call.__name__}", call(loaded, program, session, other))
+
+
+def names(cases, loaded):
+    """A page shows the names that it is given, none too, and no byte of them that means something in HTML."""
+    session = Session("", (EXAMPLES / "vin.log").read_bytes(), 0x7E0, 0x7E8, LIMIT)
+    for name, shown in ((b"", b""), (b"a b.log", b"a b.log"), (b"<b>\xff\0", b"&lt;b&gt;%FF%00")):
+        _, page = loaded.page(session, session.log, [name, b"other"])
+        cases.report(f"the name {name!r} on a page of two", [] if b"<title>" + shown + b" and other - " in page else [page[:600].decode()])
+
+
+def texts_of_statuses(cases, loaded):
+    """Each status has a text of its own, of printable ASCII, and one is for all numbers that are none."""
+    call = loaded.library.udsnorm_status_text
+    call.restype = Words
+    texts = {number: call(ctypes.c_uint32(number)).text for number in (*STATUSES.values(), *NO_STATUSES)}
+    wrong = [f"{text}" for text in texts.values() if not re.fullmatch(rb"[ -~]+", text)]
+    wrong += differences("texts", len(set(texts.values())), len(STATUSES) + 1)
+    wrong += differences("no status", {texts[number] for number in NO_STATUSES}, {b"no such status"})
+    told_words = {"BAD_LINE": told.place(1, 1).split(b": ")[1], "LOG_LIMIT": told.LONG_LOG, "OUTPUT_LIMIT": told.LONG_CANONICAL, "MEMORY": told.OUT_OF_MEMORY}
+    wrong += [text for name, words in told_words.items() for text in differences(name, texts[STATUSES[name]] + b"\n", words)]
+    cases.report("the texts of statuses", wrong)
 
 
 def settings(cases, loaded):
@@ -306,8 +386,9 @@ def settings(cases, loaded):
     ]
     for name, session in cases_of:
         jobs = [job for job in JOBS if JOBS[job][0] != "find" or not name.endswith(("ID_RANGE", "SAME_ID"))]
-        found = [loaded.text(job, session)[0].status for job in jobs] + [loaded.compare(session, b"").status]
-        cases.report(f"{name} of {session[2:]}", differences("statuses", found, [STATUSES[name]] * (len(jobs) + 1)))
+        found = [loaded.text(job, session)[0].status for job in jobs]
+        found += [loaded.compare(session, b"").status, loaded.page(session, b"", [b"", b""])[0].status]
+        cases.report(f"{name} of {session[2:]}", differences("statuses", found, [STATUSES[name]] * (len(jobs) + 2)))
     for call, styles in (("list", (4, 0x10, 0xFFFFFFFF)), ("messages", (1, 3, 0xFFFFFFFF)), ("explain", (1, 3, 0xFFFFFFFF)), ("find", (1, 3, 0xFFFFFFFF))):
         for style in styles:
             answer = Answer()
@@ -323,8 +404,9 @@ def at_random(cases, loaded, program, seed, count):
     rng = random.Random(seed)
     for log, _ in zip(differential.random_logs(seed), range(count)):
         session = Session("", log, 0x7E0, 0x7E8, differential.limit_for(rng, log))
-        job = rng.choice([*JOBS, "compare"])
-        wrong = compared(loaded, program, session, differential.mutated(rng, log)) if job == "compare" else beside_the_program(loaded, program, job, session)
+        job = rng.choice([*JOBS, *OF_TWO])
+        other = differential.mutated(rng, log) if job in OF_TWO else None
+        wrong = OF_TWO[job](loaded, program, session, other) if job in OF_TWO else beside_the_program(loaded, program, job, session)
         if wrong:
             cases.report(f"{job} {session}", wrong)
         else:
@@ -352,6 +434,8 @@ def main():
         calls_from_c(cases, Path(folder), library, compilers, chosen)
     loaded = Loaded(library / "libudsnorm.so")
     settings(cases, loaded)
+    names(cases, loaded)
+    texts_of_statuses(cases, loaded)
     rows(cases, loaded, given.program, chosen)
     at_random(cases, loaded, given.program, given.seed, given.logs)
     cases.end()

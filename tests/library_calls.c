@@ -31,8 +31,9 @@ struct session {
     size_t length;
 };
 
-/* Each text with its call, its style, and the bytes that the header says are enough for a byte of the log. */
-enum kind { NORMALISE, LIST, MESSAGES, EXPLAIN, FIND, COMPARE };
+/* Each text with its call, its style, and the bytes that the header says are enough for a byte of the log; 0 of a page,
+ * whose length is asked for. */
+enum kind { NORMALISE, LIST, MESSAGES, EXPLAIN, FIND, COMPARE, REPORT, REPORT_PAIR };
 static const struct {
     const char *name;
     enum kind kind;
@@ -50,7 +51,9 @@ static const struct {
     {"explain objects", EXPLAIN, UDSNORM_JSON, 8},
     {"find", FIND, UDSNORM_TEXT, 4},
     {"find objects", FIND, UDSNORM_JSON, 8},
-    {"compare", COMPARE, UDSNORM_TEXT, 0},
+    {"compare", COMPARE, UDSNORM_TEXT, 4},
+    {"report", REPORT, UDSNORM_TEXT, 0},
+    {"report pair", REPORT_PAIR, UDSNORM_TEXT, 0},
 };
 #define TEXTS ((int)(sizeof texts / sizeof *texts))
 
@@ -74,7 +77,7 @@ static uint8_t *memory(size_t size)
     return at;
 }
 
-/* One of the texts of a log; a comparison has none, and compares the log with itself. */
+/* One of the texts of a log; a comparison has none, and compares the log with itself, as a page of two shows it twice. */
 static uint32_t text(int call, const struct session *s, const uint8_t *log, uint8_t *out, size_t room,
                      struct udsnorm_answer *answer)
 {
@@ -86,13 +89,20 @@ static uint32_t text(int call, const struct session *s, const uint8_t *log, uint
     case MESSAGES: return udsnorm_messages(s->tester, s->unit, s->limit, style, log, s->length, out, room, answer);
     case EXPLAIN: return udsnorm_explain(s->tester, s->unit, s->limit, style, log, s->length, out, room, answer);
     case FIND: return udsnorm_find(s->limit, style, log, s->length, out, room, answer);
-    default: return udsnorm_compare(s->tester, s->unit, s->limit, log, s->length, log, s->length, answer);
+    case COMPARE: return udsnorm_compare(s->tester, s->unit, s->limit, log, s->length, log, s->length, answer);
+    case REPORT: return udsnorm_report(s->tester, s->unit, s->limit, "log", 3, log, s->length, out, room, answer);
+    default:
+        return udsnorm_report_pair(s->tester, s->unit, s->limit, "left", 4, log, s->length, NULL, 0, log, s->length, out, room, answer);
     }
 }
 
 static size_t enough(int call, const struct session *s)
 {
-    return texts[call].growth * s->length + 512;
+    struct udsnorm_answer answer;
+    if (texts[call].growth)
+        return texts[call].growth * s->length + 512;
+    text(call, s, s->log, NULL, 0, &answer);
+    return (size_t)answer.length;
 }
 
 /* A text in memory that has room for it by what the header says, and what was answered. */
@@ -120,17 +130,18 @@ static void answers(const struct session *s)
     for (call = 0; call < TEXTS; call++) {
         struct udsnorm_answer a;
         uint8_t *out = whole(call, s, &a);
-        printf("%s %u %llu %u %llu %llu %llu %llu %llu %llu %llu %llu %llu %llu %u %u\n", texts[call].name, (unsigned)a.status,
+        printf("%s %s: %llu %u %llu %llu %llu %llu %llu %llu %llu %llu %llu %llu %u %u\n", texts[call].name, udsnorm_status_text(a.status).text,
                (unsigned long long)a.line, (unsigned)a.column, (unsigned long long)a.announced, (unsigned long long)a.length,
                (unsigned long long)a.lines, (unsigned long long)a.frames, (unsigned long long)a.messages,
                (unsigned long long)a.dropped, (unsigned long long)a.ended, (unsigned long long)a.unfinished,
-               (unsigned long long)a.pending, (unsigned long long)a.item, (unsigned)a.side, (unsigned)a.reserved);
+               (unsigned long long)a.pending, (unsigned long long)a.item, (unsigned)a.side, (unsigned)a.clean);
         fwrite(out, 1, (size_t)a.length, stdout);
         free(out);
     }
 }
 
-/* With each room up to the length of the text and one more, what lies behind the room stays, and behind the text too. */
+/* With each room up to the length of the text and one more, what lies behind the room stays, and behind the text too. Of a
+ * page, which is long, with the first few and the last few. */
 static void rooms(const struct session *s)
 {
     int call;
@@ -139,6 +150,8 @@ static void rooms(const struct session *s)
         uint8_t *whole_text = whole(call, s, &want), *out = memory((size_t)want.length + 1 + GUARD);
         size_t room, size = (size_t)want.length;
         for (room = 0; room <= size + 1; room++) {
+            if (!texts[call].growth && room == 2 && size > 4)
+                room = size - 1;
             memset(out, FILLED, size + 1 + GUARD);
             text(call, s, s->log, room ? out : NULL, room, &a);
             if (want.status == UDSNORM_DONE && room >= size) {

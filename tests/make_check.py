@@ -76,7 +76,7 @@ OF_PROGRAM |= {f"tests/{test}.py": ["udsnorm: make build"] for test in ["command
 UP_TO_CANON = ["uds_message", "uds_exchange", "uds_find", "trace_log", "trace_run", "trace_text", "trace_canon"]
 APART = {
     "json_reading": UP_TO_CANON,
-    "udsnorm_c": UP_TO_CANON,
+    "udsnorm_c": [*UP_TO_CANON, "trace_report"],
     "layer_bench": ["uds_message", "uds_exchange"],
     "session_bench": [*UP_TO_CANON, "trace_report"],
     "acceptance": [*UP_TO_CANON, "trace_report"],

@@ -80,11 +80,17 @@ def paired(pair):
     return f"{pair.credits} --tester {tester} --unit {unit}"
 
 
+def told_of(refused):
+    """The line that the program tells of a log that is refused, which does not name its file."""
+    return f"{refused}\n".replace(f"{refused.file}: ", "")
+
+
 CALLS = {
     "normalise": (["normalise"], lambda log, **settings: udsnorm.normalise(log, **settings).decode()),
     "list": (["list", "--no-numbers"], lambda log, **settings: "".join(f"{listed(item)}\n" for item in udsnorm.items(log, **settings))),
     "messages": (["messages"], lambda log, **settings: "".join(f"{placed(one)}\n" for one in udsnorm.messages(log, **settings))),
     "explain": (["explain"], lambda log, **settings: udsnorm.explain(log, **settings).text),
+    "report": (["report"], lambda log, **settings: udsnorm.report(log, name="standard input", **settings).decode()),
 }
 
 
@@ -101,10 +107,14 @@ class BesideTheProgram(unittest.TestCase):
                     self.assertEqual((REFUSAL, f"{refused}\n"), (found.status, found.error.decode()))
                 else:
                     self.assertEqual((DONE, text), (found.status, found.output.decode()))
+                    if name == "explain":
+                        status = run(given.program, [*command, "--strict", *words], log).status
+                        self.assertEqual(udsnorm.explain(log, **settings).counts.clean, status == DONE)
 
     def same_difference(self, left, right, settings, words):
         with files(left, right) as names:
             found = run(given.program, ["compare", *words, *names])
+            self.same_page(names, (left, right), settings, words)
         try:
             difference = udsnorm.compare(left, right, **settings)
         except udsnorm.Refused as refused:
@@ -114,6 +124,16 @@ class BesideTheProgram(unittest.TestCase):
         self.assertEqual((DIFFERENT if difference else DONE, want), (found.status, found.output.decode()))
         if difference:
             self.assertNotEqual(difference.left, difference.right)
+
+    def same_page(self, names, logs, settings, words):
+        """The page of both, of files and of bytes."""
+        found = run(given.program, ["report", *words, *names])
+        try:
+            pages = [udsnorm.report_pair(*names, **settings), udsnorm.report_pair(*logs, names=("left.log", "right.log"), **settings)]
+        except udsnorm.Refused as refused:
+            self.assertEqual((REFUSAL, told_of(refused)), (found.status, found.error.decode()))
+        else:
+            self.assertEqual(pages, [found.output] * 2)
 
     def test_samples(self):
         for path in sorted(EXAMPLES.glob("*.log")):
@@ -204,25 +224,107 @@ def spanned(found):
     return found.first_line, found.last_line, found.begin, found.end
 
 
+class Pages(unittest.TestCase):
+    """`report`, `report_pair` and what they call the logs."""
+
+    def test_names(self):
+        """Those of the files, as the program shows them, or as they are told."""
+        with tempfile.TemporaryDirectory() as folder:
+            one, other, named = (Path(folder, name) for name in ("one/a.log", "other/a.log", "b <é>.log"))
+            for path in (one, other, named):
+                path.parent.mkdir(exist_ok=True)
+                path.write_bytes(VIN.read_bytes())
+            self.assertEqual(udsnorm.report(str(one)), run(given.program, ["report", one]).output)
+            for pair in ((one, other), (one, named), (named, one)):
+                self.assertEqual(udsnorm.report_pair(*pair), run(given.program, ["report", *pair]).output)
+            self.assertIn(b"<title>b &lt;%C3%A9&gt;.log - ", udsnorm.report(named))
+        log = VIN.read_bytes()
+        for page, title in (
+            (udsnorm.report(log), b"log"), (udsnorm.report(log, name="x&y"), b"x&amp;y"), (udsnorm.report(log, name=""), b""),
+            (udsnorm.report_pair(log, log), b"left and right"), (udsnorm.report_pair(VIN, log, names=("a", "")), b"a and "),
+        ):
+            self.assertIn(b"<title>" + title + b" - udsnorm report</title>", page)
+
+    def test_pages_longer_than_their_first_room(self):
+        """What a page wants is answered, and then there is room for it; at first enough, also for the worst rows."""
+        log = b"".join(b"(%d.000000) a 7E8#10\n" % at for at in range(20_000))
+        pages = [udsnorm.report(log), udsnorm.report_pair(log, log)]
+        with unittest.mock.patch.multiple(udsnorm._library, _OF_A_PAGE=1, _OF_ITS_LOGS=0):
+            self.assertEqual([udsnorm.report(log), udsnorm.report_pair(log, log)], pages)
+        self.assertEqual(udsnorm.report(log, name="standard input"), run(given.program, ["report"], log).output)
+
+    def test_refused(self):
+        """A log that has a page of the program alone, since it is refused; and one that no other call takes."""
+        for call, logs in ((udsnorm.report, [b"x"]), (udsnorm.report_pair, [VIN, b"x"]), (udsnorm.report_pair, [b"x", b"y"])):
+            with self.assertRaises(udsnorm.Refused) as caught:
+                call(*logs)
+            side = None if len(logs) == 1 else "left" if logs[0] == b"x" else "right"
+            self.assertEqual((caught.exception.reason, caught.exception.side, caught.exception.line), ("bad line", side, 1))
+        announced = b"(0.000000) a 7E0#1000FFFFFFFF0000\n"
+        self.assertIn(b"</html>", udsnorm.report(announced))
+        self.assertIn(b"</html>", udsnorm.report_pair(announced, announced))
+
+    def test_words_of_statuses(self):
+        """Each status of the header has words of its own."""
+        numbers = [int(number) for number in re.findall(r"^    UDSNORM_\w+ = (\d+),? +/\*", (TOP / "library" / "udsnorm.h").read_text(), re.M)]
+        statuses = range(max(numbers) + 1)
+        words = [udsnorm._library.status_text(status) for status in statuses]
+        self.assertEqual(len(set(words)), len(statuses))
+        self.assertNotIn("no such status", words)
+        self.assertEqual([udsnorm._library.status_text(number) for number in (len(words), (1 << 32) - 1)], ["no such status"] * 2)
+
+
 class Assertions(unittest.TestCase):
     """`udsnorm.testing`, and its pages."""
+
+    def told(self, *logs, **words):
+        """The lines of the error."""
+        with self.assertRaises(AssertionError) as caught:
+            testing.assert_same_session(*logs, **words)
+        self.assertIsNone(caught.exception.__cause__ or caught.exception.__context__)
+        return str(caught.exception).splitlines()
+
+    def test_page(self):
+        """It is the program's, and there is none where the sessions are the same."""
+        with tempfile.TemporaryDirectory() as folder:
+            page, other = Path(folder, "page.html"), EXAMPLES / "lost-frame.log"
+            testing.assert_same_session(VIN, VIN, page=page)
+            self.assertFalse(page.exists())
+            self.assertEqual(self.told(VIN, other, page=page)[-1], f"both logs on a page: {page}")
+            self.assertEqual(page.read_bytes(), run(given.program, ["report", VIN, other]).output)
 
     def test_page_that_cannot_be_written(self):
         """The difference is told all the same, and why there is no page."""
         other = EXAMPLES / "lost-frame.log"
-        path = f"{Path(given.program).parent}:{os.environ['PATH']}"
-        with tempfile.TemporaryDirectory() as folder, unittest.mock.patch.dict(os.environ, PATH=path):
-            for page in (folder, f"{folder}/none/page.html", f"{VIN}/page.html", f"{folder}/{'a' * 300}"):
+        with tempfile.TemporaryDirectory() as folder:
+            for page in (folder, f"{folder}/none/page.html", f"{VIN}/page.html", f"{folder}/{'a' * 300}", "/dev/full"):
                 try:
-                    Path(page).write_bytes(b"")
+                    Path(page).write_bytes(b"x")
                 except OSError as error:
                     why = error.strerror
-                with self.subTest(page=page), self.assertRaises(AssertionError) as caught:
-                    testing.assert_same_session(VIN, other, page=page)
-                lines = str(caught.exception).splitlines()
-                self.assertEqual((lines[0], lines[-1]), ("the sessions differ at item 1", f"no page: {page}: {why}"))
-                self.assertIn("+exchange ReadDataByIdentifier 22F190 -> unanswered", lines)
-                self.assertIsNone(caught.exception.__cause__ or caught.exception.__context__)
+                with self.subTest(page=page):
+                    lines = self.told(VIN, other, page=page)
+                    self.assertEqual((lines[0], lines[-1]), ("the sessions differ at item 1", f"no page: {page}: {why}"))
+                    self.assertIn("+exchange ReadDataByIdentifier 22F190 -> unanswered", lines)
+
+    def test_clean(self):
+        """Both logs have to be clean where that is asked for, and the error says which is not, as the program does."""
+        other, log = EXAMPLES / "lost-frame.log", VIN.read_bytes()
+        testing.assert_same_session(VIN, log, clean=True)
+        testing.assert_same_session(other, other)
+        testing.assert_same_session(log, log[:-1])
+        asked = log[:log.index(b"\n") + 1]
+        for left, right in ((other, other), (VIN, log[:-1]), (log[:-1], VIN), (b"", b""), (b"\n", b""), (VIN, other), (VIN, asked)):
+            with self.subTest(left=str(left)[:40], right=str(right)[:40]):
+                lines = self.told(left, right, clean=True)
+                is_same = udsnorm.compare(left, right) is None
+                self.assertEqual(lines[0], "the sessions are the same, but not clean" if is_same else "the sessions differ at item 1")
+                logs = [one if isinstance(one, bytes) else one.read_bytes() for one in (left, right)]
+                with files(*logs) as names:
+                    found = run(given.program, ["compare", "--strict", *names])
+                shown = [line for line in lines if " not clean: " in line]
+                want = re.sub("(unfinished 0), no frame of the unit$", r"\1, no frame of one side", found.error.decode(), flags=re.M)
+                self.assertEqual("".join(f"{line}\n" for line in shown), want)
 
 
 class Arguments(unittest.TestCase):
@@ -408,7 +510,9 @@ lasted: List[int] = [item.end - item.begin for item in udsnorm.items("a.log")]
 places: List[Optional[udsnorm.Place]] = [item.answer_place for item in udsnorm.items(b"") if isinstance(item, udsnorm.Exchange)]
 one_by_one: Iterator[udsnorm.Item] = udsnorm.iter_items("a.blf", tester="7E0", unit=0x7E8)
 recorded: bytes = udsnorm.from_messages([])
-assert_same_session("a.asc", b"", tester="18DA10F1", unit="18DAF110", page="page.html")
+assert_same_session("a.asc", b"", tester="18DA10F1", unit="18DAF110", page="page.html", clean=True)
+is_clean: bool = udsnorm.explain("a.log").counts.clean
+page: bytes = udsnorm.report("a.log", name="a") + udsnorm.report_pair("a.log", b"", names=("a", "b"), unit="7E9")
 udsnorm.normalise(1)  # type: ignore[arg-type]
 udsnorm.normalise(b"", tester=None)  # type: ignore[arg-type]
 udsnorm.items(["a.log"])  # type: ignore[arg-type]

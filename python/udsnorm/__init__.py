@@ -37,13 +37,14 @@ else:
 __all__ = [
     "Counts", "Difference", "Direction", "EXTENDED", "Exchange", "Explanation", "Identifier", "Item", "LIMIT", "LeftOut",
     "Log", "Message", "Outcome", "Pair", "Place", "Refused", "Role", "Stray", "TESTER", "UNIT", "compare", "explain",
-    "find", "from_messages", "items", "iter_items", "iter_messages", "messages", "normalise",
+    "find", "from_messages", "items", "iter_items", "iter_messages", "messages", "normalise", "report", "report_pair",
 ]
 __version__ = _library.VERSION
 
 #: The flag of an identifier of 29 bits, as in canid_t of <linux/can.h>.
 EXTENDED = 1 << 31
-#: The identifiers and the limit that the program has where none are given. For `messages` it has a limit of 2**40.
+#: The identifiers and the limit that the program has where none are given. For `messages` and `report` it has a limit of
+#: 2**40.
 TESTER, UNIT, LIMIT = 0x7E0, 0x7E8, 1 << 30
 
 #: The path of a file, bytes, or any other buffer.
@@ -51,11 +52,7 @@ Log = Union[str, "os.PathLike[str]", ReadableBuffer]
 #: A number, as Linux's canid_t has it, or three or eight hexadecimal digits, as the program takes them.
 Identifier = Union[int, str]
 
-_SETTING_FAULTS = {
-    _library.ID_RANGE: "identifier out of range",
-    _library.SAME_ID: "tester and unit have the same identifier",
-    _library.LIMIT_RANGE: "limit out of range",
-}
+_SETTING_FAULTS = (_library.ID_RANGE, _library.SAME_ID, _library.LIMIT_RANGE)
 
 
 class LeftOut(UserWarning):
@@ -147,7 +144,8 @@ def explain(log: Log, *, tester: Identifier = TESTER, unit: Identifier = UNIT, l
 
     Settings and errors are those of `normalise`, but that no announced length and no canonical log refuses a log."""
     answer, text = _text("explain", log, _settings(tester, unit, limit), _library.TEXT)
-    return Explanation(text.decode("ascii"), Counts(*(getattr(answer, name) for name in Counts._fields)))
+    counts = (answer.lines, answer.frames, answer.messages, answer.dropped, answer.ended, answer.unfinished, answer.pending)
+    return Explanation(text.decode("ascii"), Counts(*counts, bool(answer.clean)))
 
 
 def find(log: Log, *, limit: int = LIMIT) -> List[Pair]:
@@ -164,10 +162,46 @@ def compare(
 
     Settings and errors are those of `normalise`. Where both logs are refused, the left one is told."""
     settings = _settings(tester, unit, limit)
-    number, one, other = _first_difference(left, right, settings)
-    if number == 0:
+    answer, one, other = _compared(left, right, settings)
+    if answer.item == 0:
         return None
-    return Difference(number, _item_at(one, settings, number), _item_at(other, settings, number))
+    return Difference(answer.item, _item_at(one, settings, answer.item), _item_at(other, settings, answer.item))
+
+
+def report(
+    log: Log, *, name: Optional[str] = None, tester: Identifier = TESTER, unit: Identifier = UNIT, limit: int = LIMIT
+) -> bytes:
+    """The page of a log, as the program's `report LOG` writes it: a file of HTML.
+
+    `name` is what the page calls the log; without it, that is the name of its file, or "log".
+    Settings and errors are those of `normalise`, but that no announced length and no canonical log refuses a log."""
+    settings = _settings(tester, unit, limit)
+    if name is None:
+        name = _file_name(log, "log")
+    answer, page = _library.page(settings, os.fsencode(name), _contents(log, settings.limit))
+    if answer.status != _library.DONE:
+        raise _fault(answer, log)
+    return page
+
+
+def report_pair(
+    left: Log,
+    right: Log,
+    *,
+    names: "Optional[tuple[str, str]]" = None,
+    tester: Identifier = TESTER,
+    unit: Identifier = UNIT,
+    limit: int = LIMIT,
+) -> bytes:
+    """The page of two logs, as the program's `report LOG OTHER` writes it: whether they are the same session, and where they
+    differ first.
+
+    `names` are what the page calls them; without these, they are the names of their files, or their paths where these
+    are equal, or "left" and "right".
+    Settings and errors are those of `compare`, but that no announced length and no canonical log refuses a log."""
+    settings = _settings(tester, unit, limit)
+    one, other = _contents(left, settings.limit, "left"), _contents(right, settings.limit, "right")
+    return _pair_page(left, right, one, other, names, settings)
 
 
 def from_messages(messages: Iterable[Any]) -> bytes:
@@ -181,7 +215,7 @@ def from_messages(messages: Iterable[Any]) -> bytes:
 def _settings(tester: Identifier, unit: Identifier, limit: int) -> Settings:
     """The settings as numbers that C has; no number is cut."""
     if not 0 <= limit < 1 << 64:
-        raise ValueError(_SETTING_FAULTS[_library.LIMIT_RANGE])
+        raise ValueError(_library.status_text(_library.LIMIT_RANGE))
     return Settings(_number_of(tester), _number_of(unit), limit)
 
 
@@ -189,10 +223,10 @@ def _number_of(identifier: Identifier) -> int:
     """An identifier as a number that C has."""
     if isinstance(identifier, str):
         if not re.fullmatch("[0-9A-Fa-f]{3}|[0-9A-Fa-f]{8}", identifier):
-            raise ValueError(_SETTING_FAULTS[_library.ID_RANGE])
+            raise ValueError(_library.status_text(_library.ID_RANGE))
         identifier = int(identifier, 16) | (EXTENDED if len(identifier) == 8 else 0)
     if not 0 <= identifier < 1 << 32:
-        raise ValueError(_SETTING_FAULTS[_library.ID_RANGE])
+        raise ValueError(_library.status_text(_library.ID_RANGE))
     return identifier
 
 
@@ -226,13 +260,37 @@ def _warn(name: str, tally: "_formats.Tally") -> None:
         warnings.warn(f"{_formats.shown(name)}: {tally}", LeftOut, stacklevel=inside + 1)
 
 
-def _first_difference(left: Log, right: Log, settings: Settings) -> "tuple[int, bytes, bytes]":
-    """The number of the first item in which two logs differ, 0 where there is none, and the bytes of both."""
+def _compared(left: Log, right: Log, settings: Settings) -> "tuple[Answer, bytes, bytes]":
+    """What two logs are to each other, and the bytes of both."""
     one, other = _contents(left, settings.limit, "left"), _contents(right, settings.limit, "right")
     answer = _library.compare(settings, one, other)
     if answer.status != _library.DONE:
         raise _fault(answer, right if answer.side == 2 else left)
-    return answer.item, one, other
+    return answer, one, other
+
+
+def _pair_page(
+    left: Log, right: Log, one: bytes, other: bytes, names: "Optional[tuple[str, str]]", settings: Settings
+) -> bytes:
+    """The page of two logs that have these bytes."""
+    if names is None:
+        names = _file_name(left, "left"), _file_name(right, "right")
+        if names[0] == names[1]:
+            names = _path(left, "left"), _path(right, "right")
+    answer, page = _library.pair_page(settings, (os.fsencode(names[0]), os.fsencode(names[1])), one, other)
+    if answer.status != _library.DONE:
+        raise _fault(answer, right if answer.side == 2 else left)
+    return page
+
+
+def _path(log: Log, name: str) -> str:
+    """The path of a log, or what one is called that is no file."""
+    return os.fsdecode(os.fspath(log)) if isinstance(log, (str, os.PathLike)) else name
+
+
+def _file_name(log: Log, name: str) -> str:
+    """The last part of that."""
+    return os.path.basename(_path(log, name)) or _path(log, name)
 
 
 def _text(name: str, log: Log, settings: Settings, *style: int) -> "tuple[Answer, bytes]":
@@ -261,17 +319,18 @@ def _item_at(log: bytes, settings: Settings, number: int) -> Optional[Item]:
 
 def _fault(answer: Answer, log: Log = b"") -> Exception:
     """Why there is no text of a log."""
+    words = _library.status_text(answer.status)
     if answer.status == _library.MEMORY:
         return MemoryError()
     if answer.status in _SETTING_FAULTS:
-        return ValueError(_SETTING_FAULTS[answer.status])
+        return ValueError(words)
     reason, text = {
-        _library.BAD_LINE: ("bad line", f"line {answer.line} column {answer.column}: not a log line"),
+        _library.BAD_LINE: ("bad line", f"line {answer.line} column {answer.column}: {words}"),
         _library.OVERSIZE: (
             "oversize", f"line {answer.line}: {answer.announced} bytes announced, the limit is 1048575"
         ),
-        _library.LOG_LIMIT: ("log limit", "log longer than the limit"),
-        _library.OUTPUT_LIMIT: ("output limit", "canonical log longer than the limit"),
+        _library.LOG_LIMIT: ("log limit", words),
+        _library.OUTPUT_LIMIT: ("output limit", words),
     }[answer.status]
     file = os.fspath(log) if isinstance(log, (str, os.PathLike)) else None
     side = {1: "left", 2: "right"}.get(answer.side)

@@ -4,7 +4,7 @@ from __future__ import annotations
 
 import ctypes
 from pathlib import Path
-from typing import Any, List, NamedTuple, Tuple
+from typing import Any, Iterable, List, NamedTuple, Tuple
 
 # The name of the shared library, and the version of it that this package is made for.
 SONAME = "libudsnorm.so.0"
@@ -27,6 +27,7 @@ class Answer(ctypes.Structure):
     length: int
     item: int
     side: int
+    clean: int
     lines: int
     frames: int
     messages: int
@@ -43,7 +44,7 @@ class Answer(ctypes.Structure):
         ("length", ctypes.c_uint64),
         ("item", ctypes.c_uint64),
         ("side", ctypes.c_uint32),
-        ("reserved", ctypes.c_uint32),
+        ("clean", ctypes.c_uint32),
         ("lines", ctypes.c_uint64),
         ("frames", ctypes.c_uint64),
         ("messages", ctypes.c_uint64),
@@ -52,6 +53,14 @@ class Answer(ctypes.Structure):
         ("unfinished", ctypes.c_uint64),
         ("pending", ctypes.c_uint64),
     ]
+
+
+class _Words(ctypes.Structure):
+    """What a status means: struct udsnorm_words."""
+
+    text: bytes
+
+    _fields_ = [("text", ctypes.c_char * 48)]
 
 
 class Settings(NamedTuple):
@@ -96,19 +105,45 @@ _library.udsnorm_messages.argtypes = [*_SETTINGS, *_STYLE, *_LOG, *_OUT, *_ANSWE
 _library.udsnorm_explain.argtypes = [*_SETTINGS, *_STYLE, *_LOG, *_OUT, *_ANSWER]
 _library.udsnorm_find.argtypes = [ctypes.c_uint64, *_STYLE, *_LOG, *_OUT, *_ANSWER]
 _library.udsnorm_compare.argtypes = [*_SETTINGS, *_LOG, *_LOG, *_ANSWER]
+_library.udsnorm_report.argtypes = [*_SETTINGS, *_LOG, *_LOG, *_OUT, *_ANSWER]
+_library.udsnorm_report_pair.argtypes = [*_SETTINGS, *_LOG, *_LOG, *_LOG, *_LOG, *_OUT, *_ANSWER]
+_library.udsnorm_status_text.argtypes = [ctypes.c_uint32]
+_library.udsnorm_status_text.restype = _Words
+
+# How many bytes of room a page is given at first: what is fixed in it, and for each byte of its logs.
+_OF_A_PAGE, _OF_ITS_LOGS = 1 << 16, 32
 
 
 def text(name: str, settings: Settings, log: bytes, *style: int) -> Tuple[Answer, bytes]:
     """The answer of the call of this name, and its text: none where the answer says why there is none.
 
-    The interpreter's lock is given up during the call."""
-    call, answer, room = getattr(_library, f"udsnorm_{name}"), Answer(), 4 * len(log) + 512
+    The interpreter's lock is given up during the call, as during the others."""
+    given = (*(settings[2:] if name == "find" else settings), *style, log, len(log))
+    return _put(getattr(_library, f"udsnorm_{name}"), given, 4 * len(log) + 512)
+
+
+def page(settings: Settings, name: bytes, log: bytes) -> Tuple[Answer, bytes]:
+    """The same of the page of a log with this name."""
+    given = (*settings, name, len(name), log, len(log))
+    return _put(_library.udsnorm_report, given, _OF_A_PAGE + _OF_ITS_LOGS * len(log))
+
+
+def pair_page(settings: Settings, names: Tuple[bytes, bytes], left: bytes, right: bytes) -> Tuple[Answer, bytes]:
+    """The same of the page of two logs with these names."""
+    logs = [part for data in (names[0], left, names[1], right) for part in (data, len(data))]
+    return _put(_library.udsnorm_report_pair, (*settings, *logs), _OF_A_PAGE + _OF_ITS_LOGS * (len(left) + len(right)))
+
+
+def _put(call: Any, given: Iterable[Any], room: int) -> Tuple[Answer, bytes]:
+    """The answer of a call to these arguments, and its text: there is so much room for it at first, and then as much as it
+    wants."""
+    answer = Answer()
     while True:
         out = _process.malloc(room)
         if not out:
             raise MemoryError
         try:
-            call(*(settings[2:] if name == "find" else settings), *style, log, len(log), out, room, ctypes.byref(answer))
+            call(*given, out, room, ctypes.byref(answer))
             if answer.status != ROOM:
                 return answer, _bytes_at(out, answer.length)
         finally:
@@ -117,10 +152,16 @@ def text(name: str, settings: Settings, log: bytes, *style: int) -> Tuple[Answer
 
 
 def compare(settings: Settings, left: bytes, right: bytes) -> Answer:
-    """What two logs are to each other. The interpreter's lock is given up during the call."""
+    """What two logs are to each other."""
     answer = Answer()
     _library.udsnorm_compare(*settings, left, len(left), right, len(right), ctypes.byref(answer))
     return answer
+
+
+def status_text(status: int) -> str:
+    """What a status means, in a few words."""
+    words: _Words = _library.udsnorm_status_text(status)
+    return words.text.decode("ascii")
 
 
 def _bytes_at(address: int, size: int) -> bytes:

@@ -135,7 +135,10 @@ class Counts(NamedTuple):
     """The counts of a log: its lines; the frames of the two sides; the messages that were received whole; the frames
     that were dropped; the receptions that ended without their message, and those that stand at the end; the replies
     that the meaning leaves out. Where `dropped`, `ended` and `unfinished` are 0, each frame that carries a message
-    belongs to a message that was received whole. A single frame that was lost is not seen."""
+    belongs to a message that was received whole. A single frame that was lost is not seen.
+
+    `clean` is what the program asks with `--strict`: these three are 0, each side has a frame, and the last byte of the log
+    is a line feed."""
 
     lines: int
     frames: int
@@ -144,6 +147,7 @@ class Counts(NamedTuple):
     ended: int
     unfinished: int
     pending: int
+    clean: bool = False
 
 
 def _shown(item: Union[Exchange, Stray, Message]) -> str:

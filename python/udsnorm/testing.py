@@ -5,10 +5,9 @@ from __future__ import annotations
 import difflib
 import os
 import re
-import tempfile
-from typing import Iterator, List, Tuple, Union
+from typing import Callable, Iterator, List, Tuple, Union
 
-from . import EXTENDED, LIMIT, TESTER, UNIT, Identifier, Log, _first_difference, _formats, _library, _program, _settings
+from . import LIMIT, TESTER, UNIT, Identifier, Log, _compared, _formats, _library, _pair_page, _path, _settings
 
 __all__ = ["assert_same_session"]
 
@@ -24,28 +23,46 @@ def assert_same_session(
     unit: Identifier = UNIT,
     limit: int = LIMIT,
     page: "Union[None, str, os.PathLike[str]]" = None,
+    clean: bool = False,
 ) -> None:
-    """Two logs have the same meaning. Else an AssertionError tells the unified difference of their items, and where `page`
-    is a path, the program udsnorm writes the page of both there; or the error also tells why there is no page.
+    """Two logs have the same meaning, and where `clean` is asked for, both are clean, as the program asks with `--strict`:
+    nothing of them is known to be lost. Else an AssertionError tells the unified difference of their items, and which log
+    is not clean. Where `page` is a path, the page of both is written there; if it can't be, the error tells that, too.
 
     Settings and other errors are those of `udsnorm.normalise`."""
     __tracebackhide__ = True
     settings = _settings(tester, unit, limit)
-    number, one, other = _first_difference(left, right, settings)
-    if number == 0:
+    answer, one, other = _compared(left, right, settings)
+    is_unclean = clean and not answer.clean
+    if answer.item == 0 and not is_unclean:
         return
-    logs = ((_name_of(left, "left"), one), (_name_of(right, "right"), other))
-    told = [f"the sessions differ at item {number}", *_difference(number, logs, settings)]
+    logs = ((_path(left, "left"), one), (_path(right, "right"), other))
+    if answer.item:
+        told = [f"the sessions differ at item {answer.item}", *_difference(answer.item, logs, settings)]
+    else:
+        told = ["the sessions are the same, but not clean"]
+    if is_unclean:
+        told += [f"{side}: {line}" for side, log in (("left", one), ("right", other)) for line in _unclean(log, settings)]
     if page is not None:
-        told.append(_write_page(os.fspath(page), logs, settings))
+        told.append(_write_page(os.fspath(page), lambda: _pair_page(left, right, one, other, None, settings)))
     raise AssertionError("\n".join(told))
 
 
 _Logs = Tuple[Tuple[str, bytes], Tuple[str, bytes]]
 
 
-def _name_of(log: Log, name: str) -> str:
-    return os.fspath(log) if isinstance(log, (str, os.PathLike)) else name
+def _unclean(log: bytes, settings: _library.Settings) -> Iterator[str]:
+    """A line where a log is not clean: what was lost of its frames, and what it lacks."""
+    answer, _ = _library.text("explain", settings, log, _library.TEXT)
+    if answer.clean:
+        return
+    line = "not clean: " + " ".join(f"{name} {getattr(answer, name)}" for name in ("frames", "dropped", "ended", "unfinished"))
+    has_end = not log or log.endswith(b"\n")
+    if answer.frames == 0:
+        line += ", no frame of the tester, no frame of the unit"
+    elif has_end and answer.dropped == answer.ended == answer.unfinished == 0:
+        line += ", no frame of one side"
+    yield line if has_end else f"{line}, no line feed at the end"
 
 
 def _difference(number: int, logs: _Logs, settings: _library.Settings) -> Iterator[str]:
@@ -65,22 +82,13 @@ def _difference(number: int, logs: _Logs, settings: _library.Settings) -> Iterat
         yield f"behind item {begin + _LOOKED_AT} nothing is compared"
 
 
-def _write_page(page: str, logs: _Logs, settings: _library.Settings) -> str:
+def _write_page(page: str, made: Callable[[], bytes]) -> str:
     """Writes the page of both logs, and says where, or why there is none: no fault of a page hides the difference."""
-    program = _program.found()
-    if program is None:
-        return "no page: the program udsnorm is neither beside the package nor on the PATH"
-    sides = [word for side in ("tester", "unit") for word in (f"--{side}", _digits(getattr(settings, side)))]
     try:
-        with tempfile.TemporaryDirectory(prefix="udsnorm-") as root, open(page, "wb") as out:
-            folder = _program.Folder(root)
-            words = [folder.put(name, log) for name, log in logs]
-            status = folder.run(program, ["report", *sides, "--limit", str(settings.limit), *words], out)
+        with open(page, "wb") as out:
+            out.write(made())
     except OSError as error:
-        return f"no page: {_formats.shown(error.filename or page)}: {error.strerror or error}"
-    told = "both logs on a page" if status in (0, 1) else f"no whole page, status {status}"
-    return f"{told}: {_formats.shown(page)}"
-
-
-def _digits(identifier: int) -> str:
-    return f"{identifier & ~EXTENDED:08X}" if identifier & EXTENDED else f"{identifier:03X}"
+        return f"no page: {_formats.shown(page)}: {error.strerror or error}"
+    except MemoryError:
+        return f"no page: {_formats.shown(page)}: out of memory"
+    return f"both logs on a page: {_formats.shown(page)}"

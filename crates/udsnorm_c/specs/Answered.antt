@@ -1,7 +1,8 @@
 -- What an exported call answers, in numbers, and what is then in the buffer of its caller.
-use Rattle.std.specs.Prelude.{◌≡◌, ℕ, ◌+◌, Bool, true, false, List, length, nat_le, nat_lt, Option, Some, None, Result, Ok, Err, MatchResult, if◌then◌else◌}
+use Rattle.std.specs.Prelude.{◌≡◌, ℕ, ◌+◌, ◌&&◌, Bool, true, false, List, length, nat_le, nat_lt, Option, Some, None, Result, Ok, Err, MatchResult, if◌then◌else◌}
 use Rattle.trace_canon.specs.declared.comparing.Comparison.{Comparison}
 use Rattle.trace_canon.specs.declared.comparing.Comparison.TheVariants.{Same, Different}
+use Rattle.trace_canon.specs.declared.counted.CountedComparison.{CountedComparison}
 use Rattle.trace_canon.specs.declared.counted.CountedText.{CountedText}
 use Rattle.trace_log.specs.declared.fault.CompareFault.{CompareFault}
 use Rattle.trace_log.specs.declared.fault.CompareFault.TheVariants.{Left, Right}
@@ -10,8 +11,15 @@ use Rattle.trace_log.specs.declared.fault.Fault.TheVariants.{BadLine, Oversize, 
 use Rattle.trace_log.specs.declared.fault.ConfigFault.{ConfigFault}
 use Rattle.trace_log.specs.declared.fault.ConfigFault.TheVariants.{IdRange, SameId, LimitRange}
 use Rattle.trace_log.specs.declared.summary.Summary.{Summary}
-use Rattle.trace_canon.specs.InMemory.{IsCanonicalLogWith, IsListWith, IsPlacingWith, IsExplanationWith, IsFindingWith, IsRefused, IsUnread, NeedsMemoryForCanonicalLog, NeedsMemoryForList, NeedsMemoryForPlacing, NeedsMemoryForExplanation, NeedsMemoryForFinding, ComparesInMemory}
+use Rattle.trace_canon.specs.InMemory.{IsCanonicalLogWith, IsListWith, IsPlacingWith, IsExplanationWith, IsFindingWith, IsRefused, IsUnread, NeedsMemoryForCanonicalLog, NeedsMemoryForList, NeedsMemoryForPlacing, NeedsMemoryForExplanation, NeedsMemoryForFinding, ComparesWithCounts}
 use Rattle.trace_log.specs.Settings.{Settings, Configures}
+use Rattle.trace_log.specs.Summing.{is_clean}
+use Rattle.trace_report.specs.Front.{page_title}
+use Rattle.trace_report.specs.InMemory.{HasNoPairPage, IsPageWith, IsPairPageWith, NeedsMemoryForPage}
+use Rattle.trace_report.specs.PairPage.{pair_title}
+use Rattle.trace_report.specs.declared.in_memory.CountedPage.{CountedPage}
+use Rattle.trace_report.specs.declared.in_memory.NoPairPage.{NoPairPage}
+use Rattle.trace_report.specs.declared.in_memory.NoPairPage.TheVariants.{OfLog, OfMemory}
 use Rattle.udsnorm_c.specs.declared.answer.UdsnormAnswer.{UdsnormAnswer}
 use Rattle.udsnorm_c.specs.Spelled.{identifier_of, list_style, notation_of, put_at_front}
 
@@ -25,7 +33,7 @@ status_alone status = record {
   length = 0;
   item = 0;
   side = 0;
-  reserved = 0;
+  clean = 0;
   lines = 0;
   frames = 0;
   messages = 0;
@@ -51,17 +59,25 @@ fault_answer Read = status_alone 8
 fault_answer Write = status_alone 8
 fault_answer Memory = status_alone 8
 
+-- 1 where it is so, and else 0
+abbrev pub flag : Bool → ℕ
+flag b = if b then 1 else 0
+
+-- the status of a text of this length, where the buffer has this many bytes
+abbrev pub text_status : ℕ → ℕ → ℕ
+text_status count room = if nat_le count room then 0 else 9
+
 -- the answer of a text of this length about a log with these counts, where the buffer has this many bytes
 abbrev pub text_answer : ℕ → Summary → ℕ → UdsnormAnswer
 text_answer count summary room = record {
-  status = if nat_le count room then 0 else 9;
+  status = text_status count room;
   column = 0;
   line = 0;
   announced = 0;
   length = count;
   item = 0;
   side = 0;
-  reserved = 0;
+  clean = flag (is_clean summary);
   lines = summary.lines;
   frames = summary.frames;
   messages = summary.messages;
@@ -75,12 +91,33 @@ text_answer count summary room = record {
 abbrev pub number_of : ℕ → ℕ
 number_of item = if nat_lt item 0xFFFFFFFFFFFFFFFF then item + 1 else 0xFFFFFFFFFFFFFFFF
 
--- the answer of two logs: the first item that differs, from 1, or 0; or whose log has no meaning, and why
-abbrev pub comparison_answer : Result Comparison CompareFault → UdsnormAnswer
-comparison_answer (Ok Same) = status_alone 0
-comparison_answer (Ok (Different place)) = record (status_alone 0) { item = number_of place }
-comparison_answer (Err (Left fault)) = record (fault_answer fault) { side = 1 }
-comparison_answer (Err (Right fault)) = record (fault_answer fault) { side = 2 }
+-- the first item that differs, from 1, or 0
+abbrev pub first_item : Comparison → ℕ
+first_item Same = 0
+first_item (Different place) = number_of place
+
+-- the answer of two logs that are compared: that item, and whether both are clean
+abbrev pub counted_answer : CountedComparison → UdsnormAnswer
+counted_answer counted = record (status_alone 0) { item = first_item counted.comparison; clean = flag (is_clean counted.left && is_clean counted.right) }
+
+-- whose log can't be compared, and why
+abbrev pub side_answer : CompareFault → UdsnormAnswer
+side_answer (Left fault) = record (fault_answer fault) { side = 1 }
+side_answer (Right fault) = record (fault_answer fault) { side = 2 }
+
+-- the answer of two logs
+abbrev pub comparison_answer : Result CountedComparison CompareFault → UdsnormAnswer
+comparison_answer (Ok counted) = counted_answer counted
+comparison_answer (Err fault) = side_answer fault
+
+-- the answer of a page of this length about two logs that compare so, where the buffer has this many bytes
+abbrev pub pair_answer : ℕ → CountedComparison → ℕ → UdsnormAnswer
+pair_answer count counted room = record (counted_answer counted) { status = text_status count room; length = count }
+
+-- the answer where two logs have no page
+abbrev pub no_pair_answer : NoPairPage → UdsnormAnswer
+no_pair_answer (OfLog fault) = side_answer fault
+no_pair_answer OfMemory = status_alone 8
 
 -- What was told of a log is put at the front of a buffer, where it has room, and answered with its counts. A fault
 -- leaves the buffer as it was.
@@ -88,6 +125,12 @@ abbrev pub IsPut : Result CountedText Fault → List ℕ → List ℕ → Udsnor
 IsPut (Ok counted) old new answer =
     (new ≡ put_at_front counted.text.items old) × (answer ≡ text_answer (length counted.text.items) counted.summary (length old))
 IsPut (Err fault) old new answer = (new ≡ old) × (answer ≡ fault_answer fault)
+
+-- A page of two logs is put so, and answered with how they compare. Where there is none, the buffer is as it was.
+abbrev pub IsPagePut : Result CountedPage NoPairPage → List ℕ → List ℕ → UdsnormAnswer → Type 0
+IsPagePut (Ok page) old new answer =
+    (new ≡ put_at_front page.text.items old) × (answer ≡ pair_answer (length page.text.items) page.counted (length old))
+IsPagePut (Err why) old new answer = (new ≡ old) × (answer ≡ no_pair_answer why)
 
 -- A text and counts of which this holds are put, or a fault of which that holds.
 abbrev pub TextAnswers : (List ℕ → Summary → Type 0) → (Fault → Type 0) → List ℕ → List ℕ → UdsnormAnswer → Type 0
@@ -140,5 +183,27 @@ FindAnswers limit max_bytes style log old new answer = UnderSettings 0x7E0 0x7E8
 -- how two logs compare, or why one has no meaning
 abbrev pub CompareAnswers : ℕ → ℕ → ℕ → ℕ → List ℕ → List ℕ → UdsnormAnswer → Type 0
 CompareAnswers limit tester unit max_bytes left right answer = UnderSettings tester unit max_bytes
-    (λ settings. (compared : Result Comparison CompareFault) × ComparesInMemory limit settings left right compared × (answer ≡ comparison_answer compared))
+    (λ settings. (compared : Result CountedComparison CompareFault) × ComparesWithCounts limit settings left right compared × (answer ≡ comparison_answer compared))
     (λ fault. answer ≡ refusal_of fault)
+
+-- with these settings the page of a log that can be read, in some style and with this name, or why it can't be
+abbrev pub PagePuts : ℕ → List ℕ → List ℕ → List ℕ → List ℕ → UdsnormAnswer → Settings → Type 0
+PagePuts limit name log old new answer settings =
+    (style : List ℕ) × TextAnswers (IsPageWith (page_title style name settings) limit settings log) (IsUnread NeedsMemoryForPage limit settings log) old new answer
+
+-- such a page, or why there is none
+abbrev pub ReportAnswers : ℕ → ℕ → ℕ → ℕ → List ℕ → List ℕ → List ℕ → List ℕ → UdsnormAnswer → Type 0
+ReportAnswers limit tester unit max_bytes name log old new answer =
+    UnderSettings tester unit max_bytes (PagePuts limit name log old new answer) (AnswersRefusal old new answer)
+
+-- with these settings the page of two logs that can be read, in some style and with these names, or why there is none
+abbrev pub PairPagePuts : ℕ → List ℕ → List ℕ → List ℕ → List ℕ → List ℕ → List ℕ → UdsnormAnswer → Settings → Type 0
+PairPagePuts limit left_name right_name left right old new answer settings =
+    (style : List ℕ) × (told : Result CountedPage NoPairPage)
+    × MatchResult told (λ page. IsPairPageWith (pair_title style left_name right_name settings) limit settings left right page.text.items page.counted) (HasNoPairPage limit settings left right)
+    × IsPagePut told old new answer
+
+-- such a page, or why there is none
+abbrev pub ReportPairAnswers : ℕ → ℕ → ℕ → ℕ → List ℕ → List ℕ → List ℕ → List ℕ → List ℕ → List ℕ → UdsnormAnswer → Type 0
+ReportPairAnswers limit tester unit max_bytes left_name right_name left right old new answer =
+    UnderSettings tester unit max_bytes (PairPagePuts limit left_name right_name left right old new answer) (AnswersRefusal old new answer)

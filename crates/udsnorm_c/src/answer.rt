@@ -1,9 +1,12 @@
 //! What a call answers, as C sees it.
 ghost use Rattle.std.specs.Prelude.{◌≡◌};
 ghost use Rattle.udsnorm_c.specs.Answered as Spec;
+ghost use Rattle.udsnorm_c.specs.Spelled.{status_words};
 
 use trace_canon::Comparison;
+use trace_canon::counted::CountedComparison;
 use trace_log::{CompareFault, ConfigFault, Fault, Summary};
+use trace_report::in_memory::NoPairPage;
 
 /// What came of a call. Which fields say something depends on the status; the others are 0.
 #[repr(C)]
@@ -22,7 +25,8 @@ pub struct UdsnormAnswer {
     pub item: u64,
     /// Whose log has no meaning: 1 the first, 2 the second.
     pub side: u32,
-    pub reserved: u32,
+    /// 1 where each log is clean, so that no frame of it was lost that can be seen.
+    pub clean: u32,
     pub lines: u64,
     pub frames: u64,
     pub messages: u64,
@@ -31,6 +35,16 @@ pub struct UdsnormAnswer {
     pub unfinished: u64,
     pub pending: u64,
 }
+
+/// What a status means, in a few words, with a 0 behind them.
+#[repr(C)]
+#[derive(Clone, Copy, Debug, PartialEq, Eq)]
+pub struct UdsnormWords {
+    pub text: [u8; WORDS],
+}
+
+/// How many bytes they have room for, the 0 included.
+pub(crate) const WORDS: usize = 48;
 
 const DONE: u32 = 0;
 
@@ -62,7 +76,7 @@ const NOTHING: UdsnormAnswer = UdsnormAnswer {
     length: 0,
     item: 0,
     side: 0,
-    reserved: 0,
+    clean: 0,
     lines: 0,
     frames: 0,
     messages: 0,
@@ -71,6 +85,26 @@ const NOTHING: UdsnormAnswer = UdsnormAnswer {
     unfinished: 0,
     pending: 0,
 };
+
+/// What a status means.
+pub(crate) fn status_words(status: u32) -> &'static [u8]
+    ensures { result.now ≡ status_words status }
+{
+    match status {
+        DONE => b"done",
+        ID_RANGE => b"identifier out of range",
+        SAME_ID => b"tester and unit have the same identifier",
+        LIMIT_RANGE => b"limit out of range",
+        BAD_LINE => b"not a log line",
+        OVERSIZE => b"a message that is too long is announced",
+        LOG_LIMIT => b"log longer than the limit",
+        OUTPUT_LIMIT => b"canonical log longer than the limit",
+        MEMORY => b"out of memory",
+        ROOM => b"not enough room for the text",
+        STYLE => b"no such style",
+        _ => b"no such status",
+    }
+}
 
 /// An answer with this status alone.
 fn status_alone(status: u32) -> UdsnormAnswer
@@ -124,6 +158,7 @@ pub(crate) fn text_answer(length: usize, summary: Summary, room: usize) -> Udsno
 {
     UdsnormAnswer {
         length: length as u64,
+        clean: flag(summary.is_clean()),
         lines: summary.lines,
         frames: summary.frames,
         messages: summary.messages,
@@ -131,28 +166,90 @@ pub(crate) fn text_answer(length: usize, summary: Summary, room: usize) -> Udsno
         ended: summary.ended,
         unfinished: summary.unfinished,
         pending: summary.pending,
-        ..status_alone(if length <= room { DONE } else { ROOM })
+        ..status_alone(text_status(length, room))
     }
 }
 
+/// The status of a text of this length, where the buffer has this many bytes.
+fn text_status(length: usize, room: usize) -> u32
+    ensures { result ≡ Spec.text_status length room }
+{
+    if length <= room { DONE } else { ROOM }
+}
+
+/// 1 where it is so.
+fn flag(is_so: bool) -> u32
+    ensures { result ≡ Spec.flag is_so }
+{
+    if is_so { 1 } else { 0 }
+}
+
 /// The answer of two logs that are compared.
-pub(crate) fn comparison_answer(compared: Result<Comparison, CompareFault>) -> UdsnormAnswer
+pub(crate) fn comparison_answer(compared: Result<CountedComparison, CompareFault>) -> UdsnormAnswer
     ensures { result ≡ Spec.comparison_answer compared }
 {
     match compared {
-        Ok(Comparison::Same) => status_alone(DONE),
-        Ok(Comparison::Different { item }) => UdsnormAnswer {
-            item: number_of(item),
-            ..status_alone(DONE)
-        },
-        Err(CompareFault::Left(fault)) => UdsnormAnswer {
+        Ok(counted) => counted_answer(counted),
+        Err(fault) => side_answer(fault),
+    }
+}
+
+/// How two logs compare, and whether both are clean.
+fn counted_answer(counted: CountedComparison) -> UdsnormAnswer
+    ensures { result ≡ Spec.counted_answer counted }
+{
+    let are_clean = counted.left.is_clean() && counted.right.is_clean();
+    UdsnormAnswer {
+        item: first_item(counted.comparison),
+        clean: flag(are_clean),
+        ..status_alone(DONE)
+    }
+}
+
+/// Whose log can't be compared, and why.
+fn side_answer(fault: CompareFault) -> UdsnormAnswer
+    ensures { result ≡ Spec.side_answer fault }
+{
+    match fault {
+        CompareFault::Left(fault) => UdsnormAnswer {
             side: 1,
             ..fault_answer(fault)
         },
-        Err(CompareFault::Right(fault)) => UdsnormAnswer {
+        CompareFault::Right(fault) => UdsnormAnswer {
             side: 2,
             ..fault_answer(fault)
         },
+    }
+}
+
+/// The answer of a page of this length about two logs that compare so, where the buffer has this many bytes.
+pub(crate) fn pair_answer(length: usize, counted: CountedComparison, room: usize) -> UdsnormAnswer
+    ensures { result ≡ Spec.pair_answer length counted room }
+{
+    UdsnormAnswer {
+        status: text_status(length, room),
+        length: length as u64,
+        ..counted_answer(counted)
+    }
+}
+
+/// The answer where two logs have no page.
+pub(crate) fn no_pair_answer(why: NoPairPage) -> UdsnormAnswer
+    ensures { result ≡ Spec.no_pair_answer why }
+{
+    match why {
+        NoPairPage::OfLog(fault) => side_answer(fault),
+        NoPairPage::OfMemory => status_alone(MEMORY),
+    }
+}
+
+/// The first item that differs, from 1, or 0.
+fn first_item(comparison: Comparison) -> u64
+    ensures { result ≡ Spec.first_item comparison }
+{
+    match comparison {
+        Comparison::Same => 0,
+        Comparison::Different { item } => number_of(item),
     }
 }
 

@@ -8,21 +8,23 @@
 //! A text is gathered in memory that the call takes and gives back. Nothing else is kept, so calls may run at once.
 #![tactic(auto)]
 
-ghost use Rattle.std.specs.Prelude.{◌≡◌};
+ghost use Rattle.std.specs.Prelude.{◌≡◌, slice_index_or};
 ghost use Rattle.isotp_receive.specs.declared.TheConstants.{MESSAGE_LIMIT};
-ghost use Rattle.udsnorm_c.specs.Answered.{CompareAnswers, ExplainAnswers, FindAnswers, ListAnswers, MessagesAnswers, NormaliseAnswers};
-ghost use Rattle.udsnorm_c.specs.Spelled.{version};
+ghost use Rattle.udsnorm_c.specs.Answered.{CompareAnswers, ExplainAnswers, FindAnswers, ListAnswers, MessagesAnswers, NormaliseAnswers, ReportAnswers, ReportPairAnswers};
+ghost use Rattle.udsnorm_c.specs.Spelled.{version, words_for_c};
 
 mod answer;
+mod pages;
 mod room;
 mod sides;
 
-use crate::answer::{comparison_answer, no_style, refusal_of};
-use crate::room::put;
+use crate::answer::{WORDS, comparison_answer, no_style, refusal_of, status_words};
+use crate::pages::{put_pair_report, put_report};
+use crate::room::{put, put_front};
 use crate::sides::{USUAL_TESTER, USUAL_UNIT, config_of, notation_of, style_of};
-pub use answer::UdsnormAnswer;
+pub use answer::{UdsnormAnswer, UdsnormWords};
 use std::alloc::Global;
-use trace_canon::{counted, in_memory};
+use trace_canon::counted;
 
 /// The numbers of the version, a byte for each: that of `VERSION` at the top.
 const VERSION: u32 = 0x01_00_00;
@@ -161,10 +163,68 @@ pub extern "C" fn udsnorm_compare(
     ensures status { result ≡ answer.new.status }
 {
     *answer = match config_of(tester, unit, limit) {
-        Ok(config) => comparison_answer(in_memory::comparison(alloc, &config, left, right)),
+        Ok(config) => comparison_answer(counted::comparison(alloc, &config, left, right)),
         Err(fault) => refusal_of(fault),
     };
     answer.status
+}
+
+/// The page of a log, which has this name there.
+#[unsafe(no_mangle)]
+pub extern "C" fn udsnorm_report(
+    alloc: Global,
+    tester: u32,
+    unit: u32,
+    limit: u64,
+    name: &[u8],
+    log: &[u8],
+    out: &mut [u8],
+    answer: &mut UdsnormAnswer,
+) -> u32
+    ensures answers { ReportAnswers MESSAGE_LIMIT tester unit limit name.now log.now out.old out.new answer.new }
+    ensures status { result ≡ answer.new.status }
+{
+    *answer = match config_of(tester, unit, limit) {
+        Ok(config) => put_report(alloc, &config, name, log, out),
+        Err(fault) => refusal_of(fault),
+    };
+    answer.status
+}
+
+/// The page of two logs, which have these names there, and what they are to each other.
+#[unsafe(no_mangle)]
+pub extern "C" fn udsnorm_report_pair(
+    alloc: Global,
+    tester: u32,
+    unit: u32,
+    limit: u64,
+    left_name: &[u8],
+    left: &[u8],
+    right_name: &[u8],
+    right: &[u8],
+    out: &mut [u8],
+    answer: &mut UdsnormAnswer,
+) -> u32
+    ensures answers { ReportPairAnswers MESSAGE_LIMIT tester unit limit left_name.now right_name.now left.now right.now out.old out.new answer.new }
+    ensures status { result ≡ answer.new.status }
+{
+    *answer = match config_of(tester, unit, limit) {
+        Ok(config) => put_pair_report(alloc, &config, left_name, left, right_name, right, out),
+        Err(fault) => refusal_of(fault),
+    };
+    answer.status
+}
+
+/// What a status means, in a few words, with a 0 behind them.
+#[tactic(auto, using(crate::proofs::Words::words_end))]
+#[unsafe(no_mangle)]
+pub extern "C" fn udsnorm_status_text(status: u32) -> UdsnormWords
+    ensures words { result.text ≡ words_for_c status }
+    ensures ended { slice_index_or result.text 47 1 ≡ 0 }
+{
+    let mut text = [0; WORDS];
+    put_front(status_words(status), &mut text);
+    UdsnormWords { text }
 }
 
 /// The version of the library.

@@ -1,11 +1,12 @@
 //! Memory of the caller, into which a text is put.
 ghost use Rattle.std.specs.Prelude.{◌≡◌};
-ghost use Rattle.udsnorm_c.specs.Answered.{IsPut};
+ghost use Rattle.udsnorm_c.specs.Answered.{IsPagePut, IsPut};
 ghost use Rattle.udsnorm_c.specs.Spelled.{put_at_front};
 
-use crate::answer::{UdsnormAnswer, fault_answer, text_answer};
+use crate::answer::{UdsnormAnswer, fault_answer, no_pair_answer, pair_answer, text_answer};
 use trace_canon::counted::CountedText;
 use trace_log::Fault;
+use trace_report::in_memory::{CountedPage, NoPairPage};
 
 /// Puts what was told of a log at the front of a buffer, where it has room, and answers what is known of it.
 pub(crate) fn put(told: Result<CountedText, Fault>, out: &mut [u8]) -> UdsnormAnswer
@@ -20,8 +21,21 @@ pub(crate) fn put(told: Result<CountedText, Fault>, out: &mut [u8]) -> UdsnormAn
     }
 }
 
+/// Puts a page of two logs there, and answers how they compare.
+pub(crate) fn put_page(told: Result<CountedPage, NoPairPage>, out: &mut [u8]) -> UdsnormAnswer
+    ensures { IsPagePut told out.old out.new result }
+{
+    match told {
+        Ok(CountedPage { text, counted }) => {
+            put_front(text.as_slice(), out);
+            pair_answer(text.len(), counted, out.len())
+        }
+        Err(why) => no_pair_answer(why),
+    }
+}
+
 /// Puts a text at the front of a buffer, where it has room.
-fn put_front(text: &[u8], out: &mut [u8])
+pub(crate) fn put_front(text: &[u8], out: &mut [u8])
     ensures { out.new ≡ put_at_front text.now out.old }
 {
     if text.len() <= out.len() {
