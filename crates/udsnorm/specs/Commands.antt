@@ -42,8 +42,6 @@ use Rattle.trace_report.specs.declared.held_session.Held.{Held}
 use Rattle.udsnorm.specs.Ending.{has_unclean}
 use Rattle.udsnorm.specs.Status.{is_refusal}
 use Rattle.udsnorm.specs.Values.{comparison_style_in, notation_in, style_in}
-use Rattle.udsnorm.specs.declared.commands.ItemsJob.{ItemsJob}
-use Rattle.udsnorm.specs.declared.commands.ItemsJob.TheVariants as items_job
 use Rattle.udsnorm.specs.declared.commands.Job.{Job}
 use Rattle.udsnorm.specs.declared.commands.Job.TheVariants as job
 use Rattle.udsnorm.specs.declared.pair_jobs.PairAnswer.{PairAnswer}
@@ -131,7 +129,7 @@ pub record CommandEntry : Type 0 where
 abbrev pub command_entries : List CommandEntry
 command_entries =
     record { name = codes "normalise"; rules = sides ++ usual_limit ++ one_log ++ strictly ++ hinted; task = λ rows. task.One job.Normalise }
-    ∷ record { name = codes "list"; rules = sides ++ usual_limit ++ one_log ++ without_numbers ++ as_json ++ strictly ++ hinted; task = λ rows. task.One (job.Items (items_job.List (style_in rows))) }
+    ∷ record { name = codes "list"; rules = sides ++ usual_limit ++ one_log ++ without_numbers ++ as_json ++ strictly ++ hinted; task = λ rows. task.One (job.List (style_in rows)) }
     ∷ record { name = codes "watch"; rules = sides ++ largest_limit ++ one_log ++ without_numbers ++ as_json ++ strictly ++ hinted; task = λ rows. task.One (job.Watch (style_in rows)) }
     ∷ record { name = codes "explain"; rules = sides ++ usual_limit ++ one_log ++ as_json ++ strictly ++ hinted; task = λ rows. task.One (job.Explain (notation_in rows)) }
     ∷ record { name = codes "messages"; rules = sides ++ largest_limit ++ one_log ++ as_json ++ strictly ++ hinted; task = λ rows. task.One (job.Messages (notation_in rows)) }
@@ -209,14 +207,10 @@ RanBy source target (finds notation) limit settings = RanToFind source target no
 RanBy source target (runs script needs) limit settings = RanLenient source target (script limit) answers_counts (needs limit) limit settings
 RanBy source target (runs_in_style script) limit settings = RanAny source target (runs_in_style script) limit settings
 
--- the text of items that a job writes
-abbrev pub text_of_items : ItemsJob → TextOfItems
-text_of_items (items_job.List style) = list_text style
-
 -- the engine that does this job over one log, which has this name on a page
 abbrev pub engine_of : Job → List ℕ → Engine
 engine_of job.Normalise name = normalises
-engine_of (job.Items text) name = writes (text_of_items text)
+engine_of (job.List style) name = writes (list_text style)
 engine_of (job.Watch style) name = runs (λ limit. watching_script style) CompletesKept
 engine_of (job.Explain notation) name = runs (explain_script notation) (λ limit. needs_none)
 engine_of (job.Messages notation) name = runs (placing_script notation) (λ limit. needs_none)

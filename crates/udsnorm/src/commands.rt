@@ -11,20 +11,19 @@ use crate::pair_jobs::PairJob;
 use crate::values::{comparison_style, notation, style, text_of};
 use clap::ArgMatches;
 use std::alloc::Global;
-use trace_canon::{ItemText, explain, find, messages, normalise, watch, write_items};
-use trace_io::{Source, Target, TextSink};
+use trace_canon::{explain, find, list, messages, normalise, watch};
+use trace_io::{Source, Target};
 use trace_log::{Config, Fault, Summary};
 use trace_report::{report, report_style};
 use trace_text::{ItemStyle, Notation};
-use uds_exchange::Meaning;
 
 /// What the program does with one log.
 #[derive(Clone, Copy, PartialEq, Eq)]
 pub enum Job {
     /// Writes the canonical log.
     Normalise,
-    /// Writes this text of the exchanges and stray messages, once the log has ended.
-    Items(ItemsJob),
+    /// Writes a line for each exchange and stray message, in this style, once the log has ended.
+    List(ItemStyle),
     /// Writes the same while the log comes, each line as soon as its item is decided.
     Watch(ItemStyle),
     /// Writes which frames were dropped, and which receptions ended early, and why, in this notation.
@@ -35,25 +34,6 @@ pub enum Job {
     Report,
     /// Writes the pairs of identifiers that ask and answer, in this notation.
     Find(Notation),
-}
-
-/// A text of the exchanges and stray messages of a log.
-#[derive(Clone, Copy, PartialEq, Eq)]
-pub enum ItemsJob {
-    /// A line for each, in this style.
-    List(ItemStyle),
-}
-
-impl ItemText for ItemsJob {
-    ghost use Rattle.udsnorm.specs.Commands.{text_of_items};
-
-    ghost text = { λ job. text_of_items job };
-
-    fn say<S: TextSink>(&self, items: &Meaning, out: &mut S) {
-        match *self {
-            ItemsJob::List(style) => style.say(items, out),
-        }
-    }
 }
 
 /// What a command asks for.
@@ -307,7 +287,7 @@ pub(crate) fn task_named(name: &str, found: &ArgMatches<'_>) -> Task
 {
     match name {
         "normalise" => Task::One(Job::Normalise),
-        "list" => Task::One(Job::Items(ItemsJob::List(style(found)))),
+        "list" => Task::One(Job::List(style(found))),
         "watch" => Task::One(Job::Watch(style(found))),
         "explain" => Task::One(Job::Explain(notation(found))),
         "messages" => Task::One(Job::Messages(notation(found))),
@@ -360,7 +340,7 @@ fn call_engine<R: Source, W: Target>(
 {
     match job {
         Job::Normalise => normalise(alloc, config, input, out),
-        Job::Items(text) => write_items(alloc, config, &text, input, out),
+        Job::List(style) => list(alloc, config, style, input, out),
         Job::Watch(style) => watch(alloc, config, style, input, out),
         Job::Explain(notation) => explain(alloc, config, notation, input, out),
         Job::Messages(notation) => messages(alloc, config, notation, input, out),

@@ -10,8 +10,8 @@ returns-in-Normalise g c =
     let ran = c.normalise.ensures in
     record { ran = rw c.in-Normalise.is (record { answer = ran.answer; eager = ran.eager; memory = ran.memory; near = ran.near; read = ran.read; wrote = ran.wrote }) }
 
-pub returns-in-Items : goal.returns-in-Items
-returns-in-Items g c = record { ran = rw c.in-Items.is c.write_items.ensures.ran }
+pub returns-in-List : goal.returns-in-List
+returns-in-List g c = record { ran = rw c.in-List.is c.list.ensures.ran }
 
 pub returns-in-Watch : goal.returns-in-Watch
 returns-in-Watch g c = record { ran = rw c.in-Watch.is c.watch.ensures.ran }
