@@ -12,7 +12,7 @@ import stat
 import subprocess
 import sys
 from pathlib import Path
-from typing import IO, BinaryIO, Dict, List, Optional, Sequence, Union
+from typing import IO, Dict, List, Optional, Sequence, Union
 
 from ._formats import HEAD, Fault, Log, is_for_the_program, shown
 
@@ -159,19 +159,11 @@ class Folder:
                 place.symlink_to(whole)
         return str(place.relative_to(self._root))
 
-    def put(self, name: str, log: bytes) -> str:
-        """The word that names a log of this name, which is put here."""
-        place = self.place_of(name, f"log {len(self._sources)}")
-        place.write_bytes(log)
-        return str(place.relative_to(self._root))
-
-    def run(
-        self, program: str, words: Sequence[str], output: Union[None, int, BinaryIO] = None, is_given: bool = False
-    ) -> int:
+    def run(self, program: str, words: Sequence[str], is_given: bool = False) -> int:
         """The status of the program over logs that lie here, or over standard input, which is converted meanwhile. A stream
         that a word names stays open."""
         given = subprocess.PIPE if is_given else None
-        with subprocess.Popen([program, *words], cwd=self._root, stdin=given, stdout=output, close_fds=False) as running:
+        with subprocess.Popen([program, *words], cwd=self._root, stdin=given, close_fds=False) as running:
             try:
                 if running.stdin:
                     with Log(STANDARD_INPUT) as log, contextlib.suppress(BrokenPipeError), running.stdin:
