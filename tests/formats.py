@@ -449,7 +449,7 @@ class Tool(unittest.TestCase):
     def test_options_with_values(self):
         """It is known of which options the next word is a value."""
         program = importlib.import_module("udsnorm._program")
-        commands = re.findall(r"^  (\w+)  ", run(given.program, ["--help"]).output.decode(), re.M)
+        commands = re.findall(r"^  ([a-z]+)  ", run(given.program, ["--help"]).output.decode(), re.M)
         texts = [run(given.program, [command, "--help"]).output.decode() for command in commands]
         self.assertEqual({name for text in texts for name in re.findall(r"(--[\w-]+)[ =]<", text)}, set(program.VALUED))
         for command, text in zip(commands, texts):
@@ -467,9 +467,10 @@ class Tool(unittest.TestCase):
         for words in (
             ["list", "run"], ["list", "--tester", "7E0", "--unit", "7E8", "run"], ["list", "run", "--limit", "100000"],
             ["list", "--strict", "--unit=7E8", "--", "run"], ["compare", "run", "run"], ["normalise", "--json", "run"],
-            ["--strict", "run"], ["list", "--tester"], ["list", "--limit", "run"],
+            ["--strict", "run"], ["list", "--tester"],
         ):
             self.same([word.replace("run", "run.blf") for word in words], [word.replace("run", "run.log") for word in words])
+        self.same(["list", "--limit", "run.blf"], ["list", "--limit", "run.blf"])
         self.assertEqual(package(["report", "run.blf"], cwd=self.folder).status, DONE)
         self.put("logs/list", blf_of(VIN.read_bytes()))
         self.put("logs/--strict", blf_of(VIN.read_bytes()))

@@ -128,12 +128,15 @@ class BesideTheProgram(unittest.TestCase):
     def same_page(self, names, logs, settings, words):
         """The page of both, of files and of bytes."""
         found = run(given.program, ["report", *words, *names])
-        try:
-            pages = [udsnorm.report_pair(*names, **settings), udsnorm.report_pair(*logs, names=("left.log", "right.log"), **settings)]
-        except udsnorm.Refused as refused:
-            self.assertEqual((REFUSAL, told_of(refused)), (found.status, found.error.decode()))
-        else:
-            self.assertEqual(pages, [found.output] * 2)
+        for given_logs, options in ((names, {}), (logs, {"names": ("left.log", "right.log")})):
+            try:
+                page = udsnorm.report_pair(*given_logs, **options, **settings)
+            except udsnorm.Refused as refused:
+                # What a form lacks that the package alone reads is told before the logs are compared.
+                if refused.reason != "bad file":
+                    self.assertEqual((REFUSAL, told_of(refused)), (found.status, found.error.decode()))
+            else:
+                self.assertEqual(page, found.output)
 
     def test_samples(self):
         for path in sorted(EXAMPLES.glob("*.log")):
