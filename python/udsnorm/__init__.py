@@ -144,8 +144,11 @@ def explain(log: Log, *, tester: Identifier = TESTER, unit: Identifier = UNIT, l
 
     Settings and errors are those of `normalise`, but that no announced length and no canonical log refuses a log."""
     answer, text = _text("explain", log, _settings(tester, unit, limit), _library.TEXT)
-    counts = (answer.lines, answer.frames, answer.messages, answer.dropped, answer.ended, answer.unfinished, answer.pending)
-    return Explanation(text.decode("ascii"), Counts(*counts, bool(answer.clean)))
+    counts = Counts(
+        answer.lines, answer.frames, answer.messages, answer.dropped, answer.ended, answer.unfinished, answer.pending
+    )
+    counts.clean = bool(answer.clean)
+    return Explanation(text.decode("ascii"), counts)
 
 
 def find(log: Log, *, limit: int = LIMIT) -> List[Pair]:

@@ -131,15 +131,7 @@ class Pair(NamedTuple):
     unit: int
 
 
-class Counts(NamedTuple):
-    """The counts of a log: its lines; the frames of the two sides; the messages that were received whole; the frames
-    that were dropped; the receptions that ended without their message, and those that stand at the end; the replies
-    that the meaning leaves out. Where `dropped`, `ended` and `unfinished` are 0, each frame that carries a message
-    belongs to a message that was received whole. A single frame that was lost is not seen.
-
-    `clean` is what the program asks with `--strict`: these three are 0, each side has a frame, and the last byte of the log
-    is a line feed."""
-
+class _CountsFields(NamedTuple):
     lines: int
     frames: int
     messages: int
@@ -147,6 +139,17 @@ class Counts(NamedTuple):
     ended: int
     unfinished: int
     pending: int
+
+
+class Counts(_CountsFields):
+    """The counts of a log: its lines; the frames of the two sides; the messages that were received whole; the frames
+    that were dropped; the receptions that ended without their message, and those that stand at the end; the replies
+    that the meaning leaves out. Where `dropped`, `ended` and `unfinished` are 0, each frame that carries a message
+    belongs to a message that was received whole. A single frame that was lost is not seen.
+
+    `clean` stands beside the seven: it is what the program asks with `--strict`, that these three are 0, each side has a
+    frame, and the last byte of the log is a line feed."""
+
     clean: bool = False
 
 

@@ -87,8 +87,8 @@ def _write_page(page: str, made: Callable[[], bytes]) -> str:
     try:
         with open(page, "wb") as out:
             out.write(made())
-    except OSError as error:
-        return f"no page: {_formats.shown(page)}: {error.strerror or error}"
+    except (OSError, ValueError) as error:
+        return f"no page: {_formats.shown(page)}: {getattr(error, 'strerror', None) or error}"
     except MemoryError:
         return f"no page: {_formats.shown(page)}: out of memory"
     return f"both logs on a page: {_formats.shown(page)}"
