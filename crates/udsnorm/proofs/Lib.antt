@@ -13,3 +13,4 @@ pub mod Fronts
 pub mod Serving
 pub mod AskedHints
 pub mod Awaited
+pub mod Signs

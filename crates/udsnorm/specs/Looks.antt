@@ -76,11 +76,7 @@ or_else None other = other
 
 -- what first bytes tell by a sign
 abbrev pub look_told : List ℕ → Option Look
-look_told first =
-    or_else (look_by_sign compressed_signs first)
-    (or_else (look_by_sign capture_signs first)
-    (or_else (look_by_sign recording_signs first)
-    (look_by_sign marked_signs first)))
+look_told first = look_by_sign signs first
 
 -- a stamp with a date: a year of four digits, and a hyphen
 abbrev pub is_dated : List ℕ → Bool

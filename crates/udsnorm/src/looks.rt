@@ -1,6 +1,6 @@
 //! What a file looks like that is no log, by its first bytes.
 
-ghost use Rattle.std.specs.Prelude.{◌≡◌, Some, map};
+ghost use Rattle.std.specs.Prelude.{◌≡◌, ◌++◌, ℕ, List, Some, map};
 ghost use Rattle.udsnorm.specs.Looks.{begins, capture_signs, compressed_signs, has_at, has_more_decimals, is_dated, is_table, lacks_stamp, look_by_sign, look_of, look_told, marked_signs, recording_signs, signs, text_look};
 
 /// What a log looks like that is refused in its first line, or by the bytes that it begins with.
@@ -69,11 +69,12 @@ fn has_more_decimals(first: &[u8], column: u32) -> bool
     column >= 10 && has_at(first, column as usize - 8, b'.')
 }
 
-/// What first bytes tell by a sign of one kind of file. Each sign tells its own look: no file that begins with it is taken for
-/// another one.
+/// What first bytes tell by a sign of one kind of file. Whatever follows a sign, it tells its own look: no file that begins with it
+/// is taken for another one.
+#[tactic(auto, using(crate::proofs::Signs::first_of_two))]
 fn look_told(first: &[u8]) -> Option<Look>
     ensures value { result ≡ look_told first.now }
-    ensures each { map (λ sign. look_told sign.0) signs ≡ map (λ sign. Some sign.1) signs }
+    ensures each { (rest : List ℕ) → map (λ sign. look_told (sign.0 ++ rest)) signs ≡ map (λ sign. Some sign.1) signs }
 {
     match compressed_look(first) {
         Some(look) => Some(look),
