@@ -2,7 +2,7 @@
 //! program, by `tests/report.py` and `tests/report_pairs.py`.
 
 use crate::calls::{CANONICAL, LOG, assert_session, byte_by_byte, failing, full, sides};
-use crate::rows::assert_front;
+use crate::rows::{assert_front, assert_text, shown};
 use can_log::Id;
 use std::alloc::Global;
 use std::io::{Read, Write};
@@ -115,6 +115,45 @@ fn two_sessions_are_held(rt: HostRuntime) -> Result<(), Fail> {
     assert!(rt; answer.err() == Some(CompareFault::Left(Fault::Read)) && reads == 0);
     let (answer, reads) = held(alloc, byte_by_byte(), failing())?;
     assert!(rt; answer.err() == Some(CompareFault::Right(Fault::Read)) && reads == 101);
+    Ok(())
+}
+
+/// A session with a row of each kind: a request, a reception that ended, its answer, a frame that was dropped, a request
+/// without an answer, and a reception that stands at the end.
+const EACH_ROW: &str = "\
+(0.000000) can0 7E0#0322F190
+(0.001000) can0 7E8#100862F190414243
+(0.002000) can0 7E8#0462F19041
+(0.003000) can0 7E8#214445
+(0.004000) can0 7E0#0322F191
+(0.005000) can0 7E8#100A62F191414243
+";
+
+/// What is printed of it: each type with its name and its fields, the bytes of a message as numbers.
+const PRINTED: &str = "HeldSession { rows: [\
+Message { role: Request, dir: Tester, place: MessagePlace { item: 1, \
+first: FramePlace { line: 1, micros: 0 }, last: FramePlace { line: 1, micros: 0 }, frames: 1 }, message: [34, 241, 144] }, \
+Ended { place: FramePlace { line: 3, micros: 2000 }, ended: Ended { begun_line: 2, len: 8, dir: Unit, cause: NewStart } }, \
+Message { role: Positive { asked: 0 }, dir: Unit, place: MessagePlace { item: 1, \
+first: FramePlace { line: 3, micros: 2000 }, last: FramePlace { line: 3, micros: 2000 }, frames: 1 }, message: [98, 241, 144, 65] }, \
+Dropped { place: FramePlace { line: 4, micros: 3000 }, dir: Unit, named: false, reason: NextUnexpected }, \
+Message { role: Request, dir: Tester, place: MessagePlace { item: 2, \
+first: FramePlace { line: 5, micros: 4000 }, last: FramePlace { line: 5, micros: 4000 }, frames: 1 }, message: [34, 241, 145] }, \
+Unfinished { dir: Unit, line: 6, len: 10 }, \
+NoAnswer { number: 2, silent: false }], \
+summary: Summary { lines: 6, frames: 6, tester_frames: 2, unit_frames: 4, messages: 3, dropped: 1, ended: 1, unfinished: 1, \
+pending: 0, ends_in_line_feed: true }, span: Some(Span { first: 0, last: 5000 }) }";
+
+#[test]
+fn a_session_that_is_held_is_printed(rt: HostRuntime) -> Result<(), Fail> {
+    let alloc = rt.alloc();
+    let (answer, _) = held(alloc, EACH_ROW.as_bytes(), "".as_bytes())?;
+    let both = answer.or(Err("not held"))?;
+    let left = shown(alloc, &both.left)?;
+    assert_text(&rt, "a session", left.as_str(), PRINTED);
+    let right = shown(alloc, &both.right)?;
+    let whole = format!(in alloc; "Held {{ left: {left}, right: {right} }}")?;
+    assert_text(&rt, "both", shown(alloc, &both)?.as_str(), whole.as_str());
     Ok(())
 }
 
