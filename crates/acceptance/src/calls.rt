@@ -261,6 +261,10 @@ fn a_session_in_memory_has_its_counts(rt: HostRuntime) -> Result<(), Fail> {
     assert!(rt;
         found.text.as_slice().starts_with(EXPLAINED.as_bytes()) && found.summary.lines == 5
     );
+    let found = counted::comparison(alloc, &config, log, CANONICAL.as_bytes());
+    let found = found.or(Err("not compared"))?;
+    assert!(rt; found.comparison == Comparison::Same);
+    assert!(rt; found.left.frames == 5 && found.right.messages == 2);
     Ok(())
 }
 

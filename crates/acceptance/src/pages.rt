@@ -11,7 +11,8 @@ use std::test::Fail;
 use trace_canon::Comparison;
 use trace_io::{Reading, Source, Target, Writing};
 use trace_log::{CompareFault, ConfigFault, Fault, Summary};
-use trace_report::{Held, PairTitle, hold_two, report, write_pair_page};
+use trace_report::in_memory::NoPairPage;
+use trace_report::{Held, PairTitle, hold_two, in_memory, report, write_pair_page};
 
 /// A log of the same request, and of nothing else.
 const REQUEST: &str = "(0.000000) can0 7E0#0322F190\n";
@@ -196,6 +197,28 @@ fn two_sessions_have_their_page(rt: HostRuntime) -> Result<(), Fail> {
         &page,
         &["B is refused", "line 1 column 1: not a log line"],
     );
+    Ok(())
+}
+
+#[test]
+fn sessions_in_memory_have_their_pages(rt: HostRuntime) -> Result<(), Fail> {
+    let (alloc, config) = (rt.alloc(), sides()?);
+    let (log, request) = (LOG.as_bytes(), REQUEST.as_bytes());
+    let (_, writer) = reported(alloc, log, Vec::new(alloc))?;
+    let page = page_in(writer)?;
+    let found = in_memory::page(alloc, &config, "", b"log", log)?;
+    assert!(rt; found.text.as_slice() == page.as_bytes() && found.summary.messages == 2);
+    let refused = in_memory::page(alloc, &config, "", b"log", b"x\n").err();
+    assert!(rt; refused == Some(Fault::BadLine { line: 1, column: 1 }));
+    let page = page_of_two(alloc, LOG, REQUEST)?;
+    let found = in_memory::pair_page(alloc, &config, "", b"log", b"canonical", log, request);
+    let found = found.or(Err("no page"))?;
+    assert!(rt; found.text.as_slice() == page.as_bytes());
+    assert!(rt; found.counted.comparison == Comparison::Different { item: 0 });
+    assert!(rt; found.counted.left.messages == 2 && found.counted.right.messages == 1);
+    let refused = in_memory::pair_page(alloc, &config, "", b"log", b"canonical", log, b"x\n").err();
+    let of_the_right = CompareFault::Right(Fault::BadLine { line: 1, column: 1 });
+    assert!(rt; refused == Some(NoPairPage::OfLog(of_the_right)));
     Ok(())
 }
 
