@@ -214,13 +214,43 @@ class Formats(unittest.TestCase):
         messages = [samples.message(0.0, 1, b"", 0, channel) for channel in channels]
         tally = formats.Tally()
         self.assertEqual([line.split()[1] for line in formats.lines_of(formats.frames_of_messages(iter(messages), tally), tally)], want)
-        # Of a stream it isn't known before which names come.
-        found = package(["convert", "-"], log=content)
-        self.assertEqual([line.split()[1].decode() for line in found.output.splitlines()], ["can0", "can1", "can0", "can2", "can3"])
-        self.assertIn(b"left out: frames of interfaces that no name is left for 2", found.error)
         rows = "".join(f"{at}.0,0x7e0,0,0,0,1,/g==,{at} x\n" for at in range(300))
         found = Read("many.csv", (samples.PYTHON_CAN.split("\n")[0] + ",channel\n" + rows).encode())
         self.assertEqual((len(found.lines), len({line.split()[1] for line in found.lines}), len(str(found.tally)) < 300), (100, 100, True))
+
+    def test_names_of_a_stream(self):
+        """Of a stream it isn't known before which names come: given are the last ones, which logs seldom have."""
+        channels = ["a b", "can0", "c\td", "a b", "can2", "can998", "0", "can999", "can999"]
+        head = samples.PYTHON_CAN.split("\n")[0] + ",channel\n"
+        rows = "".join(f"{at}.0,0x7e0,0,0,0,1,/g==,{channel}\n" for at, channel in enumerate(channels))
+        found = package(["convert", "-"], log=(head + rows).encode())
+        names = [line.split()[1].decode() for line in found.output.splitlines()]
+        self.assertEqual(names, ["can999", "can0", "can998", "can999", "can2", "can0"])
+        taken = "frames of an interface whose name another one got"
+        self.assertIn(f"frames 6; left out: {taken} (can998) 1, {taken} (can999) 2; noted: ".encode(), found.error)
+        self.assertIn(b"named: a b as can999, c\\x09d as can998\n", found.error)
+        many = [f"{at} x" for at in range(100)] + [f"can{at}" for at in range(900, 1000)]
+        rows = "".join(f"{at}.0,0x7e0,0,0,0,1,/g==,{channel}\n" for at, channel in enumerate(many))
+        found = package(["convert", "-"], log=(head + rows).encode())
+        self.assertEqual(len(found.output.splitlines()), 100)
+        self.assertIn(f"{taken} (can909) 1, {taken} (others) 90;".encode(), found.error)
+
+    def test_no_bus_is_thrown_away_of_a_stream(self):
+        """The session of a named pipe is that of its file, whatever another bus is called."""
+        rows = samples.SAVVYCAN.split("\n")
+        content = "\n".join([rows[0], rows[1].replace(",0,4,", ",my bus,4,"), *rows[1:3], ""]).encode()
+        with tempfile.TemporaryDirectory() as folder:
+            path, pipe = Path(folder, "run.csv"), Path(folder, "pipe")
+            path.write_bytes(content)
+            os.mkfifo(pipe)
+            of_file, of_stream = package(["convert", path]), package(["convert", "-"], log=content)
+            running = start(sys.executable, ["-B", "-m", "udsnorm", "convert", pipe], env=environment())
+            pipe.write_bytes(content)
+            of_pipe = end(running)
+        self.assertEqual(len(of_file.output.splitlines()), 3)
+        for found in (of_stream, of_pipe):
+            self.assertEqual(found.output, of_file.output.replace(b"can1 ", b"can999 "))
+            self.assertNotIn(b"left out", found.error)
 
     def test_what_no_line_can_say(self):
         frames = [
