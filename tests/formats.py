@@ -177,6 +177,28 @@ class Formats(unittest.TestCase):
                 self.assertEqual(found.lines, [samples.line(at, "can0", 0x7E0, b"\x01\x3e") for at in samples.sums(steps)])
                 self.assertEqual(found.tally.noted, {"stamps since the frame before": 400})
 
+    def test_more_bytes_than_the_length_says(self):
+        """A frame of which more is stored is left out and counted, and no other one is made of it."""
+        longer = {"frames with more bytes than their length says": 1}
+        whole, few = "130000 130 1000 0 0 0 0 0", "1331984 11 0 46500250 460a0250 20011736 20010205"
+        eight = "01 02 03 04 05 06 07 08"
+        for shown in (
+            f"3 3 01 02 03 04 {whole}", f"3 3 01 02 03 0A {few}", f"3 3 01 02 03 04 {few}", f"9 12 {eight} 09 10 11 12 13 {whole}",
+            f"8 8 {eight} 09 {whole}", f"8 0 {eight} {whole}", "3 3 01 02 03 130000 130 10 0 0 0 0 0",
+        ):
+            text = "date Tue Nov 14 10:13:20 pm 2023\nbase hex  timestamps absolute\n" + f"   1.000000 CANFD   1 Rx 7E0 0 0 {shown}\n"
+            found = Read("a.asc", text.encode())
+            with self.subTest(shown):
+                self.assertEqual((found.lines, found.fault, found.tally.left_out), ([], None, longer))
+        e, more = 1 << 31, bytes(range(24))
+        for held in (
+            samples.blf_object(100, 0, samples.blf_fd(1, 0x7E8, 8, more)), samples.blf_object(100, 0, samples.blf_fd(1, 0x7E8, 8, more, 0, 0)),
+            samples.blf_object(101, 0, samples.blf_fd_64(1, e | 0x18DA10F1, 8, more)),
+            samples.blf_object(101, 0, samples.blf_fd_64(1, 0x7E8, 12, more, 0)),
+        ):
+            found = Read("a.blf", samples.blf_file(samples.blf_container(samples.filled(held))))
+            self.assertEqual((found.lines, found.fault, found.tally.left_out), ([], None, longer))
+
     def test_days_that_there_are_not(self):
         for day in ("0000-01-01 00:00:00", "2023-02-29 00:00:00", "2023-13-01 00:00:00", "2023-01-01 24:00:00"):
             for shown in (f" ({day}.000000)  can0  7E0   [2]  01 3E\n", f"({day}.000000) can0 7E0#013E\n"):

@@ -82,9 +82,13 @@ class Tally:
         if len(data) < length:
             self.noted["frames with fewer bytes than their length says"] += 1
         elif len(data) > length:
-            self.left_out["frames with more bytes than their length says"] += 1
+            self.leave_out_longer()
             return None
         return data
+
+    def leave_out_longer(self) -> None:
+        """Counts a frame of which more bytes are stored than its length says."""
+        self.left_out["frames with more bytes than their length says"] += 1
 
     def flags_by_length(self, length: int) -> Optional[int]:
         """The flags of a frame where nothing but its length tells that it is one of CAN FD. In a log that has such frames,
