@@ -310,6 +310,21 @@ class Assertions(unittest.TestCase):
                     self.assertEqual((lines[0], lines[-1]), ("the sessions differ at item 1", f"no page: {page}: {why}"))
                     self.assertIn("+exchange ReadDataByIdentifier 22F190 -> unanswered", lines)
 
+    def test_page_of_any_path(self):
+        """One of bytes, and one that no file can have: the difference is told with each."""
+        other = EXAMPLES / "lost-frame.log"
+        with tempfile.TemporaryDirectory() as folder:
+            for name in (b"page.html", b"\xe9.html"):
+                page = os.path.join(os.fsencode(folder), name)
+                shown = f"{folder}/{name.decode('ascii', 'backslashreplace')}"
+                self.assertEqual(self.told(VIN, other, page=page)[-1], f"both logs on a page: {shown}")
+                self.assertTrue(os.path.exists(page))
+            self.assertEqual(self.told(VIN, other, page=os.fsencode(folder))[-1], f"no page: {folder}: Is a directory")
+        for page, shown in (("\ud800", "\\xd800"), ("a\0b", "a\\x00b"), (b"a\0b", "a\\x00b")):
+            lines = self.told(VIN, other, page=page)
+            self.assertEqual(lines[0], "the sessions differ at item 1")
+            self.assertTrue(lines[-1].startswith(f"no page: {shown}: "), lines[-1])
+
     def test_clean(self):
         """Both logs have to be clean where that is asked for, and the error says which is not, as the program does."""
         other, log = EXAMPLES / "lost-frame.log", VIN.read_bytes()
