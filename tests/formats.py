@@ -135,8 +135,9 @@ class Formats(unittest.TestCase):
         """A file of another name, or of none, is read by what it is; what its first bytes don't tell, by its suffix."""
         for sample in SAMPLES:
             with self.subTest(sample.name):
-                suffixed = sample.name in ("of_1_0.trc",)
-                self.assertEqual(Read(sample.name if suffixed else "recorded", sample.content).lines, sample.lines)
+                self.assertEqual(Read("recorded", sample.content).lines, sample.lines)
+        found = package(["convert", "-"], log=samples.TRC_10.encode())
+        self.assertEqual(found.output, "".join(samples.TRC_10_LINES).encode())
         self.assertEqual(Read("bare.asc", samples.ASC.split("\n", 7)[7].encode("latin-1")).lines, samples.ASC_LINES)
 
     def test_packed(self):
@@ -176,6 +177,20 @@ class Formats(unittest.TestCase):
             with self.subTest(share=share, kind="differences"):
                 self.assertEqual(found.lines, [samples.line(at, "can0", 0x7E0, b"\x01\x3e") for at in samples.sums(steps)])
                 self.assertEqual(found.tally.noted, {"stamps since the frame before": 400})
+
+    def test_decimals_of_stamps(self):
+        """Six to twelve, in each form of candump's stamps: rounded to the nearest microsecond, a half upwards."""
+        for digits in ("0000124", "000012499999", "00001150", "0000115000", "00001249999", "000012499", "0000115", "00001200"):
+            for seconds in ("1700000000", "2023-11-14 22:13:20"):
+                for shown in (f"({seconds}.{digits}) can0 7E0#013E\n", f" ({seconds}.{digits})  can0  7E0   [2]  01 3E\n"):
+                    with self.subTest(shown=shown):
+                        self.assertEqual(Read("run", shown.encode()).lines, ["(1700000000.000012) can0 7E0#013E\n"])
+                        self.assertEqual(package(["convert", "-"], log=shown.encode()).output, b"(1700000000.000012) can0 7E0#013E\n")
+        for digits in ("00001", "0000120000000"):
+            self.assertTrue(Read("run", f"(1.000001) can0 7E0#\n(1.{digits}) can0 7E0#013E\n".encode()).fault.startswith("line 2: no line"))
+        for digits, want in (("999999500000", "2.000000"), ("999999499999", "1.999999")):
+            self.assertEqual(Read("run", f"(1.{digits}) can0 7E0#013E\n".encode()).lines, [f"({want}) can0 7E0#013E\n"])
+        self.assertEqual(Read("run", b"(9999999999.9999995) can0 7E0#013E\n").tally.left_out, {"stamps that no line can say": 1})
 
     def test_more_bytes_than_the_length_says(self):
         """A frame of which more is stored is left out and counted, and no other one is made of it."""
