@@ -401,10 +401,21 @@ class Arguments(unittest.TestCase):
     def test_refused_memory(self):
         """Once by the library, and once where a process has no room for a text."""
         self.assertIsInstance(udsnorm._fault(udsnorm.Answer(status=udsnorm._library.MEMORY)), MemoryError)
-        ask = f"import resource, udsnorm; resource.setrlimit(resource.RLIMIT_AS, ({1 << 28},) * 2); udsnorm.normalise(bytes({1 << 26}))"
-        environment = {**os.environ, "PYTHONPATH": str(PACKAGE), "LD_LIBRARY_PATH": str(given.library.resolve())}
-        found = run(sys.executable, ["-c", ask], env=environment)
+        found = self.bounded("udsnorm.normalise(b'(0.000000) a 7E0#0110\\n' * 4000000)")
         self.assertEqual((found.status, found.error.splitlines()[-1]), (1, b"MemoryError"))
+
+    def bounded(self, asked):
+        """How Python ends that asks this of the package, in 256 MiB of addresses."""
+        ask = f"import resource, udsnorm; resource.setrlimit(resource.RLIMIT_AS, ({1 << 28},) * 2); {asked}"
+        environment = {**os.environ, "PYTHONPATH": str(PACKAGE), "LD_LIBRARY_PATH": str(given.library.resolve())}
+        return run(sys.executable, ["-c", ask], env=environment)
+
+    def test_memory_that_no_text_needs(self):
+        """Where there is no room for the longest text that there may be, there is for the one that comes."""
+        log = "b'(0.000000) a 123#0110\\n' * 1000000"
+        for asked in (f"udsnorm.report({log})", f"udsnorm.report_pair({log}, b'')", f"udsnorm.explain({log} * 3)"):
+            found = self.bounded(asked)
+            self.assertEqual((found.status, found.error), (0, b""))
 
 
 class Threads(unittest.TestCase):
