@@ -132,9 +132,11 @@ class BesideTheProgram(unittest.TestCase):
             try:
                 page = udsnorm.report_pair(*given_logs, **options, **settings)
             except udsnorm.Refused as refused:
-                # What a form lacks that the package alone reads is told before the logs are compared.
+                # What a form lacks that the package alone reads is told in words of its own, the left one's first.
                 if refused.reason != "bad file":
                     self.assertEqual((REFUSAL, told_of(refused)), (found.status, found.error.decode()))
+                elif refused.side == "right":
+                    self.assertIn(b"</html>", udsnorm.report(names[0], **settings))
             else:
                 self.assertEqual(page, found.output)
 
@@ -375,6 +377,27 @@ class Arguments(unittest.TestCase):
         self.assertEqual((found.reason, found.line, found.column, found.side), ("oversize", 1, None, "right"))
         handed_on = pickle.loads(pickle.dumps(found))
         self.assertEqual((str(handed_on), vars(handed_on)), (str(found), vars(found)))
+
+    def test_the_left_one_is_told_first(self):
+        """Also where the right one is no candump log and can't be read to its end."""
+        dated = b"(2023-11-14 22:13:20.000000) can0 7E0#013E\nwhat is this\n"
+        long, announced = VIN.read_bytes() * 2, b"(0.000000) a 7E0#1000FFFFFFFF0000\n"
+        calls = (udsnorm.compare, udsnorm.report_pair, testing.assert_same_session)
+        for left, settings, reasons in (
+            (b"garbage\n", {}, ["bad line"] * 3), (dated, {}, ["bad file"] * 3), (long, {"limit": len(long) - 1}, ["log limit"] * 3),
+            (announced, {}, ["oversize", None, "oversize"]), (CANONICAL.read_bytes()[:50], {}, ["bad line"] * 3),
+            (b"(0.000000) a 7E0#0110\n", {"limit": 45}, ["output limit", None, "output limit"]), (b"", {}, [None] * 3),
+        ):
+            with files(left, dated) as names:
+                for call, reason in zip(calls, reasons):
+                    with self.subTest(left=left[:40], call=call.__name__), self.assertRaises(udsnorm.Refused) as caught:
+                        call(*names, **settings)
+                    found = caught.exception
+                    want = (reason, "left", str(names[0])) if reason else ("bad file", "right", str(names[1]))
+                    self.assertEqual((found.reason, found.side, found.file), want)
+                    self.assertIsNone(found.__cause__)
+                with self.assertRaisesRegex(ValueError, "^limit out of range$"):
+                    udsnorm.compare(*names, limit=0)
 
     def test_limits(self):
         short = b"(0.000000) a 7E0#0110\n"
