@@ -120,7 +120,10 @@ def items(log: Log, *, tester: Identifier = TESTER, unit: Identifier = UNIT, lim
 def iter_items(
     log: Log, *, tester: Identifier = TESTER, unit: Identifier = UNIT, limit: int = LIMIT
 ) -> Iterator[Item]:
-    """The items of `items` one after the other, so that no list of them is held. Errors are raised by the call."""
+    """The items of `items` one after the other, so that no list of them is held. Errors are raised by the call.
+
+    Held are the lines of all items and those of `messages`, which tell their places: for each message about a hundred
+    bytes, and four for each byte of it."""
     settings = _settings(tester, unit, limit)
     return _items_in(_contents(log, settings.limit), log, settings)
 
