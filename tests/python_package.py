@@ -522,7 +522,8 @@ class Shipped(unittest.TestCase):
             self.pages_lie_where_they_are_shown(python, environment)
 
     def pages_lie_where_they_are_shown(self, python, environment):
-        """`pip show --files` names the pages, which lie there as they are in docs/, and so does what describes the package."""
+        """`pip show --files` names the pages, which lie there as they are in docs/, and so does what describes the package.
+        No link leads to a file that doesn't lie there, too."""
         files = run(python, ["-m", "pip", "show", "--files", "udsnorm"]).output.decode()
         location = Path(re.search(r"^Location: (.*)$", files, re.M)[1])
         ask = "import importlib.metadata as m; print(m.metadata('udsnorm').get_payload())"
@@ -533,7 +534,10 @@ class Shipped(unittest.TestCase):
         for name in names:
             shown = re.search(rf"^  (\S*/{name})$", files, re.M)[1]
             self.assertEqual((location / shown).resolve(), (environment / "share" / "doc" / "udsnorm" / name).resolve())
-            self.assertEqual((location / shown).read_bytes(), (TOP / "docs" / name).read_bytes())
+            pages = [path.read_text(encoding="utf-8") for path in (location / shown, TOP / "docs" / name)]
+            self.assertEqual(*(LINK.sub(r"\1", page) for page in pages))
+            kept = [link for link in LINK.findall(pages[1]) if link[1] in names or re.match("$|https?:", link[1])]
+            self.assertEqual(LINK.findall(pages[0]), kept)
 
     def test_types(self):
         if not shutil.which("mypy"):
@@ -545,6 +549,9 @@ class Shipped(unittest.TestCase):
             found = run("mypy", words, env={**os.environ, "MYPYPATH": str(PACKAGE)})
             self.assertEqual(found.status, 0, found.output.decode())
 
+
+# A link of a page: its words, and the file that it leads to.
+LINK = re.compile(r"\[((?:[^][]|\[[^][]*\])+)\]\(([^)#\s]*)(?:#[^)\s]*)?\)")
 
 # Code that a user may write, with its types.
 TYPED = '''
