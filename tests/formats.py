@@ -251,6 +251,9 @@ class Formats(unittest.TestCase):
         messages = [samples.message(0.0, 1, b"", 0, channel) for channel in channels]
         tally = formats.Tally()
         self.assertEqual([line.split()[1] for line in formats.lines_of(formats.frames_of_messages(iter(messages), tally), tally)], want)
+        last = [samples.message(0.0, 1, b"", 0, channel) for channel in ("can0", "a b")]
+        found = list(formats.lines_of(formats.frames_of_messages(iter(last), tally), tally))
+        self.assertEqual([line.split()[1] for line in found], ["can0", "can1"])
         rows = "".join(f"{at}.0,0x7e0,0,0,0,1,/g==,{at} x\n" for at in range(300))
         found = Read("many.csv", (samples.PYTHON_CAN.split("\n")[0] + ",channel\n" + rows).encode())
         self.assertEqual((len(found.lines), len({line.split()[1] for line in found.lines}), len(str(found.tally)) < 300), (100, 100, True))

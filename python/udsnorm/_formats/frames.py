@@ -195,7 +195,7 @@ def lines_of(
 
     def of_rest() -> Iterable[str]:
         held.extend(frames)
-        return (frame.interface for frame in held)
+        return (one.interface for one in itertools.chain([frame], held))
 
     names = _Names(tally, all_interfaces or of_rest)
     # What is held comes once the others have.
