@@ -6,6 +6,7 @@ A wheel is a zip file of the package and of what installers read (PEP 427, PEP 5
 import base64
 import hashlib
 import os
+import re
 import time
 import zipfile
 from pathlib import Path
@@ -42,6 +43,8 @@ Description-Content-Type: text/plain
 # The pages that README names, where the wheel has them and where they come to lie below the prefix.
 PAGES = [TOP / "docs" / f"{name}.md" for name in ("library", "python", "recipes", "formats")]
 PAGES_AT = f"udsnorm-{VERSION}.data/data/share/doc/udsnorm"
+# A link to a file: its words, and where that lies.
+LINK = re.compile(r"\[([^][]+)\]\(([^)#\s:]+)(?:#[^)\s]*)?\)")
 WHEEL = f"Wheel-Version: 1.0\nGenerator: udsnorm wheel_builder\nRoot-Is-Purelib: false\nTag: {TAG}\n"
 
 
@@ -59,6 +62,12 @@ def soname():
     return f"libudsnorm.so.{(TOP / 'library' / 'SONAME').read_text().strip()}"
 
 
+def page(path):
+    """A page as the wheel has it: of links to files that the wheel lacks there stand the words alone."""
+    names = {one.name for one in PAGES}
+    return LINK.sub(lambda link: link[0] if link[2] in names else link[1], path.read_text(encoding="utf-8"))
+
+
 def files():
     """What the wheel holds, but the list of it: names and bytes."""
     package = HERE / "udsnorm"
@@ -67,7 +76,7 @@ def files():
     yield f"udsnorm/{soname()}", (library_folder() / soname()).read_bytes()
     yield "udsnorm/udsnorm", program().read_bytes()
     for path in PAGES:
-        yield f"{PAGES_AT}/{path.name}", path.read_bytes()
+        yield f"{PAGES_AT}/{path.name}", page(path).encode()
     yield f"{INFORMATION}/METADATA", METADATA.encode()
     yield f"{INFORMATION}/WHEEL", WHEEL.encode()
     yield f"{INFORMATION}/LICENSE", (TOP / "LICENSE").read_bytes()

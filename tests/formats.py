@@ -135,8 +135,9 @@ class Formats(unittest.TestCase):
         """A file of another name, or of none, is read by what it is; what its first bytes don't tell, by its suffix."""
         for sample in SAMPLES:
             with self.subTest(sample.name):
-                suffixed = sample.name in ("of_1_0.trc",)
-                self.assertEqual(Read(sample.name if suffixed else "recorded", sample.content).lines, sample.lines)
+                self.assertEqual(Read("recorded", sample.content).lines, sample.lines)
+        found = package(["convert", "-"], log=samples.TRC_10.encode())
+        self.assertEqual(found.output, "".join(samples.TRC_10_LINES).encode())
         self.assertEqual(Read("bare.asc", samples.ASC.split("\n", 7)[7].encode("latin-1")).lines, samples.ASC_LINES)
 
     def test_packed(self):
@@ -177,6 +178,42 @@ class Formats(unittest.TestCase):
                 self.assertEqual(found.lines, [samples.line(at, "can0", 0x7E0, b"\x01\x3e") for at in samples.sums(steps)])
                 self.assertEqual(found.tally.noted, {"stamps since the frame before": 400})
 
+    def test_decimals_of_stamps(self):
+        """Six to twelve, in each form of candump's stamps: rounded to the nearest microsecond, a half upwards."""
+        for digits in ("0000124", "000012499999", "00001150", "0000115000", "00001249999", "000012499", "0000115", "00001200"):
+            for seconds in ("1700000000", "2023-11-14 22:13:20"):
+                for shown in (f"({seconds}.{digits}) can0 7E0#013E\n", f" ({seconds}.{digits})  can0  7E0   [2]  01 3E\n"):
+                    with self.subTest(shown=shown):
+                        self.assertEqual(Read("run", shown.encode()).lines, ["(1700000000.000012) can0 7E0#013E\n"])
+                        self.assertEqual(package(["convert", "-"], log=shown.encode()).output, b"(1700000000.000012) can0 7E0#013E\n")
+        for digits in ("00001", "0000120000000"):
+            self.assertTrue(Read("run", f"(1.000001) can0 7E0#\n(1.{digits}) can0 7E0#013E\n".encode()).fault.startswith("line 2: no line"))
+        for digits, want in (("999999500000", "2.000000"), ("999999499999", "1.999999")):
+            self.assertEqual(Read("run", f"(1.{digits}) can0 7E0#013E\n".encode()).lines, [f"({want}) can0 7E0#013E\n"])
+        self.assertEqual(Read("run", b"(9999999999.9999995) can0 7E0#013E\n").tally.left_out, {"stamps that no line can say": 1})
+
+    def test_more_bytes_than_the_length_says(self):
+        """A frame of which more is stored is left out and counted, and no other one is made of it."""
+        longer = {"frames with more bytes than their length says": 1}
+        whole, few = "130000 130 1000 0 0 0 0 0", "1331984 11 0 46500250 460a0250 20011736 20010205"
+        eight = "01 02 03 04 05 06 07 08"
+        for shown in (
+            f"3 3 01 02 03 04 {whole}", f"3 3 01 02 03 0A {few}", f"3 3 01 02 03 04 {few}", f"9 12 {eight} 09 10 11 12 13 {whole}",
+            f"8 8 {eight} 09 {whole}", f"8 0 {eight} {whole}", "3 3 01 02 03 130000 130 10 0 0 0 0 0",
+        ):
+            text = "date Tue Nov 14 10:13:20 pm 2023\nbase hex  timestamps absolute\n" + f"   1.000000 CANFD   1 Rx 7E0 0 0 {shown}\n"
+            found = Read("a.asc", text.encode())
+            with self.subTest(shown):
+                self.assertEqual((found.lines, found.fault, found.tally.left_out), ([], None, longer))
+        e, more = 1 << 31, bytes(range(24))
+        for held in (
+            samples.blf_object(100, 0, samples.blf_fd(1, 0x7E8, 8, more)), samples.blf_object(100, 0, samples.blf_fd(1, 0x7E8, 8, more, 0, 0)),
+            samples.blf_object(101, 0, samples.blf_fd_64(1, e | 0x18DA10F1, 8, more)),
+            samples.blf_object(101, 0, samples.blf_fd_64(1, 0x7E8, 12, more, 0)),
+        ):
+            found = Read("a.blf", samples.blf_file(samples.blf_container(samples.filled(held))))
+            self.assertEqual((found.lines, found.fault, found.tally.left_out), ([], None, longer))
+
     def test_days_that_there_are_not(self):
         for day in ("0000-01-01 00:00:00", "2023-02-29 00:00:00", "2023-13-01 00:00:00", "2023-01-01 24:00:00"):
             for shown in (f" ({day}.000000)  can0  7E0   [2]  01 3E\n", f"({day}.000000) can0 7E0#013E\n"):
@@ -214,13 +251,46 @@ class Formats(unittest.TestCase):
         messages = [samples.message(0.0, 1, b"", 0, channel) for channel in channels]
         tally = formats.Tally()
         self.assertEqual([line.split()[1] for line in formats.lines_of(formats.frames_of_messages(iter(messages), tally), tally)], want)
-        # Of a stream it isn't known before which names come.
-        found = package(["convert", "-"], log=content)
-        self.assertEqual([line.split()[1].decode() for line in found.output.splitlines()], ["can0", "can1", "can0", "can2", "can3"])
-        self.assertIn(b"left out: frames of interfaces that no name is left for 2", found.error)
+        last = [samples.message(0.0, 1, b"", 0, channel) for channel in ("can0", "a b")]
+        found = list(formats.lines_of(formats.frames_of_messages(iter(last), tally), tally))
+        self.assertEqual([line.split()[1] for line in found], ["can0", "can1"])
         rows = "".join(f"{at}.0,0x7e0,0,0,0,1,/g==,{at} x\n" for at in range(300))
         found = Read("many.csv", (samples.PYTHON_CAN.split("\n")[0] + ",channel\n" + rows).encode())
         self.assertEqual((len(found.lines), len({line.split()[1] for line in found.lines}), len(str(found.tally)) < 300), (100, 100, True))
+
+    def test_names_of_a_stream(self):
+        """Of a stream it isn't known before which names come: given are the last ones, which logs seldom have."""
+        channels = ["a b", "can0", "c\td", "a b", "can2", "can998", "0", "can999", "can999"]
+        head = samples.PYTHON_CAN.split("\n")[0] + ",channel\n"
+        rows = "".join(f"{at}.0,0x7e0,0,0,0,1,/g==,{channel}\n" for at, channel in enumerate(channels))
+        found = package(["convert", "-"], log=(head + rows).encode())
+        names = [line.split()[1].decode() for line in found.output.splitlines()]
+        self.assertEqual(names, ["can999", "can0", "can998", "can999", "can2", "can0"])
+        taken = "frames of an interface whose name another one got"
+        self.assertIn(f"frames 6; left out: {taken} (can998) 1, {taken} (can999) 2; noted: ".encode(), found.error)
+        self.assertIn(b"named: a b as can999, c\\x09d as can998\n", found.error)
+        many = [f"{at} x" for at in range(100)] + [f"can{at}" for at in range(900, 1000)]
+        rows = "".join(f"{at}.0,0x7e0,0,0,0,1,/g==,{channel}\n" for at, channel in enumerate(many))
+        found = package(["convert", "-"], log=(head + rows).encode())
+        self.assertEqual(len(found.output.splitlines()), 100)
+        self.assertIn(f"{taken} (can909) 1, {taken} (others) 90;".encode(), found.error)
+
+    def test_no_bus_is_thrown_away_of_a_stream(self):
+        """The session of a named pipe is that of its file, whatever another bus is called."""
+        rows = samples.SAVVYCAN.split("\n")
+        content = "\n".join([rows[0], rows[1].replace(",0,4,", ",my bus,4,"), *rows[1:3], ""]).encode()
+        with tempfile.TemporaryDirectory() as folder:
+            path, pipe = Path(folder, "run.csv"), Path(folder, "pipe")
+            path.write_bytes(content)
+            os.mkfifo(pipe)
+            of_file, of_stream = package(["convert", path]), package(["convert", "-"], log=content)
+            running = start(sys.executable, ["-B", "-m", "udsnorm", "convert", pipe], env=environment())
+            pipe.write_bytes(content)
+            of_pipe = end(running)
+        self.assertEqual(len(of_file.output.splitlines()), 3)
+        for found in (of_stream, of_pipe):
+            self.assertEqual(found.output, of_file.output.replace(b"can1 ", b"can999 "))
+            self.assertNotIn(b"left out", found.error)
 
     def test_what_no_line_can_say(self):
         frames = [

@@ -132,9 +132,11 @@ class BesideTheProgram(unittest.TestCase):
             try:
                 page = udsnorm.report_pair(*given_logs, **options, **settings)
             except udsnorm.Refused as refused:
-                # What a form lacks that the package alone reads is told before the logs are compared.
+                # What a form lacks that the package alone reads is told in words of its own, the left one's first.
                 if refused.reason != "bad file":
                     self.assertEqual((REFUSAL, told_of(refused)), (found.status, found.error.decode()))
+                elif refused.side == "right":
+                    self.assertIn(b"</html>", udsnorm.report(names[0], **settings))
             else:
                 self.assertEqual(page, found.output)
 
@@ -310,6 +312,21 @@ class Assertions(unittest.TestCase):
                     self.assertEqual((lines[0], lines[-1]), ("the sessions differ at item 1", f"no page: {page}: {why}"))
                     self.assertIn("+exchange ReadDataByIdentifier 22F190 -> unanswered", lines)
 
+    def test_page_of_any_path(self):
+        """One of bytes, and one that no file can have: the difference is told with each."""
+        other = EXAMPLES / "lost-frame.log"
+        with tempfile.TemporaryDirectory() as folder:
+            for name in (b"page.html", b"\xe9.html"):
+                page = os.path.join(os.fsencode(folder), name)
+                shown = f"{folder}/{name.decode('ascii', 'backslashreplace')}"
+                self.assertEqual(self.told(VIN, other, page=page)[-1], f"both logs on a page: {shown}")
+                self.assertTrue(os.path.exists(page))
+            self.assertEqual(self.told(VIN, other, page=os.fsencode(folder))[-1], f"no page: {folder}: Is a directory")
+        for page, shown in (("\ud800", "\\xd800"), ("a\0b", "a\\x00b"), (b"a\0b", "a\\x00b")):
+            lines = self.told(VIN, other, page=page)
+            self.assertEqual(lines[0], "the sessions differ at item 1")
+            self.assertTrue(lines[-1].startswith(f"no page: {shown}: "), lines[-1])
+
     def test_clean(self):
         """Both logs have to be clean where that is asked for, and the error says which is not, as the program does."""
         other, log = EXAMPLES / "lost-frame.log", VIN.read_bytes()
@@ -361,6 +378,27 @@ class Arguments(unittest.TestCase):
         handed_on = pickle.loads(pickle.dumps(found))
         self.assertEqual((str(handed_on), vars(handed_on)), (str(found), vars(found)))
 
+    def test_the_left_one_is_told_first(self):
+        """Also where the right one is no candump log and can't be read to its end."""
+        dated = b"(2023-11-14 22:13:20.000000) can0 7E0#013E\nwhat is this\n"
+        long, announced = VIN.read_bytes() * 2, b"(0.000000) a 7E0#1000FFFFFFFF0000\n"
+        calls = (udsnorm.compare, udsnorm.report_pair, testing.assert_same_session)
+        for left, settings, reasons in (
+            (b"garbage\n", {}, ["bad line"] * 3), (dated, {}, ["bad file"] * 3), (long, {"limit": len(long) - 1}, ["log limit"] * 3),
+            (announced, {}, ["oversize", None, "oversize"]), (CANONICAL.read_bytes()[:50], {}, ["bad line"] * 3),
+            (b"(0.000000) a 7E0#0110\n", {"limit": 45}, ["output limit", None, "output limit"]), (b"", {}, [None] * 3),
+        ):
+            with files(left, dated) as names:
+                for call, reason in zip(calls, reasons):
+                    with self.subTest(left=left[:40], call=call.__name__), self.assertRaises(udsnorm.Refused) as caught:
+                        call(*names, **settings)
+                    found = caught.exception
+                    want = (reason, "left", str(names[0])) if reason else ("bad file", "right", str(names[1]))
+                    self.assertEqual((found.reason, found.side, found.file), want)
+                    self.assertIsNone(found.__cause__)
+                with self.assertRaisesRegex(ValueError, "^limit out of range$"):
+                    udsnorm.compare(*names, limit=0)
+
     def test_limits(self):
         short = b"(0.000000) a 7E0#0110\n"
         for log, limit, reason in ((CANONICAL, 229, "log limit"), (short, 21, "log limit"), (short, 45, "output limit")):
@@ -386,10 +424,21 @@ class Arguments(unittest.TestCase):
     def test_refused_memory(self):
         """Once by the library, and once where a process has no room for a text."""
         self.assertIsInstance(udsnorm._fault(udsnorm.Answer(status=udsnorm._library.MEMORY)), MemoryError)
-        ask = f"import resource, udsnorm; resource.setrlimit(resource.RLIMIT_AS, ({1 << 28},) * 2); udsnorm.normalise(bytes({1 << 26}))"
-        environment = {**os.environ, "PYTHONPATH": str(PACKAGE), "LD_LIBRARY_PATH": str(given.library.resolve())}
-        found = run(sys.executable, ["-c", ask], env=environment)
+        found = self.bounded("udsnorm.normalise(b'(0.000000) a 7E0#0110\\n' * 4000000)")
         self.assertEqual((found.status, found.error.splitlines()[-1]), (1, b"MemoryError"))
+
+    def bounded(self, asked):
+        """How Python ends that asks this of the package, in 256 MiB of addresses."""
+        ask = f"import resource, udsnorm; resource.setrlimit(resource.RLIMIT_AS, ({1 << 28},) * 2); {asked}"
+        environment = {**os.environ, "PYTHONPATH": str(PACKAGE), "LD_LIBRARY_PATH": str(given.library.resolve())}
+        return run(sys.executable, ["-c", ask], env=environment)
+
+    def test_memory_that_no_text_needs(self):
+        """Where there is no room for the longest text that there may be, there is for the one that comes."""
+        log = "b'(0.000000) a 123#0110\\n' * 1000000"
+        for asked in (f"udsnorm.report({log})", f"udsnorm.report_pair({log}, b'')", f"udsnorm.explain({log} * 3)"):
+            found = self.bounded(asked)
+            self.assertEqual((found.status, found.error), (0, b""))
 
 
 class Threads(unittest.TestCase):
@@ -473,7 +522,8 @@ class Shipped(unittest.TestCase):
             self.pages_lie_where_they_are_shown(python, environment)
 
     def pages_lie_where_they_are_shown(self, python, environment):
-        """`pip show --files` names the pages, which lie there as they are in docs/, and so does what describes the package."""
+        """`pip show --files` names the pages, which lie there as they are in docs/, and so does what describes the package.
+        No link leads to a file that doesn't lie there, too."""
         files = run(python, ["-m", "pip", "show", "--files", "udsnorm"]).output.decode()
         location = Path(re.search(r"^Location: (.*)$", files, re.M)[1])
         ask = "import importlib.metadata as m; print(m.metadata('udsnorm').get_payload())"
@@ -484,7 +534,10 @@ class Shipped(unittest.TestCase):
         for name in names:
             shown = re.search(rf"^  (\S*/{name})$", files, re.M)[1]
             self.assertEqual((location / shown).resolve(), (environment / "share" / "doc" / "udsnorm" / name).resolve())
-            self.assertEqual((location / shown).read_bytes(), (TOP / "docs" / name).read_bytes())
+            pages = [path.read_text(encoding="utf-8") for path in (location / shown, TOP / "docs" / name)]
+            self.assertEqual(*(LINK.sub(r"\1", page) for page in pages))
+            kept = [link for link in LINK.findall(pages[1]) if link[1] in names or re.match("$|https?:", link[1])]
+            self.assertEqual(LINK.findall(pages[0]), kept)
 
     def test_types(self):
         if not shutil.which("mypy"):
@@ -496,6 +549,9 @@ class Shipped(unittest.TestCase):
             found = run("mypy", words, env={**os.environ, "MYPYPATH": str(PACKAGE)})
             self.assertEqual(found.status, 0, found.output.decode())
 
+
+# A link of a page: its words, and the file that it leads to.
+LINK = re.compile(r"\[((?:[^][]|\[[^][]*\])+)\]\(([^)#\s]*)(?:#[^)\s]*)?\)")
 
 # Code that a user may write, with its types.
 TYPED = '''

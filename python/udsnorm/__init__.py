@@ -21,7 +21,7 @@ import re
 import sys
 import warnings
 from itertools import islice
-from typing import TYPE_CHECKING, Any, Iterable, Iterator, List, NamedTuple, Optional, Union
+from typing import TYPE_CHECKING, Any, Callable, Iterable, Iterator, List, NamedTuple, Optional, Union
 
 from . import _formats, _library
 from ._library import Answer, Settings
@@ -120,7 +120,10 @@ def items(log: Log, *, tester: Identifier = TESTER, unit: Identifier = UNIT, lim
 def iter_items(
     log: Log, *, tester: Identifier = TESTER, unit: Identifier = UNIT, limit: int = LIMIT
 ) -> Iterator[Item]:
-    """The items of `items` one after the other, so that no list of them is held. Errors are raised by the call."""
+    """The items of `items` one after the other, so that no list of them is held. Errors are raised by the call.
+
+    Held are the lines of all items and those of `messages`, which tell their places: for each message about a hundred
+    bytes, and four for each byte of it."""
     settings = _settings(tester, unit, limit)
     return _items_in(_contents(log, settings.limit), log, settings)
 
@@ -203,7 +206,7 @@ def report_pair(
     are equal, or "left" and "right".
     Settings and errors are those of `compare`, but that no announced length and no canonical log refuses a log."""
     settings = _settings(tester, unit, limit)
-    one, other = _contents(left, settings.limit, "left"), _contents(right, settings.limit, "right")
+    one, other = _both(left, right, settings, lambda *logs: _library.pair_page(settings, (b"", b""), *logs)[0])
     return _pair_page(left, right, one, other, names, settings)
 
 
@@ -263,9 +266,21 @@ def _warn(name: str, tally: "_formats.Tally") -> None:
         warnings.warn(f"{_formats.shown(name)}: {tally}", LeftOut, stacklevel=inside + 1)
 
 
+def _both(left: Log, right: Log, settings: Settings, judge: Callable[[bytes, bytes], Answer]) -> "tuple[bytes, bytes]":
+    """The bytes of two logs. Where the right one can't be read to its end, the left one is judged first: beside nothing."""
+    one = _contents(left, settings.limit, "left")
+    try:
+        return one, _contents(right, settings.limit, "right")
+    except Refused:
+        answer = judge(one, b"")
+        if answer.status != _library.DONE:
+            raise _fault(answer, left) from None
+        raise
+
+
 def _compared(left: Log, right: Log, settings: Settings) -> "tuple[Answer, bytes, bytes]":
     """What two logs are to each other, and the bytes of both."""
-    one, other = _contents(left, settings.limit, "left"), _contents(right, settings.limit, "right")
+    one, other = _both(left, right, settings, lambda *logs: _library.compare(settings, *logs))
     answer = _library.compare(settings, one, other)
     if answer.status != _library.DONE:
         raise _fault(answer, right if answer.side == 2 else left)

@@ -135,20 +135,22 @@ def pair_page(settings: Settings, names: Tuple[bytes, bytes], left: bytes, right
 
 
 def _put(call: Any, given: Iterable[Any], room: int) -> Tuple[Answer, bytes]:
-    """The answer of a call to these arguments, and its text: there is so much room for it at first, and then as much as it
-    wants."""
+    """The answer of a call to these arguments, and its text: there is so much room for it at first, if there is, and then
+    as much as it wants."""
     answer = Answer()
+    is_known = False
     while True:
         out = _process.malloc(room)
-        if not out:
+        if not out and is_known:
             raise MemoryError
         try:
-            call(*given, out, room, ctypes.byref(answer))
+            # Without room it is asked how much is wanted.
+            call(*given, out, room if out else 0, ctypes.byref(answer))
             if answer.status != ROOM:
-                return answer, _bytes_at(out, answer.length)
+                return answer, _bytes_at(out, answer.length) if answer.length else b""
         finally:
             _process.free(out)
-        room = answer.length
+        room, is_known = answer.length, True
 
 
 def compare(settings: Settings, left: bytes, right: bytes) -> Answer:

@@ -2,8 +2,8 @@
 
 from __future__ import annotations
 
-import re
-from typing import Dict, Iterator, List, Literal, NamedTuple, Optional, Tuple, Union, cast
+import io
+from typing import Dict, Iterator, List, Literal, NamedTuple, Optional, Union, cast
 
 Direction = Literal["tester", "unit"]
 Outcome = Literal["positive", "negative", "silent", "unanswered"]
@@ -177,34 +177,37 @@ def items_of(text: bytes, messages: bytes) -> Iterator[Item]:
 def _item(fields: List[str], number: bytes, places: "_Places") -> Item:
     if fields[0] == "stray":
         stray = Stray(cast(Direction, fields[1]), bytes.fromhex(fields[2]))
-        stray._first = stray._last = places.of(number, b"stray")
+        stray._first = stray._last = places.of(b"%b stray %b" % (number, fields[1].encode()))
         return stray
     service, request, outcome = fields[1], bytes.fromhex(fields[2]), cast(Outcome, fields[4])
     code = fields[5] if outcome == "negative" else None
     answer = bytes.fromhex(fields[-1]) if outcome in ("positive", "negative") else None
     exchange = Exchange(service, request, outcome, code, answer)
-    exchange._first = exchange._last = places.of(number, b"request")
+    exchange._first = exchange._last = places.of(b"%b request tester" % number)
     if answer is not None:
-        exchange._last = places.of(number, b"answer")
+        exchange._last = places.of(b"%b answer unit" % number)
     return exchange
 
 
 class _Places:
-    """The places of messages by the numbers of their items and by what they are there. Of the lines that tell them no
-    more are read than are asked for."""
-
-    _LINE = re.compile(rb"^(\d+) (request|answer|stray) \w+ lines (\S+ to \S+ at \S+ to \S+) ", re.M)
+    """The places of messages by the words before them: the numbers of their items, what they are there, and their sides. Of
+    the lines that tell them no more are read than are asked for."""
 
     def __init__(self, text: bytes) -> None:
-        self._lines = self._LINE.finditer(text)
-        self._kept: Dict[Tuple[bytes, bytes], bytes] = {}
+        self._lines = io.BytesIO(text)
+        self._kept: Dict[bytes, bytes] = {}
 
-    def of(self, number: bytes, role: bytes) -> bytes:
-        """The place of this message, which is then kept no longer."""
-        while (number, role) not in self._kept:
-            line = next(self._lines)
-            self._kept[line[1], line[2]] = line[3]
-        return self._kept.pop((number, role))
+    def of(self, message: bytes) -> bytes:
+        """The place of this message. Those of the messages before it are kept until they are asked for."""
+        if message in self._kept:
+            return self._kept.pop(message)
+        for line in self._lines:
+            words, _, rest = line.partition(b" lines ")
+            if words == message:
+                return rest.rpartition(b" ")[0]
+            if b" pending " not in words:
+                self._kept[words] = rest.rpartition(b" ")[0]
+        raise KeyError(message)
 
 
 def _place(text: bytes) -> Place:

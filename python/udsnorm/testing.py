@@ -22,7 +22,7 @@ def assert_same_session(
     tester: Identifier = TESTER,
     unit: Identifier = UNIT,
     limit: int = LIMIT,
-    page: "Union[None, str, os.PathLike[str]]" = None,
+    page: "Union[None, str, bytes, os.PathLike[str]]" = None,
     clean: bool = False,
 ) -> None:
     """Two logs have the same meaning, and where `clean` is asked for, both are clean, as the program asks with `--strict`:
@@ -44,7 +44,7 @@ def assert_same_session(
     if is_unclean:
         told += [f"{side}: {line}" for side, log in (("left", one), ("right", other)) for line in _unclean(log, settings)]
     if page is not None:
-        told.append(_write_page(os.fspath(page), lambda: _pair_page(left, right, one, other, None, settings)))
+        told.append(_write_page(os.fsdecode(page), lambda: _pair_page(left, right, one, other, None, settings)))
     raise AssertionError("\n".join(told))
 
 

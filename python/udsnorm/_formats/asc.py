@@ -23,6 +23,10 @@ _BEHIND = ("Length", "BitCount", "ID", "TE", "WU", "XX", "NERR")
 
 # The flags of a line CANFD: a remote frame, a frame of CAN FD.
 _REMOTE, _FD = 0x10, 0x1000
+# How many words stand behind the data of such a line at most: duration, length, flags, checksum, four timings.
+_MOST_BEHIND = 8
+# A byte in two hexadecimal digits that is no number as a duration is spelled.
+_NO_DURATION = re.compile(r"(?!\d\d$)[0-9A-Fa-f]{2}|0\d", re.A)
 
 
 def looks_so(head: str) -> bool:
@@ -144,6 +148,10 @@ class _Reader:
         if len(behind) < 4 and not line.is_whole:
             raise ValueError
         flags = int(behind[2], 16) if len(behind) > 2 and _FLAGS.fullmatch(behind[2]) else _FD
+        # More bytes shift what stands behind them, so that other numbers are read as flags.
+        if len(behind) > _MOST_BEHIND or (behind and _NO_DURATION.fullmatch(behind[0])) or (flags & _REMOTE and data):
+            self._tally.leave_out_longer()
+            return None
         if flags & _REMOTE or (code and not length):
             return Frame(micros, interface_of(channel), identifier, is_extended, b"", None, code)
         of_fd = (BIT_RATE_SWITCH if switch == "1" else 0) | (ERROR_STATE if state == "1" else 0)

@@ -201,6 +201,8 @@ class _Objects:
         else:
             channel, direction, code, identifier = _CLASSIC.unpack_from(held, head)
             is_remote, begin = direction & _REMOTE, head + _CLASSIC.size
+            # It has room for eight bytes, however many are meant.
+            end = min(end, begin + min(code, 8))
         if direction & _DIRECTION == _REQUEST:
             self._tally.left_out["transmit requests"] += 1
             return None
@@ -208,7 +210,5 @@ class _Objects:
         if is_remote:
             return Frame(micros, interface, number, is_extended, b"", None, code)
         length = LENGTHS[code & 15] if flags is not None else min(code, 8)
-        data = held[begin : min(end, begin + length)]
-        if len(data) < length:
-            self._tally.fitting(data, length)
-        return Frame(micros, interface, number, is_extended, data, flags)
+        data = self._tally.fitting(held[begin:end], length)
+        return None if data is None else Frame(micros, interface, number, is_extended, data, flags)

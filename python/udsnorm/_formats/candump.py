@@ -1,4 +1,4 @@
-"""candump's own logs, of `-l` and `-L`. Lines that the program reads stay as they are. Stamps with a day or in nanoseconds
+"""candump's own logs, of `-l` and `-L`. Lines that the program reads stay as they are. Stamps with a day or with more decimals
 are spelled as those of other lines, and notices of lost frames are counted."""
 
 from __future__ import annotations

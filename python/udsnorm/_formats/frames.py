@@ -18,6 +18,8 @@ BIT_RATE_SWITCH, ERROR_STATE = 1, 2
 #: A line has ten digits for the seconds.
 MOST_MICROS = 10**16
 NO_STAMP = "stamps that no line can say"
+_NO_NAME = "frames of interfaces that no name is left for"
+_NAME_TAKEN = "frames of an interface whose name another one got"
 _NAME = re.compile(r"[!-~]{1,15}")
 # What Python has in a text for a byte that is no sign.
 _SURROGATE = re.compile("[\udc80-\udcff]")
@@ -80,9 +82,13 @@ class Tally:
         if len(data) < length:
             self.noted["frames with fewer bytes than their length says"] += 1
         elif len(data) > length:
-            self.left_out["frames with more bytes than their length says"] += 1
+            self.leave_out_longer()
             return None
         return data
+
+    def leave_out_longer(self) -> None:
+        """Counts a frame of which more bytes are stored than its length says."""
+        self.left_out["frames with more bytes than their length says"] += 1
 
     def flags_by_length(self, length: int) -> Optional[int]:
         """The flags of a frame where nothing but its length tells that it is one of CAN FD. In a log that has such frames,
@@ -138,19 +144,24 @@ def nearest(numerator: int, denominator: int) -> int:
 
 class _Names(Dict[str, str]):
     """The name of each interface in a line. One whose own no line can say gets the first `canN` that no interface of the
-    log has; where these can't be known before, none that came before. An interface that can't be told from another
-    gets none."""
+    log has; where these can't be known before, the last one that none had so far, since logs have the first ones. An
+    interface that can't be told from another gets none."""
 
     def __init__(self, tally: Tally, all_interfaces: Callable[[], Iterable[str]]) -> None:
         super().__init__()
         self._tally, self._all_interfaces = tally, all_interfaces
         self._free = dict.fromkeys(_GIVEN)
         self._given: Set[str] = set()
+        self._are_known = False
+
+    def is_given(self, interface: str) -> bool:
+        """Another interface got the name of this one."""
+        return interface in self._given
 
     def __missing__(self, interface: str) -> str:
         if not is_name(interface):
             return self._give(interface)
-        if interface in self._given:
+        if self.is_given(interface):
             return ""
         self._free.pop(interface, None)
         if len(self) < len(_GIVEN):
@@ -160,10 +171,11 @@ class _Names(Dict[str, str]):
     def _give(self, interface: str) -> str:
         if not self._given:
             for other in self._all_interfaces():
+                self._are_known = True
                 self._free.pop(other, None)
         if len(self._given) == _MOST_GIVEN or not self._free:
             return ""
-        name = next(iter(self._free))
+        name = next(iter(self._free) if self._are_known else reversed(self._free))
         del self._free[name]
         self._given.add(name)
         self._tally.name(interface, name)
@@ -176,14 +188,14 @@ def lines_of(
 ) -> Iterator[str]:
     """The line of each frame. One that no line can say is counted as left out.
 
-    `all_interfaces` gives those of all frames, if it can; it is asked where one has a name that no line can say. Without
-    it the frames from there on are held."""
+    `all_interfaces` gives those of all frames, or none where it can't; it is asked where one has a name that no line can
+    say. Without it the frames from there on are held."""
     frames = iter(frames)
     held: List[Frame] = []
 
     def of_rest() -> Iterable[str]:
         held.extend(frames)
-        return (frame.interface for frame in held)
+        return (one.interface for one in itertools.chain([frame], held))
 
     names = _Names(tally, all_interfaces or of_rest)
     # What is held comes once the others have.
@@ -193,7 +205,11 @@ def lines_of(
         if not (
             0 <= micros < MOST_MICROS and 0 <= identifier <= largest and len(data) in (_OF_CLASSIC if flags is None else _OF_FD)
         ) or not name:
-            tally.left_out[_why_unsayable(frame, largest)] += 1
+            why = _why_unsayable(frame, largest)
+            if why == _NO_NAME and names.is_given(interface):
+                tally.leave_out_of_many(f"{_NAME_TAKEN} ({interface})", f"{_NAME_TAKEN} (others)")
+            else:
+                tally.left_out[why] += 1
             continue
         tally.written += 1
         digits = f"{identifier:08X}" if is_extended else f"{identifier:03X}"
@@ -213,7 +229,7 @@ def _why_unsayable(frame: Frame, largest: int) -> str:
     if not 0 <= frame.identifier <= largest:
         return "identifiers that no line can say"
     if len(frame.data) in (_OF_CLASSIC if frame.flags is None else _OF_FD):
-        return "frames of interfaces that no name is left for"
+        return _NO_NAME
     if frame.flags is None:
         return "classic frames of more than eight bytes"
     return "frames of a length that there is not"

@@ -12,7 +12,7 @@ import io
 import re
 from typing import Iterator, Optional
 
-from .frames import BIT_RATE_SWITCH, ERROR_STATE, Frame, Tally, interface_of
+from .frames import BIT_RATE_SWITCH, ERROR_STATE, Frame, Tally, interface_of, nearest
 from .texts import Line, fraction, lines
 
 _COLOURS = re.compile(r"\x1b\[[0-9;]*m")
@@ -21,8 +21,8 @@ _LINE = re.compile(
     r"(?P<identifier>[0-9A-F]{8}|[0-9A-F]{3})\s+(?:\[(?P<length>\d\d?)\]|\{(?P<code>[0-9A-F])\})(?P<rest>.*)",
     re.A,
 )
-_SECONDS = re.compile(r"(\d{1,12})\.(\d{6}|\d{9})", re.A)
-_DAY = re.compile(r"(\d{4}-\d\d-\d\d \d\d:\d\d:\d\d)\.(\d{6}|\d{9})", re.A)
+_SECONDS = re.compile(r"(\d{1,12})\.(\d{6,12})", re.A)
+_DAY = re.compile(r"(\d{4}-\d\d-\d\d \d\d:\d\d:\d\d)\.(\d{6,12})", re.A)
 # The data by hexadecimal digits, or by binary ones of `-i`; with `-S` from the last byte on, by grave accents. Behind
 # them may stand what they are in ASCII.
 _BYTES = re.compile(r"\s+(?P<data>[0-9A-F]{2}(?:[ `][0-9A-F]{2})*)(?![^\s])")
@@ -101,17 +101,22 @@ def _frame(line: Line, found: "re.Match[str]", micros: int, tally: Tally) -> Opt
 
 
 def micros_of(stamp: Optional[str]) -> Optional[int]:
-    """The microseconds of a stamp: seconds, or a day and a time, which is taken as UTC."""
+    """The microseconds of a stamp, the nearest ones: seconds, or a day and a time, which is taken as UTC."""
     seconds, day = _SECONDS.fullmatch(stamp or ""), _DAY.fullmatch(stamp or "")
     if seconds:
-        return (int(seconds[1]) * 10**9 + fraction(seconds[2], 9) + 500) // 1000
+        return _micros(int(seconds[1]), seconds[2])
     if day:
         try:
             whole = calendar.timegm(datetime.datetime.fromisoformat(day[1]).timetuple())
         except ValueError:
             return None
-        return (whole * 10**9 + fraction(day[2], 9) + 500) // 1000
+        return _micros(whole, day[2])
     return None
+
+
+def _micros(seconds: int, digits: str) -> int:
+    """The nearest microseconds of seconds with up to twelve digits behind the dot."""
+    return nearest(seconds * 10**12 + fraction(digits, 12), 10**6)
 
 
 def _has_differences(head: str) -> bool:

@@ -30,8 +30,8 @@ _ERRORS, _EVENTS = ("Error", "ER"), ("Warng", "ST", "EC", "EV")
 
 
 def looks_so(head: str) -> bool:
-    """The head says its version."""
-    return bool(re.match(r"(?:\s*;.*\n){0,5}\s*;\$FILEVERSION=", head))
+    """The first line is one of a head. It says the version; that of 1.0 says none."""
+    return head.lstrip().startswith(";")
 
 
 def frames(file: BinaryIO, tally: Tally) -> Iterator[Frame]:
