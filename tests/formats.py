@@ -516,6 +516,21 @@ class Tool(unittest.TestCase):
         for words in ([whole, first], [first, whole]):
             self.assertEqual(package(["compare", *words], cwd=self.folder), (DONE, b"same\n", b""))
 
+    def test_folders_behind_links(self):
+        """`..` behind a link to a folder is the folder above the one that it leads to, as the program has it."""
+        (self.folder / "below" / "sub").mkdir(parents=True)
+        (self.folder / "link").symlink_to("below/sub")
+        for name, log in (("e", VIN.read_bytes()), ("below/e", (EXAMPLES / "lost-frame.log").read_bytes())):
+            self.put(f"{name}.blf", blf_of(log))
+            self.put(f"{name}.log", log)
+        for other in ("link/../e.blf", "link/../e.log"):
+            for one in ("e.blf", self.folder / "e.blf", "below/sub/../../e.blf"):
+                for words in ([one, other], [other, one]):
+                    self.assertEqual(package(["compare", *words], cwd=self.folder).status, DIFFERENT, words)
+            for one in ("below/e.blf", self.folder / "below" / "e.blf", "link/../e.blf"):
+                for words in ([one, other], [other, one]):
+                    self.assertEqual(package(["compare", *words], cwd=self.folder), (DONE, b"same\n", b""), words)
+
     def test_names_on_pages(self):
         """The page shows the names that were given: the last part, or the paths where both have one name."""
         for name in ("left/run.blf", "right/run.blf"):

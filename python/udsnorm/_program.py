@@ -36,7 +36,7 @@ def found() -> Optional[str]:
     if beside.is_file() and os.access(beside, os.X_OK):
         return str(beside)
     of_system = shutil.which("udsnorm")
-    return of_system and os.path.abspath(of_system)
+    return of_system and os.path.join(os.getcwd(), of_system)
 
 
 def tell(name: str, text: str) -> None:
@@ -147,10 +147,11 @@ class Folder:
 
     def word_for(self, word: str, source: Optional[Source], is_other: bool) -> str:
         """The word that means here what this one means where the run was asked for."""
-        whole = os.path.abspath(word)
+        # The name as it is: behind a link to a folder, `..` is not what its letters say.
+        whole = os.path.join(os.getcwd(), word)
         if not is_other and (not isinstance(source, str) or (os.path.isabs(word) and is_text(word))):
             return whole if os.path.exists(word) else word
-        place = self.place_of(word, whole)
+        place = self.place_of(word, os.path.realpath(word))
         if not os.path.lexists(place):
             if is_other and source is not None:
                 with Log(source) as log, open(place, "wb") as out:
