@@ -477,6 +477,16 @@ class Tool(unittest.TestCase):
         for words in (["list", "list"], ["list", "--", "--strict"], ["list", "--strict", "--", "list"]):
             self.assertEqual(package(words, cwd=self.folder / "logs").output, run(given.program, ["list", VIN]).output)
 
+    def test_names_as_options(self):
+        """A log whose name is that of an option, or of standard input, stays a log."""
+        for name in ("--json", "-dash.blf", "-", "--"):
+            self.put(name, blf_of(VIN.read_bytes()))
+            self.put(f"{name}v.log", VIN.read_bytes())
+            for word in (f"./{name}", self.folder / name):
+                self.same(["list", word], ["list", VIN])
+                for words in ([word, f"./{name}v.log"], [f"./{name}v.log", word]):
+                    self.assertEqual(package(["compare", *words], cwd=self.folder), (DONE, b"same\n", b""), words)
+
     def test_devices_that_fail(self):
         """One line and status 4: no room for what is converted, no folder for it, streams that are closed."""
         content = blf_of(VIN.read_bytes() * 1000)

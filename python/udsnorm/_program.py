@@ -158,7 +158,9 @@ class Folder:
                     _convert(log, out, self._limit)
             else:
                 place.symlink_to(whole)
-        return str(place.relative_to(self._root))
+        inside = str(place.relative_to(self._root))
+        # It is no option there.
+        return f"./{inside}" if inside.startswith("-") else inside
 
     def run(self, program: str, words: Sequence[str], is_given: bool = False) -> int:
         """The status of the program over logs that lie here, or over standard input, which is converted meanwhile. A stream
