@@ -612,6 +612,50 @@ class Tool(unittest.TestCase):
         self.assertRegex(cut.error.decode(), r"^-: byte \d+: the file ends in the middle of an object\nline \d column 1: not a log line\n")
         self.assertEqual(package(["list", "--limit", "50"], log=blf).error.splitlines()[0], b"log longer than the limit")
 
+    def test_named_pipes(self):
+        """A pipe that lies in a folder gives each byte once, also where its writer has ended when the program begins."""
+        log = VIN.read_bytes()
+        for name, content in (("run.log", log), ("run.blf", blf_of(log)), ("long.log", log * 4000)):
+            self.put(name, content)
+        for name in ("one", "other"):
+            os.mkfifo(self.folder / name)
+
+        def ended(words, **contents):
+            writing = [start("sh", ["-c", f"exec cat {content} > {pipe}"], cwd=self.folder) for pipe, content in contents.items()]
+            found = package(words, cwd=self.folder)
+            for writer in writing:
+                end(writer)
+            return found
+
+        for content in ("run.log", "run.blf"):
+            self.assertEqual(ended(["list", "one"], one=content).output, run(given.program, ["list", VIN]).output)
+            for words in (["one", "run.blf"], ["run.log", self.folder / "one"]):
+                self.assertEqual(ended(["compare", *words], one=content), (DONE, b"same\n", b""))
+            self.assertEqual(ended(["compare", "one", "other"], one=content, other="run.log"), (DONE, b"same\n", b""))
+        self.assertEqual(ended(["list", "one"], one="long.log"), run(given.program, ["list", "long.log"], cwd=self.folder))
+        self.assertEqual(ended(["list", "--limit", "50", "one"], one="long.log"), (REFUSAL, b"", b"log longer than the limit\n"))
+        running = start(sys.executable, ["-B", "-m", "udsnorm", "watch", "one"], env=environment(), cwd=self.folder)
+        with open(self.folder / "one", "wb", buffering=0) as pipe:
+            pipe.write(log)
+            self.assertIn(b"exchange", running.stdout.readline())
+        self.assertEqual(end(running).status, DONE)
+
+    def test_first_pieces(self):
+        """However few bytes of a stream come first, it is what all of them are."""
+        log, asc = VIN.read_bytes(), samples.ASC.encode("latin-1")
+        for content, size in (
+            (blf_of(log), 2), (gzip.compress(log), 1), (bz2.compress(log), 2), (lzma.compress(log), 3), (asc, 1), (asc, 7), (log, 1), (log, 30),
+            (samples.screen_text().encode(), 8), (samples.TRC_11.encode(), 5), (samples.SAVVYCAN.encode(), 9), (b"\n\n" + log, 2),
+            (log.replace(b"(1700000000.", b"(2023-11-14 22:13:20."), 6), (b"LO", 1),
+        ):
+            want = package(["list"], log=content)
+            running = start(sys.executable, ["-B", "-m", "udsnorm", "list"], env=environment())
+            running.stdin.write(content[:size])
+            running.stdin.flush()
+            time.sleep(0.3)
+            self.assertEqual(end(running, content[size:]), want, (content[:20], size))
+            self.assertEqual(want.status, REFUSAL if content == b"LO" else DONE, (content[:20], want.error))
+
     def test_a_session_that_runs(self):
         """What comes from a pipe goes on as it comes."""
         lines = VIN.read_bytes().splitlines(keepends=True)

@@ -60,8 +60,9 @@ def _run(words: List[str]) -> int:
     logs = {at: _program.source_of(words[at]) for at in _program.logs_in(words)}
     others = {at for at, source in logs.items() if source is not None and _program.is_other(source)}
     unnamed = {at for at, source in logs.items() if source is not None and not _program.is_text(words[at])}
+    pipes = {at for at, source in logs.items() if _program.is_named_pipe(words[at], source)}
     is_given = _program.reads_standard_input(words) and _program.is_other(_program.STANDARD_INPUT)
-    if not (others or unnamed or is_given):
+    if not (others or unnamed or pipes or is_given):
         # Python ignores this signal, and the program would, too.
         signal.signal(signal.SIGPIPE, signal.SIG_DFL)
         os.execv(program, ["udsnorm", *words])

@@ -6,15 +6,17 @@ import contextlib
 import ctypes
 import os
 import re
+import select
 import shutil
 import socket
 import stat
 import subprocess
 import sys
+import threading
 from pathlib import Path
 from typing import IO, Dict, List, Optional, Sequence, Union
 
-from ._formats import HEAD, Fault, Log, is_for_the_program, shown
+from ._formats import HEAD, Fault, Log, decides, is_for_the_program, shown
 
 #: The options of the program that take a value.
 VALUED = ("--tester", "--unit", "--limit")
@@ -23,6 +25,8 @@ _TOLD = ("-h", "--help", "-V", "--version")
 
 STANDARD_INPUT = 0
 _LARGEST_LIMIT = 1 << 40
+# So many milliseconds pass until it is looked whether more of a stream has come.
+_PAUSE = 20
 # What Python has in a word for a byte that is no sign of UTF-8.
 _SURROGATE = re.compile("[\udc80-\udcff]")
 
@@ -83,6 +87,29 @@ def source_of(word: str) -> Optional[Source]:
     return word if stat.S_ISREG(mode) else None
 
 
+def is_named_pipe(word: str, source: Optional[Source]) -> bool:
+    """A log comes from a pipe that lies in a folder. Whoever opens it once more waits for another writer."""
+    return isinstance(source, int) and os.path.exists(os.path.realpath(word))
+
+
+def _handed_on(number: int) -> str:
+    """The path of a pipe that gives what this one does, as it comes. It can be opened when the writer has ended."""
+    end, begin = os.pipe()
+    os.set_inheritable(end, True)
+    threading.Thread(target=_hand_on, args=(number, begin), daemon=True).start()
+    return f"/dev/fd/{end}"
+
+
+def _hand_on(number: int, begin: int) -> None:
+    with contextlib.suppress(OSError), open(begin, "wb") as out:
+        while True:
+            piece = os.read(number, HEAD)
+            if not piece:
+                break
+            out.write(piece)
+            out.flush()
+
+
 def is_other(source: Source) -> bool:
     """A log has to be converted."""
     try:
@@ -95,16 +122,30 @@ def is_other(source: Source) -> bool:
 
 
 def _first_bytes(number: int) -> bytes:
-    """The first bytes of a stream, which stay there. None of what can't be looked at so."""
+    """The first bytes of a stream, which stay there: as many as decide what it is. None of what can't be looked at so."""
     mode = os.fstat(number).st_mode
     if stat.S_ISREG(mode):
         return os.pread(number, HEAD, os.lseek(number, 0, os.SEEK_CUR))
-    if stat.S_ISSOCK(mode):
-        with socket.socket(fileno=os.dup(number)) as peer:
-            return peer.recv(HEAD, socket.MSG_PEEK)
-    if not stat.S_ISFIFO(mode):
+    if not (stat.S_ISSOCK(mode) or stat.S_ISFIFO(mode)):
         return b""
-    # Linux copies what is in a pipe to another one.
+    end = select.poll()
+    end.register(number, select.POLLRDHUP)
+    while True:
+        is_ended = bool(end.poll(0))
+        head = _in_socket(number) if stat.S_ISSOCK(mode) else _in_pipe(number)
+        if is_ended or not head or decides(head):
+            return head
+        end.poll(_PAUSE)
+
+
+def _in_socket(number: int) -> bytes:
+    """What is there to be read, once something is."""
+    with socket.socket(fileno=os.dup(number)) as peer:
+        return peer.recv(HEAD, socket.MSG_PEEK)
+
+
+def _in_pipe(number: int) -> bytes:
+    """The same. Linux copies what is in a pipe to another one."""
     end, begin = os.pipe()
     try:
         size = ctypes.CDLL(None).tee(number, begin, HEAD, 0)
@@ -149,7 +190,8 @@ class Folder:
         """The word that means here what this one means where the run was asked for."""
         # The name as it is: behind a link to a folder, `..` is not what its letters say.
         whole = os.path.join(os.getcwd(), word)
-        if not is_other and (not isinstance(source, str) or (os.path.isabs(word) and is_text(word))):
+        is_pipe = is_named_pipe(word, source)
+        if not (is_other or is_pipe) and (not isinstance(source, str) or (os.path.isabs(word) and is_text(word))):
             return whole if os.path.exists(word) else word
         place = self.place_of(word, os.path.realpath(word))
         if not os.path.lexists(place):
@@ -157,7 +199,7 @@ class Folder:
                 with Log(source) as log, open(place, "wb") as out:
                     _convert(log, out, self._limit)
             else:
-                place.symlink_to(whole)
+                place.symlink_to(_handed_on(source) if is_pipe and isinstance(source, int) else whole)
         inside = str(place.relative_to(self._root))
         # It is no option there.
         return f"./{inside}" if inside.startswith("-") else inside

@@ -11,6 +11,8 @@ from .frames import Fault, Frame, Tally, lines_of
 
 #: How many first bytes of a file decide.
 HEAD = 1 << 16
+# So many without a line feed are no text that is known.
+_ENOUGH = 1 << 11
 _LINES = 2000
 
 _Frames = Callable[[io.BufferedReader, Tally], Iterator[Frame]]
@@ -27,6 +29,14 @@ def is_for_the_program(head: bytes) -> bool:
     """A stream that begins so is read by the program: it is a candump log, or nothing that is known, and not packed."""
     is_known = packed.unpacker_of(head, "") or messages.reader_of(head, "") or _reader_of(head, "")
     return not is_known and (candump.is_plain(head) or not candump.looks_so(head))
+
+
+def decides(head: bytes) -> bool:
+    """What begins so stays what it is, whatever follows: it is known, or it has a first line, behind comments and notices."""
+    if packed.unpacker_of(head, "") or messages.reader_of(head, "") or _reader_of(head, "") or candump.looks_so(head):
+        return True
+    whole = head.split(b"\n")[:-1]
+    return len(head) >= _ENOUGH or any(line.strip() and not line.startswith((b";", b"DROPCOUNT")) for line in whole)
 
 
 def _reader_of(head: bytes, suffix: str) -> Optional[_Frames]:
