@@ -454,7 +454,11 @@ class Tool(unittest.TestCase):
         self.assertEqual({name for text in texts for name in re.findall(r"(--[\w-]+)[ =]<", text)}, set(program.VALUED))
         for command, text in zip(commands, texts):
             self.assertEqual(program.limit_of(given.program, [command]), 1 << (40 if "1099511627776" in text else 30), command)
-        self.assertEqual(program.limit_of(given.program, ["list", "--limit=5", "--limit", "7"]), 7)
+        for words, limit in (
+            (["--limit=5", "--limit", "7"], 7), (["--limit", "+3000000000"], 3 * 10**9), (["--limit=+007"], 7),
+            (["--limit", "0" * 30 + "12"], 12), (["--limit=0"], 0), (["--limit", "9", "--", "--limit=5"], 9), (["--", "--limit", "5"], 1 << 30),
+        ):
+            self.assertEqual(program.limit_of(given.program, ["list", *words]), limit, words)
 
     def test_words_that_are_no_logs(self):
         """A file or folder that is named as the command, or an option or its value, is no log of the run."""
@@ -672,8 +676,28 @@ class Tool(unittest.TestCase):
         line = samples.line(0, "can0", 0x7E0, b"\x01\x3e").encode()
         self.put("run.log.gz", gzip.compress(line * 2000000))
         limit = {"preexec_fn": lambda: resource.setrlimit(resource.RLIMIT_FSIZE, (400000, 400000))}
-        found = package(["list", "--limit", "200000", "run.log.gz"], cwd=self.folder, **limit)
-        self.assertEqual(found, (REFUSAL, b"", b"log longer than the limit\n"))
+        for words in (["--limit", "200000"], ["--limit=+0000000200000"]):
+            found = package(["list", *words, "run.log.gz"], cwd=self.folder, **limit)
+            self.assertEqual(found, (REFUSAL, b"", b"log longer than the limit\n"))
+        self.put("short.log", line * 100)
+        self.put("short.log.gz", gzip.compress(line * 100))
+        for less in (0, 1, len(line), len(line) + 1):
+            words = ["list", "--limit", str(100 * len(line) - less)]
+            self.same([*words, "short.log.gz"], [*words, "short.log"])
+        self.put("logs/--limit=5", gzip.compress(line * 100))
+        found = package(["list", "--", "--limit=5"], cwd=self.folder / "logs")
+        self.assertEqual((found.status, found.output.count(b"\n"), found.error), (DONE, 100, b""))
+
+    def test_no_end_is_taken_for_the_log(self):
+        """Were it converted no further than the program reads, that would refuse it all the same."""
+        line = samples.line(0, "can0", 0x7E0, b"\x01\x3e").encode()
+        self.put("run.log.gz", gzip.compress(line * 20000))
+        program = importlib.import_module("udsnorm._program")
+        with tempfile.TemporaryDirectory() as root:
+            path = str(self.folder / "run.log.gz")
+            word = program.Folder(root, 1000).word_for(path, path, True)
+            for words in (["list"], ["compare", VIN]):
+                self.assertEqual(run(given.program, [*words, word], cwd=root).status, REFUSAL)
 
     def test_signals(self):
         """Whatever tells the process to end, the folder goes."""

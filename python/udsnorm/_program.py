@@ -157,7 +157,8 @@ def _in_pipe(number: int) -> bytes:
 
 def limit_of(program: str, words: Sequence[str]) -> int:
     """The most bytes of a log in a run with these words: those that they say, else those that the command's help does."""
-    given = re.findall(r"(?:^|\0)--limit[=\0](\d{1,13})(?=\0|$)", "\0".join(words))
+    options = words[: words.index("--")] if "--" in words else words
+    given = re.findall(r"(?:^|\0)--limit[=\0]\+?0*([0-9]{1,13})(?=\0|$)", "\0".join(options))
     told = subprocess.run([program, *words[:1], "--help"], stdout=subprocess.PIPE, stderr=subprocess.DEVNULL, check=False).stdout
     usual = re.search(rb"--limit <BYTES>[^\[]*\[default: (\d+)\]", told)
     return int(given[-1]) if given else int(usual[1]) if usual else _LARGEST_LIMIT
@@ -226,14 +227,15 @@ def is_text(word: str) -> bool:
 
 
 def _convert(log: Log, out: IO[bytes], limit: int) -> None:
-    """Writes the candump log, until it is longer than the limit. Where it can't be read to the end, a line that is no log
-    line makes the program refuse it there."""
+    """Writes the candump log, until it is longer than the limit. Where that is, or where it can't be read on, a line that is
+    no log line makes the program refuse it."""
     size = 0
     try:
         for block in log.blocks():
             out.write(block)
             size += len(block)
             if size > limit:
+                out.write(b"longer than the limit\n")
                 break
     except Fault as fault:
         out.write(f"{fault}\n".encode("ascii", "replace"))
