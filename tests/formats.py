@@ -586,7 +586,17 @@ class Tool(unittest.TestCase):
         self.assertEqual(package(["convert", "-"], log=blf_of(VIN.read_bytes())).output, VIN.read_bytes())
         for words in ([], ["a", "b", "c"], ["--json", "a"], ["run.blf", "run.blf"]):
             self.assertEqual(package(["convert", *words], cwd=self.folder).status, WORDS, words)
-        self.assertEqual((self.folder / "run.blf").read_bytes(), blf_of(VIN.read_bytes()))
+        self.put("same.log", VIN.read_bytes())
+        for name in ("run.blf", "same.log"):
+            content = (self.folder / name).read_bytes()
+            with open(self.folder / name, "rb") as file:
+                self.assertEqual(package(["convert", "-", name], cwd=self.folder, stdin=file).status, WORDS)
+            with open(self.folder / name, "ab") as out:
+                self.assertEqual(package(["convert", name], cwd=self.folder, stdout=out).status, WORDS)
+            with open(self.folder / name, "r+b") as both:
+                self.assertEqual(package(["convert", "-"], stdin=both, stdout=both).status, WORDS)
+            self.assertEqual((self.folder / name).read_bytes(), content)
+        self.assertEqual(package(["convert", "-", "/dev/null"]).status, DONE)
         self.assertEqual(package(["convert", "none.blf"], cwd=self.folder), (DEVICE, b"", b"none.blf: No such file or directory\n"))
         with open("/dev/full", "wb") as full:
             self.assertEqual(package(["convert", "run.blf"], cwd=self.folder, stdout=full).status, DEVICE)

@@ -91,12 +91,12 @@ def _convert(words: List[str]) -> int:
         return _WRONG_WORDS
     try:
         with Log(_program.STANDARD_INPUT if words[0] == "-" else words[0]) as log:
+            if log.is_read_from(words[1] if len(words) == 2 else _STANDARD_OUTPUT):
+                _program.tell(words[-1], "this is the file that is read")
+                return _WRONG_WORDS
             if len(words) == 1:
                 with open(_STANDARD_OUTPUT, "wb", closefd=False) as out:
                     return _write(log, out)
-            if words[0] != "-" and os.path.exists(words[1]) and os.path.samefile(words[0], words[1]):
-                _program.tell(words[1], "this is the file that is read")
-                return _WRONG_WORDS
             with open(words[1], "wb") as out:
                 return _write(log, out)
     except BrokenPipeError:

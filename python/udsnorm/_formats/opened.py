@@ -4,6 +4,7 @@ from __future__ import annotations
 
 import io
 import os
+import stat
 from typing import Any, Callable, Dict, Iterator, List, Optional, Tuple, Union
 
 from . import asc, blf, candump, captures, csv, messages, packed, screen, trc
@@ -112,6 +113,14 @@ class Log:
             self._frames = lambda _, tally: messages.frames_of_file(path, reader, tally)
         self._is_known = is_log or not head.strip()
         self._is_plain = self._frames is None and (candump.is_plain(head) or not is_log)
+
+    def is_read_from(self, other: "Union[int, str]") -> bool:
+        """This is the file of that path, or number, so what is written there is lost or read."""
+        try:
+            status = os.stat(other)
+        except FileNotFoundError:
+            return False
+        return stat.S_ISREG(status.st_mode) and os.path.samestat(status, os.fstat(self._raw.fileno()))
 
     def read(self, limit: int) -> bytes:
         """The bytes as they stand: of a longer file no more than show that it is longer than the limit."""
