@@ -734,6 +734,13 @@ class Tool(unittest.TestCase):
             self.assertEqual(package(words, cwd=self.folder), (DONE, b"same\n", b""))
         self.assertIn(b"%E9 run.blf", package(["report", name], cwd=self.folder).output)
         self.assertEqual(package(["convert", name], cwd=self.folder).output, VIN.read_bytes())
+        # Each byte would be longer by its number than a name may be.
+        long, longer = (os.fsdecode(b"\xe9" * size + b".blf") for size in (100, 251))
+        self.put(long, blf_of(VIN.read_bytes()))
+        self.put(f"{long}/{long}".replace(".blf", "", 1), VIN.read_bytes())
+        self.put(longer, blf_of((EXAMPLES / "lost-frame.log").read_bytes()))
+        for words, status in (([long, long.replace(".blf", f"/{long}")], DONE), ([long, longer], DIFFERENT), ([longer, self.folder / longer], DONE)):
+            self.assertEqual(package(["compare", *words], cwd=self.folder).status, status)
         missing = package(["convert", os.fsdecode(b"\xe9")], cwd=self.folder)
         self.assertEqual((missing.status, missing.error), (DEVICE, b"\\xe9: No such file or directory\n"))
 

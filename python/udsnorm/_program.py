@@ -27,6 +27,8 @@ STANDARD_INPUT = 0
 _LARGEST_LIMIT = 1 << 40
 # So many milliseconds pass until it is looked whether more of a stream has come.
 _PAUSE = 20
+# No name of a file has more bytes.
+_LONGEST_NAME = 255
 # What Python has in a word for a byte that is no sign of UTF-8.
 _SURROGATE = re.compile("[\udc80-\udcff]")
 
@@ -175,7 +177,7 @@ class Folder:
     def place_of(self, name: str, source: str) -> Path:
         """Where the log of this name lies: an absolute path, or one with `..`, from the root of the file system on. Logs of
         two sources lie in two places."""
-        inside = Path(_SURROGATE.sub(lambda found: f"%{ord(found[0]) - 0xDC00:02X}", name))
+        inside = Path(*map(_spelled, Path(name).parts))
         if inside.is_absolute() or ".." in inside.parts:
             inside = Path(os.path.abspath(inside).lstrip("/"))
         while self._sources.get(inside, source) != source or any(
@@ -224,6 +226,12 @@ class Folder:
 def is_text(word: str) -> bool:
     """The word is UTF-8, as the program asks for."""
     return not _SURROGATE.search(word)
+
+
+def _spelled(name: str) -> str:
+    """The name of a file or folder as UTF-8. Bytes that are none stand by their numbers, if it is not too long so."""
+    told = _SURROGATE.sub(lambda found: f"%{ord(found[0]) - 0xDC00:02X}", name)
+    return told if len(os.fsencode(told)) <= _LONGEST_NAME else _SURROGATE.sub("%", name)
 
 
 def _convert(log: Log, out: IO[bytes], limit: int) -> None:
