@@ -74,6 +74,20 @@ print(status, re.search(r"VmHWM:\\s+(\\d+)", open("/proc/self/status").read())[1
 """
 
 
+# A run that takes its time to remove its folder.
+SLOWLY = """
+import sys, tempfile, time
+from udsnorm.__main__ import main
+remove = tempfile.TemporaryDirectory.cleanup
+def slowly(folder):
+    print("removing", flush=True)
+    time.sleep(0.3)
+    remove(folder)
+tempfile.TemporaryDirectory.cleanup = slowly
+sys.exit(main(["list", "run.blf"]))
+"""
+
+
 class Read:
     """What is read of a file: its lines, the fault if there is one, and the tally."""
 
@@ -724,6 +738,18 @@ class Tool(unittest.TestCase):
             time.sleep(0.1)
             running.send_signal(number)
             self.assertEqual((end(running).status, list(rooms.iterdir())), (128 + number, []))
+
+    def test_signals_while_the_folder_goes(self):
+        self.put("run.blf", blf_of(VIN.read_bytes()))
+        rooms = self.folder / "rooms"
+        rooms.mkdir()
+        for number in (signal.SIGHUP, signal.SIGTERM, signal.SIGINT):
+            more = {"env": {**environment(), "TMPDIR": str(rooms)}, "cwd": self.folder}
+            running = start(sys.executable, ["-B", "-c", SLOWLY], **more)
+            while running.stdout.readline() not in (b"removing\n", b""):
+                pass
+            running.send_signal(number)
+            self.assertEqual((end(running).status, list(rooms.iterdir())), (DONE, []))
 
     def test_names_that_are_not_utf_8(self):
         name = os.fsdecode(b"\xe9 run.blf")

@@ -70,16 +70,24 @@ def _run(words: List[str]) -> int:
         if signal.getsignal(number) == signal.SIG_DFL:
             signal.signal(number, _end)
     with tempfile.TemporaryDirectory(prefix="udsnorm-") as root:
-        folder = _program.Folder(root, _program.limit_of(program, words))
-        given = [folder.word_for(word, logs[at], at in others) if at in logs else word for at, word in enumerate(words)]
-        return folder.run(program, given, is_given=is_given)
+        try:
+            folder = _program.Folder(root, _program.limit_of(program, words))
+            given = [folder.word_for(word, logs[at], at in others) if at in logs else word for at, word in enumerate(words)]
+            return folder.run(program, given, is_given=is_given)
+        finally:
+            # The folder goes whatever comes.
+            _ignore(*_ENDING, signal.SIGINT)
 
 
 def _end(number: int, _: Optional[FrameType]) -> None:
     """Ends the process so that the folder goes."""
-    for other in _ENDING:
-        signal.signal(other, signal.SIG_IGN)
+    _ignore(*_ENDING)
     sys.exit(128 + number)
+
+
+def _ignore(*numbers: signal.Signals) -> None:
+    for number in numbers:
+        signal.signal(number, signal.SIG_IGN)
 
 
 def _convert(words: List[str]) -> int:
