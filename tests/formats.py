@@ -20,6 +20,7 @@ import re
 import resource
 import shutil
 import signal
+import socket
 import struct
 import sys
 import tempfile
@@ -683,6 +684,16 @@ class Tool(unittest.TestCase):
             time.sleep(0.3)
             self.assertEqual(end(running, content[size:]), want, (content[:20], size))
             self.assertEqual(want.status, REFUSAL if content == b"LO" else DONE, (content[:20], want.error))
+        for content in (gzip.compress(log), log, b"("):
+            here, there = socket.socketpair()
+            with there, here:
+                running = start(sys.executable, ["-B", "-m", "udsnorm", "list"], env=environment(), stdin=there)
+                there.close()
+                here.sendall(content[:1])
+                time.sleep(0.3)
+                here.sendall(content[1:])
+                here.close()
+                self.assertEqual(end(running), package(["list"], log=content))
 
     def test_a_session_that_runs(self):
         """What comes from a pipe goes on as it comes."""
