@@ -20,6 +20,7 @@ import re
 import resource
 import shutil
 import signal
+import socket
 import struct
 import sys
 import tempfile
@@ -71,6 +72,20 @@ import re, sys
 from udsnorm.__main__ import main
 status = main(["convert", sys.argv[1], "/dev/null"])
 print(status, re.search(r"VmHWM:\\s+(\\d+)", open("/proc/self/status").read())[1])
+"""
+
+
+# A run that takes its time to remove its folder.
+SLOWLY = """
+import sys, tempfile, time
+from udsnorm.__main__ import main
+remove = tempfile.TemporaryDirectory.cleanup
+def slowly(folder):
+    print("removing", flush=True)
+    time.sleep(0.3)
+    remove(folder)
+tempfile.TemporaryDirectory.cleanup = slowly
+sys.exit(main(["list", "run.blf"]))
 """
 
 
@@ -524,7 +539,11 @@ class Tool(unittest.TestCase):
         self.assertEqual({name for text in texts for name in re.findall(r"(--[\w-]+)[ =]<", text)}, set(program.VALUED))
         for command, text in zip(commands, texts):
             self.assertEqual(program.limit_of(given.program, [command]), 1 << (40 if "1099511627776" in text else 30), command)
-        self.assertEqual(program.limit_of(given.program, ["list", "--limit=5", "--limit", "7"]), 7)
+        for words, limit in (
+            (["--limit=5", "--limit", "7"], 7), (["--limit", "+3000000000"], 3 * 10**9), (["--limit=+007"], 7),
+            (["--limit", "0" * 30 + "12"], 12), (["--limit=0"], 0), (["--limit", "9", "--", "--limit=5"], 9), (["--", "--limit", "5"], 1 << 30),
+        ):
+            self.assertEqual(program.limit_of(given.program, ["list", *words]), limit, words)
 
     def test_words_that_are_no_logs(self):
         """A file or folder that is named as the command, or an option or its value, is no log of the run."""
@@ -546,6 +565,16 @@ class Tool(unittest.TestCase):
         self.put("logs/--strict", blf_of(VIN.read_bytes()))
         for words in (["list", "list"], ["list", "--", "--strict"], ["list", "--strict", "--", "list"]):
             self.assertEqual(package(words, cwd=self.folder / "logs").output, run(given.program, ["list", VIN]).output)
+
+    def test_names_as_options(self):
+        """A log whose name is that of an option, or of standard input, stays a log."""
+        for name in ("--json", "-dash.blf", "-", "--"):
+            self.put(name, blf_of(VIN.read_bytes()))
+            self.put(f"{name}v.log", VIN.read_bytes())
+            for word in (f"./{name}", self.folder / name):
+                self.same(["list", word], ["list", VIN])
+                for words in ([word, f"./{name}v.log"], [f"./{name}v.log", word]):
+                    self.assertEqual(package(["compare", *words], cwd=self.folder), (DONE, b"same\n", b""), words)
 
     def test_devices_that_fail(self):
         """One line and status 4: no room for what is converted, no folder for it, streams that are closed."""
@@ -585,6 +614,21 @@ class Tool(unittest.TestCase):
         (self.folder / f"{first}.x").rename(self.folder / first)
         for words in ([whole, first], [first, whole]):
             self.assertEqual(package(["compare", *words], cwd=self.folder), (DONE, b"same\n", b""))
+
+    def test_folders_behind_links(self):
+        """`..` behind a link to a folder is the folder above the one that it leads to, as the program has it."""
+        (self.folder / "below" / "sub").mkdir(parents=True)
+        (self.folder / "link").symlink_to("below/sub")
+        for name, log in (("e", VIN.read_bytes()), ("below/e", (EXAMPLES / "lost-frame.log").read_bytes())):
+            self.put(f"{name}.blf", blf_of(log))
+            self.put(f"{name}.log", log)
+        for other in ("link/../e.blf", "link/../e.log"):
+            for one in ("e.blf", self.folder / "e.blf", "below/sub/../../e.blf"):
+                for words in ([one, other], [other, one]):
+                    self.assertEqual(package(["compare", *words], cwd=self.folder).status, DIFFERENT, words)
+            for one in ("below/e.blf", self.folder / "below" / "e.blf", "link/../e.blf"):
+                for words in ([one, other], [other, one]):
+                    self.assertEqual(package(["compare", *words], cwd=self.folder), (DONE, b"same\n", b""), words)
 
     def test_names_on_pages(self):
         """The page shows the names that were given: the last part, or the paths where both have one name."""
@@ -627,7 +671,17 @@ class Tool(unittest.TestCase):
         self.assertEqual(package(["convert", "-"], log=blf_of(VIN.read_bytes())).output, VIN.read_bytes())
         for words in ([], ["a", "b", "c"], ["--json", "a"], ["run.blf", "run.blf"]):
             self.assertEqual(package(["convert", *words], cwd=self.folder).status, WORDS, words)
-        self.assertEqual((self.folder / "run.blf").read_bytes(), blf_of(VIN.read_bytes()))
+        self.put("same.log", VIN.read_bytes())
+        for name in ("run.blf", "same.log"):
+            content = (self.folder / name).read_bytes()
+            with open(self.folder / name, "rb") as file:
+                self.assertEqual(package(["convert", "-", name], cwd=self.folder, stdin=file).status, WORDS)
+            with open(self.folder / name, "ab") as out:
+                self.assertEqual(package(["convert", name], cwd=self.folder, stdout=out).status, WORDS)
+            with open(self.folder / name, "r+b") as both:
+                self.assertEqual(package(["convert", "-"], stdin=both, stdout=both).status, WORDS)
+            self.assertEqual((self.folder / name).read_bytes(), content)
+        self.assertEqual(package(["convert", "-", "/dev/null"]).status, DONE)
         self.assertEqual(package(["convert", "none.blf"], cwd=self.folder), (DEVICE, b"", b"none.blf: No such file or directory\n"))
         with open("/dev/full", "wb") as full:
             self.assertEqual(package(["convert", "run.blf"], cwd=self.folder, stdout=full).status, DEVICE)
@@ -657,6 +711,60 @@ class Tool(unittest.TestCase):
         self.assertRegex(cut.error.decode(), r"^-: byte \d+: the file ends in the middle of an object\nline \d column 1: not a log line\n")
         self.assertEqual(package(["list", "--limit", "50"], log=blf).error.splitlines()[0], b"log longer than the limit")
 
+    def test_named_pipes(self):
+        """A pipe that lies in a folder gives each byte once, also where its writer has ended when the program begins."""
+        log = VIN.read_bytes()
+        for name, content in (("run.log", log), ("run.blf", blf_of(log)), ("long.log", log * 4000)):
+            self.put(name, content)
+        for name in ("one", "other"):
+            os.mkfifo(self.folder / name)
+
+        def ended(words, **contents):
+            writing = [start("sh", ["-c", f"exec cat {content} > {pipe}"], cwd=self.folder) for pipe, content in contents.items()]
+            found = package(words, cwd=self.folder)
+            for writer in writing:
+                end(writer)
+            return found
+
+        for content in ("run.log", "run.blf"):
+            self.assertEqual(ended(["list", "one"], one=content).output, run(given.program, ["list", VIN]).output)
+            for words in (["one", "run.blf"], ["run.log", self.folder / "one"]):
+                self.assertEqual(ended(["compare", *words], one=content), (DONE, b"same\n", b""))
+            self.assertEqual(ended(["compare", "one", "other"], one=content, other="run.log"), (DONE, b"same\n", b""))
+        self.assertEqual(ended(["list", "one"], one="long.log"), run(given.program, ["list", "long.log"], cwd=self.folder))
+        self.assertEqual(ended(["list", "--limit", "50", "one"], one="long.log"), (REFUSAL, b"", b"log longer than the limit\n"))
+        running = start(sys.executable, ["-B", "-m", "udsnorm", "watch", "one"], env=environment(), cwd=self.folder)
+        with open(self.folder / "one", "wb", buffering=0) as pipe:
+            pipe.write(log)
+            self.assertIn(b"exchange", running.stdout.readline())
+        self.assertEqual(end(running).status, DONE)
+
+    def test_first_pieces(self):
+        """However few bytes of a stream come first, it is what all of them are."""
+        log, asc = VIN.read_bytes(), samples.ASC.encode("latin-1")
+        for content, size in (
+            (blf_of(log), 2), (gzip.compress(log), 1), (bz2.compress(log), 2), (lzma.compress(log), 3), (asc, 1), (asc, 7), (log, 1), (log, 30),
+            (samples.screen_text().encode(), 8), (samples.TRC_11.encode(), 5), (samples.SAVVYCAN.encode(), 9), (b"\n\n" + log, 2),
+            (log.replace(b"(1700000000.", b"(2023-11-14 22:13:20."), 6), (b"LO", 1),
+        ):
+            want = package(["list"], log=content)
+            running = start(sys.executable, ["-B", "-m", "udsnorm", "list"], env=environment())
+            running.stdin.write(content[:size])
+            running.stdin.flush()
+            time.sleep(0.3)
+            self.assertEqual(end(running, content[size:]), want, (content[:20], size))
+            self.assertEqual(want.status, REFUSAL if content == b"LO" else DONE, (content[:20], want.error))
+        for content in (gzip.compress(log), log, b"("):
+            here, there = socket.socketpair()
+            with there, here:
+                running = start(sys.executable, ["-B", "-m", "udsnorm", "list"], env=environment(), stdin=there)
+                there.close()
+                here.sendall(content[:1])
+                time.sleep(0.3)
+                here.sendall(content[1:])
+                here.close()
+                self.assertEqual(end(running), package(["list"], log=content))
+
     def test_a_session_that_runs(self):
         """What comes from a pipe goes on as it comes."""
         lines = VIN.read_bytes().splitlines(keepends=True)
@@ -673,8 +781,28 @@ class Tool(unittest.TestCase):
         line = samples.line(0, "can0", 0x7E0, b"\x01\x3e").encode()
         self.put("run.log.gz", gzip.compress(line * 2000000))
         limit = {"preexec_fn": lambda: resource.setrlimit(resource.RLIMIT_FSIZE, (400000, 400000))}
-        found = package(["list", "--limit", "200000", "run.log.gz"], cwd=self.folder, **limit)
-        self.assertEqual(found, (REFUSAL, b"", b"log longer than the limit\n"))
+        for words in (["--limit", "200000"], ["--limit=+0000000200000"]):
+            found = package(["list", *words, "run.log.gz"], cwd=self.folder, **limit)
+            self.assertEqual(found, (REFUSAL, b"", b"log longer than the limit\n"))
+        self.put("short.log", line * 100)
+        self.put("short.log.gz", gzip.compress(line * 100))
+        for less in (0, 1, len(line), len(line) + 1):
+            words = ["list", "--limit", str(100 * len(line) - less)]
+            self.same([*words, "short.log.gz"], [*words, "short.log"])
+        self.put("logs/--limit=5", gzip.compress(line * 100))
+        found = package(["list", "--", "--limit=5"], cwd=self.folder / "logs")
+        self.assertEqual((found.status, found.output.count(b"\n"), found.error), (DONE, 100, b""))
+
+    def test_no_end_is_taken_for_the_log(self):
+        """Were it converted no further than the program reads, that would refuse it all the same."""
+        line = samples.line(0, "can0", 0x7E0, b"\x01\x3e").encode()
+        self.put("run.log.gz", gzip.compress(line * 20000))
+        program = importlib.import_module("udsnorm._program")
+        with tempfile.TemporaryDirectory() as root:
+            path = str(self.folder / "run.log.gz")
+            word = program.Folder(root, 1000).word_for(path, path, True)
+            for words in (["list"], ["compare", VIN]):
+                self.assertEqual(run(given.program, [*words, word], cwd=root).status, REFUSAL)
 
     def test_signals(self):
         """Whatever tells the process to end, the folder goes."""
@@ -692,6 +820,18 @@ class Tool(unittest.TestCase):
             running.send_signal(number)
             self.assertEqual((end(running).status, list(rooms.iterdir())), (128 + number, []))
 
+    def test_signals_while_the_folder_goes(self):
+        self.put("run.blf", blf_of(VIN.read_bytes()))
+        rooms = self.folder / "rooms"
+        rooms.mkdir()
+        for number in (signal.SIGHUP, signal.SIGTERM, signal.SIGINT):
+            more = {"env": {**environment(), "TMPDIR": str(rooms)}, "cwd": self.folder}
+            running = start(sys.executable, ["-B", "-c", SLOWLY], **more)
+            while running.stdout.readline() not in (b"removing\n", b""):
+                pass
+            running.send_signal(number)
+            self.assertEqual((end(running).status, list(rooms.iterdir())), (DONE, []))
+
     def test_names_that_are_not_utf_8(self):
         name = os.fsdecode(b"\xe9 run.blf")
         self.put(name, blf_of(VIN.read_bytes()))
@@ -701,6 +841,13 @@ class Tool(unittest.TestCase):
             self.assertEqual(package(words, cwd=self.folder), (DONE, b"same\n", b""))
         self.assertIn(b"%E9 run.blf", package(["report", name], cwd=self.folder).output)
         self.assertEqual(package(["convert", name], cwd=self.folder).output, VIN.read_bytes())
+        # Each byte would be longer by its number than a name may be.
+        long, longer = (os.fsdecode(b"\xe9" * size + b".blf") for size in (100, 251))
+        self.put(long, blf_of(VIN.read_bytes()))
+        self.put(f"{long}/{long}".replace(".blf", "", 1), VIN.read_bytes())
+        self.put(longer, blf_of((EXAMPLES / "lost-frame.log").read_bytes()))
+        for words, status in (([long, long.replace(".blf", f"/{long}")], DONE), ([long, longer], DIFFERENT), ([longer, self.folder / longer], DONE)):
+            self.assertEqual(package(["compare", *words], cwd=self.folder).status, status)
         missing = package(["convert", os.fsdecode(b"\xe9")], cwd=self.folder)
         self.assertEqual((missing.status, missing.error), (DEVICE, b"\\xe9: No such file or directory\n"))
 

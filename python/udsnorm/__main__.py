@@ -60,8 +60,9 @@ def _run(words: List[str]) -> int:
     logs = {at: _program.source_of(words[at]) for at in _program.logs_in(words)}
     others = {at for at, source in logs.items() if source is not None and _program.is_other(source)}
     unnamed = {at for at, source in logs.items() if source is not None and not _program.is_text(words[at])}
+    pipes = {at for at, source in logs.items() if _program.is_named_pipe(words[at], source)}
     is_given = _program.reads_standard_input(words) and _program.is_other(_program.STANDARD_INPUT)
-    if not (others or unnamed or is_given):
+    if not (others or unnamed or pipes or is_given):
         # Python ignores this signal, and the program would, too.
         signal.signal(signal.SIGPIPE, signal.SIG_DFL)
         os.execv(program, ["udsnorm", *words])
@@ -69,16 +70,24 @@ def _run(words: List[str]) -> int:
         if signal.getsignal(number) == signal.SIG_DFL:
             signal.signal(number, _end)
     with tempfile.TemporaryDirectory(prefix="udsnorm-") as root:
-        folder = _program.Folder(root, _program.limit_of(program, words))
-        given = [folder.word_for(word, logs[at], at in others) if at in logs else word for at, word in enumerate(words)]
-        return folder.run(program, given, is_given=is_given)
+        try:
+            folder = _program.Folder(root, _program.limit_of(program, words))
+            given = [folder.word_for(word, logs[at], at in others) if at in logs else word for at, word in enumerate(words)]
+            return folder.run(program, given, is_given=is_given)
+        finally:
+            # The folder goes whatever comes.
+            _ignore(*_ENDING, signal.SIGINT)
 
 
 def _end(number: int, _: Optional[FrameType]) -> None:
     """Ends the process so that the folder goes."""
-    for other in _ENDING:
-        signal.signal(other, signal.SIG_IGN)
+    _ignore(*_ENDING)
     sys.exit(128 + number)
+
+
+def _ignore(*numbers: signal.Signals) -> None:
+    for number in numbers:
+        signal.signal(number, signal.SIG_IGN)
 
 
 def _convert(words: List[str]) -> int:
@@ -90,12 +99,12 @@ def _convert(words: List[str]) -> int:
         return _WRONG_WORDS
     try:
         with Log(_program.STANDARD_INPUT if words[0] == "-" else words[0]) as log:
+            if log.is_read_from(words[1] if len(words) == 2 else _STANDARD_OUTPUT):
+                _program.tell(words[-1], "this is the file that is read")
+                return _WRONG_WORDS
             if len(words) == 1:
                 with open(_STANDARD_OUTPUT, "wb", closefd=False) as out:
                     return _write(log, out)
-            if words[0] != "-" and os.path.exists(words[1]) and os.path.samefile(words[0], words[1]):
-                _program.tell(words[1], "this is the file that is read")
-                return _WRONG_WORDS
             with open(words[1], "wb") as out:
                 return _write(log, out)
     except BrokenPipeError:

@@ -6,15 +6,17 @@ import contextlib
 import ctypes
 import os
 import re
+import select
 import shutil
 import socket
 import stat
 import subprocess
 import sys
+import threading
 from pathlib import Path
 from typing import IO, Dict, List, Optional, Sequence, Union
 
-from ._formats import HEAD, Fault, Log, is_for_the_program, shown
+from ._formats import HEAD, Fault, Log, decides, is_for_the_program, shown
 
 #: The options of the program that take a value.
 VALUED = ("--tester", "--unit", "--limit")
@@ -23,6 +25,10 @@ _TOLD = ("-h", "--help", "-V", "--version")
 
 STANDARD_INPUT = 0
 _LARGEST_LIMIT = 1 << 40
+# So many milliseconds pass until it is looked whether more of a stream has come.
+_PAUSE = 20
+# No name of a file has more bytes.
+_LONGEST_NAME = 255
 # What Python has in a word for a byte that is no sign of UTF-8.
 _SURROGATE = re.compile("[\udc80-\udcff]")
 
@@ -36,7 +42,7 @@ def found() -> Optional[str]:
     if beside.is_file() and os.access(beside, os.X_OK):
         return str(beside)
     of_system = shutil.which("udsnorm")
-    return of_system and os.path.abspath(of_system)
+    return of_system and os.path.join(os.getcwd(), of_system)
 
 
 def tell(name: str, text: str) -> None:
@@ -83,6 +89,29 @@ def source_of(word: str) -> Optional[Source]:
     return word if stat.S_ISREG(mode) else None
 
 
+def is_named_pipe(word: str, source: Optional[Source]) -> bool:
+    """A log comes from a pipe that lies in a folder. Whoever opens it once more waits for another writer."""
+    return isinstance(source, int) and os.path.exists(os.path.realpath(word))
+
+
+def _handed_on(number: int) -> str:
+    """The path of a pipe that gives what this one does, as it comes. It can be opened when the writer has ended."""
+    end, begin = os.pipe()
+    os.set_inheritable(end, True)
+    threading.Thread(target=_hand_on, args=(number, begin), daemon=True).start()
+    return f"/dev/fd/{end}"
+
+
+def _hand_on(number: int, begin: int) -> None:
+    with contextlib.suppress(OSError), open(begin, "wb") as out:
+        while True:
+            piece = os.read(number, HEAD)
+            if not piece:
+                break
+            out.write(piece)
+            out.flush()
+
+
 def is_other(source: Source) -> bool:
     """A log has to be converted."""
     try:
@@ -95,16 +124,30 @@ def is_other(source: Source) -> bool:
 
 
 def _first_bytes(number: int) -> bytes:
-    """The first bytes of a stream, which stay there. None of what can't be looked at so."""
+    """The first bytes of a stream, which stay there: as many as decide what it is. None of what can't be looked at so."""
     mode = os.fstat(number).st_mode
     if stat.S_ISREG(mode):
         return os.pread(number, HEAD, os.lseek(number, 0, os.SEEK_CUR))
-    if stat.S_ISSOCK(mode):
-        with socket.socket(fileno=os.dup(number)) as peer:
-            return peer.recv(HEAD, socket.MSG_PEEK)
-    if not stat.S_ISFIFO(mode):
+    if not (stat.S_ISSOCK(mode) or stat.S_ISFIFO(mode)):
         return b""
-    # Linux copies what is in a pipe to another one.
+    end = select.poll()
+    end.register(number, select.POLLRDHUP)
+    while True:
+        is_ended = bool(end.poll(0))
+        head = _in_socket(number) if stat.S_ISSOCK(mode) else _in_pipe(number)
+        if is_ended or not head or decides(head):
+            return head
+        end.poll(_PAUSE)
+
+
+def _in_socket(number: int) -> bytes:
+    """What is there to be read, once something is."""
+    with socket.socket(fileno=os.dup(number)) as peer:
+        return peer.recv(HEAD, socket.MSG_PEEK)
+
+
+def _in_pipe(number: int) -> bytes:
+    """The same. Linux copies what is in a pipe to another one."""
     end, begin = os.pipe()
     try:
         size = ctypes.CDLL(None).tee(number, begin, HEAD, 0)
@@ -116,7 +159,8 @@ def _first_bytes(number: int) -> bytes:
 
 def limit_of(program: str, words: Sequence[str]) -> int:
     """The most bytes of a log in a run with these words: those that they say, else those that the command's help does."""
-    given = re.findall(r"(?:^|\0)--limit[=\0](\d{1,13})(?=\0|$)", "\0".join(words))
+    options = words[: words.index("--")] if "--" in words else words
+    given = re.findall(r"(?:^|\0)--limit[=\0]\+?0*([0-9]{1,13})(?=\0|$)", "\0".join(options))
     told = subprocess.run([program, *words[:1], "--help"], stdout=subprocess.PIPE, stderr=subprocess.DEVNULL, check=False).stdout
     usual = re.search(rb"--limit <BYTES>[^\[]*\[default: (\d+)\]", told)
     return int(given[-1]) if given else int(usual[1]) if usual else _LARGEST_LIMIT
@@ -133,7 +177,7 @@ class Folder:
     def place_of(self, name: str, source: str) -> Path:
         """Where the log of this name lies: an absolute path, or one with `..`, from the root of the file system on. Logs of
         two sources lie in two places."""
-        inside = Path(_SURROGATE.sub(lambda found: f"%{ord(found[0]) - 0xDC00:02X}", name))
+        inside = Path(*map(_spelled, Path(name).parts))
         if inside.is_absolute() or ".." in inside.parts:
             inside = Path(os.path.abspath(inside).lstrip("/"))
         while self._sources.get(inside, source) != source or any(
@@ -147,17 +191,21 @@ class Folder:
 
     def word_for(self, word: str, source: Optional[Source], is_other: bool) -> str:
         """The word that means here what this one means where the run was asked for."""
-        whole = os.path.abspath(word)
-        if not is_other and (not isinstance(source, str) or (os.path.isabs(word) and is_text(word))):
+        # The name as it is: behind a link to a folder, `..` is not what its letters say.
+        whole = os.path.join(os.getcwd(), word)
+        is_pipe = is_named_pipe(word, source)
+        if not (is_other or is_pipe) and (not isinstance(source, str) or (os.path.isabs(word) and is_text(word))):
             return whole if os.path.exists(word) else word
-        place = self.place_of(word, whole)
+        place = self.place_of(word, os.path.realpath(word))
         if not os.path.lexists(place):
             if is_other and source is not None:
                 with Log(source) as log, open(place, "wb") as out:
                     _convert(log, out, self._limit)
             else:
-                place.symlink_to(whole)
-        return str(place.relative_to(self._root))
+                place.symlink_to(_handed_on(source) if is_pipe and isinstance(source, int) else whole)
+        inside = str(place.relative_to(self._root))
+        # It is no option there.
+        return f"./{inside}" if inside.startswith("-") else inside
 
     def run(self, program: str, words: Sequence[str], is_given: bool = False) -> int:
         """The status of the program over logs that lie here, or over standard input, which is converted meanwhile. A stream
@@ -180,15 +228,22 @@ def is_text(word: str) -> bool:
     return not _SURROGATE.search(word)
 
 
+def _spelled(name: str) -> str:
+    """The name of a file or folder as UTF-8. Bytes that are none stand by their numbers, if it is not too long so."""
+    told = _SURROGATE.sub(lambda found: f"%{ord(found[0]) - 0xDC00:02X}", name)
+    return told if len(os.fsencode(told)) <= _LONGEST_NAME else _SURROGATE.sub("%", name)
+
+
 def _convert(log: Log, out: IO[bytes], limit: int) -> None:
-    """Writes the candump log, until it is longer than the limit. Where it can't be read to the end, a line that is no log
-    line makes the program refuse it there."""
+    """Writes the candump log, until it is longer than the limit. Where that is, or where it can't be read on, a line that is
+    no log line makes the program refuse it."""
     size = 0
     try:
         for block in log.blocks():
             out.write(block)
             size += len(block)
             if size > limit:
+                out.write(b"longer than the limit\n")
                 break
     except Fault as fault:
         out.write(f"{fault}\n".encode("ascii", "replace"))

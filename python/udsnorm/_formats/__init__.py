@@ -7,9 +7,9 @@ behind the frames before.
 
 from .frames import Fault, Frame, Tally, interface_of, lines_of, shown
 from .messages import Missing, frames as frames_of_messages
-from .opened import HEAD, Log, is_for_the_program
+from .opened import HEAD, Log, decides, is_for_the_program
 
 __all__ = [
-    "Fault", "Frame", "HEAD", "Log", "Missing", "Tally", "frames_of_messages", "interface_of", "is_for_the_program", "lines_of",
-    "shown",
+    "Fault", "Frame", "HEAD", "Log", "Missing", "Tally", "decides", "frames_of_messages", "interface_of", "is_for_the_program",
+    "lines_of", "shown",
 ]

@@ -4,6 +4,7 @@ from __future__ import annotations
 
 import io
 import os
+import stat
 from typing import Any, Callable, Dict, Iterator, List, Optional, Tuple, Union
 
 from . import asc, blf, candump, captures, csv, messages, packed, screen, trc
@@ -11,6 +12,8 @@ from .frames import Fault, Frame, Tally, lines_of
 
 #: How many first bytes of a file decide.
 HEAD = 1 << 16
+# So many without a line feed are no text that is known.
+_ENOUGH = 1 << 11
 _LINES = 2000
 
 _Frames = Callable[[io.BufferedReader, Tally], Iterator[Frame]]
@@ -27,6 +30,14 @@ def is_for_the_program(head: bytes) -> bool:
     """A stream that begins so is read by the program: it is a candump log, or nothing that is known, and not packed."""
     is_known = packed.unpacker_of(head, "") or messages.reader_of(head, "") or _reader_of(head, "")
     return not is_known and (candump.is_plain(head) or not candump.looks_so(head))
+
+
+def decides(head: bytes) -> bool:
+    """What begins so stays what it is, whatever follows: it is known, or it has a first line, behind comments and notices."""
+    if packed.unpacker_of(head, "") or messages.reader_of(head, "") or _reader_of(head, "") or candump.looks_so(head):
+        return True
+    whole = head.split(b"\n")[:-1]
+    return len(head) >= _ENOUGH or any(line.strip() and not line.startswith((b";", b"DROPCOUNT")) for line in whole)
 
 
 def _reader_of(head: bytes, suffix: str) -> Optional[_Frames]:
@@ -102,6 +113,14 @@ class Log:
             self._frames = lambda _, tally: messages.frames_of_file(path, reader, tally)
         self._is_known = is_log or not head.strip()
         self._is_plain = self._frames is None and (candump.is_plain(head) or not is_log)
+
+    def is_read_from(self, other: "Union[int, str]") -> bool:
+        """This is the file of that path, or number, so what is written there is lost or read."""
+        try:
+            status = os.stat(other)
+        except FileNotFoundError:
+            return False
+        return stat.S_ISREG(status.st_mode) and os.path.samestat(status, os.fstat(self._raw.fileno()))
 
     def read(self, limit: int) -> bytes:
         """The bytes as they stand: of a longer file no more than show that it is longer than the limit."""
