@@ -856,6 +856,16 @@ class Tool(unittest.TestCase):
         found = package(["list", "run.blf"], cwd=self.folder, env={**environment(), "PATH": "/nowhere"})
         self.assertEqual((found.status, found.output, found.error.count(b"\n")), (WORDS, b"", 1))
 
+    def test_no_shared_library(self):
+        """The commands need none. Who imports the package is told at once."""
+        self.put("run.blf", blf_of(VIN.read_bytes()))
+        broken = self.put("broken/libudsnorm.so.0", b"no library").parent
+        more = {"cwd": self.folder, "env": {**environment(), "LD_LIBRARY_PATH": str(broken)}}
+        for words in (["compare", "run.blf", VIN], ["convert", "run.blf"], ["list", VIN], ["--help"]):
+            self.assertEqual(package(words, **more), package(words, cwd=self.folder))
+        found = run(sys.executable, ["-B", "-c", "import udsnorm"], **more)
+        self.assertEqual((found.status, b"libudsnorm.so.0: " in found.error.splitlines()[-1]), (1, True))
+
     def test_missing_library(self):
         """A Python without python-can says what to install."""
         database = self.put("run.db", b"SQLite format 3\0" + bytes(100))

@@ -41,6 +41,10 @@ __all__ = [
 ]
 __version__ = _library.VERSION
 
+# As `python3 -m udsnorm` the package is imported first, and needs no library.
+if sys.argv[:1] != ["-m"]:
+    _library.loaded()
+
 #: The flag of an identifier of 29 bits, as in canid_t of <linux/can.h>.
 EXTENDED = 1 << 31
 #: The identifiers and the limit that the program has where none are given. For `messages` and `report` it has a limit of

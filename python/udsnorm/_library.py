@@ -3,6 +3,7 @@
 from __future__ import annotations
 
 import ctypes
+import functools
 from pathlib import Path
 from typing import Any, Iterable, List, NamedTuple, Tuple
 
@@ -71,7 +72,8 @@ class Settings(NamedTuple):
     limit: int
 
 
-def _loaded() -> ctypes.CDLL:
+@functools.lru_cache(maxsize=None)
+def loaded() -> ctypes.CDLL:
     """The library that lies beside this file, else that of the system. It has to be of the package's version."""
     beside = Path(__file__).with_name(SONAME)
     library = ctypes.CDLL(str(beside) if beside.exists() else SONAME)
@@ -80,10 +82,9 @@ def _loaded() -> ctypes.CDLL:
     found = f"{number >> 16}.{number >> 8 & 0xFF}.{number & 0xFF}"
     if found != VERSION:
         raise ImportError(f"udsnorm {VERSION} needs {SONAME} of that version, and found {found}")
+    _declare(library)
     return library
 
-
-_library = _loaded()
 
 # The C library, for memory that is not cleared: of the room for a text most is never used.
 _process = ctypes.CDLL(None)
@@ -99,16 +100,19 @@ _LOG: List[Any] = [ctypes.c_char_p, ctypes.c_size_t]
 _OUT: List[Any] = [ctypes.c_void_p, ctypes.c_size_t]
 _ANSWER: List[Any] = [ctypes.POINTER(Answer)]
 
-_library.udsnorm_normalise.argtypes = [*_SETTINGS, *_LOG, *_OUT, *_ANSWER]
-_library.udsnorm_list.argtypes = [*_SETTINGS, *_STYLE, *_LOG, *_OUT, *_ANSWER]
-_library.udsnorm_messages.argtypes = [*_SETTINGS, *_STYLE, *_LOG, *_OUT, *_ANSWER]
-_library.udsnorm_explain.argtypes = [*_SETTINGS, *_STYLE, *_LOG, *_OUT, *_ANSWER]
-_library.udsnorm_find.argtypes = [ctypes.c_uint64, *_STYLE, *_LOG, *_OUT, *_ANSWER]
-_library.udsnorm_compare.argtypes = [*_SETTINGS, *_LOG, *_LOG, *_ANSWER]
-_library.udsnorm_report.argtypes = [*_SETTINGS, *_LOG, *_LOG, *_OUT, *_ANSWER]
-_library.udsnorm_report_pair.argtypes = [*_SETTINGS, *_LOG, *_LOG, *_LOG, *_LOG, *_OUT, *_ANSWER]
-_library.udsnorm_status_text.argtypes = [ctypes.c_uint32]
-_library.udsnorm_status_text.restype = _Words
+
+def _declare(library: ctypes.CDLL) -> None:
+    library.udsnorm_normalise.argtypes = [*_SETTINGS, *_LOG, *_OUT, *_ANSWER]
+    library.udsnorm_list.argtypes = [*_SETTINGS, *_STYLE, *_LOG, *_OUT, *_ANSWER]
+    library.udsnorm_messages.argtypes = [*_SETTINGS, *_STYLE, *_LOG, *_OUT, *_ANSWER]
+    library.udsnorm_explain.argtypes = [*_SETTINGS, *_STYLE, *_LOG, *_OUT, *_ANSWER]
+    library.udsnorm_find.argtypes = [ctypes.c_uint64, *_STYLE, *_LOG, *_OUT, *_ANSWER]
+    library.udsnorm_compare.argtypes = [*_SETTINGS, *_LOG, *_LOG, *_ANSWER]
+    library.udsnorm_report.argtypes = [*_SETTINGS, *_LOG, *_LOG, *_OUT, *_ANSWER]
+    library.udsnorm_report_pair.argtypes = [*_SETTINGS, *_LOG, *_LOG, *_LOG, *_LOG, *_OUT, *_ANSWER]
+    library.udsnorm_status_text.argtypes = [ctypes.c_uint32]
+    library.udsnorm_status_text.restype = _Words
+
 
 # How many bytes of room a page is given at first: what is fixed in it, and for each byte of its logs.
 _OF_A_PAGE, _OF_ITS_LOGS = 1 << 16, 32
@@ -119,19 +123,19 @@ def text(name: str, settings: Settings, log: bytes, *style: int) -> Tuple[Answer
 
     The interpreter's lock is given up during the call, as during the others."""
     given = (*(settings[2:] if name == "find" else settings), *style, log, len(log))
-    return _put(getattr(_library, f"udsnorm_{name}"), given, 4 * len(log) + 512)
+    return _put(getattr(loaded(), f"udsnorm_{name}"), given, 4 * len(log) + 512)
 
 
 def page(settings: Settings, name: bytes, log: bytes) -> Tuple[Answer, bytes]:
     """The same of the page of a log with this name."""
     given = (*settings, name, len(name), log, len(log))
-    return _put(_library.udsnorm_report, given, _OF_A_PAGE + _OF_ITS_LOGS * len(log))
+    return _put(loaded().udsnorm_report, given, _OF_A_PAGE + _OF_ITS_LOGS * len(log))
 
 
 def pair_page(settings: Settings, names: Tuple[bytes, bytes], left: bytes, right: bytes) -> Tuple[Answer, bytes]:
     """The same of the page of two logs with these names."""
     logs = [part for data in (names[0], left, names[1], right) for part in (data, len(data))]
-    return _put(_library.udsnorm_report_pair, (*settings, *logs), _OF_A_PAGE + _OF_ITS_LOGS * (len(left) + len(right)))
+    return _put(loaded().udsnorm_report_pair, (*settings, *logs), _OF_A_PAGE + _OF_ITS_LOGS * (len(left) + len(right)))
 
 
 def _put(call: Any, given: Iterable[Any], room: int) -> Tuple[Answer, bytes]:
@@ -156,13 +160,13 @@ def _put(call: Any, given: Iterable[Any], room: int) -> Tuple[Answer, bytes]:
 def compare(settings: Settings, left: bytes, right: bytes) -> Answer:
     """What two logs are to each other."""
     answer = Answer()
-    _library.udsnorm_compare(*settings, left, len(left), right, len(right), ctypes.byref(answer))
+    loaded().udsnorm_compare(*settings, left, len(left), right, len(right), ctypes.byref(answer))
     return answer
 
 
 def status_text(status: int) -> str:
     """What a status means, in a few words."""
-    words: _Words = _library.udsnorm_status_text(status)
+    words: _Words = loaded().udsnorm_status_text(status)
     return words.text.decode("ascii")
 
 
