@@ -112,12 +112,12 @@ NeedsMemoryOnSide limit settings one other (Left fault) = NeedsMemoryToCollect l
 NeedsMemoryOnSide limit settings one other (Right fault) = NeedsMemoryToCollect limit settings other
 
 -- what two logs are to each other, and the counts of each, without what they mean
-abbrev pub counts_of : Compared → CountedComparison
-counts_of compared = record { comparison = compared.comparison; left = compared.left.summary; right = compared.right.summary }
+abbrev pub counted_comparison : Compared → CountedComparison
+counted_comparison compared = record { comparison = compared.comparison; left = compared.left.summary; right = compared.right.summary }
 
 -- how the meanings of the two logs compare, with the counts of each; or why one has none
 abbrev pub ComparesWithCounts : ℕ → Settings → List ℕ → List ℕ → Result CountedComparison CompareFault → Type 0
-ComparesWithCounts limit settings one other (Ok counted) = (compared : Compared) × Compares limit settings one other (Ok compared) × (counted ≡ counts_of compared)
+ComparesWithCounts limit settings one other (Ok counted) = (compared : Compared) × Compares limit settings one other (Ok compared) × (counted ≡ counted_comparison compared)
 ComparesWithCounts limit settings one other (Err fault) =
     Compares limit settings one other (Err fault) × IsOfMemory (NeedsMemoryOnSide limit settings one other fault) (fault_in fault)
 

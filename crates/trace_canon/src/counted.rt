@@ -105,14 +105,14 @@ pub fn comparison(
     ensures { ComparesWithCounts MESSAGE_LIMIT config.now left.now right.now result }
 {
     match compare(alloc, config, &mut Bytes::new(left), &mut Bytes::new(right)) {
-        Ok(compared) => Ok(counts_of(&compared)),
+        Ok(compared) => Ok(counted_comparison(&compared)),
         Err(fault) => Err(fault),
     }
 }
 
 /// What two logs are to each other, without what they mean.
-fn counts_of(compared: &Compared) -> CountedComparison
-    ensures { result ≡ Spec.counts_of compared.now }
+fn counted_comparison(compared: &Compared) -> CountedComparison
+    ensures { result ≡ Spec.counted_comparison compared.now }
 {
     CountedComparison {
         comparison: compared.comparison,

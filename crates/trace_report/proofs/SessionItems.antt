@@ -23,7 +23,6 @@ use Rattle.uds_exchange.specs.proving.Pairing.{join}
 use Rattle.trace_report.specs.Events.{asked_in, closing_rows, end_rows, ended_rows, is_there, message_place, role_of_step, rows_before, rows_of, standing_row, verdict_rows, waiting_row}
 use Rattle.trace_report.specs.Laws.{ItemsAreTheMeaning}
 use Rattle.trace_report.specs.Page.{all_rows}
-use Rattle.trace_report.specs.Rows.{RowValue}
 use Rattle.trace_report.specs.Rows as row
 use Rattle.trace_report.proofs.ItemValues.{RowKind, asks, answers, strays, nothing, kind, kind_of_step, answer_of, values_of, values-behind, values-by-kinds, kind-of-message, joined}
 use Rattle.trace_report.proofs.Steps.{rows_next}

@@ -2,7 +2,7 @@
 use Rattle.std.proofs.Common.{◌≡◌, ℕ, Bool, true, false, List, length, codes, refl, ap}
 use Rattle.std.specs.Prelude.{◌↔◌, if◌then◌else◌}
 use Rattle.uds_message.specs.Message.{is_suppressing}
-use Rattle.trace_text.specs.Json.{Value, string, Members, nothing, member}
+use Rattle.trace_text.specs.Json.{string, Members, nothing, member}
 use Rattle.trace_text.specs.Json as json
 use Rattle.trace_text.specs.Laws.{SilenceWasAskedFor, SilenceWasAskedForInJson}
 

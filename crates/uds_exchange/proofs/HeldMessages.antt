@@ -5,7 +5,7 @@ use Rattle.std.proofs.lemmas.List.Sums.{sum_by-cons}
 use Rattle.direction.specs.Dir.{Message}
 use Rattle.uds_exchange.specs.declared.held.HeldMessage.{HeldMessage}
 use Rattle.uds_exchange.specs.proving.Blocks.{bytes_at, IsInside, Holds, GoesOn}
-use Rattle.uds_exchange.specs.proving.HeldMessages.{span_of, message_at, messages_at, message_length, AreHeldIn, IsHeld}
+use Rattle.uds_exchange.specs.proving.HeldMessages.{span_of, message_at, messages_at, message_length, AreHeldIn, AreHeldAndSummed}
 use Rattle.uds_exchange.proofs.InBlocks.{inside-on, bytes_at-on}
 
 pub held-at : (blocks : List (List ℕ)) (held : List HeldMessage) (i : ℕ) (d : HeldMessage) → AreHeldIn blocks held → i < length held → IsInside blocks (span_of (get_or held i d))
@@ -39,7 +39,7 @@ module _ (old new : List (List ℕ)) (on : GoesOn old new) where
         ∙ ap (λ l. l ++ message_at new one ∷ []) (messages-on held all)
         ∙ ap (λ b. messages_at old held ++ (one.dir, b) ∷ []) laid.bytes
 
-    pub pushed-held : (total more : ℕ) → total ≡ sum_by message_length (messages_at old held) → more ≡ total + length m → IsHeld new grown more
+    pub pushed-held : (total more : ℕ) → total ≡ sum_by message_length (messages_at old held) → more ≡ total + length m → AreHeldAndSummed new grown more
     pushed-held total more was sum = record {
       inside = rw is (held-push held one all laid.inside);
       sum = sum ∙ ap (λ n. n + length m) was ∙ sym (sum-push (messages_at old held) (one.dir, m)) ∙ ap (sum_by message_length) (sym pushed);

@@ -32,13 +32,13 @@ struct HeldMessage {
 impl Model for Held {
     ghost use Rattle.std.specs.Prelude.{List};
     ghost use Rattle.direction.specs.Dir.{Message};
-    ghost use Rattle.uds_exchange.specs.proving.HeldMessages.{messages_at, IsHeld};
+    ghost use Rattle.uds_exchange.specs.proving.HeldMessages.{messages_at, AreHeldAndSummed};
 
     ghost Value = { List Message };
 
     ghost view = { λ h. messages_at h.messages h.held.items };
 
-    ghost invariant = { λ h. IsHeld h.messages h.held.items h.total };
+    ghost invariant = { λ h. AreHeldAndSummed h.messages h.held.items h.total };
 }
 
 impl HeldMessage {
@@ -78,6 +78,7 @@ impl Held {
         ensures ok { OnOk result (self.new ≡ self.old ++ (dir, message.now) ∷ []) }
         ensures err { OnErr result (self.new ≡ self.old) }
     {
+        // No memory holds more bytes than a number tells.
         let Some(total) = self.total.checked_add(message.len()) else {
             return Err(AllocError);
         };

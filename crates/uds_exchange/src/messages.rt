@@ -238,6 +238,7 @@ fn push(later: &mut Vec<Vec<u8>>, message: &[u8]) -> Result<Span, AllocError>
     ensures span { IfOk result (λ span. IsSpan span (length later.old.items + 1) 0 (length message.now)) }
     ensures err { OnErr result (block_bytes later.new.items ≡ block_bytes later.old.items) }
 {
+    // No limit of a log allows so many blocks.
     let Ok(block) = u32::try_from(later.len() + 1) else {
         return Err(AllocError);
     };

@@ -5,7 +5,7 @@ use Rattle.direction.specs.declared.Dir.TheVariants.{Tester, Unit}
 use Rattle.isotp_receive.specs.declared.TheConstants.{MESSAGE_LIMIT}
 use Rattle.isotp_receive.specs.StandingReception.{StandingReception, stands}
 use Rattle.isotp_receive.specs.Trace.{Entry}
-use Rattle.isotp_receive.specs.Verdict.{began, messages}
+use Rattle.isotp_receive.specs.Verdict.{messages}
 use Rattle.uds_exchange.specs.Numbering.{CountsItems}
 use Rattle.uds_exchange.specs.declared.numbers.Numbers.{Numbers}
 use Rattle.trace_canon.specs.declared.begun.Begun.{Begun}

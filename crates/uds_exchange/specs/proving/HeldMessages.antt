@@ -27,6 +27,6 @@ abbrev pub message_length : Message → ℕ
 message_length message = length message.1
 
 -- that, and the sum of their lengths
-pub record IsHeld (blocks : List (List ℕ)) (held : List HeldMessage) (total : ℕ) : Type 0 where
+pub record AreHeldAndSummed (blocks : List (List ℕ)) (held : List HeldMessage) (total : ℕ) : Type 0 where
   pub inside : AreHeldIn blocks held
   pub sum : total ≡ sum_by message_length (messages_at blocks held)

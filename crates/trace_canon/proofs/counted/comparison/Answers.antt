@@ -10,7 +10,7 @@ returns-in-Ok c =
     let ran = c.compare.ensures in
     let left = agrees_in_memory c.args.left.now c.new.result c.compare.new.left c.new.ensures ran.left_read.gave ran.left_read.ended in
     let right = agrees_in_memory c.args.right.now c.new-2.result c.compare.new.right c.new-2.ensures ran.right_read.gave ran.right_read.ended in
-    subst (λ (counted : CountedComparison). ComparesWithCounts MESSAGE_LIMIT c.args.config.now c.args.left.now c.args.right.now (Ok counted)) (sym c.counts_of.ensures)
+    subst (λ (counted : CountedComparison). ComparesWithCounts MESSAGE_LIMIT c.args.config.now c.args.left.now c.args.right.now (Ok counted)) (sym c.counted_comparison.ensures)
     (subst (λ answer. ComparesWithCounts MESSAGE_LIMIT c.args.config.now c.args.left.now c.args.right.now (counted_in answer)) c.in-Ok.is
     (comparison_in_memory MESSAGE_LIMIT c.args.config.now c.args.left.now c.args.right.now c.compare.result ran.left_read.failed ran.right_read.failed ran.never_write
     (ran.left_memory c.args.left.now left) (ran.right_memory c.args.right.now right)
