@@ -39,7 +39,7 @@ record HasText (settings : Settings) (log text : List ℕ) : Type 0 where
   outcome : IsOutcome MESSAGE_LIMIT settings log (Ok accepted)
   is : text ≡ accepted.text
 
-had_room : (b : Bool) → (if b then 0 else 9) ≡ 0 → b ≡ true
+had_room : (b : Bool) → ◌≡◌ {A = ℕ} (if b then 0 else 9) 0 → b ≡ true
 had_room true done = refl
 had_room false done = absurd (omega (arith, done))
 
@@ -129,16 +129,19 @@ module _ (outcome_is_one : OutcomeIsOne) where
       let item = ap (λ (a : UdsnormAnswer). a.item) says ∙ ap (λ (c : CountedComparison). first_item c.comparison) counts in
       let of_items = item_of_same compared.comparison compared.left.meaning compared.right.meaning compares.2 in
       let of_texts = meaning_by_text settings left right one other of_left of_right in
-      inr (ap (λ (a : UdsnormAnswer). a.status) says, (
-        λ zero. of_texts.0 (record {
-          items = compared.left.meaning;
-          in_one = compares.0.means;
-          in_other = subst (HasMeaning MESSAGE_LIMIT settings right) (sym (of_items.0 (sym item ∙ zero))) compares.1.means;
-        }),
-        λ same. item ∙ of_items.1 (let both = of_texts.1 same in
-            one_meaning MESSAGE_LIMIT settings left compared.left.meaning both.items compares.0.means both.in_one
-            ∙ one_meaning MESSAGE_LIMIT settings right both.items compared.right.meaning both.in_other compares.1.means),
-      ))
+      inr (
+        ap (λ (a : UdsnormAnswer). a.status) says,
+        (
+          λ zero. of_texts.0 (record {
+            items = compared.left.meaning;
+            in_one = compares.0.means;
+            in_other = subst (HasMeaning MESSAGE_LIMIT settings right) (sym (of_items.0 (sym item ∙ zero))) compares.1.means;
+          }),
+          λ same. item ∙ of_items.1 (let both = of_texts.1 same in
+              one_meaning MESSAGE_LIMIT settings left compared.left.meaning both.items compares.0.means both.in_one
+              ∙ one_meaning MESSAGE_LIMIT settings right both.items compared.right.meaning both.in_other compares.1.means),
+        ),
+      )
   compare_under settings left right one other answer (Err (Left fault)) of_left of_right (why, memory) says =
       inl (ap (λ (a : UdsnormAnswer). a.status) says ∙ of_memory settings left one fault of_left why)
   compare_under settings left right one other answer (Err (Right fault)) of_left of_right ((there, why), memory) says =

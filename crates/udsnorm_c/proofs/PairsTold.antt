@@ -46,14 +46,18 @@ compared_under : (settings : Settings) (left right : List ℕ) (answer : Udsnorm
     → ComparesWithCounts MESSAGE_LIMIT settings left right result → answer ≡ comparison_answer result
     → (has_no_text answer ≡ true) ⊎ ComparedSo settings left right answer
 compared_under settings left right answer (Ok counted) (compared, compares, counts) says =
-    inr (compared, compares, record {
-      one = counted.left;
-      other = counted.right;
-      of_left = subst (λ (c : CountedComparison). AreCountsOf settings left c.left) (sym counts) (of_accepted settings left compared.left.meaning compared.left.summary compares.0);
-      of_right = subst (λ (c : CountedComparison). AreCountsOf settings right c.right) (sym counts) (of_accepted settings right compared.right.meaning compared.right.summary compares.1);
-      item = ap (λ (a : UdsnormAnswer). a.item) says ∙ ap (λ (c : CountedComparison). first_item c.comparison) counts;
-      clean = ap (λ (a : UdsnormAnswer). a.clean) says;
-    })
+    inr (
+      compared,
+      compares,
+      record {
+        one = counted.left;
+        other = counted.right;
+        of_left = subst (λ (c : CountedComparison). AreCountsOf settings left c.left) (sym counts) (of_accepted settings left compared.left.meaning compared.left.summary compares.0);
+        of_right = subst (λ (c : CountedComparison). AreCountsOf settings right c.right) (sym counts) (of_accepted settings right compared.right.meaning compared.right.summary compares.1);
+        item = ap (λ (a : UdsnormAnswer). a.item) says ∙ ap (λ (c : CountedComparison). first_item c.comparison) counts;
+        clean = ap (λ (a : UdsnormAnswer). a.clean) says;
+      },
+    )
 compared_under settings left right answer (Err fault) why says = inl (so_has answer _ says (of_side fault))
 
 compared_told : (tester unit max_bytes : ℕ) (left right : List ℕ) (answer : UdsnormAnswer) → CompareAnswers MESSAGE_LIMIT tester unit max_bytes left right answer
@@ -69,14 +73,18 @@ held_under : (settings : Settings) (left_name right_name left right old new : Li
     → PairPagePuts MESSAGE_LIMIT left_name right_name left right old new answer settings
     → (has_no_text answer ≡ true) ⊎ HeldSo settings left right answer
 held_under settings left_name right_name left right old new answer (style, Ok page, (held, holds, spelled, counts), (front, says)) =
-    inr (held, holds, record {
-      one = page.counted.left;
-      other = page.counted.right;
-      of_left = subst (λ (c : CountedComparison). AreCountsOf settings left c.left) (sym counts) (of_held settings left held.left holds.0);
-      of_right = subst (λ (c : CountedComparison). AreCountsOf settings right c.right) (sym counts) (of_held settings right held.right holds.1);
-      item = ap (λ (a : UdsnormAnswer). a.item) says ∙ ap (λ (c : CountedComparison). first_item c.comparison) counts;
-      clean = ap (λ (a : UdsnormAnswer). a.clean) says;
-    })
+    inr (
+      held,
+      holds,
+      record {
+        one = page.counted.left;
+        other = page.counted.right;
+        of_left = subst (λ (c : CountedComparison). AreCountsOf settings left c.left) (sym counts) (of_held settings left held.left holds.0);
+        of_right = subst (λ (c : CountedComparison). AreCountsOf settings right c.right) (sym counts) (of_held settings right held.right holds.1);
+        item = ap (λ (a : UdsnormAnswer). a.item) says ∙ ap (λ (c : CountedComparison). first_item c.comparison) counts;
+        clean = ap (λ (a : UdsnormAnswer). a.clean) says;
+      },
+    )
 held_under settings left_name right_name left right old new answer (style, Err why, none, (same, says)) = inl (so_has answer _ says (of_no_page why))
 
 held_told : (tester unit max_bytes : ℕ) (left_name right_name left right old new : List ℕ) (answer : UdsnormAnswer)
@@ -118,7 +126,7 @@ say_the_same settings left right one other page compared same of_page of_compare
     let of_right = one_count settings right of_page.other of_compared.other of_page.of_right of_compared.of_right in (
       of_page.item ∙ ap first_item same ∙ sym of_compared.item,
       of_page.clean ∙ ap (λ (s : Summary). flag (is_clean s && is_clean of_page.other)) of_left
-      ∙ ap (λ (s : Summary). flag (is_clean of_compared.one && is_clean s)) of_right ∙ sym of_compared.clean,
+          ∙ ap (λ (s : Summary). flag (is_clean of_compared.one && is_clean s)) of_right ∙ sym of_compared.clean,
     )
 
 pub pair_page_agrees : AgreesWithCompare → PairPageAgreesWithCompare

@@ -71,10 +71,19 @@ past status known low = ne_eqb status known (λ is. omega (arith, low, is))
 
 unknown : (status : ℕ) → 10 < status → status_words status ≡ codes "no such status"
 unknown status high =
-    rw (past status 0 (omega (arith, high)), past status 1 (omega (arith, high)), past status 2 (omega (arith, high)),
-    past status 3 (omega (arith, high)), past status 4 (omega (arith, high)), past status 5 (omega (arith, high)),
-    past status 6 (omega (arith, high)), past status 7 (omega (arith, high)), past status 8 (omega (arith, high)),
-    past status 9 (omega (arith, high)), past status 10 high) refl
+    rw (
+      past status 0 (omega (arith, high)),
+      past status 1 (omega (arith, high)),
+      past status 2 (omega (arith, high)),
+      past status 3 (omega (arith, high)),
+      past status 4 (omega (arith, high)),
+      past status 5 (omega (arith, high)),
+      past status 6 (omega (arith, high)),
+      past status 7 (omega (arith, high)),
+      past status 8 (omega (arith, high)),
+      past status 9 (omega (arith, high)),
+      past status 10 high,
+    ) refl
 
 apart : (one other : ℕ) → min one 11 ≡ min other 11 → (one ≡ other) ⊎ ((10 < one) × (10 < other))
 apart one other same = elim (cases_lt one 11) [
