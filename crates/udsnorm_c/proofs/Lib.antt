@@ -1,2 +1,6 @@
 pub mod Settled
+pub mod Unput
+pub mod Recorded
+pub mod PairsTold
+pub mod EqualTexts
 pub mod Words

@@ -14,6 +14,7 @@ ghost use Rattle.udsnorm_c.specs.Answered.{CompareAnswers, ExplainAnswers, FindA
 ghost use Rattle.udsnorm_c.specs.Spelled.{version, words_for_c};
 
 mod answer;
+pub mod laws;
 mod pages;
 mod room;
 mod sides;

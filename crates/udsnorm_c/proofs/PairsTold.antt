@@ -1,0 +1,142 @@
+-- What is told of two logs: how they compare, and whether both are clean.
+use Rattle.std.proofs.Common.{◌≡◌, ◌⊎◌, ℕ, Bool, true, List, Result, Ok, Err, refl, ap, sym, subst, ◌∙◌, inl, inr}
+use Rattle.std.specs.Prelude.{◌&&◌}
+use Rattle.std.proofs.lemmas.Bool.{and_parts}
+use Rattle.isotp_receive.specs.declared.TheConstants.{MESSAGE_LIMIT}
+use Rattle.trace_canon.specs.Compared.{Compares}
+use Rattle.trace_canon.specs.InMemory.{ComparesWithCounts}
+use Rattle.trace_canon.specs.declared.comparing.Compared.{Compared}
+use Rattle.trace_canon.specs.declared.comparing.Comparison.{Comparison}
+use Rattle.trace_canon.specs.declared.counted.CountedComparison.{CountedComparison}
+use Rattle.trace_log.specs.Laws.{CleanLogHasBothSides}
+use Rattle.trace_log.specs.Settings.{Settings}
+use Rattle.trace_log.specs.Summing.{is_clean}
+use Rattle.trace_log.specs.declared.fault.CompareFault.{CompareFault}
+use Rattle.trace_log.specs.declared.summary.Summary.{Summary}
+use Rattle.trace_report.specs.Held.{HoldsOne, HoldsTwo, comparison_in}
+use Rattle.trace_report.specs.Laws.{AgreesWithCompare}
+use Rattle.trace_report.specs.Session.{SessionValue}
+use Rattle.trace_report.specs.declared.held_session.Held.{Held}
+use Rattle.udsnorm_c.specs.declared.answer.UdsnormAnswer.{UdsnormAnswer}
+use Rattle.udsnorm_c.specs.Answered.{CompareAnswers, PairPagePuts, ReportPairAnswers, comparison_answer, first_item, flag, refusal_of}
+use Rattle.udsnorm_c.specs.Laws.{CleanCompareIsRecorded, CleanReportPairIsRecorded, IsRecorded, PairPageAgreesWithCompare, settings_of}
+use Rattle.udsnorm_c.proofs.Recorded.{AreCountsOf, flag_set, of_accepted, one_count, recorded}
+use Rattle.udsnorm_c.proofs.Unput.{has_no_text, never_clean, never_put, of_no_page, of_refusal, of_side, so_has}
+
+-- The answer says how two logs compare, and whether both are clean.
+record SaysOfTwo (settings : Settings) (left right : List ℕ) (comparison : Comparison) (answer : UdsnormAnswer) : Type 0 where
+  one : Summary
+  other : Summary
+  of_left : AreCountsOf settings left one
+  of_right : AreCountsOf settings right other
+  item : answer.item ≡ first_item comparison
+  clean : answer.clean ≡ flag (is_clean one && is_clean other)
+
+-- what is said of two logs that compare so
+abbrev ComparedSo : Settings → List ℕ → List ℕ → UdsnormAnswer → Type 0
+ComparedSo settings left right answer =
+    (compared : Compared) × Compares MESSAGE_LIMIT settings left right (Ok compared) × SaysOfTwo settings left right compared.comparison answer
+
+-- what is said of two logs that are held
+abbrev HeldSo : Settings → List ℕ → List ℕ → UdsnormAnswer → Type 0
+HeldSo settings left right answer =
+    (held : Held) × HoldsTwo MESSAGE_LIMIT settings left right (Ok held) × SaysOfTwo settings left right (comparison_in held) answer
+
+compared_under : (settings : Settings) (left right : List ℕ) (answer : UdsnormAnswer) (result : Result CountedComparison CompareFault)
+    → ComparesWithCounts MESSAGE_LIMIT settings left right result → answer ≡ comparison_answer result
+    → (has_no_text answer ≡ true) ⊎ ComparedSo settings left right answer
+compared_under settings left right answer (Ok counted) (compared, compares, counts) says =
+    inr (
+      compared,
+      compares,
+      record {
+        one = counted.left;
+        other = counted.right;
+        of_left = subst (λ (c : CountedComparison). AreCountsOf settings left c.left) (sym counts) (of_accepted settings left compared.left.meaning compared.left.summary compares.0);
+        of_right = subst (λ (c : CountedComparison). AreCountsOf settings right c.right) (sym counts) (of_accepted settings right compared.right.meaning compared.right.summary compares.1);
+        item = ap (λ (a : UdsnormAnswer). a.item) says ∙ ap (λ (c : CountedComparison). first_item c.comparison) counts;
+        clean = ap (λ (a : UdsnormAnswer). a.clean) says;
+      },
+    )
+compared_under settings left right answer (Err fault) why says = inl (so_has answer _ says (of_side fault))
+
+compared_told : (tester unit max_bytes : ℕ) (left right : List ℕ) (answer : UdsnormAnswer) → CompareAnswers MESSAGE_LIMIT tester unit max_bytes left right answer
+    → (has_no_text answer ≡ true) ⊎ ComparedSo (settings_of tester unit max_bytes) left right answer
+compared_told tester unit max_bytes left right answer (Ok settings, (is, are), (result, compares, says)) =
+    subst (λ (s : Settings). (has_no_text answer ≡ true) ⊎ ComparedSo s left right answer) is (compared_under settings left right answer result compares says)
+compared_told tester unit max_bytes left right answer (Err fault, configures, says) = inl (so_has answer (refusal_of fault) says (of_refusal fault))
+
+of_held : (settings : Settings) (log : List ℕ) (session : SessionValue) → HoldsOne MESSAGE_LIMIT settings log (Ok session) → AreCountsOf settings log session.summary
+of_held settings log session (meanings, read, is) = (meanings, read.1, ap (λ (s : SessionValue). s.summary) is)
+
+held_under : (settings : Settings) (left_name right_name left right old new : List ℕ) (answer : UdsnormAnswer)
+    → PairPagePuts MESSAGE_LIMIT left_name right_name left right old new answer settings
+    → (has_no_text answer ≡ true) ⊎ HeldSo settings left right answer
+held_under settings left_name right_name left right old new answer (style, Ok page, (held, holds, spelled, counts), (front, says)) =
+    inr (
+      held,
+      holds,
+      record {
+        one = page.counted.left;
+        other = page.counted.right;
+        of_left = subst (λ (c : CountedComparison). AreCountsOf settings left c.left) (sym counts) (of_held settings left held.left holds.0);
+        of_right = subst (λ (c : CountedComparison). AreCountsOf settings right c.right) (sym counts) (of_held settings right held.right holds.1);
+        item = ap (λ (a : UdsnormAnswer). a.item) says ∙ ap (λ (c : CountedComparison). first_item c.comparison) counts;
+        clean = ap (λ (a : UdsnormAnswer). a.clean) says;
+      },
+    )
+held_under settings left_name right_name left right old new answer (style, Err why, none, (same, says)) = inl (so_has answer _ says (of_no_page why))
+
+held_told : (tester unit max_bytes : ℕ) (left_name right_name left right old new : List ℕ) (answer : UdsnormAnswer)
+    → ReportPairAnswers MESSAGE_LIMIT tester unit max_bytes left_name right_name left right old new answer
+    → (has_no_text answer ≡ true) ⊎ HeldSo (settings_of tester unit max_bytes) left right answer
+held_told tester unit max_bytes left_name right_name left right old new answer (Ok settings, (is, are), puts) =
+    subst (λ (s : Settings). (has_no_text answer ≡ true) ⊎ HeldSo s left right answer) is (held_under settings left_name right_name left right old new answer puts)
+held_told tester unit max_bytes left_name right_name left right old new answer (Err fault, configures, (same, says)) =
+    inl (so_has answer (refusal_of fault) says (of_refusal fault))
+
+-- ---- both are clean
+
+both_recorded : CleanLogHasBothSides → (settings : Settings) (left right : List ℕ) (comparison : Comparison) (answer : UdsnormAnswer)
+    → SaysOfTwo settings left right comparison answer → answer.clean ≡ 1 → IsRecorded settings left × IsRecorded settings right
+both_recorded has_both_sides settings left right comparison answer says clean =
+    let both = and_parts (is_clean says.one) (is_clean says.other) (flag_set (is_clean says.one && is_clean says.other) (sym says.clean ∙ clean)) in
+    (recorded has_both_sides settings left says.one says.of_left both.0, recorded has_both_sides settings right says.other says.of_right both.1)
+
+pub clean_compare : CleanLogHasBothSides → CleanCompareIsRecorded
+clean_compare has_both_sides tester unit max_bytes left right answer answers clean =
+    elim (compared_told tester unit max_bytes left right answer answers) [
+      | inl none ↦ absurd (never_clean answer none clean)
+      | inr said ↦ both_recorded has_both_sides (settings_of tester unit max_bytes) left right said.0.comparison answer said.2 clean
+    ]
+
+pub clean_report_pair : CleanLogHasBothSides → CleanReportPairIsRecorded
+clean_report_pair has_both_sides tester unit max_bytes left_name right_name left right old new answer answers clean =
+    elim (held_told tester unit max_bytes left_name right_name left right old new answer answers) [
+      | inl none ↦ absurd (never_clean answer none clean)
+      | inr said ↦ both_recorded has_both_sides (settings_of tester unit max_bytes) left right (comparison_in said.0) answer said.2 clean
+    ]
+
+-- ---- a page says what comparing does
+
+say_the_same : (settings : Settings) (left right : List ℕ) (one other : Comparison) (page compared : UdsnormAnswer) → one ≡ other
+    → SaysOfTwo settings left right one page → SaysOfTwo settings left right other compared → (page.item ≡ compared.item) × (page.clean ≡ compared.clean)
+say_the_same settings left right one other page compared same of_page of_compared =
+    let of_left = one_count settings left of_page.one of_compared.one of_page.of_left of_compared.of_left in
+    let of_right = one_count settings right of_page.other of_compared.other of_page.of_right of_compared.of_right in (
+      of_page.item ∙ ap first_item same ∙ sym of_compared.item,
+      of_page.clean ∙ ap (λ (s : Summary). flag (is_clean s && is_clean of_page.other)) of_left
+          ∙ ap (λ (s : Summary). flag (is_clean of_compared.one && is_clean s)) of_right ∙ sym of_compared.clean,
+    )
+
+pub pair_page_agrees : AgreesWithCompare → PairPageAgreesWithCompare
+pair_page_agrees agrees tester unit max_bytes left_name right_name left right old new page compared puts put answers done =
+    let settings = settings_of tester unit max_bytes in
+    elim (held_told tester unit max_bytes left_name right_name left right old new page puts) [
+      | inl none ↦ absurd (never_put page none put)
+      | inr held ↦ elim (compared_told tester unit max_bytes left right compared answers) [
+        | inl none ↦ absurd (never_put compared none (inl done))
+        | inr found ↦ say_the_same settings left right (comparison_in held.0) found.0.comparison page compared
+            (agrees settings left right held.0 found.0 held.1 found.1) held.2 found.2
+      ]
+    ]
