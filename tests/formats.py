@@ -26,6 +26,7 @@ import sys
 import tempfile
 import time
 import unittest
+import unittest.mock
 import warnings
 import zlib
 from pathlib import Path
@@ -450,11 +451,15 @@ class Faults(unittest.TestCase):
     def test_kinds_without_end(self):
         """What a file may make up any number of takes no more memory, and no longer line."""
         kinds = b"".join(struct.pack("<4sHHII", b"LOBJ", 16, 1, 16, 200 + kind) for kind in range(400000))
-        faces = b"".join(samples.interface("<", 1, (2, b"face %d" % number)) for number in range(100000))
+        shown = samples.socketcan_frames()[0]
+        faces = b"".join(
+            samples.interface("<", 227, (2, b"face %d" % number)) + samples.packet_block("<", number, 0, shown) for number in range(40000)
+        )
         links = b"".join(samples.interface("<", 300 + kind) + samples.packet_block("<", kind, 0, bytes(16)) for kind in range(4000))
         for name, content, status, told in (
             ("a.blf", samples.blf_file(samples.blf_container(kinds)), DONE, b"objects of type 209 1, objects of other types 399990"),
-            ("a.pcapng", samples.section("<") + faces, REFUSAL, b"more than 4096 interfaces"),
+            ("a.pcapng", samples.section("<") + faces, DONE, b"frames 100; left out: frames of interfaces that no name is left for 39900"),
+            ("c.pcapng", samples.section("<") + samples.interface("<", 227) * 400000, DONE, b""),
             ("b.pcapng", samples.section("<") + links, DONE, b"packets of link type 309 1, packets of other link types 3990"),
         ):
             with self.subTest(name=name), tempfile.TemporaryDirectory() as folder:
@@ -465,6 +470,25 @@ class Faults(unittest.TestCase):
                 self.assertIn(told, error)
                 self.assertLess(len(error), 1000)
                 self.assertLess(peak, 40000)
+
+    def test_many_interfaces(self):
+        """However many a section has, each keeps its name, its resolution and its offset, in any order of the packets."""
+        shown = samples.socketcan_frames()[0]
+        count, rng = 70000, random.Random(3)
+        faces = b"".join(
+            samples.interface("<", 227, (2, b"vcan%d" % at), (9, bytes([at % 10])), (14, struct.pack("<q", at))) if at % 3 else samples.interface("<", 227)
+            for at in range(count)
+        )
+        asked = [*range(3000), *(rng.randrange(count) for _ in range(3000)), count - 1]
+        content = samples.section("<") + faces + b"".join(samples.packet_block("<", at, 3, shown) for at in asked)
+        times = [at * 10**6 + (6 * 10**6 // 10 ** (at % 10) + 1) // 2 if at % 3 else 3 for at in asked]
+        want = [samples.line(micros, f"vcan{at}" if at % 3 else f"can{at}", 0x7E0, bytes.fromhex("0322F190")) for micros, at in zip(times, asked)]
+        found = Read("many.pcapng", content)
+        self.assertEqual((found.lines, found.fault, str(found.tally)), (want, None, ""))
+        found = Read("more.pcapng", content + samples.packet_block("<", count, 3, shown))
+        self.assertRegex(found.fault, r"^byte \d+: a packet of an interface that there is not$")
+        with unittest.mock.patch("udsnorm._formats.captures._MOST_HELD", 1000):
+            self.assertRegex(Read("few.pcapng", content).fault, r"^byte \d+: interfaces of more than 1000 bytes$")
 
     def test_last_lines_without_a_line_feed(self):
         """A cut that leaves a line which is legal by itself is told all the same."""
