@@ -221,7 +221,7 @@ class Formats(unittest.TestCase):
             found = Read("a.asc", text.encode())
             with self.subTest(shown):
                 self.assertEqual((found.lines, found.fault, found.tally.left_out), ([], None, longer))
-        ends = (whole, few, "130000 68 1000 0 0 0 0", "130000 100 1000", "29000 100 1000 0 0 0 0")
+        ends = (whole, few, "130000 68 1000 0 0 0 0", "130000 100 1000", "29000 100 1000 0 0 0 0", "102203 133 303000 e0006659 46500250 4b140250")
         zeros = "0 0 1000 0 0 0 0"
         for base, three, surplus in (("hex", "01 02 03", ("00", "04", "10", "64", "99", "FF")), ("dec", "1 2 3", ("0", "4", "16", "100", "144", "255"))):
             head = f"date Tue Nov 14 10:13:20 pm 2023\nbase {base}  timestamps absolute\n   1.000000 CANFD   1 Rx 7 0 0 3 3 {three} "
@@ -230,7 +230,8 @@ class Formats(unittest.TestCase):
                     found = Read("a.asc", f"{head}{behind}\n".encode())
                     self.assertEqual((found.fault, str(found.tally)), (None, ""))
                     self.assertEqual([re.sub("##.", "#", line) for line in found.lines], [samples.line(1000000, "can1", 7, b"\1\2\3")])
-                for more in surplus if behind != zeros else surplus[1:]:
+                more_of = surplus if behind != zeros else surplus[1:]
+                for more in (*more_of, *(f"{one} {other}" for one in more_of for other in more_of if behind != zeros)):
                     with self.subTest(base=base, behind=behind, more=more):
                         found = Read("a.asc", f"{head}{more} {behind}\n".encode())
                         self.assertEqual((found.lines, found.fault, found.tally.left_out), ([], None, longer))

@@ -183,11 +183,11 @@ class _Reader:
 
 
 def _is_shifted(behind: List[str]) -> bool:
-    """More bytes than the length says are there. They shift what stands behind the data: a byte is taken for the duration,
-    and that for the number of bits."""
+    """More bytes than the length says are there. They shift what stands behind the data: one is taken for the duration, and
+    that, or a second one, for the number of bits."""
     if len(behind) > _MOST_BEHIND or (behind and _NO_DURATION.fullmatch(behind[0])):
         return True
-    if len(behind) < 2 or not all(map(_NUMBER.fullmatch, behind[:2])):
-        return False
-    duration, bits = map(int, behind[:2])
-    return bits > _MOST_BITS or (bits == 0 < duration)
+    duration, bits, third, fourth = (int(word) if _NUMBER.fullmatch(word) else 0 for word in [*behind, "", "", "", ""][:4])
+    if bits > _MOST_BITS or (duration > 0 and behind[1:2] == ["0"]):
+        return True
+    return max(duration, bits) < 256 and third > _MOST_BITS >= fourth > 0
