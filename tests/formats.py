@@ -244,6 +244,14 @@ class Formats(unittest.TestCase):
             found = Read("a.blf", samples.blf_file(samples.blf_container(samples.filled(held))))
             self.assertEqual((found.lines, found.fault, found.tally.left_out), ([], None, longer))
 
+    def test_captures_that_do_not_say_which_frames_are_of_can_fd(self):
+        """As tshark makes them of BLF: where a longer frame has no flag, shorter ones may lack theirs, which is noted."""
+        short, long = samples.can_frame(0x7E0, b"\x01\x3e", room=2), samples.can_frame(0x7E8, LONG, room=24)
+        for shown, noted in (([short], {}), ([short, long], {"frames of up to eight bytes that may be of CAN FD": 1})):
+            found = Read("a.pcap", b"".join(samples.pcap("<", False, 227, [(0, 0, frame) for frame in shown])))
+            want = [samples.line(0, "can0", 0x7E0, b"\x01\x3e"), samples.line(0, "can0", 0x7E8, LONG, 0)]
+            self.assertEqual((found.lines, found.fault, found.tally.noted), (want[: len(shown)], None, noted))
+
     def test_days_that_there_are_not(self):
         for day in ("0000-01-01 00:00:00", "2023-02-29 00:00:00", "2023-13-01 00:00:00", "2023-01-01 24:00:00"):
             for shown in (f" ({day}.000000)  can0  7E0   [2]  01 3E\n", f"({day}.000000) can0 7E0#013E\n"):

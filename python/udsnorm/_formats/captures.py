@@ -278,8 +278,9 @@ class _Reader:
         identifier = word & (0x1FFFFFFF if is_extended else 0x7FF)
         if word & _REMOTE:
             return Frame(micros, name, identifier, is_extended, b"", None, length)
-        # Older kernels say by the room for its data alone that a frame is one of CAN FD.
-        is_fd = is_fd or bool(flags & _FD) or length > 8 or len(held) == _LONGEST_FD
+        # Older kernels say by the room for its data alone that a frame is one of CAN FD, and some tools don't say it.
+        is_fd = is_fd or bool(flags & _FD) or len(held) == _LONGEST_FD
+        is_fd = is_fd or self._tally.flags_by_length(length) is not None
         data = held[_DATA : _DATA + length]
         self._tally.fitting(data, length)
         return Frame(micros, name, identifier, is_extended, data, flags & (BIT_RATE_SWITCH | ERROR_STATE) if is_fd else None)
